@@ -1,0 +1,114 @@
+ghost use Rattle.std.specs.Prelude.{◌≡◌, ◌++◌, [], IsOk, IfOk, Ok, take, drop, length, min};
+ghost use Rattle.bridge_base.specs.Opened.{as_files, begun, advanced};
+
+use crate::folder::Folder;
+use crate::outside::{Failed, Shelf, Sink};
+use std::marker::Model;
+
+/// A shelf in memory that never fails: of a name that no file has it begins an empty file.
+#[derive(Debug, Drop)]
+pub struct QuietShelf {
+    folder: Folder,
+}
+
+impl Model for QuietShelf {
+    ghost use Rattle.bridge_base.specs.Opened.{Opened};
+
+    ghost Value = { Opened };
+
+    ghost view = { λ shelf. shelf.folder };
+}
+
+impl QuietShelf {
+    /// A shelf of these files, each a name and its bytes, of which none is begun. Of a name that comes twice
+    /// the first file counts.
+    pub fn new(files: Vec<(String, Vec<u8>)>) -> QuietShelf
+        ensures { result ≡ record { files = as_files files.items; left = [] } }
+    {
+        QuietShelf {
+            folder: Folder::new(files),
+        }
+    }
+
+    /// The files, each a name and its bytes.
+    pub fn contents(&self) -> &[(String, Vec<u8>)]
+        ensures { as_files result.now ≡ self.now.files }
+    {
+        self.folder.entries()
+    }
+}
+
+impl Shelf for QuietShelf {
+    ghost use Rattle.std.specs.Prelude.{Some};
+
+    ghost told = { λ shelf. Some shelf.files };
+
+    ghost left = { λ shelf. Some shelf.left };
+
+    ghost faults = { λ _. 0 };
+
+    /// Begins the file of that name, or an empty file. Never fails.
+    fn begin(&mut self, name: &str) -> Result<(), Failed>
+        ensures succeeds { IsOk result }
+        ensures begun { self.new ≡ begun self.old name.now }
+    {
+        self.folder.begin(name);
+        Ok(())
+    }
+
+    /// Reads as many bytes as are left and as fit into the buffer. Never fails.
+    fn read(&mut self, buf: &mut [u8]) -> Result<usize, Failed>
+        ensures count { result ≡ Ok (min (length buf.old) (length self.old.left)) }
+        ensures bytes { IfOk result (λ count. buf.new ≡ take count self.old.left ++ drop count buf.old) }
+        ensures left { IfOk result (λ count. self.new ≡ advanced self.old count) }
+    {
+        let room = buf.len();
+        Ok(self.folder.read(buf, room))
+    }
+}
+
+/// A sink that drops its bytes and never fails.
+#[derive(Clone, Copy, Debug, PartialEq, Eq)]
+pub struct QuietSink;
+
+impl Sink for QuietSink {
+    ghost use Rattle.std.specs.Prelude.{None};
+
+    ghost got = { λ _. None };
+
+    ghost faults = { λ _. 0 };
+
+    /// Takes the whole piece. Never fails.
+    fn write(&mut self, piece: &[u8]) -> Result<usize, Failed>
+        ensures { result ≡ Ok (length piece.now) }
+    {
+        Ok(piece.len())
+    }
+}
+
+#[cfg(test)]
+mod tests {
+    use super::*;
+    use std::test::Fail;
+
+    #[test]
+    fn never_fails(rt: HostRuntime) -> Result<(), Fail> {
+        let alloc = rt.alloc();
+        let files = vec![in alloc;
+            (
+                String::from_str(alloc, "a")?,
+                Vec::from_array(alloc, *b"123")?
+            ),
+        ]?;
+        let mut shelf = QuietShelf::new(files);
+        let mut buf = [0; 2];
+        for (name, count) in [("a", 2), ("absent", 0)] {
+            assert_eq!(rt; shelf.begin(name), Ok(()));
+            assert_eq!(rt; shelf.read(&mut buf), Ok(count));
+        }
+        assert_eq!(rt; buf, *b"12");
+        assert_eq!(rt; shelf.contents().len(), 1);
+        assert_eq!(rt; QuietSink.write(b"abc"), Ok(3));
+        Ok(())
+    }
+}
