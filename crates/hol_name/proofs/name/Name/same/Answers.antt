@@ -1,0 +1,5 @@
+use Rattle.hol_spec.specs.NameEquality.{name_eq-Decides}
+use Rattle.hol_name.proofs.name.Name.same.Goals as goal
+
+pub returns : goal.returns
+returns c = rw c.eq.ensures (name_eq-Decides c.args.self.now c.args.other.now)

@@ -1,0 +1,7 @@
+use Rattle.std.proofs.Common.{sym, ◌∙◌}
+use Rattle.std.specs.Str.{bytes_eq}
+use Rattle.std.specs.Cmp.Derive.Mapped.{pointwise-map}
+use Rattle.hol_name.proofs.name.NamePartialEq.eq.Goals as goal
+
+pub returns : goal.returns
+returns c = rw (← c.self.view_is, ← c.other.view_is) (c.eq.ensures ∙ sym (pointwise-map (λ component. component.items) bytes_eq c.self.inside.components.items c.other.inside.components.items))

@@ -1,0 +1,5 @@
+use Rattle.hol_spec.specs.NameLaws.{name_of-IsNameLine}
+use Rattle.hol_name.proofs.one_name.Goals as goal
+
+pub returns : goal.returns
+returns c = name_of-IsNameLine

@@ -1,0 +1,237 @@
+//! The type of names.
+
+ghost use Rattle.std.specs.Prelude.{◌≡◌, ◌↔◌, ◌<◌, ◌≤◌, ◌∷◌, [], length, slice_get, IsTrue, IfOk, Some, None, Ok, Err};
+ghost use Rattle.std.proofs.Common.{rules};
+ghost use Rattle.std.specs.Cmp.{unsigned_Decides};
+ghost use Rattle.std.specs.Cmp.Rules.{comparing};
+ghost use Rattle.std.specs.Hash as fed;
+ghost use Rattle.std.specs.Hash.{items_Alike, same_Alike};
+ghost use Rattle.std.specs.Option.{option_map};
+ghost use Rattle.hol_spec.specs.NameOf.{name_of, name_from};
+ghost use Rattle.hol_spec.specs.NameEquality.{name_eq};
+ghost use Rattle.hol_name.specs.Components.{onto, StopsComponent};
+
+use std::alloc::{AllocError, Global};
+use std::hash::{Hash, Hasher};
+use std::marker::Model;
+use thiserror::Error;
+
+/// Want of memory.
+#[derive(Clone, Copy, Debug, PartialEq, Eq, Error)]
+#[error("out of memory")]
+pub struct Memory;
+
+/// Why a line gave no name.
+#[derive(Clone, Copy, Debug, PartialEq, Eq, Error)]
+pub enum NameFault {
+    /// The line writes no name.
+    #[error("bad line")]
+    BadLine,
+    /// There was no memory for the name.
+    #[error("out of memory")]
+    Memory,
+}
+
+/// A name: a nonempty list of components, each of any bytes. The last one is the name proper, those
+/// before it its namespace.
+#[derive(Drop)]
+pub struct Name {
+    components: Vec<Vec<u8>>,
+}
+
+impl Model for Name {
+    ghost use Rattle.std.specs.Prelude.{List, ℕ, map, length, ◌<◌};
+
+    ghost Value = { List (List ℕ) };
+
+    ghost view = { λ name. map (λ component. component.items) name.components.items };
+
+    ghost invariant = { λ name. 0 < length name.components.items };
+}
+
+impl Name {
+    /// The name that a line writes (OpenTheory article format, version 6, names): between two quotes,
+    /// components with dots between them; a backslash makes the next byte plain. `line` is a whole
+    /// line, without the blanks at its ends. `BadLine` comes exactly where it writes no name.
+    pub fn parse(alloc: Global, line: &[u8]) -> Result<Name, NameFault>
+        ensures name { IfOk result (λ name. name_of line.now ≡ Some name) }
+        ensures bad_line { result ≡ Err NameFault.BadLine → name_of line.now ≡ None }
+    {
+        let [b'"', text @ ..] = line else {
+            return Err(NameFault::BadLine);
+        };
+        let mut components = Vec::new(alloc);
+        let mut rest = text;
+        loop {
+            let Ok((component, after)) = read_component(alloc, rest) else {
+                return Err(NameFault::Memory);
+            };
+            if components.push(component).is_err() {
+                return Err(NameFault::Memory);
+            }
+            match after {
+                [b'"'] => return Ok(Name { components }),
+                [b'.', next @ ..] => rest = next,
+                _ => return Err(NameFault::BadLine),
+            }
+        }
+    }
+
+    /// The name with this one component.
+    pub fn single(alloc: Global, text: &[u8]) -> Result<Name, Memory>
+        ensures name { IfOk result (λ name. name ≡ text.now ∷ []) }
+    {
+        let Ok(component) = Vec::from_slice(alloc, text) else {
+            return Err(Memory);
+        };
+        let mut components = Vec::new(alloc);
+        if components.push(component).is_err() {
+            return Err(Memory);
+        }
+        Ok(Name { components })
+    }
+
+    /// The number of components. It is never 0.
+    pub fn len(&self) -> usize
+        ensures count { result ≡ length self.now }
+        ensures nonempty { 0 < result }
+    {
+        self.components.len()
+    }
+
+    /// The component at this place, the outermost namespace being at 0.
+    pub fn component(&self, index: usize) -> &[u8]
+        requires { index < length self.now }
+        ensures { slice_get self.now index ≡ Some result.now }
+    {
+        &self.components[index]
+    }
+
+    /// Whether the name has this text as its one component.
+    pub fn is_single(&self, text: &[u8]) -> bool
+        ensures { IsTrue result ↔ (self.now ≡ text.now ∷ []) }
+    {
+        self.components.len() == 1 && self.components[0].as_slice() == text
+    }
+
+    /// Whether two names have the same components.
+    pub fn same(&self, other: &Name) -> bool
+        ensures { IsTrue result ↔ (self.now ≡ other.now) }
+    {
+        self == other
+    }
+}
+
+/// The bytes that the front of a text writes as one component, and the text behind it. That begins
+/// with what ends a component: a quote, a dot, a backslash at the end of the text, or nothing.
+fn read_component(alloc: Global, text: &[u8]) -> Result<(Vec<u8>, &[u8]), Memory>
+    ensures read { IfOk result (λ r. name_from text.now ≡ option_map (onto r.0.items) (name_from r.1.now)) }
+    ensures stops { IfOk result (λ r. StopsComponent r.1.now) }
+    ensures rest { IfOk result (λ r. length r.1.now ≤ length text.now) }
+{
+    let mut bytes = Vec::new(alloc);
+    let mut rest = text;
+    loop {
+        let (byte, after) = match rest {
+            [] | [b'"' | b'.', ..] | [b'\\'] => return Ok((bytes, rest)),
+            [b'\\', byte, after @ ..] | [byte, after @ ..] => (*byte, after),
+        };
+        if bytes.push(byte).is_err() {
+            return Err(Memory);
+        }
+        rest = after;
+    }
+}
+
+impl Clone for Name {
+    ghost is_clone = { λ name copy. copy ≡ name };
+
+    fn clone(&self) -> Result<Name, AllocError> {
+        let mut components = Vec::with_capacity(
+            *self.components.allocator(),
+            self.components.len(),
+        )?;
+        for component in &self.components {
+            components.push(Vec::from_slice(*component.allocator(), component)?)?;
+        }
+        Ok(Name { components })
+    }
+}
+
+impl PartialEq for Name {
+    ghost eq = { name_eq };
+
+    ghost laws = { Prim.search (comparing, rules) };
+
+    fn eq(&self, other: &Name) -> bool {
+        self.components == other.components
+    }
+}
+
+impl Eq for Name {
+    ghost laws = { Prim.search (comparing, rules) };
+}
+
+impl Hash for Name {
+    ghost hash_input = { fed.slice (fed.slice fed.u8) };
+
+    ghost respects_eq = { (items_Alike (items_Alike (same_Alike fed.u8 unsigned_Decides))).fed };
+
+    fn hash<H: Hasher>(&self, state: &mut H) {
+        self.components.hash(state);
+    }
+}
+
+#[cfg(test)]
+mod tests {
+    use super::*;
+    use std::hash::DefaultHasher;
+    use std::test::Fail;
+
+    #[test]
+    fn reads_names_by_the_grammar(rt: HostRuntime) -> Result<(), Fail> {
+        let dotted = Name::parse(rt.alloc(), b"\"a\\.b.c\"".as_slice())?;
+        assert_eq!(rt; dotted.len(), 2);
+        assert_eq!(rt; dotted.component(0), b"a.b".as_slice());
+        assert_eq!(rt; dotted.component(1), b"c".as_slice());
+        let plain = Name::parse(rt.alloc(), b"\"a.b.c\"".as_slice())?;
+        assert_eq!(rt; plain.len(), 3);
+        assert!(rt; !plain.same(&dotted));
+        let table = [
+            (b"\"=\"".as_slice(), b"=".as_slice()),
+            (b"\"\"".as_slice(), b"".as_slice()),
+            (b"\"\\\"\\\\\"".as_slice(), b"\"\\".as_slice()),
+        ];
+        for (line, text) in table {
+            let name = Name::parse(rt.alloc(), line)?;
+            assert!(rt; name.is_single(text), "at {line:?}");
+            assert!(rt; name == Name::single(rt.alloc(), text)?, "at {line:?}");
+        }
+        let refused = [
+            b"".as_slice(),
+            b"a".as_slice(),
+            b"\"".as_slice(),
+            b"\"a\"b\"".as_slice(),
+            b"\"a\\\"".as_slice(),
+            b"\"a\" ".as_slice(),
+        ];
+        for line in refused {
+            let answer = Name::parse(rt.alloc(), line);
+            assert_eq!(rt; answer.err(), Some(NameFault::BadLine), "at {line:?}");
+        }
+        Ok(())
+    }
+
+    #[test]
+    fn copies_are_equal_and_hash_alike(rt: HostRuntime) -> Result<(), Fail> {
+        let name = Name::parse(rt.alloc(), b"\"Data.Bool.and\"".as_slice())?;
+        let copy = name.clone()?;
+        assert!(rt; copy.same(&name));
+        let mut one = DefaultHasher::new();
+        name.hash(&mut one);
+        let mut two = DefaultHasher::new();
+        copy.hash(&mut two);
+        assert_eq!(rt; one.finish(), two.finish());
+        Ok(())
+    }
+}
