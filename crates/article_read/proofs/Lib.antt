@@ -1,0 +1,4 @@
+pub mod Fed
+pub mod Steps
+pub mod Texts
+pub mod Whole

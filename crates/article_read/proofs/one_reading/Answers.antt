@@ -1,0 +1,5 @@
+use Rattle.article_spec.specs.ReadingLaws as laws
+use Rattle.article_read.proofs.one_reading.Goals as goal
+
+pub returns : goal.returns
+returns c = laws.one_reading

@@ -1,0 +1,46 @@
+-- The state of the stack machine.
+-- Source: the OpenTheory article file format, version 6, "The Virtual Machine".
+use Rattle.std.specs.Prelude.{ℕ, ℤ, List, []}
+use Rattle.std.specs.Ordering.{int_cmp}
+use Rattle.std.specs.FinMap.{FinMap, empty}
+use Rattle.hol_spec.specs.Names.{Name}
+use Rattle.hol_spec.specs.Types.{HolType}
+use Rattle.hol_spec.specs.Terms.{Term, Variable}
+use Rattle.hol_spec.specs.Proofs.{Made}
+
+-- What the stack and the dictionary hold. A theorem is the number of the step that made it.
+mutual
+  pub data Object : Type 0 where
+    number : ℤ → Object
+    name : Name → Object
+    list : Objects → Object
+    type_operator : Name → Object
+    type : HolType → Object
+    constant : Name → Object
+    variable : Variable → Object
+    term : Term → Object
+    theorem : ℕ → Object
+
+  pub data Objects : Type 0 where
+    none : Objects
+    more : Object → Objects → Objects
+
+-- Where an article is: before its first command, before its second, or in its body.
+pub data Place : Type 0 where
+  start : Place
+  version : Place
+  body : Place
+
+pub record State : Type 0 where
+  -- of the article: the objects from the top, what the numbers stand for, and the place
+  pub stack : List Object
+  pub dictionary : FinMap int_cmp Object
+  pub place : Place
+  -- of the run: symbols and steps in order of making; the steps that are assumptions, that are exports, and that earlier articles exported
+  pub made : List Made
+  pub assumptions : List ℕ
+  pub exports : List ℕ
+  pub pool : List ℕ
+
+abbrev pub initial : State
+initial = record { stack = []; dictionary = empty; place = start; made = []; assumptions = []; exports = []; pool = [] }

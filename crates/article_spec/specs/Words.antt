@@ -1,0 +1,25 @@
+-- The words of the stack machine.
+-- Source: the OpenTheory article file format, version 6, "Commands".
+use Rattle.std.specs.Prelude.{ℕ, if◌then◌else◌, List, Option, None, Some, codes}
+use Rattle.std.specs.Str.{bytes_eq}
+use Rattle.article_spec.specs.declared.commands.Word.{Word}
+use Rattle.article_spec.specs.declared.commands.Word.TheVariants as word
+
+-- the word that a line writes
+abbrev pub word_of : List ℕ → Option Word
+word_of line =
+    if bytes_eq line (codes "version") then Some word.Version
+    else if bytes_eq line (codes "nil") then Some word.Nil
+    else if bytes_eq line (codes "cons") then Some word.Cons
+    else if bytes_eq line (codes "typeOp") then Some word.TypeOp
+    else if bytes_eq line (codes "opType") then Some word.OpType
+    else if bytes_eq line (codes "const") then Some word.Const
+    else if bytes_eq line (codes "constTerm") then Some word.ConstTerm
+    else if bytes_eq line (codes "var") then Some word.Var
+    else if bytes_eq line (codes "varTerm") then Some word.VarTerm
+    else if bytes_eq line (codes "appTerm") then Some word.AppTerm
+    else if bytes_eq line (codes "def") then Some word.Def
+    else if bytes_eq line (codes "ref") then Some word.Ref
+    else if bytes_eq line (codes "refl") then Some word.Refl
+    else if bytes_eq line (codes "thm") then Some word.Thm
+    else None
