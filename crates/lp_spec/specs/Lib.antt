@@ -1,0 +1,11 @@
+pub mod Binding
+pub mod Closed
+pub mod Lemmas
+pub mod ModuleOrder
+pub mod Modules
+pub mod Substitution
+pub mod Text
+pub mod TreeCode
+pub mod TreeEquality
+pub mod Trees
+pub mod Weight

@@ -1,0 +1,17 @@
+//! What is meant by lambda-Pi trees and by the modules that they make.
+//!
+//! This crate has no code but the type `Form`: it holds the definitions that the contracts of other crates cite, and the laws that
+//! those crates prove with. `Trees` has trees with numbers for bound variables, and what lifting and putting
+//! make of them; `Binding` the laws of lifting and putting. `Modules` has the signature and the declarations after it,
+//! `ModuleOrder` what makes them a module, `Lemmas` the two theorems with which each begins, `Text` the one text of a module, and `Weight` the bound on
+//! the steps of a declaration's check. A contract cites them so:
+//!
+//! ```text
+//! ghost use Rattle.lp_spec.specs.Trees.{Tree, lift};
+//! ensures lifted { IfOk result (λ id. slice_get self.new id.0 ≡ Some (lift k (tree_at self.old id.0))) }
+//! ```
+#![tactic(auto)]
+
+mod form;
+
+pub use form::Form;

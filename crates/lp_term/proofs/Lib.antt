@@ -1,0 +1,5 @@
+mod EntryLaws
+mod Inserted
+mod Cut
+mod NotedLaws
+mod Turns

@@ -1,0 +1,296 @@
+//! Trees of the lambda-Pi calculus, each kept once under a number.
+//!
+//! A table's value is the list of its trees, by number: two numbers are equal exactly where their trees are. A
+//! call that makes trees keeps every number that was given before, and after want of memory the table is as
+//! before. Walks keep a stack of their own, so a deep tree costs memory and nothing else.
+//!
+//! ```
+//! let mut table = LpTable::new(alloc);
+//! let zero = table.node(LpNode::Var(0))?;
+//! let three = table.lift(3, zero)?;
+//! ```
+#![tactic(auto)]
+
+ghost use Rattle.std.specs.Prelude.{◌≡◌, ◌<◌, ◌≤◌, ◌^◌, ◌-◌, ◌+◌, [], length, min, max, take, IfOk, OnErr};
+ghost use Rattle.std.specs.Bool.{OnTrue};
+ghost use Rattle.lp_spec.specs.Trees.{size as size_of, depth as depth_of, loose as loose_of, lift as lift_tree, put as put_tree, put_all as put_all_trees};
+ghost use Rattle.lp_term.specs.Tables.{tree_at, trees_at, tree_of_node, AreKnown, PartsBelow, Holds, Keeps, Adds, IsDistinct};
+ghost use Rattle.lp_term.specs.Measured.{IsMeasured};
+
+mod binding;
+mod memo;
+#[cfg(test)]
+mod tests;
+mod walk;
+
+use crate::memo::{Change, Place};
+use bridge_base::Memory;
+use indexmap::IndexSet;
+use std::alloc::Global;
+use std::marker::Model;
+
+/// The number of a tree in its table. A number that no call of the table gave means nothing there.
+#[derive(Clone, Copy, Debug, PartialEq, Eq, Hash)]
+pub struct LpId(pub usize);
+
+/// The head of a tree, with the numbers of its parts.
+#[derive(Clone, Copy, Debug, PartialEq, Eq, Hash)]
+pub enum LpNode {
+    /// The sort of types, `Type`.
+    SortType,
+    /// The sort of `Type`, which no source text can name.
+    SortKind,
+    /// A variable: the number of binders between it and its own.
+    Var(u128),
+    /// A symbol, by its number in the module.
+    Sym(usize),
+    /// A function and its argument.
+    App(LpId, LpId),
+    /// An abstraction: its variable's type and its body.
+    Lam(LpId, LpId),
+    /// A product: its variable's type and its body.
+    Pi(LpId, LpId),
+}
+
+/// A node with the measures of its tree. Entries are equal where their nodes are.
+#[derive(Clone, Copy)]
+#[derive_where(PartialEq, Eq, Hash)]
+struct Entry {
+    node: LpNode,
+    #[derive_where(skip)]
+    size: u128,
+    #[derive_where(skip)]
+    depth: u64,
+    // How many binders round the tree leave it no loose variable; at the greatest number of the type, unknown.
+    #[derive_where(skip)]
+    loose: u128,
+}
+
+/// A table of trees.
+#[derive(Drop)]
+pub struct LpTable {
+    alloc: Global,
+    entries: IndexSet<Entry>,
+}
+
+impl Model for LpTable {
+    ghost use Rattle.std.specs.Prelude.{List};
+    ghost use Rattle.std.specs.Coded.{coded_list};
+    ghost use Rattle.lp_spec.specs.Trees.{Tree};
+    ghost use Rattle.lp_spec.specs.TreeCode.{coded_tree};
+
+    ghost Value = { List Tree };
+
+    ghost coded = { coded_list coded_tree };
+
+    ghost use Rattle.lp_term.specs.Entries.{trees_of, IsTable};
+
+    ghost view = { λ t. trees_of t.entries.keys };
+
+    ghost invariant = { λ t. IsTable t.entries.keys };
+}
+
+impl LpTable {
+    /// An empty table. It takes no memory.
+    pub fn new(alloc: Global) -> Self
+        ensures empty { result ≡ [] }
+    {
+        LpTable {
+            alloc,
+            entries: IndexSet::new(alloc),
+        }
+    }
+
+    /// The tree of this node, which has a number already, or else gets the next one.
+    pub fn node(&mut self, node: LpNode) -> Result<LpId, Memory>
+        requires { PartsBelow (length self.old) node }
+        ensures known { IfOk result (λ id. id.0 < length self.new) }
+        ensures made { IfOk result (λ id. Holds self.new id.0 (tree_of_node self.old node)) }
+        ensures adds { Adds self.old self.new (tree_of_node self.old node) }
+        ensures keeps { Keeps self.old self.new }
+        ensures distinct { IsDistinct self.new }
+        ensures unchanged { OnErr result (self.new ≡ self.old) }
+    {
+        let entry = self.measured(node);
+        match self.entries.insert_full(entry) {
+            Ok((index, _)) => Ok(LpId(index)),
+            Err(_) => Err(Memory),
+        }
+    }
+
+    /// The node of a tree. Its parts have lower numbers.
+    pub fn view(&self, id: LpId) -> LpNode
+        requires { id.0 < length self.now }
+        ensures is { Holds self.now id.0 (tree_of_node self.now result) }
+        ensures lower { PartsBelow id.0 result }
+        ensures distinct { IsDistinct self.now }
+        ensures small { length self.now < 2 ^ 63 }
+    {
+        self.entry(id).node
+    }
+
+    /// How many nodes the tree has, or the greatest number of the type if they are more.
+    pub fn size(&self, id: LpId) -> u128
+        requires { id.0 < length self.now }
+        ensures { result ≡ min (size_of (tree_at self.now id.0)) (2 ^ 128 - 1) }
+    {
+        self.entry(id).size
+    }
+
+    /// How many nodes the tree's longest path has, or the greatest number of the type if they are more.
+    pub fn depth(&self, id: LpId) -> u64
+        requires { id.0 < length self.now }
+        ensures { result ≡ min (depth_of (tree_at self.now id.0)) (2 ^ 64 - 1) }
+    {
+        self.entry(id).depth
+    }
+
+    /// The tree with its loose variables raised by `k`. A number that does not fit its type is want of memory.
+    pub fn lift(&mut self, k: u128, id: LpId) -> Result<LpId, Memory>
+        requires { id.0 < length self.old }
+        ensures known { IfOk result (λ r. r.0 < length self.new) }
+        ensures made { IfOk result (λ r. Holds self.new r.0 (lift_tree k (tree_at self.old id.0))) }
+        ensures keeps { Keeps self.old self.new }
+        ensures distinct { IsDistinct self.new }
+        ensures unchanged { OnErr result (self.new ≡ self.old) }
+    {
+        self.walk(self.alloc, &[], root(id, Change::Raise(k)))
+    }
+
+    /// The body of a binder with `arg` put for its variable: the greater loose variables are lowered.
+    pub fn put(&mut self, arg: LpId, body: LpId) -> Result<LpId, Memory>
+        requires arg { arg.0 < length self.old }
+        requires body { body.0 < length self.old }
+        ensures known { IfOk result (λ r. r.0 < length self.new) }
+        ensures made { IfOk result (λ r. Holds self.new r.0 (put_tree (tree_at self.old arg.0) (tree_at self.old body.0))) }
+        ensures keeps { Keeps self.old self.new }
+        ensures distinct { IsDistinct self.new }
+        ensures unchanged { OnErr result (self.new ≡ self.old) }
+    {
+        self.walk(self.alloc, &[arg], root(body, Change::Replace))
+    }
+
+    /// The body of as many binders as there are arguments, with each argument put for its variable. They stand
+    /// in the order of an application: the last is put for the innermost.
+    pub fn put_all(&mut self, args: &[LpId], body: LpId) -> Result<LpId, Memory>
+        requires args { AreKnown self.old args.now }
+        requires body { body.0 < length self.old }
+        ensures known { IfOk result (λ r. r.0 < length self.new) }
+        ensures made { IfOk result (λ r. Holds self.new r.0 (put_all_trees (trees_at self.old args.now) (tree_at self.old body.0))) }
+        ensures keeps { Keeps self.old self.new }
+        ensures distinct { IsDistinct self.new }
+        ensures unchanged { OnErr result (self.new ≡ self.old) }
+    {
+        self.walk(self.alloc, args, root(body, Change::Replace))
+    }
+
+    // Whether so many binders round the tree leave it no loose variable. It may answer no where they are countless.
+    pub(crate) fn is_closed_under(&self, id: LpId, depth: u128) -> bool
+        requires { id.0 < length self.now }
+        ensures closed { OnTrue result (depth < 2 ^ 64 → loose_of (tree_at self.now id.0) ≤ depth) }
+    {
+        self.entry(id).loose <= depth
+    }
+
+    // The entry of a tree.
+    fn entry(&self, id: LpId) -> Entry
+        requires { id.0 < length self.now }
+        ensures is { Holds self.now id.0 (tree_of_node self.now result.node) }
+        ensures lower { PartsBelow id.0 result.node }
+        ensures measured { IsMeasured result (tree_at self.now id.0) }
+        ensures distinct { IsDistinct self.now }
+        ensures small { length self.now < 2 ^ 63 }
+    {
+        let _count = self.entries.len();
+        let entry = self.entries.get_index(id.0).unwrap();
+        *entry
+    }
+
+    // The entry of this node.
+    fn measured(&self, node: LpNode) -> Entry
+        requires { PartsBelow (length self.now) node }
+        ensures node { result.node ≡ node }
+        ensures measured { IsMeasured result (tree_of_node self.now node) }
+    {
+        match node {
+            LpNode::SortType | LpNode::SortKind | LpNode::Sym(_) => leaf(node, 0),
+            LpNode::Var(n) => leaf(node, n.saturating_add(1)),
+            LpNode::App(f, x) => {
+                let (function, argument) = (self.entry(f), self.entry(x));
+                joined(node, &function, &argument, argument.loose)
+            }
+            LpNode::Lam(a, b) | LpNode::Pi(a, b) => {
+                let (domain, body) = (self.entry(a), self.entry(b));
+                joined(node, &domain, &body, under_binder(body.loose))
+            }
+        }
+    }
+
+    // Gives up all trees from the number `len` on.
+    pub(crate) fn cut(&mut self, len: usize)
+        requires { len ≤ length self.old }
+        ensures { self.new ≡ take len self.old }
+    {
+        self.entries.truncate(len);
+    }
+
+    pub(crate) fn count(&self) -> usize
+        ensures count { result ≡ length self.now }
+        ensures distinct { IsDistinct self.now }
+    {
+        self.entries.len()
+    }
+}
+
+// A tree under no binder.
+fn root(id: LpId, change: Change) -> Place
+    ensures { result ≡ record { id = id; depth = 0; change = change } }
+{
+    Place {
+        id,
+        depth: 0,
+        change,
+    }
+}
+
+// The entry of a node without parts.
+fn leaf(node: LpNode, loose: u128) -> Entry
+    ensures node { result.node ≡ node }
+    ensures size { result.size ≡ 1 }
+    ensures depth { result.depth ≡ 1 }
+    ensures loose { result.loose ≡ loose }
+{
+    Entry {
+        node,
+        size: 1,
+        depth: 1,
+        loose,
+    }
+}
+
+// The entry of a node with two parts, where the second's loose variables are these.
+fn joined(node: LpNode, first: &Entry, second: &Entry, loose: u128) -> Entry
+    ensures node { result.node ≡ node }
+    ensures size { result.size ≡ min (1 + first.now.size + second.now.size) (2 ^ 128 - 1) }
+    ensures depth { result.depth ≡ min (1 + max first.now.depth second.now.depth) (2 ^ 64 - 1) }
+    ensures loose { result.loose ≡ max first.now.loose loose }
+{
+    Entry {
+        node,
+        size: first.size.saturating_add(second.size).saturating_add(1),
+        depth: first.depth.max(second.depth).saturating_add(1),
+        loose: first.loose.max(loose),
+    }
+}
+
+// The loose variables of a body, outside its binder.
+fn under_binder(loose: u128) -> u128
+    ensures known { result < 2 ^ 128 - 1 → result ≡ loose - 1 }
+    ensures unknown { loose ≡ 2 ^ 128 - 1 → result ≡ loose }
+{
+    if loose == u128::MAX {
+        loose
+    } else {
+        loose.saturating_sub(1)
+    }
+}
