@@ -1,0 +1,12 @@
+use Rattle.std.proofs.Common.{◌≡◌, List, map, take}
+use Rattle.hol_spec.specs.Terms.{Variable, free}
+use Rattle.lp_spec.specs.Modules.{applied}
+use Rattle.bridge_spec.specs.Translation.{term_tree}
+use Rattle.bridge_run.specs.Trees.{tree_of}
+use Rattle.bridge_run.specs.TermViews.{Lists}
+use Rattle.bridge_run.specs.Contexts.{plain}
+use Rattle.bridge_run.proofs.first.image.at_variables.Given as goal
+
+abbrev pub invariant-loop-variable : goal.invariant-loop-variable
+invariant-loop-variable l = (vs ws : List Variable) → Lists l.variables vs → Lists l.named ws
+    → tree_of l.tree ≡ applied (tree_of l.fn.head) (map (λ w. term_tree (plain l.depth vs) (free w.0 w.1)) (take l.variable-index ws))

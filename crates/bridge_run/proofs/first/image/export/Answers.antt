@@ -1,0 +1,25 @@
+use Rattle.std.proofs.Common.{◌∙◌, ap, codes}
+use Rattle.std.specs.Prelude.{decimal, ◌++◌}
+use Rattle.hol_spec.specs.Sequents.{free_variables_of}
+use Rattle.lp_spec.specs.Trees.{Tree}
+use Rattle.lp_spec.specs.Lemmas.{theorem}
+use Rattle.bridge_spec.specs.Translation.{Context, domains_of, conclusion_tree}
+use Rattle.bridge_spec.specs.Image.{theorem_tree}
+use Rattle.bridge_run.specs.TermViews.{sequent_view, Lists}
+use Rattle.bridge_run.specs.Contexts.{bare}
+use Rattle.bridge_run.proofs.Images.{if_ok_then}
+use Rattle.bridge_run.proofs.Parameters.{found-Lists, context-bare}
+use Rattle.bridge_run.proofs.first.image.export.Goals as goal
+
+pub returns : goal.returns
+returns c =
+    let s = sequent_view c.args.sequent.now in
+    let vs = free_variables_of s in
+    let lists : Lists c.in_ok-variables.variables.items vs = found-Lists _ c.args.sequent.now c.in_ok-variables.ensures.found c.requires.sequent in
+    let first : Lists c.deref.result.now vs = rw c.deref.ensures.value lists in
+    let second : Lists c.deref-2.result.now vs = rw c.deref-2.ensures.value lists in
+    if_ok_then c.declared.result
+    (λ d e. e vs second
+    ∙ ap (λ (proof : Tree). theorem (codes "E" ++ decimal c.args.place) (domains_of (bare vs s.hypotheses)) (conclusion_tree (bare vs s.hypotheses) s.conclusion) proof) (c.in_ok-proof.ensures vs first)
+    ∙ ap (λ (context : Context). theorem (codes "E" ++ decimal c.args.place) (domains_of context) (conclusion_tree context s.conclusion) (theorem_tree context c.args.symbol (sequent_view c.args.premise.now))) (context-bare c.args.sequent.now))
+    c.declared.ensures

@@ -1,0 +1,10 @@
+use Rattle.std.proofs.Common.{◌≡◌, ℕ, List, map, take}
+use Rattle.hol_spec.specs.Terms.{Variable}
+use Rattle.bridge_spec.specs.Translation.{Context, variable_domains}
+use Rattle.bridge_run.specs.Trees.{tree_of}
+use Rattle.bridge_run.specs.TermViews.{Lists}
+use Rattle.bridge_run.proofs.first.image.variable_domains.Given as goal
+
+abbrev pub invariant-loop-variable : goal.invariant-loop-variable
+invariant-loop-variable l = (vs : List Variable) → Lists l.variables vs → (context : Context) (depth : ℕ)
+    → map tree_of l.domains.items ≡ variable_domains context depth (take l.variable-index vs)

@@ -1,0 +1,130 @@
+ghost use Rattle.std.specs.Prelude.{◌≡◌, ◌<◌, ◌≤◌, length, map, OnOk, OnErr};
+ghost use Rattle.std.specs.List.{flat_map};
+ghost use Rattle.bridge_base.specs.Outside.{HasCause, Gains, GainsFront};
+ghost use Rattle.bridge_spec.specs.Outputs.{Delivers, sunk};
+ghost use Rattle.bridge_run.specs.AnswerTexts.{status_of, text_of, note_of};
+
+use crate::answer::{Answer, Translation};
+use bridge_base::{Failed, Kind, Sink, write_all};
+use bridge_spec::Status;
+use itoa::Buffer;
+
+/// The line that says which forms there are.
+const USAGE: &[u8] =
+    b"usage: bridge verify FILE.. | translate FILE.. | check FILE [--budget N] | decode FILE | show FILE.. | trial N\n";
+
+/// Writes the texts of an answer, the output first, and gives its status. Where the output fails, the
+/// note says so; where either fails, the status is that of a write fault.
+pub fn deliver<O: Sink, N: Sink>(answer: &Answer, out: &mut O, note: &mut N) -> Status
+    ensures { Delivers (status_of answer.now) (text_of answer.now) (note_of answer.now) (sunk (O.got out.old) (O.faults out.old) (O.got out.new) (O.faults out.new)) (sunk (N.got note.old) (N.faults note.old) (N.got note.new) (N.faults note.new)) result }
+{
+    if write_lines(out, answer.text()).is_err() {
+        let _ = write_all(note, b"write fault\n");
+        return Status::WriteFault;
+    }
+    if write_note(note, answer).is_err() {
+        return Status::WriteFault;
+    }
+    answer.status()
+}
+
+/// Writes a text, each line by a call of its own.
+fn write_lines<O: Sink>(out: &mut O, text: &[u8]) -> Result<(), Failed>
+    ensures ok { OnOk result (Gains (O.got out.old) text.now (O.got out.new)) }
+    ensures err { OnErr result (GainsFront (O.got out.old) text.now (O.got out.new)) }
+    ensures cause { HasCause (O.faults out.old) (O.faults out.new) result }
+{
+    let mut written = 0;
+    while written < text.len() {
+        let rest = &text[written..];
+        let line = line_length(rest);
+        write_all(out, &rest[..line])?;
+        written += line;
+    }
+    Ok(())
+}
+
+/// The length of the first line, its end included.
+fn line_length(text: &[u8]) -> usize
+    requires { 0 < length text.now }
+    ensures some { 0 < result }
+    ensures within { result ≤ length text.now }
+{
+    match text.iter().position(|byte| *byte == b'\n') {
+        Some(place) => place + 1,
+        None => text.len(),
+    }
+}
+
+/// Writes what the answer says on standard error.
+fn write_note<N: Sink>(note: &mut N, answer: &Answer) -> Result<(), Failed>
+    ensures ok { OnOk result (Gains (N.got note.old) (note_of answer.now) (N.got note.new)) }
+    ensures err { OnErr result (GainsFront (N.got note.old) (note_of answer.now) (N.got note.new)) }
+    ensures cause { HasCause (N.faults note.old) (N.faults note.new) result }
+{
+    match answer {
+        Answer::Translated(translation) => write_counts(note, translation),
+        Answer::Refused(line, kind) => write_refusal(note, *line, *kind),
+        Answer::Usage => write_all(note, USAGE),
+        Answer::ReadFault => write_all(note, b"read fault\n"),
+        Answer::Memory => write_all(note, b"out of memory\n"),
+    }
+}
+
+fn write_counts<N: Sink>(note: &mut N, translation: &Translation) -> Result<(), Failed>
+    ensures ok { OnOk result (Gains (N.got note.old) (note_of (Answer.Translated translation.now)) (N.got note.new)) }
+    ensures err { OnErr result (GainsFront (N.got note.old) (note_of (Answer.Translated translation.now)) (N.got note.new)) }
+    ensures cause { HasCause (N.faults note.old) (N.faults note.new) result }
+{
+    let mut exports = Buffer::new();
+    let mut declarations = Buffer::new();
+    let mut bounds = Buffer::new();
+    write_parts(
+        note,
+        &[
+            b"articles 1\nassumptions 0\nexports ",
+            exports.format(translation.exports).as_bytes(),
+            b"\ndeclarations ",
+            declarations.format(translation.declarations).as_bytes(),
+            b"\nbounds ",
+            bounds.format(translation.bounds).as_bytes(),
+            b"\n",
+        ],
+    )
+}
+
+fn write_refusal<N: Sink>(note: &mut N, line: u64, kind: Kind) -> Result<(), Failed>
+    ensures ok { OnOk result (Gains (N.got note.old) (note_of (Answer.Refused line kind)) (N.got note.new)) }
+    ensures err { OnErr result (GainsFront (N.got note.old) (note_of (Answer.Refused line kind)) (N.got note.new)) }
+    ensures cause { HasCause (N.faults note.old) (N.faults note.new) result }
+{
+    let mut article = Buffer::new();
+    let mut place = Buffer::new();
+    let mut number = Buffer::new();
+    write_parts(
+        note,
+        &[
+            b"article ",
+            article.format(1u64).as_bytes(),
+            b" line ",
+            place.format(line).as_bytes(),
+            b": ",
+            kind.name().as_bytes(),
+            b" (",
+            number.format(kind.number()).as_bytes(),
+            b")\n",
+        ],
+    )
+}
+
+/// Writes pieces one after another.
+fn write_parts<S: Sink>(sink: &mut S, parts: &[&[u8]]) -> Result<(), Failed>
+    ensures ok { OnOk result (Gains (S.got sink.old) (flat_map (λ part. part.now) parts.now) (S.got sink.new)) }
+    ensures err { OnErr result (GainsFront (S.got sink.old) (flat_map (λ part. part.now) parts.now) (S.got sink.new)) }
+    ensures cause { HasCause (S.faults sink.old) (S.faults sink.new) result }
+{
+    for part in parts {
+        write_all(sink, part)?;
+    }
+    Ok(())
+}

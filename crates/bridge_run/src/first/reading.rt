@@ -1,0 +1,106 @@
+ghost use Rattle.std.specs.Prelude.{◌≡◌, ◌≢◌, ◌≤◌, ◌∷◌, [], Ok, OnOk, IfOk, IfErr, IfSome};
+ghost use Rattle.bridge_base.specs.Outside.{Rose, file as bytes_of};
+ghost use Rattle.article_spec.specs.Run.{obey_all, Run, accepted, accepted_state};
+ghost use Rattle.bridge_run.specs.declared.first.reading.Stop.{Stop};
+ghost use Rattle.bridge_run.specs.Halts.{Halts, ReadsTo, StopsText, StopsRun, stop_of_fault, stop_of_line};
+
+use crate::first::machine::Machine;
+use article_read::{Command, LineFault, Lines};
+use bridge_base::{Failed, Fault, Kind, Memory, Shelf};
+use std::alloc::Global;
+
+/// Why an article came to no end.
+#[derive(Clone, Copy, Debug, PartialEq, Eq)]
+pub enum Stop {
+    /// The article is refused at this line.
+    Refused(u64, Kind),
+    ReadFault,
+    Memory,
+}
+
+/// The machine at the end of an article.
+pub fn read_article<H: Shelf>(alloc: Global, file: &str, shelf: &mut H) -> Result<Machine, Stop>
+    ensures accepted { IfSome (H.told shelf.old) (λ files. IfOk result (λ machine. Run (bytes_of files file.now ∷ []) (accepted (accepted_state machine)))) }
+    ensures refused { IfSome (H.told shelf.old) (λ files. IfErr result (λ stop. StopsRun stop (bytes_of files file.now))) }
+    ensures read_fault { IfErr result (λ stop. stop ≡ Stop.ReadFault → Rose (H.faults shelf.old) (H.faults shelf.new)) }
+{
+    if shelf.begin(file).is_err() {
+        return Err(Stop::ReadFault);
+    }
+    let mut machine = Machine::new(alloc);
+    let end = read_commands(alloc, shelf, &mut machine)?;
+    match machine.finish() {
+        Ok(()) => Ok(machine),
+        Err(fault) => Err(stop_at(end, fault)),
+    }
+}
+
+/// Gives the machine each command of the file begun, and gives the line of its end.
+fn read_commands<H: Shelf>(alloc: Global, shelf: &mut H, machine: &mut Machine) -> Result<u64, Stop>
+    ensures read { IfSome (H.left shelf.old) (λ text. IfOk result (λ line. ReadsTo text machine.old line machine.new)) }
+    ensures refused { IfSome (H.left shelf.old) (λ text. IfErr result (λ stop. StopsText stop text machine.old)) }
+    ensures read_fault { IfErr result (λ stop. stop ≡ Stop.ReadFault → Rose (H.faults shelf.old) (H.faults shelf.new)) }
+    ensures later { H.faults shelf.old ≤ H.faults shelf.new }
+{
+    let mut lines = Lines::new(alloc);
+    let mut commands = Vec::new(alloc);
+    let mut buffer = [0u8; 4096];
+    loop {
+        let count = match shelf.read(&mut buffer) {
+            Ok(count) => count,
+            Err(Failed) => return Err(Stop::ReadFault),
+        };
+        if count == 0 {
+            break;
+        }
+        commands.clear();
+        let fed = lines.feed(&buffer[..count], &mut commands);
+        run_all(machine, &commands)?;
+        if let Err(fault) = fed {
+            return Err(stop_of(fault));
+        }
+    }
+    commands.clear();
+    let ended = lines.finish(&mut commands);
+    run_all(machine, &commands)?;
+    match ended {
+        Ok(line) => Ok(line),
+        Err(fault) => Err(stop_of(fault)),
+    }
+}
+
+/// Runs commands up to the first that is refused.
+fn run_all(machine: &mut Machine, commands: &[Command]) -> Result<(), Stop>
+    ensures obeyed { OnOk result (obey_all machine.old commands.now ≡ Ok machine.new) }
+    ensures halted { IfErr result (λ stop. Halts stop (obey_all machine.old commands.now)) }
+    ensures own { IfErr result (λ stop. stop ≢ Stop.ReadFault) }
+{
+    for command in commands {
+        if let Err(fault) = machine.step(&command.item) {
+            return Err(stop_at(command.line, fault));
+        }
+    }
+    Ok(())
+}
+
+/// The stop for a fault of the machine at a line. Every refusal of this path is a bad line.
+fn stop_at(line: u64, fault: Fault) -> Stop
+    ensures stop { result ≡ stop_of_fault line fault }
+    ensures own { result ≢ Stop.ReadFault }
+{
+    match fault {
+        Fault::Refused(_) => Stop::Refused(line, Kind::BadLine),
+        Fault::Memory => Stop::Memory,
+    }
+}
+
+/// The stop for a faulty line.
+fn stop_of(fault: LineFault) -> Stop
+    ensures stop { result ≡ stop_of_line fault }
+    ensures own { result ≢ Stop.ReadFault }
+{
+    match fault {
+        LineFault::Refused { line, kind } => Stop::Refused(line, kind),
+        LineFault::Memory => Stop::Memory,
+    }
+}

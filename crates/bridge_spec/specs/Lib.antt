@@ -1,0 +1,6 @@
+pub mod Answers
+pub mod Forms
+pub mod Image
+pub mod Outputs
+pub mod Texts
+pub mod Translation

@@ -1,0 +1,37 @@
+ghost use Rattle.std.specs.Prelude.{◌≡◌};
+ghost use Rattle.bridge_spec.specs.Texts.{status_number};
+
+use bridge_base::Kind;
+
+/// The answer of the program.
+#[derive(Clone, Copy, Debug, PartialEq, Eq)]
+pub enum Status {
+    /// The run was accepted, and the outputs stand whole.
+    Done,
+    /// This article, counted from 1, is refused at this line, counted from 1.
+    Refused { article: u64, line: u64, kind: Kind },
+    /// The words are no form of the program.
+    Usage,
+    /// A file could not be read.
+    ReadFault,
+    /// An output could not be written; it replaces whatever else was to be answered.
+    WriteFault,
+    /// There was no memory left.
+    Memory,
+}
+
+impl Status {
+    /// The number with which the program ends.
+    pub fn number(&self) -> u8
+        ensures { result ≡ status_number self.now }
+    {
+        match self {
+            Status::Done => 0,
+            Status::Refused { .. } => 1,
+            Status::Usage => 2,
+            Status::ReadFault => 3,
+            Status::WriteFault => 4,
+            Status::Memory => 5,
+        }
+    }
+}
