@@ -1,3 +1,4 @@
+pub mod Ascending
 pub mod Conditions
 pub mod Contents
 pub mod LineLaws

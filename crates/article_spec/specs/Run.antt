@@ -3,10 +3,11 @@
 use Rattle.std.specs.Prelude.{ℕ, ◌+◌, ◌≡◌, ◌<◌, List, [], ◌∷◌, ◌++◌, map, length, Result, Ok, Err}
 use Rattle.std.specs.List.{AllByRecursion}
 use Rattle.hol_spec.specs.Derivations.{Derives}
-use Rattle.hol_spec.specs.Proofs.{Made, steps_of, sequent_at, definitions_of}
+use Rattle.hol_spec.specs.Proofs.{Made, symbols_of, steps_of, sequent_at, definitions_of}
 use Rattle.bridge_base.specs.declared.faults.Kind.{Kind}
 use Rattle.article_spec.specs.declared.commands.Command.{Command}
 use Rattle.article_spec.specs.Lines.{Lines, End, ended, refused}
+use Rattle.article_spec.specs.Ascending.{Ascend}
 use Rattle.article_spec.specs.Results.{◌>>=◌}
 use Rattle.article_spec.specs.State.{State, initial}
 use Rattle.article_spec.specs.Step.{step, finish}
@@ -77,6 +78,18 @@ OneOutcome = (articles : List (List ℕ)) → HasOneOutcome articles
 -- What an accepted run exports is derived.
 abbrev pub ExportsDerived : Type 0
 ExportsDerived = (articles : List (List ℕ)) (a : Accepted) → Run articles (accepted a) → AllByRecursion (IsDerived a) a.exports
+
+-- The exports of an accepted run are steps of it, in order of making.
+abbrev pub ExportsAscend : Type 0
+ExportsAscend = (articles : List (List ℕ)) (a : Accepted) → Run articles (accepted a) → Ascend 0 (length (steps_of a.made)) a.exports
+
+-- An accepted run assumes nothing.
+abbrev pub AssumesNothing : Type 0
+AssumesNothing = (articles : List (List ℕ)) (a : Accepted) → Run articles (accepted a) → a.assumptions ≡ []
+
+-- An accepted run takes no symbols beside the primitive ones.
+abbrev pub TakesNoSymbols : Type 0
+TakesNoSymbols = (articles : List (List ℕ)) (a : Accepted) → Run articles (accepted a) → symbols_of a.made ≡ []
 
 -- A refusal depends on the articles up to the refused one alone.
 abbrev pub RefusalsStay : Type 0

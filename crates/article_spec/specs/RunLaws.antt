@@ -5,6 +5,7 @@ use Rattle.article_spec.specs.declared.commands.Command.{Command}
 use Rattle.article_spec.specs.Lines.{End, ended, refused}
 use Rattle.article_spec.specs.OneReading.{HasOneReading}
 use Rattle.article_spec.specs.ReadingLaws.{one_reading}
+use Rattle.article_spec.specs.Ascending.{Ascend}
 use Rattle.article_spec.specs.State.{State, initial}
 use Rattle.std.specs.List.{AllByRecursion}
 use Rattle.hol_spec.specs.Symbols.{Symbol}
@@ -12,9 +13,9 @@ use Rattle.hol_spec.specs.Derivations.{Derives}
 use Rattle.hol_spec.specs.DerivationLaws.{step-Derives}
 use Rattle.hol_spec.specs.Proofs.{symbols_of, steps_of, sequent_at, definitions_of, IsProof}
 use Rattle.article_spec.specs.Step.{step, finish}
-use Rattle.article_spec.specs.StepLaws.{IsSound, bound, at_step, step-IsSound, finish-IsSound, initial-IsSound}
+use Rattle.article_spec.specs.StepLaws.{IsSound, below, bound, at_step, step-IsSound, finish-IsSound, initial-IsSound}
 use Rattle.article_spec.specs.Restriction.{restricted, without_inputs}
-use Rattle.article_spec.specs.Run.{Accepted, at_line, obey_all, end_article, obey_article, accepted_state, Outcome, accepted, refused_at, RunsFrom, finished, passed, stopped, IsDerived, OneOutcome, ExportsDerived, RefusalsStay}
+use Rattle.article_spec.specs.Run.{Accepted, at_line, obey_all, end_article, obey_article, accepted_state, Outcome, accepted, refused_at, RunsFrom, finished, passed, stopped, IsDerived, OneOutcome, Run, ExportsDerived, ExportsAscend, AssumesNothing, TakesNoSymbols, RefusalsStay}
 
 record OneFrom (k : ℕ) (s : State) (articles : List (List ℕ)) : Type 0 where
   outcome : Outcome
@@ -119,13 +120,60 @@ the_accepted a (refused_at k line kind) = a
 runs-Derived : (k : ℕ) (s : State) (articles : List (List ℕ)) (o : Outcome) (a : Accepted) → IsSound s → o ≡ accepted a → RunsFrom k s articles o → AllByRecursion (IsDerived a) a.exports
 unfolding the_accepted
 runs-Derived k s [] o a h e (finished f) =
-    subst (λ b. AllByRecursion (IsDerived b) b.exports) (ap (the_accepted a) (sym f ∙ e)) (derived s s.exports h.proof h.exports)
+    subst (λ b. AllByRecursion (IsDerived b) b.exports) (ap (the_accepted a) (sym f ∙ e)) (derived s s.exports h.proof (below 0 (length (steps_of s.made)) s.exports h.exports))
 runs-Derived k s (bytes ∷ rest) o a h e (passed {next = t} {commands = cs} {end = x} l p r) = runs-Derived (k + 1) t rest o a (obey_article-IsSound s t cs x h p) e r
 runs-Derived k s (bytes ∷ rest) o a h e (stopped {line = n} {kind = m} l p f) = let g : accepted a ≡ refused_at k n m = sym e ∙ f in absurd (cc)
 
 -- Each export of an accepted run derives from the run's definitions and assumptions.
 pub exports_derived : ExportsDerived
 exports_derived articles a r = runs-Derived 1 initial articles (accepted a) a initial-IsSound refl r
+
+-- What is true of each state of a run.
+runs-have : (P : State → Type 0) → ((s t : State) (commands : List Command) (end : End) → P s → obey_article s commands end ≡ Ok t → P t)
+    → (Q : Accepted → Type 0) → ((s : State) → P s → Q (accepted_state s))
+    → (k : ℕ) (s : State) (articles : List (List ℕ)) (o : Outcome) (a : Accepted) → P s → o ≡ accepted a → RunsFrom k s articles o → Q a
+unfolding the_accepted
+runs-have P keeps Q gives k s [] o a h e (finished f) = subst Q (ap (the_accepted a) (sym f ∙ e)) (gives s h)
+runs-have P keeps Q gives k s (bytes ∷ rest) o a h e (passed {next = t} {commands = cs} {end = x} l p r) =
+    runs-have P keeps Q gives (k + 1) t rest o a (keeps s t cs x h p) e r
+runs-have P keeps Q gives k s (bytes ∷ rest) o a h e (stopped {line = n} {kind = m} l p f) = let g : accepted a ≡ refused_at k n m = sym e ∙ f in absurd (cc)
+
+-- The steps of an accepted run are a proof.
+pub steps-IsProof : (articles : List (List ℕ)) (a : Accepted) → Run articles (accepted a) → IsProof (steps_of a.made)
+steps-IsProof articles a r = runs-have IsSound obey_article-IsSound (λ b. IsProof (steps_of b.made)) (λ s h. h.proof) 1 initial articles (accepted a) a initial-IsSound refl r
+
+-- The exports of an accepted run are steps of it, in order of making.
+pub exports_ascend : ExportsAscend
+exports_ascend articles a r =
+    runs-have IsSound obey_article-IsSound (λ b. Ascend 0 (length (steps_of b.made)) b.exports) (λ s h. h.exports) 1 initial articles (accepted a) a initial-IsSound refl r
+
+-- An accepted run assumes nothing.
+pub assumes_nothing : AssumesNothing
+assumes_nothing articles a r = runs-have IsSound obey_article-IsSound (λ b. b.assumptions ≡ []) (λ s h. h.assumptions) 1 initial articles (accepted a) a initial-IsSound refl r
+
+-- what the restriction lets through has no symbols
+without : (a : Result State Kind) (t : State) → restricted a ≡ Ok t → symbols_of t.made ≡ []
+without (Ok s) t e = none_of (symbols_of s.made) s t refl e
+  where
+    none_of : (xs : List Symbol) (s t : State) → symbols_of s.made ≡ xs → without_inputs xs s ≡ Ok t → symbols_of t.made ≡ []
+    none_of [] s t is e = subst (λ (u : State). symbols_of u.made ≡ []) (same s t e) is
+      where
+        same : (s t : State) → ◌≡◌ {A = Result State Kind} (Ok s) (Ok t) → s ≡ t
+        same s t e = cc
+    none_of (x ∷ xs) s t is e = absurd (cc)
+without (Err k) t e = absurd (cc)
+
+end_article-takes-none : (end : End) (s t : State) → end_article s end ≡ Ok t → symbols_of t.made ≡ []
+end_article-takes-none (ended line) s t e = without (finish s) t (on_line line (restricted (finish s)) t e)
+end_article-takes-none (refused line kind) s t e = absurd (cc)
+
+obey_article-takes-none : (s t : State) (commands : List Command) (end : End) → symbols_of s.made ≡ [] → obey_article s commands end ≡ Ok t → symbols_of t.made ≡ []
+obey_article-takes-none s t commands end h e = let last = bound (obey_all s commands) _ t e in end_article-takes-none end last.0 t last.2
+
+-- An accepted run takes no symbols.
+pub takes_no_symbols : TakesNoSymbols
+takes_no_symbols articles a r =
+    runs-have (λ s. symbols_of s.made ≡ []) obey_article-takes-none (λ b. symbols_of b.made ≡ []) (λ s h. h) 1 initial articles (accepted a) a refl refl r
 
 -- A refusal in an article depends on the articles up to it alone.
 refused_before : (k j line : ℕ) (kind : Kind) (s : State) (articles more : List (List ℕ)) (o : Outcome) → o ≡ refused_at j line kind → RunsFrom k s articles o → RunsFrom k s (articles ++ more) o

@@ -13,7 +13,7 @@
 //! | `Operands` | what a command takes from the stack |
 //! | `Step` | what one command does, or why it is refused |
 //! | `Restriction` | what this version leaves out |
-//! | `Run` | the outcome of a list of articles; `RunLaws`: there is exactly one |
+//! | `Run` | the outcome of a list of articles, and the laws of runs, which `RunLaws` proves |
 //!
 //! ```text
 //! ghost use Rattle.article_spec.specs.Lines.{Lines, ended};
@@ -21,7 +21,7 @@
 //! ```
 #![tactic(auto)]
 
-ghost use Rattle.article_spec.specs.Run.{OneOutcome, ExportsDerived, RefusalsStay};
+ghost use Rattle.article_spec.specs.Run.{OneOutcome, AssumesNothing, ExportsAscend, ExportsDerived, RefusalsStay, TakesNoSymbols};
 
 mod commands;
 
@@ -35,6 +35,21 @@ pub fn one_outcome()
 /// The law of exports: what an accepted run exports derives from the definitions and assumptions of the run.
 pub fn exports_derived()
     ensures { ExportsDerived }
+{}
+
+/// The law of order: the exports of an accepted run are steps of it, in order of making.
+pub fn exports_ascend()
+    ensures { ExportsAscend }
+{}
+
+/// The law of assumptions: an accepted run has none.
+pub fn assumes_nothing()
+    ensures { AssumesNothing }
+{}
+
+/// The law of symbols: an accepted run takes none beside the primitive ones.
+pub fn takes_no_symbols()
+    ensures { TakesNoSymbols }
 {}
 
 /// The law of refusals: one depends on the articles up to the refused one alone.

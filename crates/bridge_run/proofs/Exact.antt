@@ -1,11 +1,14 @@
 -- An answer that came by its cause is that of the run.
 use Rattle.std.proofs.Common.{◌≡◌, ◌⊎◌, inl, inr, ℕ, List, [], Option, None, Some, refl, sym, ap, subst, ◌∙◌}
 use Rattle.bridge_base.specs.Outside.{Files}
-use Rattle.article_spec.specs.Run.{Outcome, accepted, refused_at}
+use Rattle.article_spec.specs.Run.{Accepted, Outcome, accepted, refused_at}
 use Rattle.article_spec.specs.RunLaws.{one_outcome}
 use Rattle.bridge_spec.specs.Forms.{Form, translate}
 use Rattle.bridge_spec.specs.Texts.{usage_line}
 use Rattle.bridge_spec.specs.Answers.{Call, Answers, RunsTo, HasOutcome, IsOnFiles, ReadWell, answer_of, articles}
+use Rattle.bridge_spec.specs.Image.{image}
+use Rattle.bridge_spec.specs.Stands.{Stands}
+use Rattle.bridge_spec.specs.ImageLaws.{image-Stands}
 use Rattle.bridge_spec.specs.Outputs.{Sunk, Gained, Stopped, Delivers, Leaves, Aside}
 use Rattle.bridge_spec.specs.declared.status.Status.{Status}
 use Rattle.bridge_spec.specs.declared.status.Status.TheVariants.{Done, Refused, Usage, ReadFault, WriteFault, Memory}
@@ -47,3 +50,9 @@ usage-Leaves call out note result none h = by_cases h
     by_cases : ((result ≡ Usage) × Gained out [] × Gained note usage_line) ⊎ ((result ≡ WriteFault) × Stopped [] usage_line out note) → Leaves call out note result
     by_cases (inl f) = subst (λ status. Leaves call out note status) (sym f.0) (record { out_text = []; note_text = usage_line; answers = (none, refl, refl); out_gained = f.1; note_gained = f.2 })
     by_cases (inr f) = subst (λ status. Leaves call out note status) (sym f.0) (record { answer = Usage; out_text = []; note_text = usage_line; answers = (none, refl, refl); stopped = f.1 })
+
+-- The module of an accepted run of the files stands for the run.
+pub RunsTo-Stands : (form : Option Form) (told : Option Files) (run : Accepted) → RunsTo form told (accepted run) → IsOnFiles form told → Stands (image run) run
+RunsTo-Stands None told run h on = absurd on
+RunsTo-Stands (Some (translate names)) None run h on = absurd on
+RunsTo-Stands (Some (translate names)) (Some files) run h on = image-Stands (articles files names) run h

@@ -1,9 +1,11 @@
 ghost use Rattle.std.specs.Prelude.{◌≡◌, ◌⊎◌, None, Some, length, map, string_bytes, ℕ, List, ◌∷◌, []};
 ghost use Rattle.bridge_base.specs.Outside.{Rose};
-ghost use Rattle.article_spec.specs.Run.{Outcome};
+ghost use Rattle.article_spec.specs.Run.{Accepted, Outcome, accepted};
 ghost use Rattle.bridge_spec.specs.Forms.{form_of, translate};
-ghost use Rattle.bridge_spec.specs.Answers.{called, HasOutcome, ReadWell, answer_of};
+ghost use Rattle.bridge_spec.specs.Answers.{called, HasOutcome, IsOnFiles, ReadWell, answer_of};
+ghost use Rattle.bridge_spec.specs.Image.{image};
 ghost use Rattle.bridge_spec.specs.Outputs.{Aside, KeepsOut, Leaves, sunk};
+ghost use Rattle.bridge_spec.specs.Stands.{Stands};
 
 use crate::answer::Answer;
 use crate::deliver::deliver;
@@ -30,6 +32,9 @@ pub fn bridge<H: Shelf, O: Sink, N: Sink>(
 
     // Each answer comes only by its cause, and the sinks have gained its texts: at Done the module of the accepted run, and its counts.
     ensures outputs { Leaves (called (form_of (map string_bytes words.now)) (H.told shelf.old) (H.faults shelf.old) (H.faults shelf.new)) (sunk (O.got out.old) (O.faults out.old) (O.got out.new) (O.faults out.new)) (sunk (N.got note.old) (N.faults note.old) (N.got note.new) (N.faults note.new)) result }
+
+    // The module of an accepted run leaves only what is allowed unproved, and its exports are those of the run, in order.
+    ensures stands { (run : Accepted) → HasOutcome (called (form_of (map string_bytes words.now)) (H.told shelf.old) (H.faults shelf.old) (H.faults shelf.new)) (accepted run) → IsOnFiles (form_of (map string_bytes words.now)) (H.told shelf.old) → Stands (image run) run }
 
     // What comes of the words and of the outside.
     ensures usage { form_of (map string_bytes words.now) ≡ None → Aside result (result ≡ Status.Usage) }

@@ -10,7 +10,7 @@ use Rattle.hol_spec.specs.Primitives.{arrow_name, bool_name, equality_name, prim
 use Rattle.hol_spec.specs.Terms.{Term, free, bound, constant, app, lam, Variable, variable_eq, term_eq}
 use Rattle.hol_spec.specs.Sequents.{Sequent, type_variables_of, free_variables_of}
 use Rattle.lp_spec.specs.Trees.{Tree, Var, Sym, App, Lam, lift}
-use Rattle.lp_spec.specs.Modules.{arr_symbol, bool_symbol, ind_symbol, eq_symbol, select_symbol, types, bools, term_of, eq_of, proof_of, applied}
+use Rattle.lp_spec.specs.Modules.{arr_symbol, bool_symbol, ind_symbol, eq_symbol, select_symbol, types, bools, term_of, eq_of, proof_of, applied, products}
 
 -- what stands for type variables and for free variables
 pub record Scope : Type 0 where
@@ -118,6 +118,10 @@ domains_of context =
 -- the proofs of a formula, under all parameters
 abbrev pub conclusion_tree : Context → Term → Tree
 conclusion_tree context conclusion = proof_of (term_tree (inner_scope context) conclusion)
+
+-- a sequent: the product, over its parameters, of the proofs of its conclusion
+abbrev pub sequent_tree : Sequent → Tree
+sequent_tree s = products (domains_of (context_of s)) (conclusion_tree (context_of s) s.conclusion)
 
 -- the proof of a hypothesis, under all parameters: the hypothesis's own
 abbrev pub hypothesis_tree : Context → Term → Tree

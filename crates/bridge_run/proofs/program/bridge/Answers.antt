@@ -2,7 +2,7 @@ use Rattle.std.proofs.Common.{map, string_bytes, sym, subst}
 use Rattle.bridge_spec.specs.Forms.{form_of}
 use Rattle.bridge_spec.specs.Answers.{called}
 use Rattle.bridge_spec.specs.Outputs.{Leaves, sunk}
-use Rattle.bridge_run.proofs.Exact.{Leaves-exact, usage-Leaves}
+use Rattle.bridge_run.proofs.Exact.{Leaves-exact, RunsTo-Stands, usage-Leaves}
 use Rattle.bridge_run.proofs.program.bridge.Goals as goal
 
 pub returns-in-Some-clause-exact : goal.returns-in-Some-clause-exact
@@ -12,3 +12,9 @@ returns-in-Some-clause-exact g c outcome has well = Leaves-exact _ _ _ c.transla
 
 pub returns-in-None-clause-outputs : goal.returns-in-None-clause-outputs
 returns-in-None-clause-outputs g c = usage-Leaves (called (form_of (map string_bytes c.args.words.now)) (g.H.Shelf.told c.args.shelf.now) (g.H.Shelf.faults c.args.shelf.now) (g.H.Shelf.faults c.args.shelf.now)) _ _ c.deliver.result c.in-None.ensures c.deliver.ensures
+
+pub returns-in-Some-clause-stands : goal.returns-in-Some-clause-stands
+returns-in-Some-clause-stands g c run has on = RunsTo-Stands (form_of (map string_bytes c.args.words.now)) (g.H.Shelf.told c.args.shelf.now) run has on
+
+pub returns-in-None-clause-stands : goal.returns-in-None-clause-stands
+returns-in-None-clause-stands g c run has on = RunsTo-Stands (form_of (map string_bytes c.args.words.now)) (g.H.Shelf.told c.args.shelf.now) run has on
