@@ -1,5 +1,7 @@
 pub mod Binding
+pub mod CalculusLaws
 pub mod Closed
+pub mod Conversion
 pub mod Lemmas
 pub mod ModuleOrder
 pub mod Modules
@@ -8,4 +10,5 @@ pub mod Text
 pub mod TreeCode
 pub mod TreeEquality
 pub mod Trees
+pub mod Typing
 pub mod Weight
