@@ -12,6 +12,13 @@
 //! ```
 #![tactic(auto)]
 
+ghost use Rattle.lp_spec.specs.SignatureLaws.{SignatureTyped};
+
 mod form;
 
 pub use form::Form;
+
+/// The law of the signature: it is well typed as far as it has types, since each of its declared types has a sort.
+pub fn signature_typed()
+    ensures { SignatureTyped }
+{}

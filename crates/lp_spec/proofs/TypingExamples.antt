@@ -1,0 +1,87 @@
+-- Worked examples: steps of each kind, what is typed, and modules that are well typed.
+use Rattle.std.proofs.Common.{◌≡◌, refl, List, [], ◌∷◌, Some, None, codes}
+use Rattle.lp_spec.specs.declared.form.Form.TheVariants.{Symbol, Def, Thm}
+use Rattle.lp_spec.specs.Trees.{Tree, SortType, SortKind, Var, Sym, App, Lam, Pi, lift}
+use Rattle.lp_spec.specs.Modules.{Declaration, symbol, types, bools, arr_of, term_of, eq_of, proof_of, refl_of, select_symbol, refl_type}
+use Rattle.lp_spec.specs.Lemmas.{theorem}
+use Rattle.lp_spec.specs.Conversion.{symbol_definition, Step, beta, delta, rule, app_argument, pi_domain, Steps, done, next, Conv, same, forth, back}
+use Rattle.lp_spec.specs.Typing.{is_type, Typed, of_variable, of_symbol, of_product, of_abstraction, of_application, of_conversion, IsBodyOf, IsTypedAfter, WellTyped}
+use Rattle.lp_spec.specs.ConversionLaws.{IsClosed}
+use Rattle.lp_spec.specs.SignatureForms.{Typed-types, Typed-bools, Typed-term_of, Typed-proof_of, Typed-eq_of}
+use Rattle.lp_spec.specs.WellTypedLaws.{WellTyped-IsClosed}
+
+-- def y : type := bool
+abbrev y : Declaration
+y = record { name = codes "y"; form = Def; ty = types; body = Some bools }
+
+-- the symbol of the first declaration of a module
+abbrev first : Tree
+first = Sym 13
+
+-- `(x : term bool => x) p` becomes p
+identity_applied : (m : List Declaration) (p : Tree) → Step m (App (Lam (term_of bools) (Var 0)) (Var 3)) (Var 3)
+identity_applied m p = beta refl
+
+-- y becomes bool
+y_unfolds : Step (y ∷ []) first bools
+y_unfolds = delta refl
+
+-- `term (arr bool bool)` becomes `term bool -> term bool`
+functions_unfold : (m : List Declaration) → Step m (term_of (arr_of bools bools)) (Pi (term_of bools) (term_of bools))
+functions_unfold m = rule refl
+
+-- `x : y -> y` goes to `x : bool -> y`, and is convertible to it either way
+under_binder : Conv (y ∷ []) (Pi bools first) (Pi first first)
+under_binder = back (pi_domain y_unfolds) same
+
+-- a theorem of the same type and body does not unfold, and neither does a symbol
+theorem_stays : symbol_definition (theorem (codes "y") [] types bools ∷ []) 13 ≡ None
+theorem_stays = refl
+
+symbol_stays : symbol_definition (symbol (codes "y") types ∷ []) 13 ≡ None
+symbol_stays = refl
+
+no_definition : (m : List Declaration) (u : Tree) → symbol_definition m 1 ≡ Some u → ⊥
+no_definition m u e = cc
+
+bool_stays : (m : List Declaration) (u : Tree) → Step m bools u → ⊥
+bool_stays m u (delta e) = no_definition m u e
+
+-- the module of no declaration is well typed
+nothing_declared : WellTyped []
+nothing_declared = tt {0}
+
+-- y is a definition of the right type
+y_typed : IsTypedAfter [] y
+y_typed = record { ty = Typed-types []; body = Typed-bools [] }
+
+y_declared : WellTyped (y ∷ [])
+y_declared = (y_typed, tt {0})
+
+-- in a context with p of type bool, `refl bool p` proves `eq bool p p`
+p_is_p : (m : List Declaration) → IsClosed m → Typed m (term_of bools ∷ []) (refl_of bools (Var 0)) (proof_of (eq_of bools (Var 0) (Var 0)))
+p_is_p m closed = of_application (of_application (of_symbol refl) (Typed-bools m) refl) (of_variable refl refl) refl
+
+-- so the theorem that each p equals itself is typed after y, and so is its like with y for bool in its type
+reflexivity : Declaration
+reflexivity = theorem (codes "T") (term_of bools ∷ []) (proof_of (eq_of bools (Var 0) (Var 0))) (refl_of bools (Var 0))
+
+reflexivity_typed : (m : List Declaration) → IsClosed m → IsTypedAfter m reflexivity
+unfolding reflexivity
+reflexivity_typed m closed =
+    let p : Typed m (term_of bools ∷ []) (Var 0) (term_of bools) = of_variable refl refl in
+    let says = of_product (Typed-term_of m (Typed-bools m)) (Typed-proof_of m (Typed-eq_of m closed (Typed-bools m) p p)) is_type in
+    record { ty = says; body = of_abstraction says is_type (p_is_p m closed) }
+
+reflexivity_declared : WellTyped (y ∷ reflexivity ∷ [])
+unfolding reflexivity
+reflexivity_declared = (y_typed, (reflexivity_typed (y ∷ []) (WellTyped-IsClosed (y ∷ []) y_declared), tt {0}))
+
+-- a variable of type y is of type bool
+y_is_bool : Typed (y ∷ []) (term_of first ∷ []) (Var 0) (term_of bools)
+y_is_bool =
+    of_conversion {A = term_of first} (of_variable refl refl) (forth (app_argument y_unfolds) same) (Typed-term_of (y ∷ []) (Typed-bools (y ∷ []))) is_type
+
+-- a definition without a body is no declaration
+bodiless : IsBodyOf [] Def None types → ⊥
+bodiless h = h
