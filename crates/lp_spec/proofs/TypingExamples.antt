@@ -1,10 +1,10 @@
 -- Worked examples: steps of each kind, what is typed, and modules that are well typed.
 use Rattle.std.proofs.Common.{◌≡◌, refl, List, [], ◌∷◌, Some, None, codes}
-use Rattle.lp_spec.specs.declared.form.Form.TheVariants.{Symbol, Def, Thm}
-use Rattle.lp_spec.specs.Trees.{Tree, SortType, SortKind, Var, Sym, App, Lam, Pi, lift}
-use Rattle.lp_spec.specs.Modules.{Declaration, symbol, types, bools, arr_of, term_of, eq_of, proof_of, refl_of, select_symbol, refl_type}
+use Rattle.lp_spec.specs.declared.form.Form.TheVariants.{Def}
+use Rattle.lp_spec.specs.Trees.{Tree, Var, Sym, App, Lam, Pi}
+use Rattle.lp_spec.specs.Modules.{Declaration, symbol, types, bools, arr_of, term_of, eq_of, proof_of, refl_of}
 use Rattle.lp_spec.specs.Lemmas.{theorem}
-use Rattle.lp_spec.specs.Conversion.{symbol_definition, Step, beta, delta, rule, app_argument, pi_domain, Steps, done, next, Conv, same, forth, back}
+use Rattle.lp_spec.specs.Conversion.{symbol_definition, Step, beta, delta, rule, app_argument, pi_domain, Conv, same, forth, back}
 use Rattle.lp_spec.specs.Typing.{is_type, Typed, of_variable, of_symbol, of_product, of_abstraction, of_application, of_conversion, IsBodyOf, IsTypedAfter, WellTyped}
 use Rattle.lp_spec.specs.ConversionLaws.{IsClosed}
 use Rattle.lp_spec.specs.SignatureForms.{Typed-types, Typed-bools, Typed-term_of, Typed-proof_of, Typed-eq_of}

@@ -1,7 +1,7 @@
 -- Steps and conversion: chains joined and reversed, and what renamings, substitutions and further declarations keep of them.
-use Rattle.std.proofs.Common.{◌≡◌, ℕ, suc, sym, ap, ◌∙◌, subst, List, [], ◌∷◌, ◌++◌, Some, None}
+use Rattle.std.proofs.Common.{◌≡◌, ℕ, sym, ap, ◌∙◌, subst, List, ◌++◌, Some}
 use Rattle.lp_spec.specs.LookUps.{slice_get-append, option_map-append, option_and_then-append}
-use Rattle.lp_spec.specs.Trees.{Tree, Var, Pi, lift, put, loose}
+use Rattle.lp_spec.specs.Trees.{Tree, Var, Pi, put, loose}
 use Rattle.lp_spec.specs.Substitution.{up, ren, ups, sub, cons, put_is}
 use Rattle.lp_spec.specs.SubstitutionLaws.{subst2, ren_closed, sub_closed, ren-put, sub-put, ren-lift, sub-lift}
 use Rattle.lp_spec.specs.Modules.{Declaration, signature, symbol_declaration, symbol_type, term_of}

@@ -2,7 +2,7 @@
 use Rattle.std.proofs.Common.{◌≡◌, ◌⊎◌, inl, inr, refl, sym, subst, ℕ, List, ◌∷◌, Some}
 use Rattle.lp_spec.specs.Trees.{Tree, SortType, Sym, App, Lam, Pi, put}
 use Rattle.lp_spec.specs.Modules.{Declaration, symbol_type}
-use Rattle.lp_spec.specs.Conversion.{Conv, same}
+use Rattle.lp_spec.specs.Conversion.{Conv}
 use Rattle.lp_spec.specs.ConversionLaws.{Conv-trans, Conv-equal}
 use Rattle.lp_spec.specs.Typing.{IsSort, Typed, of_product, of_abstraction, of_application, of_symbol, of_conversion, IsSorted}
 

@@ -11,7 +11,7 @@ use Rattle.lp_spec.specs.ConversionLaws.{IsClosed}
 use Rattle.lp_spec.specs.Typing.{IsSort, is_type, is_kind, Typed, of_type, of_variable, of_symbol, of_product, of_abstraction, of_application, of_conversion, IsContext, nothing, entry, IsSorted}
 use Rattle.lp_spec.specs.TypingLaws.{loose-IsSort, weaken, Typed-anywhere, Typed-put}
 use Rattle.lp_spec.specs.Inversion.{Typed-Pi}
-use Rattle.lp_spec.specs.Soundness.{IsSound, IsSound-closed, symbol_type-sorted, symbol_type-closed}
+use Rattle.lp_spec.specs.Soundness.{IsSound, IsSound-closed, symbol_type-sorted}
 
 put-IsSort : {s : Tree} (x : Tree) → IsSort s → put x s ≡ s
 put-IsSort x is_type = refl

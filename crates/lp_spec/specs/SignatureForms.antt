@@ -1,9 +1,9 @@
 -- How the symbols of the signature are typed at typed arguments, over every module with closed types.
-use Rattle.std.proofs.Common.{◌≡◌, refl, ap, List, ◌∷◌}
-use Rattle.lp_spec.specs.Trees.{Tree, SortType, Var, Sym, App, Pi, lift, put}
+use Rattle.std.proofs.Common.{refl, ap, List, ◌∷◌}
+use Rattle.lp_spec.specs.Trees.{Tree, SortType, Sym, App, Pi, lift}
 use Rattle.lp_spec.specs.Substitution.{lift_zero}
 use Rattle.lp_spec.specs.Binding.{put-lift}
-use Rattle.lp_spec.specs.Modules.{Declaration, types, bools, arr_of, term_of, eq_of, proof_of, refl_of, eq_symbol, refl_symbol, select_symbol, ind_symbol}
+use Rattle.lp_spec.specs.Modules.{Declaration, types, bools, arr_of, term_of, eq_of, proof_of, eq_symbol, select_symbol, ind_symbol}
 use Rattle.lp_spec.specs.Conversion.{rule, same, forth}
 use Rattle.lp_spec.specs.ConversionLaws.{IsClosed}
 use Rattle.lp_spec.specs.Typing.{is_type, Typed, of_symbol, of_product, of_application, of_conversion}

@@ -2,9 +2,8 @@
 use Rattle.std.proofs.Common.{◌≡◌, refl, subst, ℕ, List, [], ◌∷◌, Some, None}
 use Rattle.std.specs.List.{AllByRecursion}
 use Rattle.lp_spec.specs.LookUps.{option_map-some, option_and_then-some, AllByRecursion-slice_get}
-use Rattle.lp_spec.specs.declared.form.Form.TheVariants.{Symbol}
-use Rattle.lp_spec.specs.Trees.{Tree, SortType, SortKind, Var, App, Pi, loose}
-use Rattle.lp_spec.specs.Modules.{Declaration, signature, symbol_declaration, symbol_type, types, bools, arr_of, arr_type, term_type, eq_type, select_type, proof_type, refl_type, fun_ext_type, app_thm_type, prop_ext_type, eq_mp_type, two_functions, products, term_of}
+use Rattle.lp_spec.specs.Trees.{Tree, SortType, SortKind, Var, loose}
+use Rattle.lp_spec.specs.Modules.{Declaration, signature, symbol_declaration, symbol_type, types, arr_of, arr_type, term_type, eq_type, select_type, proof_type, refl_type, fun_ext_type, app_thm_type, prop_ext_type, eq_mp_type, two_functions, products, term_of}
 use Rattle.lp_spec.specs.ConversionLaws.{IsClosed}
 use Rattle.lp_spec.specs.Typing.{is_type, is_kind, Typed, of_type, of_variable, of_product, IsSorted, IsBodyOf}
 use Rattle.lp_spec.specs.Conversion.{definition_of, symbol_definition}
@@ -84,10 +83,37 @@ module _ (m : List Declaration) (closed : IsClosed m) where
       (of_product (Typed-proof_of m (of_variable refl refl)) (Typed-proof_of m (of_variable refl refl)) is_type) is_type) is_type) is_type
 
   types_sorted : AllByRecursion (λ (d : Declaration). IsSorted m [] d.ty) signature
-  types_sorted =
-      (kind_sorted of_type, (type_sorted (Typed-types m), (type_sorted (Typed-types m), (type_sorted arr_typed, (kind_sorted term_typed,
-      (type_sorted eq_typed, (type_sorted select_typed, (kind_sorted proof_typed, (type_sorted refl_typed, (type_sorted fun_ext_typed,
-      (type_sorted app_thm_typed, (type_sorted prop_ext_typed, (type_sorted eq_mp_typed, tt {0})))))))))))))
+  types_sorted = (
+    kind_sorted of_type,
+    (
+      type_sorted (Typed-types m),
+      (
+        type_sorted (Typed-types m),
+        (
+          type_sorted arr_typed,
+          (
+            kind_sorted term_typed,
+            (
+              type_sorted eq_typed,
+              (
+                type_sorted select_typed,
+                (
+                  kind_sorted proof_typed,
+                  (
+                    type_sorted refl_typed,
+                    (
+                      type_sorted fun_ext_typed,
+                      (type_sorted app_thm_typed, (type_sorted prop_ext_typed, (type_sorted eq_mp_typed, tt {0}))),
+                    ),
+                  ),
+                ),
+              ),
+            ),
+          ),
+        ),
+      ),
+    ),
+  )
 
 types_closed : AllByRecursion (λ (d : Declaration). loose d.ty ≡ 0) signature
 types_closed = (refl, (refl, (refl, (refl, (refl, (refl, (refl, (refl, (refl, (refl, (refl, (refl, (refl, tt {0})))))))))))))

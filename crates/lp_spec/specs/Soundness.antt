@@ -1,20 +1,16 @@
 -- What a well-typed module has over itself: closed trees, a sort for each declared type, and its declared type for each body.
-use Rattle.std.proofs.Common.{◌≡◌, ◌⊎◌, inl, inr, ⊎_elim, refl, sym, ap, ◌∙◌, subst, ℕ, zero, suc, List, [], ◌∷◌, ◌++◌, append_assoc, Option, Some, None}
-use Rattle.std.specs.Prelude.{slice_get, option_map, option_and_then}
-use Rattle.std.specs.List.{AllByRecursion}
+use Rattle.std.proofs.Common.{◌≡◌, ⊎_elim, sym, ap, ◌∙◌, subst, ℕ, List, [], ◌∷◌, ◌++◌, append_assoc, Option, Some, None}
+use Rattle.std.specs.Prelude.{option_map}
 use Rattle.std.proofs.lemmas.List.{append-nil}
 use Rattle.lp_spec.specs.declared.form.Form.{Form}
 use Rattle.lp_spec.specs.declared.form.Form.TheVariants.{Symbol, Def, Thm}
-use Rattle.lp_spec.specs.LookUps.{some_is, option_map-some, option_and_then-some, last_or, AllByRecursion-slice_get}
-use Rattle.lp_spec.specs.Trees.{Tree, SortType, SortKind, Pi, lift, put, loose}
+use Rattle.lp_spec.specs.LookUps.{some_is, option_map-some, option_and_then-some, last_or}
+use Rattle.lp_spec.specs.Trees.{Tree, SortType, loose}
 use Rattle.lp_spec.specs.Modules.{Declaration, signature, symbol_declaration, symbol_type}
 use Rattle.lp_spec.specs.Conversion.{definition_of, symbol_definition}
 use Rattle.lp_spec.specs.ConversionLaws.{IsClosed}
-use Rattle.lp_spec.specs.SubstitutionLaws.{lift_one}
-use Rattle.lp_spec.specs.Substitution.{suc_lift}
-use Rattle.lp_spec.specs.Typing.{IsSort, is_type, is_kind, Typed, of_type, of_variable, of_symbol, of_product, of_abstraction, of_application, of_conversion, IsContext, nothing, entry, IsSorted, IsBodyOf, IsTypedAfter, AreTypedAfter, WellTyped}
-use Rattle.lp_spec.specs.TypingLaws.{Typed-closed, loose-IsSort, weaken, Typed-anywhere, Typed-put, Typed-append, IsSorted-append}
-use Rattle.lp_spec.specs.Inversion.{Typed-Pi}
+use Rattle.lp_spec.specs.Typing.{is_type, Typed, IsSorted, IsBodyOf, IsTypedAfter, AreTypedAfter}
+use Rattle.lp_spec.specs.TypingLaws.{Typed-closed, Typed-append, IsSorted-append}
 
 -- the declaration's type is closed and has a sort, and its body has its type
 pub record IsSoundDeclaration (m : List Declaration) (d : Declaration) : Type 0 where

@@ -3,7 +3,7 @@ use Rattle.std.proofs.Common.{◌≡◌, ℕ, zero, suc, ◌≤◌, refl, sym, a
 use Rattle.std.specs.Prelude.{slice_get}
 use Rattle.std.proofs.lemmas.Option.{slice_get_within}
 use Rattle.lp_spec.specs.LookUps.{some_is}
-use Rattle.lp_spec.specs.Trees.{Tree, SortType, Var, Pi, lift, put, loose}
+use Rattle.lp_spec.specs.Trees.{Tree, SortType, Var, lift, put, loose}
 use Rattle.lp_spec.specs.Substitution.{up, ren, ups, sub, ren_ren, sub_ren, ren_sub, sub_var, suc_lift, cons, put_is}
 use Rattle.lp_spec.specs.Binding.{put-lift}
 use Rattle.lp_spec.specs.SubstitutionLaws.{subst2, ren_closed, sub_closed, ren-put, sub-put, lift_one, ren-lift, sub-lift}
@@ -59,7 +59,8 @@ Moves-up {r = r} {G = G} {D = D} {A = A} m = record { each = go }
     go zero B e = (ren r A, refl, sym (ren-lift r A) ∙ ap (λ o. ren (up r) (lift 1 o)) (some_is e))
     go (suc n) B e =
         let h = m.each n B e in (
-          h.0, h.1,
+          h.0,
+          h.1,
           sym (suc_lift (suc (r n)) h.0) ∙ ap (ren suc) h.2 ∙ ren_ren suc r (lift (suc n) B) ∙ sym (ren_ren (up r) suc (lift (suc n) B)) ∙ ap (ren (up r)) (suc_lift (suc n) B),
         )
 

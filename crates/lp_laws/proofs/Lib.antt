@@ -1,0 +1,5 @@
+pub mod Confluence
+pub mod Developments
+pub mod InjectiveProducts
+pub mod ParallelSteps
+pub mod SubjectReduction
