@@ -1,5 +1,6 @@
 pub mod Confluence
 pub mod Developments
+pub mod Examples
 pub mod InjectiveProducts
 pub mod ParallelSteps
 pub mod SubjectReduction

@@ -1,10 +1,13 @@
-//! What is meant by lambda-Pi trees and by the modules that they make.
+//! What is meant by lambda-Pi trees, by the modules that they make, and by their conversion and typing.
 //!
 //! This crate has no code but the type `Form`: it holds the definitions that the contracts of other crates cite, and the laws that
 //! those crates prove with. `Trees` has trees with numbers for bound variables, and what lifting and putting
 //! make of them; `Binding` the laws of lifting and putting. `Modules` has the signature and the declarations after it,
 //! `ModuleOrder` what makes them a module, `Lemmas` the two theorems with which each begins, `Text` the one text of a module, and `Weight` the bound on
-//! the steps of a declaration's check. A contract cites them so:
+//! the steps of a declaration's check. `Conversion` has the steps of reduction and their chains, `Typing` the rules of typing and what
+//! it is for a module to be well typed, and `CalculusLaws` the laws of both over well-typed modules, which the crate `lp_laws` proves.
+//! `ConversionLaws`, `TypingLaws`, `Inversion`, `Soundness`, `Regularity` and `WellTypedLaws` are laws that need no confluence, and
+//! `SignatureForms` says how the symbols of the signature are typed at their arguments. A contract cites them so:
 //!
 //! ```text
 //! ghost use Rattle.lp_spec.specs.Trees.{Tree, lift};
