@@ -14,10 +14,12 @@ data Parallels (m : List Declaration) : Tree → Tree → Type 0 where
   p_done : {t : Tree} → Parallels m t t
   p_next : {t u v : Tree} → Parallel m t u → Parallels m u v → Parallels m t v
 
+-- a chain of parallel steps is a chain of steps
 Parallels-Steps : {m : List Declaration} {t u : Tree} → Parallels m t u → Steps m t u
 Parallels-Steps p_done = done
 Parallels-Steps (p_next h r) = Steps-trans (Parallel-Steps h) (Parallels-Steps r)
 
+-- a chain of steps is a chain of parallel steps
 Steps-Parallels : {m : List Declaration} {t u : Tree} → Steps m t u → Parallels m t u
 Steps-Parallels done = p_done
 Steps-Parallels (next h r) = p_next (Step-Parallel _ h) (Steps-Parallels r)
@@ -53,5 +55,6 @@ module _ (m : List Declaration) (closed : IsClosed m) where
       let k = Steps-meet (next h done) j.1 in
       (k.0, k.1, Steps-trans j.2 k.2)
 
+-- the law of confluence holds
 pub confluent : Confluence
 confluent m typed t u v h k = Steps-meet m (WellTyped-IsClosed m typed) h k

@@ -14,19 +14,23 @@ pub data Redex : Tree → Tree → Type 0 where
   is_rule : {a b : Tree} → Redex (Sym 4) (App (App (Sym 3) a) b)
   is_none : {f x : Tree} → Redex f x
 
+-- the redex that an application is
 abbrev pub redex : (f x : Tree) → Redex f x
 redex (Lam a b) x = is_beta
 redex (Sym (suc (suc (suc (suc zero))))) (App (App (Sym (suc (suc (suc zero)))) a) b) = is_rule
 redex f x = is_none
 
+-- the body of an abstraction
 abbrev pub body_of : Tree → Tree
 body_of (Lam a b) = b
 body_of _ = SortType
 
+-- the function of an application
 abbrev pub function_of : Tree → Tree
 function_of (App f x) = f
 function_of _ = SortType
 
+-- the argument of an application
 abbrev pub argument_of : Tree → Tree
 argument_of (App f x) = x
 argument_of _ = SortType
@@ -59,6 +63,7 @@ record FromLam (m : List Declaration) (a b u : Tree) : Type 0 where
   pub domain_by : Parallel m a domain
   pub body_by : Parallel m b body
 
+-- an abstraction goes to an abstraction
 Parallel-Lam : {m : List Declaration} {a b u : Tree} → Parallel m (Lam a b) u → FromLam m a b u
 Parallel-Lam (p_lam {c = c} {d = d} h k) = record { domain = c; body = d; is = refl; domain_by = h; body_by = k }
 
@@ -73,6 +78,7 @@ record FromApp (m : List Declaration) (s : ℕ) (a u : Tree) : Type 0 where
   pub is : App (Sym s) argument ≡ u
   pub argument_by : Parallel m a argument
 
+-- `arr a` goes to `arr` at what a goes to
 Parallel-arr : {m : List Declaration} {a u : Tree} → Parallel m (App (Sym arr_symbol) a) u → FromApp m arr_symbol a u
 Parallel-arr (p_app {y = y} f x) = record { argument = y; is = ap (λ g. App g y) (Parallel-Sym refl f); argument_by = x }
 
@@ -84,6 +90,7 @@ record FromArr (m : List Declaration) (a b u : Tree) : Type 0 where
   pub left_by : Parallel m a left
   pub right_by : Parallel m b right
 
+-- `arr a b` goes to `arr` at what a and b go to
 Parallel-arr_of : {m : List Declaration} {a b u : Tree} → Parallel m (arr_of a b) u → FromArr m a b u
 Parallel-arr_of (p_app {y = y} f x) =
     let h = Parallel-arr f in

@@ -14,12 +14,15 @@ use Rattle.lp_laws.proofs.SubjectReduction.{kept}
 abbrev y_alone : List Declaration
 y_alone = record { name = codes "y"; form = Def; ty = types; body = Some bools } ∷ []
 
+-- its symbol
 abbrev y : Tree
 y = Sym 13
 
+-- the module is well typed
 y_alone_typed : WellTyped y_alone
 y_alone_typed = (record { ty = Typed-types []; body = Typed-bools [] }, tt {0})
 
+-- y becomes bool
 y_unfolds : Step y_alone y bools
 y_unfolds = delta refl
 
@@ -37,11 +40,13 @@ domains = (products y_alone y_alone_typed bools bools y bools (back (pi_domain y
 context : IsContext y_alone (term_of y ∷ [])
 context = entry nothing (Typed-term_of y_alone (of_symbol refl))
 
+-- the redex has the type of x
 redex_typed : Typed y_alone (term_of y ∷ []) (App (Lam (term_of y) (Var 0)) (Var 0)) (term_of y)
 redex_typed =
     let of_y : Typed y_alone (term_of y ∷ []) (term_of y) SortType = Typed-term_of y_alone (of_symbol refl) in
     let of_y_under : Typed y_alone (term_of y ∷ term_of y ∷ []) (term_of y) SortType = Typed-term_of y_alone (of_symbol refl) in
     of_application (of_abstraction (of_product of_y of_y_under is_type) is_type (of_variable refl refl)) (of_variable refl refl) refl
 
+-- so has x, by the law
 contracted : Typed y_alone (term_of y ∷ []) (Var 0) (term_of y)
 contracted = kept y_alone y_alone_typed (term_of y ∷ []) context (App (Lam (term_of y) (Var 0)) (Var 0)) (Var 0) (term_of y) redex_typed (beta refl)

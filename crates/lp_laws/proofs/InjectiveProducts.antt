@@ -16,15 +16,18 @@ record FromPi (m : List Declaration) (a b u : Tree) : Type 0 where
   pub domain_by : Steps m a domain
   pub body_by : Steps m b body
 
+-- a product goes to a product
 Steps-Pi : {m : List Declaration} {a b u : Tree} → Steps m (Pi a b) u → FromPi m a b u
 Steps-Pi done = record { domain = _; body = _; is = refl; domain_by = done; body_by = done }
 Steps-Pi (next (pi_domain h) r) = let g = Steps-Pi r in record { domain = g.domain; body = g.body; is = g.is; domain_by = next h g.domain_by; body_by = g.body_by }
 Steps-Pi (next (pi_body h) r) = let g = Steps-Pi r in record { domain = g.domain; body = g.body; is = g.is; domain_by = g.domain_by; body_by = next h g.body_by }
 
+-- the domain of a product
 abbrev domain_of : Tree → Tree
 domain_of (Pi a b) = a
 domain_of _ = SortType
 
+-- the body of a product
 abbrev codomain_of : Tree → Tree
 codomain_of (Pi a b) = b
 codomain_of _ = SortType
@@ -40,5 +43,6 @@ Conv-Pi m closed h =
       Conv-trans (subst (Conv m _) (ap codomain_of e) (Steps-Conv l.body_by)) (Conv-sym (Steps-Conv r.body_by)),
     )
 
+-- the law of products holds
 pub products : InjectiveProducts
 products m typed a b c d h = Conv-Pi m (WellTyped-IsClosed m typed) h

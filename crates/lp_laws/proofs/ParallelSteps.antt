@@ -58,9 +58,11 @@ module _ (m : List Declaration) where
     Parallel-ren r (p_delta h) = p_delta (h ∙ ap Some (sym (ren_closed r _ (closed.definitions _ _ h))))
     Parallel-ren r (p_rule {c = c} {d = d} a b e) = p_rule (Parallel-ren r a) (Parallel-ren r b) (ap (Pi (term_of (ren r c))) (sym (ren-lift r (term_of d))) ∙ ap (ren r) e)
 
+    -- lifting keeps parallel steps
     pub Parallel-lift : {t u : Tree} → Parallel m t u → Parallel m (lift 1 t) (lift 1 u)
     Parallel-lift {t = t} {u = u} h = subst2 (Parallel m) (sym (lift_one t)) (sym (lift_one u)) (Parallel-ren suc h)
 
+    -- parallel steps of a substitution, under a binder
     Parallel-ups : (s w : ℕ → Tree) → ((n : ℕ) → Parallel m (s n) (w n)) → (n : ℕ) → Parallel m (ups s n) (ups w n)
     Parallel-ups s w h zero = p_var
     Parallel-ups s w h (suc n) = Parallel-ren suc (h n)
@@ -78,6 +80,7 @@ module _ (m : List Declaration) where
     Parallel-sub s w h (p_delta k) = p_delta (k ∙ ap Some (sym (sub_closed w _ (closed.definitions _ _ k))))
     Parallel-sub s w h (p_rule {c = c} {d = d} a b e) = p_rule (Parallel-sub s w h a) (Parallel-sub s w h b) (ap (Pi (term_of (sub w c))) (sym (sub-lift w (term_of d))) ∙ ap (sub w) e)
 
+    -- parallel steps of what is put for a variable
     Parallel-cons : {x y : Tree} → Parallel m x y → (n : ℕ) → Parallel m (cons x Var n) (cons y Var n)
     Parallel-cons h zero = h
     Parallel-cons h (suc n) = p_var

@@ -17,6 +17,7 @@ use Rattle.lp_laws.proofs.ParallelSteps.{Parallel-refl, Step-Parallel, Parallel-
 use Rattle.lp_laws.proofs.InjectiveProducts.{Conv-Pi}
 
 module _ (m : List Declaration) (sound : IsSound m) where
+  -- a sound module is closed
   closed : IsClosed m
   closed = IsSound-closed m sound
 
@@ -76,5 +77,6 @@ module _ (m : List Declaration) (sound : IsSound m) where
       let p = Typed-Pi h in
       Typed-Fits (of_product p.domain (Typed-Step k (entry c p.domain) p.body) p.is) p.fits
 
+-- the law of subject reduction holds
 pub kept : TypingKept
 kept m typed G c t u A h k = Typed-Step m (WellTyped-IsSound m typed) k c h

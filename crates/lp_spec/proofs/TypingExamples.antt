@@ -5,9 +5,10 @@ use Rattle.lp_spec.specs.Trees.{Tree, Var, Sym, App, Lam, Pi}
 use Rattle.lp_spec.specs.Modules.{Declaration, symbol, types, bools, arr_of, term_of, eq_of, proof_of, refl_of}
 use Rattle.lp_spec.specs.Lemmas.{theorem}
 use Rattle.lp_spec.specs.Conversion.{symbol_definition, Step, beta, delta, rule, app_argument, pi_domain, Conv, same, forth, back}
-use Rattle.lp_spec.specs.Typing.{is_type, Typed, of_variable, of_symbol, of_product, of_abstraction, of_application, of_conversion, IsBodyOf, IsTypedAfter, WellTyped}
+use Rattle.lp_spec.specs.Typing.{is_type, Typed, of_variable, of_symbol, of_application, of_conversion, IsBodyOf, IsTypedAfter, WellTyped}
 use Rattle.lp_spec.specs.ConversionLaws.{IsClosed}
 use Rattle.lp_spec.specs.SignatureForms.{Typed-types, Typed-bools, Typed-term_of, Typed-proof_of, Typed-eq_of}
+use Rattle.lp_spec.specs.Telescopes.{IsTypedAfter-theorem}
 use Rattle.lp_spec.specs.WellTypedLaws.{WellTyped-IsClosed}
 
 -- def y : type := bool
@@ -38,12 +39,15 @@ under_binder = back (pi_domain y_unfolds) same
 theorem_stays : symbol_definition (theorem (codes "y") [] types bools ∷ []) 13 ≡ None
 theorem_stays = refl
 
+-- a symbol does not unfold either
 symbol_stays : symbol_definition (symbol (codes "y") types ∷ []) 13 ≡ None
 symbol_stays = refl
 
+-- bool stands for nothing
 no_definition : (m : List Declaration) (u : Tree) → symbol_definition m 1 ≡ Some u → ⊥
 no_definition m u e = cc
 
+-- so it goes nowhere
 bool_stays : (m : List Declaration) (u : Tree) → Step m bools u → ⊥
 bool_stays m u (delta e) = no_definition m u e
 
@@ -55,6 +59,7 @@ nothing_declared = tt {0}
 y_typed : IsTypedAfter [] y
 y_typed = record { ty = Typed-types []; body = Typed-bools [] }
 
+-- so the module of y is well typed
 y_declared : WellTyped (y ∷ [])
 y_declared = (y_typed, tt {0})
 
@@ -66,13 +71,14 @@ p_is_p m closed = of_application (of_application (of_symbol refl) (Typed-bools m
 reflexivity : Declaration
 reflexivity = theorem (codes "T") (term_of bools ∷ []) (proof_of (eq_of bools (Var 0) (Var 0))) (refl_of bools (Var 0))
 
+-- the theorem is typed over every closed module
 reflexivity_typed : (m : List Declaration) → IsClosed m → IsTypedAfter m reflexivity
 unfolding reflexivity
 reflexivity_typed m closed =
-    let p : Typed m (term_of bools ∷ []) (Var 0) (term_of bools) = of_variable refl refl in
-    let says = of_product (Typed-term_of m (Typed-bools m)) (Typed-proof_of m (Typed-eq_of m closed (Typed-bools m) p p)) is_type in
-    record { ty = says; body = of_abstraction says is_type (p_is_p m closed) }
+    IsTypedAfter-theorem m (codes "T") (term_of bools ∷ []) (proof_of (eq_of bools (Var 0) (Var 0))) (refl_of bools (Var 0)) (Typed-term_of m (Typed-bools m), tt {0})
+    (Typed-proof_of m (Typed-eq_of m closed (Typed-bools m) (of_variable refl refl) (of_variable refl refl))) (p_is_p m closed)
 
+-- so the module of y and the theorem is well typed
 reflexivity_declared : WellTyped (y ∷ reflexivity ∷ [])
 unfolding reflexivity
 reflexivity_declared = (y_typed, (reflexivity_typed (y ∷ []) (WellTyped-IsClosed (y ∷ []) y_declared), tt {0}))

@@ -22,11 +22,13 @@ pub Steps-under : {m : List Declaration} (f : Tree → Tree) → ((a b : Tree) �
 Steps-under f h done = done
 Steps-under f h (next s r) = next (h _ _ s) (Steps-under f h r)
 
+-- two conversions are one
 pub Conv-trans : {m : List Declaration} {t u v : Tree} → Conv m t u → Conv m u v → Conv m t v
 Conv-trans same k = k
 Conv-trans (forth h c) k = forth h (Conv-trans c k)
 Conv-trans (back h c) k = back h (Conv-trans c k)
 
+-- a conversion goes both ways
 pub Conv-sym : {m : List Declaration} {t u : Tree} → Conv m t u → Conv m u t
 Conv-sym same = same
 Conv-sym (forth h c) = Conv-trans (Conv-sym c) (back h same)
@@ -90,15 +92,19 @@ module _ (m : List Declaration) (closed : IsClosed m) where
 
 -- further declarations keep steps and conversion
 module _ (m more : List Declaration) where
+  -- a symbol keeps its declaration
   pub symbol_declaration-append : (s : ℕ) (d : Declaration) → symbol_declaration m s ≡ Some d → symbol_declaration (m ++ more) s ≡ Some d
   symbol_declaration-append s d h = slice_get-append (signature ++ m) more s d h
 
+  -- a symbol keeps its type
   pub symbol_type-append : (s : ℕ) (A : Tree) → symbol_type m s ≡ Some A → symbol_type (m ++ more) s ≡ Some A
   symbol_type-append s A h = option_map-append (λ d. d.ty) (signature ++ m) more s A h
 
+  -- a symbol keeps what it stands for
   pub symbol_definition-append : (s : ℕ) (t : Tree) → symbol_definition m s ≡ Some t → symbol_definition (m ++ more) s ≡ Some t
   symbol_definition-append s t h = option_and_then-append (λ d. definition_of d.form d.body) (signature ++ m) more s t h
 
+  -- a step stays a step
   pub Step-append : {t u : Tree} → Step m t u → Step (m ++ more) t u
   Step-append (beta e) = beta e
   Step-append (delta h) = delta (symbol_definition-append _ _ h)
@@ -110,6 +116,7 @@ module _ (m more : List Declaration) where
   Step-append (pi_domain h) = pi_domain (Step-append h)
   Step-append (pi_body h) = pi_body (Step-append h)
 
+  -- a conversion stays a conversion
   pub Conv-append : {t u : Tree} → Conv m t u → Conv (m ++ more) t u
   Conv-append same = same
   Conv-append (forth h c) = forth (Step-append h) (Conv-append c)

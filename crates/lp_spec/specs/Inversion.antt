@@ -43,6 +43,7 @@ pub record OfProduct (m : List Declaration) (G : List Tree) (A B T : Tree) : Typ
   pub body : Typed m (A ∷ G) B sort
   pub fits : Fits m G sort T
 
+-- a product is typed by its rule, up to conversion
 pub Typed-Pi : {m : List Declaration} {G : List Tree} {A B T : Tree} → Typed m G (Pi A B) T → OfProduct m G A B T
 Typed-Pi (of_product a b s) = record { sort = _; is = s; domain = a; body = b; fits = inl refl }
 Typed-Pi (of_conversion t c b s) = let h = Typed-Pi t in record { sort = h.sort; is = h.is; domain = h.domain; body = h.body; fits = Fits-on h.fits c b s }
@@ -54,6 +55,7 @@ pub record OfAbstraction (m : List Declaration) (G : List Tree) (A b T : Tree) :
   pub body : Typed m (A ∷ G) b codomain
   pub fits : Fits m G (Pi A codomain) T
 
+-- an abstraction is typed by its rule, up to conversion
 pub Typed-Lam : {m : List Declaration} {G : List Tree} {A b T : Tree} → Typed m G (Lam A b) T → OfAbstraction m G A b T
 Typed-Lam (of_abstraction p s b) = record { codomain = _; product = record { sort = _; is = s; by = p }; body = b; fits = inl refl }
 Typed-Lam (of_conversion t c b s) = let h = Typed-Lam t in record { codomain = h.codomain; product = h.product; body = h.body; fits = Fits-on h.fits c b s }
@@ -66,6 +68,7 @@ pub record OfApplication (m : List Declaration) (G : List Tree) (f x T : Tree) :
   pub argument : Typed m G x domain
   pub fits : Fits m G (put x codomain) T
 
+-- an application is typed by its rule, up to conversion
 pub Typed-App : {m : List Declaration} {G : List Tree} {f x T : Tree} → Typed m G (App f x) T → OfApplication m G f x T
 Typed-App (of_application f a e) = record { domain = _; codomain = _; function = f; argument = a; fits = inl e }
 Typed-App (of_conversion t c b s) = let h = Typed-App t in record { domain = h.domain; codomain = h.codomain; function = h.function; argument = h.argument; fits = Fits-on h.fits c b s }
@@ -76,6 +79,7 @@ pub record OfSymbol (m : List Declaration) (G : List Tree) (s : ℕ) (T : Tree) 
   pub declared : symbol_type m s ≡ Some ty
   pub fits : Fits m G ty T
 
+-- a symbol is typed by its rule, up to conversion
 pub Typed-Sym : {m : List Declaration} {G : List Tree} {s : ℕ} {T : Tree} → Typed m G (Sym s) T → OfSymbol m G s T
 Typed-Sym (of_symbol e) = record { ty = _; declared = e; fits = inl refl }
 Typed-Sym (of_conversion t c b s) = let h = Typed-Sym t in record { ty = h.ty; declared = h.declared; fits = Fits-on h.fits c b s }

@@ -22,3 +22,7 @@ pub mod Typing
 pub mod TypingLaws
 pub mod Weight
 pub mod WellTypedLaws
+pub mod Arguments
+pub mod SignatureCalls
+pub mod Telescopes
+pub mod LemmasLaws

@@ -13,6 +13,7 @@ use Rattle.lp_spec.specs.TypingLaws.{loose-IsSort, weaken, Typed-anywhere, Typed
 use Rattle.lp_spec.specs.Inversion.{Typed-Pi}
 use Rattle.lp_spec.specs.Soundness.{IsSound, IsSound-closed, symbol_type-sorted}
 
+-- a sort has no variable to put an argument for
 put-IsSort : {s : Tree} (x : Tree) → IsSort s → put x s ≡ s
 put-IsSort x is_type = refl
 put-IsSort x is_kind = refl

@@ -15,27 +15,35 @@ abbrev pub SignatureTyped : Type 0
 SignatureTyped = (s : ℕ) (A : Tree) → symbol_type [] s ≡ Some A → IsSorted [] [] A
 
 module _ (m : List Declaration) (closed : IsClosed m) where
+  -- what has the sort Type has a sort
   type_sorted : {t : Tree} → Typed m [] t SortType → IsSorted m [] t
   type_sorted h = record { sort = SortType; is = is_type; by = h }
 
+  -- what has the sort Kind has a sort
   kind_sorted : {t : Tree} → Typed m [] t SortKind → IsSorted m [] t
   kind_sorted h = record { sort = SortKind; is = is_kind; by = h }
 
+  -- the type of arr
   arr_typed : Typed m [] arr_type SortType
   arr_typed = of_product (Typed-types m) (of_product (Typed-types m) (Typed-types m) is_type) is_type
 
+  -- the type of term
   term_typed : Typed m [] term_type SortKind
   term_typed = of_product (Typed-types m) of_type is_kind
 
+  -- the type of eq
   eq_typed : Typed m [] eq_type SortType
   eq_typed = of_product (Typed-types m) (Typed-term_of m (Typed-arr_of m (of_variable refl refl) (Typed-arr_of m (of_variable refl refl) (Typed-bools m)))) is_type
 
+  -- the type of select
   select_typed : Typed m [] select_type SortType
   select_typed = of_product (Typed-types m) (Typed-term_of m (Typed-arr_of m (Typed-arr_of m (of_variable refl refl) (Typed-bools m)) (of_variable refl refl))) is_type
 
+  -- the type of proof
   proof_typed : Typed m [] proof_type SortKind
   proof_typed = of_product (Typed-term_of m (Typed-bools m)) of_type is_kind
 
+  -- the type of refl
   refl_typed : Typed m [] refl_type SortType
   refl_typed =
       of_product (Typed-types m)
@@ -49,6 +57,7 @@ module _ (m : List Declaration) (closed : IsClosed m) where
       (of_product (Typed-term_of m (Typed-arr_of m (of_variable refl refl) (of_variable refl refl)))
       (of_product (Typed-term_of m (Typed-arr_of m (of_variable refl refl) (of_variable refl refl))) h is_type) is_type) is_type) is_type
 
+  -- the type of fun_ext
   fun_ext_typed : Typed m [] fun_ext_type SortType
   fun_ext_typed =
       over_functions (of_product
@@ -58,6 +67,7 @@ module _ (m : List Declaration) (closed : IsClosed m) where
       (Typed-apply m closed (Var 4) (Var 3) (of_variable refl refl) (of_variable refl refl) (of_variable refl refl) (of_variable refl refl)))) is_type)
       (Typed-proof_of m (Typed-eq_of m closed (Typed-arr_of m (of_variable refl refl) (of_variable refl refl)) (of_variable refl refl) (of_variable refl refl))) is_type)
 
+  -- the type of app_thm
   app_thm_typed : Typed m [] app_thm_type SortType
   app_thm_typed =
       over_functions
@@ -69,6 +79,7 @@ module _ (m : List Declaration) (closed : IsClosed m) where
       (Typed-apply m closed (Var 7) (Var 6) (of_variable refl refl) (of_variable refl refl) (of_variable refl refl) (of_variable refl refl))))
       is_type) is_type) is_type) is_type)
 
+  -- the type of prop_ext
   prop_ext_typed : Typed m [] prop_ext_type SortType
   prop_ext_typed =
       of_product (Typed-term_of m (Typed-bools m)) (of_product (Typed-term_of m (Typed-bools m))
@@ -76,12 +87,14 @@ module _ (m : List Declaration) (closed : IsClosed m) where
       (of_product (of_product (Typed-proof_of m (of_variable refl refl)) (Typed-proof_of m (of_variable refl refl)) is_type)
       (Typed-proof_of m (Typed-eq_of m closed (Typed-bools m) (of_variable refl refl) (of_variable refl refl))) is_type) is_type) is_type) is_type
 
+  -- the type of eq_mp
   eq_mp_typed : Typed m [] eq_mp_type SortType
   eq_mp_typed =
       of_product (Typed-term_of m (Typed-bools m)) (of_product (Typed-term_of m (Typed-bools m))
       (of_product (Typed-proof_of m (Typed-eq_of m closed (Typed-bools m) (of_variable refl refl) (of_variable refl refl)))
       (of_product (Typed-proof_of m (of_variable refl refl)) (Typed-proof_of m (of_variable refl refl)) is_type) is_type) is_type) is_type
 
+  -- each declared type of the signature has a sort, over every closed module
   types_sorted : AllByRecursion (λ (d : Declaration). IsSorted m [] d.ty) signature
   types_sorted = (
     kind_sorted of_type,
@@ -115,15 +128,19 @@ module _ (m : List Declaration) (closed : IsClosed m) where
     ),
   )
 
+-- each declared type of the signature is closed
 types_closed : AllByRecursion (λ (d : Declaration). loose d.ty ≡ 0) signature
 types_closed = (refl, (refl, (refl, (refl, (refl, (refl, (refl, (refl, (refl, (refl, (refl, (refl, (refl, tt {0})))))))))))))
 
+-- no symbol of the signature has a body
 bodies_absent : AllByRecursion (λ (d : Declaration). IsBodyOf [] d.form d.body d.ty) signature
 bodies_absent = (refl, (refl, (refl, (refl, (refl, (refl, (refl, (refl, (refl, (refl, (refl, (refl, (refl, tt {0})))))))))))))
 
+-- no symbol of the signature stands for a body
 definitions_absent : AllByRecursion (λ (d : Declaration). definition_of d.form d.body ≡ None) signature
 definitions_absent = (refl, (refl, (refl, (refl, (refl, (refl, (refl, (refl, (refl, (refl, (refl, (refl, (refl, tt {0})))))))))))))
 
+-- the signature alone is closed
 signature_closed : IsClosed []
 signature_closed = record { types = types; definitions = definitions }
   where
@@ -149,5 +166,6 @@ signature_sound = record { each = go }
       body = AllByRecursion-slice_get (λ (d : Declaration). IsBodyOf [] d.form d.body d.ty) signature bodies_absent s d at;
     }
 
+-- the law of the signature holds
 pub signature_typed : SignatureTyped
 signature_typed = symbol_type-sorted [] signature_sound

@@ -34,6 +34,7 @@ module _ (m : List Declaration) (sound : IsSound m) where
   pub symbol_type-sorted : (s : ℕ) (A : Tree) → symbol_type m s ≡ Some A → IsSorted m [] A
   symbol_type-sorted s A e = let h = option_map-some (λ (d : Declaration). d.ty) (symbol_declaration m s) A e in subst (IsSorted m []) h.2 (sound.each s h.0 h.1).sorted
 
+  -- a declared type is closed
   pub symbol_type-closed : (s : ℕ) (A : Tree) → symbol_type m s ≡ Some A → loose A ≡ 0
   symbol_type-closed s A e = let h = option_map-some (λ (d : Declaration). d.ty) (symbol_declaration m s) A e in subst (λ w. loose w ≡ 0) h.2 (sound.each s h.0 h.1).closed
 
@@ -44,11 +45,13 @@ module _ (m : List Declaration) (sound : IsSound m) where
       let same : h.0.ty ≡ A = some_is (sym (ap (option_map (λ (d : Declaration). d.ty)) h.1) ∙ k) in
       subst (Typed m [] t) same (Typed-definition_of m h.0.form h.0.body h.0.ty t h.2 (sound.each s h.0 h.1).body)
 
+  -- what a symbol stands for is closed
   symbol_definition-closed : (s : ℕ) (t : Tree) → symbol_definition m s ≡ Some t → loose t ≡ 0
   symbol_definition-closed s t e =
       let h = option_and_then-some (λ (d : Declaration). definition_of d.form d.body) (symbol_declaration m s) t e in
       Typed-closed (Typed-definition_of m h.0.form h.0.body h.0.ty t h.2 (sound.each s h.0 h.1).body)
 
+  -- a sound module is closed
   pub IsSound-closed : IsClosed m
   IsSound-closed = record { types = symbol_type-closed; definitions = symbol_definition-closed }
 
@@ -60,6 +63,7 @@ IsBodyOf-append m more Def (Some t) A h = Typed-append m more h
 IsBodyOf-append m more Thm None A h = h
 IsBodyOf-append m more Thm (Some t) A h = Typed-append m more h
 
+-- further declarations keep a declaration sound
 IsSoundDeclaration-append : (m more : List Declaration) (d : Declaration) → IsSoundDeclaration m d → IsSoundDeclaration (m ++ more) d
 IsSoundDeclaration-append m more d h = record { closed = h.closed; sorted = IsSorted-append m more h.sorted; body = IsBodyOf-append m more d.form d.body d.ty h.body }
 

@@ -12,6 +12,7 @@ subst2 P {a' = a'} {b = b} p q h = subst (P a') q (subst (λ w. P w b) p h)
 pub record Fixes (c : ℕ) (r : ℕ → ℕ) : Type 0 where
   pub each : (n : ℕ) → n < c → r n ≡ n
 
+-- under a binder it moves none below c + 1
 Fixes-up : {c : ℕ} {r : ℕ → ℕ} → Fixes c r → Fixes (suc c) (up r)
 Fixes-up {c = c} {r = r} f = record { each = go }
   where
@@ -37,6 +38,7 @@ ren_closed r t h = ren_fixed 0 r t (record { each = λ n lt. absurd (omega arith
 pub record FixesVariables (c : ℕ) (s : ℕ → Tree) : Type 0 where
   pub each : (n : ℕ) → n < c → s n ≡ Var n
 
+-- under a binder it puts itself for each below c + 1
 FixesVariables-ups : {c : ℕ} {s : ℕ → Tree} → FixesVariables c s → FixesVariables (suc c) (ups s)
 FixesVariables-ups {c = c} {s = s} f = record { each = go }
   where
@@ -58,6 +60,7 @@ sub_fixed c s (Pi a b) f h = ap2 Pi (sub_fixed c s a f (omega (arith, h))) (sub_
 pub sub_closed : (s : ℕ → Tree) (t : Tree) → loose t ≡ 0 → sub s t ≡ t
 sub_closed s t h = sub_fixed 0 s t (record { each = λ n lt. absurd (omega arith) }) (omega (arith, h))
 
+-- a renaming of what is put for a variable
 ren_cons : (r : ℕ → ℕ) (x : Tree) (n : ℕ) → ren r (cons x Var n) ≡ cons (ren r x) Var (up r n)
 ren_cons r x zero = refl
 ren_cons r x (suc n) = refl
@@ -68,6 +71,7 @@ ren-put r x b =
     ap (ren r) (put_is x b) ∙ ren_sub r (cons x Var) b ∙ ap (λ w. sub w b) (fun_ext (ren_cons r x))
     ∙ sym (sub_ren (cons (ren r x) Var) (up r) b) ∙ sym (put_is (ren r x) (ren (up r) b))
 
+-- a substitution in what is put for a variable
 sub_cons : (s : ℕ → Tree) (x : Tree) (n : ℕ) → sub s (cons x Var n) ≡ sub (cons (sub s x) Var) (ups s n)
 sub_cons s x zero = refl
 sub_cons s x (suc n) = sym (sub_var (s n)) ∙ sym (sub_ren (cons (sub s x) Var) suc (s n))

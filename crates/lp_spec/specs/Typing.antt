@@ -8,6 +8,7 @@ use Rattle.lp_spec.specs.Trees.{Tree, SortType, SortKind, Var, Sym, App, Lam, Pi
 use Rattle.lp_spec.specs.Modules.{Declaration, symbol_type}
 use Rattle.lp_spec.specs.Conversion.{Conv}
 
+-- the two sorts
 pub data IsSort : Tree → Type 0 where
   is_type : IsSort SortType
   is_kind : IsSort SortKind

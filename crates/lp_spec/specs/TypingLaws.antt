@@ -31,14 +31,17 @@ IsSort-ren : (r : ℕ → ℕ) {s : Tree} → IsSort s → IsSort (ren r s)
 IsSort-ren r is_type = is_type
 IsSort-ren r is_kind = is_kind
 
+-- all renamings do the same to a sort
 ren-IsSort : (r q : ℕ → ℕ) {s : Tree} → IsSort s → ren r s ≡ ren q s
 ren-IsSort r q is_type = refl
 ren-IsSort r q is_kind = refl
 
+-- a sort is a sort after a substitution
 IsSort-sub : (s : ℕ → Tree) {o : Tree} → IsSort o → IsSort (sub s o)
 IsSort-sub s is_type = is_type
 IsSort-sub s is_kind = is_kind
 
+-- all substitutions do the same to a sort
 sub-IsSort : (s u : ℕ → Tree) {o : Tree} → IsSort o → sub s o ≡ sub u o
 sub-IsSort s u is_type = refl
 sub-IsSort s u is_kind = refl
@@ -52,6 +55,7 @@ loose-IsSort is_kind = refl
 pub record Moves (r : ℕ → ℕ) (G D : List Tree) : Type 0 where
   pub each : (n : ℕ) (A : Tree) → slice_get G n ≡ Some A → (B : Tree) × (slice_get D (r n) ≡ Some B) × (lift (suc (r n)) B ≡ ren r (lift (suc n) A))
 
+-- under a binder it takes entries to entries
 Moves-up : {r : ℕ → ℕ} {G D : List Tree} {A : Tree} → Moves r G D → Moves (up r) (A ∷ G) (ren r A ∷ D)
 Moves-up {r = r} {G = G} {D = D} {A = A} m = record { each = go }
   where
@@ -91,9 +95,11 @@ module _ (m : List Declaration) (closed : IsClosed m) where
       subst2 (Typed m G) (ren_closed (λ n. n) t (Typed-closed h)) (ren_closed (λ n. n) A c)
       (Typed-ren (λ n. n) (record { each = λ n B e. absurd (let k = slice_get_within [] n B e in omega arith) }) h)
 
+  -- a lifted type after a substitution, under a further entry
   up_sub : (s : ℕ → Tree) (n : ℕ) (B : Tree) → ren suc (sub s (lift (suc n) B)) ≡ sub (ups s) (lift (suc (suc n)) B)
   up_sub s n B = ren_sub suc s (lift (suc n) B) ∙ sym (sub_ren (ups s) suc (lift (suc n) B)) ∙ ap (sub (ups s)) (suc_lift (suc n) B)
 
+  -- under a binder it puts trees of the right types
   Puts-ups : {s : ℕ → Tree} {G D : List Tree} {A : Tree} → Puts m s G D → Puts m (ups s) (A ∷ G) (sub s A ∷ D)
   Puts-ups {s = s} {G = G} {D = D} {A = A} p = record { each = go }
     where

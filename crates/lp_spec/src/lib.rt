@@ -15,6 +15,7 @@
 //! ```
 #![tactic(auto)]
 
+ghost use Rattle.lp_spec.specs.LemmasLaws.{LemmasTyped};
 ghost use Rattle.lp_spec.specs.SignatureLaws.{SignatureTyped};
 
 mod form;
@@ -24,4 +25,9 @@ pub use form::Form;
 /// The law of the signature: it is well typed as far as it has types, since each of its declared types has a sort.
 pub fn signature_typed()
     ensures { SignatureTyped }
+{}
+
+/// The law of lemmas: the two theorems with which every module begins are a well-typed module.
+pub fn lemmas_typed()
+    ensures { LemmasTyped }
 {}
