@@ -34,7 +34,9 @@ module _ (x : Tree) (us : List Tree) where
       let all : suc n - 0 ≡ suc n = omega arith in
       ap (sub (cons x Var)) (put_all_var-high 1 us (suc n) one ∙ ap (λ i. option_map_or (lift 1) (slice_get (reverse us) i) (Var (suc n - length us))) less)
       ∙ either (slice_get_cases (reverse us) n).1
-      ∙ sym (put_all_var-high 0 (us ++ x ∷ []) (suc n) none ∙ ap (λ i. option_map_or (lift 0) (slice_get (reverse (us ++ x ∷ [])) i) (Var (suc n - length (us ++ x ∷ [])))) all ∙ ap (λ l. option_map_or (lift 0) (slice_get l (suc n)) (Var (suc n - length (us ++ x ∷ [])))) reversed)
+      ∙ sym (put_all_var-high 0 (us ++ x ∷ []) (suc n) none
+      ∙ ap (λ i. option_map_or (lift 0) (slice_get (reverse (us ++ x ∷ [])) i) (Var (suc n - length (us ++ x ∷ [])))) all
+      ∙ ap (λ l. option_map_or (lift 0) (slice_get l (suc n)) (Var (suc n - length (us ++ x ∷ [])))) reversed)
     where
       either : ((a : Tree) × (n < length (reverse us)) × (slice_get (reverse us) n ≡ Some a) × (get_or (reverse us) n a ≡ a)) ⊎ ((length (reverse us) ≤ n) × (slice_get (reverse us) n ≡ None))
           → sub (cons x Var) (option_map_or (lift 1) (slice_get (reverse us) n) (Var (suc n - length us))) ≡ option_map_or (lift 0) (slice_get (reverse us) n) (Var (suc n - length (us ++ x ∷ [])))
