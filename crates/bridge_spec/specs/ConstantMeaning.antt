@@ -7,7 +7,7 @@ use Rattle.hol_spec.specs.Primitives.{arrow_name, bool_name, equality_name, sele
 use Rattle.hol_spec.specs.ClosedForm.{ClosedType, ClosedTypes, parameter, operator, none, more}
 use Rattle.lp_spec.specs.Trees.{Tree, Var, Pi}
 use Rattle.lp_spec.specs.Modules.{Declaration, eq_symbol, select_symbol, symbol_name, symbol_type, products, types, term_of}
-use Rattle.bridge_spec.specs.Mangling.{mangled, IsName}
+use Rattle.hol_spec.specs.Mangling.{mangled, IsName}
 use Rattle.bridge_spec.specs.TypeEnc.{place, StandsForType}
 
 -- the type of functions from one closed type to another, and that of truth values

@@ -9,8 +9,8 @@ use Rattle.bridge_spec.specs.OperatorMeaning.{NamesOperator, MeansOperator}
 use Rattle.bridge_spec.specs.OperatorMeaning as operators
 use Rattle.bridge_spec.specs.ConstantMeaning.{NamesConstant, HasGenericType, MeansConstant, instance_of}
 use Rattle.bridge_spec.specs.ConstantMeaning as constants
-use Rattle.bridge_spec.specs.Mangling.{mangled}
-use Rattle.bridge_spec.specs.ManglingLaws.{mangled-injective, first-is}
+use Rattle.hol_spec.specs.Mangling.{mangled}
+use Rattle.hol_spec.specs.ManglingLaws.{mangled-injective, first-is}
 use Rattle.std.specs.Prelude.{Some, Option, codes, decimal, replicate}
 use Rattle.std.proofs.lemmas.List.{append_cancel_left}
 use Rattle.bridge_spec.specs.Translation.{parameter}

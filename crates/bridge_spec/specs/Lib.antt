@@ -6,8 +6,6 @@ pub mod EncLaws
 pub mod Forms
 pub mod Image
 pub mod ImageLaws
-pub mod Mangling
-pub mod ManglingLaws
 pub mod NameLaws
 pub mod OperatorMeaning
 pub mod Outputs

@@ -4,7 +4,7 @@ use Rattle.std.specs.Prelude.{ℕ, ◌≡◌, List, ◌++◌, replicate, Some, N
 use Rattle.hol_spec.specs.Names.{Name}
 use Rattle.hol_spec.specs.Primitives.{arrow_name, bool_name, ind_name, primitive_arity}
 use Rattle.lp_spec.specs.Modules.{Declaration, arr_symbol, bool_symbol, ind_symbol, symbol_name, symbol_type, products, types}
-use Rattle.bridge_spec.specs.Mangling.{mangled, IsName}
+use Rattle.hol_spec.specs.Mangling.{mangled, IsName}
 
 -- A symbol is named by this text and the mangled name of an operator that isn't primitive, and its type is
 -- `type -> .. -> type` with so many arguments.

@@ -1,2 +1,3 @@
+pub mod Demangling
 pub mod Reading
 pub mod Values

@@ -1,6 +1,6 @@
 //! The type of names.
 
-ghost use Rattle.std.specs.Prelude.{◌≡◌, ◌↔◌, ◌<◌, ◌≤◌, ◌∷◌, [], length, slice_get, IsTrue, IfOk, Some, None, Ok, Err};
+ghost use Rattle.std.specs.Prelude.{◌≡◌, ◌↔◌, ◌<◌, ◌≤◌, ◌∷◌, [], length, slice_get, IsTrue, IfOk, MatchOption, Some, None, Ok, Err};
 ghost use Rattle.std.proofs.Common.{rules};
 ghost use Rattle.std.specs.Cmp.{unsigned_Decides};
 ghost use Rattle.std.specs.Cmp.Rules.{comparing};
@@ -9,9 +9,12 @@ ghost use Rattle.std.specs.Hash.{items_Alike, same_Alike};
 ghost use Rattle.std.specs.Option.{option_map};
 ghost use Rattle.hol_spec.specs.NameOf.{name_of, name_from};
 ghost use Rattle.hol_spec.specs.NameEquality.{name_eq};
+ghost use Rattle.hol_spec.specs.Mangling.{mangled, AreBytes, IsName};
+ghost use Rattle.hol_name.specs.Demangled.{HasNoName};
 ghost use Rattle.hol_name.specs.Components.{onto, StopsComponent};
 
-use std::alloc::{AllocError, Global};
+use crate::mangling::{Mangled, components_of};
+use std::alloc::{AllocError, AllocFailed, Global};
 use std::hash::{Hash, Hasher};
 use std::marker::Model;
 use thiserror::Error;
@@ -20,6 +23,22 @@ use thiserror::Error;
 #[derive(Clone, Copy, Debug, PartialEq, Eq, Error)]
 #[error("out of memory")]
 pub struct Memory;
+
+impl From<AllocError> for Memory {
+    ghost from_gives = { λ _ memory. memory ≡ record {} };
+
+    fn from(_error: AllocError) -> Memory {
+        Memory
+    }
+}
+
+impl<T: Drop> From<AllocFailed<T>> for Memory {
+    ghost from_gives = { λ _ memory. memory ≡ record {} };
+
+    fn from(_error: AllocFailed<T>) -> Memory {
+        Memory
+    }
+}
 
 /// Why a line gave no name.
 #[derive(Clone, Copy, Debug, PartialEq, Eq, Error)]
@@ -40,13 +59,14 @@ pub struct Name {
 }
 
 impl Model for Name {
-    ghost use Rattle.std.specs.Prelude.{List, ℕ, map, length, ◌<◌};
+    ghost use Rattle.std.specs.Prelude.{List, ℕ, map};
+    ghost use Rattle.hol_spec.specs.Mangling.{IsName};
 
     ghost Value = { List (List ℕ) };
 
     ghost view = { λ name. map (λ component. component.items) name.components.items };
 
-    ghost invariant = { λ name. 0 < length name.components.items };
+    ghost invariant = { λ name. IsName (map (λ component. component.items) name.components.items) };
 }
 
 impl Name {
@@ -91,6 +111,26 @@ impl Name {
         Ok(Name { components })
     }
 
+    /// The text of the name within the identifier of a symbol, byte by byte: ASCII letters and digits as they are, any
+    /// other byte as `_` and two lower-case hexadecimal digits, and `__` between components. It takes no memory.
+    pub fn mangled(&self) -> Mangled<'_>
+        ensures text { result ≡ mangled self.now }
+        ensures name { IsName self.now }
+    {
+        Mangled::of(&self.components[0], &self.components[1..])
+    }
+
+    /// The name that has this mangled text: `None` exactly where no name has it, as where a hexadecimal digit is in
+    /// upper case, or a letter is written by digits.
+    pub fn demangle(alloc: Global, text: &[u8]) -> Result<Option<Name>, Memory>
+        ensures inverse { IfOk result (λ found. MatchOption found (HasNoName text.now) (λ name. mangled name ≡ text.now)) }
+    {
+        match components_of(alloc, text)? {
+            Some(components) => Ok(Some(Name { components })),
+            None => Ok(None),
+        }
+    }
+
     /// The number of components. It is never 0.
     pub fn len(&self) -> usize
         ensures count { result ≡ length self.now }
@@ -127,6 +167,7 @@ impl Name {
 fn read_component(alloc: Global, text: &[u8]) -> Result<(Vec<u8>, &[u8]), Memory>
     ensures read { IfOk result (λ r. name_from text.now ≡ option_map (onto r.0.items) (name_from r.1.now)) }
     ensures stops { IfOk result (λ r. StopsComponent r.1.now) }
+    ensures bytes { IfOk result (λ r. AreBytes r.0.items) }
     ensures rest { IfOk result (λ r. length r.1.now ≤ length text.now) }
 {
     let mut bytes = Vec::new(alloc);
@@ -218,6 +259,43 @@ mod tests {
         for line in refused {
             let answer = Name::parse(rt.alloc(), line);
             assert_eq!(rt; answer.err(), Some(NameFault::BadLine), "at {line:?}");
+        }
+        Ok(())
+    }
+
+    // The names and their texts, byte by byte; the texts after them are those of no name.
+    #[test]
+    fn mangles_and_reads_back(rt: HostRuntime) -> Result<(), Fail> {
+        let table = [
+            (b"\"a_b\"".as_slice(), b"a_5fb".as_slice()),
+            (b"\"x=y\"".as_slice(), b"x_3dy".as_slice()),
+            (b"\"\xc3\xa9\"".as_slice(), b"_c3_a9".as_slice()),
+            (b"\"a..b\"".as_slice(), b"a____b".as_slice()),
+            (b"\"a\\.b.c\"".as_slice(), b"a_2eb__c".as_slice()),
+            (b"\"\"".as_slice(), b"".as_slice()),
+        ];
+        for (line, text) in table {
+            let name = Name::parse(rt.alloc(), line)?;
+            let mut bytes = Vec::new(rt.alloc());
+            for byte in name.mangled() {
+                bytes.push(byte)?;
+            }
+            assert_eq!(rt; bytes.as_slice(), text, "at {line:?}");
+            let found = Name::demangle(rt.alloc(), text)?;
+            assert!(rt; found.is_some_and(|found| found.same(&name)), "at {line:?}");
+        }
+        for text in [
+            b"a_5Fb".as_slice(),
+            b"a_61",
+            b"a_",
+            b"_",
+            b"a___",
+            b"a_5",
+            b"a=b",
+            b"_5g",
+        ] {
+            let found = Name::demangle(rt.alloc(), text)?;
+            assert!(rt; found.is_none(), "at {text:?}");
         }
         Ok(())
     }

@@ -5,6 +5,8 @@ pub mod Derivations
 pub mod Limits
 pub mod ListLaws
 pub mod Lists
+pub mod Mangling
+pub mod ManglingLaws
 pub mod NameEquality
 pub mod NameLaws
 pub mod NameOf

@@ -20,4 +20,4 @@ returns-in_default-after-clause-bad_line c e =
       | in_default-after-via-else-after-lt1+then-after-lt2+in_default-1 w ↦ grind (arith, common_steps)
       | in_default-after-via-else-after-lt1+else-after-lt2+in_default-1 w ↦ grind (arith, common_steps)
     ] in
-    no_name _ _ _ _ after c.loop-component.invariant c.in-Ok.ensures.read (stopped after c.in-Ok.ensures.stops one more)
+    no_name _ _ _ _ after c.loop-component.invariant.read c.in-Ok.ensures.read (stopped after c.in-Ok.ensures.stops one more)
