@@ -21,7 +21,14 @@ pub mod Sequents
 pub mod Substitution
 pub mod SubstitutionLaws
 pub mod Symbols
+pub mod TermBinding
+pub mod TermBindingLaws
+pub mod TermClosed
+pub mod TermInstances
 pub mod TermLaws
+pub mod TermRenamings
+pub mod TermSubstitution
+pub mod TermTyping
 pub mod Terms
 pub mod TypeLaws
 pub mod Types
