@@ -1,2 +1,3 @@
 mod Examples
+mod ReadingExamples
 pub mod TypingExamples

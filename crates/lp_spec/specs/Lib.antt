@@ -8,6 +8,8 @@ pub mod Lemmas
 pub mod LookUps
 pub mod ModuleOrder
 pub mod Modules
+pub mod Reading
+pub mod ReadingFaults
 pub mod Regularity
 pub mod SignatureForms
 pub mod SignatureLaws
@@ -15,6 +17,7 @@ pub mod Soundness
 pub mod Substitution
 pub mod SubstitutionLaws
 pub mod Text
+pub mod Tokens
 pub mod TreeCode
 pub mod TreeEquality
 pub mod Trees
