@@ -1,11 +1,12 @@
 -- Worked examples: the readings of small texts, and their refusals.
-use Rattle.std.proofs.Common.{◌≡◌, ℕ, ◌+◌, ◌-◌, refl, List, [], ◌∷◌, ◌++◌, length, take, Some, codes}
+use Rattle.std.proofs.Common.{◌≡◌, ℕ, zero, suc, ◌==◌, if◌then◌else◌, ◌+◌, ◌-◌, ◌<◌, refl, ap, ◌∙◌, arith, Bool, true, List, [], ◌∷◌, ◌++◌, length, take, Some, codes}
+use Rattle.std.proofs.lemmas.Grind.{common_steps}
 use Rattle.lp_spec.specs.declared.form.Form.TheVariants.{Def}
 use Rattle.lp_spec.specs.Trees.{Var, Sym, Pi}
 use Rattle.lp_spec.specs.Modules.{symbol, types, bools, arr_of, term_of}
 use Rattle.lp_spec.specs.Text.{prelude}
 use Rattle.lp_spec.specs.Tokens.{Nothing}
-use Rattle.lp_spec.specs.ReadingFaults.{Between, Inside, read_bytes, read_end, Answer, reads, refused, refusal, NoPrelude, BadText, UnknownName, NameTwice, DkTooLong, answer, answer_within}
+use Rattle.lp_spec.specs.ReadingFaults.{Between, Opening, Inside, Refused, opened, read_byte, read_bytes, read_end, Answer, reads, refused, refusal, NoPrelude, BadText, UnknownName, NameTwice, DkTooLong, answer, answer_within}
 
 -- the text after the signature's, whose bytes are numbered from 1000
 abbrev after_prelude : List ℕ → Answer
@@ -66,6 +67,24 @@ hides : after_prelude (codes "a:bool:type->term(arr bool ind).") ≡ reads (symb
 hides = refl
 
 -- an empty text, and the signature's text without its last byte
+-- each cut of the signature's text
+byte_is : (b : ℕ) → (b == b) ≡ true
+byte_is b = grind (arith, common_steps)
+
+cut_opening : (p n b : ℕ) (wanted bytes : List ℕ) → read_bytes (read_byte (Opening p (b ∷ wanted)) b) bytes ≡ read_bytes (opened (p + 1) wanted) bytes
+cut_opening p n b wanted bytes = ap (λ (c : Bool). read_bytes (if c then opened (p + 1) wanted else Refused (refusal p NoPrelude)) bytes) (byte_is b)
+
+cut_opened : (p n : ℕ) (wanted : List ℕ) → n < length wanted → read_end (read_bytes (opened p wanted) (take n wanted)) ≡ refused (refusal (p + n) NoPrelude)
+cut_opened p n [] h = absurd (omega arith)
+cut_opened p zero (b ∷ wanted) h = ap (λ q. refused (refusal q NoPrelude)) (omega arith)
+cut_opened p (suc n) (b ∷ wanted) h =
+    ap read_end (cut_opening p n b wanted (take n wanted))
+    ∙ cut_opened (p + 1) n wanted (omega (arith, h))
+    ∙ ap (λ q. refused (refusal q NoPrelude)) (omega arith)
+
+each_cut : (n : ℕ) → n < length prelude → answer (take n prelude) ≡ refused (refusal n NoPrelude)
+each_cut n h = cut_opened 0 n prelude h ∙ ap (λ q. refused (refusal q NoPrelude)) (omega arith)
+
 empty_text : answer [] ≡ refused (refusal 0 NoPrelude)
 empty_text = refl
 

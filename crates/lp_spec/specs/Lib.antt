@@ -9,7 +9,10 @@ pub mod LookUps
 pub mod ModuleOrder
 pub mod Modules
 pub mod Reading
+pub mod ReadingComplete
 pub mod ReadingFaults
+pub mod ReadingLaws
+pub mod ReadingSound
 pub mod Regularity
 pub mod SignatureForms
 pub mod SignatureLaws

@@ -16,6 +16,7 @@
 #![tactic(auto)]
 
 ghost use Rattle.lp_spec.specs.LemmasLaws.{LemmasTyped};
+ghost use Rattle.lp_spec.specs.ReadingLaws.{OneAnswer};
 ghost use Rattle.lp_spec.specs.SignatureLaws.{SignatureTyped};
 
 mod form;
@@ -30,4 +31,9 @@ pub fn signature_typed()
 /// The law of lemmas: the two theorems with which every module begins are a well-typed module.
 pub fn lemmas_typed()
     ensures { LemmasTyped }
+{}
+
+/// The law of readings: every text reads as exactly one module, or is refused for exactly one fault.
+pub fn one_answer()
+    ensures { OneAnswer }
 {}
