@@ -1,3 +1,4 @@
+pub mod Arguments
 pub mod Binding
 pub mod CalculusLaws
 pub mod Closed
@@ -5,6 +6,7 @@ pub mod Conversion
 pub mod ConversionLaws
 pub mod Inversion
 pub mod Lemmas
+pub mod LemmasLaws
 pub mod LookUps
 pub mod ModuleOrder
 pub mod Modules
@@ -14,11 +16,13 @@ pub mod ReadingFaults
 pub mod ReadingLaws
 pub mod ReadingSound
 pub mod Regularity
+pub mod SignatureCalls
 pub mod SignatureForms
 pub mod SignatureLaws
 pub mod Soundness
 pub mod Substitution
 pub mod SubstitutionLaws
+pub mod Telescopes
 pub mod Text
 pub mod Tokens
 pub mod TreeCode
@@ -28,7 +32,6 @@ pub mod Typing
 pub mod TypingLaws
 pub mod Weight
 pub mod WellTypedLaws
-pub mod Arguments
-pub mod SignatureCalls
-pub mod Telescopes
-pub mod LemmasLaws
+pub mod WrittenModules
+pub mod WrittenReads
+pub mod WrittenTokens
