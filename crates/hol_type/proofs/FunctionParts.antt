@@ -1,0 +1,33 @@
+-- Types that are not of functions.
+use Rattle.std.proofs.Common.{◌≡◌, ℕ, ◌<◌, ◌≤◌, refl, sym, ap, ◌∙◌, arith, List, [], ◌∷◌, length, Option, Some, None, get_or, Bool, true, false, cond}
+use Rattle.hol_spec.specs.Names.{Name}
+use Rattle.hol_spec.specs.NameEquality.{name_eq, name_eq-Decides}
+use Rattle.hol_spec.specs.Types.{HolType, operator, types_of}
+use Rattle.hol_spec.specs.Primitives.{arrow_name, function_parts}
+use Rattle.hol_type.specs.declared.table.TypeId.{TypeId}
+use Rattle.hol_type.specs.Tables.{types_at, two_at}
+
+-- an operator over another number of arguments than two
+pub function_parts-count : (trees : List HolType) (n : Name) (args : List TypeId) → (length args ≡ 2 → ⊥) → function_parts (operator n (types_of (types_at trees args))) ≡ None
+function_parts-count trees n [] h = refl
+function_parts-count trees n (a ∷ []) h = refl
+function_parts-count trees n (a ∷ b ∷ []) h = absurd (h refl)
+function_parts-count trees n (a ∷ b ∷ c ∷ args) h = refl
+
+-- an operator of another name
+pub function_parts-other : (trees : List HolType) (n : Name) (args : List TypeId) → (n ≡ arrow_name → ⊥) → function_parts (operator n (types_of (types_at trees args))) ≡ None
+function_parts-other trees n [] h = refl
+function_parts-other trees n (a ∷ []) h = refl
+function_parts-other trees n (a ∷ b ∷ []) h = go (name_eq n arrow_name) refl
+  where
+    go : (v : Bool) → name_eq n arrow_name ≡ v → function_parts (operator n (types_of (types_at trees (a ∷ b ∷ [])))) ≡ None
+    go true e = absurd (h ((name_eq-Decides n arrow_name).0 e))
+    go false e = rw e refl
+function_parts-other trees n (a ∷ b ∷ c ∷ args) h = refl
+
+-- an operator of that name over two arguments
+pub function_parts-two : (trees : List HolType) (n : Name) (args : List TypeId) (d e : TypeId) → n ≡ arrow_name → length args ≡ 2 → function_parts (operator n (types_of (types_at trees args))) ≡ Some (two_at trees (get_or args 0 d, get_or args 1 e))
+function_parts-two trees n [] d e h k = absurd (omega (arith, k))
+function_parts-two trees n (a ∷ []) d e h k = absurd (omega (arith, k))
+function_parts-two trees n (a ∷ b ∷ []) d e h k = rw ((name_eq-Decides n arrow_name).1 h) refl
+function_parts-two trees n (a ∷ b ∷ c ∷ args) d e h k = absurd (omega (arith, k))

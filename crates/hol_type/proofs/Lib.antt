@@ -1,0 +1,15 @@
+mod EntryLaws
+mod Inserted
+mod Cut
+mod NotedLaws
+mod VisitLaws
+mod MeasureLaws
+mod FunctionParts
+mod ListSteps
+mod ImageLaws
+mod MadeLaws
+mod WalkLaws
+mod SubstitutionTurns
+mod Faults
+mod SearchTurns
+mod MatchTurns

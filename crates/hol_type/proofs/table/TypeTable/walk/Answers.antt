@@ -1,0 +1,27 @@
+use Rattle.hol_type.specs.TableLaws.{Keeps-refl, Keeps-trans, Holds-within}
+use Rattle.hol_type.proofs.MadeLaws.{is_some, if_some}
+use Rattle.hol_type.proofs.SubstitutionTurns.{walk_begins, walk_ends}
+use Rattle.hol_type.proofs.table.TypeTable.walk.Goals as goal
+
+pub loop-task-init : goal.loop-task-init
+loop-task-init c = (Keeps-refl _, rw (c.in_ok-push.ensures.pushed, c.new.ensures.empty) (walk_begins _ _ c.args.root _ c.requires.pairs c.requires.root c.new-2.ensures.empty))
+
+pub loop-task-preserved : goal.loop-task-preserved
+loop-task-preserved c =
+    let w = rw c.in-Some.ensures.popped at c.loop-task.invariant.1 in
+    (Keeps-trans c.loop-task.invariant.0 c.turn.ensures.keeps, c.in_ok-turn.ensures.walk _ _ w)
+
+pub unwrap-requires : goal.unwrap-requires
+unwrap-requires c =
+    let w = rw c.in_default.ensures.popped at c.loop-task.invariant.1 in
+    is_some c.find.result c.find.ensures.absent (λ absent. absent w.ends.0 w.ends.1)
+
+pub returns-clause-made : goal.returns-clause-made
+returns-clause-made c =
+    let w = rw c.in_default.ensures.popped at c.loop-task.invariant.1 in
+    walk_ends _ _ _ _ _ c.unwrap.result _ c.loop-task.invariant.0 c.requires.root (if_some _ c.find.result c.unwrap.result c.unwrap.ensures c.find.ensures.noted) w
+
+pub returns-clause-known : goal.returns-clause-known
+returns-clause-known c =
+    let w = rw c.in_default.ensures.popped at c.loop-task.invariant.1 in
+    Holds-within _ _ _ (walk_ends _ _ _ _ _ c.unwrap.result _ c.loop-task.invariant.0 c.requires.root (if_some _ c.find.result c.unwrap.result c.unwrap.ensures c.find.ensures.noted) w)

@@ -1,0 +1,57 @@
+//! Nodes of a table of types, and their measures.
+ghost use Rattle.std.specs.Prelude.{◌≡◌, OnOk, IfErr};
+ghost use Rattle.bridge_base.specs.declared.faults.Fault.TheVariants as the_fault;
+ghost use Rattle.hol_spec.specs.Types.{HolType};
+ghost use Rattle.hol_spec.specs.Limits.{TypeWithin};
+ghost use Rattle.hol_type.specs.Refusals.{RefusesType};
+ghost use Rattle.hol_type.specs.Measured.{IsMeasured};
+
+use crate::TypeId;
+use bridge_base::{Fault, Kind};
+use hol_name::Name;
+
+// The limits of what a call makes.
+const GREATEST_SIZE: u64 = 1_048_576;
+const GREATEST_DEPTH: u64 = 1_024;
+
+/// A type's head, with the numbers of its arguments.
+#[derive(PartialEq, Eq, Hash, Drop)]
+pub(crate) enum Node {
+    /// A variable.
+    Var(Name),
+    /// An operator with its arguments.
+    Op(Name, Vec<TypeId>),
+}
+
+/// How large and how deep a type is. At the greatest number of its type, a measure says no more than that.
+#[derive(Clone, Copy)]
+pub(crate) struct Measures {
+    pub(crate) size: u64,
+    pub(crate) depth: u64,
+}
+
+/// A node with the measures of its type. Entries are equal where their nodes are.
+#[derive(Drop)]
+#[derive_where(PartialEq, Eq, Hash)]
+pub(crate) struct Entry {
+    pub(crate) node: Node,
+    #[derive_where(skip)]
+    pub(crate) measures: Measures,
+}
+
+impl Measures {
+    // Refuses what passes a limit: for its size, or else for its depth.
+    pub(crate) fn judge(self) -> Result<(), Fault>
+        ensures within { OnOk result ((t : HolType) → IsMeasured self t → TypeWithin t) }
+        ensures refusal { IfErr result (λ fault. (t : HolType) → IsMeasured self t → RefusesType fault t) }
+        ensures limit { IfErr result (λ fault. fault ≡ the_fault.Memory → ⊥) }
+    {
+        if self.size > GREATEST_SIZE {
+            return Err(Fault::Refused(Kind::TooLarge));
+        }
+        if self.depth > GREATEST_DEPTH {
+            return Err(Fault::Refused(Kind::TooDeep));
+        }
+        Ok(())
+    }
+}
