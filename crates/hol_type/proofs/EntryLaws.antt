@@ -1,5 +1,5 @@
 -- The types of a list of entries.
-use Rattle.std.proofs.Common.{◌≡◌, ℕ, zero, suc, ◌+◌, ◌<◌, ◌≤◌, refl, sym, ap, ◌∙◌, subst, arith, List, [], ◌∷◌, ◌++◌, length, Some, length-append, ◌⊎◌, ⊎_elim, inl, inr, Bool, true, false, ◌&&◌}
+use Rattle.std.proofs.Common.{◌≡◌, ℕ, zero, suc, ◌+◌, ◌≤◌, refl, sym, ap, ◌∙◌, subst, arith, List, [], ◌∷◌, ◌++◌, length, Some, length-append, ◌⊎◌, ⊎_elim, inl, inr, Bool, true, false, ◌&&◌}
 use Rattle.std.specs.Prelude.{slice_get}
 use Rattle.std.proofs.lemmas.Option.{slice_get_within}
 use Rattle.std.proofs.lemmas.Bool.{eqb-true}
@@ -14,9 +14,9 @@ use Rattle.hol_type.specs.declared.node.Entry.{Entry}
 use Rattle.hol_type.specs.contracts.node.EntryPartialEq.TheImpl as entry_eq
 use Rattle.hol_type.specs.contracts.node.NodePartialEq.TheImpl as node_eq
 use Rattle.hol_type.specs.contracts.table.TypeIdPartialEq.TheImpl as id_eq
-use Rattle.hol_type.specs.Tables.{tree_at, types_at, Holds, IsDistinct, Stays}
+use Rattle.hol_type.specs.Tables.{types_at, Holds, IsDistinct, Stays}
 use Rattle.hol_type.specs.Views.{AreBelow}
-use Rattle.hol_type.specs.TableLaws.{ap2, some_is, tree_at-Holds, Stays-refl, Stays-trans, Stays-append, types_at-Stays, types_at-same, types_of-same, AreBelow-known}
+use Rattle.hol_type.specs.TableLaws.{ap2, some_is, Stays-refl, Stays-trans, Stays-append, types_at-Stays, types_at-same, types_of-same, AreBelow-known}
 use Rattle.hol_type.specs.Entries.{tree_of_node, PartsBelow, trees_from, trees_of}
 
 and_both : (a b : Bool) → (a && b) ≡ true → (a ≡ true) × (b ≡ true)

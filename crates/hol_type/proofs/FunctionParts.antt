@@ -1,5 +1,5 @@
 -- Types that are not of functions.
-use Rattle.std.proofs.Common.{◌≡◌, ℕ, ◌<◌, ◌≤◌, refl, sym, ap, ◌∙◌, arith, List, [], ◌∷◌, length, Option, Some, None, get_or, Bool, true, false, cond}
+use Rattle.std.proofs.Common.{◌≡◌, refl, arith, List, [], ◌∷◌, length, Some, None, get_or, Bool, true, false}
 use Rattle.hol_spec.specs.Names.{Name}
 use Rattle.hol_spec.specs.NameEquality.{name_eq, name_eq-Decides}
 use Rattle.hol_spec.specs.Types.{HolType, operator, types_of}

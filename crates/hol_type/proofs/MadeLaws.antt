@@ -3,7 +3,7 @@ use Rattle.std.proofs.Common.{◌≡◌, ap, sym, subst, List, [], ◌∷◌, �
 use Rattle.std.specs.Prelude.{IfSome, IfNone, IsSome}
 use Rattle.hol_type.specs.declared.table.TypeId.{TypeId}
 use Rattle.hol_type.specs.TableLaws.{some_is}
-use Rattle.hol_type.specs.Walks.{IsNoted, IsDone, AreDone, AreMade}
+use Rattle.hol_type.specs.Walks.{IsNoted, AreDone, AreMade}
 
 -- the items are what was made of the types before the rest
 pub record IsGathering (made : List (TypeId × TypeId)) (ids rest items : List TypeId) : Type 0 where

@@ -1,15 +1,15 @@
 -- What a turn does to a matching.
-use Rattle.std.proofs.Common.{◌≡◌, ℕ, zero, suc, ◌+◌, ◌<◌, ◌≤◌, refl, sym, ap, ◌∙◌, subst, arith, List, [], ◌∷◌, ◌++◌, length, Option, Some, None, Bool, true, false, not, cond, ◌⊎◌, ⊎_elim, inl, inr}
+use Rattle.std.proofs.Common.{◌≡◌, ℕ, zero, suc, ◌+◌, ◌<◌, ◌≤◌, refl, sym, ap, ◌∙◌, subst, arith, List, [], ◌∷◌, ◌++◌, length, Option, Some, None, Bool, true, false, not, ◌⊎◌, ⊎_elim, inl, inr}
 use Rattle.std.specs.Prelude.{slice_get, if◌then◌else◌, unwrap_or}
 use Rattle.std.specs.Map.{lookup}
 use Rattle.hol_spec.specs.Names.{Name}
 use Rattle.hol_spec.specs.NameEquality.{name_eq, name_eq-Decides}
-use Rattle.hol_spec.specs.Types.{HolType, HolTypes, variable, operator, none, more, types_of, count}
+use Rattle.hol_spec.specs.Types.{HolType, variable, operator, more, types_of}
 use Rattle.hol_spec.specs.Limits.{type_size, types_size}
-use Rattle.hol_spec.specs.Substitution.{TypePairs, substitute, substitute_all, image}
+use Rattle.hol_spec.specs.Substitution.{TypePairs, substitute, substitute_all}
 use Rattle.hol_type.specs.declared.table.TypeId.{TypeId}
 use Rattle.hol_type.specs.Tables.{tree_at, types_at, pairs_at, ArePairsKnown, Holds, IsDistinct}
-use Rattle.hol_type.specs.TableLaws.{ap2, some_is, tree_at-same, Holds-tree_at, tree_at-Holds}
+use Rattle.hol_type.specs.TableLaws.{ap2, some_is, tree_at-same, Holds-tree_at}
 use Rattle.hol_type.specs.Views.{AreBelow}
 use Rattle.hol_type.specs.Walks.{IsNoted}
 use Rattle.hol_type.specs.Matchings.{Meets, with_pairs, ArePaired, IsFound, IsOpened, IsMatching, GoesOn, total}
@@ -164,12 +164,12 @@ module _ (ts : List HolType) (part img : TypeId) (tasks : List (TypeId × TypeId
         found_known = known-push found (w.known part img (inr (0, refl))).1 w.found_known;
         needs = λ s e p i. ⊎_elim (all_noted (Meets s ts) (λ x y m. w.needs s e x y (inl m)) (w.needs s e part img (inr (0, refl))) p i) (λ b. w.needs s e p i (inr (IsNoted-behind (part, img) tasks p i b)));
         closed = all_noted (λ p i. IsFound ts (found ++ (n, img) ∷ []) p i ⊎ IsOpened ts tasks noted p i)
-          (λ p i m. ⊎_elim (λ a. inl (record { name = a.name; is = a.is; at = lookup-old a.name found i a.at })) (λ b. inr (opened-more ts ((part, img) ∷ tasks) met tasks noted p i (goes tasks (λ x y t. t)) b)) (w.closed p i m))
-          (inl (record { name = n; is = h; at = lookup-new found (not_found general instance w (lookup (name_eq n) found) refl) }));
+            (λ p i m. ⊎_elim (λ a. inl (record { name = a.name; is = a.is; at = lookup-old a.name found i a.at })) (λ b. inr (opened-more ts ((part, img) ∷ tasks) met tasks noted p i (goes tasks (λ x y t. t)) b)) (w.closed p i m))
+            (inl (record { name = n; is = h; at = lookup-new found (not_found general instance w (lookup (name_eq n) found) refl) }));
         sources = λ m i e. ⊎_elim
-          (λ a. let q = w.sources m i a in (q.0, q.1, stays q.0 i q.2))
-          (λ b. (part, subst (λ k. Holds ts part.0 (variable k)) (sym b.0) h, subst (IsNoted noted part) b.1 new))
-          (lookup-either m found i e);
+            (λ a. let q = w.sources m i a in (q.0, q.1, stays q.0 i q.2))
+            (λ b. (part, subst (λ k. Holds ts part.0 (variable k)) (sym b.0) h, subst (IsNoted noted part) b.1 new))
+            (lookup-either m found i e);
         root = goes tasks (λ x y t. t) general instance w.root;
       }
 
@@ -179,15 +179,15 @@ module _ (ts : List HolType) (part img : TypeId) (tasks : List (TypeId × TypeId
       meets_operator general instance w = record {
         distinct = w.distinct;
         known = λ p i. ⊎_elim
-          (all_noted (λ x y. (x.0 < length ts) × (y.0 < length ts)) (λ x y m. w.known x y (inl m)) (w.known part img (inr (0, refl))) p i)
-          (with_pairs-all (λ x y. (x.0 < length ts) × (y.0 < length ts)) parts images tasks (both_below parts images (omega (arith, (w.known part img (inr (0, refl))).0)) (omega (arith, (w.known part img (inr (0, refl))).1)) low low_images) (λ x y b. w.known x y (inr (IsNoted-behind (part, img) tasks x y b))) p i);
+            (all_noted (λ x y. (x.0 < length ts) × (y.0 < length ts)) (λ x y m. w.known x y (inl m)) (w.known part img (inr (0, refl))) p i)
+            (with_pairs-all (λ x y. (x.0 < length ts) × (y.0 < length ts)) parts images tasks (both_below parts images (omega (arith, (w.known part img (inr (0, refl))).0)) (omega (arith, (w.known part img (inr (0, refl))).1)) low low_images) (λ x y b. w.known x y (inr (IsNoted-behind (part, img) tasks x y b))) p i);
         found_known = w.found_known;
         needs = λ s e p i. ⊎_elim
-          (all_noted (Meets s ts) (λ x y m. w.needs s e x y (inl m)) (w.needs s e part img (inr (0, refl))) p i)
-          (with_pairs-all (Meets s ts) parts images tasks (all_meet s parts images (arguments s (w.needs s e part img (inr (0, refl))))) (λ x y b. w.needs s e x y (inr (IsNoted-behind (part, img) tasks x y b))) p i);
+            (all_noted (Meets s ts) (λ x y m. w.needs s e x y (inl m)) (w.needs s e part img (inr (0, refl))) p i)
+            (with_pairs-all (Meets s ts) parts images tasks (all_meet s parts images (arguments s (w.needs s e part img (inr (0, refl))))) (λ x y b. w.needs s e x y (inr (IsNoted-behind (part, img) tasks x y b))) p i);
         closed = all_noted (λ p i. IsFound ts found p i ⊎ IsOpened ts (with_pairs parts images tasks) noted p i)
-          (λ p i m. ⊎_elim (λ a. inl a) (λ b. inr (opened-more ts ((part, img) ∷ tasks) met (with_pairs parts images tasks) noted p i (goes (with_pairs parts images tasks) (with_pairs-old parts images tasks)) b)) (w.closed p i m))
-          (inr (record { name = n; parts = parts; images = images; is = h; becomes = k; lower = low; paired = with_pairs-new noted parts images tasks len }));
+            (λ p i m. ⊎_elim (λ a. inl a) (λ b. inr (opened-more ts ((part, img) ∷ tasks) met (with_pairs parts images tasks) noted p i (goes (with_pairs parts images tasks) (with_pairs-old parts images tasks)) b)) (w.closed p i m))
+            (inr (record { name = n; parts = parts; images = images; is = h; becomes = k; lower = low; paired = with_pairs-new noted parts images tasks len }));
         sources = λ m i e. let q = w.sources m i e in (q.0, q.1, stays q.0 i q.2);
         root = goes (with_pairs parts images tasks) (with_pairs-old parts images tasks) general instance w.root;
       }

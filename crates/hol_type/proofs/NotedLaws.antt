@@ -1,5 +1,5 @@
 -- What was noted, after another note.
-use Rattle.std.proofs.Common.{◌≡◌, ℕ, zero, suc, refl, sym, ap, ◌∙◌, arith, List, [], ◌∷◌, Option, Some, None, Bool, true, false, inl, inr, ◌⊎◌, ⊎_elim}
+use Rattle.std.proofs.Common.{◌≡◌, ℕ, zero, suc, refl, sym, ap, ◌∙◌, List, [], ◌∷◌, Option, Some, None, Bool, true, false, inl, inr, ◌⊎◌, ⊎_elim}
 use Rattle.std.specs.Prelude.{slice_get, if◌then◌else◌, IfSome, IfNone}
 use Rattle.std.specs.Map.{lookup}
 use Rattle.indexmap.specs.IndexMap.{insert_entry}
@@ -61,7 +61,6 @@ absent_if p es None h = λ r. absent p r es (sym h)
 absent_if p es (Some r) h = tt
 
 module _ (k v : TypeId) where
-
   pub noted : (es : List (TypeId × TypeId)) (p r : TypeId) → IsNoted (insert_entry id_eq.eq-value.it es k v) p r → IsNoted es p r ⊎ ((p ≡ k) × (r ≡ v))
   noted [] p r h = ⊎_elim (λ w. inr (sym w.0, sym w.1)) (λ w. inl w) (IsNoted-cons (k, v) [] p r h)
   noted (e ∷ es) p r h = go (λ w. noted es p r w) (id_eq.eq-value.it k e.0) refl h

@@ -1,5 +1,5 @@
 -- What a turn does to a search for variables.
-use Rattle.std.proofs.Common.{◌≡◌, ℕ, ◌<◌, ◌≤◌, refl, sym, ap, ◌∙◌, subst, arith, List, [], ◌∷◌, ◌++◌, length, Some, Bool, true, false, ◌||◌, cond, ◌⊎◌, ⊎_elim, inl, inr}
+use Rattle.std.proofs.Common.{◌≡◌, ◌<◌, refl, sym, ap, ◌∙◌, subst, List, [], ◌∷◌, ◌++◌, length, Bool, true, false, ◌||◌, ◌⊎◌, ⊎_elim, inl, inr}
 use Rattle.std.specs.List.{list_any}
 use Rattle.hol_spec.specs.Names.{Name}
 use Rattle.hol_spec.specs.NameEquality.{name_eq, name_eq-Decides}
@@ -11,7 +11,7 @@ use Rattle.hol_type.specs.declared.visits.Task.{Task}
 use Rattle.hol_type.specs.declared.visits.Task.TheVariants.{Visit, Join}
 use Rattle.hol_type.specs.Tables.{tree_at, types_at, Holds, IsDistinct}
 use Rattle.hol_type.specs.TableLaws.{Holds-tree_at}
-use Rattle.hol_type.specs.Walks.{IsNoted, IsDone, AreAll, AreIn, HasParts, PartsAre, Ends, OrIs, visits, gathered, IsSearch}
+use Rattle.hol_type.specs.Walks.{IsNoted, IsDone, AreAll, AreIn, HasParts, visits, gathered, IsSearch}
 use Rattle.hol_type.proofs.WalkLaws.{Ends-done, Ends-noted, Ends-set_out, done_more}
 
 or_left : (a b : Bool) → a ≡ true → (a || b) ≡ true
@@ -113,9 +113,9 @@ module _ (ts : List HolType) (id : TypeId) (tasks : List Task) (found : List Nam
       record {
         noted = λ i r q. ⊎_elim (λ a. AreIn-more n found _ (w.noted i r a)) (λ b. subst (λ j. AreIn (found ++ n ∷ []) (variable_places (tree_at ts j.0))) (sym b.0) here) (only i r q);
         named = λ m e. ⊎_elim
-          (λ a. let o = w.named m a in (o.0, o.1, done_more seen noted id mark new kept o.0 (inl o.2)))
-          (λ b. (id, subst (λ k. Holds ts id.0 (variable k)) (sym b) h, (mark, new)))
-          (in_either m n found e);
+            (λ a. let o = w.named m a in (o.0, o.1, done_more seen noted id mark new kept o.0 (inl o.2)))
+            (λ b. (id, subst (λ k. Holds ts id.0 (variable k)) (sym b) h, (mark, new)))
+            (in_either m n found e);
         ends = Ends-noted root ts tasks seen noted id mark new kept w.ends.1;
         gives = ap (gathered ts tasks) (sym (added goal root w)) ∙ w.gives;
       }

@@ -1,15 +1,14 @@
 -- What a turn does to a walk that substitutes.
-use Rattle.std.proofs.Common.{◌≡◌, ℕ, ◌<◌, ◌≤◌, refl, sym, ap, ◌∙◌, subst, arith, List, [], ◌∷◌, length, Some, ◌⊎◌, ⊎_elim, inl, inr}
+use Rattle.std.proofs.Common.{◌≡◌, ◌<◌, refl, sym, ap, ◌∙◌, subst, arith, List, [], ◌∷◌, length, Some, ◌⊎◌, ⊎_elim, inr}
 use Rattle.hol_spec.specs.Names.{Name}
 use Rattle.hol_spec.specs.Types.{HolType, variable, operator, types_of, more}
 use Rattle.hol_spec.specs.Substitution.{TypePairs, substitute, substitute_all, image}
 use Rattle.hol_type.specs.declared.table.TypeId.{TypeId}
 use Rattle.hol_type.specs.declared.visits.Task.{Task}
 use Rattle.hol_type.specs.declared.visits.Task.TheVariants.{Visit, Join}
-use Rattle.hol_type.specs.Tables.{tree_at, types_at, pairs_at, Holds, Keeps, AreKnown, ArePairsKnown, IsDistinct}
-use Rattle.hol_type.specs.TableLaws.{ap2, some_is, tree_at-Stays, Holds-tree_at, Holds-within, ArePairsKnown-Keeps, pairs_at-Stays}
-use Rattle.hol_type.specs.Views.{AreBelow}
-use Rattle.hol_type.specs.Walks.{IsNoted, IsDone, AreMade, HasParts, PartsAre, Ends, OrIs, visits, IsWalk}
+use Rattle.hol_type.specs.Tables.{tree_at, types_at, pairs_at, Holds, Keeps, AreKnown, ArePairsKnown}
+use Rattle.hol_type.specs.TableLaws.{ap2, tree_at-Stays, Holds-tree_at, Holds-within, ArePairsKnown-Keeps, pairs_at-Stays}
+use Rattle.hol_type.specs.Walks.{IsNoted, IsDone, AreMade, HasParts, OrIs, visits, IsWalk}
 use Rattle.hol_type.proofs.WalkLaws.{Ends-done, Ends-noted, Ends-set_out, Ends-Keeps, no_parts}
 
 -- a walk at its beginning

@@ -1,6 +1,6 @@
 -- When something of a size and a depth is refused: where it passes the limit of size, and else where it passes that of depth.
 -- Source: the limits are this bridge's own.
-use Rattle.std.specs.Prelude.{◌≡◌, ℕ, ◌<◌, ◌≤◌}
+use Rattle.std.specs.Prelude.{ℕ, ◌<◌, ◌≤◌}
 use Rattle.hol_spec.specs.Types.{HolType}
 use Rattle.hol_spec.specs.Limits.{greatest_size, greatest_depth, type_size, type_depth}
 use Rattle.bridge_base.specs.declared.faults.Fault.{Fault}

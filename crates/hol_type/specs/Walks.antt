@@ -1,5 +1,5 @@
 -- Walks over the parts of a type, as stacks of tasks beside what was noted of each part.
-use Rattle.std.specs.Prelude.{◌≡◌, ◌⊎◌, ℕ, ◌+◌, ◌*◌, ◌<◌, List, [], ◌∷◌, ◌++◌, length, slice_get, Some, true}
+use Rattle.std.specs.Prelude.{◌≡◌, ◌⊎◌, ℕ, ◌+◌, ◌*◌, ◌<◌, List, [], ◌∷◌, length, slice_get, Some, true}
 use Rattle.hol_spec.specs.Names.{Name}
 use Rattle.hol_spec.specs.NameEquality.{name_eq}
 use Rattle.hol_spec.specs.Lists.{is_in, union}
@@ -9,7 +9,7 @@ use Rattle.hol_spec.specs.Substitution.{TypePairs, substitute}
 use Rattle.hol_type.specs.declared.table.TypeId.{TypeId}
 use Rattle.hol_type.specs.declared.visits.Task.{Task}
 use Rattle.hol_type.specs.declared.visits.Task.TheVariants.{Visit, Join}
-use Rattle.hol_type.specs.Tables.{tree_at, types_at, pairs_at, ArePairsKnown, Holds, IsDistinct}
+use Rattle.hol_type.specs.Tables.{tree_at, types_at, pairs_at, ArePairsKnown, Holds}
 use Rattle.hol_type.specs.Views.{AreBelow}
 
 -- the list has this pair of numbers

@@ -21,7 +21,11 @@ pub(crate) struct Matching {
 }
 
 // A type for each variable of `general` under which it becomes `instance`.
-pub(crate) fn matched(table: &TypeTable, general: TypeId, instance: TypeId) -> Result<Option<TypeMap>, Memory>
+pub(crate) fn matched(
+    table: &TypeTable,
+    general: TypeId,
+    instance: TypeId,
+) -> Result<Option<TypeMap>, Memory>
     requires general { general.0 < length table.now }
     requires instance { instance.0 < length table.now }
     requires distinct { IsDistinct table.now }
@@ -43,7 +47,12 @@ pub(crate) fn matched(table: &TypeTable, general: TypeId, instance: TypeId) -> R
 }
 
 // Whether a part of the general type may become this type.
-fn meet(table: &TypeTable, part: TypeId, image: TypeId, matching: &mut Matching) -> Result<bool, Memory>
+fn meet(
+    table: &TypeTable,
+    part: TypeId,
+    image: TypeId,
+    matching: &mut Matching,
+) -> Result<bool, Memory>
     requires { (general : AnId) × (instance : AnId) × IsMatching general instance table.now ((part, image) ∷ matching.old.tasks) matching.old.found.items matching.old.met }
     ensures turn { IfOk result (λ may. (general instance : AnId) → IsMatching general instance table.now ((part, image) ∷ matching.old.tasks) matching.old.found.items matching.old.met → GoesOn may general instance table.now matching.new.tasks matching.new.found.items matching.new.met) }
     ensures less { OnOk result (total table.now matching.new.tasks < total table.now ((part, image) ∷ matching.old.tasks)) }
@@ -55,7 +64,12 @@ fn meet(table: &TypeTable, part: TypeId, image: TypeId, matching: &mut Matching)
 }
 
 // Whether a part that is new may become this type.
-fn meet_new(table: &TypeTable, part: TypeId, image: TypeId, matching: &mut Matching) -> Result<bool, Memory>
+fn meet_new(
+    table: &TypeTable,
+    part: TypeId,
+    image: TypeId,
+    matching: &mut Matching,
+) -> Result<bool, Memory>
     requires new { (r : AnId) → IsNoted matching.old.met part r → ⊥ }
     requires matching { (general : AnId) × (instance : AnId) × IsMatching general instance table.now ((part, image) ∷ matching.old.tasks) matching.old.found.items matching.old.met }
     ensures turn { IfOk result (λ may. (general instance : AnId) → IsMatching general instance table.now ((part, image) ∷ matching.old.tasks) matching.old.found.items matching.old.met → GoesOn may general instance table.now matching.new.tasks matching.new.found.items matching.new.met) }
@@ -80,7 +94,11 @@ fn meet_new(table: &TypeTable, part: TypeId, image: TypeId, matching: &mut Match
 }
 
 // Sets out to match each of these parts to the type at its place.
-fn set_out(tasks: &mut Stack<(TypeId, TypeId)>, parts: &[TypeId], images: &[TypeId]) -> Result<(), Memory>
+fn set_out(
+    tasks: &mut Stack<(TypeId, TypeId)>,
+    parts: &[TypeId],
+    images: &[TypeId],
+) -> Result<(), Memory>
     requires { length parts.now ≡ length images.now }
     ensures { OnOk result (tasks.new ≡ with_pairs parts.now images.now tasks.old) }
 {

@@ -12,6 +12,7 @@ use hol_name::Name;
 
 // The limits of what a call makes.
 const GREATEST_SIZE: u64 = 1_048_576;
+
 const GREATEST_DEPTH: u64 = 1_024;
 
 /// A type's head, with the numbers of its arguments.

@@ -27,7 +27,11 @@ pub(crate) struct Walk {
 
 impl TypeTable {
     // What the substitution makes of a type, within the limits. After a failure the table may have more types.
-    pub(crate) fn substituted(&mut self, pairs: &[(Name, TypeId)], id: TypeId) -> Result<TypeId, Fault>
+    pub(crate) fn substituted(
+        &mut self,
+        pairs: &[(Name, TypeId)],
+        id: TypeId,
+    ) -> Result<TypeId, Fault>
         requires pairs { ArePairsKnown self.old pairs.now }
         requires id { id.0 < length self.old }
         ensures known { IfOk result (λ r. r.0 < length self.new) }
@@ -62,7 +66,12 @@ impl TypeTable {
 }
 
 // One turn of the walk.
-fn turn(table: &mut TypeTable, pairs: &[(Name, TypeId)], task: Task, walk: &mut Walk) -> Result<(), Memory>
+fn turn(
+    table: &mut TypeTable,
+    pairs: &[(Name, TypeId)],
+    task: Task,
+    walk: &mut Walk,
+) -> Result<(), Memory>
     requires { (given : TypePairs) × (root : AnId) × IsWalk given root table.old pairs.now (task ∷ walk.old.tasks) walk.old.made }
     ensures keeps { Keeps table.old table.new }
     ensures walk { OnOk result ((given : TypePairs) (root : AnId) → IsWalk given root table.old pairs.now (task ∷ walk.old.tasks) walk.old.made → IsWalk given root table.new pairs.now walk.new.tasks walk.new.made) }
@@ -75,7 +84,12 @@ fn turn(table: &mut TypeTable, pairs: &[(Name, TypeId)], task: Task, walk: &mut 
 }
 
 // Makes what stands for a variable, or sets out to make an operator's arguments.
-fn visit(table: &mut TypeTable, pairs: &[(Name, TypeId)], id: TypeId, walk: &mut Walk) -> Result<(), Memory>
+fn visit(
+    table: &mut TypeTable,
+    pairs: &[(Name, TypeId)],
+    id: TypeId,
+    walk: &mut Walk,
+) -> Result<(), Memory>
     requires { (given : TypePairs) × (root : AnId) × IsWalk given root table.old pairs.now (task.Visit id ∷ walk.old.tasks) walk.old.made }
     ensures keeps { Keeps table.old table.new }
     ensures walk { OnOk result ((given : TypePairs) (root : AnId) → IsWalk given root table.old pairs.now (task.Visit id ∷ walk.old.tasks) walk.old.made → IsWalk given root table.new pairs.now walk.new.tasks walk.new.made) }
@@ -103,7 +117,12 @@ fn replaced(pairs: &[(Name, TypeId)], id: TypeId, name: &Name) -> TypeId
 }
 
 // Makes an operator over what was made of its arguments.
-fn join(table: &mut TypeTable, pairs: &[(Name, TypeId)], id: TypeId, walk: &mut Walk) -> Result<(), Memory>
+fn join(
+    table: &mut TypeTable,
+    pairs: &[(Name, TypeId)],
+    id: TypeId,
+    walk: &mut Walk,
+) -> Result<(), Memory>
     requires { (given : TypePairs) × (root : AnId) × IsWalk given root table.old pairs.now (task.Join id ∷ walk.old.tasks) walk.old.made }
     ensures keeps { Keeps table.old table.new }
     ensures walk { OnOk result ((given : TypePairs) (root : AnId) → IsWalk given root table.old pairs.now (task.Join id ∷ walk.old.tasks) walk.old.made → IsWalk given root table.new pairs.now walk.new.tasks walk.new.made) }

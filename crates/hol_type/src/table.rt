@@ -15,8 +15,8 @@ ghost use Rattle.hol_type.specs.Views.{tree_of_view, ViewBelow};
 
 use crate::TypeMap;
 use crate::matching::matched;
-use crate::variables::variables;
 use crate::node::{Entry, Measures, Node};
+use crate::variables::variables;
 use bridge_base::{Fault, Memory};
 use hol_name::Name;
 use indexmap::IndexSet;
@@ -47,7 +47,7 @@ impl Model for TypeTable {
     ghost use Rattle.std.specs.Prelude.{List};
     ghost use Rattle.std.specs.Coded.{coded_list};
     ghost use Rattle.hol_spec.specs.Names.{Name as AName};
-ghost use Rattle.hol_spec.specs.Types.{HolType};
+    ghost use Rattle.hol_spec.specs.Types.{HolType};
     ghost use Rattle.hol_spec.specs.TypeLaws.{coded_type};
 
     ghost Value = { List HolType };

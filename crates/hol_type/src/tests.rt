@@ -170,9 +170,16 @@ fn refuses_beyond_the_limits(rt: HostRuntime) -> Result<(), Fail> {
     let largest = types.list(large)?;
     assert_eq!(rt; types.measures(largest), Some((1_048_576, 40)));
     assert_eq!(rt; types.list(largest), Err(Fault::Refused(Kind::TooLarge)));
-    assert_eq!(rt; types.with_a(large, large), Err(Fault::Refused(Kind::TooLarge)));
+    assert_eq!(rt;
+        types.with_a(large, large),
+        Err(Fault::Refused(Kind::TooLarge))
+    );
     let b = types.variable(b"B")?;
-    assert_eq!(rt; Some(b.0), largest.0.checked_add(1), "a refused type takes no number");
+    assert_eq!(rt;
+        Some(b.0),
+        largest.0.checked_add(1),
+        "a refused type takes no number"
+    );
     Ok(())
 }
 
@@ -214,9 +221,17 @@ fn matches_instances_alone(rt: HostRuntime) -> Result<(), Fail> {
     let arrow = types.function(a, b)?;
     let instance = types.function(lists, truth)?;
     assert_eq!(rt; types.found(arrow, instance)?, Some(instance));
-    assert_eq!(rt; types.found(endo, instance)?, None, "one variable for two types");
+    assert_eq!(rt;
+        types.found(endo, instance)?,
+        None,
+        "one variable for two types"
+    );
     assert_eq!(rt; types.found(truth, a)?, None, "an operator for a variable");
-    assert_eq!(rt; types.found(lists, arrow)?, None, "one operator for another");
+    assert_eq!(rt;
+        types.found(lists, arrow)?,
+        None,
+        "one operator for another"
+    );
     Ok(())
 }
 
@@ -242,7 +257,10 @@ fn walks_shared_and_deep_types(rt: HostRuntime) -> Result<(), Fail> {
     assert!(rt; types.has_variables(b"A", b"B", huge)?);
     let endo = types.function(a, a)?;
     let other = types.doubled(100_000, endo)?;
-    assert_eq!(rt; types.found(huge, other), Err(Fault::Refused(Kind::TooLarge)));
+    assert_eq!(rt;
+        types.found(huge, other),
+        Err(Fault::Refused(Kind::TooLarge))
+    );
     assert_eq!(rt; types.found(other, huge)?, None);
     Ok(())
 }

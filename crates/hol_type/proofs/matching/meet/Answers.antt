@@ -1,4 +1,4 @@
-use Rattle.std.proofs.Common.{sym, ◌∙◌, ap}
+use Rattle.std.proofs.Common.{sym, ◌∙◌}
 use Rattle.hol_type.proofs.EntryLaws.{id_eq-true, id_eq-same}
 use Rattle.hol_type.proofs.MatchTurns.{meets_again, task_less}
 use Rattle.hol_type.proofs.matching.meet.Goals as goal

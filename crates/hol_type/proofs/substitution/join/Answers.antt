@@ -1,7 +1,7 @@
 use Rattle.std.proofs.Common.{arith}
 use Rattle.hol_type.specs.TableLaws.{AreKnown-below}
 use Rattle.hol_type.proofs.WalkLaws.{OnOk-map, OnOk-map3, parts_all, work-Keeps}
-use Rattle.hol_type.proofs.SubstitutionTurns.{made_known, walk_join, walk_no_join}
+use Rattle.hol_type.proofs.SubstitutionTurns.{made_known, walk_join}
 use Rattle.hol_type.proofs.substitution.join.Goals as goal
 
 pub parts-requires : goal.parts-requires

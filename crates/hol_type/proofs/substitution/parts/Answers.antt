@@ -1,5 +1,5 @@
-use Rattle.std.proofs.Common.{arith, subst, sym, [], ◌++◌, ◌∷◌}
-use Rattle.hol_type.specs.Walks.{AreDone, IsNoted}
+use Rattle.std.proofs.Common.{arith, subst}
+use Rattle.hol_type.specs.Walks.{AreDone}
 use Rattle.std.proofs.lemmas.List.{drop_more}
 use Rattle.hol_type.proofs.ListSteps.{drop-all}
 use Rattle.hol_type.proofs.MadeLaws.{IsGathering, gathering_begins, gathering_goes_on, gathering_ends, is_some, if_some}

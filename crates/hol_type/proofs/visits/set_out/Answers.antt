@@ -1,4 +1,4 @@
-use Rattle.std.proofs.Common.{◌∙◌, ◌-◌, sym, ap, arith, length}
+use Rattle.std.proofs.Common.{◌∙◌, ◌-◌, arith, length}
 use Rattle.std.proofs.lemmas.List.{length-take}
 use Rattle.hol_type.proofs.VisitLaws.{visits-front}
 use Rattle.hol_type.proofs.visits.set_out.Goals as goal

@@ -1,5 +1,4 @@
-use Rattle.std.proofs.Common.{arith, subst, refl}
-use Rattle.std.specs.Prelude.{drop}
+use Rattle.std.proofs.Common.{arith, subst}
 use Rattle.hol_type.specs.Tables.{AreKnown}
 use Rattle.std.proofs.lemmas.List.{drop_more}
 use Rattle.hol_type.proofs.ListSteps.{drop-all}
