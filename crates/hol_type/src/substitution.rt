@@ -1,13 +1,12 @@
 //! The walk that replaces the variables of a type.
-ghost use Rattle.std.specs.Prelude.{◌≡◌, ◌<◌, ◌∷◌, List, length, IfOk, IfErr, OnOk, OnErr};
-ghost use Rattle.hol_spec.specs.Names.{Name as AName};
+ghost use Rattle.std.specs.Prelude.{◌<◌, ◌∷◌, List, length, IfOk, IfErr, OnOk};
 ghost use Rattle.hol_spec.specs.Limits.{TypeWithin};
 ghost use Rattle.hol_spec.specs.Substitution.{TypePairs, substitute, image};
 ghost use Rattle.hol_spec.specs.Types.{HolType, variable};
 ghost use Rattle.hol_type.specs.declared.table.TypeId.{TypeId as AnId};
 ghost use Rattle.hol_type.specs.declared.visits.Task.TheVariants as task;
 ghost use Rattle.hol_type.specs.Refusals.{RefusesType};
-ghost use Rattle.hol_type.specs.Tables.{tree_at, types_at, pairs_at, AreKnown, ArePairsKnown, Holds, Keeps};
+ghost use Rattle.hol_type.specs.Tables.{tree_at, pairs_at, ArePairsKnown, Holds, Keeps};
 ghost use Rattle.hol_type.specs.Walks.{IsWalk, work, AreDone, AreMade};
 
 use crate::marks::Marks;
