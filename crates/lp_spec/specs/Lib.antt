@@ -14,6 +14,7 @@ pub mod Reading
 pub mod ReadingComplete
 pub mod ReadingFaults
 pub mod ReadingLaws
+pub mod ReadingOrder
 pub mod ReadingSound
 pub mod Regularity
 pub mod SignatureCalls
