@@ -300,15 +300,16 @@ impl TypeTable {
         }
     }
 
-    // Gives up all types from the number `len` on.
-    pub(crate) fn cut(&mut self, len: usize)
+    /// Gives up all types from the number `len` on, for a caller that made them and is refused afterwards.
+    pub fn cut(&mut self, len: usize)
         requires { len ≤ length self.old }
         ensures { self.new ≡ take len self.old }
     {
         self.entries.truncate(len);
     }
 
-    pub(crate) fn count(&self) -> usize
+    /// How many types there are.
+    pub fn count(&self) -> usize
         ensures count { result ≡ length self.now }
         ensures distinct { IsDistinct self.now }
     {
