@@ -1,0 +1,9 @@
+pub mod EntryLaws
+pub mod Inserted
+pub mod Cut
+pub mod Retyped
+pub mod NotedLaws
+pub mod Typings
+pub mod Remade
+pub mod Settled
+pub mod Shaped

@@ -1,0 +1,13 @@
+use Rattle.std.proofs.Common.{sym, subst, ap, ◌∙◌, Some}
+use Rattle.hol_term.specs.TableLaws.{tree_of_node-Stays}
+use Rattle.hol_term.proofs.Typings.{IfOk-map, made_entry}
+use Rattle.hol_term.proofs.TermTable.add.Goals as goal
+
+pub insert-requires-clause-measured : goal.insert-requires-clause-measured
+insert-requires-clause-measured c = made_entry _ _ c.args.node _ _ c.type_of_node.ensures.keeps c.requires c.measures-measures.ensures c.in_ok-ty.ensures.typed
+
+pub returns-clause-made : goal.returns-clause-made
+returns-clause-made c =
+    IfOk-map c.insert.result
+    (λ id h. h ∙ ap Some (sym (tree_of_node-Stays _ _ c.type_of_node.ensures.keeps.types.stays c.type_of_node.ensures.keeps.stays c.args.node c.requires)))
+    c.insert.ensures.made

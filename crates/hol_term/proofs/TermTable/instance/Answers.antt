@@ -1,0 +1,7 @@
+use Rattle.std.proofs.Common.{ap, ◌∙◌, Some}
+use Rattle.hol_spec.specs.TermRenamings.{put_all_at-one}
+use Rattle.hol_term.specs.Tables.{term_at}
+use Rattle.hol_term.proofs.TermTable.instance.Goals as goal
+
+pub returns-clause-made : goal.returns-clause-made
+returns-clause-made c = c.in_ok-made.ensures.made ∙ ap Some (put_all_at-one 0 (term_at c.args.self.now c.args.arg.0) (term_at c.args.self.now c.args.body.0))

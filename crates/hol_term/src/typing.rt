@@ -1,0 +1,162 @@
+//! How a tree is made with its measures and its type.
+ghost use Rattle.std.specs.Prelude.{◌≡◌, ◌<◌, ◌+◌, ◌-◌, ◌^◌, min, Option, length, IfOk, OnOk};
+ghost use Rattle.std.specs.Option.{option_map};
+ghost use Rattle.hol_spec.specs.Types.{HolType};
+ghost use Rattle.hol_spec.specs.Primitives.{function as function_type};
+ghost use Rattle.hol_spec.specs.Terms.{type_of, lam, application_type};
+ghost use Rattle.hol_spec.specs.Limits.{type_size, type_depth};
+ghost use Rattle.hol_type.specs.Tables as type;
+ghost use Rattle.hol_term.specs.Tables.{term_at, type_at, Holds, Keeps, IsDistinct, IsTypeNumber};
+ghost use Rattle.hol_term.specs.Nodes.{tree_of_node, PartsBelow, AreMeasures};
+ghost use Rattle.hol_term.specs.Typing.{type_in};
+
+use crate::binders::Binders;
+use crate::node::{Entry, Measures, Node};
+use crate::{Parts, TermId, TermTable};
+use bridge_base::Memory;
+use hol_type::TypeId;
+
+impl TermTable {
+    // The tree of this node, which has a number already, or else gets the next one.
+    pub(crate) fn add(&mut self, node: Node) -> Result<TermId, Memory>
+        requires { PartsBelow (length self.old.terms) (length self.old.types) node }
+        ensures known { IfOk result (λ id. id.0 < length self.new.terms) }
+        ensures made { IfOk result (λ id. Holds self.new id.0 (tree_of_node self.old node)) }
+        ensures keeps { Keeps self.old self.new }
+    {
+        let measures = self.measures(&node);
+        let ty = self.type_of_node(&node)?;
+        self.insert(Entry { node, measures, ty })
+    }
+
+    // The measures of this node.
+    fn measures(&self, node: &Node) -> Measures
+        requires { PartsBelow (length self.now.terms) (length self.now.types) node.now }
+        ensures { AreMeasures result (tree_of_node self.now node.now) }
+    {
+        match node {
+            Node::Free(_, ty) | Node::Const(_, ty) => self.leaf_measures(*ty),
+            Node::Bound(n) => Measures::leaf(0, 0, n + 1),
+            Node::App(f, x) => self.measures_of(*f).joined(self.measures_of(*x)),
+            Node::Lam(ty, body) => {
+                let body = self.measures_of(*body).under_binder();
+                self.type_measures(*ty).joined(body)
+            }
+        }
+    }
+
+    // The type of this node, if it is a term.
+    fn type_of_node(&mut self, node: &Node) -> Result<Option<TypeId>, Memory>
+        requires { PartsBelow (length self.old.terms) (length self.old.types) node.now }
+        ensures typed { IfOk result (λ ty. IsTypeNumber self.new.types ty (type_of (tree_of_node self.old node.now))) }
+        ensures terms { self.new.terms ≡ self.old.terms }
+        ensures keeps { Keeps self.old self.new }
+    {
+        match node {
+            Node::Free(_, ty) | Node::Const(_, ty) => Ok(Some(*ty)),
+            Node::Bound(_) => Ok(None),
+            Node::App(f, x) => Ok(self.applied(self.ty(*f), self.ty(*x))),
+            Node::Lam(ty, body) => self.abstraction_type(*ty, *body),
+        }
+    }
+
+    // The type of an application, from those of its parts.
+    pub(crate) fn applied(&self, function: Option<TypeId>, argument: Option<TypeId>) -> Option<TypeId>
+        requires { (o : Option HolType) × IsTypeNumber self.now.types function o }
+        ensures { (o p : Option HolType) → IsTypeNumber self.now.types function o → IsTypeNumber self.now.types argument p → IsTypeNumber self.now.types result (application_type o p) }
+    {
+        let (Some(function), Some(argument)) = (function, argument) else {
+            return None;
+        };
+        match self.types.function_parts(function) {
+            Some((domain, codomain)) if domain == argument => Some(codomain),
+            _ => None,
+        }
+    }
+
+    // The type of an abstraction, from those of its variable and of its body.
+    fn abstracted(&mut self, ty: TypeId, body: Option<TypeId>) -> Result<Option<TypeId>, Memory>
+        requires ty { ty.0 < length self.old.types }
+        requires body { (o : Option HolType) × IsTypeNumber self.old.types body o }
+        ensures typed { IfOk result (λ r. (o : Option HolType) → IsTypeNumber self.old.types body o → IsTypeNumber self.new.types r (option_map (function_type (type_at self.old ty.0)) o)) }
+        ensures terms { self.new.terms ≡ self.old.terms }
+        ensures keeps { Keeps self.old self.new }
+    {
+        match body {
+            Some(body) => Ok(Some(self.function_type(ty, body)?)),
+            None => Ok(None),
+        }
+    }
+
+    // The type of an abstraction, if it is a term.
+    fn abstraction_type(&mut self, ty: TypeId, body: TermId) -> Result<Option<TypeId>, Memory>
+        requires ty { ty.0 < length self.old.types }
+        requires body { body.0 < length self.old.terms }
+        ensures typed { IfOk result (λ r. IsTypeNumber self.new.types r (type_of (lam (type_at self.old ty.0) (term_at self.old body.0)))) }
+        ensures terms { self.new.terms ≡ self.old.terms }
+        ensures keeps { Keeps self.old self.new }
+    {
+        if self.measures_of(body).loose > 1 {
+            return Ok(None);
+        }
+        let mut binders = Binders::new(self.alloc);
+        binders.enter(ty)?;
+        let codomain = self.inferred(&mut binders, body)?;
+        let made = self.abstracted(ty, codomain)?;
+        Ok(made)
+    }
+
+    // The type of a tree under binders, if it has one. A part without loose numbers has the type that it is kept with.
+    fn inferred(&mut self, binders: &mut Binders, id: TermId) -> Result<Option<TypeId>, Memory>
+        requires id { id.0 < length self.old.terms }
+        requires binders { type.AreKnown self.old.types binders.old }
+        ensures typed { IfOk result (λ ty. IsTypeNumber self.new.types ty (type_in self.old binders.old id.0)) }
+        ensures binders { OnOk result (binders.new ≡ binders.old) }
+        ensures terms { self.new.terms ≡ self.old.terms }
+        ensures keeps { Keeps self.old self.new }
+    {
+        if self.measures_of(id).loose == 0 {
+            return Ok(self.ty(id));
+        }
+        match self.parts(id) {
+            Parts::Leaf => Ok(self.ty(id)),
+            Parts::Bound(n) => Ok(binders.at(n)),
+            Parts::App(f, x) => {
+                let function = self.inferred(binders, f)?;
+                let argument = self.inferred(binders, x)?;
+                Ok(self.applied(function, argument))
+            }
+            Parts::Lam(ty, body) => {
+                binders.enter(ty)?;
+                let codomain = self.inferred(binders, body)?;
+                binders.leave();
+                let made = self.abstracted(ty, codomain)?;
+                Ok(made)
+            }
+        }
+    }
+
+    // The measures of a free variable or a constant of this type.
+    fn leaf_measures(&self, ty: TypeId) -> Measures
+        requires { ty.0 < length self.now.types }
+        ensures size { result.size ≡ min (1 + type_size (type_at self.now ty.0)) (2 ^ 64 - 1) }
+        ensures depth { result.depth ≡ min (1 + type_depth (type_at self.now ty.0)) (2 ^ 64 - 1) }
+        ensures loose { result.loose ≡ 0 }
+    {
+        Measures::leaf(self.types.size(ty), self.types.depth(ty), 0)
+    }
+
+    // The measures of a type, as of a tree.
+    fn type_measures(&self, ty: TypeId) -> Measures
+        requires { ty.0 < length self.now.types }
+        ensures size { result.size ≡ min (type_size (type_at self.now ty.0)) (2 ^ 64 - 1) }
+        ensures depth { result.depth ≡ min (type_depth (type_at self.now ty.0)) (2 ^ 64 - 1) }
+        ensures loose { result.loose ≡ 0 }
+    {
+        Measures {
+            size: self.types.size(ty),
+            depth: self.types.depth(ty),
+            loose: 0,
+        }
+    }
+}
