@@ -1,0 +1,5 @@
+pub mod Positions
+pub mod Added
+pub mod Named
+pub mod Pushed
+pub mod SignatureNodes

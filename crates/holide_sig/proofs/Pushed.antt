@@ -1,0 +1,99 @@
+-- What a declaration more does to the words for modules.
+use Rattle.std.proofs.Common.{◌≡◌, ℕ, ◌+◌, ◌≤◌, Bool, true, false, refl, sym, ap, subst, ◌∙◌, arith, List, [], ◌∷◌, ◌++◌, length, map, position, Some, None, append_assoc, zero, suc}
+use Rattle.std.proofs.lemmas.List.{append-nil}
+use Rattle.std.specs.Prelude.{◌||◌, ◌-◌, option_map, slice_get, Result, Ok, Err, OnOk, OnErr}
+use Rattle.std.specs.List.{list_any}
+use Rattle.std.specs.Str.{bytes_eq}
+use Rattle.std.proofs.lemmas.List.Folds.{list_any-append}
+use Rattle.lp_spec.specs.Trees.{Tree}
+use Rattle.lp_spec.specs.Modules.{Declaration, signature}
+use Rattle.lp_spec.specs.ModuleOrder.{MayFollow, AreDeclared, IsModule, is_declared}
+use Rattle.lp_term.specs.TableLaws.{some_is}
+use Rattle.holide_sig.specs.declared.decls.Decl.{Decl}
+use Rattle.holide_sig.specs.declared.module.Module.{Module}
+use Rattle.holide_sig.specs.Modules.{declaration_in, declarations_of, IsKnown, IsHeld, AreDeclsKnown}
+use Rattle.holide_sig.proofs.Positions.{position-first, first-append-Some, first-append-None, first-map}
+
+-- one more known declaration
+pub AreDeclsKnown-push : (ts : List Tree) (ds : List Decl) (d : Decl) → AreDeclsKnown ts ds → IsKnown ts d → AreDeclsKnown ts (ds ++ d ∷ [])
+AreDeclsKnown-push ts [] d h k = (k, tt)
+AreDeclsKnown-push ts (x ∷ xs) d h k = (h.0, AreDeclsKnown-push ts xs d h.1 k)
+
+-- one more declaration that may follow the others
+pub AreDeclared-push : (before ds : List Declaration) (d : Declaration) → AreDeclared before ds → MayFollow (before ++ ds) d → AreDeclared before (ds ++ d ∷ [])
+AreDeclared-push before [] d h k = (subst (λ l. MayFollow l d) (append-nil before) k, tt)
+AreDeclared-push before (x ∷ xs) d h k = (h.0, AreDeclared-push (before ++ x ∷ []) xs d h.1 (subst (λ l. MayFollow l d) (sym (append_assoc before (x ∷ []) xs)) k))
+
+pub declarations-push : (ts : List Tree) (ds : List Decl) (d : Decl) → map (declaration_in ts) (ds ++ d ∷ []) ≡ map (declaration_in ts) ds ++ declaration_in ts d ∷ []
+declarations-push ts [] d = refl
+declarations-push ts (x ∷ xs) d = ap (λ l. declaration_in ts x ∷ l) (declarations-push ts xs d)
+
+second : (a b : Bool) → (a || b) ≡ false → b ≡ false
+second true b h = absurd (cc)
+second false b h = h
+
+list_any-declared : (ts : List Tree) (name : List ℕ) (ds : List Decl) → is_declared (map (declaration_in ts) ds) name ≡ list_any (λ d. bytes_eq d.name name) ds
+list_any-declared ts name [] = refl
+list_any-declared ts name (d ∷ ds) = ap (λ b. bytes_eq d.name name || b) (list_any-declared ts name ds)
+
+-- a name that is new to a module is new to its declarations
+pub new_among : (before : List Declaration) (ts : List Tree) (name : List ℕ) (ds : List Decl) → is_declared (before ++ map (declaration_in ts) ds) name ≡ false
+    → list_any (λ d. bytes_eq d.name name) ds ≡ false
+new_among before ts name ds h =
+    sym (list_any-declared ts name ds)
+    ∙ second (is_declared before name) (is_declared (map (declaration_in ts) ds) name) (sym (list_any-append (λ d. bytes_eq d.name name) before (map (declaration_in ts) ds)) ∙ h)
+
+-- the symbol of a name in a first part
+module _ (ts : List Tree) (name : List ℕ) (ds : List Decl) where
+  pub found_first : (before : List Declaration) (s : ℕ) → Some s ≡ position (λ d. bytes_eq d.name name) before → Some s ≡ position (λ d. bytes_eq d.name name) (before ++ map (declaration_in ts) ds)
+  found_first before s e =
+      sym (position-first (λ d. bytes_eq d.name name) (before ++ map (declaration_in ts) ds)
+      ∙ first-append-Some (λ d. bytes_eq d.name name) before (map (declaration_in ts) ds) s (sym (position-first (λ d. bytes_eq d.name name) before) ∙ sym e))
+
+  -- and behind it
+  pub found_later : (before : List Declaration) → None ≡ position (λ d. bytes_eq d.name name) before
+      → position (λ d. bytes_eq d.name name) (before ++ map (declaration_in ts) ds) ≡ option_map (λ n. length before + n) (position (λ d. bytes_eq d.name name) ds)
+  found_later before e =
+      position-first (λ d. bytes_eq d.name name) (before ++ map (declaration_in ts) ds)
+      ∙ first-append-None (λ d. bytes_eq d.name name) before (map (declaration_in ts) ds) (sym (position-first (λ d. bytes_eq d.name name) before) ∙ sym e)
+      ∙ ap (option_map (λ n. length before + n)) (first-map (λ d. bytes_eq d.name name) (declaration_in ts) ds ∙ sym (position-first (λ d. bytes_eq d.name name) ds))
+
+pub known_at : (ts : List Tree) (ds : List Decl) (i : ℕ) (d : Decl) → AreDeclsKnown ts ds → slice_get ds i ≡ Some d → IsKnown ts d
+known_at ts [] i d h e = absurd (cc)
+known_at ts (x ∷ xs) zero d h e = subst (IsKnown ts) (some_is e) h.0
+known_at ts (x ∷ xs) (suc i) d h e = known_at ts xs i d h.1 e
+
+pub slice_get-map : {X Y : Type 0} (f : X → Y) (xs : List X) (i : ℕ) (x : X) → slice_get xs i ≡ Some x → slice_get (map f xs) i ≡ Some (f x)
+slice_get-map f [] i x e = absurd (cc)
+slice_get-map f (y ∷ ys) zero x e = ap Some (ap f (some_is e))
+slice_get-map f (y ∷ ys) (suc i) x e = slice_get-map f ys i x e
+
+pub slice_get-behind : {X : Type 0} (xs ys : List X) (i j : ℕ) → length xs + j ≡ i → slice_get (xs ++ ys) i ≡ slice_get ys j
+slice_get-behind [] ys i j e = ap (slice_get ys) (let h : i ≡ j = omega arith in h)
+slice_get-behind (x ∷ xs) ys zero j e = absurd (omega arith)
+slice_get-behind (x ∷ xs) ys (suc i) j e = slice_get-behind xs ys i j (omega arith)
+
+-- the declaration at a place behind a first part
+pub declared_at : (before : List Declaration) (ts : List Tree) (ds : List Decl) (s : ℕ) (d : Decl) → length before ≤ s → slice_get ds (s - length before) ≡ Some d
+    → slice_get (before ++ map (declaration_in ts) ds) s ≡ Some (declaration_in ts d)
+declared_at before ts ds s d h e =
+    slice_get-behind before (map (declaration_in ts) ds) s (s - length before) (omega arith) ∙ slice_get-map (declaration_in ts) ds (s - length before) d e
+
+-- after a push that may have failed
+module _ (m : Module) (decls : List Decl) (d : Decl) {E : Type 0} (result : Result (Unit {0}) E) where
+  pub push_held : IsHeld m → IsKnown m.table d → OnOk result (decls ≡ m.decls ++ d ∷ []) → OnErr result (decls ≡ m.decls) → IsHeld (record { table = m.table; decls = decls })
+  push_held held known ok err = record { types = held.types; decls = by result ok err; distinct = held.distinct }
+    where
+      by : (r : Result (Unit {0}) E) → OnOk r (decls ≡ m.decls ++ d ∷ []) → OnErr r (decls ≡ m.decls) → AreDeclsKnown m.table decls
+      by (Ok u) e _ = subst (AreDeclsKnown m.table) (sym e) (AreDeclsKnown-push m.table m.decls d held.decls known)
+      by (Err x) _ e = subst (AreDeclsKnown m.table) (sym e) held.decls
+
+  pub push_module : MayFollow (signature ++ declarations_of m) (declaration_in m.table d) → OnOk result (decls ≡ m.decls ++ d ∷ []) → OnErr result (decls ≡ m.decls)
+      → IsModule (declarations_of m) → IsModule (map (declaration_in m.table) decls)
+  push_module follows ok err is_module = by result ok err
+    where
+      by : (r : Result (Unit {0}) E) → OnOk r (decls ≡ m.decls ++ d ∷ []) → OnErr r (decls ≡ m.decls) → IsModule (map (declaration_in m.table) decls)
+      by (Ok u) e _ =
+          subst IsModule (sym (ap (map (declaration_in m.table)) e ∙ declarations-push m.table m.decls d))
+          (AreDeclared-push signature (declarations_of m) (declaration_in m.table d) is_module follows)
+      by (Err x) _ e = subst (λ ds. IsModule (map (declaration_in m.table) ds)) (sym e) is_module

@@ -1,0 +1,4 @@
+pub mod Modules
+pub mod ModuleLaws
+pub mod Names
+pub mod Nodes

@@ -1,0 +1,25 @@
+//! Modules of the lambda-Pi calculus as values: a table of trees and the declarations over it.
+//!
+//! Every module begins with the signature of higher-order logic, whose text is `PRELUDE`. Its symbols are numbered
+//! from 0, the declarations after them, and the trees of its types stand at the same numbers in every module's table. `push` takes a declaration
+//! whose name is new and whose trees are closed over earlier names, so a module stays one; `find` gives the symbol of a name.
+//!
+//! ```
+//! let mut module = Module::new(alloc)?;
+//! let ty = module.table.node(LpNode::Sym(0))?;
+//! module.push(Decl { name: Ident::new(name), form: Form::Symbol, ty, body: None })?;
+//! ```
+#![tactic(auto)]
+
+mod decls;
+mod ident;
+mod module;
+mod signature;
+#[cfg(test)]
+mod tests;
+
+pub use decls::{Decl, Decls};
+pub use ident::Ident;
+pub use lp_spec::Form;
+pub use module::Module;
+pub use signature::{PRELUDE, SIGNATURE};
