@@ -58,11 +58,6 @@ module _ (ts : List Tree) (name : List ℕ) (ds : List Decl) where
       ∙ first-append-None (λ d. bytes_eq d.name name) before (map (declaration_in ts) ds) (sym (position-first (λ d. bytes_eq d.name name) before) ∙ sym e)
       ∙ ap (option_map (λ n. length before + n)) (first-map (λ d. bytes_eq d.name name) (declaration_in ts) ds ∙ sym (position-first (λ d. bytes_eq d.name name) ds))
 
-pub known_at : (ts : List Tree) (ds : List Decl) (i : ℕ) (d : Decl) → AreDeclsKnown ts ds → slice_get ds i ≡ Some d → IsKnown ts d
-known_at ts [] i d h e = absurd (cc)
-known_at ts (x ∷ xs) zero d h e = subst (IsKnown ts) (some_is e) h.0
-known_at ts (x ∷ xs) (suc i) d h e = known_at ts xs i d h.1 e
-
 pub slice_get-map : {X Y : Type 0} (f : X → Y) (xs : List X) (i : ℕ) (x : X) → slice_get xs i ≡ Some x → slice_get (map f xs) i ≡ Some (f x)
 slice_get-map f [] i x e = absurd (cc)
 slice_get-map f (y ∷ ys) zero x e = ap Some (ap f (some_is e))

@@ -25,6 +25,7 @@ pub struct Module {
 impl Module {
     /// The module of no declaration. Its table holds the types of the signature's symbols.
     pub fn new(alloc: Global) -> Result<Module, Memory>
+        ensures none { IfOk result (λ m. m.decls ≡ []) }
         ensures empty { IfOk result (λ m. declarations_of m ≡ []) }
         ensures held { IfOk result IsHeld }
         ensures is_module { IfOk result (λ m. IsModule (declarations_of m)) }

@@ -1,7 +1,8 @@
 use Rattle.std.proofs.Common.{ap}
 use Rattle.std.specs.Prelude.{option_map}
 use Rattle.lp_spec.specs.Modules.{signature}
-use Rattle.holide_sig.proofs.Pushed.{declared_at, known_at}
+use Rattle.holide_sig.proofs.Pushed.{declared_at}
+use Rattle.holide_sig.specs.ModuleLaws.{AreDeclsKnown-slice_get}
 use Rattle.holide_sig.proofs.module.Module.symbol_type.Goals as goal
 
 pub returns-else-symbol-lt-SIGNATURE-clause-is : goal.returns-else-symbol-lt-SIGNATURE-clause-is
@@ -10,4 +11,4 @@ returns-else-symbol-lt-SIGNATURE-clause-is c =
     (declared_at signature c.args.self.now.table c.args.self.now.decls c.args.symbol c.get.result.now c.if-symbol-lt-SIGNATURE.false c.get.ensures)
 
 pub returns-else-symbol-lt-SIGNATURE-clause-known : goal.returns-else-symbol-lt-SIGNATURE-clause-known
-returns-else-symbol-lt-SIGNATURE-clause-known c = (known_at c.args.self.now.table c.args.self.now.decls _ _ c.requires.held.decls c.get.ensures).ty
+returns-else-symbol-lt-SIGNATURE-clause-known c = (AreDeclsKnown-slice_get c.args.self.now.table c.args.self.now.decls _ _ c.requires.held.decls c.get.ensures).ty

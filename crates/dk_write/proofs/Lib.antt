@@ -1,0 +1,4 @@
+pub mod GainedLaws
+pub mod FrameTexts
+pub mod DeclarationTexts
+pub mod Defined

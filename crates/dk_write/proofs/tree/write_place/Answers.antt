@@ -1,0 +1,29 @@
+use Rattle.std.proofs.Common.{ap, ◌∙◌, ◌++◌, not, ◌≡◌, ℕ, ◌-◌, ◌+◌, suc, arith}
+use Rattle.dk_write.specs.Paths.{frame_text, frames_text}
+use Rattle.dk_write.proofs.FrameTexts.{on_err_front, variable_parts, symbol_parts, application_parts, abstraction_parts, product_parts}
+use Rattle.dk_write.proofs.tree.write_place.Goals as goal
+
+next : (n : ℕ) → n + 1 ≡ suc n
+next n = omega arith
+
+pub returns-in_err-write_words-in-Var-clause-err : goal.returns-in_err-write_words-in-Var-clause-err
+returns-in_err-write_words-in-Var-clause-err g c =
+    on_err_front _ _ _ _ _ _
+    (variable_parts c.args.source.now c.args.path.now c.args.place c.in-Var.number c.saturating_sub-binder.result _ c.in-Var.ensures.is
+    (c.as_bytes.ensures.value ∙ c.format.ensures.text)
+    (c.saturating_sub-binder.ensures ∙ ap (λ n. n - 1) (c.saturating_sub.ensures ∙ ap (λ n. n - c.in-Var.number) c.from.ensures)))
+    c.in_err-write_words-in-Var.ensures.err
+
+pub returns-in_err-write_binder-in-Lam-clause-err : goal.returns-in_err-write_binder-in-Lam-clause-err
+returns-in_err-write_binder-in-Lam-clause-err g c =
+    on_err_front _ _ _ _ _ _
+    (abstraction_parts c.args.source.now c.args.path.now c.args.place c.in-Lam.domain c.in-Lam.body (c.args.place.depth + 1) c.is_binder-closes-in-Lam.result
+    c.in-Lam.ensures.is c.is_binder-closes-in-Lam.ensures (next c.args.place.depth))
+    c.in_err-write_binder-in-Lam.ensures.err
+
+pub returns-in_err-write_binder-in-Pi-clause-err : goal.returns-in_err-write_binder-in-Pi-clause-err
+returns-in_err-write_binder-in-Pi-clause-err g c =
+    on_err_front _ _ _ _ _ _
+    (product_parts c.args.source.now c.args.path.now c.args.place c.in-Pi.domain c.in-Pi.body (c.args.place.depth + 1) c.is_binder-closes-in-Pi.result
+    c.in-Pi.ensures.is c.is_binder-closes-in-Pi.ensures (next c.args.place.depth))
+    c.in_err-write_binder-in-Pi.ensures.err

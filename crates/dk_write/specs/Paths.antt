@@ -1,0 +1,74 @@
+-- What is left of a tree that is being written.
+use Rattle.std.specs.Prelude.{ℕ, suc, ◌+◌, ◌*◌, ◌<◌, ◌≤◌, Bool, not, if◌then◌else◌, List, [], ◌∷◌, ◌++◌, length, codes}
+use Rattle.lp_spec.specs.Trees.{Tree, size, depth}
+use Rattle.lp_spec.specs.Modules.{Declaration}
+use Rattle.lp_spec.specs.Text.{enclosed, is_word, tree_text}
+use Rattle.lp_term.specs.Tables.{tree_at}
+use Rattle.holide_sig.specs.declared.module.Module.{Module}
+use Rattle.holide_sig.specs.Modules.{declarations_of}
+use Rattle.dk_write.specs.declared.path.Place.{Place}
+use Rattle.dk_write.specs.declared.path.Frame.{Frame}
+use Rattle.dk_write.specs.declared.path.Frame.TheVariants.{Close, Argument, Abstracted, Produced}
+use Rattle.dk_write.specs.declared.tree.Turn.{Turn}
+use Rattle.dk_write.specs.declared.tree.Turn.TheVariants.{Write, Leave}
+
+-- the tree is of the table, and what is open over it leaves room for its own path
+pub record IsPlace (trees : List Tree) (open_frames : ℕ) (p : Place) : Type 0 where
+  pub known : p.id.0 < length trees
+  pub room : open_frames + depth (tree_at trees p.id.0) ≤ 16384
+  pub binders : p.depth + depth (tree_at trees p.id.0) ≤ 16384
+
+abbrev pub IsFrame : List Tree → ℕ → Frame → Type 0
+IsFrame trees open_frames Close = Unit {0}
+IsFrame trees open_frames (Argument p closes) = IsPlace trees (suc open_frames) p
+IsFrame trees open_frames (Abstracted p closes) = IsPlace trees (suc open_frames) p
+IsFrame trees open_frames (Produced p closes) = IsPlace trees (suc open_frames) p
+
+abbrev pub AreFrames : List Tree → List Frame → Type 0
+AreFrames trees [] = Unit {0}
+AreFrames trees (frame ∷ frames) = IsFrame trees (length frames) frame × AreFrames trees frames
+
+abbrev pub IsTurn : List Tree → List Frame → Turn → Type 0
+IsTurn trees frames (Write p) = IsPlace trees (length frames) p
+IsTurn trees frames Leave = Unit {0}
+
+abbrev pub place_text : Module → Place → List ℕ
+place_text m p = tree_text (declarations_of m) p.depth (tree_at m.table p.id.0)
+
+abbrev pub closing_text : Bool → List ℕ
+closing_text closes = if closes then codes ")" else []
+
+-- what a frame writes
+abbrev pub frame_text : Module → Frame → List ℕ
+frame_text m Close = codes ")"
+frame_text m (Argument p closes) = closing_text closes ++ (codes " " ++ enclosed (not (is_word (tree_at m.table p.id.0))) (place_text m p))
+frame_text m (Abstracted p closes) = closing_text closes ++ (codes " => " ++ place_text m p)
+frame_text m (Produced p closes) = closing_text closes ++ (codes " -> " ++ place_text m p)
+
+abbrev pub frames_text : Module → List Frame → List ℕ
+frames_text m [] = []
+frames_text m (frame ∷ frames) = frame_text m frame ++ frames_text m frames
+
+-- what is left to write
+abbrev pub left_text : Module → Turn → List Frame → List ℕ
+left_text m (Write p) frames = place_text m p ++ frames_text m frames
+left_text m Leave frames = frames_text m frames
+
+-- how many turns there are left, at most
+
+abbrev pub place_work : List Tree → Place → ℕ
+place_work trees p = 2 * size (tree_at trees p.id.0)
+
+abbrev pub frame_work : List Tree → Frame → ℕ
+frame_work trees Close = 1
+frame_work trees (Argument p closes) = 1 + place_work trees p
+frame_work trees (Abstracted p closes) = 1 + place_work trees p
+frame_work trees (Produced p closes) = 1 + place_work trees p
+
+abbrev pub frames_work : List Tree → List Frame → ℕ
+frames_work trees [] = 0
+frames_work trees (frame ∷ frames) = frame_work trees frame + frames_work trees frames
+
+abbrev pub work : List Tree → Turn → List Frame → ℕ
+work trees (Write p) frames = place_work trees p + frames_work trees frames
+work trees Leave frames = 1 + frames_work trees frames

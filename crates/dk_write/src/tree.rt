@@ -1,0 +1,212 @@
+//! Writing a tree, with a path in the place of a recursion.
+ghost use Rattle.std.specs.Prelude.{◌≡◌, ◌+◌, ◌-◌, ◌<◌, ◌≤◌, [], ◌∷◌, ◌++◌, suc, length, codes, IfOk, OnErr, if◌then◌else◌};
+ghost use Rattle.bridge_base.specs.Outside.{GainsFront, HasCause};
+ghost use Rattle.lp_spec.specs.Trees.{depth as depth_of};
+ghost use Rattle.lp_spec.specs.Text.{binder_name, is_binder as is_binder_tree, is_word as is_word_tree, tree_text};
+ghost use Rattle.lp_spec.specs.Modules.{symbol_name as name_of};
+ghost use Rattle.lp_term.specs.Tables.{tree_at};
+ghost use Rattle.holide_sig.specs.Modules.{declarations_of};
+ghost use Rattle.dk_write.specs.Paths.{IsPlace, IsTurn, AreFrames, IsFrame, left_text, frames_text, frame_text, work, frames_work, frame_work};
+ghost use Rattle.dk_write.specs.Writing.{Writes, Gained};
+
+use crate::path::{Frame, Path, Place};
+use crate::words::write_words;
+use bridge_base::{Failed, Sink};
+use holide_sig::{Module, SIGNATURE};
+use itoa::Buffer;
+use lp_term::{LpId, LpNode};
+
+/// What is done next.
+#[derive(Clone, Copy)]
+pub(crate) enum Turn {
+    /// The tree is written.
+    Write(Place),
+    /// It is written, and what follows it comes next.
+    Leave,
+}
+
+// Writes a tree that stands under no binder.
+pub(crate) fn write_tree<S: Sink>(
+    source: &Module,
+    id: LpId,
+    path: &mut Path,
+    sink: &mut S,
+) -> Result<(), Failed>
+    requires known { id.0 < length source.now.table }
+    requires shallow { depth_of (tree_at source.now.table id.0) ≤ 16384 }
+    ensures { Writes (S.got sink.old) (S.faults sink.old)
+        (tree_text (declarations_of source.now) 0 (tree_at source.now.table id.0)) (S.got sink.new) (S.faults sink.new) result }
+{
+    path.clear();
+    let mut turn = Turn::Write(Place { id, depth: 0 });
+    loop {
+        turn = match turn {
+            Turn::Write(place) => write_place(source, place, path, sink)?,
+            Turn::Leave => match path.pop() {
+                Some(frame) => write_frame(source, frame, path, sink)?,
+                None => return Ok(()),
+            },
+        };
+    }
+}
+
+// Writes the front of a tree, as far as its first part, or all of it where it has none.
+fn write_place<S: Sink>(
+    source: &Module,
+    place: Place,
+    path: &mut Path,
+    sink: &mut S,
+) -> Result<Turn, Failed>
+    requires place { IsPlace source.now.table (length path.old) place }
+    requires frames { AreFrames source.now.table path.old }
+    ensures turn { IfOk result (IsTurn source.now.table path.new) }
+    ensures frames { IfOk result (λ _. AreFrames source.now.table path.new) }
+    ensures less { IfOk result (λ turn. work source.now.table turn path.new < work source.now.table (Turn.Write place) path.old) }
+    ensures ok { IfOk result (λ turn. Gained (S.got sink.old) (left_text source.now (Turn.Write place) path.old) (left_text source.now turn path.new) (S.got sink.new)) }
+    ensures err { OnErr result (GainsFront (S.got sink.old) (left_text source.now (Turn.Write place) path.old) (S.got sink.new)) }
+    ensures cause { HasCause (S.faults sink.old) (S.faults sink.new) result }
+{
+    let depth = place.depth;
+    match source.table.view(place.id) {
+        LpNode::SortType => write_words(sink, &[b"Type"])?,
+        LpNode::SortKind => {}
+        LpNode::Sym(symbol) => write_words(sink, &[symbol_name(source, symbol)])?,
+        LpNode::Var(number) => {
+            let mut buffer = Buffer::new();
+            let binder = u128::from(depth).saturating_sub(number).saturating_sub(1);
+            write_words(sink, &[b"v", buffer.format(binder).as_bytes()])?
+        }
+        LpNode::App(function, argument) => {
+            let closes = is_binder(source, function);
+            path.push(Frame::Argument(
+                Place {
+                    id: argument,
+                    depth,
+                },
+                closes,
+            ));
+            write_words(sink, &[opening(closes)])?;
+            return Ok(Turn::Write(Place {
+                id: function,
+                depth,
+            }));
+        }
+        LpNode::Lam(domain, body) => {
+            let closes = is_binder(source, domain);
+            path.push(Frame::Abstracted(
+                Place {
+                    id: body,
+                    depth: depth + 1,
+                },
+                closes,
+            ));
+            write_binder(sink, depth, closes)?;
+            return Ok(Turn::Write(Place { id: domain, depth }));
+        }
+        LpNode::Pi(domain, body) => {
+            let closes = is_binder(source, domain);
+            path.push(Frame::Produced(
+                Place {
+                    id: body,
+                    depth: depth + 1,
+                },
+                closes,
+            ));
+            write_binder(sink, depth, closes)?;
+            return Ok(Turn::Write(Place { id: domain, depth }));
+        }
+    }
+    Ok(Turn::Leave)
+}
+
+// Writes the name of a binder and what stands before its domain.
+fn write_binder<S: Sink>(sink: &mut S, depth: u64, opens: bool) -> Result<(), Failed>
+    ensures { Writes (S.got sink.old) (S.faults sink.old) (binder_name depth ++ (codes " : " ++ (if opens then codes "(" else []))) (S.got sink.new) (S.faults sink.new) result }
+{
+    let mut buffer = Buffer::new();
+    let number = buffer.format(depth).as_bytes();
+    write_words(sink, &[b"v", number, b" : ", opening(opens)])
+}
+
+// Writes what stands between a part of a tree and the next.
+fn write_frame<S: Sink>(
+    source: &Module,
+    frame: Frame,
+    path: &mut Path,
+    sink: &mut S,
+) -> Result<Turn, Failed>
+    requires frame { IsFrame source.now.table (length path.old) frame }
+    requires frames { AreFrames source.now.table path.old }
+    requires room { length path.old < 16384 }
+    ensures turn { IfOk result (IsTurn source.now.table path.new) }
+    ensures frames { IfOk result (λ _. AreFrames source.now.table path.new) }
+    ensures less { IfOk result (λ turn. work source.now.table turn path.new < work source.now.table Turn.Leave (frame ∷ path.old)) }
+    ensures ok { IfOk result (λ turn. Gained (S.got sink.old) (left_text source.now Turn.Leave (frame ∷ path.old)) (left_text source.now turn path.new) (S.got sink.new)) }
+    ensures err { OnErr result (GainsFront (S.got sink.old) (left_text source.now Turn.Leave (frame ∷ path.old)) (S.got sink.new)) }
+    ensures cause { HasCause (S.faults sink.old) (S.faults sink.new) result }
+{
+    match frame {
+        Frame::Close => {
+            write_words(sink, &[b")"])?;
+            Ok(Turn::Leave)
+        }
+        Frame::Argument(place, closes) => {
+            let opens = !is_word(source, place.id);
+            write_words(sink, &[closing(closes), b" ", opening(opens)])?;
+            if opens {
+                path.push(Frame::Close);
+            }
+            Ok(Turn::Write(place))
+        }
+        Frame::Abstracted(place, closes) => {
+            write_words(sink, &[closing(closes), b" => "])?;
+            Ok(Turn::Write(place))
+        }
+        Frame::Produced(place, closes) => {
+            write_words(sink, &[closing(closes), b" -> "])?;
+            Ok(Turn::Write(place))
+        }
+    }
+}
+
+// The name of a symbol; no symbol but those that are declared has one.
+fn symbol_name(source: &Module, symbol: usize) -> &[u8]
+    ensures { result.now ≡ name_of (declarations_of source.now) symbol }
+{
+    if symbol < SIGNATURE || symbol - SIGNATURE < source.decls.len() {
+        source.symbol_name(symbol)
+    } else {
+        b""
+    }
+}
+
+// Whether a tree is an abstraction or a product.
+fn is_binder(source: &Module, id: LpId) -> bool
+    requires { id.0 < length source.now.table }
+    ensures { result ≡ is_binder_tree (tree_at source.now.table id.0) }
+{
+    matches!(source.table.view(id), LpNode::Lam(_, _) | LpNode::Pi(_, _))
+}
+
+// Whether a tree is written as a single word.
+fn is_word(source: &Module, id: LpId) -> bool
+    requires { id.0 < length source.now.table }
+    ensures { result ≡ is_word_tree (tree_at source.now.table id.0) }
+{
+    !matches!(
+        source.table.view(id),
+        LpNode::App(_, _) | LpNode::Lam(_, _) | LpNode::Pi(_, _)
+    )
+}
+
+fn opening(wanted: bool) -> &'static [u8]
+    ensures { result.now ≡ (if wanted then codes "(" else []) }
+{
+    if wanted { b"(" } else { b"" }
+}
+
+fn closing(wanted: bool) -> &'static [u8]
+    ensures { result.now ≡ (if wanted then codes ")" else []) }
+{
+    if wanted { b")" } else { b"" }
+}
