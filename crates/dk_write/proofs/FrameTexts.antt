@@ -1,9 +1,9 @@
 -- What a turn writes, and what it leaves.
-use Rattle.std.proofs.Common.{◌≡◌, ℕ, suc, ◌+◌, ◌-◌, Bool, true, false, not, refl, sym, ap, subst, ◌∙◌, arith, List, [], ◌∷◌, ◌++◌, Option, Result, Ok, Err, OnErr, OnOk, append_assoc, codes, decimal, if◌then◌else◌, length}
+use Rattle.std.proofs.Common.{◌≡◌, ℕ, suc, ◌-◌, Bool, true, false, not, refl, sym, ap, subst, ◌∙◌, arith, List, [], ◌∷◌, ◌++◌, Option, Result, Ok, Err, OnErr, append_assoc, codes, decimal, if◌then◌else◌}
 use Rattle.std.proofs.lemmas.List.{append-nil}
-use Rattle.bridge_base.specs.Outside.{Gains, GainsFront}
+use Rattle.bridge_base.specs.Outside.{GainsFront}
 use Rattle.bridge_base.specs.Gaining.{front_of_first}
-use Rattle.lp_spec.specs.Trees.{Tree, Var, Sym, App, Lam, Pi, SortType, SortKind}
+use Rattle.lp_spec.specs.Trees.{Tree, Var, Sym, App, Lam, Pi}
 use Rattle.lp_spec.specs.Modules.{symbol_name}
 use Rattle.lp_spec.specs.Text.{binder_name, enclosed, is_binder, is_word, tree_text}
 use Rattle.lp_term.specs.declared.LpId.{LpId}

@@ -1,5 +1,5 @@
 -- How parts of a text that are written compose.
-use Rattle.std.proofs.Common.{◌≡◌, ℕ, ◌≤◌, refl, sym, ap, subst, ◌∙◌, arith, List, [], ◌∷◌, ◌++◌, Option, Result, Ok, Err, append_assoc}
+use Rattle.std.proofs.Common.{◌≡◌, ℕ, ◌≤◌, refl, sym, ap, subst, ◌∙◌, arith, List, [], ◌++◌, Option, Result, Ok, Err, append_assoc}
 use Rattle.std.proofs.lemmas.List.{append-nil}
 use Rattle.bridge_base.specs.Outside.{Gains, GainsFront, HasCause}
 use Rattle.bridge_base.specs.Gaining.{gains_none, gains_both, front_of_first, front_of_second, cause_after, rose_after}

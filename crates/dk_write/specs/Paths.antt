@@ -1,7 +1,6 @@
 -- What is left of a tree that is being written.
 use Rattle.std.specs.Prelude.{ℕ, suc, ◌+◌, ◌*◌, ◌<◌, ◌≤◌, Bool, not, if◌then◌else◌, List, [], ◌∷◌, ◌++◌, length, codes}
 use Rattle.lp_spec.specs.Trees.{Tree, size, depth}
-use Rattle.lp_spec.specs.Modules.{Declaration}
 use Rattle.lp_spec.specs.Text.{enclosed, is_word, tree_text}
 use Rattle.lp_term.specs.Tables.{tree_at}
 use Rattle.holide_sig.specs.declared.module.Module.{Module}

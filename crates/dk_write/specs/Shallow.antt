@@ -1,5 +1,5 @@
 -- Declarations whose trees have paths of bounded length.
-use Rattle.std.specs.Prelude.{ℕ, ◌≤◌, List, [], ◌∷◌, Option, None, Some}
+use Rattle.std.specs.Prelude.{◌≤◌, List, [], ◌∷◌, Option, None, Some}
 use Rattle.lp_spec.specs.Trees.{Tree, depth}
 use Rattle.lp_term.specs.declared.LpId.{LpId}
 use Rattle.lp_term.specs.Tables.{tree_at}

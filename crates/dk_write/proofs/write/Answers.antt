@@ -1,4 +1,4 @@
-use Rattle.std.proofs.Common.{◌≡◌, ◌<◌, ◌≤◌, ℕ, List, ◌++◌, ap, sym, subst, ◌∙◌, arith, refl}
+use Rattle.std.proofs.Common.{◌++◌, ap, sym, arith, refl}
 use Rattle.lp_spec.specs.Text.{declarations_text}
 use Rattle.holide_sig.specs.Modules.{declaration_in, declarations_of}
 use Rattle.holide_sig.specs.ModuleLaws.{AreDeclsKnown-slice_get, PRELUDE-prelude}

@@ -1,4 +1,3 @@
-use Rattle.std.proofs.Common.{◌≡◌, ℕ, List, ◌++◌, ap, sym, ◌∙◌, codes, []}
 use Rattle.holide_sig.specs.Modules.{declaration_in, declarations_of}
 use Rattle.dk_write.proofs.GainedLaws.{writes_same, writes_stop, writes_then}
 use Rattle.dk_write.proofs.DeclarationTexts.{declaration_parts}

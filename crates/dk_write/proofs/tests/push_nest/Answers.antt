@@ -1,12 +1,10 @@
-use Rattle.std.proofs.Common.{◌≡◌, ◌≤◌, ◌∙◌, ◌++◌, ◌∷◌, [], sym, subst, arith, Some, length-append}
+use Rattle.std.proofs.Common.{◌∙◌, ◌++◌, ◌∷◌, [], sym, subst, arith, Some, length-append}
 use Rattle.lp_spec.specs.declared.form.Form.TheVariants.{Def}
 use Rattle.lp_spec.specs.Modules.{signature}
 use Rattle.lp_spec.specs.ModuleOrder.{MayFollow}
-use Rattle.lp_term.specs.Tables.{tree_at}
 use Rattle.lp_term.specs.TableLaws.{Holds-tree_at, Keeps-trans}
 use Rattle.holide_sig.specs.Modules.{declaration_in, declarations_of}
 use Rattle.holide_sig.specs.ModuleLaws.{IsHeld-Keeps, declarations_of-Keeps}
-use Rattle.dk_write.specs.Shallow.{AreShallow}
 use Rattle.dk_write.proofs.Defined.{may_define, AreShallow-Keeps, pushed_shallow, shallow_type, shallow_by, on_ok}
 use Rattle.dk_write.proofs.tests.push_nest.Goals as goal
 

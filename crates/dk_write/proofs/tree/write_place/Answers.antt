@@ -1,6 +1,5 @@
-use Rattle.std.proofs.Common.{ap, ◌∙◌, ◌++◌, not, ◌≡◌, ℕ, ◌-◌, ◌+◌, suc, arith}
-use Rattle.dk_write.specs.Paths.{frame_text, frames_text}
-use Rattle.dk_write.proofs.FrameTexts.{on_err_front, variable_parts, symbol_parts, application_parts, abstraction_parts, product_parts}
+use Rattle.std.proofs.Common.{ap, ◌∙◌, ◌≡◌, ℕ, ◌-◌, ◌+◌, suc, arith}
+use Rattle.dk_write.proofs.FrameTexts.{on_err_front, variable_parts, abstraction_parts, product_parts}
 use Rattle.dk_write.proofs.tree.write_place.Goals as goal
 
 next : (n : ℕ) → n + 1 ≡ suc n

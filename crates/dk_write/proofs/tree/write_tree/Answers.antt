@@ -1,6 +1,4 @@
-use Rattle.std.proofs.Common.{◌≡◌, ◌∙◌, ap, sym, subst, arith}
-use Rattle.dk_write.specs.Paths.{left_text}
-use Rattle.dk_write.specs.Writing.{Gained}
+use Rattle.std.proofs.Common.{arith}
 use Rattle.dk_write.proofs.GainedLaws.{gained_both, writes_failed}
 use Rattle.dk_write.proofs.tree.write_tree.Goals as goal
 
