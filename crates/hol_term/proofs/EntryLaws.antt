@@ -1,5 +1,5 @@
 -- The terms of a list of entries.
-use Rattle.std.proofs.Common.{◌≡◌, ℕ, zero, suc, ◌+◌, ◌<◌, ◌≤◌, refl, sym, ap, ◌∙◌, subst, arith, List, [], ◌∷◌, ◌++◌, length, Some, length-append, ◌⊎◌, ⊎_elim, inl, inr, Bool, true, false}
+use Rattle.std.proofs.Common.{◌≡◌, ℕ, zero, suc, ◌+◌, refl, sym, ap, ◌∙◌, subst, arith, List, [], ◌∷◌, ◌++◌, length, Some, length-append, ◌⊎◌, ⊎_elim, inl, inr, Bool, true, false}
 use Rattle.std.specs.Prelude.{slice_get, nat_eq, ◌&&◌}
 use Rattle.std.proofs.lemmas.Option.{slice_get_within}
 use Rattle.std.proofs.lemmas.Bool.{eqb-true}
@@ -11,13 +11,12 @@ use Rattle.hol_type.specs.declared.table.TypeId.{TypeId}
 use Rattle.hol_type.specs.Tables as type
 use Rattle.hol_type.specs.TableLaws as type_law
 use Rattle.hol_type.specs.TableLaws.{some_is}
-use Rattle.hol_term.specs.declared.TermId.{TermId}
 use Rattle.hol_term.specs.declared.node.Node.{Node}
 use Rattle.hol_term.specs.declared.node.Node.TheVariants as node
 use Rattle.hol_term.specs.declared.node.Entry.{Entry}
 use Rattle.hol_term.specs.contracts.node.EntryPartialEq.TheImpl as entry_eq
 use Rattle.hol_term.specs.contracts.node.NodePartialEq.TheImpl as node_eq
-use Rattle.hol_term.specs.Tables.{Trees, term_in, IsDistinct, Stays}
+use Rattle.hol_term.specs.Tables.{Trees, IsDistinct, Stays}
 use Rattle.hol_term.specs.TableLaws.{Stays-refl, Stays-trans, Stays-append, tree_of_node-Stays, term_in-same}
 use Rattle.hol_term.specs.Nodes.{tree_of_node, PartsBelow, terms_from, terms_of}
 

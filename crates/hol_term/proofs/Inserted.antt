@@ -1,17 +1,16 @@
 -- A table into which an entry is put.
-use Rattle.std.proofs.Common.{◌≡◌, ℕ, zero, suc, ◌<◌, ◌≤◌, refl, sym, ap, ◌∙◌, subst, arith, List, [], ◌∷◌, ◌++◌, length, get_or, Some, ⊎_elim, inl, inr, ◌⊎◌, Bool, true, false, length-append}
+use Rattle.std.proofs.Common.{◌≡◌, ℕ, zero, suc, ◌<◌, refl, sym, ap, ◌∙◌, subst, arith, List, [], ◌∷◌, ◌++◌, length, get_or, Some, ⊎_elim, inl, inr, ◌⊎◌, Bool, true, false, length-append}
 use Rattle.std.specs.Prelude.{slice_get, if◌then◌else◌, ◌||◌}
 use Rattle.std.specs.List.{list_any}
 use Rattle.std.proofs.lemmas.Option.{slice_get_within, slice_get-get_or}
 use Rattle.indexmap.specs.IndexSet.{insert_key}
 use Rattle.hol_spec.specs.Types.{HolType}
 use Rattle.hol_spec.specs.Terms.{Term}
-use Rattle.hol_type.specs.Tables as type
 use Rattle.hol_type.specs.TableLaws as type_law
 use Rattle.hol_type.specs.TableLaws.{some_is}
 use Rattle.hol_term.specs.declared.node.Entry.{Entry}
 use Rattle.hol_term.specs.contracts.node.EntryPartialEq.TheImpl as entry_eq
-use Rattle.hol_term.specs.Tables.{Trees, Stays, Keeps}
+use Rattle.hol_term.specs.Tables.{Stays, Keeps}
 use Rattle.hol_term.specs.TableLaws.{Stays-refl, Stays-append, tree_of_node-Stays, PartsBelow-more}
 use Rattle.hol_term.specs.Nodes.{tree_of_node, PartsBelow, IsMeasured, terms_of, IsTable}
 use Rattle.hol_term.proofs.EntryLaws.{over, terms_from-append, length-terms_of, slice_get-one_more, terms_of-Some, entry_eq-true, entry_eq-same, tree_of_node-same}

@@ -2,7 +2,7 @@
 use Rattle.std.proofs.Common.{◌≡◌, ℕ, zero, suc, ◌+◌, ◌-◌, ◌*◌, ◌<◌, ◌≤◌, ◌^◌, refl, sym, ap, ◌∙◌, subst, arith, List, [], ◌∷◌, ◌++◌, map, length, reverse, Some, Bool, true, false, cond, ◌⊎◌, ⊎_elim}
 use Rattle.std.specs.Prelude.{slice_get}
 use Rattle.std.specs.Option.{option_map, option_map_or}
-use Rattle.std.proofs.lemmas.Option.{slice_get-map, slice_get_within}
+use Rattle.std.proofs.lemmas.Option.{slice_get-map}
 use Rattle.std.proofs.lemmas.List.{length-map, map-append, reverse-append}
 use Rattle.hol_spec.specs.Terms.{Term, free, bound, constant, app, lam, Variable, variable_eq}
 use Rattle.hol_spec.specs.Types.{HolType}
@@ -18,11 +18,11 @@ use Rattle.hol_term.specs.declared.memo.Change.{Change}
 use Rattle.hol_term.specs.declared.memo.Change.TheVariants.{Raise, Replace, Close}
 use Rattle.hol_term.specs.declared.memo.Place.{Place}
 use Rattle.hol_term.specs.declared.walk.Replacement.TheVariants.{Renamed, Argument}
-use Rattle.hol_term.specs.Tables.{Trees, term_in, term_at, type_at, terms_at, AreKnown, Holds, Keeps, IsDistinct}
-use Rattle.hol_term.specs.TableLaws.{term_in-Some, Some-term_in, term_in-Stays, term_in-same, AreKnown-Keeps, terms_at-Keeps}
+use Rattle.hol_term.specs.Tables.{Trees, term_at, type_at, terms_at, AreKnown, Holds, Keeps, IsDistinct}
+use Rattle.hol_term.specs.TableLaws.{term_in-Some, Some-term_in, term_in-Stays, term_in-same, terms_at-Keeps}
 use Rattle.hol_term.specs.Noted.{IsNoted}
 use Rattle.hol_term.specs.Parts.{IsLeaf}
-use Rattle.hol_term.specs.Walks.{variable_of, changed, wanted, CanClose, IsPlace, IsLeftAlone, IsReplaced, IsMemo, total, way_down}
+use Rattle.hol_term.specs.Walks.{changed, wanted, CanClose, IsPlace, IsLeftAlone, IsReplaced, IsMemo, total, way_down}
 
 -- a longer table wants the same
 module _ (a b : Trees) (k : Keeps a b) (ids : List TermId) (g : AreKnown a ids) where

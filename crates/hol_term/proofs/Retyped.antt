@@ -3,8 +3,7 @@ use Rattle.std.proofs.Common.{◌≡◌, ℕ, zero, suc, ◌<◌, ◌≤◌, ref
 use Rattle.std.specs.Prelude.{slice_get, take}
 use Rattle.std.proofs.lemmas.Option.{slice_get_within}
 use Rattle.hol_spec.specs.Types.{HolType}
-use Rattle.hol_spec.specs.Terms.{Term, free, bound, constant, app, lam, type_of}
-use Rattle.hol_spec.specs.TermRenamings.{ap2}
+use Rattle.hol_spec.specs.Terms.{Term, type_of}
 use Rattle.hol_type.specs.declared.table.TypeId.{TypeId}
 use Rattle.hol_type.specs.Tables.{tree_at}
 use Rattle.hol_type.specs.Tables as type
@@ -16,7 +15,7 @@ use Rattle.hol_term.specs.declared.node.Node.TheVariants as node
 use Rattle.hol_term.specs.declared.node.Entry.{Entry}
 use Rattle.hol_term.specs.Tables.{Trees, Holds, IsDistinct, Stays, Keeps, IsTypeNumber}
 use Rattle.hol_term.specs.TableLaws.{Stays-refl, PartsBelow-more, take-Stays, IsTypeNumber-Keeps}
-use Rattle.hol_term.specs.Nodes.{tree_of_node, PartsBelow, IsMeasured, terms_of, IsTable}
+use Rattle.hol_term.specs.Nodes.{tree_of_node, PartsBelow, terms_of, IsTable}
 use Rattle.hol_term.specs.Owned.{HasHeadTypes, HasItsTypes, IsEarlier}
 use Rattle.hol_term.proofs.EntryLaws.{over, length-terms_of, terms_of-Some, terms_of-types}
 use Rattle.hol_term.proofs.Cut.{terms_of-take, IsTable-take}
@@ -129,8 +128,8 @@ module _ (types : List HolType) (es : List Entry) (t : IsTable types es) (before
         lower = lower;
         distinct = subst IsDistinct (sym same_front) c.distinct;
         measured = λ i e u at held.
-          let m = c.measured i e u at (ap (λ l. slice_get l i) (sym same_front) ∙ held) in
-          record { measures = m.measures; typed = fewer_types e.ty i u (ap (λ l. slice_get l i) (sym terms_before) ∙ held) m.typed };
+            let m = c.measured i e u at (ap (λ l. slice_get l i) (sym same_front) ∙ held) in
+            record { measures = m.measures; typed = fewer_types e.ty i u (ap (λ l. slice_get l i) (sym terms_before) ∙ held) m.typed };
       }
 
   pub cut_table : IsTable (take mark.types types) (take mark.terms es)

@@ -4,7 +4,7 @@ use Rattle.std.specs.Option.{option_map}
 use Rattle.hol_spec.specs.NameEquality.{name_eq, name_eq-Decides}
 use Rattle.hol_spec.specs.Names.{Name}
 use Rattle.hol_spec.specs.Types.{HolType, HolTypes, variable, operator, none, more, types_of}
-use Rattle.hol_spec.specs.Primitives.{bool, function, function_parts, arrow_name, equality_name, equality_type}
+use Rattle.hol_spec.specs.Primitives.{bool, function, function_parts, arrow_name}
 use Rattle.hol_spec.specs.TermRenamings.{ap2}
 use Rattle.hol_type.specs.declared.table.TypeId.{TypeId}
 use Rattle.hol_type.specs.Tables.{tree_at, two_at, types_at}
@@ -66,7 +66,7 @@ module _ (types : List HolType) (ty : TypeId) where
       is_relation e b = (
         tree_at types d.0,
         function_parts-Some (tree_at types ty.0) (tree_at types d.0) (tree_at types p.0) (sym parts)
-        ∙ ap (function (tree_at types d.0)) (function_parts-Some (tree_at types p.0) (tree_at types s.0) (tree_at types t.0) (sym below) ∙ ap2 function (ap (tree_at types) (sym e)) b),
+            ∙ ap (function (tree_at types d.0)) (function_parts-Some (tree_at types p.0) (tree_at types s.0) (tree_at types t.0) (sym below) ∙ ap2 function (ap (tree_at types) (sym e)) b),
       )
 
 some_arguments : (types : List HolType) (args : List TypeId) → 0 < length args → types_of (types_at types args) ≡ none → ⊥

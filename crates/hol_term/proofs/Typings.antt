@@ -2,13 +2,12 @@
 use Rattle.std.proofs.Common.{◌≡◌, ℕ, zero, suc, ◌<◌, ◌≤◌, refl, sym, ap, ◌∙◌, subst, arith, List, [], ◌∷◌, ◌++◌, length, Option, Some, None, Bool, true, false, cond, Result, Ok, Err}
 use Rattle.std.specs.Prelude.{slice_get, IfOk}
 use Rattle.std.specs.Option.{option_map}
-use Rattle.std.proofs.lemmas.Option.{slice_get-map}
 use Rattle.hol_spec.specs.Types.{HolType, type_eq}
 use Rattle.hol_spec.specs.TypeLaws.{type_eq-Decides}
 use Rattle.hol_spec.specs.Primitives.{function, function_parts}
 use Rattle.hol_spec.specs.Terms.{Term, free, bound, constant, app, lam, type_under, type_of, application_type, result_type}
 use Rattle.hol_spec.specs.TermLaws.{type_eq-refl}
-use Rattle.hol_spec.specs.TermBinding.{loose, lift_at}
+use Rattle.hol_spec.specs.TermBinding.{loose}
 use Rattle.hol_spec.specs.TermRenamings.{ap2}
 use Rattle.hol_spec.specs.TermClosed.{lift_at-closed}
 use Rattle.hol_spec.specs.TermTyping.{type_under-lift_at, loose-typed}

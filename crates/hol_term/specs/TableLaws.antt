@@ -1,5 +1,5 @@
 -- What follows from the words for tables.
-use Rattle.std.proofs.Common.{◌≡◌, ℕ, zero, suc, ◌<◌, ◌≤◌, refl, sym, ap, ◌∙◌, subst, arith, List, [], ◌∷◌, ◌++◌, length, Option, Some, None, length-append}
+use Rattle.std.proofs.Common.{◌≡◌, ℕ, suc, ◌<◌, ◌≤◌, refl, sym, ap, ◌∙◌, arith, List, [], ◌∷◌, ◌++◌, length, Option, Some, None}
 use Rattle.std.specs.Prelude.{slice_get, unwrap_or, take}
 use Rattle.std.proofs.lemmas.Option.{slice_get_within, slice_get-get_or, unwrap_or-slice_get}
 use Rattle.hol_spec.specs.Types.{HolType}
@@ -12,7 +12,7 @@ use Rattle.hol_type.specs.TableLaws.{some_is, slice_get-append}
 use Rattle.hol_term.specs.declared.TermId.{TermId}
 use Rattle.hol_term.specs.declared.node.Node.{Node}
 use Rattle.hol_term.specs.declared.node.Node.TheVariants as node
-use Rattle.hol_term.specs.Tables.{Trees, term_in, term_at, terms_at, AreKnown, IsDistinct, Stays, Keeps, IsTypeNumber}
+use Rattle.hol_term.specs.Tables.{Trees, term_in, terms_at, AreKnown, IsDistinct, Stays, Keeps, IsTypeNumber}
 use Rattle.hol_term.specs.Nodes.{tree_of_node, PartsBelow}
 
 -- a number that the list has, has its term

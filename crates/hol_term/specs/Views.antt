@@ -1,5 +1,5 @@
 -- What the head of a term says of it.
-use Rattle.std.specs.Prelude.{◌≡◌, ℕ, ◌<◌, length}
+use Rattle.std.specs.Prelude.{ℕ, ◌<◌, length}
 use Rattle.hol_spec.specs.Terms.{Term, free, bound, constant, app, lam}
 use Rattle.hol_term.specs.declared.TermView.{TermView}
 use Rattle.hol_term.specs.declared.TermView.TheVariants as view

@@ -1,7 +1,7 @@
 -- What a walk makes of the parts of a tree.
-use Rattle.std.specs.Prelude.{◌≡◌, ◌⊎◌, ℕ, ◌+◌, ◌-◌, ◌*◌, ◌<◌, ◌≤◌, ◌^◌, List, [], ◌∷◌, length, reverse, slice_get, Some}
+use Rattle.std.specs.Prelude.{◌≡◌, ◌⊎◌, ℕ, ◌+◌, ◌-◌, ◌<◌, ◌≤◌, ◌^◌, List, [], ◌∷◌, length, reverse, slice_get, Some}
 use Rattle.hol_spec.specs.Types.{variable}
-use Rattle.hol_spec.specs.Terms.{Term, free, bound, app, lam, Variable}
+use Rattle.hol_spec.specs.Terms.{Term, free, bound, Variable}
 use Rattle.hol_spec.specs.TermBinding.{lift_at, put_all_at, close_at, loose}
 use Rattle.hol_term.specs.declared.TermId.{TermId}
 use Rattle.hol_term.specs.declared.memo.Change.{Change}

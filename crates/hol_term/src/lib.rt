@@ -1,4 +1,15 @@
-//! Terms of higher-order logic, each kept once under a number.
+//! Terms of higher-order logic, each kept once under a number, with the table of their types.
+//!
+//! A table's value is the list of its types and that of its trees, by number: two numbers are equal exactly where their
+//! trees are. A call that makes a term keeps every number that was given before, and after a refusal or want of memory
+//! the table is as before. A term that is made is within the limits of size and depth, or refused for exactly the limit
+//! that it passes; where types do not fit, that is told first. Walks come once to each part.
+//!
+//! ```
+//! let mut table = TermTable::new(alloc);
+//! let a = table.ty_var(&Name::single(alloc, b"A")?)?;
+//! let x = table.free(&Name::single(alloc, b"x")?, a)?;
+//! ```
 #![tactic(auto)]
 
 ghost use Rattle.std.specs.Prelude.{◌≡◌, ◌<◌, ◌≤◌, ◌^◌, ◌-◌, ◌+◌, [], length, min, max, take, IfOk, IfErr, OnOk, OnErr, Ok, Err};
@@ -179,7 +190,11 @@ impl TermTable {
     }
 
     // The type of functions from `domain` to `codomain`. No term is made.
-    pub(crate) fn function_type(&mut self, domain: TypeId, codomain: TypeId) -> Result<TypeId, Memory>
+    pub(crate) fn function_type(
+        &mut self,
+        domain: TypeId,
+        codomain: TypeId,
+    ) -> Result<TypeId, Memory>
         requires domain { domain.0 < length self.old.types }
         requires codomain { codomain.0 < length self.old.types }
         ensures known { IfOk result (λ id. id.0 < length self.new.types) }

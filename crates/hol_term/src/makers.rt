@@ -279,7 +279,12 @@ impl TermTable {
     }
 
     // What a change with these arguments makes of a tree.
-    pub(crate) fn changed(&mut self, args: &[TermId], change: Change, id: TermId) -> Result<TermId, Memory>
+    pub(crate) fn changed(
+        &mut self,
+        args: &[TermId],
+        change: Change,
+        id: TermId,
+    ) -> Result<TermId, Memory>
         requires id { id.0 < length self.old.terms }
         requires args { AreKnown self.old args.now }
         requires closing { CanClose (terms_at self.old args.now) change }
@@ -299,7 +304,11 @@ impl TermTable {
     }
 
     // What was made, if it is within the limits; else all that came after the mark is given up.
-    pub(crate) fn settle(&mut self, mark: Mark, made: Result<TermId, Memory>) -> Result<TermId, Fault>
+    pub(crate) fn settle(
+        &mut self,
+        mark: Mark,
+        made: Result<TermId, Memory>,
+    ) -> Result<TermId, Fault>
         requires earlier { (before : Trees) × IsEarlier before self.old mark }
         requires made { IfOk made (λ id. id.0 < length self.old.terms) }
         ensures known { IfOk result (λ id. id.0 < length self.new.terms) }

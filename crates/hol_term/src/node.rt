@@ -11,6 +11,7 @@ use hol_type::TypeId;
 
 // The limits of what a call makes.
 const GREATEST_SIZE: u64 = 1_048_576;
+
 const GREATEST_DEPTH: u64 = 1_024;
 
 /// The head of a tree, with the numbers of its parts.

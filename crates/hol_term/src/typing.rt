@@ -61,7 +61,11 @@ impl TermTable {
     }
 
     // The type of an application, from those of its parts.
-    pub(crate) fn applied(&self, function: Option<TypeId>, argument: Option<TypeId>) -> Option<TypeId>
+    pub(crate) fn applied(
+        &self,
+        function: Option<TypeId>,
+        argument: Option<TypeId>,
+    ) -> Option<TypeId>
         requires { (o : Option HolType) × IsTypeNumber self.now.types function o }
         ensures { (o p : Option HolType) → IsTypeNumber self.now.types function o → IsTypeNumber self.now.types argument p → IsTypeNumber self.now.types result (application_type o p) }
     {

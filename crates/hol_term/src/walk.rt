@@ -23,7 +23,12 @@ pub(crate) enum Replacement {
 impl TermTable {
     // The tree that is wanted at a place. Memory is taken for the memo and for the trees that are new.
     #[cycle(walk)]
-    pub(crate) fn remade(&mut self, args: &[TermId], place: Place, memo: &mut Memo) -> Result<TermId, Memory>
+    pub(crate) fn remade(
+        &mut self,
+        args: &[TermId],
+        place: Place,
+        memo: &mut Memo,
+    ) -> Result<TermId, Memory>
         requires place { IsPlace self.old place }
         requires args { AreKnown self.old args.now }
         requires closing { CanClose (terms_at self.old args.now) place.change }
@@ -45,7 +50,12 @@ impl TermTable {
 
     // The tree that is wanted at a place where nothing is made yet.
     #[cycle(walk)]
-    fn remade_anew(&mut self, args: &[TermId], place: Place, memo: &mut Memo) -> Result<TermId, Memory>
+    fn remade_anew(
+        &mut self,
+        args: &[TermId],
+        place: Place,
+        memo: &mut Memo,
+    ) -> Result<TermId, Memory>
         requires place { IsPlace self.old place }
         requires args { AreKnown self.old args.now }
         requires closing { CanClose (terms_at self.old args.now) place.change }

@@ -1,10 +1,10 @@
-use Rattle.std.proofs.Common.{arith, ◌≤◌, ◌<◌, length, rules}
+use Rattle.std.proofs.Common.{arith, ◌≤◌, ◌<◌, length}
 use Rattle.hol_spec.specs.TermBinding.{loose}
 use Rattle.hol_term.specs.Tables.{term_at}
 use Rattle.hol_term.specs.TableLaws.{IsTypeNumber-Keeps}
 use Rattle.hol_term.specs.Typing.{type_in}
 use Rattle.hol_type.specs.TableLaws.{AreKnown-Keeps}
-use Rattle.hol_term.proofs.Typings.{IfOk-map, in_closed, in_bound, in_app, in_lam}
+use Rattle.hol_term.proofs.Typings.{in_closed, in_bound, in_app}
 use Rattle.hol_term.proofs.TermTable.+inferred.Goals as goal
 
 pub returns-then-measures_of-eq0-clause-typed : goal.returns-then-measures_of-eq0-clause-typed
@@ -31,4 +31,3 @@ returns-in_ok-argument-in-App-clause-typed t c =
     let lt : c.in-App.x.0 < length c.args.self.now.terms = omega (arith, c.in-App.ensures.lower.1, c.requires.id) in
     in_app c.args.self.now c.inferred.new.self c.inferred-in-App.new.self c.args.binders.now c.inferred.new.binders c.args.id.0 c.in-App.f.0 c.in-App.x.0 c.in_ok-function-in-App.function c.in_ok-argument-in-App.argument c.applied.result
     c.inferred.ensures.keeps c.inferred-in-App.ensures.keeps c.requires.binders lt c.in-App.ensures.is c.in_ok-function-in-App.ensures.typed c.in_ok-function-in-App.ensures.binders c.in_ok-argument-in-App.ensures.typed c.applied.ensures
-

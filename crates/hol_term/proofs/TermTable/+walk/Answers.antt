@@ -3,7 +3,7 @@ use Rattle.std.proofs.lemmas.Option.{slice_get_within}
 use Rattle.hol_term.specs.Tables.{terms_at}
 use Rattle.hol_term.specs.Walks.{IsReplaced}
 use Rattle.hol_term.specs.TableLaws.{AreKnown-Keeps, Keeps-trans}
-use Rattle.hol_term.proofs.Remade.{already_wanted, noted_memo, IsMemo-Keeps, CanClose-Keeps, made_app, made_lam, made_bound, argument_place, argument_closing, argument_down, made_argument, part_place, part_closing, part_down}
+use Rattle.hol_term.proofs.Remade.{already_wanted, noted_memo, IsMemo-Keeps, made_app, made_lam, made_bound, argument_place, argument_closing, argument_down, made_argument, part_place, part_closing, part_down}
 use Rattle.hol_term.proofs.TermTable.+walk.Goals as goal
 
 pub remade-returns-in-Some-clause-made : goal.remade-returns-in-Some-clause-made
@@ -20,8 +20,7 @@ remade-returns-in_ok-note-in-None-clause-memo t c =
 pub remade_anew-remade-requires : goal.remade_anew-remade-requires
 remade_anew-remade-requires t c =
     let r = subst (IsReplaced c.args.args.now c.args.place c.in-Bound.n) c.in-Argument.is c.in_ok-n-in-Bound.ensures in
-    let down = argument_down c.args.self.now c.args.args.now c.args.place c.lifted.result c.in-Bound.n c.in-Argument.id r c.lifted.ensures in
-    (
+    let down = argument_down c.args.self.now c.args.args.now c.args.place c.lifted.result c.in-Bound.n c.in-Argument.id r c.lifted.ensures in (
       omega (arith, down, c.decreases),
       (
         argument_place c.args.self.now c.args.args.now c.args.place c.lifted.result c.in-Bound.n c.in-Argument.id r c.lifted.ensures c.in-Bound.ensures.small c.requires.args,
@@ -32,8 +31,7 @@ remade_anew-remade-requires t c =
 pub remade_anew-remade-requires-in-App-2 : goal.remade_anew-remade-requires-in-App-2
 remade_anew-remade-requires-in-App-2 t c =
     let k = c.remade-in-App.ensures.keeps in
-    let down = part_down c.args.self.now c.remade-in-App.new.self k c.args.args.now c.args.place c.part-in-App.result c.in-App.x c.part-in-App.ensures c.in-App.ensures.lower.1 in
-    (
+    let down = part_down c.args.self.now c.remade-in-App.new.self k c.args.args.now c.args.place c.part-in-App.result c.in-App.x c.part-in-App.ensures c.in-App.ensures.lower.1 in (
       omega (arith, down, c.decreases),
       (
         part_place c.args.self.now c.remade-in-App.new.self k c.args.args.now c.args.place c.part-in-App.result c.in-App.x c.part-in-App.ensures c.in-App.ensures.lower.1 c.requires.place,

@@ -1,7 +1,6 @@
 use Rattle.hol_spec.specs.Terms.{lam}
 use Rattle.hol_spec.specs.TermBinding.{close}
 use Rattle.hol_term.specs.Tables.{term_at, type_at}
-use Rattle.hol_term.proofs.Settled.{known_term}
 use Rattle.hol_term.proofs.TermTable.abs.Goals as goal
 
 pub returns-clause-keeps : goal.returns-clause-keeps

@@ -1,4 +1,4 @@
-use Rattle.std.proofs.Common.{sym, subst, ap, ◌∙◌, Some}
+use Rattle.std.proofs.Common.{sym, ap, ◌∙◌, Some}
 use Rattle.hol_term.specs.TableLaws.{tree_of_node-Stays}
 use Rattle.hol_term.proofs.Typings.{IfOk-map, made_entry}
 use Rattle.hol_term.proofs.TermTable.add.Goals as goal

@@ -1,4 +1,3 @@
-use Rattle.std.proofs.Common.{◌≡◌, None}
 use Rattle.hol_spec.specs.Terms.{app, IsTerm, type_of}
 use Rattle.hol_term.specs.Tables.{term_at}
 use Rattle.hol_term.proofs.Settled.{IfErr-map, typed_refusal, number_term}

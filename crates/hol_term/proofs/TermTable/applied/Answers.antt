@@ -1,4 +1,4 @@
-use Rattle.std.proofs.Common.{◌≡◌, arith}
+use Rattle.std.proofs.Common.{arith}
 use Rattle.hol_term.proofs.Typings.{applied_alike, applied_apart}
 use Rattle.hol_term.proofs.TermTable.applied.Goals as goal
 

@@ -1,4 +1,4 @@
-use Rattle.std.proofs.Common.{subst, sym, length}
+use Rattle.std.proofs.Common.{length}
 use Rattle.std.proofs.lemmas.Option.{slice_get_within}
 use Rattle.hol_term.specs.Nodes.{PartsBelow, IsMeasured, terms_of}
 use Rattle.hol_term.proofs.Inserted.{Inserted, tree_over, inserted, inserted_keeps, stored_tree, unchanged}

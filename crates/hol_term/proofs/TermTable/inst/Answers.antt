@@ -1,4 +1,3 @@
-use Rattle.std.proofs.Common.{refl}
 use Rattle.hol_spec.specs.TermBinding.{put}
 use Rattle.hol_spec.specs.TermTyping.{type_of-put}
 use Rattle.hol_term.specs.Tables.{term_at}

@@ -1,4 +1,4 @@
-use Rattle.std.proofs.Common.{◌≡◌, arith, ap, sym, ◌∙◌, Some}
+use Rattle.std.proofs.Common.{◌≡◌, arith, ap, ◌∙◌, Some}
 use Rattle.hol_spec.specs.Terms.{IsTerm}
 use Rattle.hol_type.specs.Tables.{tree_at}
 use Rattle.hol_term.specs.Tables.{term_at, type_at}

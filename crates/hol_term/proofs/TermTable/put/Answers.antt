@@ -1,5 +1,5 @@
 use Rattle.hol_spec.specs.TermBinding.{put}
-use Rattle.hol_term.specs.Tables.{term_at, terms_at}
+use Rattle.hol_term.specs.Tables.{term_at}
 use Rattle.hol_term.proofs.TermTable.put.Goals as goal
 
 pub returns-clause-made : goal.returns-clause-made

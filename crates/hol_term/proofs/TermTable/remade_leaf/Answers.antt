@@ -1,4 +1,3 @@
-use Rattle.std.proofs.Common.{true, false, ◌≡◌}
 use Rattle.hol_term.proofs.Remade.{leaf_alone, leaf_closed}
 use Rattle.hol_term.proofs.TermTable.remade_leaf.Goals as goal
 
