@@ -1,0 +1,2 @@
+mod InputLaws
+mod TypeShapes

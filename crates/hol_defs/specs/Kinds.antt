@@ -1,0 +1,25 @@
+-- How a name is taken: as primitive, as an input or as defined, as a constant and as an operator by itself.
+-- Source: HOL Light's kernel, `get_const_type` and `get_type_arity`; OpenTheory article file format, version 6, `constTerm` and `opType`.
+use Rattle.std.specs.Prelude.{List, Option, None, Some, is_some, if◌then◌else◌}
+use Rattle.std.specs.List.{list_any}
+use Rattle.hol_spec.specs.Names.{Name}
+use Rattle.hol_spec.specs.Primitives.{primitive_arity, primitive_type}
+use Rattle.hol_spec.specs.Symbols.{Symbol, first_defined_type, is_input_constant}
+use Rattle.hol_defs.specs.declared.SymbolKind.{SymbolKind}
+use Rattle.hol_defs.specs.declared.SymbolKind.TheVariants.{Primitive, Input, Defined}
+use Rattle.hol_defs.specs.Inputs.{is_input_operator_named}
+
+-- how a name is taken as a constant, if it is
+abbrev pub constant_kind : List Symbol → Name → Option SymbolKind
+constant_kind symbols n =
+    if is_some (primitive_type n) then Some Primitive
+    else (if is_some (first_defined_type n symbols) then Some Defined
+    else (if list_any (is_input_constant n) symbols then Some Input
+    else None))
+
+-- how a name is taken as an operator, if it is; no symbol defines one
+abbrev pub operator_kind : List Symbol → Name → Option SymbolKind
+operator_kind symbols n =
+    if is_some (primitive_arity n) then Some Primitive
+    else (if list_any (is_input_operator_named n) symbols then Some Input
+    else None)

@@ -1,0 +1,4 @@
+pub mod Generics
+pub mod Inputs
+pub mod Kinds
+pub mod Refusals
