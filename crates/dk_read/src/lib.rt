@@ -1,0 +1,20 @@
+//! The reader of modules: the text of a module, in any pieces, becomes the module that it reads as.
+//!
+//! A text that reads as no module is refused for its fault at the least place, and so is one that is longer than the limit.
+//! Parentheses and binders may nest as deep as memory reaches.
+//!
+//! ```
+//! let mut reader = Reader::new(alloc, Limit::Bytes(4294967296));
+//! reader.feed(piece)?;
+//! let module = reader.finish()?;
+//! ```
+#![tactic(auto)]
+
+mod faults;
+mod machine;
+mod reader;
+mod terms;
+mod text;
+
+pub use faults::{DkFault, DkKind};
+pub use reader::{Limit, Reader};
