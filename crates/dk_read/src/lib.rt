@@ -14,6 +14,8 @@ mod faults;
 mod machine;
 mod reader;
 mod terms;
+#[cfg(test)]
+mod tests;
 mod text;
 
 pub use faults::{DkFault, DkKind};
