@@ -7,3 +7,7 @@ pub mod Typings
 pub mod Remade
 pub mod Settled
 pub mod Shaped
+pub mod Gathered
+pub mod VisitSteps
+pub mod SeenLaws
+pub mod FoundLaws

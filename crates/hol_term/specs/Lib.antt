@@ -10,3 +10,4 @@ pub mod Shapes
 pub mod Noted
 pub mod Walks
 pub mod BindingLaws
+pub mod Subterms

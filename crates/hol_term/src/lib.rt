@@ -3,7 +3,8 @@
 //! A table's value is the list of its types and that of its trees, by number: two numbers are equal exactly where their
 //! trees are. A call that makes a term keeps every number that was given before, and after a refusal or want of memory
 //! the table is as before. A term that is made is within the limits of size and depth, or refused for exactly the limit
-//! that it passes; where types do not fit, that is told first. Walks come once to each part.
+//! that it passes; where types do not fit, that is told first. The free variables and the type variables of a term are
+//! listed in order of first occurrence, each once. Walks come once to each part.
 //!
 //! ```
 //! let mut table = TermTable::new(alloc);
@@ -28,9 +29,12 @@ mod binders;
 mod binding;
 mod makers;
 mod memo;
+mod names;
 mod node;
 mod readers;
+mod seen;
 mod typing;
+mod variables;
 mod walk;
 
 use crate::node::{Entry, Measures, Node};
@@ -53,6 +57,7 @@ pub struct Variable {
 }
 
 /// The head of a term, with the numbers of its parts.
+#[derive(Clone, Copy)]
 pub enum TermView<'a> {
     /// A free variable with its name and its type.
     Free(&'a Name, TypeId),

@@ -1,0 +1,13 @@
+use Rattle.std.proofs.Common.{subst}
+use Rattle.std.proofs.lemmas.List.{drop_more}
+use Rattle.hol_term.proofs.FoundLaws.{IsNaming, naming_begins, naming_goes_on}
+use Rattle.hol_term.proofs.TermTable.names_among.Goals as goal
+
+pub loop-id-init : goal.loop-id-init
+loop-id-init c = rw c.new-names.ensures.empty (naming_begins _ _ c.requires)
+
+pub loop-id-preserved : goal.loop-id-preserved
+loop-id-preserved c =
+    naming_goes_on _ _ _ _ _ _
+    (subst (λ l. IsNaming c.args.self.now c.args.ids.now l c.loop-id.names) (drop_more c.args.ids.now c.loop-id.id-index _ c.loop-id-test.true) c.loop-id.invariant)
+    c.in_ok-unite_head.ensures

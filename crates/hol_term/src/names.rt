@@ -1,0 +1,74 @@
+//! Names, each kept once, in the order in which they came.
+ghost use Rattle.std.specs.Prelude.{◌≡◌, [], ◌∷◌, IfOk, OnOk};
+ghost use Rattle.hol_spec.specs.Lists.{union};
+ghost use Rattle.hol_spec.specs.NameEquality.{name_eq};
+
+use bridge_base::Memory;
+use hol_name::Name;
+use indexmap::IndexSet;
+use std::alloc::Global;
+use std::marker::Model;
+
+/// Names without repeats.
+#[derive(Drop)]
+pub(crate) struct Names {
+    names: IndexSet<Name>,
+}
+
+impl Model for Names {
+    ghost use Rattle.std.specs.Prelude.{List};
+    ghost use Rattle.hol_spec.specs.Names.{Name as AName};
+
+    ghost Value = { List AName };
+
+    ghost view = { λ n. n.names.keys };
+}
+
+impl Names {
+    pub(crate) fn new(alloc: Global) -> Self
+        ensures empty { result ≡ [] }
+    {
+        Names {
+            names: IndexSet::new(alloc),
+        }
+    }
+
+    // Takes what is new of some names.
+    pub(crate) fn unite(&mut self, found: &[Name]) -> Result<(), Memory>
+        ensures united { OnOk result (self.new ≡ union name_eq self.old found.now) }
+    {
+        for name in found {
+            self.add(name)?;
+        }
+        Ok(())
+    }
+
+    // Takes a name, if it is new.
+    fn add(&mut self, name: &Name) -> Result<(), Memory>
+        ensures added { OnOk result (self.new ≡ union name_eq self.old (name.now ∷ [])) }
+    {
+        if self.names.contains(name) {
+            return Ok(());
+        }
+        self.names.insert_full(name.clone()?)?;
+        Ok(())
+    }
+
+    // The names as an array.
+    pub(crate) fn listed(&self, alloc: Global) -> Result<Vec<Name>, Memory>
+        ensures { IfOk result (λ names. names.items ≡ self.now) }
+    {
+        copied(alloc, self.names.as_slice())
+    }
+}
+
+// The names, each copied.
+fn copied(alloc: Global, names: &[Name]) -> Result<Vec<Name>, Memory>
+    ensures { IfOk result (λ copy. copy.items ≡ names.now) }
+{
+    let mut copy = Vec::new(alloc);
+    for name in names {
+        copy.push(name.clone()?)?;
+    }
+    Ok(copy)
+}
