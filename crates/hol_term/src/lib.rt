@@ -33,6 +33,8 @@ mod names;
 mod node;
 mod readers;
 mod seen;
+#[cfg(test)]
+mod tests;
 mod typing;
 mod variables;
 mod walk;
