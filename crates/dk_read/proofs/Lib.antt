@@ -5,3 +5,5 @@ pub mod Declared
 pub mod Bytes
 pub mod Openings
 pub mod Ended
+pub mod Unlimited
+pub mod Answered

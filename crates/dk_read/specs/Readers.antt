@@ -1,7 +1,10 @@
 -- A reader of the text of a module, between two pieces of it.
 use Rattle.std.specs.Prelude.{◌≡◌, ◌⊎◌, ℕ, ◌≤◌, List, [], ◌∷◌, ◌++◌, length, Option, None, Some, Result, Ok, Err}
+use Rattle.lp_spec.specs.Modules.{Declaration}
+use Rattle.lp_spec.specs.Reading.{Reads}
 use Rattle.lp_spec.specs.ReadingFaults as reading
 use Rattle.holide_sig.specs.declared.module.Module.{Module}
+use Rattle.holide_sig.specs.Modules.{declarations_of}
 use Rattle.dk_read.specs.declared.faults.DkFault.{DkFault}
 use Rattle.dk_read.specs.declared.faults.DkFault.TheVariants as fault
 use Rattle.dk_read.specs.declared.reader.Limit.{Limit}
@@ -37,6 +40,32 @@ IsFed r text = fed_with r.fault r text
 -- the answer is what the whole text reads as, or its refusal
 abbrev pub EndsWith : Reading → Result Module DkFault → Type 0
 EndsWith r result = (text : List ℕ) → IsFed r text → Ends (reading.answer_within r.limit text) result
+
+-- the whole text reads as these declarations
+abbrev pub ReadsAs : Reading → List Declaration → Type 0
+ReadsAs r m = (text : List ℕ) → IsFed r text → Reads text m
+
+-- the module has these declarations, or there was no memory for it
+abbrev pub HasRead : List Declaration → Result Module DkFault → Type 0
+HasRead m (Ok read) = declarations_of read ≡ m
+HasRead m (Err e) = e ≡ fault.Memory
+
+-- what reads as a module, and is not longer than the limit, is read
+abbrev pub Accepts : Reading → Result Module DkFault → Type 0
+Accepts r result = (text : List ℕ) (m : List Declaration) → IsFed r text → IsWithin r.limit text → Reads text m → HasRead m result
+
+-- the fault is another than the text's length
+abbrev pub IsNoLength : DkKind → Type 0
+IsNoLength kind.DkTooLong = ⊥
+IsNoLength _ = Unit {0}
+
+abbrev pub IsNotTooLong : Result Module DkFault → Type 0
+IsNotTooLong (Err (fault.Refused p k)) = IsNoLength k
+IsNotTooLong _ = Unit {0}
+
+-- without a limit no text is too long
+abbrev pub NeverTooLong : Reading → Result Module DkFault → Type 0
+NeverTooLong r result = (text : List ℕ) → IsFed r text → r.limit ≡ None → IsNotTooLong result
 
 -- the piece is fed
 abbrev pub Feeds : Reading → List ℕ → Reading → Type 0

@@ -1,8 +1,9 @@
 //! The reader of modules.
 ghost use Rattle.std.specs.Prelude.{◌≡◌, ◌<◌, ◌≤◌, ◌+◌, ◌^◌, ◌++◌, [], ◌∷◌, None, Some, length, IfOk, OnOk, OnErr, IfErr};
 ghost use Rattle.lp_spec.specs.ReadingFaults as reading;
+ghost use Rattle.holide_sig.specs.Modules.{declarations_of};
 ghost use Rattle.dk_read.specs.Texts.{Ends};
-ghost use Rattle.dk_read.specs.Readers.{Reading, IsFed, limit_of, EndsWith, Feeds, Answers, StaysStopped, HasName, IsCut};
+ghost use Rattle.dk_read.specs.Readers.{Reading, IsFed, limit_of, EndsWith, ReadsAs, Accepts, NeverTooLong, Feeds, Answers, StaysStopped, HasName, IsCut};
 
 use crate::faults::{DkFault, DkKind};
 use crate::text::read;
@@ -103,8 +104,18 @@ impl Reader {
     }
 
     /// Ends the text. It answers with the module that the whole text reads as, or with its refusal: the fault at
-    /// the least place.
+    /// the least place. Without a limit no text is too long.
     pub fn finish(self) -> Result<Module, DkFault>
+        ensures ends { EndsWith self result }
+        ensures reads { IfOk result (λ m. ReadsAs self (declarations_of m)) }
+        ensures accepts { Accepts self result }
+        ensures free { NeverTooLong self result }
+    {
+        self.read_whole()
+    }
+
+    /// Reads the whole text.
+    fn read_whole(self) -> Result<Module, DkFault>
         ensures ends { EndsWith self result }
     {
         let Reader {

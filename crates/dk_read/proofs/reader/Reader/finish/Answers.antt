@@ -1,9 +1,11 @@
-use Rattle.std.proofs.Common.{◌≡◌, ◌∙◌, sym, ap, Some}
-use Rattle.dk_read.specs.Readers.{Reading}
-use Rattle.dk_read.proofs.Ended.{stopped}
+use Rattle.dk_read.proofs.Answered.{module_read, text_accepted, never_too_long}
 use Rattle.dk_read.proofs.reader.Reader.finish.Goals as goal
 
-pub returns-in-Some : goal.returns-in-Some
-returns-in-Some c =
-    let is : c.args.self.fault ≡ Some c.in-Some.fault = ap (λ (r : Reading). r.fault) (sym c.self.view_is) ∙ c.in-Some.is in
-    record { ends = λ text fed. stopped c.args.self c.in-Some.fault text is fed }
+pub returns-clause-reads : goal.returns-clause-reads
+returns-clause-reads c = module_read c.args.self c.read_whole.result c.read_whole.ensures.ends
+
+pub returns-clause-accepts : goal.returns-clause-accepts
+returns-clause-accepts c = text_accepted c.args.self c.read_whole.result c.read_whole.ensures.ends
+
+pub returns-clause-free : goal.returns-clause-free
+returns-clause-free c = never_too_long c.args.self c.read_whole.result c.read_whole.ensures.ends
