@@ -41,9 +41,14 @@ IsFed r text = fed_with r.fault r text
 abbrev pub EndsWith : Reading → Result Module DkFault → Type 0
 EndsWith r result = (text : List ℕ) → IsFed r text → Ends (reading.answer_within r.limit text) result
 
--- the whole text reads as these declarations
+-- the whole text is within the limit, and reads as these declarations and as no others
+pub record IsRead (limit : Option ℕ) (text : List ℕ) (m : List Declaration) : Type 0 where
+  pub within : IsWithin limit text
+  pub reads : Reads text m
+  pub only : (n : List Declaration) → Reads text n → n ≡ m
+
 abbrev pub ReadsAs : Reading → List Declaration → Type 0
-ReadsAs r m = (text : List ℕ) → IsFed r text → Reads text m
+ReadsAs r m = (text : List ℕ) → IsFed r text → IsRead r.limit text m
 
 -- the module has these declarations, or there was no memory for it
 abbrev pub HasRead : List Declaration → Result Module DkFault → Type 0
@@ -59,13 +64,17 @@ abbrev pub IsNoLength : DkKind → Type 0
 IsNoLength kind.DkTooLong = ⊥
 IsNoLength _ = Unit {0}
 
-abbrev pub IsNotTooLong : Result Module DkFault → Type 0
+abbrev pub IsNotTooLong : {T : Type 0} → Result T DkFault → Type 0
 IsNotTooLong (Err (fault.Refused p k)) = IsNoLength k
 IsNotTooLong _ = Unit {0}
 
 -- without a limit no text is too long
-abbrev pub NeverTooLong : Reading → Result Module DkFault → Type 0
+abbrev pub NeverTooLong : {T : Type 0} → Reading → Result T DkFault → Type 0
 NeverTooLong r result = (text : List ℕ) → IsFed r text → r.limit ≡ None → IsNotTooLong result
+
+-- a reader that has stopped answers its fault again
+abbrev pub EndsStopped : Reading → Result Module DkFault → Type 0
+EndsStopped r result = (f : DkFault) → r.fault ≡ Some f → result ≡ Err f
 
 -- the piece is fed
 abbrev pub Feeds : Reading → List ℕ → Reading → Type 0
@@ -87,6 +96,20 @@ Answers None (Ok _) = Unit {0}
 Answers None (Err e) = ⊥
 Answers (Some f) (Ok _) = ⊥
 Answers (Some f) (Err e) = (e ≡ f) ⊎ ((e ≡ fault.Memory) × IsNamed f)
+
+-- whatever comes after this text is refused so, and reads as no module within the limit
+pub record IsHopeless (limit : Option ℕ) (text : List ℕ) (p : ℕ) (k : DkKind) : Type 0 where
+  pub refuses : (more : List ℕ) → Refuses (reading.answer_within limit (text ++ more)) p k
+  pub unread : (more : List ℕ) (m : List Declaration) → IsWithin limit (text ++ more) → Reads (text ++ more) m → ⊥
+
+-- a text is refused only where nothing after it helps, and it is where it is longer than the limit
+abbrev pub IsJudged : Option ℕ → List ℕ → Result (Unit {0}) DkFault → Type 0
+IsJudged limit text (Ok _) = IsWithin limit text
+IsJudged limit text (Err (fault.Refused p k)) = IsHopeless limit text p k
+IsJudged limit text (Err fault.Memory) = Unit {0}
+
+abbrev pub Judges : Reading → List ℕ → Result (Unit {0}) DkFault → Type 0
+Judges old piece result = (text : List ℕ) → IsFed old text → IsJudged old.limit (text ++ piece) result
 
 -- a reader that has stopped stays as it is
 abbrev pub StaysStopped : Reading → Reading → Type 0

@@ -3,7 +3,7 @@ ghost use Rattle.std.specs.Prelude.{◌≡◌, ◌<◌, ◌≤◌, ◌+◌, ◌^
 ghost use Rattle.lp_spec.specs.ReadingFaults as reading;
 ghost use Rattle.holide_sig.specs.Modules.{declarations_of};
 ghost use Rattle.dk_read.specs.Texts.{Ends};
-ghost use Rattle.dk_read.specs.Readers.{Reading, IsFed, limit_of, EndsWith, ReadsAs, Accepts, NeverTooLong, Feeds, Answers, StaysStopped, HasName, IsCut};
+ghost use Rattle.dk_read.specs.Readers.{Reading, IsFed, limit_of, EndsWith, ReadsAs, Accepts, NeverTooLong, EndsStopped, Feeds, Answers, StaysStopped, Judges, HasName, IsCut};
 
 use crate::faults::{DkFault, DkKind};
 use crate::text::read;
@@ -53,9 +53,21 @@ impl Reader {
     }
 
     /// Takes the next piece of the text. It refuses only a text that is refused whatever follows, and at the latest
-    /// one that is longer than the limit. After a fault each call answers it again, or want of memory where the
-    /// identifier of the fault can't be copied.
+    /// one that is longer than the limit; without a limit none is too long. After a fault each call answers it again,
+    /// or want of memory where the identifier of the fault can't be copied.
     pub fn feed(&mut self, piece: &[u8]) -> Result<(), DkFault>
+        ensures limit { self.new.limit ≡ self.old.limit }
+        ensures feeds { Feeds self.old piece.now self.new }
+        ensures answer { Answers self.new.fault result }
+        ensures stays { StaysStopped self.old self.new }
+        ensures judges { Judges self.old piece.now result }
+        ensures free { NeverTooLong self.old result }
+    {
+        self.take(piece)
+    }
+
+    /// Takes the next piece, unless a fault has stopped the reader.
+    fn take(&mut self, piece: &[u8]) -> Result<(), DkFault>
         ensures limit { self.new.limit ≡ self.old.limit }
         ensures feeds { Feeds self.old piece.now self.new }
         ensures answer { Answers self.new.fault result }
@@ -104,12 +116,13 @@ impl Reader {
     }
 
     /// Ends the text. It answers with the module that the whole text reads as, or with its refusal: the fault at
-    /// the least place. Without a limit no text is too long.
+    /// the least place. Without a limit no text is too long. A reader that has stopped answers its fault again.
     pub fn finish(self) -> Result<Module, DkFault>
         ensures ends { EndsWith self result }
         ensures reads { IfOk result (λ m. ReadsAs self (declarations_of m)) }
         ensures accepts { Accepts self result }
         ensures free { NeverTooLong self result }
+        ensures again { EndsStopped self result }
     {
         self.read_whole()
     }
@@ -117,6 +130,7 @@ impl Reader {
     /// Reads the whole text.
     fn read_whole(self) -> Result<Module, DkFault>
         ensures ends { EndsWith self result }
+        ensures again { EndsStopped self result }
     {
         let Reader {
             alloc,
