@@ -8,7 +8,7 @@ use holide_sig::Ident;
 use thiserror::Error;
 
 /// The fault of a text.
-#[derive(Debug, Drop, Error)]
+#[derive(Debug, Drop, PartialEq, Eq, Error)]
 pub enum DkKind {
     /// The text does not begin as every module's does.
     #[error("the signature is missing")]
@@ -31,7 +31,7 @@ pub enum DkKind {
 }
 
 /// Why a reader stopped.
-#[derive(Debug, Drop, Error)]
+#[derive(Debug, Drop, PartialEq, Eq, Error)]
 pub enum DkFault {
     /// The text is refused at this byte, counted from 0.
     #[error("byte {place}: {kind}")]

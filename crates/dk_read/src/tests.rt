@@ -1,31 +1,44 @@
+//! Facts of the text of modules, and the limits.
 ghost use Rattle.std.specs.Prelude.{◌<◌};
 
 use crate::{DkFault, DkKind, Limit, Reader};
-use holide_sig::{Module, PRELUDE};
+use holide_sig::{Form, Ident, Module, PRELUDE};
 use std::alloc::{AllocError, Global};
 use std::test::Fail;
 
-// Reads the signature's text and this one after it, in pieces of this size.
-fn read_after(alloc: Global, after: &[u8], size: usize) -> Result<Module, DkFault>
+// The signature's text and this one after it.
+fn module_text(alloc: Global, after: &[u8]) -> Result<Vec<u8>, AllocError> {
+    let mut text = Vec::from_slice(alloc, PRELUDE)?;
+    text.extend_from_slice(after)?;
+    Ok(text)
+}
+
+// Reads a text in pieces of this size.
+fn read(alloc: Global, text: &[u8], size: usize) -> Result<Module, DkFault>
     requires { 0 < size }
 {
     let mut reader = Reader::new(alloc, Limit::Bytes(4294967296));
-    for text in [PRELUDE, after] {
-        for piece in text.chunks(size) {
-            reader.feed(piece)?;
-        }
+    for piece in text.chunks(size) {
+        reader.feed(piece)?;
     }
     reader.finish()
+}
+
+fn ident(alloc: Global, name: &[u8]) -> Result<Ident, AllocError> {
+    Ok(Ident::new(Vec::from_slice(alloc, name)?))
 }
 
 #[test]
 fn reads_a_definition_after_comments_in_any_pieces(rt: HostRuntime) -> Result<(), Fail> {
     let alloc = rt.alloc();
+    let text = module_text(alloc, b"(; a (; b ;) def q : type := bool.")?;
     for size in [1, 2, 3, 4096] {
-        match read_after(alloc, b"(; a (; b ;) def q : type := bool.", size) {
+        match read(alloc, &text, size) {
             Ok(module) => {
                 assert_eq!(rt; module.decls.len(), 1);
-                assert_eq!(rt; module.decls.get(0).name.as_bytes(), b"q".as_slice());
+                let decl = module.decls.get(0);
+                assert!(rt; matches!(decl.form, Form::Def));
+                assert_eq!(rt; decl.name.as_bytes(), b"q".as_slice());
             }
             Err(_) => assert!(rt; false, "pieces of {size}"),
         }
@@ -34,46 +47,49 @@ fn reads_a_definition_after_comments_in_any_pieces(rt: HostRuntime) -> Result<()
 }
 
 #[test]
-fn refuses_at_the_least_place(rt: HostRuntime) -> Result<(), Fail> {
+fn refuses_at_the_least_place_in_any_pieces(rt: HostRuntime) -> Result<(), Fail> {
     let alloc = rt.alloc();
-    for (after, wanted) in [
-        (b"def q : type := bool".as_slice(), 20),
-        (b"(; a".as_slice(), 0),
-        (b"thm e : proof e := e.".as_slice(), 14),
-        (b"bool : type.".as_slice(), 0),
-    ] {
-        match read_after(alloc, after, 3) {
-            Err(DkFault::Refused { place, kind: _ }) => {
-                assert_eq!(rt; place, PRELUDE.len() as u64 + wanted, "{after:?}");
+    let table = [
+        (b"def q : type := bool".as_slice(), 20, DkKind::BadText),
+        (b"(; a", 0, DkKind::BadText),
+        (b"[] bool --> ind.", 0, DkKind::BadText),
+        (
+            b"thm e : proof e := e.",
+            14,
+            DkKind::UnknownName(ident(alloc, b"e")?),
+        ),
+        (
+            b"def q : b : type -> type := c.",
+            28,
+            DkKind::UnknownName(ident(alloc, b"c")?),
+        ),
+        (
+            b"bool : type.",
+            0,
+            DkKind::NameTwice(ident(alloc, b"bool")?),
+        ),
+        (
+            b"q : type. thm q : type := bool.",
+            14,
+            DkKind::NameTwice(ident(alloc, b"q")?),
+        ),
+    ];
+    for (after, wanted, kind) in &table {
+        let text = module_text(alloc, after)?;
+        for size in [1, 2, 3, 4096] {
+            let answer = read(alloc, &text, size);
+            match &answer {
+                Err(DkFault::Refused { place, kind: found }) => {
+                    assert_eq!(rt;
+                        *place,
+                        (PRELUDE.len() as u64).saturating_add(*wanted),
+                        "{after:?}"
+                    );
+                    assert!(rt; *found == *kind, "{after:?}");
+                }
+                _ => assert!(rt; false, "{after:?}"),
             }
-            _ => assert!(rt; false, "{after:?}"),
         }
-    }
-    Ok(())
-}
-
-#[test]
-fn a_fault_has_its_identifier(rt: HostRuntime) -> Result<(), Fail> {
-    let alloc = rt.alloc();
-    let unknown = read_after(alloc, b"def q : b : type -> type := c.", 3);
-    match &unknown {
-        Err(
-            DkFault::Refused {
-                place: _,
-                kind: DkKind::UnknownName(name),
-            },
-        ) => assert_eq!(rt; name.as_bytes(), b"c".as_slice()),
-        _ => assert!(rt; false, "an unknown name"),
-    }
-    let twice = read_after(alloc, b"q : type. thm q : type := bool.", 3);
-    match &twice {
-        Err(
-            DkFault::Refused {
-                place: _,
-                kind: DkKind::NameTwice(name),
-            },
-        ) => assert_eq!(rt; name.as_bytes(), b"q".as_slice()),
-        _ => assert!(rt; false, "a name twice"),
     }
     Ok(())
 }
@@ -81,32 +97,53 @@ fn a_fault_has_its_identifier(rt: HostRuntime) -> Result<(), Fail> {
 #[test]
 fn a_part_of_the_signature_is_refused_at_its_length(rt: HostRuntime) -> Result<(), Fail> {
     let alloc = rt.alloc();
-    for wanted in [0, 1, 5, 12, 13, 26, 39, 100, 200, 300, 500, 700, 800] {
+    for length in 0..PRELUDE.len() {
         let mut reader = Reader::new(alloc, Limit::Free);
-        let part = &PRELUDE[..PRELUDE.len().min(wanted)];
-        assert!(rt; reader.feed(part).is_ok(), "{wanted}");
-        let answer = reader.finish();
-        match &answer {
+        assert!(rt; reader.feed(&PRELUDE[..length]).is_ok(), "{length}");
+        match reader.finish() {
             Err(
                 DkFault::Refused {
                     place,
                     kind: DkKind::NoPrelude,
                 },
-            ) => assert_eq!(rt; *place, wanted as u64),
-            _ => assert!(rt; false, "{wanted}"),
+            ) => assert_eq!(rt; place, length as u64),
+            _ => assert!(rt; false, "{length}"),
         }
     }
     Ok(())
 }
 
+#[test]
+fn a_text_past_its_limit_is_refused_again_and_again(rt: HostRuntime) -> Result<(), Fail> {
+    let alloc = rt.alloc();
+    let most = PRELUDE.len() as u64;
+    let mut within = Reader::new(alloc, Limit::Bytes(most));
+    assert_eq!(rt; within.feed(PRELUDE), Ok(()));
+    assert!(rt; within.finish().is_ok());
+    let mut beyond = Reader::new(alloc, Limit::Bytes(most));
+    assert_eq!(rt; beyond.feed(PRELUDE), Ok(()));
+    for piece in [b"\n".as_slice(), b"", b"q : type."] {
+        match beyond.feed(piece) {
+            Err(
+                DkFault::Refused {
+                    place,
+                    kind: DkKind::DkTooLong,
+                },
+            ) => assert_eq!(rt; place, most),
+            _ => assert!(rt; false, "{piece:?}"),
+        }
+    }
+    assert!(rt; beyond.finish().is_err());
+    Ok(())
+}
+
 // A definition whose body is `bool` in so many parentheses, each the second argument of `arr`.
 fn nested(alloc: Global, count: usize) -> Result<Vec<u8>, AllocError> {
-    let mut text = Vec::new(alloc);
-    text.extend_from_slice(b"def q : type := ")?;
+    let mut text = module_text(alloc, b"def q : type :=")?;
     for _ in 0..count {
-        text.extend_from_slice(b"arr bool (")?;
+        text.extend_from_slice(b" arr bool (")?;
     }
-    text.extend_from_slice(b"bool")?;
+    text.extend_from_slice(b" bool")?;
     for _ in 0..count {
         text.extend_from_slice(b")")?;
     }
@@ -117,19 +154,15 @@ fn nested(alloc: Global, count: usize) -> Result<Vec<u8>, AllocError> {
 #[test]
 fn the_greatest_depth_is_read_and_no_greater_one(rt: HostRuntime) -> Result<(), Fail> {
     let alloc = rt.alloc();
-    assert!(rt; read_after(alloc, &nested(alloc, 16382)?, 4096).is_ok());
+    assert!(rt; read(alloc, &nested(alloc, 16382)?, 4096).is_ok());
     let deeper = nested(alloc, 16383)?;
-    let answer = read_after(alloc, &deeper, 4096);
-    match &answer {
+    match read(alloc, &deeper, 4096) {
         Err(
             DkFault::Refused {
                 place,
                 kind: DkKind::DkTooDeep,
             },
-        ) => {
-            let end = PRELUDE.len() as u64 + deeper.len() as u64;
-            assert_eq!(rt; *place, end.saturating_sub(1));
-        }
+        ) => assert_eq!(rt; place.saturating_add(1), deeper.len() as u64),
         _ => assert!(rt; false, "too deep"),
     }
     Ok(())
