@@ -1,5 +1,5 @@
 -- What an answer says of the grammar.
-use Rattle.std.proofs.Common.{◌≡◌, ◌⊎◌, inl, inr, ℕ, ◌≤◌, refl, sym, ap, subst, ◌∙◌, Bool, true, false, List, [], ◌++◌, length, take, Option, None, Some, Result, Ok, Err, arith}
+use Rattle.std.proofs.Common.{◌≡◌, inl, inr, ℕ, ◌≤◌, refl, sym, ap, subst, ◌∙◌, Bool, true, false, List, [], ◌++◌, length, take, Option, None, Some, Result, Ok, Err, arith}
 use Rattle.std.specs.Prelude.{nat_le, if◌then◌else◌, IfOk}
 use Rattle.std.proofs.lemmas.Grind.{common_steps}
 use Rattle.lp_spec.specs.Modules.{Declaration}
@@ -14,7 +14,7 @@ use Rattle.dk_read.specs.declared.faults.DkKind.{DkKind}
 use Rattle.dk_read.specs.declared.faults.DkKind.TheVariants as kind
 use Rattle.dk_read.specs.States.{fault_of}
 use Rattle.dk_read.specs.Texts.{Ends, Refuses}
-use Rattle.dk_read.specs.Readers.{Reading, IsFed, fed_with, IsWithin, EndsWith, IsRead, ReadsAs, HasRead, Accepts, IsNoLength, IsNotTooLong, NeverTooLong, Feeds, IsNamed, Answers, IsHopeless, IsJudged, Judges}
+use Rattle.dk_read.specs.Readers.{Reading, IsFed, fed_with, IsWithin, EndsWith, IsRead, ReadsAs, HasRead, Accepts, IsNoLength, IsNotTooLong, NeverTooLong, Feeds, Answers, IsHopeless, IsJudged, Judges}
 use Rattle.dk_read.proofs.Unlimited as unlimited
 
 -- a text that goes past its limit reads as no module

@@ -1,6 +1,5 @@
 -- The tokens that a byte ends, one after the other.
-use Rattle.std.proofs.Common.{◌≡◌, ℕ, refl, sym, ap, subst, ◌∙◌, List, [], ◌∷◌, Option, None, Some, Result, Ok, Err}
-use Rattle.lp_spec.specs.Trees.{Tree}
+use Rattle.std.proofs.Common.{◌≡◌, ℕ, sym, ap, subst, ◌∙◌, List, Result, Err}
 use Rattle.lp_spec.specs.Modules.{Declaration}
 use Rattle.lp_spec.specs.Tokens as tokens
 use Rattle.lp_spec.specs.ReadingFaults as reading
@@ -12,7 +11,7 @@ use Rattle.dk_read.specs.declared.terms.Token.{Token}
 use Rattle.dk_read.specs.declared.machine.Machine.{Machine}
 use Rattle.dk_read.specs.declared.text.Text.{Text}
 use Rattle.dk_read.specs.States.{before, state_in, token_of, fault_of}
-use Rattle.dk_read.specs.Texts.{Advances, Takes, inside}
+use Rattle.dk_read.specs.Texts.{Advances, Takes}
 
 pub next_ordered : (old new : Machine) (state taken next : State) (p : ℕ) (t : Token) → IsState (before old) (state_in old state) → taken ≡ state → reading.advance (before old) (state_in old taken) p (token_of t) ≡ reading.Goes (before new) (state_in new next) → IsState (before new) (state_in new next)
 next_ordered old new state taken next p t h same e =

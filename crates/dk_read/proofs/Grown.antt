@@ -1,19 +1,17 @@
 -- What stays where the table of a reading grows.
-use Rattle.std.proofs.Common.{◌≡◌, ℕ, ◌<◌, ◌+◌, refl, sym, ap, subst, ◌∙◌, Bool, true, false, List, [], ◌∷◌, ◌++◌, length, map, reverse, Option, None, Some, position, arith}
-use Rattle.std.proofs.lemmas.Grind.{common_steps}
+use Rattle.std.proofs.Common.{◌≡◌, refl, sym, ap, subst, List, [], ◌∷◌, map, reverse, Option, None, Some, arith}
 use Rattle.lp_spec.specs.Trees.{Tree}
 use Rattle.lp_spec.specs.ModuleOrder.{IsModule}
 use Rattle.lp_term.specs.declared.LpId.{LpId}
-use Rattle.lp_term.specs.Tables.{tree_at, Keeps}
+use Rattle.lp_term.specs.Tables.{Keeps}
 use Rattle.lp_term.specs.TableLaws.{tree_at-Stays}
-use Rattle.holide_sig.specs.Modules.{declarations_of, IsHeld}
 use Rattle.holide_sig.specs.ModuleLaws.{IsHeld-Keeps, declarations_of-Keeps}
 use Rattle.dk_read.specs.declared.terms.Frame.{Frame}
 use Rattle.dk_read.specs.declared.terms.Frame.TheVariants as frame
 use Rattle.dk_read.specs.declared.terms.Head.{Head}
 use Rattle.dk_read.specs.declared.terms.Head.TheVariants as head
 use Rattle.dk_read.specs.declared.machine.Machine.{Machine}
-use Rattle.dk_read.specs.States.{tree_in, frame_in, frames_of, head_in, IsIdKnown, IsFrameKnown, AreFramesKnown, IsHeadKnown, IsSound, Grows}
+use Rattle.dk_read.specs.States.{tree_in, frame_in, head_in, IsIdKnown, IsFrameKnown, AreFramesKnown, IsHeadKnown, IsSound, Grows}
 
 module _ (old new : List Tree) (k : Keeps old new) where
   pub tree_in-Keeps : (id : Option LpId) → IsIdKnown old id → tree_in new id ≡ tree_in old id

@@ -1,6 +1,5 @@
 -- What is read of the signature's own text.
-use Rattle.std.proofs.Common.{◌≡◌, ℕ, zero, suc, ◌+◌, ◌<◌, ◌==◌, if◌then◌else◌, refl, sym, ap, subst, ◌∙◌, Bool, true, false, List, [], ◌∷◌, ◌++◌, length, drop, Option, None, Some, arith}
-use Rattle.std.proofs.lemmas.Grind.{common_steps}
+use Rattle.std.proofs.Common.{◌≡◌, ℕ, suc, ◌+◌, ◌<◌, ◌==◌, if◌then◌else◌, refl, sym, ap, subst, ◌∙◌, Bool, true, false, List, [], ◌∷◌, length, drop, arith}
 use Rattle.lp_spec.specs.Tokens.{Nothing}
 use Rattle.lp_spec.specs.ReadingFaults as reading
 use Rattle.lp_spec.specs.ReadingLaws.{read_bytes-Refused}

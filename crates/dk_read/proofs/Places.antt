@@ -1,15 +1,15 @@
 -- Where a name is found.
-use Rattle.std.proofs.Common.{◌≡◌, ℕ, zero, suc, ◌+◌, ◌<◌, refl, sym, ap, ◌∙◌, Bool, true, false, List, [], ◌∷◌, ◌++◌, length, get_or, Option, None, Some, position, arith}
-use Rattle.std.specs.Prelude.{IsFalse, option_map, if◌then◌else◌}
+use Rattle.std.proofs.Common.{◌≡◌, ℕ, zero, suc, ◌+◌, ◌<◌, refl, ap, ◌∙◌, Bool, true, false, List, [], ◌∷◌, ◌++◌, length, get_or, Option, None, Some, position, arith}
+use Rattle.std.specs.Prelude.{option_map, if◌then◌else◌}
 use Rattle.std.specs.List.{list_any}
 use Rattle.std.specs.Str.{bytes_eq}
 use Rattle.std.proofs.lemmas.Grind.{common_steps}
 use Rattle.std.proofs.lemmas.List.Quantifiers.{position-Some}
 use Rattle.lp_spec.specs.declared.form.Form.{Form}
-use Rattle.lp_spec.specs.Trees.{Tree, SortType}
+use Rattle.lp_spec.specs.Trees.{SortType}
 use Rattle.lp_spec.specs.Modules.{Declaration, signature, symbol}
 use Rattle.lp_spec.specs.ModuleOrder.{is_declared}
-use Rattle.lp_spec.specs.Reading.{variable_of, symbol_of}
+use Rattle.lp_spec.specs.Reading.{variable_of}
 use Rattle.lp_spec.specs.ReadingFaults as reading
 use Rattle.holide_sig.specs.ModuleLaws.{symbol_number-None}
 use Rattle.holide_sig.specs.Modules.{symbol_number}

@@ -1,15 +1,14 @@
 -- No text is too long by itself.
-use Rattle.std.proofs.Common.{◌≡◌, ℕ, ◌+◌, sym, subst, Bool, true, false, List, [], ◌∷◌, ◌++◌, Option, None, Some, arith}
+use Rattle.std.proofs.Common.{ℕ, ◌+◌, Bool, true, false, List, [], ◌∷◌, ◌++◌, Option, None, Some}
 use Rattle.std.specs.Prelude.{◌==◌, nat_le, if◌then◌else◌}
 use Rattle.lp_spec.specs.declared.form.Form.{Form}
 use Rattle.lp_spec.specs.declared.form.Form.TheVariants.{Symbol, Def, Thm}
 use Rattle.lp_spec.specs.Trees.{Tree, Pi, Lam, depth}
 use Rattle.lp_spec.specs.Modules.{Declaration, signature}
 use Rattle.lp_spec.specs.ModuleOrder.{is_declared}
-use Rattle.lp_spec.specs.Text.{prelude}
 use Rattle.lp_spec.specs.Tokens.{Token, Name, TypeWord, DefWord, ThmWord, Colon, Assign, Arrow, FatArrow, Dot, LeftParen, RightParen, Placed, at, End, ended, stuck, Pending, Nothing, Taken, goes, sticks, take_byte, last_tokens, end_at}
 use Rattle.lp_spec.specs.Reading.{max_depth}
-use Rattle.lp_spec.specs.ReadingFaults.{Fault, NameTwice, UnknownName, NoPrelude, BadText, DkTooDeep, DkTooLong, Refusal, refusal, Frame, Enclosing, Domain, Product, Abstraction, Head, TypeOf, BodyOf, State, Between, AfterKeyword, AfterName, AtTerm, AfterFirst, InApplication, Outcome, Goes, Stops, stops, meaning, argued, atom, encloses, whole, declares, assigns, arrow, fat_arrow, applies, goes_on, advance, advance_all, broken_after, broken, Answer, reads, refused, answers, Progress, Opening, Inside, Refused, progress, after_byte, opened, read_byte, read_bytes, read_end, unread, answer}
+use Rattle.lp_spec.specs.ReadingFaults.{Fault, NameTwice, NoPrelude, DkTooDeep, DkTooLong, refusal, Frame, Enclosing, Domain, Product, Abstraction, Head, TypeOf, BodyOf, State, Between, AfterKeyword, AfterName, AtTerm, AfterFirst, InApplication, Outcome, Goes, Stops, stops, meaning, atom, encloses, whole, declares, assigns, arrow, fat_arrow, applies, goes_on, advance, advance_all, broken_after, broken, Answer, reads, refused, answers, Progress, Opening, Inside, Refused, progress, after_byte, opened, read_byte, read_bytes, read_end, unread, answer}
 
 -- a fault that a text has whatever the limit is
 abbrev pub IsOfText : Fault → Type 0

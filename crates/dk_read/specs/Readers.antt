@@ -1,5 +1,5 @@
 -- A reader of the text of a module, between two pieces of it.
-use Rattle.std.specs.Prelude.{◌≡◌, ◌⊎◌, ℕ, ◌≤◌, List, [], ◌∷◌, ◌++◌, length, Option, None, Some, Result, Ok, Err}
+use Rattle.std.specs.Prelude.{◌≡◌, ◌⊎◌, ℕ, ◌≤◌, List, ◌++◌, length, Option, None, Some, Result, Ok, Err}
 use Rattle.lp_spec.specs.Modules.{Declaration}
 use Rattle.lp_spec.specs.Reading.{Reads}
 use Rattle.lp_spec.specs.ReadingFaults as reading

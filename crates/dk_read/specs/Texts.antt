@@ -1,6 +1,5 @@
 -- A reading between two bytes, and what it stands for.
 use Rattle.std.specs.Prelude.{◌≡◌, ℕ, suc, ◌==◌, min, if◌then◌else◌, List, [], ◌∷◌, Option, None, Some, Result, Ok, Err}
-use Rattle.lp_spec.specs.Modules.{Declaration}
 use Rattle.lp_spec.specs.ModuleOrder.{IsModule}
 use Rattle.holide_sig.specs.declared.module.Module.{Module}
 use Rattle.holide_sig.specs.Modules.{declarations_of, IsHeld}

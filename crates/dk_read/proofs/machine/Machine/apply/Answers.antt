@@ -1,6 +1,5 @@
-use Rattle.std.proofs.Common.{Some, ◌∙◌}
+use Rattle.std.proofs.Common.{◌∙◌}
 use Rattle.lp_spec.specs.Trees.{SortType}
-use Rattle.lp_spec.specs.ReadingFaults as reading
 use Rattle.lp_term.specs.Tables.{tree_at}
 use Rattle.dk_read.specs.States.{before, frames_of, head_in, tree_in}
 use Rattle.dk_read.proofs.Declared.{becomes_as, grown_atom, name_applies, type_applies, held_is}

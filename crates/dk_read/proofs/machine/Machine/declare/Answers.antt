@@ -1,7 +1,5 @@
-use Rattle.std.proofs.Common.{◌≡◌, Some, ◌∙◌, ap}
-use Rattle.lp_spec.specs.ReadingFaults as reading
-use Rattle.lp_term.specs.Tables.{tree_at}
-use Rattle.dk_read.specs.States.{before, frames_of, tree_in}
+use Rattle.std.proofs.Common.{◌∙◌, ap}
+use Rattle.dk_read.specs.States.{tree_in}
 use Rattle.dk_read.proofs.Declared.{becomes_as, symbol_head, symbol_may, body_may, body_declares}
 use Rattle.dk_read.proofs.machine.Machine.declare.Goals as goal
 

@@ -1,4 +1,3 @@
-use Rattle.std.proofs.Common.{sym, ◌∙◌}
 use Rattle.holide_sig.specs.Modules.{declarations_of}
 use Rattle.dk_read.proofs.Places.{name_twice, name_new}
 use Rattle.dk_read.proofs.machine.Machine.name.Goals as goal

@@ -1,6 +1,4 @@
-use Rattle.std.proofs.Common.{◌≡◌, ◌<◌, length, List, ℕ}
-use Rattle.lp_spec.specs.Modules.{Declaration}
-use Rattle.lp_spec.specs.ReadingFaults as reading
+use Rattle.std.proofs.Common.{◌≡◌, ◌<◌, length}
 use Rattle.lp_term.specs.Tables.{tree_at, Keeps}
 use Rattle.dk_read.specs.States.{frames_of, before, IsSound, Rewinds}
 use Rattle.dk_read.proofs.machine.Machine.unwind.Given as goal
