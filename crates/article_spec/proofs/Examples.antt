@@ -11,15 +11,18 @@ use Rattle.hol_spec.specs.declared.StepKind.{StepKind}
 use Rattle.hol_spec.specs.Terms.{Term, type_of, equation}
 use Rattle.hol_spec.specs.Limits.{term_size, term_depth}
 use Rattle.hol_spec.specs.Proofs.{Made}
+use Rattle.hol_spec.specs.Symbols.{Symbol}
+use Rattle.article_spec.specs.Contents.{content, faulty}
 use Rattle.bridge_base.specs.declared.faults.Kind.{Kind}
-use Rattle.bridge_base.specs.declared.faults.Kind.TheVariants.{BadLine, StackShort, WrongKind, VersionPlace}
+use Rattle.bridge_base.specs.declared.faults.Kind.TheVariants.{BadLine, StackShort, WrongKind, VersionPlace, EmptyList, NoSuchKey, NumberRange}
 use Rattle.article_spec.specs.declared.commands.Command.{Command}
 use Rattle.article_spec.specs.declared.commands.Item.{Item}
 use Rattle.article_spec.specs.declared.commands.Item.TheVariants as item
 use Rattle.article_spec.specs.declared.commands.Word.{Word}
 use Rattle.article_spec.specs.declared.commands.Word.TheVariants as word
 use Rattle.std.specs.FinMap as entries
-use Rattle.article_spec.specs.State.{Object, State, initial}
+use Rattle.article_spec.specs.State.{Object, Objects, State, initial, body}
+use Rattle.article_spec.specs.Restriction.{restricted_step}
 use Rattle.article_spec.specs.Step.{step}
 use Rattle.article_spec.specs.Results.{◌>>=◌}
 use Rattle.article_spec.specs.Run.{obey_article, at_line}
@@ -149,3 +152,42 @@ stack_of (Err r) = []
 
 kept_object : stack_of (after_header (item.Name (codes "x" ∷ []) ∷ item.Number (pos 7) ∷ w word.Def ∷ item.Number (pos 7) ∷ w word.Ref ∷ [])) ≡ Object.name (codes "x" ∷ []) ∷ Object.name (codes "x" ∷ []) ∷ []
 kept_object = simp entries.gets
+
+-- an empty list has no head
+no_head : after_header (w word.Nil ∷ w word.HdTl ∷ []) ≡ Err (0, EmptyList)
+no_head = refl
+
+-- the tail comes on top of the head
+head_below_tail : stack_of (after_header (item.Number (pos 1) ∷ w word.Nil ∷ w word.Cons ∷ w word.HdTl ∷ [])) ≡ Object.list Objects.none ∷ Object.number (pos 1) ∷ []
+head_below_tail = refl
+
+-- what `remove` gave back isn't kept any more
+removed_object : after_header (item.Name (codes "x" ∷ []) ∷ item.Number (pos 7) ∷ w word.Def ∷ item.Number (pos 7) ∷ w word.Remove ∷ item.Number (pos 7) ∷ w word.Ref ∷ []) ≡ Err (0, NoSuchKey)
+removed_object = simp entries.gets
+
+dropped_objects : stack_of (after_header (item.Number (pos 1) ∷ item.Number (pos 2) ∷ item.Number (pos 3) ∷ w word.Pop ∷ w word.Pragma ∷ [])) ≡ Object.number (pos 1) ∷ []
+dropped_objects = refl
+
+-- the identity: the variable becomes the number of its binder
+identity_object : stack_of (after_header (item.Name (codes "p" ∷ []) ∷ bool_lines ++ w word.Var ∷ p_lines ++ w word.AbsTerm ∷ [])) ≡ Object.term (Term.lam bool (Term.bound 0)) ∷ []
+identity_object = refl
+
+-- a name that is no primitive operator becomes an input operator
+abbrev symbols_after : Result State (ℕ × Kind) → List Made
+symbols_after (Ok s) = s.made
+symbols_after (Err r) = []
+
+input_operator : symbols_after (after_header (item.Name (codes "list" ∷ []) ∷ w word.TypeOp ∷ item.Name (codes "a" ∷ []) ∷ w word.VarType ∷ w word.Nil ∷ w word.Cons ∷ w word.OpType ∷ []))
+    ≡ Made.symbol (Symbol.input_operator (codes "list" ∷ []) 1) ∷ []
+input_operator = refl
+
+-- the kinds of lines at fault
+no_number : content (codes "-") ≡ faulty BadLine
+no_number = refl
+
+too_great : content (codes "9223372036854775808") ≡ faulty NumberRange
+too_great = refl
+
+-- this version of the bridge refuses the words that it doesn't obey
+word_left_out : restricted_step (record initial { place = body }) (record { line = 3; «item» = w word.Pop }) ≡ Err BadLine
+word_left_out = refl

@@ -59,7 +59,3 @@ said (b ∷ text) = if b == number_sign then skipped else item_content (b ∷ te
 -- what a line says
 abbrev pub content : List ℕ → Content
 content line = said (trimmed line)
-
--- the kind under which a fault is shown: for now each line that can't be read is a bad line
-abbrev pub shown : Kind → Kind
-shown k = kind.BadLine

@@ -6,7 +6,7 @@ use Rattle.bridge_base.specs.declared.faults.Kind.{Kind}
 use Rattle.bridge_base.specs.declared.faults.Kind.TheVariants as kind
 use Rattle.article_spec.specs.declared.commands.Command.{Command}
 use Rattle.article_spec.specs.declared.commands.Item.{Item}
-use Rattle.article_spec.specs.Contents.{Content, skipped, command, faulty, content, shown}
+use Rattle.article_spec.specs.Contents.{Content, skipped, command, faulty, content}
 
 -- the byte LF, which ends a line
 abbrev pub newline : ℕ
@@ -70,9 +70,9 @@ pub data Opens : ℕ → ℕ → List ℕ → List Command → ℕ → ℕ → L
 
 -- From line n at offset o on, the text gives these commands before a line that is ended and at fault, or past a limit; that line has this number and the fault this kind.
 pub data Stops : ℕ → ℕ → List ℕ → List Command → ℕ → Kind → Type 0 where
-  faults : {n o : ℕ} {text line more : List ℕ} {k : Kind} → EndedLine o text line more (faulty k) → Stops n o text [] n (shown k)
-  long_line : {n o : ℕ} {text : List ℕ} → LongLine o text → Stops n o text [] n (shown kind.LineTooLong)
-  long_article : {n o : ℕ} {text : List ℕ} → LongArticle o text → Stops n o text [] n (shown kind.InputTooLong)
+  faults : {n o : ℕ} {text line more : List ℕ} {k : Kind} → EndedLine o text line more (faulty k) → Stops n o text [] n k
+  long_line : {n o : ℕ} {text : List ℕ} → LongLine o text → Stops n o text [] n kind.LineTooLong
+  long_article : {n o : ℕ} {text : List ℕ} → LongArticle o text → Stops n o text [] n kind.InputTooLong
   skips_on : {n o m : ℕ} {text line more : List ℕ} {commands : List Command} {k : Kind} → EndedLine o text line more skipped → Stops (n + 1) (o + length line + 1) more commands m k → Stops n o text commands m k
   gives_on : {n o m : ℕ} {text line more : List ℕ} {i : Item} {commands : List Command} {k : Kind} → EndedLine o text line more (command i) → Stops (n + 1) (o + length line + 1) more commands m k → Stops n o text (command_at n i ∷ commands) m k
 
@@ -85,5 +85,5 @@ pub data End : Type 0 where
 pub data Lines : List ℕ → List Command → End → Type 0 where
   last_skipped : {text line : List ℕ} {commands : List Command} {n o : ℕ} → Opens 1 0 text commands n o line → content line ≡ skipped → Lines text commands (ended n)
   last_gives : {text line : List ℕ} {commands all : List Command} {n o : ℕ} {i : Item} → Opens 1 0 text commands n o line → content line ≡ command i → all ≡ commands ++ command_at n i ∷ [] → Lines text all (ended n)
-  last_faults : {text line : List ℕ} {commands : List Command} {n o : ℕ} {k : Kind} → Opens 1 0 text commands n o line → content line ≡ faulty k → Lines text commands (refused n (shown k))
+  last_faults : {text line : List ℕ} {commands : List Command} {n o : ℕ} {k : Kind} → Opens 1 0 text commands n o line → content line ≡ faulty k → Lines text commands (refused n k)
   stops : {text : List ℕ} {commands : List Command} {n : ℕ} {k : Kind} → Stops 1 0 text commands n k → Lines text commands (refused n k)

@@ -5,7 +5,7 @@ use Rattle.hol_spec.specs.Names.{Name}
 use Rattle.hol_spec.specs.Types.{HolType}
 use Rattle.hol_spec.specs.Terms.{Term, Variable}
 use Rattle.bridge_base.specs.declared.faults.Kind.{Kind}
-use Rattle.bridge_base.specs.declared.faults.Kind.TheVariants.{StackShort, WrongKind}
+use Rattle.bridge_base.specs.declared.faults.Kind.TheVariants.{StackShort, WrongKind, EmptyList}
 use Rattle.article_spec.specs.State.{Object, Objects, number, name, list, type_operator, type, constant, variable, term, theorem, none, more}
 use Rattle.article_spec.specs.Results.{◌>>=◌}
 
@@ -72,3 +72,8 @@ pop as_one (x ∷ below) = do
 
 abbrev pub any_object : Object → Result Object Kind
 any_object x = Ok x
+
+-- The first element of a list, and the rest of it.
+abbrev pub head_and_tail : Objects → Result (Object × Objects) Kind
+head_and_tail none = Err EmptyList
+head_and_tail (more x xs) = Ok (x, xs)

@@ -9,7 +9,7 @@ use Rattle.bridge_base.specs.declared.faults.Kind.TheVariants as kind
 use Rattle.article_spec.specs.declared.commands.Command.{Command}
 use Rattle.article_spec.specs.OneReading.{OneReading, OpensOrStops, OpensFront}
 use Rattle.article_spec.specs.LineLaws.{IsLine-push, opens_then, stops_then, OpenLine-of}
-use Rattle.article_spec.specs.Contents.{Content, skipped, command, faulty, content, shown}
+use Rattle.article_spec.specs.Contents.{Content, skipped, command, faulty, content}
 use Rattle.article_spec.specs.Lines.{newline, max_line, max_article, command_at, IsLine, EndedLine, OpenLine, LongLine, LongArticle, Opens, open_line, skips, gives, Stops, faults, long_line, long_article, skips_on, gives_on, End, ended, refused, Lines, last_skipped, last_gives, last_faults, stops}
 
 -- how a scan of the text ends: at an open line with its number, offset and text, or at a fault
@@ -24,14 +24,14 @@ before c (at_fault commands n k) = at_fault (c ∷ commands) n k
 abbrev after_line : ℕ → Content → Scan → Scan
 after_line n skipped s = s
 after_line n (command i) s = before (command_at n i) s
-after_line n (faulty k) s = at_fault [] n (shown k)
+after_line n (faulty k) s = at_fault [] n k
 
 -- the scan, byte by byte, behind the bytes of an open line
 abbrev scan : List ℕ → ℕ → ℕ → List ℕ → Scan
 scan [] n o line = at_line [] n o line
 scan (b ∷ text) n o line =
-    cond (not (b == newline) && (length line == max_line)) (at_fault [] n (shown kind.LineTooLong))
-    (cond (o + length line == max_article) (at_fault [] n (shown kind.InputTooLong))
+    cond (not (b == newline) && (length line == max_line)) (at_fault [] n kind.LineTooLong)
+    (cond (o + length line == max_article) (at_fault [] n kind.InputTooLong)
     (cond (b == newline) (after_line n (content line) (scan text (n + 1) (o + length line + 1) []))
     (scan text n o (line ++ b ∷ []))))
 
@@ -58,12 +58,12 @@ scan-newline_byte b more n o line is w =
     choose (not (b == newline) && (length line == max_line)) (o + length line == max_article) (b == newline) _ _ _ _ _
     (λ p. absurd (grind (arith, common_steps))) (λ p q. absurd (grind (arith, common_steps))) (λ p q r. refl) (λ p q r. absurd (grind (arith, common_steps)))
 
-scan-long : (b : ℕ) (more : List ℕ) (n o : ℕ) (line : List ℕ) → b ≢ newline → length line ≡ max_line → scan (b ∷ more) n o line ≡ at_fault [] n (shown kind.LineTooLong)
+scan-long : (b : ℕ) (more : List ℕ) (n o : ℕ) (line : List ℕ) → b ≢ newline → length line ≡ max_line → scan (b ∷ more) n o line ≡ at_fault [] n kind.LineTooLong
 scan-long b more n o line other full =
     choose (not (b == newline) && (length line == max_line)) (o + length line == max_article) (b == newline) _ _ _ _ _
     (λ p. refl) (λ p q. absurd (grind (arith, common_steps))) (λ p q r. absurd (other (same_number b newline r))) (λ p q r. absurd (grind (arith, common_steps)))
 
-scan-full : (b : ℕ) (more : List ℕ) (n o : ℕ) (line : List ℕ) → (length line ≡ max_line → b ≡ newline) → o + length line ≡ max_article → scan (b ∷ more) n o line ≡ at_fault [] n (shown kind.InputTooLong)
+scan-full : (b : ℕ) (more : List ℕ) (n o : ℕ) (line : List ℕ) → (length line ≡ max_line → b ≡ newline) → o + length line ≡ max_article → scan (b ∷ more) n o line ≡ at_fault [] n kind.InputTooLong
 scan-full b more n o line first full =
     choose (not (b == newline) && (length line == max_line)) (o + length line == max_article) (b == newline) _ _ _ _ _
     (λ p. absurd (grind (arith, common_steps, first))) (λ p q. refl) (λ p q r. absurd (grind (arith, common_steps))) (λ p q r. absurd (grind (arith, common_steps)))
@@ -93,7 +93,7 @@ Read = List Command × End
 abbrev last_line : List Command → ℕ → Content → Read
 last_line commands n skipped = (commands, ended n)
 last_line commands n (command i) = (commands ++ command_at n i ∷ [], ended n)
-last_line commands n (faulty k) = (commands, refused n (shown k))
+last_line commands n (faulty k) = (commands, refused n k)
 
 abbrev reading : Scan → Read
 reading (at_line commands n o line) = last_line commands n (content line)
@@ -157,7 +157,7 @@ record HasReading (text : List ℕ) : Type 0 where
 by_last : {text line : List ℕ} {commands : List Command} {n o : ℕ} (says : Content) → Opens 1 0 text commands n o line → content line ≡ says → HasReading text
 by_last {commands = commands} {n = n} skipped h e = record { commands = commands; end = ended n; read = last_skipped h e }
 by_last {commands = commands} {n = n} (command i) h e = record { commands = commands ++ command_at n i ∷ []; end = ended n; read = last_gives h e refl }
-by_last {commands = commands} {n = n} (faulty k) h e = record { commands = commands; end = refused n (shown k); read = last_faults h e }
+by_last {commands = commands} {n = n} (faulty k) h e = record { commands = commands; end = refused n k; read = last_faults h e }
 
 found : {text : List ℕ} → GoesOn 1 0 text → HasReading text
 found (to_line {rest = rest} h) = by_last (content rest) h refl
@@ -194,7 +194,7 @@ record ReadsAfter (text : List ℕ) (commands : List Command) : Type 0 where
 last_after : {text line : List ℕ} {n o : ℕ} (commands others : List Command) (says : Content) → Opens 1 0 text (commands ++ others) n o line → content line ≡ says → ReadsAfter text commands
 last_after {n = n} commands others skipped h e = record { rest = others; end = ended n; read = last_skipped h e }
 last_after {n = n} commands others (command i) h e = record { rest = others ++ command_at n i ∷ []; end = ended n; read = last_gives h e (sym (append_assoc commands others (command_at n i ∷ []))) }
-last_after {n = n} commands others (faulty k) h e = record { rest = others; end = refused n (shown k); read = last_faults h e }
+last_after {n = n} commands others (faulty k) h e = record { rest = others; end = refused n k; read = last_faults h e }
 
 found_after : {text line : List ℕ} {n o : ℕ} {commands : List Command} → Opens 1 0 text commands n o line → (more : List ℕ) → GoesOn n o (line ++ more) → ReadsAfter (text ++ more) commands
 found_after {commands = commands} h more (to_line {commands = others} {rest = rest} on) = last_after commands others (content rest) (opens_then h more on) refl

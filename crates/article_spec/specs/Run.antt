@@ -5,13 +5,14 @@ use Rattle.std.specs.List.{AllByRecursion}
 use Rattle.hol_spec.specs.Derivations.{Derives}
 use Rattle.hol_spec.specs.Proofs.{Made, symbols_of, steps_of, sequent_at, definitions_of}
 use Rattle.bridge_base.specs.declared.faults.Kind.{Kind}
+use Rattle.bridge_base.specs.declared.faults.Kind.TheVariants.{BadLine}
 use Rattle.article_spec.specs.declared.commands.Command.{Command}
 use Rattle.article_spec.specs.Lines.{Lines, End, ended, refused}
 use Rattle.article_spec.specs.Ascending.{Ascend}
 use Rattle.article_spec.specs.Results.{◌>>=◌}
 use Rattle.article_spec.specs.State.{State, initial}
-use Rattle.article_spec.specs.Step.{step, finish}
-use Rattle.article_spec.specs.Restriction.{restricted}
+use Rattle.article_spec.specs.Step.{finish}
+use Rattle.article_spec.specs.Restriction.{restricted, restricted_step}
 
 -- The answer of a command that stands in a line.
 abbrev pub at_line : ℕ → Result State Kind → Result State (ℕ × Kind)
@@ -21,13 +22,13 @@ at_line line (Err kind) = Err (line, kind)
 abbrev pub obey_all : State → List Command → Result State (ℕ × Kind)
 obey_all s [] = Ok s
 obey_all s (command ∷ commands) = do
-  next ← at_line command.line (restricted (step s command))
+  next ← at_line command.line (restricted_step s command)
   obey_all next commands
 
--- The end of an article, in the line of its end, or its first faulty line.
+-- The end of an article, in the line of its end, or its first faulty line, which is told as a bad line like every refusal.
 abbrev pub end_article : State → End → Result State (ℕ × Kind)
 end_article s (ended line) = at_line line (restricted (finish s))
-end_article s (refused line kind) = Err (line, kind)
+end_article s (refused line kind) = Err (line, BadLine)
 
 -- A whole article.
 abbrev pub obey_article : State → List Command → End → Result State (ℕ × Kind)

@@ -1,6 +1,8 @@
 -- Laws of a run: as every text has exactly one reading, every list of articles has exactly one outcome.
 use Rattle.std.proofs.Common.{ℕ, ◌+◌, ◌<◌, ◌≡◌, List, [], ◌∷◌, ◌++◌, map, length, Result, Ok, Err, refl, sym, ap, subst, ◌∙◌}
+use Rattle.std.specs.Prelude.{Bool, true, false, if◌then◌else◌}
 use Rattle.bridge_base.specs.declared.faults.Kind.{Kind}
+use Rattle.bridge_base.specs.declared.faults.Kind.TheVariants.{BadLine}
 use Rattle.article_spec.specs.declared.commands.Command.{Command}
 use Rattle.article_spec.specs.Lines.{End, ended, refused}
 use Rattle.article_spec.specs.OneReading.{HasOneReading}
@@ -14,7 +16,7 @@ use Rattle.hol_spec.specs.DerivationLaws.{step-Derives}
 use Rattle.hol_spec.specs.Proofs.{symbols_of, steps_of, sequent_at, definitions_of, IsProof}
 use Rattle.article_spec.specs.Step.{step, finish}
 use Rattle.article_spec.specs.StepLaws.{IsSound, below, bound, at_step, step-IsSound, finish-IsSound, initial-IsSound}
-use Rattle.article_spec.specs.Restriction.{restricted, without_inputs}
+use Rattle.article_spec.specs.Restriction.{restricted, restricted_step, is_obeyed, without_inputs}
 use Rattle.article_spec.specs.Run.{Accepted, at_line, obey_all, end_article, obey_article, accepted_state, Outcome, accepted, refused_at, RunsFrom, finished, passed, stopped, IsDerived, OneOutcome, Run, ExportsDerived, ExportsAscend, AssumesNothing, TakesNoSymbols, RefusalsStay}
 
 record OneFrom (k : ℕ) (s : State) (articles : List (List ℕ)) : Type 0 where
@@ -80,6 +82,14 @@ unrestricted (Ok s) t e = let_through (symbols_of s.made) s t e
     let_through (x ∷ xs) s t e = absurd (cc)
 unrestricted (Err k) t e = absurd (cc)
 
+-- a command that is obeyed gives what the restriction lets through
+obeyed : (s t : State) (command : Command) → restricted_step s command ≡ Ok t → restricted (step s command) ≡ Ok t
+obeyed s t command e = one_way (is_obeyed command.item) (restricted (step s command)) t e
+  where
+    one_way : (b : Bool) (a : Result State Kind) (t : State) → (if b then a else Err BadLine) ≡ Ok t → a ≡ Ok t
+    one_way true a t e = e
+    one_way false a t e = absurd (cc)
+
 on_line : (line : ℕ) (a : Result State Kind) (t : State) → at_line line a ≡ Ok t → a ≡ Ok t
 on_line line (Ok s) t e = cc
 on_line line (Err k) t e = absurd (cc)
@@ -90,8 +100,8 @@ obey_all-IsSound [] s t h e = subst IsSound (same_state s t e) h
     same_state : (s t : State) → ◌≡◌ {A = Result State (ℕ × Kind)} (Ok s) (Ok t) → s ≡ t
     same_state s t e = cc
 obey_all-IsSound (command ∷ commands) s t h e =
-    let next = bound (at_line command.line (restricted (step s command))) _ t e in
-    obey_all-IsSound commands next.0 t (step-IsSound s next.0 command h (unrestricted (step s command) next.0 (on_line command.line (restricted (step s command)) next.0 next.1))) next.2
+    let next = bound (at_line command.line (restricted_step s command)) _ t e in
+    obey_all-IsSound commands next.0 t (step-IsSound s next.0 command h (unrestricted (step s command) next.0 (obeyed s next.0 command (on_line command.line (restricted_step s command) next.0 next.1)))) next.2
 
 end_article-IsSound : (end : End) (s t : State) → IsSound s → end_article s end ≡ Ok t → IsSound t
 end_article-IsSound (ended line) s t h e = finish-IsSound s t h (unrestricted (finish s) t (on_line line (restricted (finish s)) t e))

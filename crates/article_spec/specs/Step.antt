@@ -7,7 +7,8 @@ use Rattle.std.specs.Ordering.{int_eq}
 use Rattle.std.specs.FinMap as entries
 use Rattle.hol_spec.specs.Lists.{distinct}
 use Rattle.hol_spec.specs.Types.{HolType, types_of}
-use Rattle.hol_spec.specs.Terms.{Term, type_of, term_eq, equation}
+use Rattle.hol_spec.specs.Terms.{Term, Variable, type_of, term_eq, equation}
+use Rattle.hol_spec.specs.TermBinding.{close}
 use Rattle.hol_spec.specs.Sequents.{Sequent, same}
 use Rattle.hol_spec.specs.Symbols.{Symbol, generic_type, operator_arity, new_constant, new_operator}
 use Rattle.hol_spec.specs.Rules.{Parameters}
@@ -22,7 +23,7 @@ use Rattle.article_spec.specs.declared.commands.Word.{Word}
 use Rattle.article_spec.specs.declared.commands.Word.TheVariants as word
 use Rattle.article_spec.specs.State.{Object, number, name, list, type_operator, type, constant, variable, term, theorem, none, more, Place, start, version, body, State}
 use Rattle.article_spec.specs.Results.{◌>>=◌, ◌>>◌}
-use Rattle.article_spec.specs.Operands.{as_number, as_name, as_list, as_type_operator, as_type, as_types, as_constant, as_variable, as_term, as_terms, as_theorem, any_object, pop}
+use Rattle.article_spec.specs.Operands.{as_number, as_name, as_list, as_type_operator, as_type, as_types, as_constant, as_variable, as_term, as_terms, as_theorem, any_object, head_and_tail, pop}
 use Rattle.article_spec.specs.Conditions.{demand, type_in_limits, term_in_limits, sequent_in_limits, arity_fits, generic_fits, typed, all_bool, follows}
 
 -- the state with another stack
@@ -39,6 +40,10 @@ with_step s x = record s { made = s.made ++ Made.step x ∷ [] }
 
 abbrev pub next_step : State → ℕ
 next_step s = length (steps_of s.made)
+
+-- the abstraction of a term over a variable
+abbrev pub abstraction : Variable → Term → Term
+abstraction v t = Term.lam v.1 (close v t)
 
 -- |- t = t, at the type of t
 abbrev pub reflexivity : HolType → Term → Step
@@ -72,9 +77,16 @@ obey s word.Cons = do
   (tail, below) ← pop as_list s.stack
   (head, rest) ← pop any_object below
   Ok (with_stack s (list (more head tail) ∷ rest))
+obey s word.HdTl = do
+  (xs, rest) ← pop as_list s.stack
+  (head, tail) ← head_and_tail xs
+  Ok (with_stack s (list tail ∷ head ∷ rest))
 obey s word.TypeOp = do
   (n, rest) ← pop as_name s.stack
   Ok (with_stack s (type_operator n ∷ rest))
+obey s word.VarType = do
+  (n, rest) ← pop as_name s.stack
+  Ok (with_stack s (type (HolType.variable n) ∷ rest))
 obey s word.OpType = do
   (arguments, below) ← pop as_types s.stack
   (n, rest) ← pop as_type_operator below
@@ -104,6 +116,11 @@ obey s word.AppTerm = do
   demand (is_some (type_of (Term.app f x))) TypeMismatch
   term_in_limits (Term.app f x)
   Ok (with_stack s (term (Term.app f x) ∷ rest))
+obey s word.AbsTerm = do
+  (t, below) ← pop as_term s.stack
+  (v, rest) ← pop as_variable below
+  term_in_limits (abstraction v t)
+  Ok (with_stack s (term (abstraction v t) ∷ rest))
 obey s word.Def = do
   (k, below) ← pop as_number s.stack
   (x, rest) ← pop any_object below
@@ -112,6 +129,16 @@ obey s word.Ref = do
   (k, rest) ← pop as_number s.stack
   x ← ok_or (entries.get s.dictionary k) NoSuchKey
   Ok (with_stack s (x ∷ rest))
+obey s word.Remove = do
+  (k, rest) ← pop as_number s.stack
+  x ← ok_or (entries.get s.dictionary k) NoSuchKey
+  Ok (record s { stack = x ∷ rest; dictionary = entries.remove s.dictionary k })
+obey s word.Pop = do
+  (x, rest) ← pop any_object s.stack
+  Ok (with_stack s rest)
+obey s word.Pragma = do
+  (x, rest) ← pop any_object s.stack
+  Ok (with_stack s rest)
 obey s word.Refl = do
   (t, rest) ← pop as_term s.stack
   a ← typed (type_of t)

@@ -30,9 +30,9 @@ use Rattle.article_spec.specs.declared.commands.Word.TheVariants as word
 use Rattle.article_spec.specs.Ascending.{Ascend}
 use Rattle.article_spec.specs.State.{State, Place, start, version, body, initial}
 use Rattle.article_spec.specs.Results.{◌>>=◌, ◌>>◌}
-use Rattle.article_spec.specs.Operands.{pop, as_number, as_name, as_list, as_type_operator, as_type, as_types, as_constant, as_variable, as_term, as_terms, as_theorem, any_object}
+use Rattle.article_spec.specs.Operands.{pop, as_number, as_name, as_list, as_type_operator, as_type, as_types, as_constant, as_variable, as_term, as_terms, as_theorem, any_object, head_and_tail}
 use Rattle.article_spec.specs.Conditions.{demand, type_in_limits, term_in_limits, sequent_in_limits, arity_fits, generic_fits, typed, has_type, is_bool, all_bool, follows}
-use Rattle.article_spec.specs.Step.{step, step_at, finish, is_version, is_body, obey, with_stack, stated, is_held, export}
+use Rattle.article_spec.specs.Step.{step, step_at, finish, is_version, is_body, obey, abstraction, with_stack, stated, is_held, export}
 
 -- What was made is a proof, the exports are steps of it, in order of making, and nothing is assumed.
 pub record IsSound (s : State) : Type 0 where
@@ -188,7 +188,14 @@ obey-IsSound s t word.Cons h e =
     let tail = bound (pop as_list s.stack) _ t e in
     let head = bound (pop any_object tail.0.1) _ t tail.2 in
     kept s _ t head.2 h refl refl refl
+obey-IsSound s t word.HdTl h e =
+    let xs = bound (pop as_list s.stack) _ t e in
+    let parts = bound (head_and_tail xs.0.0) _ t xs.2 in
+    kept s _ t parts.2 h refl refl refl
 obey-IsSound s t word.TypeOp h e =
+    let n = bound (pop as_name s.stack) _ t e in
+    kept s _ t n.2 h refl refl refl
+obey-IsSound s t word.VarType h e =
     let n = bound (pop as_name s.stack) _ t e in
     kept s _ t n.2 h refl refl refl
 obey-IsSound s t word.OpType h e =
@@ -220,6 +227,11 @@ obey-IsSound s t word.AppTerm h e =
     let fits = passed (demand (is_some (type_of (Term.app f.0.0 x.0.0))) TypeMismatch) _ t f.2 in
     let limit = passed (term_in_limits (Term.app f.0.0 x.0.0)) _ t fits.2 in
     kept s _ t limit.2 h refl refl refl
+obey-IsSound s t word.AbsTerm h e =
+    let body = bound (pop as_term s.stack) _ t e in
+    let v = bound (pop as_variable body.0.1) _ t body.2 in
+    let limit = passed (term_in_limits (abstraction v.0.0 body.0.0)) _ t v.2 in
+    kept s _ t limit.2 h refl refl refl
 obey-IsSound s t word.Def h e =
     let k = bound (pop as_number s.stack) _ t e in
     let x = bound (pop any_object k.0.1) _ t k.2 in
@@ -227,6 +239,16 @@ obey-IsSound s t word.Def h e =
 obey-IsSound s t word.Ref h e =
     let k = bound (pop as_number s.stack) _ t e in
     let x = bound (ok_or (entries.get s.dictionary k.0.0) NoSuchKey) _ t k.2 in
+    kept s _ t x.2 h refl refl refl
+obey-IsSound s t word.Remove h e =
+    let k = bound (pop as_number s.stack) _ t e in
+    let x = bound (ok_or (entries.get s.dictionary k.0.0) NoSuchKey) _ t k.2 in
+    kept s _ t x.2 h refl refl refl
+obey-IsSound s t word.Pop h e =
+    let x = bound (pop any_object s.stack) _ t e in
+    kept s _ t x.2 h refl refl refl
+obey-IsSound s t word.Pragma h e =
+    let x = bound (pop any_object s.stack) _ t e in
     kept s _ t x.2 h refl refl refl
 obey-IsSound s t word.Refl h e =
     let u = bound (pop as_term s.stack) _ t e in

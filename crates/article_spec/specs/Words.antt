@@ -11,15 +11,21 @@ word_of line =
     if bytes_eq line (codes "version") then Some word.Version
     else if bytes_eq line (codes "nil") then Some word.Nil
     else if bytes_eq line (codes "cons") then Some word.Cons
+    else if bytes_eq line (codes "hdTl") then Some word.HdTl
     else if bytes_eq line (codes "typeOp") then Some word.TypeOp
+    else if bytes_eq line (codes "varType") then Some word.VarType
     else if bytes_eq line (codes "opType") then Some word.OpType
     else if bytes_eq line (codes "const") then Some word.Const
     else if bytes_eq line (codes "constTerm") then Some word.ConstTerm
     else if bytes_eq line (codes "var") then Some word.Var
     else if bytes_eq line (codes "varTerm") then Some word.VarTerm
     else if bytes_eq line (codes "appTerm") then Some word.AppTerm
+    else if bytes_eq line (codes "absTerm") then Some word.AbsTerm
     else if bytes_eq line (codes "def") then Some word.Def
     else if bytes_eq line (codes "ref") then Some word.Ref
+    else if bytes_eq line (codes "remove") then Some word.Remove
+    else if bytes_eq line (codes "pop") then Some word.Pop
+    else if bytes_eq line (codes "pragma") then Some word.Pragma
     else if bytes_eq line (codes "refl") then Some word.Refl
     else if bytes_eq line (codes "thm") then Some word.Thm
     else None

@@ -12,7 +12,7 @@
 //! | `State` | the objects and the state of the stack machine |
 //! | `Operands` | what a command takes from the stack |
 //! | `Step` | what one command does, or why it is refused |
-//! | `Restriction` | what this version leaves out |
+//! | `Restriction` | what this version of the bridge leaves out |
 //! | `Run` | the outcome of a list of articles, and the laws of runs, which `RunLaws` proves |
 //!
 //! ```text
