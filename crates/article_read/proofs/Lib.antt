@@ -1,4 +1,3 @@
 pub mod Fed
 pub mod Steps
-pub mod Texts
 pub mod Whole

@@ -3,7 +3,7 @@ use Rattle.std.proofs.Common.{◌≡◌, ◌≢◌, ℕ, zero, suc, add-one, tak
 use Rattle.std.proofs.lemmas.List.{append-nil}
 use Rattle.bridge_base.specs.declared.faults.Kind.TheVariants.{LineTooLong, InputTooLong}
 use Rattle.article_spec.specs.declared.commands.Command.{Command}
-use Rattle.article_spec.specs.Contents.{Content, skipped, command, faulty, content, shown}
+use Rattle.article_spec.specs.Contents.{Content, skipped, command, faulty, content}
 use Rattle.article_spec.specs.Lines.{newline, max_line, max_article, command_at, EndedLine, Opens, open_line, skips, gives, Stops, faults, long_line, long_article, ended, Lines, last_skipped, last_gives, last_faults, stops}
 use Rattle.article_spec.specs.LineLaws.{opens_then, stops_then, Stops-append, IsLine-push}
 use Rattle.article_read.specs.declared.lines.LineFault.{LineFault}
@@ -76,15 +76,15 @@ module _ (n o : ℕ) (line : List ℕ) (kept : IsKept n o line) (out : List Comm
   feeds_memory piece = goes (λ text given f. record { front = text; back = piece; is = refl; number = n; offset = o; rest = line; opens = f })
 
   -- the byte past a limit
-  pub feeds_long : (b : ℕ) → b ≢ newline → length line ≡ max_line → Feeds (open_at n o line) (b ∷ []) out out (stopped_at n o line (Refused n (shown LineTooLong)))
+  pub feeds_long : (b : ℕ) → b ≢ newline → length line ≡ max_line → Feeds (open_at n o line) (b ∷ []) out out (stopped_at n o line (Refused n LineTooLong))
   feeds_long b other full = goes (λ text given f.
       let w : o + max_line ≤ max_article = omega (arith, kept.line.within, full) in
-      subst (λ cs. Stops 1 0 (text ++ b ∷ []) cs n (shown LineTooLong)) (append-nil given)
+      subst (λ cs. Stops 1 0 (text ++ b ∷ []) cs n LineTooLong) (append-nil given)
       (stops_then f (b ∷ []) (long_line (record { line = line; byte = b; more = []; is = refl; one_line = kept.line.one_line; other = other; full = full; within = w }))))
 
-  pub feeds_full : (b : ℕ) → (length line ≡ max_line → b ≡ newline) → o + length line ≡ max_article → Feeds (open_at n o line) (b ∷ []) out out (stopped_at n o line (Refused n (shown InputTooLong)))
+  pub feeds_full : (b : ℕ) → (length line ≡ max_line → b ≡ newline) → o + length line ≡ max_article → Feeds (open_at n o line) (b ∷ []) out out (stopped_at n o line (Refused n InputTooLong))
   feeds_full b first full = goes (λ text given f.
-      subst (λ cs. Stops 1 0 (text ++ b ∷ []) cs n (shown InputTooLong)) (append-nil given)
+      subst (λ cs. Stops 1 0 (text ++ b ∷ []) cs n InputTooLong) (append-nil given)
       (stops_then f (b ∷ []) (long_article (record { line = line; byte = b; more = []; is = refl; one_line = kept.line.one_line; short = kept.line.short; first = first; full = full }))))
 
   -- the newline of the open line
@@ -107,7 +107,7 @@ module _ (n o : ℕ) (line : List ℕ) (kept : IsKept n o line) (out : List Comm
   feeds_fault Memory room h = feeds_memory (newline ∷ [])
   feeds_fault (Refused m kind) room h = goes (λ text given f.
       subst (λ cs. Stops 1 0 (text ++ newline ∷ []) cs m kind) (append-nil given)
-      (rw (h.here, h.is) (stops_then f (newline ∷ []) (faults (line_of (faulty h.hidden) h.says room)))))
+      (rw (h.here) (stops_then f (newline ∷ []) (faults (line_of (faulty kind) h.says room)))))
 
   -- the text ends behind the open line
   last_with : (says : Content) (added : List Command) (text : List ℕ) (given : List Command) → content line ≡ says → commands_of n says ≡ Some added → Opens 1 0 text given n o line → Lines text (given ++ added) (ended n)
@@ -120,7 +120,7 @@ module _ (n o : ℕ) (line : List ℕ) (kept : IsKept n o line) (out : List Comm
 
   pub ends_fault : (fault : LineFault) → RefusesLine fault n line → EndsWith (open_at n o line) out out (Err fault)
   ends_fault Memory h = refl
-  ends_fault (Refused m kind) h = record { added = []; is = sym (append-nil out); lines = λ text given f. rw (h.here, h.is, append-nil) (last_faults f h.says) }
+  ends_fault (Refused m kind) h = record { added = []; is = sym (append-nil out); lines = λ text given f. rw (h.here, append-nil) (last_faults f h.says) }
 
 -- a reader that has stopped before the text ends
 pub ends_stopped : (r : Reading) (out : List Command) (fault : LineFault) → r.fault ≡ Some fault → EndsWith r out out (Err fault)
@@ -158,10 +158,10 @@ pub from_view : (n o : ℕ) (line : List ℕ) (f : Option LineFault) (r : Readin
 from_view n o line f r view none = ap (λ g. record { number = n; offset = o; rest = line; fault = g }) (sym (ap (λ x. x.fault) view ∙ none)) ∙ view
 
 module _ (n o : ℕ) (line : List ℕ) (f : Option LineFault) (kept : IsKept n o line) (r : Reading) (view : record { number = n; offset = o; rest = line; fault = f } ≡ r) (none : r.fault ≡ None) (out : List Command) (b : ℕ) (new : Reading) where
-  pub take_long : b ≢ newline → length line ≡ max_line → new ≡ record r { fault = Some (Refused r.number (shown LineTooLong)) } → Feeds r (b ∷ []) out out new
+  pub take_long : b ≢ newline → length line ≡ max_line → new ≡ record r { fault = Some (Refused r.number LineTooLong) } → Feeds r (b ∷ []) out out new
   take_long other full is = let e = from_view n o line f r view none in rw (is, ← e) (feeds_long n o line kept out b other full)
 
-  pub take_full : (length line ≡ max_line → b ≡ newline) → o + length line ≡ max_article → new ≡ record r { fault = Some (Refused r.number (shown InputTooLong)) } → Feeds r (b ∷ []) out out new
+  pub take_full : (length line ≡ max_line → b ≡ newline) → o + length line ≡ max_article → new ≡ record r { fault = Some (Refused r.number InputTooLong) } → Feeds r (b ∷ []) out out new
   take_full first full is = let e = from_view n o line f r view none in rw (is, ← e) (feeds_full n o line kept out b first full)
 
   pub take_memory : (rest : List ℕ) → rest ≡ line → new ≡ record { number = n; offset = o; rest = rest; fault = Some Memory } → Feeds r (b ∷ []) out out new

@@ -1,7 +1,9 @@
 -- What the reader finds out about one line.
-use Rattle.std.specs.Prelude.{◌≡◌, Option, None, Some}
+use Rattle.std.specs.Prelude.{◌≡◌, ℕ, if◌then◌else◌, List, [], ◌∷◌, Option, None, Some}
+use Rattle.std.specs.Str.{bytes_eq}
 use Rattle.bridge_base.specs.declared.faults.Kind.TheVariants as kind
 use Rattle.article_spec.specs.declared.commands.Item.TheVariants as item
+use Rattle.article_spec.specs.declared.commands.Word.{Word}
 use Rattle.article_spec.specs.Contents.{Content, skipped, command, faulty}
 use Rattle.article_read.specs.declared.number.Numeral.{Numeral}
 use Rattle.article_read.specs.declared.number.Numeral.TheVariants.{Number, OutOfRange, Other}
@@ -20,3 +22,8 @@ Judges judgement.Skipped says = says ≡ skipped
 Judges (judgement.Command i) says = says ≡ command i
 Judges (judgement.Faulty k) says = says ≡ faulty k
 Judges judgement.Memory says = Unit {0}
+
+-- the word of the first entry of a table that is written like the text
+abbrev pub looked_up : List ℕ → List (List ℕ × Word) → Option Word
+looked_up text [] = None
+looked_up text (entry ∷ table) = if bytes_eq text entry.0 then Some entry.1 else looked_up text table

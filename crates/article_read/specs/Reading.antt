@@ -2,7 +2,7 @@
 use Rattle.std.specs.Prelude.{ℕ, List, [], ◌∷◌, ◌++◌, Option, None, Some, ◌≡◌, ◌≤◌, ◌+◌, Result, Ok, Err}
 use Rattle.std.proofs.Common.{arith}
 use Rattle.article_spec.specs.declared.commands.Command.{Command}
-use Rattle.article_spec.specs.Contents.{Content, skipped, command, faulty, content, shown}
+use Rattle.article_spec.specs.Contents.{Content, skipped, command, faulty, content}
 use Rattle.article_spec.specs.Lines.{OpenLine, Opens, open_line, Stops, End, ended, refused, Lines, command_at}
 use Rattle.bridge_base.specs.declared.faults.Kind.{Kind}
 use Rattle.article_read.specs.declared.lines.LineFault.{LineFault}
@@ -102,9 +102,7 @@ pub record GivesLine (number : ℕ) (line : List ℕ) (before after : List Comma
 -- the line is at fault
 pub record IsFaulty (number line_number : ℕ) (line : List ℕ) (kind : Kind) : Type 0 where
   pub here : line_number ≡ number
-  pub hidden : Kind
-  pub says : content line ≡ faulty hidden
-  pub is : kind ≡ shown hidden
+  pub says : content line ≡ faulty kind
 
 -- the fault is that of the line, or want of memory
 abbrev pub RefusesLine : LineFault → ℕ → List ℕ → Type 0

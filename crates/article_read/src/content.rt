@@ -1,9 +1,9 @@
 //! What one line says.
 
-ghost use Rattle.std.specs.Prelude.{◌≡◌, reverse};
+ghost use Rattle.std.specs.Prelude.{◌≡◌, map, reverse};
 ghost use Rattle.article_spec.specs.Words.{word_of};
 ghost use Rattle.article_spec.specs.Contents.{is_blank, drop_blanks, item_content, content};
-ghost use Rattle.article_read.specs.Judged.{Judges};
+ghost use Rattle.article_read.specs.Judged.{Judges, looked_up};
 
 use crate::number::{Numeral, read_number};
 use article_spec::{Item, Word};
@@ -50,27 +50,48 @@ fn read_item(alloc: Global, text: &[u8]) -> Judgement
     }
 }
 
+/// The words of the stack machine, as they are written.
+const WORDS: [(&[u8], Word); 20] = [
+    (b"version", Word::Version),
+    (b"nil", Word::Nil),
+    (b"cons", Word::Cons),
+    (b"hdTl", Word::HdTl),
+    (b"typeOp", Word::TypeOp),
+    (b"varType", Word::VarType),
+    (b"opType", Word::OpType),
+    (b"const", Word::Const),
+    (b"constTerm", Word::ConstTerm),
+    (b"var", Word::Var),
+    (b"varTerm", Word::VarTerm),
+    (b"appTerm", Word::AppTerm),
+    (b"absTerm", Word::AbsTerm),
+    (b"def", Word::Def),
+    (b"ref", Word::Ref),
+    (b"remove", Word::Remove),
+    (b"pop", Word::Pop),
+    (b"pragma", Word::Pragma),
+    (b"refl", Word::Refl),
+    (b"thm", Word::Thm),
+];
+
 /// The word that a text writes.
 fn read_word(text: &[u8]) -> Option<Word>
     ensures { result ≡ word_of text.now }
 {
-    match text {
-        b"version" => Some(Word::Version),
-        b"nil" => Some(Word::Nil),
-        b"cons" => Some(Word::Cons),
-        b"typeOp" => Some(Word::TypeOp),
-        b"opType" => Some(Word::OpType),
-        b"const" => Some(Word::Const),
-        b"constTerm" => Some(Word::ConstTerm),
-        b"var" => Some(Word::Var),
-        b"varTerm" => Some(Word::VarTerm),
-        b"appTerm" => Some(Word::AppTerm),
-        b"def" => Some(Word::Def),
-        b"ref" => Some(Word::Ref),
-        b"refl" => Some(Word::Refl),
-        b"thm" => Some(Word::Thm),
-        _ => None,
+    look_up(&WORDS, text)
+}
+
+/// The word that stands with this text in a table.
+fn look_up(mut table: &[(&[u8], Word)], text: &[u8]) -> Option<Word>
+    ensures { result ≡ looked_up text.now (map (λ entry. (entry.0.now, entry.1)) table.entry.now) }
+{
+    while let [(written, word), rest @ ..] = table {
+        if text == *written {
+            return Some(*word);
+        }
+        table = rest;
     }
+    None
 }
 
 fn is_blank_byte(byte: u8) -> bool

@@ -4,7 +4,6 @@ ghost use Rattle.std.specs.Prelude.{◌≡◌, ◌∷◌, [], ◌+◌, ◌<◌, 
 ghost use Rattle.std.specs.List.{flat_map};
 ghost use Rattle.std.specs.Result.{result_err};
 ghost use Rattle.bridge_base.specs.declared.faults.Kind.{Kind};
-ghost use Rattle.article_spec.specs.Contents.{shown};
 ghost use Rattle.article_spec.specs.Lines.{max_line, max_article};
 ghost use Rattle.article_read.specs.declared.lines.LineFault.{LineFault};
 ghost use Rattle.article_read.specs.Reading.{IsFed, Feeds, EndsWith, StaysStopped, GivesLine, RefusesLine, IsKept, ReadsAs, fresh};
@@ -19,7 +18,9 @@ use thiserror::Error;
 /// Why a reader stopped.
 #[derive(Clone, Copy, Debug, PartialEq, Eq, Error)]
 pub enum LineFault {
-    /// The article is refused at this line, which counts from 1, skipped lines too.
+    /// The article is refused at this line, which counts from 1, skipped lines too. The kind is
+    /// `BadLine` or `NumberRange` for a line that has ended, and `LineTooLong` or `InputTooLong` for
+    /// one that goes past a limit.
     #[error("line {line}: {kind}")]
     Refused { line: u64, kind: Kind },
     /// Memory ran out.
@@ -66,9 +67,11 @@ impl Lines {
     }
 
     /// Takes the next piece of the article, and appends to `out` the commands of the lines that end in
-    /// it. It refuses as soon as a line that is at fault has ended, or the open line has its byte
-    /// 1,048,577, newline aside, or the article its byte 4,294,967,297. The commands before the fault
-    /// are in `out`. After a fault, want of memory too, each call answers it again.
+    /// it. It refuses the first faulty line as soon as it can be told: at its newline with
+    /// `NumberRange`, where the line is a number outside 64 bits, or else with `BadLine`; at its byte
+    /// 1,048,577, newline aside, with `LineTooLong`; and at the article's byte 4,294,967,297 with
+    /// `InputTooLong`. Where both limits are passed at one byte, it is `LineTooLong`. The commands
+    /// before the fault are in `out`. After a fault, want of memory too, each call answers it again.
     pub fn feed(&mut self, piece: &[u8], out: &mut Vec<Command>) -> Result<(), LineFault>
         ensures feeds { Feeds self.old piece.now out.old.items out.new.items self.new }
         ensures answer { self.new.fault ≡ result_err result }
@@ -88,8 +91,9 @@ impl Lines {
     }
 
     /// Ends the article, whose last line needs no newline, and answers with the line of its end. It
-    /// refuses exactly where the whole article has a faulty line. After `Ok` the reader is as new,
-    /// after a fault each call answers it again.
+    /// refuses exactly where the whole article has a faulty line: the last one with `BadLine` or
+    /// `NumberRange`, as if it had a newline, or one that `feed` has refused. After `Ok` the reader is
+    /// as new, after a fault each call answers it again.
     pub fn finish(&mut self, out: &mut Vec<Command>) -> Result<u64, LineFault>
         ensures ends { EndsWith self.old out.old.items out.new.items result }
         ensures renewed { OnOk result (self.new ≡ fresh) }
@@ -167,14 +171,11 @@ impl Lines {
 
     /// Stops at the open line.
     fn refuse(&mut self, kind: Kind) -> Result<(), LineFault>
-        ensures answer { result ≡ Err (LineFault.Refused self.old.number (shown kind)) }
-        ensures stopped { self.new ≡ record self.old { fault = Some (LineFault.Refused self.old.number (shown kind)) } }
+        ensures answer { result ≡ Err (LineFault.Refused self.old.number kind) }
+        ensures stopped { self.new ≡ record self.old { fault = Some (LineFault.Refused self.old.number kind) } }
     {
         let line = self.number;
-        self.fail(LineFault::Refused {
-            line,
-            kind: shown_kind(kind),
-        })
+        self.fail(LineFault::Refused { line, kind })
     }
 
     /// Stops with this fault.
@@ -205,13 +206,6 @@ impl Lines {
         self.offset = 0;
         self.rest.clear();
     }
-}
-
-/// The kind under which a fault is shown: for now each line that can't be read is a bad line.
-fn shown_kind(_kind: Kind) -> Kind
-    ensures { result ≡ shown _kind }
-{
-    Kind::BadLine
 }
 
 /// Reads an article that comes in these pieces: appends its commands to `out`, and answers with the

@@ -23,11 +23,12 @@ fn read(alloc: Global, text: &[u8], size: usize, out: &mut Vec<Command>) -> Resu
     lines.finish(out)
 }
 
+fn refused(line: u64, kind: Kind) -> Result<u64, LineFault> {
+    Err(LineFault::Refused { line, kind })
+}
+
 fn bad_line(line: u64) -> Result<u64, LineFault> {
-    Err(LineFault::Refused {
-        line,
-        kind: Kind::BadLine,
-    })
+    refused(line, Kind::BadLine)
 }
 
 #[test]
@@ -50,31 +51,83 @@ fn any_pieces_give_the_same_commands(rt: HostRuntime) -> Result<(), Fail> {
 #[test]
 fn numbers_have_64_bits(rt: HostRuntime) -> Result<(), Fail> {
     let table = [
-        (b"9223372036854775807".as_slice(), Some(9223372036854775807)),
-        (b"9223372036854775808".as_slice(), None),
-        (
-            b"-9223372036854775808".as_slice(),
-            Some(-9223372036854775808),
-        ),
-        (b"-9223372036854775809".as_slice(), None),
-        (b"-".as_slice(), None),
-        (b"+1".as_slice(), None),
-        (b"6a".as_slice(), None),
-        (b"-0".as_slice(), Some(0)),
-        (b"06".as_slice(), Some(6)),
-        (b"\t 6\r".as_slice(), Some(6)),
+        (b"9223372036854775807".as_slice(), Ok(9223372036854775807)),
+        (b"9223372036854775808".as_slice(), Err(Kind::NumberRange)),
+        (b"-9223372036854775808".as_slice(), Ok(-9223372036854775808)),
+        (b"-9223372036854775809".as_slice(), Err(Kind::NumberRange)),
+        (b"-".as_slice(), Err(Kind::BadLine)),
+        (b"+1".as_slice(), Err(Kind::BadLine)),
+        (b"6a".as_slice(), Err(Kind::BadLine)),
+        (b"-0".as_slice(), Ok(0)),
+        (b"06".as_slice(), Ok(6)),
+        (b"\t 6\r".as_slice(), Ok(6)),
     ];
     for (text, want) in table {
         let mut commands = Vec::new(rt.alloc());
         let answer = read(rt.alloc(), text, 5, &mut commands);
         match want {
-            Some(number) => {
+            Ok(number) => {
                 assert_eq!(rt; answer, Ok(1), "at {text:?}");
                 assert_eq!(rt; commands.len(), 1, "at {text:?}");
                 assert!(rt; commands[0].item == Item::Number(number), "at {text:?}");
             }
-            None => assert_eq!(rt; answer, bad_line(1), "at {text:?}"),
+            Err(kind) => assert_eq!(rt; answer, refused(1, kind), "at {text:?}"),
         }
+    }
+    Ok(())
+}
+
+#[test]
+fn twenty_words_are_read(rt: HostRuntime) -> Result<(), Fail> {
+    let text =
+        b"version nil cons hdTl typeOp varType opType const constTerm var varTerm appTerm absTerm def ref remove pop pragma refl thm".as_slice();
+    let words = [
+        Word::Version,
+        Word::Nil,
+        Word::Cons,
+        Word::HdTl,
+        Word::TypeOp,
+        Word::VarType,
+        Word::OpType,
+        Word::Const,
+        Word::ConstTerm,
+        Word::Var,
+        Word::VarTerm,
+        Word::AppTerm,
+        Word::AbsTerm,
+        Word::Def,
+        Word::Ref,
+        Word::Remove,
+        Word::Pop,
+        Word::Pragma,
+        Word::Refl,
+        Word::Thm,
+    ];
+    let mut lines = Lines::new(rt.alloc());
+    let mut commands = Vec::new(rt.alloc());
+    for word in text.split(|byte| *byte == b' ') {
+        assert_eq!(rt; lines.feed(word, &mut commands), Ok(()));
+        assert_eq!(rt; lines.feed(b"\n".as_slice(), &mut commands), Ok(()));
+    }
+    assert_eq!(rt; commands.len(), 20);
+    for (command, word) in commands.iter().zip(words) {
+        assert!(rt; command.item == Item::Word(word), "at {word:?}");
+    }
+    Ok(())
+}
+
+#[test]
+fn no_other_word_is_read(rt: HostRuntime) -> Result<(), Fail> {
+    let text =
+        b"assume axiom trans sym eqMp subst betaConv absThm appThm deductAntisym defineConst defineTypeOp proveHyp hdtl VarType absTer pops \"p".as_slice();
+    for word in text.split(|byte| *byte == b' ') {
+        let mut commands = Vec::new(rt.alloc());
+        assert_eq!(rt;
+            read(rt.alloc(), word, 4096, &mut commands),
+            bad_line(1),
+            "at {word:?}"
+        );
+        assert!(rt; commands.is_empty(), "at {word:?}");
     }
     Ok(())
 }
@@ -110,11 +163,11 @@ fn a_line_has_1048576_bytes(rt: HostRuntime) -> Result<(), Fail> {
     assert_eq!(rt; lines.feed(&blanks, &mut commands), Ok(()));
     assert_eq!(rt;
         lines.feed(b" ".as_slice(), &mut commands),
-        bad_line(2).map(|_| ())
+        refused(2, Kind::LineTooLong).map(|_| ())
     );
     assert_eq!(rt;
         lines.feed(b"\n".as_slice(), &mut commands),
-        bad_line(2).map(|_| ())
+        refused(2, Kind::LineTooLong).map(|_| ())
     );
     Ok(())
 }
