@@ -1,6 +1,6 @@
 -- A run over the primitive symbols alone: what it holds and what it proves is over them, and is typed and within the limits.
 use Rattle.std.proofs.Common.{◌≡◌, ℕ, zero, suc, ◌+◌, ◌≤◌, ◌⊎◌, inl, inr, ⊎_elim, List, [], ◌∷◌, ◌++◌, map, length, Bool, true, false, cond, ◌||◌, Option, None, Some, Result, Ok, Err, refl, sym, ap, subst, ◌∙◌, arith}
-use Rattle.std.specs.Prelude.{ℤ, is_some, nat_le, nat_eq, slice_get, pos}
+use Rattle.std.specs.Prelude.{ℤ, if◌then◌else◌, is_some, nat_le, nat_eq, slice_get, pos}
 use Rattle.std.specs.Ordering.{int_eq, int_cmp}
 use Rattle.std.specs.Option.{option_or, option_map, ok_or}
 use Rattle.std.specs.List.{AllByRecursion, IsDistinct, list_all}
@@ -29,7 +29,7 @@ use Rattle.article_spec.specs.Operands.{pop, each, as_number, as_name, as_list, 
 use Rattle.article_spec.specs.Conditions.{demand, sequent_in_limits, arity_fits, generic_fits}
 use Rattle.article_spec.specs.StepLaws.{bound, stated-IsSequent}
 use Rattle.article_spec.specs.Step.{step, step_at, finish, is_version, is_body, obey, with_stack, stated, is_held, export, reflexivity, restatement}
-use Rattle.article_spec.specs.Restriction.{restricted, without_inputs}
+use Rattle.article_spec.specs.Restriction.{restricted, restricted_step, is_obeyed, is_obeyed_word, without_inputs}
 use Rattle.article_spec.specs.Conditions.{type_in_limits, term_in_limits, typed, all_bool, follows, is_bool}
 use Rattle.article_spec.specs.State.{Place, initial}
 use Rattle.article_spec.specs.declared.commands.Command.{Command}
@@ -39,7 +39,7 @@ use Rattle.article_spec.specs.declared.commands.Word.{Word}
 use Rattle.article_spec.specs.declared.commands.Word.TheVariants as word
 use Rattle.hol_spec.specs.Proofs.{Made, Step, steps_of, symbols_of, sequent_at}
 use Rattle.hol_spec.specs.ProofLaws.{steps_of-push, steps_of-symbols, symbols_of-symbols}
-use Rattle.bridge_base.specs.declared.faults.Kind.TheVariants.{NotBool, VersionPlace, NoSuchKey, TypeMismatch}
+use Rattle.bridge_base.specs.declared.faults.Kind.TheVariants.{BadLine, NotBool, VersionPlace, NoSuchKey, TypeMismatch}
 use Rattle.std.specs.Cmp.{int_cmp_total}
 use Rattle.std.specs.Ordering.{eq_by_cmp}
 use Rattle.bridge_spec.specs.PrimitiveSequents.{IsPrimitiveType, ArePrimitiveTypes, IsPrimitiveConstant, IsPrimitiveTerm, IsPrimitiveSequent}
@@ -325,21 +325,23 @@ with_new : (made : List Made) (xs : List Symbol) → AllByRecursion (λ y. IsPla
     → AllByRecursion (λ y. IsPlainSequent y.sequent) (steps_of (made ++ map Made.symbol xs))
 with_new made xs h = subst (AllByRecursion (λ (y : Step). IsPlainSequent y.sequent)) (sym (steps_of-symbols made xs)) h
 
--- a word leaves a plain state, where no symbol is taken
-obey_plain : (s t : State) (w : Word) → IsPlain s → obey s w ≡ Ok t → symbols_of t.made ≡ [] → IsPlain t
-obey_plain s t word.Version h e none = absurd (cc)
-obey_plain s t word.Nil h e none = is_answer _ t e (record { stack = (tt, h.stack); dictionary = h.dictionary; steps = h.steps })
-obey_plain s t word.Cons h e none =
+-- a word that is obeyed leaves a plain state, where no symbol is taken
+obey_plain : (s t : State) (w : Word) → is_obeyed_word w ≡ true → IsPlain s → obey s w ≡ Ok t → symbols_of t.made ≡ [] → IsPlain t
+obey_plain s t word.Version o h e none = absurd (cc)
+obey_plain s t word.Nil o h e none = is_answer _ t e (record { stack = (tt, h.stack); dictionary = h.dictionary; steps = h.steps })
+obey_plain s t word.Cons o h e none =
     let tail = bound (pop as_list s.stack) _ t e in
     let p = plain_pop ArePlainObjects as_list plain_list s.stack tail.0 tail.1 h.stack in
     let head = bound (pop any_object tail.0.1) _ t tail.2 in
     let q = plain_pop IsPlainObject any_object plain_object tail.0.1 head.0 head.1 p.1 in
     is_answer _ t head.2 (record { stack = ((q.0, p.0), q.1); dictionary = h.dictionary; steps = h.steps })
-obey_plain s t word.TypeOp h e none =
+obey_plain s t word.HdTl o h e none = absurd (cc)
+obey_plain s t word.TypeOp o h e none =
     let n = bound (pop as_name s.stack) _ t e in
     let p = plain_pop (λ a. Unit {0}) as_name (any_plain as_name) s.stack n.0 n.1 h.stack in
     is_answer _ t n.2 (record { stack = (tt, p.1); dictionary = h.dictionary; steps = h.steps })
-obey_plain s t word.OpType h e none =
+obey_plain s t word.VarType o h e none = absurd (cc)
+obey_plain s t word.OpType o h e none =
     let arguments = bound (pop as_types s.stack) _ t e in
     let p = plain_pop (AllByRecursion IsPrimitiveType) as_types plain_types s.stack arguments.0 arguments.1 h.stack in
     let n = bound (pop as_type_operator arguments.0.1) _ t arguments.2 in
@@ -353,11 +355,11 @@ obey_plain s t word.OpType h e none =
       dictionary = h.dictionary;
       steps = with_new s.made new h.steps;
     })
-obey_plain s t word.Const h e none =
+obey_plain s t word.Const o h e none =
     let n = bound (pop as_name s.stack) _ t e in
     let p = plain_pop (λ a. Unit {0}) as_name (any_plain as_name) s.stack n.0 n.1 h.stack in
     is_answer _ t n.2 (record { stack = (tt, p.1); dictionary = h.dictionary; steps = h.steps })
-obey_plain s t word.ConstTerm h e none =
+obey_plain s t word.ConstTerm o h e none =
     let a = bound (pop as_type s.stack) _ t e in
     let p = plain_pop IsPrimitiveType as_type plain_type s.stack a.0 a.1 h.stack in
     let n = bound (pop as_constant a.0.1) _ t a.2 in
@@ -371,18 +373,18 @@ obey_plain s t word.ConstTerm h e none =
       dictionary = h.dictionary;
       steps = with_new s.made new h.steps;
     })
-obey_plain s t word.Var h e none =
+obey_plain s t word.Var o h e none =
     let a = bound (pop as_type s.stack) _ t e in
     let p = plain_pop IsPrimitiveType as_type plain_type s.stack a.0 a.1 h.stack in
     let n = bound (pop as_name a.0.1) _ t a.2 in
     let q = plain_pop (λ b. Unit {0}) as_name (any_plain as_name) a.0.1 n.0 n.1 p.1 in
     is_answer _ t n.2 (record { stack = (p.0, q.1); dictionary = h.dictionary; steps = h.steps })
-obey_plain s t word.VarTerm h e none =
+obey_plain s t word.VarTerm o h e none =
     let v = bound (pop as_variable s.stack) _ t e in
     let p = plain_pop (λ (w : Name × HolType). IsPrimitiveType w.1) as_variable plain_variable s.stack v.0 v.1 h.stack in
     let limit = passed (term_in_limits (Term.free v.0.0.0 v.0.0.1)) _ t v.2 in
     is_answer _ t limit.2 (record { stack = (p.0, p.1); dictionary = h.dictionary; steps = h.steps })
-obey_plain s t word.AppTerm h e none =
+obey_plain s t word.AppTerm o h e none =
     let x = bound (pop as_term s.stack) _ t e in
     let p = plain_pop IsPrimitiveTerm as_term plain_term s.stack x.0 x.1 h.stack in
     let f = bound (pop as_term x.0.1) _ t x.2 in
@@ -390,18 +392,22 @@ obey_plain s t word.AppTerm h e none =
     let fits = passed (demand (is_some (type_of (Term.app f.0.0 x.0.0))) TypeMismatch) _ t f.2 in
     let limit = passed (term_in_limits (Term.app f.0.0 x.0.0)) _ t fits.2 in
     is_answer _ t limit.2 (record { stack = ((q.0, p.0), q.1); dictionary = h.dictionary; steps = h.steps })
-obey_plain s t word.Def h e none =
+obey_plain s t word.AbsTerm o h e none = absurd (cc)
+obey_plain s t word.Def o h e none =
     let k = bound (pop as_number s.stack) _ t e in
     let p = plain_pop (λ a. Unit {0}) as_number (any_plain as_number) s.stack k.0 k.1 h.stack in
     let x = bound (pop any_object k.0.1) _ t k.2 in
     let q = plain_pop IsPlainObject any_object plain_object k.0.1 x.0 x.1 p.1 in
     is_answer _ t x.2 (record { stack = p.1; dictionary = entry_plain s k.0.0 x.0.0 q.0 h.dictionary; steps = h.steps })
-obey_plain s t word.Ref h e none =
+obey_plain s t word.Ref o h e none =
     let k = bound (pop as_number s.stack) _ t e in
     let p = plain_pop (λ a. Unit {0}) as_number (any_plain as_number) s.stack k.0 k.1 h.stack in
     let x = bound (ok_or (entries.get s.dictionary k.0.0) NoSuchKey) _ t k.2 in
     is_answer _ t x.2 (record { stack = (h.dictionary k.0.0 x.0 (found (entries.get s.dictionary k.0.0) x.0 x.1), p.1); dictionary = h.dictionary; steps = h.steps })
-obey_plain s t word.Refl h e none =
+obey_plain s t word.Remove o h e none = absurd (cc)
+obey_plain s t word.Pop o h e none = absurd (cc)
+obey_plain s t word.Pragma o h e none = absurd (cc)
+obey_plain s t word.Refl o h e none =
     let u = bound (pop as_term s.stack) _ t e in
     let p = plain_pop IsPrimitiveTerm as_term plain_term s.stack u.0 u.1 h.stack in
     let a = bound (typed (type_of u.0.0)) _ t u.2 in
@@ -411,7 +417,7 @@ obey_plain s t word.Refl h e none =
       dictionary = h.dictionary;
       steps = pushed s.made (reflexivity a.0 u.0.0) h.steps (reflexive_plain a.0 u.0.0 limit.0 (typed-is (type_of u.0.0) a.0 a.1) p.0 limit.1);
     })
-obey_plain s t word.Thm h e none =
+obey_plain s t word.Thm o h e none =
     let conclusion = bound (pop as_term s.stack) _ t e in
     let p = plain_pop IsPrimitiveTerm as_term plain_term s.stack conclusion.0 conclusion.1 h.stack in
     let hypotheses = bound (pop as_terms conclusion.0.1) _ t conclusion.2 in
@@ -434,6 +440,11 @@ let_through (Ok s) t e = go (symbols_of s.made) refl e
     go [] f g = (g, subst (λ (u : State). symbols_of u.made ≡ []) (same_state s t g) f)
     go (x ∷ xs) f g = absurd (cc)
 
+-- what isn't obeyed gives nothing
+obeyed : (b : Bool) (a : Result State Kind) (t : State) → (if b then a else Err BadLine) ≡ Ok t → (b ≡ true) × (a ≡ Ok t)
+obeyed true a t e = (refl, e)
+obeyed false a t e = absurd (cc)
+
 on_line : (line : ℕ) (a : Result State Kind) (t : State) → at_line line a ≡ Ok t → a ≡ Ok t
 on_line line (Ok s) t e = cc
 on_line line (Err k) t e = absurd (cc)
@@ -442,20 +453,20 @@ drop_plain : (xs : List Object) → AllByRecursion IsPlainObject xs → AllByRec
 drop_plain [] h = tt
 drop_plain (x ∷ xs) h = h.1
 
-step_plain : (s t : State) (p : Place) (i : Item) → IsPlain s → step_at p s i ≡ Ok t → symbols_of t.made ≡ [] → IsPlain t
-step_plain s t state.Place.start (item.Number z) h e none =
+step_plain : (s t : State) (p : Place) (i : Item) → is_obeyed i ≡ true → IsPlain s → step_at p s i ≡ Ok t → symbols_of t.made ≡ [] → IsPlain t
+step_plain s t state.Place.start (item.Number z) o h e none =
     let six = passed (demand (int_eq z (pos 6)) VersionPlace) _ t e in
     is_answer _ t six.2 (record { stack = (tt, h.stack); dictionary = h.dictionary; steps = h.steps })
-step_plain s t state.Place.start (item.Name n) h e none = absurd (cc)
-step_plain s t state.Place.start (item.Word w) h e none = absurd (cc)
-step_plain s t state.Place.version (item.Number z) h e none = absurd (cc)
-step_plain s t state.Place.version (item.Name n) h e none = absurd (cc)
-step_plain s t state.Place.version (item.Word w) h e none =
+step_plain s t state.Place.start (item.Name n) o h e none = absurd (cc)
+step_plain s t state.Place.start (item.Word w) o h e none = absurd (cc)
+step_plain s t state.Place.version (item.Number z) o h e none = absurd (cc)
+step_plain s t state.Place.version (item.Name n) o h e none = absurd (cc)
+step_plain s t state.Place.version (item.Word w) o h e none =
     let second = passed (demand (is_version w) VersionPlace) _ t e in
     is_answer _ t second.2 (record { stack = drop_plain s.stack h.stack; dictionary = h.dictionary; steps = h.steps })
-step_plain s t state.Place.body (item.Number z) h e none = is_answer _ t e (record { stack = (tt, h.stack); dictionary = h.dictionary; steps = h.steps })
-step_plain s t state.Place.body (item.Name n) h e none = is_answer _ t e (record { stack = (tt, h.stack); dictionary = h.dictionary; steps = h.steps })
-step_plain s t state.Place.body (item.Word w) h e none = obey_plain s t w h e none
+step_plain s t state.Place.body (item.Number z) o h e none = is_answer _ t e (record { stack = (tt, h.stack); dictionary = h.dictionary; steps = h.steps })
+step_plain s t state.Place.body (item.Name n) o h e none = is_answer _ t e (record { stack = (tt, h.stack); dictionary = h.dictionary; steps = h.steps })
+step_plain s t state.Place.body (item.Word w) o h e none = obey_plain s t w o h e none
 
 nowhere : (k : ℤ) (x : Object) → entries.get (entries.empty {X = Object} {R = int_cmp}) k ≡ Some x → IsPlainObject x
 nowhere k x e = let none : entries.get (entries.empty {X = Object} {R = int_cmp}) k ≡ None = entries.get-empty int_cmp k in absurd (cc)
@@ -468,9 +479,10 @@ finish_plain s t h e =
 all_plain : (commands : List Command) (s t : State) → IsPlain s → obey_all s commands ≡ Ok t → IsPlain t
 all_plain [] s t h e = let same : s ≡ t = ok-injective {E = ℕ × Kind} s t e in subst IsPlain same h
 all_plain (command ∷ commands) s t h e =
-    let next = bound (at_line command.line (restricted (step s command))) _ t e in
-    let given = let_through (step s command) next.0 (on_line command.line (restricted (step s command)) next.0 next.1) in
-    all_plain commands next.0 t (step_plain s next.0 s.place command.item h given.0 given.1) next.2
+    let next = bound (at_line command.line (restricted_step s command)) _ t e in
+    let is = obeyed (is_obeyed command.item) (restricted (step s command)) next.0 (on_line command.line (restricted_step s command) next.0 next.1) in
+    let given = let_through (step s command) next.0 is.1 in
+    all_plain commands next.0 t (step_plain s next.0 s.place command.item is.0 h given.0 given.1) next.2
 
 end_plain : (end : End) (s t : State) → IsPlain s → end_article s end ≡ Ok t → IsPlain t
 end_plain (ended line) s t h e = finish_plain s t h (let_through (finish s) t (on_line line (restricted (finish s)) t e)).0
