@@ -2,6 +2,7 @@
 use Rattle.std.proofs.Common.{◌≡◌, ℕ, List, [], ◌∷◌, ◌++◌, Option, None, Some, Result, Ok, Err, IfSome, refl, sym, ap, subst, ◌∙◌, append_assoc, arith}
 use Rattle.std.proofs.lemmas.List.{append-nil}
 use Rattle.bridge_base.specs.declared.faults.Kind.{Kind}
+use Rattle.bridge_base.specs.declared.faults.Kind.TheVariants.{BadLine}
 use Rattle.bridge_base.specs.declared.faults.Fault.{Fault}
 use Rattle.bridge_base.specs.declared.faults.Fault.TheVariants as fault
 use Rattle.bridge_base.specs.Outside.{Gives}
@@ -14,8 +15,8 @@ use Rattle.article_spec.specs.Lines.{Opens, open_line, Stops, stops, End, ended,
 use Rattle.article_spec.specs.ReadingLaws.{one_reading, opens_front}
 use Rattle.article_spec.specs.Results.{◌>>=◌}
 use Rattle.article_spec.specs.State.{State, initial}
-use Rattle.article_spec.specs.Step.{step, finish}
-use Rattle.article_spec.specs.Restriction.{restricted}
+use Rattle.article_spec.specs.Step.{finish}
+use Rattle.article_spec.specs.Restriction.{restricted, restricted_step}
 use Rattle.article_spec.specs.Run.{at_line, obey_all, Run, accepted, accepted_state, finished, passed, stopped}
 use Rattle.bridge_run.specs.Refusals.{Refuses, article_end}
 use Rattle.bridge_run.specs.Halts.{Halts, ReadsTo, IsRefused, StopsText, StopsRun, stop_of_fault, stop_of_line}
@@ -30,7 +31,7 @@ joined xs ys (Err r) h = refl
 -- To obey two lists is to obey one after the other.
 pub obey_all-append : (xs ys : List Command) (s : State) → obey_all s (xs ++ ys) ≡ (obey_all s xs >>= λ t. obey_all t ys)
 obey_all-append [] ys s = refl
-obey_all-append (x ∷ xs) ys s = joined xs ys (at_line x.line (restricted (step s x))) (obey_all-append xs ys)
+obey_all-append (x ∷ xs) ys s = joined xs ys (at_line x.line (restricted_step s x)) (obey_all-append xs ys)
 
 obeyed_more : (xs ys : List Command) (s t u : State) → obey_all s xs ≡ Ok t → obey_all t ys ≡ Ok u → obey_all s (xs ++ ys) ≡ Ok u
 obeyed_more xs ys s t u e f = obey_all-append xs ys s ∙ rw (e, f) refl
@@ -119,7 +120,7 @@ pub piece_faulty : (text : List ℕ) (new : Option (List ℕ)) (before now after
     → IsPiece text new before now lines commands → obey_all now commands ≡ Ok after → lines.fault ≡ Some why → StopsText (stop_of_line why) text before
 piece_faulty text new before now after lines commands (line_fault.Refused line kind) p e q =
     let h : Stops 1 0 p.fed (p.given ++ commands) line kind = subst (λ o. fed_with o lines p.fed (p.given ++ commands)) q p.read in
-    subst (λ xs. IsRefused xs before line kind) (sym p.is) (record {
+    subst (λ xs. IsRefused xs before line BadLine) (sym p.is) (record {
       commands = p.given ++ commands;
       end = refused line kind;
       lines = stops (Stops-append h p.rest);

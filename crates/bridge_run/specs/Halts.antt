@@ -24,9 +24,9 @@ abbrev pub stop_of_fault : ℕ → Fault → Stop
 stop_of_fault line (fault.Refused kind) = Refused line BadLine
 stop_of_fault line fault.Memory = Memory
 
--- The stop for a faulty line.
+-- The stop for a faulty line, which is told as a bad line too.
 abbrev pub stop_of_line : LineFault → Stop
-stop_of_line (line_fault.Refused line kind) = Refused line kind
+stop_of_line (line_fault.Refused line kind) = Refused line BadLine
 stop_of_line line_fault.Memory = Memory
 
 -- From one state, the commands of a text end at this line in the other.

@@ -94,12 +94,22 @@ fn answers_for_each_article(rt: HostRuntime) -> Result<(), Fail> {
     let files = texts(rt.alloc(), &["a"])?;
     let none: &[u8] = b"articles 1\nassumptions 0\nexports 0\ndeclarations 2\nbounds 16216358912\n";
     let second: &[u8] = b"article 1 line 2: BadLine (1)\n";
-    let cases: [(&[u8], Option<u64>, &[u8]); 5] = [
+    let cases: [(&[u8], Option<u64>, &[u8]); 7] = [
         (b"6\nversion\n", None, none),
         (b"", Some(1), b"article 1 line 1: BadLine (1)\n"),
         (b"6\n", Some(2), second),
         (b"5\nversion\n", Some(1), b"article 1 line 1: BadLine (1)\n"),
         (b"6\nvers", Some(2), second),
+        (
+            b"6\nversion\nnil\npop\n",
+            Some(4),
+            b"article 1 line 4: BadLine (1)\n",
+        ),
+        (
+            b"6\nversion\n9223372036854775808\n",
+            Some(3),
+            b"article 1 line 3: BadLine (1)\n",
+        ),
     ];
     for (article, refused, said) in cases {
         let mut shelf = shelf(rt.alloc(), article, 4096, &[])?;

@@ -15,7 +15,7 @@ ghost use Rattle.bridge_run.specs.TypeViews.{type_view};
 ghost use Rattle.bridge_run.specs.TermViews.{term_view, sequent_view};
 ghost use Rattle.bridge_run.specs.ObjectViews.{object_view};
 ghost use Rattle.bridge_run.specs.MachineViews.{made_view, exports_it, exports_from};
-ghost use Rattle.bridge_run.specs.Refusals.{Refuses, article_end};
+ghost use Rattle.bridge_run.specs.Refusals.{Refuses, Tells, obeyed_at, obeyed_word, article_end};
 ghost use Rattle.bridge_run.specs.Runs.{AreSteps};
 
 use crate::first::limits::{judge_sequent, judge_term, judge_type};
@@ -115,8 +115,8 @@ impl Machine {
 
     /// Takes one command. The machine is of no more use once it has refused one.
     pub fn step(&mut self, item: &Item) -> Result<(), Fault>
-        ensures taken { OnOk result (restricted (step_at self.old.place self.old item.now) ≡ Ok self.new) }
-        ensures refused { IfErr result (λ fault. Refuses fault (step_at self.old.place self.old item.now)) }
+        ensures taken { OnOk result (obeyed_at self.old.place self.old item.now ≡ Ok self.new) }
+        ensures refused { IfErr result (λ fault. Tells fault (obeyed_at self.old.place self.old item.now)) }
     {
         match self.progress {
             Progress::Begun => self.begin(item),
@@ -173,8 +173,8 @@ impl Machine {
 
     /// A command of the body.
     fn run(&mut self, item: &Item) -> Result<(), Fault>
-        ensures taken { OnOk result (restricted (step_at Place.body self.old item.now) ≡ Ok self.new) }
-        ensures refused { IfErr result (λ fault. Refuses fault (step_at Place.body self.old item.now)) }
+        ensures taken { OnOk result (obeyed_at Place.body self.old item.now ≡ Ok self.new) }
+        ensures refused { IfErr result (λ fault. Tells fault (obeyed_at Place.body self.old item.now)) }
     {
         match item {
             Item::Number(number) => {
@@ -189,10 +189,10 @@ impl Machine {
         }
     }
 
-    /// A word of the body.
+    /// A word of the body. Six words aren't obeyed yet.
     fn word(&mut self, word: Word) -> Result<(), Fault>
-        ensures taken { OnOk result (restricted (obey self.old word) ≡ Ok self.new) }
-        ensures refused { IfErr result (λ fault. Refuses fault (obey self.old word)) }
+        ensures taken { OnOk result (obeyed_word self.old word ≡ Ok self.new) }
+        ensures refused { IfErr result (λ fault. Tells fault (obeyed_word self.old word)) }
     {
         match word {
             Word::Version => Err(Fault::Refused(Kind::VersionPlace)),
@@ -209,6 +209,8 @@ impl Machine {
             Word::Ref => self.refer(),
             Word::Refl => self.reflexivity(),
             Word::Thm => self.theorem(),
+            Word::HdTl | Word::VarType | Word::AbsTerm | Word::Remove | Word::Pop | Word::Pragma =>
+                Err(Fault::Refused(Kind::BadLine)),
         }
     }
 }

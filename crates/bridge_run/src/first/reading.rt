@@ -94,13 +94,13 @@ fn stop_at(line: u64, fault: Fault) -> Stop
     }
 }
 
-/// The stop for a faulty line.
+/// The stop for a faulty line, which is a bad line here whatever its kind.
 fn stop_of(fault: LineFault) -> Stop
     ensures stop { result ≡ stop_of_line fault }
     ensures own { result ≢ Stop.ReadFault }
 {
     match fault {
-        LineFault::Refused { line, kind } => Stop::Refused(line, kind),
+        LineFault::Refused { line, .. } => Stop::Refused(line, Kind::BadLine),
         LineFault::Memory => Stop::Memory,
     }
 }
