@@ -4,7 +4,8 @@
 //! trees are. A call that makes a term keeps every number that was given before, and after a refusal or want of memory
 //! the table is as before. A term that is made is within the limits of size and depth, or refused for exactly the limit
 //! that it passes; where types do not fit, that is told first. The free variables and the type variables of a term are
-//! listed in order of first occurrence, each once. Walks come once to each part, but for the one that finds the type of a new abstraction: it stops at parts without loose numbers.
+//! listed in order of first occurrence, each once. Walks come once to each part, but for the one that finds the type of
+//! a new abstraction, which stops at parts without loose numbers.
 //!
 //! ```
 //! let mut table = TermTable::new(alloc);
