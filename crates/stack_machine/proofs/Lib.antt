@@ -1,0 +1,9 @@
+mod Passing
+mod Slots
+mod Cells
+mod Fitting
+mod Elements
+mod Placed
+mod Obeyed
+mod Dictionaries
+mod Frames

@@ -1,0 +1,9 @@
+use Rattle.stack_machine.specs.StoredLaws.{IsFront-refl}
+use Rattle.stack_machine.proofs.Cells.{stored-Grows, stored-AreCells}
+use Rattle.stack_machine.proofs.store.Store.type_variable.Goals as goal
+
+pub invariant_of-self : goal.invariant_of-self
+invariant_of-self c = stored-AreCells _ _ _ _ _ _ _ c.ty_var.ensures.keeps (IsFront-refl _) c.self.invariant
+
+pub returns-clause-grows : goal.returns-clause-grows
+returns-clause-grows c = rw (← c.self.view_is) (stored-Grows _ _ _ _ _ _ _ c.ty_var.ensures.keeps (IsFront-refl _) c.self.invariant)

@@ -1,0 +1,4 @@
+pub mod Stored
+pub mod StoredLaws
+pub mod Refusals
+pub mod Shown

@@ -1,0 +1,123 @@
+-- What the machine keeps, and which objects its numbers stand for.
+use Rattle.std.specs.Prelude.{◌≡◌, ℕ, ◌<◌, ◌+◌, List, [], ◌∷◌, ◌++◌, length, map, reverse, slice_get, unwrap_or, refl}
+use Rattle.std.specs.Coded.{Coded, code_by, coded×, coded_list}
+use Rattle.std.specs.List.{AllByRecursion}
+use Rattle.hol_spec.specs.Names.{Name}
+use Rattle.hol_spec.specs.TypeLaws.{coded_name}
+use Rattle.hol_spec.specs.Symbols.{Symbol}
+use Rattle.hol_spec.specs.ProofLaws.{coded_symbol}
+use Rattle.hol_term.specs.Tables.{Trees, coded_trees, term_at, type_at, IsTermAt}
+use Rattle.hol_term.specs.Tables as table
+use Rattle.article_spec.specs.State as state
+use Rattle.article_spec.specs.StateLaws.{objects_code, objects_inj}
+use Rattle.stack_machine.specs.declared.object.NameId.{NameId}
+use Rattle.stack_machine.specs.declared.object.List.{List as AList}
+use Rattle.stack_machine.specs.declared.object.List.TheVariants.{Empty, Cell as CellOf}
+use Rattle.stack_machine.specs.declared.object.Object.{Object}
+use Rattle.stack_machine.specs.declared.object.Object.TheVariants as object
+use Rattle.stack_machine.specs.declared.object.Cell.{Cell}
+
+-- the types and terms, the names and the lists by number, and the symbols that are taken
+pub record Stored : Type 0 where
+  pub trees : Trees
+  pub names : List Name
+  pub lists : List state.Objects
+  pub symbols : List Symbol
+
+abbrev coded_objects : Coded state.Objects
+coded_objects = record { code = objects_code; inj = objects_inj }
+
+abbrev pub coded_stored : Coded Stored
+coded_stored = code_by ((Trees × List Name) × (List state.Objects × List Symbol)) (coded× (coded× coded_trees (coded_list coded_name)) (coded× (coded_list coded_objects) (coded_list coded_symbol)))
+    (λ m. ((m.trees, m.names), (m.lists, m.symbols))) (λ p. record { trees = p.0.0; names = p.0.1; lists = p.1.0; symbols = p.1.1 }) (λ _. refl)
+
+-- the number's name
+abbrev pub name_at : Stored → ℕ → Name
+name_at m id = unwrap_or (slice_get m.names id) []
+
+-- the number's list
+abbrev pub list_at : Stored → ℕ → state.Objects
+list_at m id = unwrap_or (slice_get m.lists id) state.Objects.none
+
+abbrev pub list_view : Stored → AList → state.Objects
+list_view m Empty = state.Objects.none
+list_view m (CellOf c) = list_at m c.0
+
+-- the object that the numbers stand for
+abbrev pub object_view : Stored → Object → state.Object
+object_view m (object.Number z) = state.Object.number z
+object_view m (object.Name n) = state.Object.name (name_at m n.0)
+object_view m (object.List xs) = state.Object.list (list_view m xs)
+object_view m (object.TypeOperator n) = state.Object.type_operator (name_at m n.0)
+object_view m (object.Type t) = state.Object.type (type_at m.trees t.0)
+object_view m (object.Constant n) = state.Object.constant (name_at m n.0)
+object_view m (object.Variable n t) = state.Object.variable (name_at m n.0, type_at m.trees t.0)
+object_view m (object.Term t) = state.Object.term (term_at m.trees t.0)
+
+-- the objects of a stack that grows at its end, from the top
+abbrev pub stack_view : Stored → List Object → List state.Object
+stack_view m xs = map (object_view m) (reverse xs)
+
+abbrev pub cell_view : Stored → Cell → state.Objects
+cell_view m c = state.Objects.more (object_view m c.head) (list_view m c.tail)
+
+-- the lists, and those of the cells after them
+abbrev pub lists_from : Stored → List Cell → List state.Objects
+lists_from m [] = m.lists
+lists_from m (c ∷ cs) = lists_from (record m { lists = m.lists ++ cell_view m c ∷ [] }) cs
+
+-- what is kept, where the lists are those of these cells
+abbrev pub without_lists : Trees → List Name → List Symbol → Stored
+without_lists trees names symbols = record { trees = trees; names = names; lists = []; symbols = symbols }
+
+abbrev pub stored : Trees → List Name → List Symbol → List Cell → Stored
+stored trees names symbols cells = record { trees = trees; names = names; lists = lists_from (without_lists trees names symbols) cells; symbols = symbols }
+
+-- the numbers are of what is kept, and terms are well typed
+abbrev pub IsListKnown : Stored → AList → Type 0
+IsListKnown m Empty = Unit {0}
+IsListKnown m (CellOf c) = c.0 < length m.lists
+
+-- how many cells a list can have
+abbrev pub rank : AList → ℕ
+rank Empty = 0
+rank (CellOf c) = c.0 + 1
+
+abbrev pub IsName : Stored → ℕ → Type 0
+IsName m n = n < length m.names
+
+abbrev pub IsType : Stored → ℕ → Type 0
+IsType m t = t < length m.trees.types
+
+pub record IsTerm (m : Stored) (t : ℕ) : Type 0 where
+  pub known : t < length m.trees.terms
+  pub typed : IsTermAt m.trees t
+
+abbrev pub IsKnown : Stored → Object → Type 0
+IsKnown m (object.Number z) = Unit {0}
+IsKnown m (object.Name n) = IsName m n.0
+IsKnown m (object.List xs) = IsListKnown m xs
+IsKnown m (object.TypeOperator n) = IsName m n.0
+IsKnown m (object.Type t) = IsType m t.0
+IsKnown m (object.Constant n) = IsName m n.0
+IsKnown m (object.Variable n t) = IsName m n.0 × IsType m t.0
+IsKnown m (object.Term t) = IsTerm m t.0
+
+abbrev pub AreKnown : Stored → List Object → Type 0
+AreKnown m xs = AllByRecursion (IsKnown m) xs
+
+-- the cells' parts come before them
+abbrev pub AreCells : Stored → List Cell → Type 0
+AreCells m [] = Unit {0}
+AreCells m (c ∷ cs) = IsKnown m c.head × IsListKnown m c.tail × AreCells (record m { lists = m.lists ++ cell_view m c ∷ [] }) cs
+
+-- one list is a front of another
+pub record IsFront {A : Type 0} (xs ys : List A) : Type 0 where
+  pub more : List A
+  pub is : ys ≡ xs ++ more
+
+-- what had a number keeps it
+pub record Grows (a b : Stored) : Type 0 where
+  pub trees : table.Keeps a.trees b.trees
+  pub names : IsFront a.names b.names
+  pub lists : IsFront a.lists b.lists

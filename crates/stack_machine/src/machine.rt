@@ -1,0 +1,295 @@
+//! The stack machine.
+ghost use Rattle.std.specs.Prelude.{◌≡◌, ◌↔◌, IsTrue, Ok, OnOk, OnErr, IfOk, IfErr};
+ghost use Rattle.hol_spec.specs.Proofs.{symbols_of};
+ghost use Rattle.article_spec.specs.declared.commands.Word.TheVariants as word;
+ghost use Rattle.article_spec.specs.Results.{Fails};
+ghost use Rattle.article_spec.specs.State.{Place, initial};
+ghost use Rattle.article_spec.specs.Step.{finish, obey, step, step_at};
+ghost use Rattle.stack_machine.specs.Shown.{IsBuilding, IsBuildingWord, IsOnStack};
+
+use crate::commands::{obey_on_stack, put};
+use crate::object::Object;
+use crate::operands::{pop, pop_number};
+use crate::store::Store;
+use article_spec::{Command, Item, Word};
+use bridge_base::{Fault, Kind, Memory};
+use hol_defs::Symbols;
+use std::alloc::Global;
+use std::collections::BTreeMap;
+use std::marker::Model;
+
+/// How far an article is.
+#[derive(Clone, Copy)]
+pub(crate) enum Progress {
+    /// No command yet.
+    Begun,
+    /// The number of the version alone.
+    Numbered,
+    /// Both first commands.
+    Running,
+}
+
+/// The stack machine. Contracts see its state: the stack as a list of objects from the top, the dictionary as a
+/// finite map, the symbols that are taken, and how far the article is.
+#[derive(Drop)]
+pub struct Machine {
+    alloc: Global,
+    store: Store,
+    stack: Vec<Object>,
+    dictionary: BTreeMap<i64, Object>,
+    progress: Progress,
+}
+
+impl Model for Machine {
+    ghost use Rattle.article_spec.specs.State.{State};
+    ghost use Rattle.article_spec.specs.StateLaws.{coded_state};
+    ghost use Rattle.stack_machine.specs.Stored.{AreKnown};
+    ghost use Rattle.stack_machine.specs.Shown.{AreEntriesKnown, article_state, shown};
+
+    ghost Value = { State };
+
+    ghost coded = { coded_state };
+
+    ghost invariant = { λ m. AreKnown m.store m.stack.items × AreEntriesKnown m.store m.dictionary.entries };
+
+    ghost view = { λ m. shown m.store m.stack.items (article_state m.store m.dictionary.entries m.progress) };
+}
+
+impl Machine {
+    /// The machine before the first article.
+    pub fn new(alloc: Global) -> Result<Machine, Memory>
+        ensures initial { IfOk result (λ machine. machine ≡ initial) }
+    {
+        Ok(Machine {
+            alloc,
+            store: Store::new(alloc)?,
+            stack: Vec::new(alloc),
+            dictionary: BTreeMap::new(alloc),
+            progress: Progress::Begun,
+        })
+    }
+
+    /// Whether the machine takes a command that says this: it does unless the command makes or takes a theorem.
+    pub fn takes(item: &Item) -> bool
+        ensures { IsTrue result ↔ IsBuilding item.now }
+    {
+        match item {
+            Item::Number(_) | Item::Name(_) => true,
+            Item::Word(word) => is_building_word(*word),
+        }
+    }
+
+    /// Obeys a command (OpenTheory article format, version 6, "Commands"). It is refused for the first condition that
+    /// fails: the place of `version`; the stack, each operand from the top first there and then of its kind; the
+    /// dictionary; the command's own conditions; the limits of size and of depth. After a refusal or want of memory
+    /// the machine is as before. The words that make or take a theorem are no commands of this machine yet.
+    pub fn step(&mut self, command: &Command) -> Result<(), Fault>
+        requires building { IsBuilding command.now.item }
+        ensures taken { OnOk result (step self.old command.now ≡ Ok self.new) }
+        ensures refused { IfErr result (λ fault. Fails fault (step self.old command.now)) }
+        ensures unchanged { OnErr result (self.new ≡ self.old) }
+    {
+        match self.progress {
+            Progress::Begun => self.begin(&command.item),
+            Progress::Numbered => self.version(&command.item),
+            Progress::Running => self.run(&command.item),
+        }
+    }
+
+    /// Ends an article, and begins the next with an empty stack and an empty dictionary. It is refused exactly where
+    /// the article lacks its first two commands, and then nothing changes.
+    pub fn finish(&mut self) -> Result<(), Fault>
+        ensures ended { OnOk result (finish self.old ≡ Ok self.new) }
+        ensures refused { IfErr result (λ fault. Fails fault (finish self.old)) }
+        ensures unchanged { OnErr result (self.new ≡ self.old) }
+    {
+        match self.progress {
+            Progress::Running => {
+                self.stack.clear();
+                self.dictionary.clear();
+                self.store.forget();
+                self.progress = Progress::Begun;
+                Ok(())
+            }
+            Progress::Begun | Progress::Numbered => Err(Fault::Refused(Kind::VersionPlace)),
+        }
+    }
+
+    /// The symbols that are taken, in order of taking.
+    pub fn symbols(&self) -> &Symbols
+        ensures { result.now ≡ symbols_of self.now.made }
+    {
+        self.store.symbols()
+    }
+
+    // The first command is the number 6.
+    fn begin(&mut self, item: &Item) -> Result<(), Fault>
+        ensures taken { OnOk result (step_at Place.start self.old item.now ≡ Ok self.new) }
+        ensures refused { IfErr result (λ fault. Fails fault (step_at Place.start self.old item.now)) }
+        ensures unchanged { OnErr result (self.new ≡ self.old) }
+    {
+        match item {
+            Item::Number(number) => {
+                if *number != 6 {
+                    return Err(Fault::Refused(Kind::VersionPlace));
+                }
+                self.stack.push(Object::Number(*number))?;
+                self.progress = Progress::Numbered;
+                Ok(())
+            }
+            Item::Name(_) | Item::Word(_) => Err(Fault::Refused(Kind::VersionPlace)),
+        }
+    }
+
+    // The second command is `version`, which takes the number off.
+    fn version(&mut self, item: &Item) -> Result<(), Fault>
+        ensures taken { OnOk result (step_at Place.version self.old item.now ≡ Ok self.new) }
+        ensures refused { IfErr result (λ fault. Fails fault (step_at Place.version self.old item.now)) }
+        ensures unchanged { OnErr result (self.new ≡ self.old) }
+    {
+        match item {
+            Item::Word(Word::Version) => {
+                let _six = self.stack.pop();
+                self.progress = Progress::Running;
+                Ok(())
+            }
+            Item::Number(_) | Item::Name(_) | Item::Word(_) => {
+                Err(Fault::Refused(Kind::VersionPlace))
+            }
+        }
+    }
+
+    // A command of the body.
+    fn run(&mut self, item: &Item) -> Result<(), Fault>
+        requires building { IsBuilding item.now }
+        ensures taken { OnOk result (step_at Place.body self.old item.now ≡ Ok self.new) }
+        ensures refused { IfErr result (λ fault. Fails fault (step_at Place.body self.old item.now)) }
+        ensures unchanged { OnErr result (self.new ≡ self.old) }
+    {
+        match item {
+            Item::Number(number) => {
+                self.stack.push(Object::Number(*number))?;
+                Ok(())
+            }
+            Item::Name(name) => {
+                let name = self.store.keep_name(name)?;
+                self.stack.push(Object::Name(name))?;
+                Ok(())
+            }
+            Item::Word(word) => self.word(*word),
+        }
+    }
+
+    // A word of the body.
+    fn word(&mut self, word: Word) -> Result<(), Fault>
+        requires building { IsBuildingWord word }
+        ensures taken { OnOk result (obey self.old word ≡ Ok self.new) }
+        ensures refused { IfErr result (λ fault. Fails fault (obey self.old word)) }
+        ensures unchanged { OnErr result (self.new ≡ self.old) }
+    {
+        match word {
+            Word::Version => Err(Fault::Refused(Kind::VersionPlace)),
+            Word::Def => self.define(),
+            Word::Ref => self.refer(),
+            Word::Remove => self.remove(),
+            Word::Nil
+            | Word::Cons
+            | Word::HdTl
+            | Word::TypeOp
+            | Word::VarType
+            | Word::OpType
+            | Word::Const
+            | Word::ConstTerm
+            | Word::Var
+            | Word::VarTerm
+            | Word::AppTerm
+            | Word::AbsTerm
+            | Word::Pop
+            | Word::Pragma
+            | Word::Refl
+            | Word::Thm => self.on_stack(word),
+        }
+    }
+
+    // A word that works on the stack alone.
+    fn on_stack(&mut self, word: Word) -> Result<(), Fault>
+        requires word { IsOnStack word }
+        ensures taken { OnOk result (obey self.old word ≡ Ok self.new) }
+        ensures refused { IfErr result (λ fault. Fails fault (obey self.old word)) }
+        ensures unchanged { OnErr result (self.new ≡ self.old) }
+    {
+        obey_on_stack(self.alloc, &mut self.store, &mut self.stack, word)
+    }
+
+    // Keeps an object under a number.
+    fn define(&mut self) -> Result<(), Fault>
+        ensures taken { OnOk result (obey self.old word.Def ≡ Ok self.new) }
+        ensures refused { IfErr result (λ fault. Fails fault (obey self.old word.Def)) }
+        ensures unchanged { OnErr result (self.new ≡ self.old) }
+    {
+        let (key, below) = pop_number(&self.stack)?;
+        let (object, _rest) = pop(below)?;
+        let keep = below.len();
+        self.dictionary.insert(key, object)?;
+        self.stack.truncate(keep);
+        Ok(())
+    }
+
+    // The object that is kept under a number.
+    fn refer(&mut self) -> Result<(), Fault>
+        ensures taken { OnOk result (obey self.old word.Ref ≡ Ok self.new) }
+        ensures refused { IfErr result (λ fault. Fails fault (obey self.old word.Ref)) }
+        ensures unchanged { OnErr result (self.new ≡ self.old) }
+    {
+        let (key, rest) = pop_number(&self.stack)?;
+        let keep = rest.len();
+        let Some(object) = self.dictionary.get(&key) else {
+            return Err(Fault::Refused(Kind::NoSuchKey));
+        };
+        let object = *object;
+        put(&mut self.stack, keep, object);
+        Ok(())
+    }
+
+    // The object that was kept under a number, which is kept no more.
+    fn remove(&mut self) -> Result<(), Fault>
+        ensures taken { OnOk result (obey self.old word.Remove ≡ Ok self.new) }
+        ensures refused { IfErr result (λ fault. Fails fault (obey self.old word.Remove)) }
+        ensures unchanged { OnErr result (self.new ≡ self.old) }
+    {
+        let (key, rest) = pop_number(&self.stack)?;
+        let keep = rest.len();
+        let Some(object) = self.dictionary.remove(&key) else {
+            return Err(Fault::Refused(Kind::NoSuchKey));
+        };
+        put(&mut self.stack, keep, object);
+        Ok(())
+    }
+}
+
+// Whether a word neither makes nor takes a theorem.
+fn is_building_word(word: Word) -> bool
+    ensures { IsTrue result ↔ IsBuildingWord word }
+{
+    match word {
+        Word::Refl | Word::Thm => false,
+        Word::Version
+        | Word::Nil
+        | Word::Cons
+        | Word::HdTl
+        | Word::TypeOp
+        | Word::VarType
+        | Word::OpType
+        | Word::Const
+        | Word::ConstTerm
+        | Word::Var
+        | Word::VarTerm
+        | Word::AppTerm
+        | Word::AbsTerm
+        | Word::Def
+        | Word::Ref
+        | Word::Remove
+        | Word::Pop
+        | Word::Pragma => true,
+    }
+}

@@ -1,0 +1,264 @@
+//! What the machine keeps: types, terms, names and lists by number, and the symbols that are taken.
+ghost use Rattle.std.specs.Prelude.{◌≡◌, ◌<◌, ◌≤◌, ◌++◌, [], length, slice_get, unwrap_or, Ok, Some, IfOk, IfErr, OnOk, OnErr};
+ghost use Rattle.hol_spec.specs.Types.{operator, types_of, variable};
+ghost use Rattle.hol_spec.specs.Terms.{free, constant, app};
+ghost use Rattle.hol_spec.specs.Symbols.{new_constant, new_operator};
+ghost use Rattle.hol_type.specs.Tables.{AreKnown as AreTypes, types_at};
+ghost use Rattle.hol_term.specs.Tables.{term_at, type_at};
+ghost use Rattle.bridge_base.specs.declared.faults.Fault.TheVariants as the_fault;
+ghost use Rattle.article_spec.specs.Conditions.{term_in_limits};
+ghost use Rattle.article_spec.specs.Operands.{as_type, each};
+ghost use Rattle.article_spec.specs.Results.{Fails};
+ghost use Rattle.article_spec.specs.State as state;
+ghost use Rattle.article_spec.specs.Step.{abstraction};
+ghost use Rattle.stack_machine.specs.Refusals.{application_fits, constant_fits, operator_fits};
+ghost use Rattle.stack_machine.specs.Stored.{Grows, rank, IsKnown, IsListKnown, IsName, IsTerm, IsType, cell_view, list_view, name_at, object_view};
+
+use crate::making::{make_constant, make_operator};
+use crate::object::{Cell, CellId, List, NameId, Object};
+use crate::operands::type_in;
+use bridge_base::{Fault, Memory};
+use hol_defs::Symbols;
+use hol_name::Name;
+use hol_term::{TermId, TermTable, Variable};
+use hol_type::TypeId;
+use std::alloc::Global;
+use std::marker::Model;
+
+// The number's name.
+fn name_in(names: &Vec<Name>, id: NameId) -> &Name
+    requires { id.0 < length names.now.items }
+    ensures { result.now ≡ unwrap_or (slice_get names.now.items id.0) [] }
+{
+    &names[id.0]
+}
+
+// The number's cell.
+fn cell_in(cells: &Vec<Cell>, id: CellId) -> Cell
+    requires { id.0 < length cells.now.items }
+    ensures { slice_get cells.now.items id.0 ≡ Some result }
+{
+    cells[id.0]
+}
+
+/// What the machine keeps. What has a number keeps it.
+#[derive(Drop)]
+pub(crate) struct Store {
+    terms: TermTable,
+    names: Vec<Name>,
+    cells: Vec<Cell>,
+    symbols: Symbols,
+}
+
+impl Model for Store {
+    ghost use Rattle.stack_machine.specs.Stored.{Stored, AreCells, coded_stored, stored, without_lists};
+
+    ghost Value = { Stored };
+
+    ghost coded = { coded_stored };
+
+    ghost invariant = { λ s. AreCells (without_lists s.terms s.names.items s.symbols) s.cells.items };
+
+    ghost view = { λ s. stored s.terms s.names.items s.symbols s.cells.items };
+}
+
+impl Store {
+    pub(crate) fn new(alloc: Global) -> Result<Store, Memory>
+        ensures empty { IfOk result (λ s. s.symbols ≡ []) }
+    {
+        Ok(Store {
+            terms: TermTable::new(alloc),
+            names: Vec::new(alloc),
+            cells: Vec::new(alloc),
+            symbols: Symbols::new(alloc)?,
+        })
+    }
+
+    pub(crate) fn symbols(&self) -> &Symbols
+        ensures { result.now ≡ self.now.symbols }
+    {
+        &self.symbols
+    }
+
+    // Gives up all names and lists: nothing stands for them any more.
+    pub(crate) fn forget(&mut self)
+        ensures trees { self.new.trees ≡ self.old.trees }
+        ensures symbols { self.new.symbols ≡ self.old.symbols }
+    {
+        self.names.clear();
+        self.cells.clear();
+    }
+
+    // Keeps a name.
+    pub(crate) fn keep_name(&mut self, name: &Name) -> Result<NameId, Memory>
+        ensures known { IfOk result (λ id. IsName self.new id.0) }
+        ensures kept { IfOk result (λ id. name_at self.new id.0 ≡ name.now) }
+        ensures grows { Grows self.old self.new }
+        ensures symbols { self.new.symbols ≡ self.old.symbols }
+    {
+        let id = NameId(self.names.len());
+        self.names.push(name.clone()?)?;
+        Ok(id)
+    }
+
+    // The list of an element and a list.
+    pub(crate) fn cons(&mut self, head: Object, tail: List) -> Result<List, Memory>
+        requires head { IsKnown self.old head }
+        requires tail { IsListKnown self.old tail }
+        ensures known { IfOk result (λ xs. IsListKnown self.new xs) }
+        ensures made { IfOk result (λ xs. list_view self.new xs ≡ state.Objects.more (object_view self.old head) (list_view self.old tail)) }
+        ensures grows { Grows self.old self.new }
+        ensures symbols { self.new.symbols ≡ self.old.symbols }
+    {
+        let id = CellId(self.cells.len());
+        self.cells.push(Cell { head, tail })?;
+        Ok(List::Cell(id))
+    }
+
+    // The first element of a list, and the rest of it.
+    pub(crate) fn cell(&self, id: CellId) -> Cell
+        requires { IsListKnown self.now (List.Cell id) }
+        ensures is { list_view self.now (List.Cell id) ≡ cell_view self.now result }
+        ensures head { IsKnown self.now result.head }
+        ensures tail { IsListKnown self.now result.tail }
+        ensures lower { rank result.tail ≤ id.0 }
+    {
+        cell_in(&self.cells, id)
+    }
+
+    // The type variable of a name.
+    pub(crate) fn type_variable(&mut self, name: NameId) -> Result<TypeId, Fault>
+        requires { IsName self.old name.0 }
+        ensures known { IfOk result (λ id. IsType self.new id.0) }
+        ensures made { IfOk result (λ id. type_at self.new.trees id.0 ≡ variable (name_at self.old name.0)) }
+        ensures refused { IfErr result (λ fault. fault ≡ the_fault.Memory) }
+        ensures grows { Grows self.old self.new }
+        ensures symbols { self.new.symbols ≡ self.old.symbols }
+    {
+        let name = name_in(&self.names, name);
+        self.terms.ty_var(name)
+    }
+
+    // The free variable of a name and a type.
+    pub(crate) fn free_variable(&mut self, name: NameId, ty: TypeId) -> Result<TermId, Fault>
+        requires name { IsName self.old name.0 }
+        requires ty { IsType self.old ty.0 }
+        ensures known { IfOk result (λ id. IsTerm self.new id.0) }
+        ensures made { IfOk result (λ id. term_at self.new.trees id.0 ≡ free (name_at self.old name.0) (type_at self.old.trees ty.0)) }
+        ensures fits { OnOk result (term_in_limits (free (name_at self.old name.0) (type_at self.old.trees ty.0)) ≡ Ok tt) }
+        ensures refused { IfErr result (λ fault. Fails fault (term_in_limits (free (name_at self.old name.0) (type_at self.old.trees ty.0)))) }
+        ensures grows { Grows self.old self.new }
+        ensures symbols { self.new.symbols ≡ self.old.symbols }
+    {
+        let name = name_in(&self.names, name);
+        self.terms.free(name, ty)
+    }
+
+    // The application of a term to a term.
+    pub(crate) fn application(&mut self, f: TermId, x: TermId) -> Result<TermId, Fault>
+        requires function { IsTerm self.old f.0 }
+        requires argument { IsTerm self.old x.0 }
+        ensures known { IfOk result (λ id. IsTerm self.new id.0) }
+        ensures made { IfOk result (λ id. term_at self.new.trees id.0 ≡ app (term_at self.old.trees f.0) (term_at self.old.trees x.0)) }
+        ensures fits { OnOk result (application_fits (app (term_at self.old.trees f.0) (term_at self.old.trees x.0)) ≡ Ok tt) }
+        ensures refused { IfErr result (λ fault. Fails fault (application_fits (app (term_at self.old.trees f.0) (term_at self.old.trees x.0)))) }
+        ensures grows { Grows self.old self.new }
+        ensures symbols { self.new.symbols ≡ self.old.symbols }
+    {
+        self.terms.app(f, x)
+    }
+
+    // The abstraction of a term over the variable of a name and a type.
+    pub(crate) fn abstraction(
+        &mut self,
+        name: NameId,
+        ty: TypeId,
+        body: TermId,
+    ) -> Result<TermId, Fault>
+        requires name { IsName self.old name.0 }
+        requires ty { IsType self.old ty.0 }
+        requires body { IsTerm self.old body.0 }
+        ensures known { IfOk result (λ id. IsTerm self.new id.0) }
+        ensures made { IfOk result (λ id. term_at self.new.trees id.0 ≡ abstraction (name_at self.old name.0, type_at self.old.trees ty.0) (term_at self.old.trees body.0)) }
+        ensures fits { OnOk result (term_in_limits (abstraction (name_at self.old name.0, type_at self.old.trees ty.0) (term_at self.old.trees body.0)) ≡ Ok tt) }
+        ensures refused { IfErr result (λ fault. Fails fault (term_in_limits (abstraction (name_at self.old name.0, type_at self.old.trees ty.0) (term_at self.old.trees body.0)))) }
+        ensures grows { Grows self.old self.new }
+        ensures symbols { self.new.symbols ≡ self.old.symbols }
+    {
+        let variable = self.variable(name, ty)?;
+        self.abstraction_over(&variable, body)
+    }
+
+    // The variable of a name and a type.
+    fn variable(&self, name: NameId, ty: TypeId) -> Result<Variable, Memory>
+        requires name { IsName self.now name.0 }
+        ensures name { IfOk result (λ variable. variable.name ≡ name_at self.now name.0) }
+        ensures ty { IfOk result (λ variable. variable.ty ≡ ty) }
+    {
+        let name = name_in(&self.names, name).clone()?;
+        Ok(Variable { name, ty })
+    }
+
+    // The abstraction of a term over a variable.
+    fn abstraction_over(&mut self, variable: &Variable, body: TermId) -> Result<TermId, Fault>
+        requires ty { IsType self.old variable.now.ty.0 }
+        requires body { IsTerm self.old body.0 }
+        ensures known { IfOk result (λ id. IsTerm self.new id.0) }
+        ensures made { IfOk result (λ id. term_at self.new.trees id.0 ≡ abstraction (variable.now.name, type_at self.old.trees variable.now.ty.0) (term_at self.old.trees body.0)) }
+        ensures fits { OnOk result (term_in_limits (abstraction (variable.now.name, type_at self.old.trees variable.now.ty.0) (term_at self.old.trees body.0)) ≡ Ok tt) }
+        ensures refused { IfErr result (λ fault. Fails fault (term_in_limits (abstraction (variable.now.name, type_at self.old.trees variable.now.ty.0) (term_at self.old.trees body.0)))) }
+        ensures grows { Grows self.old self.new }
+        ensures symbols { self.new.symbols ≡ self.old.symbols }
+    {
+        self.terms.abs(variable, body)
+    }
+
+    // The type of an operator with these arguments.
+    pub(crate) fn operator_type(&mut self, name: NameId, args: &[TypeId]) -> Result<TypeId, Fault>
+        requires name { IsName self.old name.0 }
+        requires args { AreTypes self.old.trees.types args.now }
+        ensures known { IfOk result (λ id. IsType self.new id.0) }
+        ensures made { IfOk result (λ id. type_at self.new.trees id.0 ≡ operator (name_at self.old name.0) (types_of (types_at self.old.trees.types args.now))) }
+        ensures fits { OnOk result (operator_fits self.old.symbols (name_at self.old name.0) (types_at self.old.trees.types args.now) ≡ Ok tt) }
+        ensures takes { OnOk result (self.new.symbols ≡ self.old.symbols ++ new_operator self.old.symbols (name_at self.old name.0) (length (types_at self.old.trees.types args.now))) }
+        ensures refused { IfErr result (λ fault. Fails fault (operator_fits self.old.symbols (name_at self.old name.0) (types_at self.old.trees.types args.now))) }
+        ensures unchanged { OnErr result (self.new.symbols ≡ self.old.symbols) }
+        ensures grows { Grows self.old self.new }
+    {
+        let name = name_in(&self.names, name);
+        make_operator(&mut self.terms, &mut self.symbols, name, args)
+    }
+
+    // The constant of a name at a type.
+    pub(crate) fn constant_term(&mut self, name: NameId, ty: TypeId) -> Result<TermId, Fault>
+        requires name { IsName self.old name.0 }
+        requires ty { IsType self.old ty.0 }
+        ensures known { IfOk result (λ id. IsTerm self.new id.0) }
+        ensures made { IfOk result (λ id. term_at self.new.trees id.0 ≡ constant (name_at self.old name.0) (type_at self.old.trees ty.0)) }
+        ensures fits { OnOk result (constant_fits self.old.symbols (name_at self.old name.0) (type_at self.old.trees ty.0) ≡ Ok tt) }
+        ensures takes { OnOk result (self.new.symbols ≡ self.old.symbols ++ new_constant self.old.symbols (name_at self.old name.0)) }
+        ensures refused { IfErr result (λ fault. Fails fault (constant_fits self.old.symbols (name_at self.old name.0) (type_at self.old.trees ty.0))) }
+        ensures unchanged { OnErr result (self.new.symbols ≡ self.old.symbols) }
+        ensures grows { Grows self.old self.new }
+    {
+        let name = name_in(&self.names, name);
+        make_constant(&mut self.terms, &mut self.symbols, name, ty)
+    }
+
+    // The elements of a list as types, in their order.
+    pub(crate) fn types_in(&self, alloc: Global, list: List) -> Result<Vec<TypeId>, Fault>
+        requires { IsListKnown self.now list }
+        ensures types { IfOk result (λ ids. each as_type (list_view self.now list) ≡ Ok (types_at self.now.trees.types ids.items)) }
+        ensures known { IfOk result (λ ids. AreTypes self.now.trees.types ids.items) }
+        ensures refused { IfErr result (λ fault. Fails fault (each as_type (list_view self.now list))) }
+    {
+        let mut types = Vec::new(alloc);
+        let mut rest = list;
+        while let List::Cell(id) = rest {
+            let cell = self.cell(id);
+            types.push(type_in(cell.head)?)?;
+            rest = cell.tail;
+        }
+        Ok(types)
+    }
+}
