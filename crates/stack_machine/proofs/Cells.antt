@@ -1,5 +1,5 @@
 -- Cells of lists that come to what is kept, and those that are found there.
-use Rattle.std.proofs.Common.{◌≡◌, ℕ, zero, suc, ◌+◌, ◌<◌, ◌≤◌, refl, sym, ap, subst, ◌∙◌, arith, List, [], ◌∷◌, ◌++◌, length, length-append, Some}
+use Rattle.std.proofs.Common.{◌≡◌, ℕ, zero, suc, ◌+◌, ◌≤◌, refl, sym, ap, subst, ◌∙◌, arith, List, [], ◌∷◌, ◌++◌, length, length-append, Some}
 use Rattle.std.specs.Prelude.{slice_get, unwrap_or}
 use Rattle.std.proofs.lemmas.Option.{slice_get_within}
 use Rattle.std.proofs.lemmas.List.{append-nil}
@@ -12,7 +12,7 @@ use Rattle.article_spec.specs.State as state
 use Rattle.stack_machine.specs.declared.object.List.{List as AList}
 use Rattle.stack_machine.specs.declared.object.List.TheVariants.{Empty, Cell as CellOf}
 use Rattle.stack_machine.specs.declared.object.Cell.{Cell}
-use Rattle.stack_machine.specs.Stored.{Stored, list_at, list_view, object_view, cell_view, lists_from, without_lists, stored, rank, IsListKnown, IsKnown, AreCells, IsFront, Grows}
+use Rattle.stack_machine.specs.Stored.{Stored, list_at, list_view, cell_view, lists_from, without_lists, stored, rank, IsListKnown, IsKnown, AreCells, IsFront, Grows}
 use Rattle.stack_machine.specs.StoredLaws.{IsFront-refl, IsFront-trans, Grows-refl, cells-Grows, IsKnown-Grows, IsListKnown-Grows, at-front, lists_from-Grows, AreCells-Grows, lists_from-push, AreCells-push, length-lists_from, lists_from-front}
 
 -- the last item of a list

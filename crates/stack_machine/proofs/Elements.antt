@@ -1,5 +1,5 @@
 -- The elements of a list as types.
-use Rattle.std.proofs.Common.{◌≡◌, ℕ, ◌<◌, length, refl, sym, ap, ◌∙◌, List, [], ◌∷◌, ◌++◌, map, Result, Ok, Err, append_assoc}
+use Rattle.std.proofs.Common.{◌≡◌, ◌<◌, length, refl, sym, ap, ◌∙◌, List, [], ◌∷◌, ◌++◌, Ok, Err, append_assoc}
 use Rattle.std.proofs.lemmas.List.{append-nil, map-append}
 use Rattle.hol_spec.specs.Types.{HolType}
 use Rattle.hol_type.specs.declared.table.TypeId.{TypeId}
@@ -12,7 +12,7 @@ use Rattle.stack_machine.specs.declared.object.CellId.{CellId}
 use Rattle.stack_machine.specs.declared.object.List.{List as AList}
 use Rattle.stack_machine.specs.declared.object.List.TheVariants.{Empty, Cell as CellOf}
 use Rattle.article_spec.specs.Operands.{as_type, each}
-use Rattle.article_spec.specs.Results.{◌>>=◌, Fails}
+use Rattle.article_spec.specs.Results.{Fails}
 
 -- the rest of a list is to be read after some types
 pub record IsRead (whole rest : state.Objects) (before : List HolType) : Type 0 where

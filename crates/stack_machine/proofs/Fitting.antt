@@ -1,17 +1,14 @@
 -- The conditions of what is made: met where a call answers Ok, and refused with its fault.
-use Rattle.std.proofs.Common.{◌≡◌, ℕ, ◌≤◌, ◌<◌, refl, sym, ap, ◌∙◌, arith, Bool, true, false, List, [], ◌++◌, length, Option, None, Some, option_map, Result, Ok, Err}
+use Rattle.std.proofs.Common.{◌≡◌, ℕ, ◌≤◌, ◌<◌, refl, arith, Bool, true, false, Option, None, Some, option_map, Result, Ok}
 use Rattle.std.specs.Prelude.{IsSome, is_some, nat_le, nat_eq}
-use Rattle.std.proofs.lemmas.List.{append-nil}
 use Rattle.std.proofs.lemmas.Grind.{common_steps}
-use Rattle.hol_spec.specs.Names.{Name}
-use Rattle.hol_spec.specs.Types.{HolType, types_of}
+use Rattle.hol_spec.specs.Types.{HolType}
 use Rattle.hol_spec.specs.Terms.{Term, Variable, lam, type_of, IsTerm}
 use Rattle.hol_spec.specs.TermBinding.{close}
 use Rattle.hol_spec.specs.TermTyping.{type_of-close}
 use Rattle.hol_spec.specs.Limits.{greatest_size, greatest_depth, type_size, type_depth, term_size, term_depth, TypeWithin, TermWithin}
-use Rattle.hol_spec.specs.Primitives.{function, primitive_arity, primitive_type}
+use Rattle.hol_spec.specs.Primitives.{function}
 use Rattle.hol_spec.specs.Substitution.{is_instance}
-use Rattle.hol_spec.specs.Symbols.{Symbol, generic_type, operator_arity, new_constant, new_operator}
 use Rattle.bridge_base.specs.declared.faults.Fault.{Fault}
 use Rattle.bridge_base.specs.declared.faults.Fault.TheVariants.{Memory, Refused}
 use Rattle.bridge_base.specs.declared.faults.Kind.{Kind}
@@ -21,7 +18,7 @@ use Rattle.hol_term.specs.Refusals.{RefusesTerm, RefusesTyped}
 use Rattle.hol_defs.specs.Refusals.{FitsGeneric, FitsArity, RefusesConstant, RefusesOperator}
 use Rattle.article_spec.specs.Results.{◌>>◌, Fails}
 use Rattle.article_spec.specs.Conditions.{demand, type_in_limits, term_in_limits, arity_fits, generic_fits}
-use Rattle.stack_machine.specs.Refusals.{application_fits, constant_fits, operator_fits}
+use Rattle.stack_machine.specs.Refusals.{application_fits}
 
 at_most : (n m : ℕ) → n ≤ m → nat_le n m ≡ true
 at_most n m h = grind (arith, common_steps, h)

@@ -1,14 +1,12 @@
 -- The state of the machine where its store grows.
-use Rattle.std.proofs.Common.{◌≡◌, ℤ, refl, sym, ap, ◌∙◌, List, ◌∷◌, map}
-use Rattle.hol_spec.specs.Proofs.{Made}
-use Rattle.hol_spec.specs.Symbols.{Symbol}
+use Rattle.std.proofs.Common.{◌≡◌, ℤ, refl, List, ◌∷◌}
 use Rattle.article_spec.specs.State.{State}
 use Rattle.article_spec.specs.State as state
 use Rattle.article_spec.specs.Step.{with_stack}
 use Rattle.stack_machine.specs.declared.object.Object.{Object}
 use Rattle.stack_machine.specs.declared.machine.Progress.{Progress}
 use Rattle.stack_machine.specs.Stored.{Stored, stack_view, AreKnown, Grows}
-use Rattle.stack_machine.specs.Shown.{shown, place_view, AreEntriesKnown, article_state}
+use Rattle.stack_machine.specs.Shown.{shown, AreEntriesKnown, article_state}
 use Rattle.stack_machine.proofs.Placed.{stack_view-Grows}
 use Rattle.stack_machine.proofs.Dictionaries.{dictionary-Grows}
 

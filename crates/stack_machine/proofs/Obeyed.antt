@@ -1,6 +1,5 @@
 -- What the words answer, by what is on the stack.
-use Rattle.std.proofs.Common.{◌≡◌, ℕ, ℤ, refl, sym, ap, ◌∙◌, List, [], ◌∷◌, ◌++◌, map, length, Option, None, Some, Result, Ok, Err}
-use Rattle.std.specs.List.{filter_map}
+use Rattle.std.proofs.Common.{◌≡◌, ℤ, refl, ap, ◌∙◌, List, [], ◌∷◌, ◌++◌, map, length, None, Some, Result, Ok, Err}
 use Rattle.std.proofs.lemmas.List.{map-append}
 use Rattle.hol_spec.specs.Names.{Name}
 use Rattle.hol_spec.specs.Types.{HolType, types_of}
@@ -15,7 +14,7 @@ use Rattle.article_spec.specs.declared.commands.Word.TheVariants as word
 use Rattle.article_spec.specs.State.{State}
 use Rattle.article_spec.specs.State as state
 use Rattle.article_spec.specs.Operands.{pop, any_object, as_list, as_number, as_name, as_type, as_types, as_type_operator, as_constant, as_variable, as_term, each}
-use Rattle.article_spec.specs.Conditions.{term_in_limits, type_in_limits, arity_fits, generic_fits, demand}
+use Rattle.article_spec.specs.Conditions.{term_in_limits, type_in_limits, arity_fits, generic_fits}
 use Rattle.article_spec.specs.Results.{◌>>=◌, ◌>>◌, Fails}
 use Rattle.article_spec.specs.Step.{obey, abstraction, with_stack, with_symbols}
 use Rattle.stack_machine.specs.declared.object.Object.{Object}

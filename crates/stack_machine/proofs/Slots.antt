@@ -1,5 +1,5 @@
 -- Lists in which one item is set.
-use Rattle.std.proofs.Common.{◌≡◌, ℕ, zero, suc, ◌+◌, ◌<◌, refl, sym, ap, ◌∙◌, arith, List, [], ◌∷◌, ◌++◌, length, take, slice_set}
+use Rattle.std.proofs.Common.{◌≡◌, ℕ, zero, suc, ◌<◌, refl, ap, arith, List, [], ◌∷◌, ◌++◌, length, take, slice_set}
 
 -- the item behind a front
 pub slice_set-behind : {A : Type 0} (xs : List A) (y x : A) (zs : List A) → slice_set (xs ++ y ∷ zs) (length xs) x ≡ xs ++ x ∷ zs

@@ -1,6 +1,6 @@
 -- The conditions of what is made, as answers: each kind in its turn.
 -- Source: OpenTheory article file format, version 6, "Commands". The limits are this machine's own.
-use Rattle.std.specs.Prelude.{ℕ, List, length, is_some, Result, Ok, Err}
+use Rattle.std.specs.Prelude.{List, length, is_some, Result}
 use Rattle.hol_spec.specs.Names.{Name}
 use Rattle.hol_spec.specs.Types.{HolType, types_of}
 use Rattle.hol_spec.specs.Terms.{Term, type_of}

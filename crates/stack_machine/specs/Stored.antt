@@ -10,7 +10,6 @@ use Rattle.hol_term.specs.Tables.{Trees, coded_trees, term_at, type_at, IsTermAt
 use Rattle.hol_term.specs.Tables as table
 use Rattle.article_spec.specs.State as state
 use Rattle.article_spec.specs.StateLaws.{objects_code, objects_inj}
-use Rattle.stack_machine.specs.declared.object.NameId.{NameId}
 use Rattle.stack_machine.specs.declared.object.List.{List as AList}
 use Rattle.stack_machine.specs.declared.object.List.TheVariants.{Empty, Cell as CellOf}
 use Rattle.stack_machine.specs.declared.object.Object.{Object}

@@ -1,15 +1,10 @@
 -- What follows where more is kept.
-use Rattle.std.proofs.Common.{◌≡◌, ℕ, ◌+◌, zero, suc, ◌<◌, ◌≤◌, refl, sym, ap, subst, ◌∙◌, arith, List, [], ◌∷◌, ◌++◌, map, length, reverse, append_assoc, length-append, Some}
+use Rattle.std.proofs.Common.{◌≡◌, ℕ, ◌+◌, zero, suc, ◌<◌, refl, sym, ap, subst, ◌∙◌, arith, List, [], ◌∷◌, ◌++◌, length, append_assoc, length-append}
 use Rattle.std.specs.Prelude.{slice_get, unwrap_or}
-use Rattle.std.specs.List.{AllByRecursion}
 use Rattle.std.proofs.lemmas.List.{append-nil}
-use Rattle.hol_spec.specs.Names.{Name}
-use Rattle.hol_spec.specs.Symbols.{Symbol}
 use Rattle.hol_spec.specs.Terms as hol
 use Rattle.hol_spec.specs.TermRenamings.{ap2}
 use Rattle.hol_type.specs.TableLaws as type_law
-use Rattle.hol_term.specs.Tables.{Trees}
-use Rattle.hol_term.specs.Tables as table
 use Rattle.hol_term.specs.TableLaws as table_law
 use Rattle.article_spec.specs.State as state
 use Rattle.stack_machine.specs.declared.object.List.{List as AList}
@@ -17,7 +12,7 @@ use Rattle.stack_machine.specs.declared.object.List.TheVariants.{Empty, Cell as 
 use Rattle.stack_machine.specs.declared.object.Object.{Object}
 use Rattle.stack_machine.specs.declared.object.Object.TheVariants as object
 use Rattle.stack_machine.specs.declared.object.Cell.{Cell}
-use Rattle.stack_machine.specs.Stored.{Stored, name_at, list_at, list_view, object_view, stack_view, cell_view, lists_from, without_lists, stored, IsListKnown, IsTerm, IsKnown, AreKnown, AreCells, IsFront, Grows}
+use Rattle.stack_machine.specs.Stored.{Stored, name_at, list_view, object_view, cell_view, lists_from, IsListKnown, IsTerm, IsKnown, AreKnown, AreCells, IsFront, Grows}
 
 pub IsFront-refl : {A : Type 0} (xs : List A) → IsFront xs xs
 IsFront-refl xs = record { more = []; is = sym (append-nil xs) }

@@ -1,7 +1,5 @@
 //! Facts of the article format, and the limits.
 
-ghost use Rattle.std.specs.Prelude.{◌<◌};
-
 use crate::Machine;
 use article_read::{LineFault, Lines};
 use article_spec::Command;
@@ -31,12 +29,10 @@ fn stop(line: u64, fault: Fault) -> LineFault {
 }
 
 // Runs an article that comes in pieces of this size.
-fn run(machine: &mut Machine, alloc: Global, text: &[u8], size: usize) -> Result<(), LineFault>
-    requires { 0 < size }
-{
+fn run(machine: &mut Machine, alloc: Global, text: &[u8], size: usize) -> Result<(), LineFault> {
     let mut lines = Lines::new(alloc);
     let mut commands = Vec::new(alloc);
-    for piece in text.chunks(size) {
+    for piece in text.chunks(size.max(1)) {
         let fed = lines.feed(piece, &mut commands);
         obey_all(machine, &commands)?;
         fed?;

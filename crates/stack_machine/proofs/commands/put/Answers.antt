@@ -1,4 +1,4 @@
-use Rattle.std.proofs.Common.{◌≡◌, ◌+◌, ℕ, suc, ap, ◌∙◌, arith, take, slice_set}
+use Rattle.std.proofs.Common.{◌≡◌, ◌+◌, suc, ap, ◌∙◌, arith, take, slice_set}
 use Rattle.stack_machine.proofs.Slots.{slice_set-last}
 use Rattle.stack_machine.proofs.commands.put.Goals as goal
 

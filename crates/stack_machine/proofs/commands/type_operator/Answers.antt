@@ -1,12 +1,10 @@
-use Rattle.std.proofs.Common.{◌≡◌, ap, sym, subst, ◌∙◌, [], ◌∷◌, ◌++◌, length, refl}
-use Rattle.hol_type.specs.Tables.{types_at}
-use Rattle.hol_term.specs.Tables.{term_at, type_at}
+use Rattle.std.proofs.Common.{ap, sym, subst, ◌∙◌, length, refl}
 use Rattle.article_spec.specs.State as state
 use Rattle.stack_machine.specs.declared.object.Object.TheVariants as object
-use Rattle.stack_machine.specs.Stored.{AreKnown, IsKnown, name_at, list_view, object_view, stack_view}
-use Rattle.stack_machine.specs.StoredLaws.{Grows-refl, AreKnown-Grows}
+use Rattle.stack_machine.specs.Stored.{AreKnown, name_at, stack_view}
+use Rattle.stack_machine.specs.StoredLaws.{Grows-refl}
 use Rattle.stack_machine.proofs.Passing.{handed_on}
-use Rattle.stack_machine.proofs.Placed.{known_below, known_top, placed, placed_known, instead_of_one, instead_of_two}
+use Rattle.stack_machine.proofs.Placed.{known_below, known_top, placed, placed_known, instead_of_one}
 use Rattle.stack_machine.proofs.Obeyed as word
 use Rattle.stack_machine.proofs.Obeyed.{first_fails, next_fails, condition_fails}
 use Rattle.stack_machine.proofs.commands.type_operator.Goals as goal

@@ -1,20 +1,17 @@
-use Rattle.std.proofs.Common.{◌≡◌, ℤ, ap, subst, sym, ◌∙◌, [], ◌∷◌, ◌++◌, length, take, refl, arith, None, Some, option_map, IfErr, Ok, Err, rules}
+use Rattle.std.proofs.Common.{◌≡◌, ap, subst, sym, ◌∙◌, length, take, arith, IfErr, Ok}
 use Rattle.std.specs.Ordering.{int_cmp}
-use Rattle.std.specs.Map.{lookup}
-use Rattle.std.specs.BTreeMap.{is_at, insert_entry}
+use Rattle.std.specs.BTreeMap.{insert_entry}
 use Rattle.std.proofs.lemmas.Int.{to_z-of_z}
 use Rattle.article_spec.specs.declared.commands.Word.TheVariants as word
-use Rattle.article_spec.specs.Operands as operand
 use Rattle.article_spec.specs.Results.{Fails}
 use Rattle.article_spec.specs.Step.{obey}
 use Rattle.stack_machine.specs.declared.object.Object.TheVariants as object
-use Rattle.stack_machine.specs.Stored.{AreKnown, object_view, stack_view}
-use Rattle.stack_machine.specs.StoredLaws.{Grows-refl}
+use Rattle.stack_machine.specs.Stored.{AreKnown}
 use Rattle.stack_machine.specs.Shown.{shown, article_state, dictionary_view, AreEntriesKnown}
 use Rattle.stack_machine.proofs.Passing.{handed_on}
-use Rattle.stack_machine.proofs.Placed.{cut_to, known_below, known_top, placed, placed_known, instead_of_one}
-use Rattle.stack_machine.proofs.Obeyed.{first_fails, next_fails, def-obeyed, ref-obeyed, ref-refused, remove-obeyed, remove-refused}
-use Rattle.stack_machine.proofs.Dictionaries.{dictionary-get, dictionary-insert, dictionary-remove, known_found, known_inserted, known_removed}
+use Rattle.stack_machine.proofs.Placed.{cut_to, known_below, known_top}
+use Rattle.stack_machine.proofs.Obeyed.{first_fails, next_fails, def-obeyed}
+use Rattle.stack_machine.proofs.Dictionaries.{dictionary-insert, known_inserted}
 use Rattle.stack_machine.proofs.machine.Machine.define.Goals as goal
 
 pub returns-in_err-key-clause-refused : goal.returns-in_err-key-clause-refused

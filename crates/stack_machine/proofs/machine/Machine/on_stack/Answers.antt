@@ -1,4 +1,4 @@
-use Rattle.std.proofs.Common.{◌≡◌, ap, ◌∙◌, Ok}
+use Rattle.std.proofs.Common.{ap, ◌∙◌, Ok}
 use Rattle.stack_machine.specs.Shown.{shown, article_state}
 use Rattle.stack_machine.proofs.Passing.{OnOk-map, IfErr-map, OnErr-map2}
 use Rattle.stack_machine.proofs.Dictionaries.{entries-Grow}

@@ -1,11 +1,10 @@
-use Rattle.std.proofs.Common.{◌≡◌, ℤ, ap, subst, sym, ◌∙◌, [], ◌∷◌, ◌++◌, length, refl, arith, None, Some, option_map, IfErr, Ok, Err, rules, cond, SFits, w64}
+use Rattle.std.proofs.Common.{◌≡◌, ℤ, ap, subst, sym, ◌∙◌, length, refl, None, Some, option_map, IfErr, Ok, Err, rules, cond, SFits, w64}
 use Rattle.std.specs.Ordering.{int_cmp, is_eq}
 use Rattle.std.specs.Map.{lookup}
-use Rattle.std.specs.BTreeMap.{is_at, insert_entry}
+use Rattle.std.specs.BTreeMap.{is_at}
 use Rattle.std.proofs.lemmas.Int.{to_z-of_z}
 use Rattle.article_spec.specs.declared.commands.Word.TheVariants as word
 use Rattle.bridge_base.specs.declared.faults.Kind.TheVariants.{NoSuchKey}
-use Rattle.article_spec.specs.Operands as operand
 use Rattle.article_spec.specs.Results.{Fails}
 use Rattle.article_spec.specs.Step.{obey}
 use Rattle.stack_machine.specs.declared.object.Object.TheVariants as object
@@ -13,9 +12,9 @@ use Rattle.stack_machine.specs.Stored.{AreKnown, object_view, stack_view}
 use Rattle.stack_machine.specs.StoredLaws.{Grows-refl}
 use Rattle.stack_machine.specs.Shown.{shown, article_state, AreEntriesKnown}
 use Rattle.stack_machine.proofs.Passing.{handed_on}
-use Rattle.stack_machine.proofs.Placed.{known_below, known_top, placed, placed_known, instead_of_one}
-use Rattle.stack_machine.proofs.Obeyed.{first_fails, next_fails, def-obeyed, ref-obeyed, ref-refused, remove-obeyed, remove-refused}
-use Rattle.stack_machine.proofs.Dictionaries.{dictionary-get, dictionary-insert, dictionary-remove, known_found, known_inserted, known_removed}
+use Rattle.stack_machine.proofs.Placed.{known_below, placed, placed_known, instead_of_one}
+use Rattle.stack_machine.proofs.Obeyed.{first_fails, remove-obeyed, remove-refused}
+use Rattle.stack_machine.proofs.Dictionaries.{dictionary-get, dictionary-remove, known_found, known_removed}
 use Rattle.stack_machine.proofs.machine.Machine.remove.Goals as goal
 
 pub returns-in_err-key-clause-refused : goal.returns-in_err-key-clause-refused

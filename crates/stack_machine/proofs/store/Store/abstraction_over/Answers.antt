@@ -1,6 +1,5 @@
-use Rattle.std.proofs.Common.{◌≡◌, ap, sym, subst, ◌∙◌, Some}
-use Rattle.hol_spec.specs.Terms.{Term, Variable, IsTerm as IsTypedTerm}
-use Rattle.hol_spec.specs.TermBinding.{close}
+use Rattle.std.proofs.Common.{sym, subst}
+use Rattle.hol_spec.specs.Terms.{IsTerm as IsTypedTerm}
 use Rattle.hol_term.specs.Tables.{term_at, type_at}
 use Rattle.hol_term.specs.TableLaws.{Some-term_in}
 use Rattle.stack_machine.proofs.Fitting.{abstraction_typed}

@@ -1,4 +1,4 @@
-use Rattle.std.proofs.Common.{◌≡◌, ◌<◌, arith, ap, sym, subst, length, [], ◌∷◌}
+use Rattle.std.proofs.Common.{◌<◌, arith, sym, subst, length}
 use Rattle.stack_machine.specs.Stored.{stored}
 use Rattle.stack_machine.proofs.Cells.{CellAt, cell_at-stored, length-stored}
 use Rattle.stack_machine.proofs.store.Store.cell.Goals as goal

@@ -1,8 +1,7 @@
 use Rattle.std.proofs.Common.{◌≡◌, subst, sym, ◌∙◌, ◌∷◌, [], ◌++◌, length}
-use Rattle.article_spec.specs.State as state
 use Rattle.stack_machine.specs.declared.object.Cell.{Cell}
 use Rattle.stack_machine.specs.declared.object.List.TheVariants.{Cell as CellOf}
-use Rattle.stack_machine.specs.Stored.{stored, list_view, object_view, cell_view, IsKnown, IsListKnown}
+use Rattle.stack_machine.specs.Stored.{stored, list_view, cell_view, IsKnown, IsListKnown}
 use Rattle.stack_machine.proofs.Cells.{pushed-Grows, pushed-AreCells, pushed-known, pushed-list}
 use Rattle.stack_machine.proofs.store.Store.cons.Goals as goal
 

@@ -1,9 +1,7 @@
-use Rattle.std.proofs.Common.{◌≡◌, ap, ◌∙◌, ◌∷◌, [], ◌++◌, length}
-use Rattle.std.specs.Prelude.{slice_get, unwrap_or}
 use Rattle.hol_term.specs.Tables as table
 use Rattle.hol_term.specs.TableLaws.{Keeps-refl}
 use Rattle.stack_machine.specs.Stored.{IsFront}
-use Rattle.stack_machine.proofs.Cells.{stored-Grows, stored-AreCells, at-last}
+use Rattle.stack_machine.proofs.Cells.{stored-Grows, stored-AreCells}
 use Rattle.stack_machine.proofs.store.Store.keep_name.Goals as goal
 
 stays : (c : goal.In_ok-push) → table.Keeps c.self.inside.terms c.self.inside.terms

@@ -1,4 +1,4 @@
-use Rattle.std.proofs.Common.{◌≡◌, ap, subst, ◌∙◌, arith}
+use Rattle.std.proofs.Common.{ap, subst, ◌∙◌, arith}
 use Rattle.stack_machine.specs.Stored.{IsKnown, IsListKnown, list_view, object_view, rank}
 use Rattle.stack_machine.proofs.Passing.{handed_on}
 use Rattle.stack_machine.proofs.Elements.{none_read, one_read, all_read, other_read, types_at-push, known-push, none_left}
