@@ -1,8 +1,8 @@
 #!/bin/sh
 # Megabytes a second of `feed` and `finish` on the texts of modules of 8 and 16 million bytes, in pieces of 4,096 bytes,
 # by processor time, the peak memory, and the ratios of 16 to 8, which are to be at most 2.5. Run `rt run` in
-# crates/dk_bench first, which builds the program. On a busy machine with four processors it gave: 0.46 and 0.77 seconds,
-# 17.4 and 20.8 MB/s, 41 and 82 MiB; ratio of time 1.67, of memory 1.98.
+# crates/dk_bench first, which builds the program. On a quiet machine with four processors it gave: 0.30 and 0.61 seconds,
+# 26.7 and 26.2 MB/s, 41 and 81 MiB; ratio of time 2.03, of memory 1.97.
 cd "$(dirname "$0")/../crates/dk_bench" || exit 1
 # Processor time in seconds and peak memory in KiB, of the quickest of five runs.
 quickest() {
