@@ -4,6 +4,8 @@ pub mod Cut
 pub mod Retyped
 pub mod NotedLaws
 pub mod Typings
+pub mod ScopeLaws
+pub mod Seated
 pub mod Remade
 pub mod Settled
 pub mod Shaped

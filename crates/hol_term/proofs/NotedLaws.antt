@@ -1,20 +1,22 @@
--- A memo's entries.
+-- What a memo has for a key.
 use Rattle.std.proofs.Common.{◌≡◌, ℕ, zero, suc, refl, sym, ap, ◌∙◌, arith, List, [], ◌∷◌, Option, Some, None, Bool, true, false, inl, inr, ◌⊎◌, ⊎_elim}
 use Rattle.std.proofs.lemmas.Bool.{eqb-true}
 use Rattle.std.specs.Prelude.{slice_get, nat_eq, ◌&&◌, if◌then◌else◌, IfSome}
 use Rattle.std.specs.Map.{lookup}
 use Rattle.indexmap.specs.IndexMap.{insert_entry}
-use Rattle.hol_term.specs.declared.TermId.{TermId}
+use Rattle.hol_term.specs.declared.scopes.ScopeId.{ScopeId}
+use Rattle.hol_term.specs.declared.seats.Seat.{Seat}
 use Rattle.hol_term.specs.declared.memo.Place.{Place}
 use Rattle.hol_term.specs.declared.memo.Change.{Change}
 use Rattle.hol_term.specs.declared.memo.Change.TheVariants.{Raise, Replace, Close}
 use Rattle.hol_term.specs.contracts.memo.ChangePartialEq.TheImpl as change_eq
 use Rattle.hol_term.specs.contracts.memo.PlacePartialEq.TheImpl as place_eq
+use Rattle.hol_term.specs.contracts.seats.SeatPartialEq.TheImpl as seat_eq
 use Rattle.hol_term.specs.Noted.{IsNoted}
 use Rattle.hol_type.specs.TableLaws.{some_is}
 use Rattle.hol_spec.specs.TermRenamings.{ap2}
 
-and_both : (a b : Bool) → (a && b) ≡ true → (a ≡ true) × (b ≡ true)
+pub and_both : (a b : Bool) → (a && b) ≡ true → (a ≡ true) × (b ≡ true)
 and_both true b e = (refl, e)
 and_both false b e = absurd (cc)
 
@@ -34,46 +36,59 @@ place_same p q h =
     let z = change_same p.change q.change b.1 in
     λ i. record { id = record { 0 = x i }; depth = y i; change = z i }
 
-key_of : Option (Place × TermId) → Place → Place
-key_of None p = p
-key_of (Some e) p = e.0
+scope_same : (a b : ScopeId) → nat_eq a.0 b.0 ≡ true → a ≡ b
+scope_same a b h = let x = eqb-true a.0 b.0 h in λ i. record { 0 = x i }
 
-value_of : Option (Place × TermId) → TermId → TermId
-value_of None r = r
-value_of (Some e) r = e.1
+-- seats that are equal by their test are one
+pub seat_same : (p q : Seat) → seat_eq.eq-value.it p q ≡ true → p ≡ q
+seat_same p q h =
+    let a = and_both (nat_eq p.id.0 q.id.0) (nat_eq p.scope.0 q.scope.0) h in
+    let x = eqb-true p.id.0 q.id.0 a.0 in
+    let y = scope_same p.scope q.scope a.1 in
+    λ i. record { id = record { 0 = x i }; scope = y i }
 
-entry_key : (e : Place × TermId) (p : Place) (r : TermId) → Some e ≡ Some (p, r) → (e.0 ≡ p) × (e.1 ≡ r)
-unfolding key_of value_of
-entry_key e p r h = (ap (λ o. key_of o p) h, ap (λ o. value_of o r) h)
+-- a memo whose keys are compared by a test that equal keys alone pass
+module _ {K V : Type 0} (eq : K → K → Bool) (same : (p q : K) → eq p q ≡ true → p ≡ q) where
+  key_of : Option (K × V) → K → K
+  key_of None p = p
+  key_of (Some e) p = e.0
 
-pub found : (p : Place) (es : List (Place × TermId)) (r : TermId) → lookup (place_eq.eq-value.it p) es ≡ Some r → IsNoted es p r
-found p [] r h = absurd (cc)
-found p (e ∷ es) r h = go (λ w. found p es r w) (place_eq.eq-value.it p e.0) refl
-  where
-    go : (lookup (place_eq.eq-value.it p) es ≡ Some r → IsNoted es p r) → (b : Bool) → place_eq.eq-value.it p e.0 ≡ b → IsNoted (e ∷ es) p r
-    go on true q = (0, let v : e.1 ≡ r = some_is (sym (ap (λ b. if b then Some e.1 else lookup (place_eq.eq-value.it p) es) q) ∙ h) in ap Some (ap2 (λ a b. (a, b)) (sym (place_same p e.0 q)) v))
-    go on false q = let w = on (sym (ap (λ b. if b then Some e.1 else lookup (place_eq.eq-value.it p) es) q) ∙ h) in (suc w.0, w.1)
+  value_of : Option (K × V) → V → V
+  value_of None r = r
+  value_of (Some e) r = e.1
 
-pub noted : (k : Place) (v : TermId) (es : List (Place × TermId)) (p : Place) (r : TermId) → IsNoted (insert_entry place_eq.eq-value.it es k v) p r → IsNoted es p r ⊎ ((p ≡ k) × (r ≡ v))
-noted k v [] p r h = one h.0 h.1
-  where
-    one : (i : ℕ) → slice_get {X = Place × TermId} ((k, v) ∷ []) i ≡ Some (p, r) → IsNoted [] p r ⊎ ((p ≡ k) × (r ≡ v))
-    one zero e = let q = entry_key (k, v) p r e in inr (sym q.0, sym q.1)
-    one (suc i) e = inl (i, e)
-noted k v (e ∷ es) p r h = go (λ w. noted k v es p r w) (place_eq.eq-value.it k e.0) refl
-  where
-    same_key : (i : ℕ) → slice_get {X = Place × TermId} ((e.0, v) ∷ es) i ≡ Some (p, r) → place_eq.eq-value.it k e.0 ≡ true → IsNoted (e ∷ es) p r ⊎ ((p ≡ k) × (r ≡ v))
-    same_key zero h q = let w = entry_key (e.0, v) p r h in inr (sym (place_same k e.0 q ∙ w.0), sym w.1)
-    same_key (suc i) h q = inl (suc i, h)
+  entry_key : (e : K × V) (p : K) (r : V) → Some e ≡ Some (p, r) → (e.0 ≡ p) × (e.1 ≡ r)
+  unfolding key_of value_of
+  entry_key e p r h = (ap (λ o. key_of o p) h, ap (λ o. value_of o r) h)
 
-    other_key : (IsNoted (insert_entry place_eq.eq-value.it es k v) p r → IsNoted es p r ⊎ ((p ≡ k) × (r ≡ v))) → (i : ℕ) → slice_get (e ∷ insert_entry place_eq.eq-value.it es k v) i ≡ Some (p, r) → IsNoted (e ∷ es) p r ⊎ ((p ≡ k) × (r ≡ v))
-    other_key on zero h = inl (0, h)
-    other_key on (suc i) h = ⊎_elim (λ n. inl (suc n.0, n.1)) (λ n. inr n) (on (i, h))
+  pub found : (p : K) (es : List (K × V)) (r : V) → lookup (eq p) es ≡ Some r → IsNoted es p r
+  found p [] r h = absurd (cc)
+  found p (e ∷ es) r h = go (λ w. found p es r w) (eq p e.0) refl
+    where
+      go : (lookup (eq p) es ≡ Some r → IsNoted es p r) → (b : Bool) → eq p e.0 ≡ b → IsNoted (e ∷ es) p r
+      go on true q = (0, let v : e.1 ≡ r = some_is (sym (ap (λ b. if b then Some e.1 else lookup (eq p) es) q) ∙ h) in ap Some (ap2 (λ a b. (a, b)) (sym (same p e.0 q)) v))
+      go on false q = let w = on (sym (ap (λ b. if b then Some e.1 else lookup (eq p) es) q) ∙ h) in (suc w.0, w.1)
 
-    go : (IsNoted (insert_entry place_eq.eq-value.it es k v) p r → IsNoted es p r ⊎ ((p ≡ k) × (r ≡ v))) → (b : Bool) → place_eq.eq-value.it k e.0 ≡ b → IsNoted (e ∷ es) p r ⊎ ((p ≡ k) × (r ≡ v))
-    go on true q = same_key h.0 (ap (λ b. slice_get {X = Place × TermId} (if b then (e.0, v) ∷ es else e ∷ insert_entry place_eq.eq-value.it es k v) h.0) (sym q) ∙ h.1) q
-    go on false q = other_key on h.0 (ap (λ b. slice_get {X = Place × TermId} (if b then (e.0, v) ∷ es else e ∷ insert_entry place_eq.eq-value.it es k v) h.0) (sym q) ∙ h.1)
+  pub noted : (k : K) (v : V) (es : List (K × V)) (p : K) (r : V) → IsNoted (insert_entry eq es k v) p r → IsNoted es p r ⊎ ((p ≡ k) × (r ≡ v))
+  noted k v [] p r h = one h.0 h.1
+    where
+      one : (i : ℕ) → slice_get {X = K × V} ((k, v) ∷ []) i ≡ Some (p, r) → IsNoted {K = K} {V = V} [] p r ⊎ ((p ≡ k) × (r ≡ v))
+      one zero e = let q = entry_key (k, v) p r e in inr (sym q.0, sym q.1)
+      one (suc i) e = inl (i, e)
+  noted k v (e ∷ es) p r h = go (λ w. noted k v es p r w) (eq k e.0) refl
+    where
+      same_key : (i : ℕ) → slice_get {X = K × V} ((e.0, v) ∷ es) i ≡ Some (p, r) → eq k e.0 ≡ true → IsNoted (e ∷ es) p r ⊎ ((p ≡ k) × (r ≡ v))
+      same_key zero h q = let w = entry_key (e.0, v) p r h in inr (sym (same k e.0 q ∙ w.0), sym w.1)
+      same_key (suc i) h q = inl (suc i, h)
 
-pub found_if : (p : Place) (es : List (Place × TermId)) (o : Option TermId) → o ≡ lookup (place_eq.eq-value.it p) es → IfSome o (λ r. IsNoted es p r)
-found_if p es None h = tt
-found_if p es (Some r) h = found p es r (sym h)
+      other_key : (IsNoted (insert_entry eq es k v) p r → IsNoted es p r ⊎ ((p ≡ k) × (r ≡ v))) → (i : ℕ) → slice_get (e ∷ insert_entry eq es k v) i ≡ Some (p, r) → IsNoted (e ∷ es) p r ⊎ ((p ≡ k) × (r ≡ v))
+      other_key on zero h = inl (0, h)
+      other_key on (suc i) h = ⊎_elim (λ n. inl (suc n.0, n.1)) (λ n. inr n) (on (i, h))
+
+      go : (IsNoted (insert_entry eq es k v) p r → IsNoted es p r ⊎ ((p ≡ k) × (r ≡ v))) → (b : Bool) → eq k e.0 ≡ b → IsNoted (e ∷ es) p r ⊎ ((p ≡ k) × (r ≡ v))
+      go on true q = same_key h.0 (ap (λ b. slice_get {X = K × V} (if b then (e.0, v) ∷ es else e ∷ insert_entry eq es k v) h.0) (sym q) ∙ h.1) q
+      go on false q = other_key on h.0 (ap (λ b. slice_get {X = K × V} (if b then (e.0, v) ∷ es else e ∷ insert_entry eq es k v) h.0) (sym q) ∙ h.1)
+
+  pub found_if : (p : K) (es : List (K × V)) (o : Option V) → o ≡ lookup (eq p) es → IfSome o (λ r. IsNoted es p r)
+  found_if p es None h = tt
+  found_if p es (Some r) h = found p es r (sym h)

@@ -1,13 +1,14 @@
 pub mod Tables
 pub mod TableLaws
 pub mod Nodes
+pub mod Noted
+pub mod Scopes
 pub mod Typing
 pub mod Views
 pub mod Parts
 pub mod Owned
 pub mod Refusals
 pub mod Shapes
-pub mod Noted
 pub mod Walks
 pub mod BindingLaws
 pub mod Subterms

@@ -4,8 +4,8 @@
 //! trees are. A call that makes a term keeps every number that was given before, and after a refusal or want of memory
 //! the table is as before. A term that is made is within the limits of size and depth, or refused for exactly the limit
 //! that it passes; where types do not fit, that is told first. The free variables and the type variables of a term are
-//! listed in order of first occurrence, each once. Walks come once to each part, but for the one that finds the type of
-//! a new abstraction, which stops at parts without loose numbers.
+//! listed in order of first occurrence, each once. Walks come once to each part, or where binders matter once to each
+//! part under the same binders.
 //!
 //! ```
 //! let mut table = TermTable::new(alloc);
@@ -26,13 +26,14 @@ ghost use Rattle.hol_term.specs.Parts.{HasParts, AreLower};
 ghost use Rattle.hol_term.specs.Owned.{HasItsTypes, IsEarlier};
 ghost use Rattle.hol_term.specs.Refusals.{RefusesTerm};
 
-mod binders;
 mod binding;
 mod makers;
 mod memo;
 mod names;
 mod node;
 mod readers;
+mod scopes;
+mod seats;
 mod seen;
 #[cfg(test)]
 mod tests;

@@ -430,6 +430,35 @@ fn refuses_what_is_too_large(rt: HostRuntime) -> Result<(), Fail> {
     assert_eq!(rt; terms.measures(large), Some((655_352, 38)));
     let half = terms.app(g, large)?;
     assert_eq!(rt; terms.app(half, large), Err(Fault::Refused(Kind::TooLarge)));
+    let closed = terms.abs(b"p", truth, large)?;
+    assert_eq!(rt; terms.type_of(closed), Some(unary));
+    assert_eq!(rt; terms.inst(closed, p)?, large);
+    Ok(())
+}
+
+#[test]
+fn types_parts_by_the_binders_round_them(rt: HostRuntime) -> Result<(), Fail> {
+    let mut terms = Terms::new(rt.alloc());
+    let s = terms.samples()?;
+    let truth = terms.base(b"bool")?;
+    let of_truth = terms.function(truth, s.ind)?;
+    let mixed = terms.function(s.ind, of_truth)?;
+    let m = terms.constant(b"m", mixed)?;
+    let b = terms.free(b"b", truth)?;
+    let kxy = terms.app_two(s.k, s.x, s.y)?;
+    let mxb = terms.app_two(m, s.x, b)?;
+    let first = terms.abs(b"y", s.ind, kxy)?;
+    let second = terms.abs(b"b", truth, mxb)?;
+    let last = terms.function(of_truth, s.ind)?;
+    let pairing = terms.function(s.unary, last)?;
+    let p = terms.constant(b"p", pairing)?;
+    let both = terms.app_two(p, first, second)?;
+    let closed = terms.abs(b"x", s.ind, both)?;
+    assert_eq!(rt;
+        terms.type_of(closed),
+        Some(s.unary),
+        "\\x. p (\\y. k x y) (\\b. m x b)"
+    );
     Ok(())
 }
 

@@ -8,10 +8,12 @@ ghost use Rattle.hol_spec.specs.Limits.{type_size, type_depth};
 ghost use Rattle.hol_type.specs.Tables as type;
 ghost use Rattle.hol_term.specs.Tables.{term_at, type_at, Holds, Keeps, IsDistinct, IsTypeNumber};
 ghost use Rattle.hol_term.specs.Nodes.{tree_of_node, PartsBelow, AreMeasures};
-ghost use Rattle.hol_term.specs.Typing.{type_in};
+ghost use Rattle.hol_term.specs.Scopes.{KeepsLists};
+ghost use Rattle.hol_term.specs.Typing.{seat_type, AreTypings, IsSeat};
 
-use crate::binders::Binders;
 use crate::node::{Entry, Measures, Node};
+use crate::scopes::NO_BINDERS;
+use crate::seats::{Seat, Typings};
 use crate::{Parts, TermId, TermTable};
 use bridge_base::Memory;
 use hol_type::TypeId;
@@ -103,37 +105,64 @@ impl TermTable {
         if self.measures_of(body).loose > 1 {
             return Ok(None);
         }
-        let mut binders = Binders::new(self.alloc);
-        binders.enter(ty)?;
-        let codomain = self.inferred(&mut binders, body)?;
+        let mut typings = Typings::new(self.alloc);
+        let scope = typings.scopes.enter(NO_BINDERS, ty)?;
+        let codomain = self.inferred(Seat { id: body, scope }, &mut typings)?;
         let made = self.abstracted(ty, codomain)?;
         Ok(made)
     }
 
     // The type of a tree under binders, if it has one. A part without loose numbers has the type that it is kept with.
-    fn inferred(&mut self, binders: &mut Binders, id: TermId) -> Result<Option<TypeId>, Memory>
-        requires id { id.0 < length self.old.terms }
-        requires binders { type.AreKnown self.old.types binders.old }
-        ensures typed { IfOk result (λ ty. IsTypeNumber self.new.types ty (type_in self.old binders.old id.0)) }
-        ensures binders { OnOk result (binders.new ≡ binders.old) }
+    #[cycle(inferring)]
+    fn inferred(&mut self, seat: Seat, typings: &mut Typings) -> Result<Option<TypeId>, Memory>
+        requires seat { IsSeat self.old typings.old.scopes seat }
+        requires typings { AreTypings self.old typings.old.scopes typings.old.found }
+        ensures typed { IfOk result (λ ty. IsTypeNumber self.new.types ty (seat_type self.old typings.old.scopes seat)) }
+        ensures scopes { OnOk result (KeepsLists typings.old.scopes typings.new.scopes) }
+        ensures typings { OnOk result (AreTypings self.new typings.new.scopes typings.new.found) }
         ensures terms { self.new.terms ≡ self.old.terms }
         ensures keeps { Keeps self.old self.new }
     {
-        if self.measures_of(id).loose == 0 {
-            return Ok(self.ty(id));
+        if self.measures_of(seat.id).loose == 0 {
+            return Ok(self.ty(seat.id));
         }
-        match self.parts(id) {
-            Parts::Leaf => Ok(self.ty(id)),
-            Parts::Bound(n) => Ok(binders.at(n)),
+        match typings.found.find(seat) {
+            Some(ty) => Ok(ty),
+            None => {
+                let ty = self.inferred_anew(seat, typings)?;
+                typings.found.note(seat, ty)?;
+                Ok(ty)
+            }
+        }
+    }
+
+    // The type of a tree under binders, if it has one, where nothing is found yet.
+    #[cycle(inferring)]
+    fn inferred_anew(
+        &mut self,
+        seat: Seat,
+        typings: &mut Typings,
+    ) -> Result<Option<TypeId>, Memory>
+        requires seat { IsSeat self.old typings.old.scopes seat }
+        requires typings { AreTypings self.old typings.old.scopes typings.old.found }
+        ensures typed { IfOk result (λ ty. IsTypeNumber self.new.types ty (seat_type self.old typings.old.scopes seat)) }
+        ensures scopes { OnOk result (KeepsLists typings.old.scopes typings.new.scopes) }
+        ensures typings { OnOk result (AreTypings self.new typings.new.scopes typings.new.found) }
+        ensures terms { self.new.terms ≡ self.old.terms }
+        ensures keeps { Keeps self.old self.new }
+    {
+        let scope = seat.scope;
+        match self.parts(seat.id) {
+            Parts::Leaf => Ok(self.ty(seat.id)),
+            Parts::Bound(n) => Ok(typings.scopes.at(scope, n)),
             Parts::App(f, x) => {
-                let function = self.inferred(binders, f)?;
-                let argument = self.inferred(binders, x)?;
+                let function = self.inferred(Seat { id: f, scope }, typings)?;
+                let argument = self.inferred(Seat { id: x, scope }, typings)?;
                 Ok(self.applied(function, argument))
             }
             Parts::Lam(ty, body) => {
-                binders.enter(ty)?;
-                let codomain = self.inferred(binders, body)?;
-                binders.leave();
+                let scope = typings.scopes.enter(scope, ty)?;
+                let codomain = self.inferred(Seat { id: body, scope }, typings)?;
                 let made = self.abstracted(ty, codomain)?;
                 Ok(made)
             }

@@ -1,0 +1,94 @@
+//! The binders round the parts of a term, each list of them kept once under a number.
+ghost use Rattle.std.specs.Prelude.{◌≡◌, ◌<◌, [], ◌∷◌, Some, length, slice_get, IfOk, IfSome, IfNone, OnOk};
+ghost use Rattle.hol_term.specs.Scopes.{list_in, AddsList, KeepsLists};
+
+use bridge_base::Memory;
+use hol_type::TypeId;
+use indexmap::IndexSet;
+use std::alloc::Global;
+use std::marker::Model;
+
+/// The number of a list of binders. The empty list has 0.
+#[derive(Clone, Copy, PartialEq, Eq, Hash)]
+pub(crate) struct ScopeId(pub(crate) usize);
+
+/// No binders at all.
+pub(crate) const NO_BINDERS: ScopeId = ScopeId(0);
+
+/// A list of binders that is not empty: those round the innermost one, and its type.
+#[derive(Clone, Copy, PartialEq, Eq, Hash)]
+pub(crate) struct Scope {
+    pub(crate) outer: ScopeId,
+    pub(crate) ty: TypeId,
+}
+
+/// Lists of binders. Contracts see the types of each, the innermost first, by number.
+#[derive(Drop)]
+pub(crate) struct Scopes {
+    inner: IndexSet<Scope>,
+}
+
+impl Model for Scopes {
+    ghost use Rattle.std.specs.Prelude.{List};
+    ghost use Rattle.hol_type.specs.declared.table.TypeId.{TypeId as AnId};
+    ghost use Rattle.hol_term.specs.Scopes.{lists_of, AreInner};
+
+    ghost Value = { List (List AnId) };
+
+    ghost view = { λ s. lists_of s.inner.keys };
+
+    ghost invariant = { λ s. AreInner s.inner.keys };
+}
+
+impl Scopes {
+    pub(crate) fn new(alloc: Global) -> Self
+        ensures none { result ≡ [] ∷ [] }
+    {
+        Scopes {
+            inner: IndexSet::new(alloc),
+        }
+    }
+
+    // The list with a binder of this type inside those of `outer`.
+    pub(crate) fn enter(&mut self, outer: ScopeId, ty: TypeId) -> Result<ScopeId, Memory>
+        requires { outer.0 < length self.old }
+        ensures entered { IfOk result (λ scope. slice_get self.new scope.0 ≡ Some (ty ∷ list_in self.old outer.0)) }
+        ensures keeps { OnOk result (KeepsLists self.old self.new) }
+        ensures adds { OnOk result (AddsList self.old self.new (ty ∷ list_in self.old outer.0)) }
+    {
+        let scope = Scope { outer, ty };
+        let (index, _) = self.inner.insert_full(scope)?;
+        let _small = self.inner.len();
+        Ok(ScopeId(index + 1))
+    }
+
+    // The type of a list's binder with this number, the innermost having 0.
+    pub(crate) fn at(&self, scope: ScopeId, n: u128) -> Option<TypeId>
+        requires { scope.0 < length self.now }
+        ensures { result ≡ slice_get (list_in self.now scope.0) n }
+    {
+        match self.innermost(scope) {
+            Some(here) => {
+                if n == 0 {
+                    return Some(here.ty);
+                }
+                self.at(here.outer, n - 1)
+            }
+            None => None,
+        }
+    }
+
+    // A list's innermost binder with those round it, or `None` for the empty list.
+    fn innermost(&self, scope: ScopeId) -> Option<Scope>
+        requires { scope.0 < length self.now }
+        ensures some { IfSome result (λ s. list_in self.now scope.0 ≡ s.ty ∷ list_in self.now s.outer.0) }
+        ensures outer { IfSome result (λ s. s.outer.0 < scope.0) }
+        ensures none { IfNone result (list_in self.now scope.0 ≡ []) }
+    {
+        let scopes = &self.inner;
+        if scope.0 == 0 {
+            return None;
+        }
+        scopes.get_index(scope.0 - 1).copied()
+    }
+}
