@@ -11,3 +11,4 @@ pub mod Noted
 pub mod Walks
 pub mod BindingLaws
 pub mod Subterms
+pub mod Substitutions

@@ -34,6 +34,7 @@ mod names;
 mod node;
 mod readers;
 mod seen;
+mod substitution;
 #[cfg(test)]
 mod tests;
 mod typing;
