@@ -1,6 +1,6 @@
 -- What a substitution makes, term by term.
 use Rattle.std.proofs.Common.{◌≡◌, ◌<◌, ◌⊎◌, ⊎_elim, refl, sym, ap, ◌∙◌, subst, arith, List, [], ◌∷◌, length, Option, Some, None}
-use Rattle.std.specs.Prelude.{slice_get, unwrap_or, IsSome}
+use Rattle.std.specs.Prelude.{unwrap_or, IsSome}
 use Rattle.std.specs.Map.{lookup}
 use Rattle.hol_spec.specs.Names.{Name}
 use Rattle.bridge_base.specs.declared.faults.Fault.{Fault}
@@ -9,7 +9,7 @@ use Rattle.bridge_base.specs.declared.faults.Kind.TheVariants.{TooLarge, TooDeep
 use Rattle.hol_spec.specs.Types.{HolType}
 use Rattle.hol_spec.specs.Substitution.{TypePairs, substitute}
 use Rattle.hol_spec.specs.TermRenamings.{ap2}
-use Rattle.hol_spec.specs.Terms.{Term, free, bound, constant, app, lam, variable_eq, type_of, IsTerm}
+use Rattle.hol_spec.specs.Terms.{Term, free, app, lam, variable_eq, type_of, IsTerm}
 use Rattle.hol_spec.specs.TermSubstitution.{TermPairs, sub}
 use Rattle.hol_spec.specs.TermSubstitutionLaws.{AreFitting, type_of-sub}
 use Rattle.hol_type.specs.declared.table.TypeId.{TypeId}
@@ -93,10 +93,6 @@ image_lam a b d g types terms ty binder x body made id k l known lt e hb ht h =
     = ht ∙ sym (ap2 substitute (type_law.pairs_at-Stays k.types.stays types known.known_types) (type_law.tree_at-Stays k.types.stays ty.0 lt)) in
     let inner : term_at d body.0 ≡ image_of a types terms (term_at a x.0) = Some-term_in d.terms body.0 (image_of a types terms (term_at a x.0)) (l.stays.each body.0 (image_of a types terms (term_at a x.0)) hb) in
     h ∙ ap Some (ap2 lam outer inner ∙ ap (image_of a types terms) (sym (Some-term_in a.terms id.0 (lam (type_at a ty.0) (term_at a x.0)) e)))
-
--- a tree whose head is made
-pub image_head : (a g : Trees) (types : List (Name × TypeId)) (terms : List (Variable × TermId)) (made id : TermId) (t : Term) → Holds a id.0 t → Holds g made.0 (image_of a types terms t) → Holds g made.0 (image_of a types terms (term_at a id.0))
-image_head a g types terms made id t e h = h ∙ ap (λ u. Some (image_of a types terms u)) (sym (Some-term_in a.terms id.0 t e))
 
 -- fitting terms put into a term make a term
 pub sub_term : (types : TypePairs) (terms : TermPairs) (t : Term) → AreFitting terms → IsTerm t → IsTerm (sub types terms t)

@@ -1,12 +1,11 @@
 -- What the pairs of a substitution put for a variable, from the first pair to the last, and whether they fit.
 use Rattle.std.proofs.Common.{◌≡◌, ◌<◌, refl, sym, ap, ◌∙◌, List, [], ◌∷◌, length, Bool, true, false, cond, Option, Some, None, nat_eq, arith}
-use Rattle.std.specs.Prelude.{IsTrue, ◌↔◌}
+use Rattle.std.specs.Prelude.{◌↔◌}
 use Rattle.std.specs.Map.{lookup}
 use Rattle.std.proofs.lemmas.Bool.{eqb-true}
 use Rattle.hol_spec.specs.Names.{Name}
-use Rattle.hol_spec.specs.NameEquality.{name_eq}
 use Rattle.hol_spec.specs.Types.{HolType, type_eq}
-use Rattle.hol_spec.specs.Terms.{Term, HasType, variable_eq}
+use Rattle.hol_spec.specs.Terms.{HasType, variable_eq}
 use Rattle.hol_spec.specs.TermLaws.{type_eq-refl}
 use Rattle.hol_type.specs.declared.table.TypeId.{TypeId}
 use Rattle.hol_type.specs.Tables.{tree_at}

@@ -1,6 +1,4 @@
-use Rattle.std.proofs.Common.{◌∙◌, ap, Some, subst}
-use Rattle.hol_term.specs.Substitutions.{IsPutFor}
-use Rattle.hol_term.specs.Tables.{type_at}
+use Rattle.std.proofs.Common.{◌∙◌, ap, Some}
 use Rattle.hol_term.proofs.ImageLaws.{AreKnownPairs-Keeps, free_put, free_left}
 use Rattle.hol_term.proofs.TermTable.free_image.Goals as goal
 
