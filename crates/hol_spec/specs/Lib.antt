@@ -28,6 +28,7 @@ pub mod TermInstances
 pub mod TermLaws
 pub mod TermRenamings
 pub mod TermSubstitution
+pub mod TermSubstitutionLaws
 pub mod TermTyping
 pub mod Terms
 pub mod TypeLaws

@@ -29,6 +29,7 @@
 #![tactic(auto)]
 
 ghost use Rattle.hol_spec.specs.TermInstances.{PutClose};
+ghost use Rattle.hol_spec.specs.TermSubstitutionLaws.{TypeOfSubstitution};
 ghost use Rattle.hol_spec.specs.TermTyping.{LooseTyped, TypeOfAbstraction, TypeOfInstance};
 
 /// The inference rule by which a step of a proof was made.
@@ -56,6 +57,11 @@ pub fn type_of_abstraction()
 /// body's type.
 pub fn type_of_instance()
     ensures { TypeOfInstance }
+{}
+
+/// The law of substitution: where each term that is put has its variable's type, a term has its type with the types put.
+pub fn type_of_substitution()
+    ensures { TypeOfSubstitution }
 {}
 
 /// The law of loose numbers: a typed term has no number that passes its binders.

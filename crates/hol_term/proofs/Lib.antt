@@ -12,4 +12,7 @@ pub mod Shaped
 pub mod Gathered
 pub mod VisitSteps
 pub mod SeenLaws
+pub mod PutFor
+pub mod ImageNotes
+pub mod ImageLaws
 pub mod FoundLaws

@@ -10,7 +10,8 @@ use Rattle.hol_term.specs.contracts.TermIdPartialEq.TheImpl as id_eq
 use Rattle.hol_term.specs.Subterms.{IsAmong}
 use Rattle.hol_term.proofs.Gathered.{or_either, or_left, or_right}
 
-id_same : (p q : TermId) → id_eq.eq-value.it p q ≡ true → p ≡ q
+-- numbers that are equal by their test are one
+pub id_same : (p q : TermId) → id_eq.eq-value.it p q ≡ true → p ≡ q
 id_same p q h = let x = eqb-true p.0 q.0 h in λ i. record { 0 = x i }
 
 id_itself : (p : TermId) → id_eq.eq-value.it p p ≡ true

@@ -12,3 +12,4 @@ pub mod Shapes
 pub mod Walks
 pub mod BindingLaws
 pub mod Subterms
+pub mod Substitutions

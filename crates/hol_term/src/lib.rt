@@ -35,6 +35,7 @@ mod readers;
 mod scopes;
 mod seats;
 mod seen;
+mod substitution;
 #[cfg(test)]
 mod tests;
 mod typing;

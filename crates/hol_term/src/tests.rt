@@ -35,6 +35,14 @@ struct Polymorphic {
     fxx: TermId,
 }
 
+/// A variable by its name and its type, with the term that is put for it.
+#[derive(Clone, Copy)]
+struct Put<'a> {
+    name: &'a [u8],
+    ty: TypeId,
+    by: TermId,
+}
+
 impl Terms {
     fn new(alloc: Global) -> Self {
         Terms {
@@ -290,6 +298,35 @@ impl Terms {
         }
     }
 
+    // A term with `truth` for the type variable A, and then with these two put.
+    fn subst(
+        &mut self,
+        truth: TypeId,
+        first: Put<'_>,
+        second: Put<'_>,
+        id: TermId,
+    ) -> Result<TermId, Fault> {
+        let a = self.name(b"A")?;
+        let one = self.name(first.name)?;
+        let two = self.name(second.name)?;
+        if !self.has_type(truth) || !self.has_type(first.ty) || !self.has_type(second.ty) {
+            return Err(Fault::Memory);
+        }
+        if !self.is_term(first.by) || !self.is_term(second.by) || !self.is_term(id) {
+            return Err(Fault::Memory);
+        }
+        let one = Variable {
+            name: one,
+            ty: first.ty,
+        };
+        let two = Variable {
+            name: two,
+            ty: second.ty,
+        };
+        self.table
+            .subst(&[(a, truth)], &[(one, first.by), (two, second.by)], id)
+    }
+
     fn free_vars(&self, id: TermId) -> Result<Vec<Variable>, Fault> {
         if self.has_term(id) {
             Ok(self.table.free_vars(id)?)
@@ -509,5 +546,138 @@ fn lists_no_bound_variable(rt: HostRuntime) -> Result<(), Fail> {
     );
     let names = terms.type_vars(diagonal)?;
     assert!(rt; are_names(&names, &[b"A", b"C"]));
+    Ok(())
+}
+
+#[test]
+fn substitutes(rt: HostRuntime) -> Result<(), Fail> {
+    let mut terms = Terms::new(rt.alloc());
+    let s = terms.samples()?;
+    let y_for_x = Put {
+        name: b"x",
+        ty: s.ind,
+        by: s.y,
+    };
+    let x_for_y = Put {
+        name: b"y",
+        ty: s.ind,
+        by: s.x,
+    };
+    let kxy = terms.app_two(s.k, s.x, s.y)?;
+    let kyx = terms.app_two(s.k, s.y, s.x)?;
+    let kyy = terms.app_two(s.k, s.y, s.y)?;
+    assert_eq!(rt;
+        terms.subst(s.ind, y_for_x, x_for_y, kxy)?,
+        kyx,
+        "all at once"
+    );
+    let x_for_x = Put {
+        name: b"x",
+        ty: s.ind,
+        by: s.x,
+    };
+    assert_eq!(rt;
+        terms.subst(s.ind, y_for_x, x_for_x, kxy)?,
+        kyy,
+        "the first counts"
+    );
+    let constant = terms.abs(b"y", s.ind, s.x)?;
+    let wanted = terms.abs(b"z", s.ind, s.y)?;
+    assert_eq!(rt;
+        terms.subst(s.ind, y_for_x, y_for_x, constant)?,
+        wanted,
+        "y for x in \\y. x is \\z. y"
+    );
+    let wrong = Put {
+        name: b"x",
+        ty: s.ind,
+        by: s.k,
+    };
+    let refused = Err(Fault::Refused(Kind::BadSubst));
+    assert_eq!(rt;
+        terms.subst(s.ind, y_for_x, wrong, s.y),
+        refused,
+        "a pair that does not count is judged"
+    );
+    Ok(())
+}
+
+#[test]
+fn substitutes_types_first(rt: HostRuntime) -> Result<(), Fail> {
+    let mut terms = Terms::new(rt.alloc());
+    let a = terms.type_variable(b"A")?;
+    let truth = terms.base(b"bool")?;
+    let general = terms.free(b"x", a)?;
+    let u = terms.free(b"u", a)?;
+    let t = terms.constant(b"T", truth)?;
+    let t_for_x = Put {
+        name: b"x",
+        ty: truth,
+        by: t,
+    };
+    let u_for_x = Put {
+        name: b"x",
+        ty: a,
+        by: u,
+    };
+    assert_eq!(rt;
+        terms.subst(truth, u_for_x, t_for_x, general)?,
+        t,
+        "x : bool after the types"
+    );
+    let instance = terms.free(b"x", truth)?;
+    assert_eq!(rt;
+        terms.subst(truth, u_for_x, u_for_x, general)?,
+        instance,
+        "x : A is there no more"
+    );
+    let identity = terms.abs(b"y", a, u)?;
+    let u_instance = terms.free(b"u", truth)?;
+    let wanted = terms.abs(b"y", truth, u_instance)?;
+    assert_eq!(rt;
+        terms.subst(truth, t_for_x, t_for_x, identity)?,
+        wanted,
+        "the type of the binder"
+    );
+    Ok(())
+}
+
+#[test]
+fn refuses_large_and_deep_results(rt: HostRuntime) -> Result<(), Fail> {
+    let mut terms = Terms::new(rt.alloc());
+    let truth = terms.base(b"bool")?;
+    let unary = terms.function(truth, truth)?;
+    let binary = terms.function(truth, unary)?;
+    let p = terms.free(b"p", truth)?;
+    let f = terms.free(b"f", unary)?;
+    let g = terms.free(b"g", binary)?;
+    let large = terms.doubled(16, g, p)?;
+    let deep = terms.applied(1_020, f, p)?;
+    let gpp = terms.app_two(g, p, p)?;
+    let fp = terms.app(f, p)?;
+    let larger = Put {
+        name: b"p",
+        ty: truth,
+        by: gpp,
+    };
+    let deeper = Put {
+        name: b"p",
+        ty: truth,
+        by: fp,
+    };
+    assert_eq!(rt;
+        terms.subst(truth, larger, larger, large),
+        Err(Fault::Refused(Kind::TooLarge))
+    );
+    assert_eq!(rt;
+        terms.subst(truth, deeper, deeper, deep),
+        Err(Fault::Refused(Kind::TooDeep))
+    );
+    let next = terms.free(b"q", truth)?;
+    assert_eq!(rt;
+        Some(next.0),
+        deep.0.checked_add(1),
+        "a refused term takes no number"
+    );
     Ok(())
 }

@@ -1,0 +1,267 @@
+//! The call that puts types and then terms for the variables of a term, with its walk, which comes once to each part.
+ghost use Rattle.std.specs.Prelude.{◌≡◌, ◌⊎◌, ◌<◌, ◌↔◌, length, IfOk, IfErr, IfSome, OnOk, OnErr, IsTrue};
+ghost use Rattle.hol_spec.specs.Limits.{TermWithin};
+ghost use Rattle.hol_spec.specs.Substitution.{substitute};
+ghost use Rattle.hol_spec.specs.Terms.{IsTerm, variable_eq, free as free_tree, constant as constant_tree};
+ghost use Rattle.hol_spec.specs.TermSubstitution.{sub};
+ghost use Rattle.hol_type.specs.Tables as type;
+ghost use Rattle.hol_term.specs.declared.TermId.{TermId as AnId};
+ghost use Rattle.hol_term.specs.Substitutions.{term_pairs_at, AreTermPairs, ArePairsFitting, RefusesSubst, AreTermPairsKnown, AreKnownPairs, image_of, IsPutFor, IsImage, AreImages};
+ghost use Rattle.hol_term.specs.Tables.{Trees, term_at, type_at, Holds, IsDistinct, IsTermAt, Keeps};
+
+use crate::node::Node;
+use crate::{TermId, TermTable, TermView, Variable};
+use bridge_base::{Fault, Kind, Memory};
+use hol_name::Name;
+use hol_type::TypeId;
+use indexmap::IndexMap;
+use std::alloc::Global;
+use std::marker::Model;
+
+/// What a substitution has made already of each term.
+#[derive(Drop)]
+struct Images {
+    made: IndexMap<TermId, TermId>,
+}
+
+impl Model for Images {
+    ghost use Rattle.std.specs.Prelude.{List};
+    ghost use Rattle.hol_term.specs.declared.TermId.{TermId as AnId};
+
+    ghost Value = { List (AnId × AnId) };
+
+    ghost view = { λ m. m.made.entries };
+}
+
+impl Images {
+    fn new(alloc: Global) -> Self
+        ensures empty { (id r : AnId) → IsImage result id r → ⊥ }
+    {
+        Images {
+            made: IndexMap::new(alloc),
+        }
+    }
+
+    fn find(&self, id: TermId) -> Option<TermId>
+        ensures noted { IfSome result (λ r. IsImage self.now id r) }
+    {
+        self.made.get(&id).copied()
+    }
+
+    fn note(&mut self, id: TermId, made: TermId) -> Result<(), Memory>
+        ensures noted { OnOk result ((i r : AnId) → IsImage self.new i r → IsImage self.old i r ⊎ ((i ≡ id) × (r ≡ made))) }
+    {
+        self.made.insert(id, made)?;
+        Ok(())
+    }
+}
+
+impl TermTable {
+    /// The term with types put for type variables and then terms for free variables, each list all at once; of pairs
+    /// with one key the first counts. A variable of `term_pairs` is looked up by its name and its type after the types
+    /// are put. It is refused with `BadSubst` where some pair's variable and term differ in type, whether or not the
+    /// pair counts; else where the result passes the limit of size, and else where it passes that of depth. (Source:
+    /// HOL Light's kernel, INST_TYPE and INST; the OpenTheory article format, `subst`.)
+    pub fn subst(
+        &mut self,
+        type_pairs: &[(Name, TypeId)],
+        term_pairs: &[(Variable, TermId)],
+        id: TermId,
+    ) -> Result<TermId, Fault>
+        requires type_pairs { type.ArePairsKnown self.old.types type_pairs.now }
+        requires term_pairs { AreTermPairs self.old term_pairs.now }
+        requires id { IsTermAt self.old id.0 }
+        ensures known { IfOk result (λ r. r.0 < length self.new.terms) }
+        ensures made { IfOk result (λ r. Holds self.new r.0 (sub (type.pairs_at self.old.types type_pairs.now) (term_pairs_at self.old term_pairs.now) (term_at self.old id.0))) }
+        ensures fits { OnOk result (ArePairsFitting self.old term_pairs.now) }
+        ensures typed { IfOk result (λ r. IsTerm (sub (type.pairs_at self.old.types type_pairs.now) (term_pairs_at self.old term_pairs.now) (term_at self.old id.0))) }
+        ensures within { IfOk result (λ r. TermWithin (sub (type.pairs_at self.old.types type_pairs.now) (term_pairs_at self.old term_pairs.now) (term_at self.old id.0))) }
+        ensures keeps { Keeps self.old self.new }
+        ensures distinct { IsDistinct self.new.terms }
+        ensures refusal { IfErr result (λ fault. RefusesSubst fault (ArePairsFitting self.old term_pairs.now) (sub (type.pairs_at self.old.types type_pairs.now) (term_pairs_at self.old term_pairs.now) (term_at self.old id.0))) }
+        ensures unchanged { OnErr result (self.new ≡ self.old) }
+    {
+        let mark = self.mark();
+        if !self.fits(term_pairs) {
+            return Err(Fault::Refused(Kind::BadSubst));
+        }
+        let made = self.substituted(type_pairs, term_pairs, id);
+        self.settle(mark, made)
+    }
+
+    // Whether each pair's term has its variable's type.
+    fn fits(&self, pairs: &[(Variable, TermId)]) -> bool
+        requires { AreTermPairs self.now pairs.now }
+        ensures { IsTrue result ↔ ArePairsFitting self.now pairs.now }
+    {
+        for (variable, id) in pairs {
+            if self.type_of(*id) != variable.ty {
+                return false;
+            }
+        }
+        true
+    }
+
+    // What the pairs make of a term.
+    fn substituted(
+        &mut self,
+        type_pairs: &[(Name, TypeId)],
+        term_pairs: &[(Variable, TermId)],
+        id: TermId,
+    ) -> Result<TermId, Memory>
+        requires pairs { AreKnownPairs self.old type_pairs.now term_pairs.now }
+        requires id { id.0 < length self.old.terms }
+        ensures known { IfOk result (λ r. r.0 < length self.new.terms) }
+        ensures made { IfOk result (λ r. Holds self.new r.0 (image_of self.old type_pairs.now term_pairs.now (term_at self.old id.0))) }
+        ensures keeps { Keeps self.old self.new }
+    {
+        let mut images = Images::new(self.alloc);
+        let made = self.image(type_pairs, term_pairs, id, &mut images)?;
+        Ok(made)
+    }
+
+    // What the pairs make of a term. Memory is taken for what is noted and for the trees that are new.
+    #[cycle(images)]
+    fn image(
+        &mut self,
+        type_pairs: &[(Name, TypeId)],
+        term_pairs: &[(Variable, TermId)],
+        id: TermId,
+        images: &mut Images,
+    ) -> Result<TermId, Memory>
+        requires pairs { AreKnownPairs self.old type_pairs.now term_pairs.now }
+        requires id { id.0 < length self.old.terms }
+        requires images { AreImages self.old type_pairs.now term_pairs.now images.old }
+        ensures known { IfOk result (λ r. r.0 < length self.new.terms) }
+        ensures made { IfOk result (λ r. Holds self.new r.0 (image_of self.old type_pairs.now term_pairs.now (term_at self.old id.0))) }
+        ensures keeps { Keeps self.old self.new }
+        ensures images { OnOk result (AreImages self.new type_pairs.now term_pairs.now images.new) }
+    {
+        match images.find(id) {
+            Some(made) => Ok(made),
+            None => {
+                let made = self.image_anew(type_pairs, term_pairs, id, images)?;
+                images.note(id, made)?;
+                Ok(made)
+            }
+        }
+    }
+
+    // What the pairs make of a term of which nothing is made yet.
+    #[cycle(images)]
+    fn image_anew(
+        &mut self,
+        type_pairs: &[(Name, TypeId)],
+        term_pairs: &[(Variable, TermId)],
+        id: TermId,
+        images: &mut Images,
+    ) -> Result<TermId, Memory>
+        requires pairs { AreKnownPairs self.old type_pairs.now term_pairs.now }
+        requires id { id.0 < length self.old.terms }
+        requires images { AreImages self.old type_pairs.now term_pairs.now images.old }
+        ensures known { IfOk result (λ r. r.0 < length self.new.terms) }
+        ensures made { IfOk result (λ r. Holds self.new r.0 (image_of self.old type_pairs.now term_pairs.now (term_at self.old id.0))) }
+        ensures keeps { Keeps self.old self.new }
+        ensures images { OnOk result (AreImages self.new type_pairs.now term_pairs.now images.new) }
+    {
+        match self.view(id) {
+            TermView::Free(name, ty) => {
+                let name = name.clone()?;
+                let made = self.free_image(type_pairs, term_pairs, name, ty)?;
+                Ok(made)
+            }
+            TermView::Bound(_) => Ok(id),
+            TermView::Const(name, ty) => {
+                let name = name.clone()?;
+                let made = self.constant_image(type_pairs, name, ty)?;
+                Ok(made)
+            }
+            TermView::App(f, x) => {
+                let function = self.image(type_pairs, term_pairs, f, images)?;
+                let argument = self.image(type_pairs, term_pairs, x, images)?;
+                let made = self.add(Node::App(function, argument))?;
+                Ok(made)
+            }
+            TermView::Lam(ty, body) => {
+                let inner = self.image(type_pairs, term_pairs, body, images)?;
+                let binder = self.type_image(type_pairs, ty)?;
+                let made = self.add(Node::Lam(binder, inner))?;
+                Ok(made)
+            }
+        }
+    }
+
+    // What the pairs make of a free variable: what the first pair of its name and its new type gives, if there is one.
+    fn free_image(
+        &mut self,
+        type_pairs: &[(Name, TypeId)],
+        term_pairs: &[(Variable, TermId)],
+        name: Name,
+        ty: TypeId,
+    ) -> Result<TermId, Memory>
+        requires pairs { AreKnownPairs self.old type_pairs.now term_pairs.now }
+        requires ty { ty.0 < length self.old.types }
+        ensures known { IfOk result (λ r. r.0 < length self.new.terms) }
+        ensures made { IfOk result (λ r. Holds self.new r.0 (image_of self.old type_pairs.now term_pairs.now (free_tree name (type_at self.old ty.0)))) }
+        ensures keeps { Keeps self.old self.new }
+    {
+        let put = self.type_image(type_pairs, ty)?;
+        match put_for(term_pairs, &name, put) {
+            Some(id) => Ok(id),
+            None => {
+                let made = self.add(Node::Free(name, put))?;
+                Ok(made)
+            }
+        }
+    }
+
+    // What the pairs make of a constant.
+    fn constant_image(
+        &mut self,
+        type_pairs: &[(Name, TypeId)],
+        name: Name,
+        ty: TypeId,
+    ) -> Result<TermId, Memory>
+        requires pairs { type.ArePairsKnown self.old.types type_pairs.now }
+        requires ty { ty.0 < length self.old.types }
+        ensures known { IfOk result (λ r. r.0 < length self.new.terms) }
+        ensures made { IfOk result (λ r. Holds self.new r.0 (constant_tree name (substitute (type.pairs_at self.old.types type_pairs.now) (type_at self.old ty.0)))) }
+        ensures keeps { Keeps self.old self.new }
+    {
+        let put = self.type_image(type_pairs, ty)?;
+        let made = self.add(Node::Const(name, put))?;
+        Ok(made)
+    }
+
+    // What the pairs make of a type. No term is made.
+    fn type_image(&mut self, pairs: &[(Name, TypeId)], ty: TypeId) -> Result<TypeId, Memory>
+        requires pairs { type.ArePairsKnown self.old.types pairs.now }
+        requires ty { ty.0 < length self.old.types }
+        ensures known { IfOk result (λ r. r.0 < length self.new.types) }
+        ensures made { IfOk result (λ r. type_at self.new r.0 ≡ substitute (type.pairs_at self.old.types pairs.now) (type_at self.old ty.0)) }
+        ensures one_each { type.IsDistinct self.new.types }
+        ensures terms { self.new.terms ≡ self.old.terms }
+        ensures keeps { Keeps self.old self.new }
+    {
+        self.types.instance(pairs, ty)
+    }
+}
+
+// The term that the first pair of this name and type puts, in the table of their numbers.
+fn put_for(pairs: &[(Variable, TermId)], name: &Name, ty: TypeId) -> Option<TermId>
+    ensures { (trees : Trees) → type.IsDistinct trees.types → ty.0 < length trees.types → AreTermPairsKnown trees pairs.now → IsPutFor trees pairs.now (name.now, type_at trees ty.0) result }
+{
+    for (variable, id) in pairs {
+        if is_same(variable, name, ty) {
+            return Some(*id);
+        }
+    }
+    None
+}
+
+// Whether a variable has this name and type, in the table of their numbers.
+fn is_same(variable: &Variable, name: &Name, ty: TypeId) -> bool
+    ensures { (trees : Trees) → type.IsDistinct trees.types → ty.0 < length trees.types → variable.now.ty.0 < length trees.types → result ≡ variable_eq (name.now, type_at trees ty.0) (variable.now.name, type_at trees variable.now.ty.0) }
+{
+    name == &variable.name && ty == variable.ty
+}
