@@ -1,2 +1,2 @@
-pub mod ListLaws
-pub mod HypLaws
+mod HypLaws
+mod ParamLaws

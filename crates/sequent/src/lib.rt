@@ -14,18 +14,21 @@
 
 ghost use Rattle.std.specs.Prelude.{◌≡◌, ◌<◌, length, IfOk};
 ghost use Rattle.hol_spec.specs.Lists.{union as united, without as all_but};
-ghost use Rattle.hol_spec.specs.Sequents.{same as is_same, within as is_within};
+ghost use Rattle.hol_spec.specs.Sequents.{free_variables_of, type_variables_of, same as is_same, within as is_within};
 ghost use Rattle.hol_spec.specs.Terms.{term_eq};
+ghost use Rattle.hol_term.specs.Subterms.{HaveTypes, variables_of};
 ghost use Rattle.hol_term.specs.Tables.{Trees, term_at, AreKnown, IsDistinct};
 ghost use Rattle.sequent.specs.Sequents.{hyps_at, same_id, sequent_at, IsKnown};
 
 mod hyps;
+mod params;
 #[cfg(test)]
 mod tests;
 
 use bridge_base::Memory;
-use hol_term::TermId;
+use hol_term::{TermId, TermTable};
 pub use hyps::Hyps;
+pub use params::{Params, Variables};
 use std::alloc::Global;
 
 /// Hypotheses and a conclusion (HOL Light's kernel, `thm`).
@@ -68,5 +71,20 @@ impl Sequent {
         ensures { (trees : Trees) → IsDistinct trees.terms → IsKnown trees a.now → IsKnown trees b.now → result ≡ is_within (sequent_at trees a.now) (sequent_at trees b.now) }
     {
         a.hyps.are_among(&b.hyps) && a.concl == b.concl
+    }
+    /// The type variables and the free variables, each in order of first occurrence in the hypotheses in order, and
+    /// then in the conclusion.
+    pub fn params(&self, alloc: Global, table: &TermTable) -> Result<Params, Memory>
+        requires { IsKnown table.now self.now }
+        ensures type_vars { IfOk result (λ params. params.type_vars ≡ type_variables_of (sequent_at table.now self.now)) }
+        ensures free_vars { IfOk result (λ params. variables_of table.now params.free_vars ≡ free_variables_of (sequent_at table.now self.now)) }
+        ensures known { IfOk result (λ params. HaveTypes table.now params.free_vars) }
+    {
+        let mut params = Params::new(alloc);
+        for id in self.hyps.ids() {
+            params.visit(table, *id)?;
+        }
+        params.visit(table, self.concl)?;
+        Ok(params)
     }
 }
