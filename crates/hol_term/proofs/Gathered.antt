@@ -144,14 +144,3 @@ free_of_distinct t = free_union (subterms t) [] ∙ ap (distinct variable_eq) (f
 -- the type variables of the parts of a term, each part taken once
 pub types_of_distinct : (t : Term) → distinct name_eq (gathered type_head (distinct term_eq (subterms t))) ≡ distinct name_eq (type_variable_places t)
 types_of_distinct t = gathered-union name_eq (λ n. (name_eq-Decides n n).1 refl) term_eq (λ x y e. (term_eq-Decides x y).0 e) type_head (subterms t) [] [] ∙ ap (distinct name_eq) (types_of_parts t)
-
-alone : (ns : List Name) → gathered (λ n. n ∷ []) ns ≡ ns
-alone [] = refl
-alone (n ∷ ns) = ap (λ l. n ∷ l) (alone ns)
-
--- names that are taken once add what they add each time
-pub union-distinct : (ns found : List Name) → union name_eq found (distinct name_eq ns) ≡ union name_eq found ns
-union-distinct ns found =
-    ap (union name_eq found) (sym (alone (distinct name_eq ns)))
-    ∙ gathered-union name_eq (λ n. (name_eq-Decides n n).1 refl) name_eq (λ x y e. (name_eq-Decides x y).0 e) (λ n. n ∷ []) ns [] found
-    ∙ ap (union name_eq found) (alone ns)

@@ -42,6 +42,7 @@ mod typing;
 mod variables;
 mod walk;
 
+pub use crate::names::Names;
 use crate::node::{Entry, Measures, Node};
 use bridge_base::{Fault, Memory};
 use hol_name::Name;
@@ -55,7 +56,7 @@ use std::marker::Model;
 pub struct TermId(pub usize);
 
 /// A free variable: its name and its type.
-#[derive(Drop)]
+#[derive(PartialEq, Eq, Hash, Drop)]
 pub struct Variable {
     pub name: Name,
     pub ty: TypeId,

@@ -9,9 +9,9 @@ use indexmap::IndexSet;
 use std::alloc::Global;
 use std::marker::Model;
 
-/// Names without repeats.
+/// Names without repeats. Contracts see the list of them.
 #[derive(Drop)]
-pub(crate) struct Names {
+pub struct Names {
     names: IndexSet<Name>,
 }
 
@@ -25,7 +25,8 @@ impl Model for Names {
 }
 
 impl Names {
-    pub(crate) fn new(alloc: Global) -> Self
+    /// No names. It takes no memory.
+    pub fn new(alloc: Global) -> Self
         ensures empty { result ≡ [] }
     {
         Names {
@@ -33,8 +34,15 @@ impl Names {
         }
     }
 
-    // Takes what is new of some names.
-    pub(crate) fn unite(&mut self, found: &[Name]) -> Result<(), Memory>
+    /// The names, in the order in which they came.
+    pub fn names(&self) -> &[Name]
+        ensures { result.now ≡ self.now }
+    {
+        self.names.as_slice()
+    }
+
+    /// Takes what is new of some names.
+    pub fn unite(&mut self, found: &[Name]) -> Result<(), Memory>
         ensures united { OnOk result (self.new ≡ union name_eq self.old found.now) }
     {
         for name in found {

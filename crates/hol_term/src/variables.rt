@@ -4,6 +4,7 @@ ghost use Rattle.hol_spec.specs.Lists.{distinct, union};
 ghost use Rattle.hol_spec.specs.NameEquality.{name_eq};
 ghost use Rattle.hol_spec.specs.Terms.{variable_eq, free_places, type_variable_places};
 ghost use Rattle.hol_spec.specs.Types.{variable_places};
+ghost use Rattle.hol_type.specs.Tables as type;
 ghost use Rattle.hol_term.specs.Subterms.{Comes, HaveTypes, IsOnWay, free_head, gathered, type_head, variables_of};
 ghost use Rattle.hol_term.specs.Tables.{term_at, type_at, terms_at, AreKnown};
 
@@ -21,6 +22,7 @@ impl TermTable {
         requires { id.0 < length self.now.terms }
         ensures variables { IfOk result (λ variables. variables_of self.now variables.items ≡ distinct variable_eq (free_places (term_at self.now id.0))) }
         ensures known { IfOk result (λ variables. HaveTypes self.now variables.items) }
+        ensures one_each { type.IsDistinct self.now.types }
     {
         let mut seen = Seen::new(self.alloc);
         self.come_to(id, &mut seen)?;

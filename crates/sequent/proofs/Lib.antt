@@ -1,0 +1,2 @@
+mod HypLaws
+mod ParamLaws

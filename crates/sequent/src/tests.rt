@@ -1,0 +1,119 @@
+use crate::{Hyps, Sequent};
+use bridge_base::{Fault, Memory};
+use hol_name::Name;
+use hol_term::{TermId, TermTable, Variable};
+use hol_type::TypeId;
+use std::alloc::Global;
+use std::test::Fail;
+
+/// Three variables of type `bool`.
+#[derive(Clone, Copy)]
+struct Atoms {
+    p: TermId,
+    q: TermId,
+    r: TermId,
+}
+
+fn make_atoms(alloc: Global) -> Result<Atoms, Fail> {
+    let mut table = TermTable::new(alloc);
+    let truth = table.ty_op(&Name::single(alloc, b"bool")?, &[])?;
+    let p = table.free(&Name::single(alloc, b"p")?, truth)?;
+    let q = table.free(&Name::single(alloc, b"q")?, truth)?;
+    let r = table.free(&Name::single(alloc, b"r")?, truth)?;
+    Ok(Atoms { p, q, r })
+}
+
+fn make_sequent(alloc: Global, hyps: &[TermId], concl: TermId) -> Result<Sequent, Memory> {
+    let hyps = Hyps::of(alloc, hyps)?;
+    Ok(Sequent { hyps, concl })
+}
+
+#[test]
+fn unites_in_order(rt: HostRuntime) -> Result<(), Fail> {
+    let Atoms { p, q, r } = make_atoms(rt.alloc())?;
+    let cases: [(&[TermId], &[TermId], &[TermId]); 5] = [
+        (&[p, q], &[q, r], &[p, q, r]),
+        (&[q, r], &[p, q], &[q, r, p]),
+        (&[p, p], &[r, p, r], &[p, r]),
+        (&[], &[q, q], &[q]),
+        (&[p], &[], &[p]),
+    ];
+    for (first, second, wanted) in cases {
+        let a = Hyps::of(rt.alloc(), first)?;
+        let b = Hyps::of(rt.alloc(), second)?;
+        let united = Sequent::union(rt.alloc(), &a, &b)?;
+        assert_eq!(rt; united.ids(), wanted, "of {first:?} and {second:?}");
+    }
+    Ok(())
+}
+
+#[test]
+fn removes_one_alone(rt: HostRuntime) -> Result<(), Fail> {
+    let Atoms { p, q, r } = make_atoms(rt.alloc())?;
+    assert!(rt; Hyps::new(rt.alloc()).ids().is_empty());
+    let all = Hyps::of(rt.alloc(), &[r, p, q, p])?;
+    let cases: [(TermId, &[TermId]); 3] = [
+        (p, &[r, q]),
+        (q, &[r, p]),
+        (r, &[p, q]),
+    ];
+    for (removed, wanted) in cases {
+        let rest = Sequent::without(rt.alloc(), &all, removed)?;
+        assert_eq!(rt; rest.ids(), wanted, "without {removed:?}");
+        assert!(rt; all.contains(removed));
+        assert!(rt; !rest.contains(removed));
+        let again = Sequent::without(rt.alloc(), &rest, removed)?;
+        assert_eq!(rt; again.ids(), wanted, "without {removed:?} twice");
+    }
+    Ok(())
+}
+
+#[test]
+fn compares_hypotheses_as_sets(rt: HostRuntime) -> Result<(), Fail> {
+    let Atoms { p, q, r } = make_atoms(rt.alloc())?;
+    let of_both = make_sequent(rt.alloc(), &[p, q], r)?;
+    let turned = make_sequent(rt.alloc(), &[q, p, q], r)?;
+    let of_one = make_sequent(rt.alloc(), &[p], r)?;
+    let another = make_sequent(rt.alloc(), &[p], q)?;
+    let bare = make_sequent(rt.alloc(), &[], r)?;
+    let cases = [
+        (&of_both, &turned, true, true),
+        (&of_one, &of_both, true, false),
+        (&of_one, &another, false, false),
+        (&bare, &turned, true, false),
+        (&bare, &bare, true, true),
+    ];
+    for (a, b, within, back) in cases {
+        assert_eq!(rt; Sequent::within(a, b), within);
+        assert_eq!(rt; Sequent::within(b, a), back);
+        assert_eq!(rt; Sequent::same(a, b), within && back);
+        assert_eq!(rt; Sequent::same(b, a), within && back);
+    }
+    Ok(())
+}
+
+// The equation of two free variables of a type.
+fn equation(table: &mut TermTable, l: &Name, r: &Name, ty: TypeId) -> Result<TermId, Fault> {
+    if ty.0 >= table.types().count() {
+        return Err(Fault::Memory);
+    }
+    let l = table.free(l, ty)?;
+    let r = table.free(r, ty)?;
+    table.mk_eq(l, r)
+}
+
+// Whether the variables have these names and types.
+fn are_variables(variables: &[Variable], wanted: &[(&[u8], TypeId)]) -> bool {
+    variables.len() == wanted.len()
+        && variables.iter().zip(wanted).all(|(variable, (text, ty))| variable.name.is_single(text)
+            && variable.ty == *ty)
+}
+
+// Whether the names are these.
+fn are_names(names: &[Name], wanted: &[&[u8]]) -> bool {
+    names.len() == wanted.len()
+        && names
+            .iter()
+            .zip(wanted)
+            .all(|(name, text)| name.is_single(text))
+}
