@@ -19,7 +19,8 @@ use Rattle.hol_term.specs.declared.TermId.{TermId}
 use Rattle.hol_term.specs.declared.Variable.{Variable}
 use Rattle.hol_term.specs.Tables.{Trees, term_at, type_at, Holds, Keeps}
 use Rattle.hol_term.specs.TableLaws.{term_in-Some, Some-term_in, term_in-Stays}
-use Rattle.hol_term.specs.Substitutions.{term_pairs_at, AreTermPairs, ArePairsFitting, AreTermPairsKnown, AreKnownPairs, image_of, IsPutFor, IsImage, AreImages, RefusesSubst}
+use Rattle.hol_term.specs.Noted.{IsNoted}
+use Rattle.hol_term.specs.Substitutions.{term_pairs_at, AreTermPairs, ArePairsFitting, AreTermPairsKnown, AreKnownPairs, image_of, IsPutFor, AreImages, RefusesSubst}
 use Rattle.hol_term.specs.Refusals.{RefusesTerm}
 use Rattle.hol_term.proofs.Settled.{known_term, IsTerm-HasType}
 
@@ -59,7 +60,7 @@ module _ (a b : Trees) (k : Keeps a b) where
     AreImages-Keeps images h id r n = let w = h id r n in (omega (arith, k.longer, w.0), k.stays.each r.0 (image_of a types terms (term_at a id.0)) w.1 ∙ ap Some (image_at-Keeps id w.0))
 
     -- with one more that is made
-    pub noted_images : (images more : List (TermId × TermId)) (id made : TermId) → id.0 < length a.terms → AreImages b types terms images → Holds b made.0 (image_of a types terms (term_at a id.0)) → ((i r : TermId) → IsImage more i r → IsImage images i r ⊎ ((i ≡ id) × (r ≡ made))) → AreImages b types terms more
+    pub noted_images : (images more : List (TermId × TermId)) (id made : TermId) → id.0 < length a.terms → AreImages b types terms images → Holds b made.0 (image_of a types terms (term_at a id.0)) → ((i r : TermId) → IsNoted more i r → IsNoted images i r ⊎ ((i ≡ id) × (r ≡ made))) → AreImages b types terms more
     noted_images images more id made lt h held notes i r n = ⊎_elim (λ old. h i r old) (λ new. here new.0 new.1) (notes i r n)
       where
         here : i ≡ id → r ≡ made → (i.0 < length b.terms) × Holds b r.0 (image_of b types terms (term_at b i.0))

@@ -13,6 +13,5 @@ pub mod Gathered
 pub mod VisitSteps
 pub mod SeenLaws
 pub mod PutFor
-pub mod ImageNotes
 pub mod ImageLaws
 pub mod FoundLaws

@@ -1,6 +1,6 @@
 -- Pairs of numbers that a substitution puts, and what it makes of a number's term.
 -- Source: HOL Light's kernel, `INST_TYPE` and `INST`; the article format's `subst`.
-use Rattle.std.specs.Prelude.{◌≡◌, ℕ, ◌<◌, List, [], ◌∷◌, length, Option, None, Some, slice_get}
+use Rattle.std.specs.Prelude.{◌≡◌, ◌<◌, List, [], ◌∷◌, length, Option, None, Some}
 use Rattle.std.specs.Map.{lookup}
 use Rattle.bridge_base.specs.declared.faults.Fault.{Fault}
 use Rattle.bridge_base.specs.declared.faults.Fault.TheVariants.{Refused, Memory}
@@ -12,6 +12,7 @@ use Rattle.hol_type.specs.declared.table.TypeId.{TypeId}
 use Rattle.hol_type.specs.Tables as type
 use Rattle.hol_term.specs.declared.TermId.{TermId}
 use Rattle.hol_term.specs.declared.Variable.{Variable}
+use Rattle.hol_term.specs.Noted.{IsNoted}
 use Rattle.hol_term.specs.Tables.{Trees, term_at, type_at, Holds, IsTermAt}
 use Rattle.hol_term.specs.Refusals.{RefusesTerm}
 
@@ -55,10 +56,6 @@ abbrev pub IsPutFor : Trees → List (Variable × TermId) → AVariable → Opti
 IsPutFor trees pairs v None = lookup (variable_eq v) (term_pairs_at trees pairs) ≡ None
 IsPutFor trees pairs v (Some id) = (id.0 < length trees.terms) × (lookup (variable_eq v) (term_pairs_at trees pairs) ≡ Some (term_at trees id.0))
 
--- the list has this pair of numbers
-abbrev pub IsImage : List (TermId × TermId) → TermId → TermId → Type 0
-IsImage images id r = (i : ℕ) × (slice_get images i ≡ Some (id, r))
-
 -- each number has with it one of what the pairs make of its term
 abbrev pub AreImages : Trees → List (Name × TypeId) → List (Variable × TermId) → List (TermId × TermId) → Type 0
-AreImages trees types terms images = (id r : TermId) → IsImage images id r → (id.0 < length trees.terms) × Holds trees r.0 (image_of trees types terms (term_at trees id.0))
+AreImages trees types terms images = (id r : TermId) → IsNoted images id r → (id.0 < length trees.terms) × Holds trees r.0 (image_of trees types terms (term_at trees id.0))

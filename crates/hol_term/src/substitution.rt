@@ -6,7 +6,8 @@ ghost use Rattle.hol_spec.specs.Terms.{IsTerm, variable_eq, free as free_tree, c
 ghost use Rattle.hol_spec.specs.TermSubstitution.{sub};
 ghost use Rattle.hol_type.specs.Tables as type;
 ghost use Rattle.hol_term.specs.declared.TermId.{TermId as AnId};
-ghost use Rattle.hol_term.specs.Substitutions.{term_pairs_at, AreTermPairs, ArePairsFitting, RefusesSubst, AreTermPairsKnown, AreKnownPairs, image_of, IsPutFor, IsImage, AreImages};
+ghost use Rattle.hol_term.specs.Noted.{IsNoted};
+ghost use Rattle.hol_term.specs.Substitutions.{term_pairs_at, AreTermPairs, ArePairsFitting, RefusesSubst, AreTermPairsKnown, AreKnownPairs, image_of, IsPutFor, AreImages};
 ghost use Rattle.hol_term.specs.Tables.{Trees, term_at, type_at, Holds, IsDistinct, IsTermAt, Keeps};
 
 use crate::node::Node;
@@ -35,7 +36,7 @@ impl Model for Images {
 
 impl Images {
     fn new(alloc: Global) -> Self
-        ensures empty { (id r : AnId) → IsImage result id r → ⊥ }
+        ensures empty { (id r : AnId) → IsNoted result id r → ⊥ }
     {
         Images {
             made: IndexMap::new(alloc),
@@ -43,13 +44,13 @@ impl Images {
     }
 
     fn find(&self, id: TermId) -> Option<TermId>
-        ensures noted { IfSome result (λ r. IsImage self.now id r) }
+        ensures noted { IfSome result (λ r. IsNoted self.now id r) }
     {
         self.made.get(&id).copied()
     }
 
     fn note(&mut self, id: TermId, made: TermId) -> Result<(), Memory>
-        ensures noted { OnOk result ((i r : AnId) → IsImage self.new i r → IsImage self.old i r ⊎ ((i ≡ id) × (r ≡ made))) }
+        ensures noted { OnOk result ((i r : AnId) → IsNoted self.new i r → IsNoted self.old i r ⊎ ((i ≡ id) × (r ≡ made))) }
     {
         self.made.insert(id, made)?;
         Ok(())

@@ -72,6 +72,7 @@ impl Sequent {
     {
         a.hyps.are_among(&b.hyps) && a.concl == b.concl
     }
+
     /// The type variables and the free variables, each in order of first occurrence in the hypotheses in order, and
     /// then in the conclusion.
     pub fn params(&self, alloc: Global, table: &TermTable) -> Result<Params, Memory>
