@@ -1,3 +1,6 @@
+ghost use Rattle.std.specs.Prelude.{◌<◌, ◌≤◌, length, IfOk};
+ghost use Rattle.sequent.specs.Sequents.{IsKnown};
+
 use crate::{Hyps, Sequent};
 use bridge_base::{Fault, Memory};
 use hol_name::Name;
@@ -12,6 +15,15 @@ struct Atoms {
     p: TermId,
     q: TermId,
     r: TermId,
+}
+
+/// A sequent over a table, and the types of its variables.
+#[derive(Drop)]
+struct Sample {
+    table: TermTable,
+    sequent: Sequent,
+    a: TypeId,
+    b: TypeId,
 }
 
 fn make_atoms(alloc: Global) -> Result<Atoms, Fail> {
@@ -52,11 +64,7 @@ fn removes_one_alone(rt: HostRuntime) -> Result<(), Fail> {
     let Atoms { p, q, r } = make_atoms(rt.alloc())?;
     assert!(rt; Hyps::new(rt.alloc()).ids().is_empty());
     let all = Hyps::of(rt.alloc(), &[r, p, q, p])?;
-    let cases: [(TermId, &[TermId]); 3] = [
-        (p, &[r, q]),
-        (q, &[r, p]),
-        (r, &[p, q]),
-    ];
+    let cases: [(TermId, &[TermId]); 3] = [(p, &[r, q]), (q, &[r, p]), (r, &[p, q])];
     for (removed, wanted) in cases {
         let rest = Sequent::without(rt.alloc(), &all, removed)?;
         assert_eq!(rt; rest.ids(), wanted, "without {removed:?}");
@@ -93,13 +101,39 @@ fn compares_hypotheses_as_sets(rt: HostRuntime) -> Result<(), Fail> {
 }
 
 // The equation of two free variables of a type.
-fn equation(table: &mut TermTable, l: &Name, r: &Name, ty: TypeId) -> Result<TermId, Fault> {
+fn equation(table: &mut TermTable, l: &Name, r: &Name, ty: TypeId) -> Result<TermId, Fault>
+    ensures known { IfOk result (λ id. id.0 < length table.new.terms) }
+    ensures longer { length table.old.terms ≤ length table.new.terms }
+{
     if ty.0 >= table.types().count() {
         return Err(Fault::Memory);
     }
     let l = table.free(l, ty)?;
     let r = table.free(r, ty)?;
     table.mk_eq(l, r)
+}
+
+// `z = x` over B and `y = x` over A, and from them `x = z` over A.
+fn make_sample(alloc: Global) -> Result<Sample, Fail>
+    ensures { IfOk result (λ sample. IsKnown sample.table sample.sequent) }
+{
+    let mut table = TermTable::new(alloc);
+    let x = Name::single(alloc, b"x")?;
+    let y = Name::single(alloc, b"y")?;
+    let z = Name::single(alloc, b"z")?;
+    let a = table.ty_var(&Name::single(alloc, b"A")?)?;
+    let b = table.ty_var(&Name::single(alloc, b"B")?)?;
+    let first = equation(&mut table, &z, &x, b)?;
+    let second = equation(&mut table, &y, &x, a)?;
+    let concl = equation(&mut table, &x, &z, a)?;
+    let hyps = Hyps::of(alloc, &[first, second])?;
+    let sequent = Sequent { hyps, concl };
+    Ok(Sample {
+        table,
+        sequent,
+        a,
+        b,
+    })
 }
 
 // Whether the variables have these names and types.
@@ -116,4 +150,16 @@ fn are_names(names: &[Name], wanted: &[&[u8]]) -> bool {
             .iter()
             .zip(wanted)
             .all(|(name, text)| name.is_single(text))
+}
+
+#[test]
+fn lists_parameters_in_order(rt: HostRuntime) -> Result<(), Fail> {
+    let sample = make_sample(rt.alloc())?;
+    let Sample { a, b, .. } = sample;
+    let params = sample.sequent.params(rt.alloc(), &sample.table)?;
+    let variables = params.free_vars.variables();
+    let wanted: [(&[u8], TypeId); 5] = [(b"z", b), (b"x", b), (b"y", a), (b"x", a), (b"z", a)];
+    assert!(rt; are_variables(variables, &wanted));
+    assert!(rt; are_names(params.type_vars.names(), &[b"B", b"A"]));
+    Ok(())
 }
