@@ -3,7 +3,7 @@
 //! A sequent has hypotheses and a conclusion, terms of a table by their numbers. Hypotheses are read as a set: each
 //! stands once, in order of coming. The calls compare numbers alone, and their contracts speak of the trees: over any
 //! table in which no tree has two numbers, they unite, remove and compare as HOL Light's kernel does with its `thm`.
-//! What compares takes no memory.
+//! What compares takes no memory. The parameters of a sequent come in order of first occurrence, each once.
 //!
 //! ```
 //! let hyps = Hyps::of(alloc, &[p, q])?;
@@ -59,14 +59,14 @@ impl Sequent {
         a.without(alloc, p)
     }
 
-    /// Whether the hypotheses are equal as sets and the conclusions are equal.
+    /// Whether the hypotheses are equal as sets and the conclusions are equal. It takes no memory.
     pub fn same(a: &Sequent, b: &Sequent) -> bool
         ensures { (trees : Trees) → IsDistinct trees.terms → IsKnown trees a.now → IsKnown trees b.now → result ≡ is_same (sequent_at trees a.now) (sequent_at trees b.now) }
     {
         Sequent::within(a, b) && Sequent::within(b, a)
     }
 
-    /// Whether the hypotheses of `a` are among those of `b` and the conclusions are equal.
+    /// Whether the hypotheses of `a` are among those of `b` and the conclusions are equal. It takes no memory.
     pub fn within(a: &Sequent, b: &Sequent) -> bool
         ensures { (trees : Trees) → IsDistinct trees.terms → IsKnown trees a.now → IsKnown trees b.now → result ≡ is_within (sequent_at trees a.now) (sequent_at trees b.now) }
     {
