@@ -31,9 +31,10 @@ AreTypings-Keeps a b ls f k t = record {
   known = λ i l e. type_law.AreKnown-Keeps k.types l (t.known i l e);
   each = λ s ty n.
       let w = t.each s ty n in
-      let kept = KeepsLists-refl ls in
-      (IsSeat-later a b k ls ls kept s w.0,
-       subst (IsTypeNumber b.types ty) (seat_type-later a b k ls ls kept s w.0 (binders_known a ls f t s.scope.0 w.0.1)) (IsTypeNumber-Keeps k.types ty (seat_type a ls s) w.1));
+      let kept = KeepsLists-refl ls in (
+        IsSeat-later a b k ls ls kept s w.0,
+        subst (IsTypeNumber b.types ty) (seat_type-later a b k ls ls kept s w.0 (binders_known a ls f t s.scope.0 w.0.1)) (IsTypeNumber-Keeps k.types ty (seat_type a ls s) w.1),
+      );
 }
 
 -- with a list more, what was found is still right
@@ -41,9 +42,10 @@ pub AreTypings-adds : (a : Trees) (ls ms : List (List TypeId)) (f : List (Seat �
 AreTypings-adds a ls ms f l k kept adds g t = record {
   known = λ i m e. ⊎_elim (λ old. t.known i m old) (λ new. subst (type.AreKnown a.types) (sym new) g) (adds.each i m e);
   each = λ s ty n.
-      let w = t.each s ty n in
-      (IsSeat-later a a k ls ms kept s w.0,
-       subst (IsTypeNumber a.types ty) (seat_type-later a a k ls ms kept s w.0 (binders_known a ls f t s.scope.0 w.0.1)) w.1);
+      let w = t.each s ty n in (
+        IsSeat-later a a k ls ms kept s w.0,
+        subst (IsTypeNumber a.types ty) (seat_type-later a a k ls ms kept s w.0 (binders_known a ls f t s.scope.0 w.0.1)) w.1,
+      );
 }
 
 -- what was found, and one seat more

@@ -138,11 +138,7 @@ impl TermTable {
 
     // The type of a tree under binders, if it has one, where nothing is found yet.
     #[cycle(inferring)]
-    fn inferred_anew(
-        &mut self,
-        seat: Seat,
-        typings: &mut Typings,
-    ) -> Result<Option<TypeId>, Memory>
+    fn inferred_anew(&mut self, seat: Seat, typings: &mut Typings) -> Result<Option<TypeId>, Memory>
         requires seat { IsSeat self.old typings.old.scopes seat }
         requires typings { AreTypings self.old typings.old.scopes typings.old.found }
         ensures typed { IfOk result (λ ty. IsTypeNumber self.new.types ty (seat_type self.old typings.old.scopes seat)) }

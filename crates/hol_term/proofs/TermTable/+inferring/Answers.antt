@@ -34,7 +34,7 @@ inferred_anew-inferred-requires-in-Lam t c =
       (
         (omega (arith, c.in-Lam.ensures.lower.1, c.requires.seat.0), slice_get_within _ _ _ c.in_ok-scope-in-Lam.ensures.entered),
         AreTypings-adds c.args.self.now c.args.typings.now.scopes c.enter.new.self c.args.typings.now.found (c.in-Lam.ty ∷ outer) (Keeps-refl c.args.self.now)
-        c.in_ok-scope-in-Lam.ensures.keeps c.in_ok-scope-in-Lam.ensures.adds (c.in-Lam.ensures.lower.0, known) c.requires.typings,
+            c.in_ok-scope-in-Lam.ensures.keeps c.in_ok-scope-in-Lam.ensures.adds (c.in-Lam.ensures.lower.0, known) c.requires.typings,
       ),
     )
 
