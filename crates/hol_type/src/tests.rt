@@ -100,7 +100,7 @@ impl Types {
     fn found(&mut self, general: TypeId, instance: TypeId) -> Result<Option<TypeId>, Fault> {
         if general.0 < self.table.count() && instance.0 < self.table.count() {
             match self.table.match_to(general, instance)? {
-                Some(map) => Ok(Some(self.table.subst(map.pairs(), general)?)),
+                Some(map) => Ok(Some(self.table.instance(map.pairs(), general)?)),
                 None => Ok(None),
             }
         } else {
