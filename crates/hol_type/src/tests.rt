@@ -257,10 +257,8 @@ fn walks_shared_and_deep_types(rt: HostRuntime) -> Result<(), Fail> {
     assert!(rt; types.has_variables(b"A", b"B", huge)?);
     let endo = types.function(a, a)?;
     let other = types.doubled(100_000, endo)?;
-    assert_eq!(rt;
-        types.found(huge, other),
-        Err(Fault::Refused(Kind::TooLarge))
-    );
+    assert_eq!(rt; types.found(huge, other)?, Some(other));
     assert_eq!(rt; types.found(other, huge)?, None);
+    assert_eq!(rt; types.with_a(a, huge), Err(Fault::Refused(Kind::TooLarge)));
     Ok(())
 }
