@@ -1,2 +1,3 @@
+mod ClosedLaws
 mod HypLaws
 mod ParamLaws

@@ -24,7 +24,7 @@ use Rattle.sequent.specs.Params.{same_variable}
 abbrev IsTyped : Trees → Variable → Type 0
 IsTyped trees v = v.ty.0 < length trees.types
 
-abbrev at : Trees → Variable → ATreeVariable
+abbrev pub at : Trees → Variable → ATreeVariable
 at trees v = (v.name, type_at trees v.ty.0)
 
 each_typed : (trees : Trees) (vs : List Variable) → HaveTypes trees vs → AllByRecursion (IsTyped trees) vs
@@ -35,7 +35,7 @@ all_typed : (trees : Trees) (vs : List Variable) → AllByRecursion (IsTyped tre
 all_typed trees [] h = tt
 all_typed trees (v ∷ vs) h = (h.0, all_typed trees vs h.1)
 
-variables_of-map : (trees : Trees) (vs : List Variable) → variables_of trees vs ≡ map (at trees) vs
+pub variables_of-map : (trees : Trees) (vs : List Variable) → variables_of trees vs ≡ map (at trees) vs
 variables_of-map trees [] = refl
 variables_of-map trees (v ∷ vs) = ap (λ l. at trees v ∷ l) (variables_of-map trees vs)
 
@@ -45,7 +45,7 @@ HaveTypes-union trees vs ws h k = all_typed trees (union same_variable vs ws) (u
 
 module _ (trees : Trees) (d : type.IsDistinct trees.types) where
   -- variables are one exactly where they are so as trees
-  variable_eq-at : (v w : Variable) → IsTyped trees v → IsTyped trees w → variable_eq (at trees v) (at trees w) ≡ same_variable v w
+  pub variable_eq-at : (v w : Variable) → IsTyped trees v → IsTyped trees w → variable_eq (at trees v) (at trees w) ≡ same_variable v w
   variable_eq-at v w h k =
       ap (λ b. name_eq v.name w.name && b)
       (same_from_decides (type_eq (type_at trees v.ty.0) (type_at trees w.ty.0)) _ (type_eq-Decides (type_at trees v.ty.0) (type_at trees w.ty.0))

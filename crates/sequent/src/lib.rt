@@ -13,19 +13,25 @@
 #![tactic(auto)]
 
 ghost use Rattle.std.specs.Prelude.{◌≡◌, ◌<◌, length, IfOk};
+ghost use Rattle.hol_spec.specs.ClosedForm.{closed_form};
 ghost use Rattle.hol_spec.specs.Lists.{union as united, without as all_but};
 ghost use Rattle.hol_spec.specs.Sequents.{free_variables_of, type_variables_of, same as is_same, within as is_within};
 ghost use Rattle.hol_spec.specs.Terms.{term_eq};
+ghost use Rattle.hol_type.specs.Tables as type;
 ghost use Rattle.hol_term.specs.Subterms.{HaveTypes, variables_of};
 ghost use Rattle.hol_term.specs.Tables.{Trees, term_at, AreKnown, IsDistinct};
+ghost use Rattle.sequent.specs.Closed.{closed_view};
 ghost use Rattle.sequent.specs.Sequents.{hyps_at, same_id, sequent_at, IsKnown};
 
+mod closed;
 mod hyps;
 mod params;
 #[cfg(test)]
 mod tests;
 
 use bridge_base::Memory;
+pub use closed::{Closed, ClosedTerm, ClosedType};
+use closed::{close_term, close_terms, close_variables};
 use hol_term::{TermId, TermTable};
 pub use hyps::Hyps;
 pub use params::{Params, Variables};
@@ -80,6 +86,7 @@ impl Sequent {
         ensures type_vars { IfOk result (λ params. params.type_vars ≡ type_variables_of (sequent_at table.now self.now)) }
         ensures free_vars { IfOk result (λ params. variables_of table.now params.free_vars ≡ free_variables_of (sequent_at table.now self.now)) }
         ensures known { IfOk result (λ params. HaveTypes table.now params.free_vars) }
+        ensures one_each { IfOk result (λ params. type.IsDistinct table.now.types) }
     {
         let mut params = Params::new(alloc);
         for id in self.hyps.ids() {
@@ -87,5 +94,23 @@ impl Sequent {
         }
         params.visit(table, self.concl)?;
         Ok(params)
+    }
+
+    /// The closed form. Each part of a term is copied as often as it occurs: what is closed is within the limits of a
+    /// sequent where the sequent is.
+    pub fn closed(&self, alloc: Global, table: &TermTable) -> Result<Closed, Memory>
+        requires { IsKnown table.now self.now }
+        ensures { IfOk result (λ closed. closed_view closed ≡ closed_form (sequent_at table.now self.now)) }
+    {
+        let params = self.params(alloc, table)?;
+        let free_vars = close_variables(alloc, &params, table)?;
+        let hyps = close_terms(alloc, &params, table, self.hyps.ids())?;
+        let concl = close_term(alloc, &params, table, self.concl)?;
+        Ok(Closed {
+            type_vars: params.type_vars.names().len(),
+            free_vars,
+            hyps,
+            concl,
+        })
     }
 }

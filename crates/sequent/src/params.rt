@@ -3,6 +3,7 @@ ghost use Rattle.std.specs.Prelude.{◌≡◌, ◌<◌, [], ◌∷◌, length, O
 ghost use Rattle.hol_spec.specs.Lists.{union};
 ghost use Rattle.hol_spec.specs.NameEquality.{name_eq};
 ghost use Rattle.hol_spec.specs.Terms.{free_places, type_variable_places, variable_eq};
+ghost use Rattle.hol_type.specs.Tables as type;
 ghost use Rattle.hol_term.specs.Subterms.{HaveTypes, variables_of};
 ghost use Rattle.hol_term.specs.Tables.{term_at};
 ghost use Rattle.sequent.specs.Params.{same_variable};
@@ -52,6 +53,7 @@ impl Params {
         ensures type_vars { OnOk result (self.new.type_vars ≡ union name_eq self.old.type_vars (type_variable_places (term_at table.now id.0))) }
         ensures free_vars { OnOk result (HaveTypes table.now self.old.free_vars → variables_of table.now self.new.free_vars ≡ union variable_eq (variables_of table.now self.old.free_vars) (free_places (term_at table.now id.0))) }
         ensures known { OnOk result (HaveTypes table.now self.old.free_vars → HaveTypes table.now self.new.free_vars) }
+        ensures one_each { OnOk result (type.IsDistinct table.now.types) }
     {
         let names = table.type_vars(id)?;
         self.type_vars.unite(&names)?;
