@@ -3,7 +3,8 @@
 //! A sequent has hypotheses and a conclusion, terms of a table by their numbers. Hypotheses are read as a set: each
 //! stands once, in order of coming. The calls compare numbers alone, and their contracts speak of the trees: over any
 //! table in which no tree has two numbers, they unite, remove and compare as HOL Light's kernel does with its `thm`.
-//! What compares takes no memory. The parameters of a sequent come in order of first occurrence, each once.
+//! What compares takes no memory. The parameters of a sequent come in order of first occurrence, each once; `closed`
+//! gives the sequent with their numbers in their places, which needs no table.
 //!
 //! ```
 //! let hyps = Hyps::of(alloc, &[p, q])?;
