@@ -1,7 +1,7 @@
 ghost use Rattle.std.specs.Prelude.{◌<◌, ◌≤◌, length, IfOk};
 ghost use Rattle.sequent.specs.Sequents.{IsKnown};
 
-use crate::{Closed, ClosedTerm, ClosedType, Hyps, Sequent};
+use crate::{ClosedTerm, ClosedType, Hyps, Sequent};
 use bridge_base::{Fault, Memory};
 use hol_name::Name;
 use hol_term::{TermId, TermTable, Variable};
@@ -164,55 +164,20 @@ fn lists_parameters_in_order(rt: HostRuntime) -> Result<(), Fail> {
     Ok(())
 }
 
-// From `p x`, `q x y`, for `x` of type A and `y` of type B.
-fn make_open(alloc: Global) -> Result<Sample, Fail>
-    ensures { IfOk result (λ sample. IsKnown sample.table sample.sequent) }
-{
-    let mut table = TermTable::new(alloc);
-    let arrow = Name::single(alloc, b"->")?;
-    let a = table.ty_var(&Name::single(alloc, b"A")?)?;
-    let b = table.ty_var(&Name::single(alloc, b"B")?)?;
-    let truth = table.ty_op(&Name::single(alloc, b"bool")?, &[])?;
-    let of_a = table.ty_op(&arrow, &[a, truth])?;
-    let of_b = table.ty_op(&arrow, &[b, truth])?;
-    let of_both = table.ty_op(&arrow, &[a, of_b])?;
-    let x = table.free(&Name::single(alloc, b"x")?, a)?;
-    let p = table.free(&Name::single(alloc, b"p")?, of_a)?;
-    let hyp = table.app(p, x)?;
-    let q = table.free(&Name::single(alloc, b"q")?, of_both)?;
-    let at_x = table.app(q, x)?;
-    let y = table.free(&Name::single(alloc, b"y")?, b)?;
-    let concl = table.app(at_x, y)?;
-    let hyps = Hyps::of(alloc, &[hyp])?;
-    let sequent = Sequent { hyps, concl };
-    Ok(Sample {
-        table,
-        sequent,
-        a,
-        b,
-    })
+fn is_type_parameter(ty: &ClosedType, number: usize) -> bool {
+    match ty {
+        ClosedType::Parameter(place) => *place == number,
+        ClosedType::Operator(..) => false,
+    }
 }
 
-// `\x. x` at `bool`, without hypotheses.
-fn make_identity(alloc: Global) -> Result<Sample, Fail>
-    ensures { IfOk result (λ sample. IsKnown sample.table sample.sequent) }
-{
-    let mut table = TermTable::new(alloc);
-    let truth = table.ty_op(&Name::single(alloc, b"bool")?, &[])?;
-    let x = table.free(&Name::single(alloc, b"x")?, truth)?;
-    let variable = Variable {
-        name: Name::single(alloc, b"x")?,
-        ty: truth,
-    };
-    let concl = table.abs(&variable, x)?;
-    let hyps = Hyps::new(alloc);
-    let sequent = Sequent { hyps, concl };
-    Ok(Sample {
-        table,
-        sequent,
-        a: truth,
-        b: truth,
-    })
+// Whether the types are these type variables.
+fn are_type_parameters(types: &[ClosedType], wanted: &[usize]) -> bool {
+    types.len() == wanted.len()
+        && types
+            .iter()
+            .zip(wanted)
+            .all(|(ty, number)| is_type_parameter(ty, *number))
 }
 
 fn is_bool(ty: &ClosedType) -> bool {
@@ -222,36 +187,26 @@ fn is_bool(ty: &ClosedType) -> bool {
     }
 }
 
-fn is_type_parameter(ty: &ClosedType, number: usize) -> bool {
-    match ty {
-        ClosedType::Parameter(place) => *place == number,
-        ClosedType::Operator(..) => false,
-    }
-}
-
 // The two sides of a type of functions.
 fn sides(ty: &ClosedType) -> Option<(&ClosedType, &ClosedType)> {
     match ty {
-        ClosedType::Operator(name, args) => {
-            let [domain, codomain] = args.as_slice() else {
-                return None;
-            };
-            if name.is_single(b"->") {
-                Some((domain, codomain))
-            } else {
-                None
-            }
-        }
+        ClosedType::Operator(name, args) => match args.as_slice() {
+            [domain, codomain] if name.is_single(b"->") => Some((domain, codomain)),
+            _ => None,
+        },
         ClosedType::Parameter(_) => None,
     }
 }
 
-// Whether a type is that of the predicates over a type variable.
-fn is_predicate(ty: &ClosedType, number: usize) -> bool {
-    let Some((domain, codomain)) = sides(ty) else {
+// Whether a type is that of the relations over a type variable.
+fn is_relation(ty: &ClosedType, number: usize) -> bool {
+    let Some((first, predicate)) = sides(ty) else {
         return false;
     };
-    is_type_parameter(domain, number) && is_bool(codomain)
+    let Some((second, truth)) = sides(predicate) else {
+        return false;
+    };
+    is_type_parameter(first, number) && is_type_parameter(second, number) && is_bool(truth)
 }
 
 fn is_parameter(term: &ClosedTerm, number: usize) -> bool {
@@ -264,10 +219,20 @@ fn is_parameter(term: &ClosedTerm, number: usize) -> bool {
     }
 }
 
-// Whether a term is a variable applied to another.
-fn applies(term: &ClosedTerm, function: usize, argument: usize) -> bool {
+fn is_equality(term: &ClosedTerm, number: usize) -> bool {
     match term {
-        ClosedTerm::App(f, x) => is_parameter(f, function) && is_parameter(x, argument),
+        ClosedTerm::Constant(name, ty) => name.is_single(b"=") && is_relation(ty, number),
+        ClosedTerm::Parameter(_)
+        | ClosedTerm::Bound(_)
+        | ClosedTerm::App(..)
+        | ClosedTerm::Lam(..) => false,
+    }
+}
+
+// Whether a term is a constant of equality over a type variable, applied to a variable.
+fn is_half(term: &ClosedTerm, ty: usize, l: usize) -> bool {
+    match term {
+        ClosedTerm::App(equality, left) => is_equality(equality, ty) && is_parameter(left, l),
         ClosedTerm::Parameter(_)
         | ClosedTerm::Bound(_)
         | ClosedTerm::Constant(..)
@@ -275,56 +240,33 @@ fn applies(term: &ClosedTerm, function: usize, argument: usize) -> bool {
     }
 }
 
-// Whether the variables are `p : A -> bool`, `x : A`, `q : A -> B -> bool` and `y : B`, with A and B by number.
-fn are_open_types(types: &[ClosedType]) -> bool {
-    let [p, x, q, y] = types else {
-        return false;
-    };
-    let Some((first, rest)) = sides(q) else {
-        return false;
-    };
-    is_predicate(p, 0)
-        && is_type_parameter(x, 0)
-        && is_type_parameter(first, 0)
-        && is_predicate(rest, 1)
-        && is_type_parameter(y, 1)
+// Whether a term is the equation of two variables over a type variable, all by number.
+fn is_equation(term: &ClosedTerm, (ty, l, r): (usize, usize, usize)) -> bool {
+    match term {
+        ClosedTerm::App(half, right) => is_half(half, ty, l) && is_parameter(right, r),
+        ClosedTerm::Parameter(_)
+        | ClosedTerm::Bound(_)
+        | ClosedTerm::Constant(..)
+        | ClosedTerm::Lam(..) => false,
+    }
+}
+
+// Whether the terms are these equations.
+fn are_equations(terms: &[ClosedTerm], wanted: &[(usize, usize, usize)]) -> bool {
+    terms.len() == wanted.len()
+        && terms
+            .iter()
+            .zip(wanted)
+            .all(|(term, numbers)| is_equation(term, *numbers))
 }
 
 #[test]
 fn closes_by_number(rt: HostRuntime) -> Result<(), Fail> {
-    let sample = make_open(rt.alloc())?;
+    let sample = make_sample(rt.alloc())?;
     let closed = sample.sequent.closed(rt.alloc(), &sample.table)?;
-    let Closed {
-        type_vars,
-        free_vars,
-        hyps,
-        concl,
-    } = closed;
-    assert_eq!(rt; type_vars, 2);
-    assert!(rt; are_open_types(&free_vars));
-    let [hyp] = hyps.as_slice() else {
-        panic!(rt; "one hypothesis");
-    };
-    assert!(rt; applies(hyp, 0, 1));
-    let ClosedTerm::App(at_x, y) = &concl else {
-        panic!(rt; "an application");
-    };
-    assert!(rt; applies(at_x, 2, 1));
-    assert!(rt; is_parameter(y, 3));
-    Ok(())
-}
-
-#[test]
-fn closes_what_has_no_parameters(rt: HostRuntime) -> Result<(), Fail> {
-    let sample = make_identity(rt.alloc())?;
-    let closed = sample.sequent.closed(rt.alloc(), &sample.table)?;
-    assert_eq!(rt; closed.type_vars, 0);
-    assert!(rt; closed.free_vars.is_empty());
-    assert!(rt; closed.hyps.is_empty());
-    let ClosedTerm::Lam(ty, body) = &closed.concl else {
-        panic!(rt; "an abstraction");
-    };
-    assert!(rt; is_bool(ty));
-    assert!(rt; matches!(**body, ClosedTerm::Bound(0)));
+    assert_eq!(rt; closed.type_vars, 2);
+    assert!(rt; are_type_parameters(&closed.free_vars, &[0, 0, 1, 1, 1]));
+    assert!(rt; are_equations(&closed.hyps, &[(0, 0, 1), (1, 2, 3)]));
+    assert!(rt; is_equation(&closed.concl, (1, 3, 4)));
     Ok(())
 }
