@@ -5,8 +5,8 @@
 # On a quiet machine with four processors seven runs gave between 1.35 and 1.71 and between 3.16 and 3.58 seconds, 331
 # and 660 MiB; the ratio of the times was between 2.00 and 2.42, that of the memory 1.99 or 2.00.
 # The second line tells how much of it making the applications takes: 0.19 to 0.24 and 0.55 to 0.62 seconds. Its own
-# ratio, between 2.5 and 2.9, is that of the caches: the time goes into the first look at a group of the hash table, which lies in a cache
-# of 36 MB beside one million nodes and not beside two.
+# ratio, between 2.5 and 2.9, is that of the caches: the time goes into the first look at a group of the hash table,
+# which lies in a cache of 36 MB beside one million nodes and not beside two.
 cd "$(dirname "$0")/../crates/hol_bench" || exit 1
 # Processor time in seconds and peak memory in KiB, of the quickest of five runs.
 quickest() {
