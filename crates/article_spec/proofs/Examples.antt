@@ -21,11 +21,10 @@ use Rattle.article_spec.specs.declared.commands.Item.TheVariants as item
 use Rattle.article_spec.specs.declared.commands.Word.{Word}
 use Rattle.article_spec.specs.declared.commands.Word.TheVariants as word
 use Rattle.std.specs.FinMap as entries
-use Rattle.article_spec.specs.State.{Object, Objects, State, initial, body}
-use Rattle.article_spec.specs.Restriction.{restricted_step}
+use Rattle.article_spec.specs.State.{Object, Objects, State, initial}
 use Rattle.article_spec.specs.Step.{step}
 use Rattle.article_spec.specs.Results.{◌>>=◌}
-use Rattle.article_spec.specs.Run.{obey_article, at_line}
+use Rattle.article_spec.specs.Run.{machine, obey_article, at_line}
 use Rattle.article_spec.specs.Lines.{End}
 
 -- p = p, where p is a truth value
@@ -113,7 +112,7 @@ made_of (Err r) = ([], [], [])
 abbrev p_equals_p : Sequent
 p_equals_p = record { hypotheses = []; conclusion = equation bool p p }
 
-first_run : made_of (obey_article initial (lines 1 first_article) (End.ended 60))
+first_run : made_of (obey_article machine initial (lines 1 first_article) (End.ended 60))
     ≡ (
       Made.step (record { kind = StepKind.Refl; premises = []; parameters = Parameters.term p; sequent = p_equals_p })
           ∷ Made.step (record { kind = StepKind.Restate; premises = 0 ∷ []; parameters = Parameters.sequent p_equals_p; sequent = p_equals_p }) ∷ [],
@@ -142,7 +141,7 @@ version_again = refl
 other_version : kinds initial (item.Number (pos 5) ∷ w word.Version ∷ []) ≡ Err (1, VersionPlace)
 other_version = refl
 
-no_end : obey_article initial (lines 1 (item.Number (pos 6) ∷ [])) (End.ended 2) ≡ Err (2, BadLine)
+no_end : obey_article machine initial (lines 1 (item.Number (pos 6) ∷ [])) (End.ended 2) ≡ Err (2, VersionPlace)
 no_end = refl
 
 -- what `def` keeps, `ref` gives back
@@ -187,7 +186,3 @@ no_number = refl
 
 too_great : content (codes "9223372036854775808") ≡ faulty NumberRange
 too_great = refl
-
--- this version of the bridge refuses the words that it doesn't obey
-word_left_out : restricted_step (record initial { place = body }) (record { line = 3; «item» = w word.Pop }) ≡ Err BadLine
-word_left_out = refl

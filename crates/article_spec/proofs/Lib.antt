@@ -1,1 +1,5 @@
-mod Examples
+pub mod DefinitionRows
+pub mod EdgeCases
+pub mod Examples
+pub mod RuleRows
+pub mod SmallArticles

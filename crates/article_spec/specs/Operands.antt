@@ -4,6 +4,9 @@ use Rattle.std.specs.Prelude.{ℕ, ℤ, List, [], ◌∷◌, Result, Ok, Err}
 use Rattle.hol_spec.specs.Names.{Name}
 use Rattle.hol_spec.specs.Types.{HolType}
 use Rattle.hol_spec.specs.Terms.{Term, Variable}
+use Rattle.hol_spec.specs.Substitution.{TypePairs}
+use Rattle.hol_spec.specs.TermSubstitution.{TermPairs}
+use Rattle.hol_spec.specs.DefinitionLists.{ConstantPairs}
 use Rattle.bridge_base.specs.declared.faults.Kind.{Kind}
 use Rattle.bridge_base.specs.declared.faults.Kind.TheVariants.{StackShort, WrongKind, EmptyList}
 use Rattle.article_spec.specs.State.{Object, Objects, number, name, list, type_operator, type, constant, variable, term, theorem, none, more}
@@ -53,15 +56,36 @@ each as_one (more x xs) = do
   rest ← each as_one xs
   Ok (first ∷ rest)
 
-abbrev pub as_types : Object → Result (List HolType) Kind
-as_types x = do
+-- A list of objects of one kind.
+abbrev pub list_of : {A : Type 0} → (Object → Result A Kind) → Object → Result (List A) Kind
+list_of as_one x = do
   xs ← as_list x
-  each as_type xs
+  each as_one xs
+
+-- A list of two objects, of one kind and another.
+abbrev pub pair_of : {A B : Type 0} → (Object → Result A Kind) → (Object → Result B Kind) → Object → Result (A × B) Kind
+pair_of as_one as_two (list (more x (more y none))) = do
+  first ← as_one x
+  second ← as_two y
+  Ok (first, second)
+pair_of as_one as_two x = Err WrongKind
+
+abbrev pub as_types : Object → Result (List HolType) Kind
+as_types x = list_of as_type x
 
 abbrev pub as_terms : Object → Result (List Term) Kind
-as_terms x = do
-  xs ← as_list x
-  each as_term xs
+as_terms x = list_of as_term x
+
+abbrev pub as_names : Object → Result (List Name) Kind
+as_names x = list_of as_name x
+
+-- What `subst` puts: pairs of a name and a type, then pairs of a variable and a term.
+abbrev pub as_substitution : Object → Result (TypePairs × TermPairs) Kind
+as_substitution x = pair_of (list_of (pair_of as_name as_type)) (list_of (pair_of as_variable as_term)) x
+
+-- The constants of a list, each with the variable for which it is put.
+abbrev pub as_constant_pairs : Object → Result ConstantPairs Kind
+as_constant_pairs x = list_of (pair_of as_name as_variable) x
 
 -- What stands on top, as an object of a kind, and the stack below it.
 abbrev pub pop : {A : Type 0} → (Object → Result A Kind) → List Object → Result (A × List Object) Kind

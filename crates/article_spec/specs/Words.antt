@@ -27,5 +27,19 @@ word_of line =
     else if bytes_eq line (codes "pop") then Some word.Pop
     else if bytes_eq line (codes "pragma") then Some word.Pragma
     else if bytes_eq line (codes "refl") then Some word.Refl
+    else if bytes_eq line (codes "assume") then Some word.Assume
+    else if bytes_eq line (codes "eqMp") then Some word.EqMp
+    else if bytes_eq line (codes "absThm") then Some word.AbsThm
+    else if bytes_eq line (codes "appThm") then Some word.AppThm
+    else if bytes_eq line (codes "deductAntisym") then Some word.DeductAntisym
+    else if bytes_eq line (codes "betaConv") then Some word.BetaConv
+    else if bytes_eq line (codes "sym") then Some word.Sym
+    else if bytes_eq line (codes "trans") then Some word.Trans
+    else if bytes_eq line (codes "proveHyp") then Some word.ProveHyp
+    else if bytes_eq line (codes "subst") then Some word.Subst
+    else if bytes_eq line (codes "defineConst") then Some word.DefineConst
+    else if bytes_eq line (codes "defineConstList") then Some word.DefineConstList
+    else if bytes_eq line (codes "defineTypeOp") then Some word.DefineTypeOp
+    else if bytes_eq line (codes "axiom") then Some word.Axiom
     else if bytes_eq line (codes "thm") then Some word.Thm
     else None

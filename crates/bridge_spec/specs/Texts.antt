@@ -2,10 +2,10 @@
 use Rattle.std.specs.Prelude.{ℕ, ◌++◌, List, map, length, min, sum, codes, decimal}
 use Rattle.bridge_base.specs.declared.faults.Kind.{Kind}
 use Rattle.bridge_base.specs.Kinds.{kind_name, kind_number}
-use Rattle.article_spec.specs.Run.{Accepted}
+use Rattle.hol_spec.specs.Proofs.{Accepted}
 use Rattle.lp_spec.specs.Text.{written}
 use Rattle.lp_spec.specs.Weight.{bound, greatest}
-use Rattle.bridge_spec.specs.Image.{image}
+use Rattle.module_spec.specs.Image.{image}
 use Rattle.bridge_spec.specs.declared.status.Status.{Status}
 use Rattle.bridge_spec.specs.declared.status.Status.TheVariants.{Done, Refused, Usage, ReadFault, WriteFault, Memory}
 
@@ -26,7 +26,8 @@ module_bounds run = map (bound (image run)) (image run)
 abbrev pub module_text : Accepted → List ℕ
 module_text run = written (image run) (module_bounds run)
 
--- what is counted of a run: its exports, the declarations of its module, and the sum of their bounds, as far as a number goes
+-- what is counted of a run: its exports, the declarations of its module, and the sum of the bounds that are printed before them,
+-- as far as a number goes
 pub record Counts : Type 0 where
   pub exports : ℕ
   pub declarations : ℕ

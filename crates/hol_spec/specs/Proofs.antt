@@ -1,11 +1,14 @@
--- What a proof keeps: the symbols that it took and the steps that it made, in order of making.
-use Rattle.std.specs.Prelude.{ℕ, ◌≡◌, ◌<◌, List, [], ◌∷◌, Option, None, Some, map, slice_get, slice_index_or}
+-- A proof: the symbols that it took and the steps that it made, in order of making, each on what was made before it.
+-- Source: HOL Light's kernel.
+use Rattle.std.specs.Prelude.{ℕ, ◌≡◌, List, [], ◌∷◌, ◌++◌, Option, None, Some, map, slice_get, slice_index_or, if◌then◌else◌}
 use Rattle.std.specs.List.{filter_map}
 use Rattle.hol_spec.specs.Terms.{bound}
 use Rattle.hol_spec.specs.Sequents.{Sequent}
-use Rattle.hol_spec.specs.Symbols.{Symbol}
-use Rattle.hol_spec.specs.Rules.{Parameters, Rule}
 use Rattle.hol_spec.specs.Definitions.{Definition}
+use Rattle.hol_spec.specs.Symbols.{Symbol}
+use Rattle.hol_spec.specs.Taking.{Takes}
+use Rattle.hol_spec.specs.Rules.{Parameters}
+use Rattle.hol_spec.specs.Derivations.{infers, Follows}
 use Rattle.hol_spec.specs.declared.StepKind.{StepKind}
 
 -- A step: the rule by which a sequent was made, the numbers of the steps that were its premises, and what else the rule was given.
@@ -34,9 +37,12 @@ symbols_of made = filter_map made_symbol made
 abbrev pub steps_of : List Made → List Step
 steps_of made = filter_map made_step made
 
--- The sequent of a step. Past the last there is none, and what stands here is none.
+-- The sequents of the steps, and that of one. Past the last there is none, and what stands here is none.
+abbrev pub sequents_of : List Made → List Sequent
+sequents_of made = map (λ x. x.sequent) (steps_of made)
+
 abbrev pub sequent_at : List Made → ℕ → Sequent
-sequent_at made i = slice_index_or (map (λ x. x.sequent) (steps_of made)) i (record { hypotheses = []; conclusion = bound 0 })
+sequent_at made i = slice_index_or (sequents_of made) i (record { hypotheses = []; conclusion = bound 0 })
 
 -- The definitions among the symbols.
 abbrev pub symbol_definition : Symbol → Option Definition
@@ -47,19 +53,41 @@ symbol_definition (Symbol.defined d) = Some d
 abbrev pub definitions_of : List Made → List Definition
 definitions_of made = filter_map symbol_definition (symbols_of made)
 
--- The numbers are those of steps before number i, which have these sequents.
-abbrev pub AreEarlier : List Step → ℕ → List ℕ → List Sequent → Type 0
-AreEarlier steps i [] [] = Unit {0}
-AreEarlier steps i (n ∷ ns) (s ∷ ss) = (n < i) × ((x : Step) × (slice_get steps n ≡ Some x) × (x.sequent ≡ s)) × AreEarlier steps i ns ss
-AreEarlier steps i [] (s ∷ ss) = ⊥
-AreEarlier steps i (n ∷ ns) [] = ⊥
+-- The assumptions: the sequents of the steps that infer nothing.
+abbrev pub assumed_by : Step → Option Sequent
+assumed_by x = if infers x.kind then None else Some x.sequent
 
--- Step i is an instance of its rule over earlier steps.
-pub record IsInstance (steps : List Step) (i : ℕ) (x : Step) : Type 0 where
+abbrev pub assumptions_of : List Made → List Sequent
+assumptions_of made = filter_map assumed_by (steps_of made)
+
+-- The steps of these numbers have these sequents.
+abbrev pub ArePremises : List Sequent → List ℕ → List Sequent → Type 0
+ArePremises sequents [] [] = Unit {0}
+ArePremises sequents (n ∷ ns) (s ∷ ss) = (slice_get sequents n ≡ Some s) × ArePremises sequents ns ss
+ArePremises sequents [] (s ∷ ss) = ⊥
+ArePremises sequents (n ∷ ns) [] = ⊥
+
+-- A step follows from what was made before it.
+pub record IsStep (before : List Made) (x : Step) : Type 0 where
   pub premises : List Sequent
-  pub earlier : AreEarlier steps i x.premises premises
-  pub rule : Rule x.kind premises x.parameters x.sequent
+  pub earlier : ArePremises (sequents_of before) x.premises premises
+  pub follows : Follows (definitions_of before) x.kind premises x.parameters x.sequent
 
--- Every step is an instance of its rule over earlier steps.
-abbrev pub IsProof : List Step → Type 0
-IsProof steps = (i : ℕ) (x : Step) → slice_get steps i ≡ Some x → IsInstance steps i x
+-- What is made on what was made before it.
+abbrev pub IsMade : List Made → Made → Type 0
+IsMade before (symbol x) = Takes (symbols_of before) x
+IsMade before (step x) = IsStep before x
+
+-- Where each thing that was made has a property on what was made before it.
+pub data Each (P : List Made → Made → Type 0) : List Made → Type 0 where
+  empty : Each P []
+  more : {made whole : List Made} (x : Made) → Each P made → P made x → whole ≡ made ++ x ∷ [] → Each P whole
+
+abbrev pub IsProof : List Made → Type 0
+IsProof made = Each IsMade made
+
+-- What an accepted run gives: symbols and steps in order of making, and the numbers of the steps that are assumptions and exports.
+pub record Accepted : Type 0 where
+  pub made : List Made
+  pub assumptions : List ℕ
+  pub exports : List ℕ

@@ -1,11 +1,11 @@
 -- Type substitution: every variable is replaced at once by what the first pair of its name gives.
 -- Source: HOL Light's kernel, `type_subst`.
-use Rattle.std.specs.Prelude.{List, Bool, ◌++◌, [], ◌∷◌}
+use Rattle.std.specs.Prelude.{◌≡◌, List, Bool, ◌++◌, [], ◌∷◌, map}
 use Rattle.std.specs.Option.{unwrap_or}
 use Rattle.std.specs.Map.{lookup}
 use Rattle.hol_spec.specs.Names.{Name}
 use Rattle.hol_spec.specs.NameEquality.{name_eq}
-use Rattle.hol_spec.specs.Types.{HolType, HolTypes, variable, operator, none, more, type_eq}
+use Rattle.hol_spec.specs.Types.{HolType, HolTypes, variable, operator, none, more, type_eq, type_variables}
 
 abbrev pub TypePairs : Type 0
 TypePairs = List (Name × HolType)
@@ -39,3 +39,11 @@ abbrev mutual
 -- That it decides whether any substitution gives the type is `is_instance-Decides`.
 abbrev pub is_instance : HolType → HolType → Bool
 is_instance general t = type_eq (substitute (read_off general t) general) t
+
+-- The type that some substitution makes of the general one.
+abbrev pub Instance : HolType → HolType → Type 0
+Instance general t = (pairs : TypePairs) × (substitute pairs general ≡ t)
+
+-- What the type variables of a generic type, in order of first occurrence, have in an instance of it.
+abbrev pub type_arguments : HolType → HolType → List HolType
+type_arguments generic t = map (image (read_off generic t)) (type_variables generic)

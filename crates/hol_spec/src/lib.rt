@@ -1,26 +1,31 @@
 //! What higher-order logic means here, as definitions: its names, types, terms and sequents, its inference
 //! rules, and what derives from what.
 //!
-//! There is no code beyond the types that the definitions speak of, and laws as functions that do nothing. They stand in `specs/`, one notion a file:
+//! There is no code beyond the type `StepKind`, of which definitions speak, and no law: whoever wants to trust what stands
+//! above reads this crate and meets no proof. The definitions stand in `specs/`, one notion a file, to be read in this order:
 //!
 //! | File | Notion |
 //! |---|---|
-//! | `Names` | a name, and the lines of an article that write one |
+//! | `Names`, `NameOf`, `NameEquality` | a name, the lines of an article that write one, and the name that a line writes |
+//! | `Mangling` | the text that stands for a name in the name of a symbol |
+//! | `Lists`, `Repeats` | lists that are read as sets |
 //! | `Types`, `Substitution` | types as trees, their variables; substitution for type variables, instances |
 //! | `Primitives` | the primitive type operators and constants |
-//! | `Terms` | terms as locally nameless trees, and their types |
+//! | `Terms`, `Equations` | terms as locally nameless trees, and their types; the sides of an equation |
 //! | `TermBinding` | lifting, putting and closing: what binders do |
 //! | `TermSubstitution` | substitution in terms: types, then terms for free variables |
 //! | `Sequents` | sequents: sameness, and their parameters |
-//! | `Limits` | size and depth, and the limits on them |
-//! | `ClosedForm` | a sequent up to the names of its parameters |
-//! | `Definitions`, `Symbols` | which constants and operators are taken, and at which generic types |
+//! | `Limits`, `Measures` | size and depth, the limits on them, and what is judged of one thing |
+//! | `ClosedForm`, `Renamings` | a sequent up to the names of its parameters; when a renaming takes one to another |
+//! | `Definitions`, `NewTypes`, `Defining`, `DefinitionLists`, `TypeDefinitions` | what defines a constant, a list of constants, a type operator |
+//! | `Symbols`, `Taking` | which constants and operators are taken, at which generic types and arities, and when one may be taken |
 //! | `Rules`, `Derivations` | the inference rules, and what they derive |
-//! | `Proofs` | what a proof keeps: symbols and steps in order of making |
+//! | `Proofs` | what a proof keeps: symbols and steps in order of making, each on what was made before it |
+//! | `Taken`, `Over` | what is built of the symbols that are taken |
+//! | `BindingStatements`, `ProofStatements` | what is shown of binding, substitution, rules and proofs, as statements |
 //!
-//! Laws that other crates cite stand beside them, in the files whose names end in `Laws`, those of binders also in
-//! `TermRenamings`, `TermClosed`, `TermTyping` and `TermInstances`.
-//! A clause cites a definition by its path:
+//! Laws stand in the crates above: `hol_laws` has those of names, lists, types, terms, binding and typing, `proof_laws` those of rules
+//! and proofs. A clause cites a definition by its path:
 //!
 //! ```text
 //! ghost use Rattle.hol_spec.specs.Terms.{type_of};
@@ -28,43 +33,41 @@
 //! ```
 #![tactic(auto)]
 
-ghost use Rattle.hol_spec.specs.TermInstances.{PutClose};
-ghost use Rattle.hol_spec.specs.TermSubstitutionLaws.{TypeOfSubstitution};
-ghost use Rattle.hol_spec.specs.TermTyping.{LooseTyped, TypeOfAbstraction, TypeOfInstance};
-
 /// The inference rule by which a step of a proof was made.
 #[derive(Clone, Copy, Debug, PartialEq, Eq)]
 pub enum StepKind {
     /// Reflexivity of a term.
     Refl,
+    /// A truth value under itself as the hypothesis.
+    Assume,
+    /// From an equation of truth values and its left side, the right one.
+    EqMp,
+    /// Both sides of an equation under an abstraction.
+    AbsThm,
+    /// Equal functions applied to equal arguments.
+    AppThm,
+    /// Two truth values, each derived from the other, are equal.
+    DeductAntisym,
+    /// One beta step at the root of a term.
+    BetaConv,
+    /// An equation turned round.
+    Sym,
+    /// Two equations in a row.
+    Trans,
+    /// A hypothesis that another theorem proves is left out.
+    ProveHyp,
+    /// Types put for type variables, then terms for free variables.
+    Subst,
+    /// An assumption of the article.
+    Axiom,
     /// An earlier sequent again, with its hypotheses in another order or with further ones.
     Restate,
+    /// A constant equals its definition.
+    DefineConst,
+    /// A theorem about variables, of the constants that the variables' equations define.
+    DefineConstList,
+    /// The new type is a part of the old one: abstraction undoes representation.
+    FirstLaw,
+    /// The part is where the predicate holds.
+    SecondLaw,
 }
-
-/// The law of closing: to put a term for the variable of a binder that closed a free variable is to substitute it for
-/// that variable.
-pub fn put_close()
-    ensures { PutClose }
-{}
-
-/// The law of abstraction: the abstraction that binds a free variable of a term is a function from its type to the
-/// term's, and has no type where the term has none.
-pub fn type_of_abstraction()
-    ensures { TypeOfAbstraction }
-{}
-
-/// The law of instances: the body of an abstraction with an argument of its binder's type put for the variable has the
-/// body's type.
-pub fn type_of_instance()
-    ensures { TypeOfInstance }
-{}
-
-/// The law of substitution: where each term that is put has its variable's type, a term has its type with the types put.
-pub fn type_of_substitution()
-    ensures { TypeOfSubstitution }
-{}
-
-/// The law of loose numbers: a typed term has no number that passes its binders.
-pub fn loose_typed()
-    ensures { LooseTyped }
-{}

@@ -3,9 +3,9 @@ use Rattle.std.proofs.Common.{List}
 use Rattle.lp_spec.specs.Trees.{Tree}
 use Rattle.lp_spec.specs.Modules.{Declaration}
 use Rattle.lp_spec.specs.Conversion.{Steps, done, next, Conv, same, forth, back}
-use Rattle.lp_spec.specs.ConversionLaws.{IsClosed, Steps-trans}
+use Rattle.lp_typing.specs.ConversionLaws.{IsClosed, Steps-trans}
 use Rattle.lp_spec.specs.CalculusLaws.{Confluence}
-use Rattle.lp_spec.specs.WellTypedLaws.{WellTyped-IsClosed}
+use Rattle.lp_typing.specs.WellTypedLaws.{WellTyped-IsClosed}
 use Rattle.lp_laws.proofs.ParallelSteps.{Parallel, Step-Parallel, Parallel-Steps}
 use Rattle.lp_laws.proofs.Developments.{Parallel-developed}
 

@@ -2,10 +2,10 @@
 use Rattle.std.proofs.Common.{◌≡◌, ℕ, suc, zero, refl, sym, ap, subst, List, Option, Some, None}
 use Rattle.std.specs.Prelude.{unwrap_or}
 use Rattle.lp_spec.specs.Trees.{Tree, SortType, SortKind, Var, Sym, App, Lam, Pi, lift, put}
-use Rattle.lp_spec.specs.SubstitutionLaws.{subst2}
+use Rattle.lp_binding.specs.SubstitutionLaws.{subst2}
 use Rattle.lp_spec.specs.Modules.{Declaration, arr_symbol, arr_of, term_of}
 use Rattle.lp_spec.specs.Conversion.{symbol_definition}
-use Rattle.lp_spec.specs.ConversionLaws.{IsClosed}
+use Rattle.lp_typing.specs.ConversionLaws.{IsClosed}
 use Rattle.lp_laws.proofs.ParallelSteps.{Parallel, p_type, p_kind, p_var, p_sym, p_app, p_lam, p_pi, p_beta, p_delta, p_rule, Parallel-refl, Parallel-lift, Parallel-put}
 
 -- which redex an application is

@@ -5,7 +5,7 @@ use Rattle.lp_spec.specs.Trees.{Tree, SortType, Var, Sym, App, Lam, Pi}
 use Rattle.lp_spec.specs.Modules.{Declaration, types, bools, arr_of, term_of}
 use Rattle.lp_spec.specs.Conversion.{delta, beta, rule, app_function, app_argument, pi_domain, Step, Steps, done, next, Conv, same, back}
 use Rattle.lp_spec.specs.Typing.{is_type, Typed, of_variable, of_symbol, of_product, of_abstraction, of_application, IsContext, nothing, entry, WellTyped}
-use Rattle.lp_spec.specs.SignatureForms.{Typed-types, Typed-bools, Typed-term_of}
+use Rattle.lp_typing.specs.SignatureForms.{Typed-types, Typed-bools, Typed-term_of}
 use Rattle.lp_laws.proofs.Confluence.{confluent}
 use Rattle.lp_laws.proofs.InjectiveProducts.{products}
 use Rattle.lp_laws.proofs.SubjectReduction.{kept}

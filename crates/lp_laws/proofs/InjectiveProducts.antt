@@ -3,9 +3,9 @@ use Rattle.std.proofs.Common.{◌≡◌, refl, sym, ap, ◌∙◌, subst, List}
 use Rattle.lp_spec.specs.Trees.{Tree, SortType, Pi}
 use Rattle.lp_spec.specs.Modules.{Declaration}
 use Rattle.lp_spec.specs.Conversion.{pi_domain, pi_body, Steps, done, next, Conv}
-use Rattle.lp_spec.specs.ConversionLaws.{IsClosed, Conv-trans, Conv-sym, Steps-Conv}
+use Rattle.lp_typing.specs.ConversionLaws.{IsClosed, Conv-trans, Conv-sym, Steps-Conv}
 use Rattle.lp_spec.specs.CalculusLaws.{InjectiveProducts}
-use Rattle.lp_spec.specs.WellTypedLaws.{WellTyped-IsClosed}
+use Rattle.lp_typing.specs.WellTypedLaws.{WellTyped-IsClosed}
 use Rattle.lp_laws.proofs.Confluence.{Conv-meet}
 
 -- what a product goes to

@@ -2,11 +2,12 @@
 use Rattle.std.proofs.Common.{◌≡◌, ℕ, zero, suc, sym, ap, ◌∙◌, Some}
 use Rattle.std.specs.Prelude.{List}
 use Rattle.lp_spec.specs.Trees.{Tree, SortType, SortKind, Var, Sym, App, Lam, Pi, lift, put}
-use Rattle.lp_spec.specs.Substitution.{up, ren, ups, sub, cons, put_is}
-use Rattle.lp_spec.specs.SubstitutionLaws.{subst2, ren_closed, sub_closed, ren-put, sub-put, lift_one, ren-lift, sub-lift}
+use Rattle.lp_spec.specs.Substitution.{up, ren, ups, sub, cons}
+use Rattle.lp_binding.specs.Composition.{put_is}
+use Rattle.lp_binding.specs.SubstitutionLaws.{subst2, ren_closed, sub_closed, ren-put, sub-put, lift_one, ren-lift, sub-lift}
 use Rattle.lp_spec.specs.Modules.{Declaration, arr_of, term_of}
 use Rattle.lp_spec.specs.Conversion.{symbol_definition, Step, beta, delta, rule, app_function, app_argument, lam_domain, lam_body, pi_domain, pi_body, Steps, done, next}
-use Rattle.lp_spec.specs.ConversionLaws.{IsClosed, Steps-trans, Steps-under}
+use Rattle.lp_typing.specs.ConversionLaws.{IsClosed, Steps-trans, Steps-under}
 
 -- a step of any redexes of a tree at once
 pub data Parallel (m : List Declaration) : Tree → Tree → Type 0 where

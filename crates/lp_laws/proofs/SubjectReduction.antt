@@ -1,17 +1,17 @@
 -- A step keeps the type: by cases on the step, with the inversion of typing and the injectivity of products.
 use Rattle.std.proofs.Common.{◌≡◌, refl, sym, ◌∙◌, subst, ℕ, List, Some}
-use Rattle.lp_spec.specs.LookUps.{some_is}
+use Rattle.lp_binding.specs.LookUps.{some_is}
 use Rattle.lp_spec.specs.Trees.{Tree, SortType, Sym, App, Pi, put}
 use Rattle.lp_spec.specs.Modules.{Declaration, types, symbol_type}
 use Rattle.lp_spec.specs.Conversion.{Step, beta, delta, rule, app_function, app_argument, lam_domain, lam_body, pi_domain, pi_body, Conv, same, forth, back}
-use Rattle.lp_spec.specs.ConversionLaws.{IsClosed, Conv-sym, Conv-put, Steps-Conv}
+use Rattle.lp_typing.specs.ConversionLaws.{IsClosed, Conv-sym, Conv-put, Steps-Conv}
 use Rattle.lp_spec.specs.Typing.{is_type, Typed, of_product, of_abstraction, of_application, of_conversion, IsContext, entry}
-use Rattle.lp_spec.specs.TypingLaws.{weaken, Typed-anywhere, Typed-put, Typed-entry}
-use Rattle.lp_spec.specs.Inversion.{Fits, Fits-Conv, Fits-before, Typed-Fits, Typed-Pi, Typed-Lam, Typed-App, Typed-Sym}
-use Rattle.lp_spec.specs.Regularity.{IsSorted-codomain}
-use Rattle.lp_spec.specs.SignatureForms.{Typed-types, Typed-term_of}
-use Rattle.lp_spec.specs.Soundness.{IsSound, IsSound-closed, symbol_type-closed, symbol_definition-typed}
-use Rattle.lp_spec.specs.WellTypedLaws.{WellTyped-IsSound}
+use Rattle.lp_typing.specs.TypingLaws.{weaken, Typed-anywhere, Typed-put, Typed-entry}
+use Rattle.lp_typing.specs.Inversion.{Fits, Fits-Conv, Fits-before, Typed-Fits, Typed-Pi, Typed-Lam, Typed-App, Typed-Sym}
+use Rattle.lp_typing.specs.Regularity.{IsSorted-codomain}
+use Rattle.lp_typing.specs.SignatureForms.{Typed-types, Typed-term_of}
+use Rattle.lp_typing.specs.Soundness.{IsSound, IsSound-closed, symbol_type-closed, symbol_definition-typed}
+use Rattle.lp_typing.specs.WellTypedLaws.{WellTyped-IsSound}
 use Rattle.lp_spec.specs.CalculusLaws.{TypingKept}
 use Rattle.lp_laws.proofs.ParallelSteps.{Parallel-refl, Step-Parallel, Parallel-put, Parallel-Steps}
 use Rattle.lp_laws.proofs.InjectiveProducts.{Conv-Pi}

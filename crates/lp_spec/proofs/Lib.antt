@@ -1,3 +1,3 @@
 mod Examples
 mod ReadingExamples
-pub mod TypingExamples
+mod TypingExamples

@@ -6,10 +6,6 @@ use Rattle.lp_spec.specs.Modules.{Declaration, symbol, types, bools, arr_of, ter
 use Rattle.lp_spec.specs.Lemmas.{theorem}
 use Rattle.lp_spec.specs.Conversion.{symbol_definition, Step, beta, delta, rule, app_argument, pi_domain, Conv, same, forth, back}
 use Rattle.lp_spec.specs.Typing.{is_type, Typed, of_variable, of_symbol, of_application, of_conversion, IsBodyOf, IsTypedAfter, WellTyped}
-use Rattle.lp_spec.specs.ConversionLaws.{IsClosed}
-use Rattle.lp_spec.specs.SignatureForms.{Typed-types, Typed-bools, Typed-term_of, Typed-proof_of, Typed-eq_of}
-use Rattle.lp_spec.specs.Telescopes.{IsTypedAfter-theorem}
-use Rattle.lp_spec.specs.WellTypedLaws.{WellTyped-IsClosed}
 
 -- def y : type := bool
 abbrev y : Declaration
@@ -57,36 +53,20 @@ nothing_declared = tt {0}
 
 -- y is a definition of the right type
 y_typed : IsTypedAfter [] y
-y_typed = record { ty = Typed-types []; body = Typed-bools [] }
+y_typed = record { ty = of_symbol refl; body = of_symbol refl }
 
 -- so the module of y is well typed
 y_declared : WellTyped (y ∷ [])
 y_declared = (y_typed, tt {0})
 
 -- in a context with p of type bool, `refl bool p` proves `eq bool p p`
-p_is_p : (m : List Declaration) → IsClosed m → Typed m (term_of bools ∷ []) (refl_of bools (Var 0)) (proof_of (eq_of bools (Var 0) (Var 0)))
-p_is_p m closed = of_application (of_application (of_symbol refl) (Typed-bools m) refl) (of_variable refl refl) refl
-
--- so the theorem that each p equals itself is typed after y, and so is its like with y for bool in its type
-reflexivity : Declaration
-reflexivity = theorem (codes "T") (term_of bools ∷ []) (proof_of (eq_of bools (Var 0) (Var 0))) (refl_of bools (Var 0))
-
--- the theorem is typed over every closed module
-reflexivity_typed : (m : List Declaration) → IsClosed m → IsTypedAfter m reflexivity
-unfolding reflexivity
-reflexivity_typed m closed =
-    IsTypedAfter-theorem m (codes "T") (term_of bools ∷ []) (proof_of (eq_of bools (Var 0) (Var 0))) (refl_of bools (Var 0)) (Typed-term_of m (Typed-bools m), tt {0})
-    (Typed-proof_of m (Typed-eq_of m closed (Typed-bools m) (of_variable refl refl) (of_variable refl refl))) (p_is_p m closed)
-
--- so the module of y and the theorem is well typed
-reflexivity_declared : WellTyped (y ∷ reflexivity ∷ [])
-unfolding reflexivity
-reflexivity_declared = (y_typed, (reflexivity_typed (y ∷ []) (WellTyped-IsClosed (y ∷ []) y_declared), tt {0}))
+p_is_p : (m : List Declaration) → Typed m (term_of bools ∷ []) (refl_of bools (Var 0)) (proof_of (eq_of bools (Var 0) (Var 0)))
+p_is_p m = of_application (of_application (of_symbol refl) (of_symbol refl) refl) (of_variable refl refl) refl
 
 -- a variable of type y is of type bool
 y_is_bool : Typed (y ∷ []) (term_of first ∷ []) (Var 0) (term_of bools)
 y_is_bool =
-    of_conversion {A = term_of first} (of_variable refl refl) (forth (app_argument y_unfolds) same) (Typed-term_of (y ∷ []) (Typed-bools (y ∷ []))) is_type
+    of_conversion {A = term_of first} (of_variable refl refl) (forth (app_argument y_unfolds) same) (of_application (of_symbol refl) (of_symbol refl) refl) is_type
 
 -- a definition without a body is no declaration
 bodiless : IsBodyOf [] Def None types → ⊥

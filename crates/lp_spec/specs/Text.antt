@@ -1,27 +1,46 @@
 -- The one text of a module, in Dedukti's syntax: how it is written.
 use Rattle.std.specs.Prelude.{ℕ, suc, ◌-◌, Bool, true, false, not, if◌then◌else◌, List, [], ◌∷◌, ◌++◌, Option, Some, None, codes, decimal}
+use Rattle.std.specs.List.{flat_map}
 use Rattle.lp_spec.specs.declared.form.Form.{Form}
 use Rattle.lp_spec.specs.declared.form.Form.TheVariants.{Symbol, Def, Thm}
 use Rattle.lp_spec.specs.Trees.{Tree, SortType, SortKind, Var, Sym, App, Lam, Pi}
 use Rattle.lp_spec.specs.Modules.{Declaration, symbol_name}
 
--- the bytes with which every module begins, which declare its signature
+-- A line of the prelude. It declares a symbol, given by its name and what stands behind the name, or a symbol that a rule rewrites; or
+-- it is the rule, given by its two sides, over the variables a and b.
+pub data Line : Type 0 where
+  SymbolLine : List ℕ → List ℕ → Line
+  RewrittenLine : List ℕ → List ℕ → Line
+  RuleLine : List ℕ → List ℕ → Line
+
+-- the bytes of a line
+abbrev pub line_text : Line → List ℕ
+line_text (SymbolLine name rest) = name ++ rest ++ codes "\n"
+line_text (RewrittenLine name rest) = codes "def " ++ name ++ rest ++ codes "\n"
+line_text (RuleLine left right) = codes "[a, b] " ++ left ++ codes " --> " ++ right ++ codes ".\n"
+
+-- the lines with which every module begins: they declare its signature, and its rewriting rule stands for that of conversion
+abbrev pub prelude_lines : List Line
+prelude_lines =
+    SymbolLine (codes "type") (codes " : Type.")
+    ∷ SymbolLine (codes "bool") (codes " : type.")
+    ∷ SymbolLine (codes "ind") (codes " : type.")
+    ∷ SymbolLine (codes "arr") (codes " : type -> type -> type.")
+    ∷ RewrittenLine (codes "term") (codes " : type -> Type.")
+    ∷ RuleLine (codes "term (arr a b)") (codes "term a -> term b")
+    ∷ SymbolLine (codes "eq") (codes " : a : type -> term (arr a (arr a bool)).")
+    ∷ SymbolLine (codes "select") (codes " : a : type -> term (arr (arr a bool) a).")
+    ∷ SymbolLine (codes "proof") (codes " : term bool -> Type.")
+    ∷ SymbolLine (codes "refl") (codes " : a : type -> x : term a -> proof (eq a x x).")
+    ∷ SymbolLine (codes "fun_ext") (codes " : a : type -> b : type -> f : term (arr a b) -> g : term (arr a b) -> (x : term a -> proof (eq b (f x) (g x))) -> proof (eq (arr a b) f g).")
+    ∷ SymbolLine (codes "app_thm") (codes " : a : type -> b : type -> f : term (arr a b) -> g : term (arr a b) -> x : term a -> y : term a -> proof (eq (arr a b) f g) -> proof (eq a x y) -> proof (eq b (f x) (g y)).")
+    ∷ SymbolLine (codes "prop_ext") (codes " : p : term bool -> q : term bool -> (proof p -> proof q) -> (proof q -> proof p) -> proof (eq bool p q).")
+    ∷ SymbolLine (codes "eq_mp") (codes " : p : term bool -> q : term bool -> proof (eq bool p q) -> proof p -> proof q.")
+    ∷ []
+
+-- the bytes with which every module begins
 abbrev pub prelude : List ℕ
-prelude =
-    codes "type : Type.\n"
-    ++ codes "bool : type.\n"
-    ++ codes "ind : type.\n"
-    ++ codes "arr : type -> type -> type.\n"
-    ++ codes "def term : type -> Type.\n"
-    ++ codes "[a, b] term (arr a b) --> term a -> term b.\n"
-    ++ codes "eq : a : type -> term (arr a (arr a bool)).\n"
-    ++ codes "select : a : type -> term (arr (arr a bool) a).\n"
-    ++ codes "proof : term bool -> Type.\n"
-    ++ codes "refl : a : type -> x : term a -> proof (eq a x x).\n"
-    ++ codes "fun_ext : a : type -> b : type -> f : term (arr a b) -> g : term (arr a b) -> (x : term a -> proof (eq b (f x) (g x))) -> proof (eq (arr a b) f g).\n"
-    ++ codes "app_thm : a : type -> b : type -> f : term (arr a b) -> g : term (arr a b) -> x : term a -> y : term a -> proof (eq (arr a b) f g) -> proof (eq a x y) -> proof (eq b (f x) (g y)).\n"
-    ++ codes "prop_ext : p : term bool -> q : term bool -> (proof p -> proof q) -> (proof q -> proof p) -> proof (eq bool p q).\n"
-    ++ codes "eq_mp : p : term bool -> q : term bool -> proof (eq bool p q) -> proof p -> proof q.\n"
+prelude = flat_map line_text prelude_lines
 
 abbrev pub is_binder : Tree → Bool
 is_binder (Lam a b) = true

@@ -1,7 +1,8 @@
 -- A code of trees, by which a proof tells them apart: the tree in postfix order, and a stack that reads it back.
 use Rattle.std.specs.Prelude.{◌≡◌, ℕ, zero, suc, List, [], ◌∷◌, ◌++◌, refl}
 use Rattle.std.specs.Coded.{Coded, code_by, coded×, coded_ℕ, coded_list}
-use Rattle.std.proofs.Common.{◌∙◌, ap, append_assoc}
+use Rattle.std.proofs.Common.{◌∙◌, ap, sym, append_assoc}
+use Rattle.std.proofs.lemmas.List.{append-nil}
 use Rattle.lp_spec.specs.Trees.{Tree, SortType, SortKind, Var, Sym, App, Lam, Pi}
 
 abbrev pub tokens : Tree → List (ℕ × ℕ)
@@ -53,11 +54,7 @@ read_back (Pi f x) ts s =
     ∙ ap (λ l. tokens_on l (f ∷ s)) (append_assoc (tokens x) ((6, 0) ∷ []) ts) ∙ read_back x ((6, 0) ∷ ts) (f ∷ s)
 
 pub from_tokens_back : (t : Tree) → from_tokens (tokens t) ≡ t
-from_tokens_back t = ap (λ l. from_tokens l) (none (tokens t)) ∙ ap first_tree (read_back t [] [])
-  where
-    none : (l : List (ℕ × ℕ)) → l ≡ l ++ []
-    none [] = refl
-    none (x ∷ l) = ap (λ r. x ∷ r) (none l)
+from_tokens_back t = ap (λ l. from_tokens l) (sym (append-nil (tokens t))) ∙ ap first_tree (read_back t [] [])
 
 abbrev pub coded_tree : Coded Tree
 coded_tree = code_by (List (ℕ × ℕ)) (coded_list (coded× coded_ℕ coded_ℕ)) tokens from_tokens from_tokens_back

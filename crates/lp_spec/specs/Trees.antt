@@ -1,6 +1,6 @@
 -- Trees of the lambda-Pi calculus, with numbers for bound variables (de Bruijn, 1972).
 -- A variable's number counts the binders between it and its own; one that passes all binders of the tree is loose.
-use Rattle.std.specs.Prelude.{ℕ, suc, ◌+◌, ◌-◌, nat_lt, nat_eq, max, if◌then◌else◌, List, length, reverse, slice_get}
+use Rattle.std.specs.Prelude.{ℕ, suc, ◌+◌, ◌-◌, nat_lt, nat_eq, max, Bool, true, false, ◌&&◌, if◌then◌else◌, List, length, reverse, slice_get}
 use Rattle.std.specs.Option.{option_map_or}
 
 pub data Tree : Type 0 where
@@ -97,3 +97,14 @@ loose (Sym s) = 0
 loose (App f x) = max (loose f) (loose x)
 loose (Lam a b) = max (loose a) (loose b - 1)
 loose (Pi a b) = max (loose a) (loose b - 1)
+
+-- whether two trees are one
+abbrev pub tree_eq : Tree → Tree → Bool
+tree_eq SortType SortType = true
+tree_eq SortKind SortKind = true
+tree_eq (Var n) (Var m) = nat_eq n m
+tree_eq (Sym s) (Sym r) = nat_eq s r
+tree_eq (App f x) (App g y) = tree_eq f g && tree_eq x y
+tree_eq (Lam a b) (Lam c d) = tree_eq a c && tree_eq b d
+tree_eq (Pi a b) (Pi c d) = tree_eq a c && tree_eq b d
+tree_eq _ _ = false

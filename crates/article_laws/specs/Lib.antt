@@ -1,0 +1,14 @@
+pub mod LineLaws
+pub mod NoPhantoms
+pub mod ReadingLaws
+pub mod RunLaws
+pub mod SoundBuilding
+pub mod SoundDefining
+pub mod SoundInference
+pub mod SoundInputs
+pub mod SoundOperands
+pub mod SoundStates
+pub mod SoundStating
+pub mod SoundSteps
+pub mod Soundness
+pub mod StateLaws

@@ -1,0 +1,31 @@
+//! Laws of articles and of runs, over the definitions of `article_spec`.
+//!
+//! There is no code: what is shown beyond lemmas is a function that does nothing, whose contract is the law.
+//!
+//! | File | Laws of |
+//! |---|---|
+//! | `LineLaws`, `ReadingLaws` | each text has exactly one reading as the lines of an article |
+//! | `RunLaws` | each list of articles has exactly one outcome, by whatever way they are obeyed |
+//! | `Soundness` | what is true of every state of a run |
+//! | `SoundStates`, `SoundOperands`, `SoundInputs`, `SoundBuilding`, `SoundInference`, `SoundDefining`, `SoundStating`, `SoundSteps` | each word keeps it, so that all that a run says derives |
+//! | `NoPhantoms` | the refusal of a term without a type never comes |
+//! | `StateLaws` | the codes of objects and states, for models whose values they are |
+#![tactic(auto)]
+
+ghost use Rattle.article_spec.specs.Outcomes.{OneOutcome, RefusalsStay};
+ghost use Rattle.article_spec.specs.SoundRuns.{RunsAreSound};
+
+/// The law of outcomes: whatever way articles are obeyed, every list of them has exactly one outcome.
+pub fn one_outcome()
+    ensures { OneOutcome }
+{}
+
+/// The law of refusals: one depends on the articles up to the refused one alone.
+pub fn refusals_stay()
+    ensures { RefusalsStay }
+{}
+
+/// The law of runs: what an accepted run made is a proof over what is taken and within the limits, and all that it says derives.
+pub fn runs_are_sound()
+    ensures { RunsAreSound }
+{}

@@ -1,0 +1,40 @@
+-- What commands change in a state: the stack, the symbols that are taken, and one more step.
+-- Source: the OpenTheory article file format, version 6, "The Virtual Machine".
+use Rattle.std.specs.Prelude.{ℕ, List, [], ◌∷◌, ◌++◌, map, length, Option, Result, Ok}
+use Rattle.std.specs.List.{find}
+use Rattle.hol_spec.specs.Sequents.{Sequent, same}
+use Rattle.bridge_base.specs.declared.faults.Kind.{Kind}
+use Rattle.hol_spec.specs.Symbols.{Symbol}
+use Rattle.hol_spec.specs.Proofs.{Made, Step, steps_of, sequent_at}
+use Rattle.article_spec.specs.State.{Object, theorem, State}
+use Rattle.article_spec.specs.Results.{◌>>◌}
+use Rattle.article_spec.specs.Conditions.{sequent_in_limits}
+
+-- the state with another stack
+abbrev pub with_stack : State → List Object → State
+with_stack s stack = record s { stack = stack }
+
+-- the state with these symbols taken
+abbrev pub with_symbols : State → List Symbol → State
+with_symbols s symbols = record s { made = s.made ++ map Made.symbol symbols }
+
+-- the state with one step more, and the number that the step has
+abbrev pub with_step : State → Step → State
+with_step s x = record s { made = s.made ++ Made.step x ∷ [] }
+
+abbrev pub next_step : State → ℕ
+next_step s = length (steps_of s.made)
+
+-- the state with one step more, whose theorem is on top of the stack
+abbrev pub with_theorem : State → Step → State
+with_theorem s x = with_step (with_stack s (theorem (next_step s) ∷ s.stack)) x
+
+-- A step is made where its sequent is within the limits.
+abbrev pub conclude : State → Step → Result State Kind
+conclude s x = do
+  sequent_in_limits x.sequent
+  Ok (with_theorem s x)
+
+-- the first of these steps with the same sequent
+abbrev pub first_same : State → List ℕ → Sequent → Option ℕ
+first_same s steps sequent = find (λ i. same (sequent_at s.made i) sequent) steps

@@ -1,2 +1,0 @@
-mod EncExamples
-pub mod Examples

@@ -1,0 +1,60 @@
+-- What the one call of the program promises.
+use Rattle.std.specs.Prelude.{◌≡◌, ◌≤◌, ◌⊎◌, IsTrue, None, is_some}
+use Rattle.hol_spec.specs.Proofs.{Accepted}
+use Rattle.article_spec.specs.Run.{Outcome, accepted}
+use Rattle.bridge_spec.specs.Calls.{Shelved, Sunk, Call}
+use Rattle.bridge_spec.specs.Answers.{HasOutcome, answer_of, ReadFailed}
+use Rattle.bridge_spec.specs.Outputs.{Failed, Outputs}
+use Rattle.module_spec.specs.Image.{image}
+use Rattle.module_spec.specs.Stands.{Stands}
+use Rattle.bridge_spec.specs.declared.status.Status.{Status}
+use Rattle.bridge_spec.specs.declared.status.Status.TheVariants.{Done, Refused, Usage, ReadFault, WriteFault, Memory}
+
+-- the shelf tells its files, and didn't fail
+pub record ReadWell (shelf : Shelved) : Type 0 where
+  pub tells : IsTrue (is_some shelf.told_before)
+  pub no_fault : ReadFailed shelf → ⊥
+
+-- the fact holds, want of memory and a failing write aside
+abbrev pub Aside : Status → Type 0 → Type 0
+Aside Done fact = fact
+Aside (Refused article line kind) fact = fact
+Aside Usage fact = fact
+Aside ReadFault fact = fact
+Aside WriteFault fact = Unit {0}
+Aside Memory fact = Unit {0}
+
+-- standard output is as before at every answer but Done and a write fault
+abbrev pub KeepsOut : Status → Sunk → Type 0
+KeepsOut Done out = Unit {0}
+KeepsOut (Refused article line kind) out = out.got ≡ out.got_before
+KeepsOut Usage out = out.got ≡ out.got_before
+KeepsOut ReadFault out = out.got ≡ out.got_before
+KeepsOut WriteFault out = Unit {0}
+KeepsOut Memory out = out.got ≡ out.got_before
+
+pub record Promise (call : Call) (result : Status) : Type 0 where
+  -- Each answer comes only by its cause, and the sinks gain its texts, at Done the module of an accepted run of the files and its
+  -- counts; or a failing write replaced it.
+  pub outputs : Outputs call result
+  -- Where the shelf tells its files and didn't fail, the answer is that of their run.
+  pub exact : ReadWell call.shelf → (outcome : Outcome) → HasOutcome call outcome → Aside result (result ≡ answer_of outcome)
+  -- The module of an accepted run of the files is well typed, leaves unproved only what is allowed, and its exports are those of
+  -- the run, in order.
+  pub stands : (run : Accepted) → HasOutcome call (accepted run) → Stands (image run) run
+  -- Words that are no form are answered with Usage ..
+  pub usage : call.form ≡ None → Aside result (result ≡ Usage)
+  -- .. and no others.
+  pub usage_alone : result ≡ Usage → call.form ≡ None
+  -- A read fault is answered only where the shelf failed.
+  pub read_fault : result ≡ ReadFault → ReadFailed call.shelf
+  -- A write fault is answered only where standard output or standard error failed.
+  pub write_fault : result ≡ WriteFault → Failed call.out ⊎ Failed call.note
+  -- Standard output is as before, but at Done and at a write fault.
+  pub out_kept : KeepsOut result call.out
+  -- The shelf tells the same files as before.
+  pub told_kept : call.shelf.told ≡ call.shelf.told_before
+  -- No count of faults falls.
+  pub shelf_count : call.shelf.faults_before ≤ call.shelf.faults
+  pub out_count : call.out.faults_before ≤ call.out.faults
+  pub note_count : call.note.faults_before ≤ call.note.faults

@@ -1,5 +1,0 @@
-use Rattle.hol_spec.specs.TermInstances.{put-close}
-use Rattle.hol_spec.proofs.put_close.Goals as goal
-
-pub returns : goal.returns
-returns c = put-close

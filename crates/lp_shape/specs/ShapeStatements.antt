@@ -1,0 +1,17 @@
+-- What is shown of checks and of shapes, as statements.
+use Rattle.std.specs.Prelude.{◌*◌, List, []}
+use Rattle.lp_spec.specs.Modules.{Declaration}
+use Rattle.lp_spec.specs.Typing.{WellTyped}
+use Rattle.lp_spec.specs.Weight.{weight}
+use Rattle.lp_typing.specs.ConversionLaws.{IsClosed}
+use Rattle.lp_shape.specs.Check.{declaration_plan}
+use Rattle.lp_shape.specs.Shaped.{IsShaped}
+use Rattle.lp_shape.specs.ShapedPasses.{Passes, AreShaped}
+
+-- The check of a shaped declaration says yes at a price of at most 64 times the square of its weight.
+abbrev pub ShapedPass : Type 0
+ShapedPass = (m : List Declaration) (closed : IsClosed m) (d : Declaration) → IsShaped m d → Passes m closed (declaration_plan d) d.ty (64 * (weight m d * weight m d))
+
+-- A module of shaped declarations is well typed.
+abbrev pub ShapedTyped : Type 0
+ShapedTyped = (m : List Declaration) → AreShaped [] m → WellTyped m

@@ -1,0 +1,35 @@
+//! Which declarations come from higher-order logic, how they are checked, and why a check that says yes may be believed.
+//!
+//! There is no code. `HeadSteps` and `Check` define the directed rules of typing with the price of each answer, `Shaped` the shapes of the
+//! declarations that translation makes; the other files have laws. What is shown beyond lemmas is a function that does nothing, whose
+//! contract is the law.
+//!
+//! | File | What it has |
+//! |---|---|
+//! | `HeadSteps` | the head step of a tree |
+//! | `Check` | the directed rules as plans of questions, how they end, and at which price |
+//! | `Shaped` | the shapes of types, terms and proofs that come from higher-order logic |
+//! | `HeadStepLaws`, `CheckLaws`, `PlanLaws`, `CheckerLaw` | a head step is a chain of conversion; a check has one answer and one price; what passes is typed |
+//! | `Sizes`, `Found`, `SizedTerms`, `TermPrice`, `DeclaredPrice`, `ProofPrice`, `LawPrice` | what the rules find of shaped trees, and at which price |
+//! | `ShapedCalls`, `ShapedRows`, `ShapedPasses` | a shaped declaration passes within 64 times the square of its weight, and a shaped module is well typed |
+//! | `FastCheck`, `ClosedTrees` | a check without rechecks of sorts; what is found of closed trees owes nothing to the context |
+//! | `ShapeStatements` | the statements of the functions below |
+#![tactic(auto)]
+
+ghost use Rattle.lp_shape.specs.CheckerLaw.{CheckerLaw};
+ghost use Rattle.lp_shape.specs.ShapeStatements.{ShapedPass, ShapedTyped};
+
+/// The checker's law: a module whose declarations pass, each over those before it, is well typed.
+pub fn checker_law()
+    ensures { CheckerLaw }
+{}
+
+/// The check of a shaped declaration says yes at a price of at most 64 times the square of its weight.
+pub fn shaped_pass()
+    ensures { ShapedPass }
+{}
+
+/// A module of shaped declarations is well typed.
+pub fn shaped_typed()
+    ensures { ShapedTyped }
+{}

@@ -1,0 +1,11 @@
+pub mod ConversionLaws
+pub mod Inversion
+pub mod LemmasLaws
+pub mod Regularity
+pub mod SignatureCalls
+pub mod SignatureForms
+pub mod SignatureLaws
+pub mod Soundness
+pub mod Telescopes
+pub mod TypingLaws
+pub mod WellTypedLaws

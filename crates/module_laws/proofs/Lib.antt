@@ -1,0 +1,3 @@
+mod ItemExamples
+mod LawExamples
+mod ShapeExamples

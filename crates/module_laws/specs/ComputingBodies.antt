@@ -1,0 +1,66 @@
+-- The bodies of betaConv, defineConst and defineConstList are typed: reflexivity proves an equation whose sides compute to one.
+use Rattle.std.proofs.Common.{◌≡◌, List, [], map, Some, refl, sym, ap, subst, ◌∙◌}
+use Rattle.std.specs.List.{AllByRecursion}
+use Rattle.hol_spec.specs.Names.{Name}
+use Rattle.hol_spec.specs.Types.{HolType, type_variables}
+use Rattle.hol_spec.specs.Substitution.{image, Instance, type_arguments}
+use Rattle.hol_laws.specs.TermInstances.{substitute-nothing}
+use Rattle.hol_spec.specs.Terms.{Term, free, bound, constant, app, lam, Variable, HasType, equation, type_variable_places, free_places}
+use Rattle.hol_spec.specs.TermSubstitution.{TermPairs, term_image, sub}
+use Rattle.lp_binding.specs.Composition.{ap2, sub_var}
+use Rattle.lp_spec.specs.Substitution.{ups, cons}
+use Rattle.lp_spec.specs.Modules.{Declaration}
+use Rattle.lp_spec.specs.Conversion.{symbol_definition}
+use Rattle.hol_spec.specs.Lists.{IsIn}
+use Rattle.hol_laws.specs.Members.{All-left, All-right, map-twice}
+use Rattle.hol_laws.specs.GenericInstances.{type_arguments-filled_in, substitute-is}
+use Rattle.module_spec.specs.Scopes.{Symbols, type_tree, Scope, constant_symbol, generic_type}
+use Rattle.module_laws.specs.ScopeTyping.{DeclaresConstant, ConstantOver, TypeOver, TermOver}
+use Rattle.module_spec.specs.Items.{definition_tree}
+
+-- the module has this definition of a constant: its term is closed, and its type variables are those of its type
+pub record IsDefinition (m : List Declaration) (symbols : Symbols) (n : Name) (a : HolType) (t : Term) : Type 0 where
+  pub generic : generic_type symbols n ≡ a
+  pub definition : symbol_definition m (constant_symbol symbols n) ≡ Some (definition_tree symbols a t)
+  pub typed : HasType t a
+  pub over : TermOver m symbols t
+  pub no_free : AllByRecursion (λ v. ⊥) (free_places t)
+  pub type_variables : AllByRecursion (IsIn (type_variables a)) (type_variable_places t)
+
+-- a closed term stays where no type is put
+pub sub-closed : (terms : TermPairs) (t : Term) → AllByRecursion (λ v. ⊥) (free_places t) → sub [] terms t ≡ t
+sub-closed terms (free n t) h = absurd h.0
+sub-closed terms (bound k) h = refl
+sub-closed terms (constant n t) h = ap (constant n) (substitute-nothing t)
+sub-closed terms (app f x) h = ap2 app (sub-closed terms f (All-left (λ v. ⊥) (free_places f) (free_places x) h)) (sub-closed terms x (All-right (λ v. ⊥) (free_places f) (free_places x) h))
+sub-closed terms (lam t b) h = ap2 lam (substitute-nothing t) (sub-closed terms b h)
+
+-- the constant of a definition is over the symbols
+pub constant-over : (m : List Declaration) (symbols : Symbols) (n : Name) (a : HolType) (t : Term) → DeclaresConstant m symbols n → IsDefinition m symbols n a t → TypeOver m symbols a → ConstantOver m symbols n a
+constant-over m symbols n a t declared d o = record { declared = declared; instance = subst (λ g. Instance g a) (sym d.generic) ([], substitute-nothing a); ty = o }
+
+module _ (m : List Declaration) (symbols : Symbols) (scope : Scope) (n : Name) (a : HolType) (t : Term) (d : IsDefinition m symbols n a t) where
+  pub own_arguments : map (type_tree symbols scope.types) (type_arguments (generic_type symbols n) a) ≡ map scope.types (type_variables a)
+  own_arguments =
+      ap (λ g. map (type_tree symbols scope.types) (type_arguments g a)) d.generic
+      ∙ ap (λ u. map (type_tree symbols scope.types) (type_arguments a u)) (sym (substitute-nothing a) ∙ substitute-is [] a)
+      ∙ ap (map (type_tree symbols scope.types)) (type_arguments-filled_in (image []) a)
+      ∙ map-twice (type_tree symbols scope.types) (image []) (type_variables a)
+
+-- a hypothesis of the premise is the defining equation of a constant that stands for its variable
+pub record DefinesConstant (m : List Declaration) (symbols : Symbols) (terms : TermPairs) (h : Term) : Type 0 where
+  pub name : Name
+  pub variable : Variable
+  pub term : Term
+  pub is : h ≡ equation variable.1 (free variable.0 variable.1) term
+  pub image : term_image terms variable ≡ constant name variable.1
+  pub declared : DeclaresConstant m symbols name
+  pub definition : IsDefinition m symbols name variable.1 term
+
+-- a constant that is defined stands for a variable
+pub record StandsForVariable (m : List Declaration) (symbols : Symbols) (terms : TermPairs) (v : Variable) : Type 0 where
+  pub name : Name
+  pub term : Term
+  pub image : term_image terms v ≡ constant name v.1
+  pub declared : DeclaresConstant m symbols name
+  pub definition : IsDefinition m symbols name v.1 term

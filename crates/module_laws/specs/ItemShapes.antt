@@ -1,0 +1,162 @@
+-- THE MODULE IS SHAPED: by induction on its items, each declaration is shaped over those before it.
+use Rattle.std.proofs.Common.{◌≡◌, inl, ℕ, zero, suc, ◌+◌, List, [], ◌∷◌, ◌++◌, append_assoc, map, length, false, Some, refl, sym, ap, subst, ◌∙◌, arith}
+use Rattle.std.specs.Prelude.{replicate}
+use Rattle.std.specs.List.{AllByRecursion}
+use Rattle.std.proofs.lemmas.List.{append-nil, length-append}
+use Rattle.hol_spec.specs.Names.{Name}
+use Rattle.hol_spec.specs.Types.{HolType, type_variables}
+use Rattle.hol_spec.specs.Terms.{Term, HasType}
+use Rattle.lp_spec.specs.Trees.{Tree, Sym, App}
+use Rattle.lp_spec.specs.Modules.{Declaration, signature, symbol_declaration, products, abstractions, types, bools, arr_of, term_of, proof_of, eq_of, eq_symbol}
+use Rattle.lp_binding.specs.Composition.{lift_zero}
+use Rattle.lp_spec.specs.Lemmas.{lemmas, trans_lemma, trans_proof}
+use Rattle.lp_typing.specs.LemmasLaws.{lemmas_typed}
+use Rattle.lp_typing.specs.ConversionLaws.{IsClosed, symbol_type-append}
+use Rattle.lp_spec.specs.Typing.{WellTyped}
+use Rattle.lp_typing.specs.Soundness.{IsSound, IsSound-closed, IsSound-after}
+use Rattle.lp_typing.specs.WellTypedLaws.{WellTyped-IsSound}
+use Rattle.lp_typing.specs.Telescopes.{under}
+use Rattle.lp_shape.specs.Shaped.{type_variable, constant, at_type, IsSimple, IsTerm, of_entry, of_constant, of_function, IsDeclared, of_types, of_terms, of_proofs, of_products, near_same, IsProof, hypothesis, under_binder, IsDefinition, defined, under_type, IsShaped}
+use Rattle.lp_shape.specs.ShapedCalls.{shaped-equation, shaped-refl, shaped-app_thm, shaped-eq_mp, sym_lemma-shaped}
+use Rattle.lp_shape.specs.ShapedPasses.{AreShaped}
+use Rattle.hol_laws.specs.Members.{All-append, All-weaker}
+use Rattle.module_spec.specs.Scopes.{Symbols, generic_tree, under_types, unfilled, filled, domains_of}
+use Rattle.module_laws.specs.ScopeTyping.{TypeOver, TermOver, TypeOver-type_under}
+use Rattle.module_spec.specs.ProofTrees.{sym_symbol, trans_symbol}
+use Rattle.module_laws.specs.Bodies.{HasLemmas}
+use Rattle.module_spec.specs.Items.{definition_tree, Content, operator, defined_constant, unproved, step, Item, declaration_of, declaration, module_of, symbols_of}
+use Rattle.module_laws.specs.ItemConditions.{IsContent, AreItems}
+use Rattle.module_laws.specs.ModuleTyping.{HoldsItem, Holds-append, TypeOver-taken, TermOver-taken, SequentOver-taken, ArePremises-among, defined_among, slice_get-last, content-holds}
+use Rattle.module_laws.specs.MadeModules.{AreMade, items-made}
+use Rattle.module_spec.specs.Reach.{Key, image_items, keep_of, reached}
+use Rattle.module_laws.specs.KeptModules.{image-made}
+use Rattle.module_laws.specs.WantedItems.{AreMadeInOrder, made-numbered}
+use Rattle.module_laws.specs.ShapeLaws.{declared-products, proof-abstractions, near-products}
+use Rattle.module_laws.specs.ShapedScopes.{type_tree-shaped, term_tree-shaped}
+use Rattle.module_laws.specs.ShapedSequents.{under_types-shaped, types-AreDeclared, filled-shaped, own_shape}
+use Rattle.module_laws.specs.ShapesTyped.{shaped-IsTypedAfter, shaped-WellTyped}
+use Rattle.module_laws.specs.RuleShapes.{rule-shaped}
+use Rattle.module_spec.specs.Items as item
+
+module _ (m : List Declaration) where
+  -- from x = y and y = z to x = z
+  shaped-trans_proof : {G : List Tree} {a x y z g h : Tree} → IsSimple m G a → IsTerm m G x a → IsTerm m G y a → IsTerm m G z a → IsProof m false G g (proof_of (eq_of a x y)) → IsProof m false G h (proof_of (eq_of a y z))
+      → IsProof m false G (trans_proof a x y z g h) (proof_of (eq_of a x z))
+  shaped-trans_proof {G = G} {a = a} {x = x} ha hx hy hz hg hh =
+      let bool : IsSimple m G bools = constant refl tt in
+      let predicates : IsSimple m G (arr_of a bools) = at_type (at_type (constant refl tt) ha refl) bool refl in
+      let relations : IsSimple m G (arr_of a (arr_of a bools)) = at_type (at_type (constant refl tt) ha refl) predicates refl in
+      let equality : IsTerm m G (App (Sym eq_symbol) a) (arr_of a (arr_of a bools)) = of_constant (at_type (constant refl tt) ha (ap (λ w. term_of (arr_of w (arr_of w bools))) (lift_zero a))) relations in
+      let equals_x : IsTerm m G (App (App (Sym eq_symbol) a) x) (arr_of a bools) = of_function equality hx in
+      shaped-eq_mp m (shaped-equation m ha hx hy) (shaped-equation m ha hx hz) (shaped-app_thm m ha bool equals_x equals_x hy hz (shaped-refl m predicates equals_x) hh) hg
+
+  -- the lemma of transitivity is shaped over every module
+  pub trans_lemma-shaped : IsShaped m trans_lemma
+  trans_lemma-shaped =
+      record {
+        ty = of_products of_types (of_products (of_terms (type_variable refl)) (of_products (of_terms (type_variable refl)) (of_products (of_terms (type_variable refl))
+            (of_products (of_proofs (shaped-equation m (type_variable refl) (of_entry refl refl (type_variable refl)) (of_entry refl refl (type_variable refl))))
+            (of_products (of_proofs (shaped-equation m (type_variable refl) (of_entry refl refl (type_variable refl)) (of_entry refl refl (type_variable refl))))
+            (of_proofs (shaped-equation m (type_variable refl) (of_entry refl refl (type_variable refl)) (of_entry refl refl (type_variable refl)))))))));
+        body = inl (record {
+          found = _;
+          proof = under_binder of_types (under_binder (of_terms (type_variable refl)) (under_binder (of_terms (type_variable refl)) (under_binder (of_terms (type_variable refl))
+              (under_binder (of_proofs (shaped-equation m (type_variable refl) (of_entry refl refl (type_variable refl)) (of_entry refl refl (type_variable refl))))
+              (under_binder (of_proofs (shaped-equation m (type_variable refl) (of_entry refl refl (type_variable refl)) (of_entry refl refl (type_variable refl))))
+              (shaped-trans_proof (type_variable refl) (of_entry refl refl (type_variable refl)) (of_entry refl refl (type_variable refl)) (of_entry refl refl (type_variable refl)) (hypothesis refl refl) (hypothesis refl refl)))))));
+          near = near_same;
+        });
+      }
+
+  pub definition-abstractions : {G : List Tree} (ns : List Name) {t A : Tree} → IsDefinition m (under G (map (λ n. types) ns)) t A
+      → IsDefinition m G (abstractions (map (λ n. types) ns) t) (products (map (λ n. types) ns) A)
+  definition-abstractions [] h = h
+  definition-abstractions (n ∷ ns) h = under_type (definition-abstractions ns h)
+
+  operator_type-shaped : (k : ℕ) {G : List Tree} → IsDeclared m G (products (replicate k types) types)
+  operator_type-shaped zero = of_types
+  operator_type-shaped (suc k) = of_products of_types (operator_type-shaped k)
+
+module _ (m : List Declaration) (symbols : Symbols) (before : List Item) (holds : AllByRecursion (HoldsItem m symbols) before) (closed : IsClosed m) (has : HasLemmas m) where
+  -- the type of a constant is declared
+  generic_tree-shaped : (a : HolType) → TypeOver m symbols a → IsDeclared m [] (generic_tree symbols a)
+  generic_tree-shaped a o =
+      let names = type_variables a in
+      let D = under [] (map (λ n. types) names) in
+      declared-products m (map (λ n. types) names) (types-AreDeclared m closed symbols names [])
+      (of_terms (type_tree-shaped m D symbols (under_types names unfilled) (under_types-shaped m closed symbols names [] unfilled (λ n. constant refl tt)) a o))
+
+  -- the definition of a constant is a term under its type variables
+  definition-shaped : (a : HolType) (t : Term) → TermOver m symbols t → HasType t a → IsDefinition m [] (definition_tree symbols a t) (generic_tree symbols a)
+  definition-shaped a t o h =
+      let names = type_variables a in
+      let D = under [] (map (λ n. types) names) in
+      let shaped = under_types-shaped m closed symbols names [] unfilled (λ n. constant refl tt) in
+      definition-abstractions m names
+      (defined (term_tree-shaped m closed symbols D (filled symbols (under_types names unfilled)) [] (filled-shaped m closed symbols D (under_types names unfilled) shaped) (λ k b e. absurd (cc)) (λ k b e. absurd (cc)) t a o h))
+
+  -- THE DECLARATION OF AN ITEM IS SHAPED
+  pub content-shaped : (name : List ℕ) (c : Content) → IsContent before c → IsShaped m (declaration_of symbols name c)
+  content-shaped name (operator n k) h = record { ty = operator_type-shaped m k; body = refl }
+  content-shaped name (item.Content.constant n a) h = record { ty = generic_tree-shaped a (TypeOver-taken m symbols before holds a h); body = refl }
+  content-shaped name (defined_constant n a t) h =
+      let o = TermOver-taken m symbols before holds t h.taken in
+      record { ty = generic_tree-shaped a (TypeOver-type_under m symbols [] (λ k b e. absurd (cc)) t a o h.typed); body = inl (definition-shaped a t o h.typed) }
+  content-shaped name (unproved s) h =
+      let own = own_shape m closed symbols s h.is (SequentOver-taken m symbols before holds s h) in
+      record { ty = declared-products m (domains_of symbols s) own.domains own.conclusion; body = refl }
+  content-shaped name (step kind js premises given s) h =
+      let over = SequentOver-taken m symbols before holds s h.0.taken in
+      let own = own_shape m closed symbols s h.0.taken.is over in
+      let row = rule-shaped m closed has symbols kind js premises given s h.0.rule h.0.row (ArePremises-among m symbols before holds js premises h.0.among) (defined_among m symbols before holds kind premises given h.1) h.0.taken.is over in
+      record {
+        ty = declared-products m (domains_of symbols s) own.domains own.conclusion;
+        body = inl (record {
+          found = products (domains_of symbols s) row.found;
+          proof = proof-abstractions m (domains_of symbols s) own.domains row.proof;
+          near = near-products m (domains_of symbols s) row.near;
+        });
+      }
+
+AreShaped-append : (before ds es : List Declaration) → AreShaped before ds → AreShaped (before ++ ds) es → AreShaped before (ds ++ es)
+AreShaped-append before [] es h k = subst (λ b. AreShaped b es) (append-nil before) k
+AreShaped-append before (d ∷ ds) es h k =
+    (h.0, AreShaped-append (before ++ d ∷ []) ds es h.1 (subst (λ b. AreShaped b es) (sym (append_assoc before (d ∷ []) ds)) k))
+
+module _ (symbols : Symbols) where
+  -- each of the items is shaped after those before it
+  items-shaped : (m : List Declaration) (before xs : List Item) → IsSound m → HasLemmas m → length m ≡ length lemmas + length before → AllByRecursion (HoldsItem m symbols) before → AreItems symbols before xs
+      → AreShaped m (map (declaration symbols) xs)
+  items-shaped m before [] sound has size holds h = tt
+  items-shaped m before (x ∷ xs) sound has size holds h =
+      let d = declaration symbols x in
+      let closed = IsSound-closed m sound in
+      let shaped : IsShaped m d = content-shaped m symbols before holds closed has x.name x.content h.2 in
+      let place : x.symbol ≡ length signature + length m = h.0 ∙ ap (λ k. length signature + k) (sym size) in
+      let declared : symbol_declaration (m ++ d ∷ []) x.symbol ≡ Some d = ap (symbol_declaration (m ++ d ∷ [])) place ∙ slice_get-last signature m d in
+      let new : HoldsItem (m ++ d ∷ []) symbols x = content-holds symbols m before x.symbol x.name x.content holds h.2 h.1 declared in
+      let old : AllByRecursion (HoldsItem (m ++ d ∷ []) symbols) before = All-weaker (HoldsItem m symbols) (HoldsItem (m ++ d ∷ []) symbols) (λ y k. Holds-append m (d ∷ []) symbols y.symbol y.content k) before holds in
+      let longer : length (m ++ d ∷ []) ≡ length lemmas + length (before ++ x ∷ []) = omega (arith, length-append m (d ∷ []), length-append before (x ∷ []), size) in (
+        shaped,
+        items-shaped (m ++ d ∷ []) (before ++ x ∷ []) xs (IsSound-after m d sound (shaped-IsTypedAfter m sound d shaped))
+            (record { symmetry = symbol_type-append m (d ∷ []) sym_symbol _ has.symmetry; transitivity = symbol_type-append m (d ∷ []) trans_symbol _ has.transitivity })
+            longer (All-append (HoldsItem (m ++ d ∷ []) symbols) before (x ∷ []) old (new, tt {0})) h.3,
+      )
+
+  -- THE MODULE OF ITEMS IS SHAPED
+  pub module-shaped : (xs : List Item) → AreItems symbols [] xs → AreShaped [] (module_of symbols xs)
+  module-shaped xs h =
+      AreShaped-append [] lemmas (map (declaration symbols) xs) (sym_lemma-shaped [], (trans_lemma-shaped _, tt {0}))
+      (items-shaped lemmas [] xs (WellTyped-IsSound lemmas lemmas_typed) (record { symmetry = refl; transitivity = refl }) refl (tt {0}) h)
+
+-- THE MODULE OF WHAT WAS MADE IS SHAPED
+pub made-shaped : (xs : List Item) → AreMade [] xs → AreShaped [] (module_of (symbols_of xs) xs)
+made-shaped xs h = module-shaped (symbols_of xs) xs (items-made [] xs h)
+
+-- it is shaped
+pub reached-shaped : (roots : List Key) (made : List Item) → AreMadeInOrder [] made → AreShaped [] (reached roots made)
+reached-shaped roots made h = made-shaped (image_items (keep_of roots made) made) (image-made (keep_of roots made) [] made refl (made-numbered roots [] made (tt {0}) h))
+
+-- WELL TYPED, by the shapes alone
+pub reached-WellTyped : (roots : List Key) (made : List Item) → AreMadeInOrder [] made → WellTyped (reached roots made)
+reached-WellTyped roots made h = shaped-WellTyped (reached roots made) (reached-shaped roots made h)

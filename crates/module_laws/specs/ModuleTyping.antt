@@ -1,0 +1,271 @@
+-- THE MODULE IS WELL TYPED: by induction on its items, each declaration is typed after those before it.
+use Rattle.std.proofs.Common.{◌≡◌, ℕ, suc, ◌+◌, List, [], ◌∷◌, ◌++◌, length, Bool, true, false, None, Some, refl, sym, ap, subst, ◌∙◌, arith}
+use Rattle.std.specs.Prelude.{replicate, slice_get, unwrap_or, option_map, option_and_then}
+use Rattle.std.specs.List.{AllByRecursion}
+use Rattle.hol_spec.specs.Names.{Name}
+use Rattle.hol_spec.specs.NameEquality.{name_eq}
+use Rattle.hol_spec.specs.Types.{HolType, HolTypes, none, more, count}
+use Rattle.hol_spec.specs.Primitives.{generic, primitive_arity, primitive_type, arrow_name, bool_name, ind_name, equality_name, select_name, equality_type, select_type}
+use Rattle.hol_spec.specs.Substitution.{Instance}
+use Rattle.hol_spec.specs.Terms.{Term, Variable, free, bound, app, lam}
+use Rattle.hol_spec.specs.TermSubstitution.{TermPairs}
+use Rattle.hol_spec.specs.Sequents.{Sequent, free_variables_of}
+use Rattle.lp_binding.specs.LookUps.{some_is}
+use Rattle.lp_spec.specs.Modules.{Declaration, symbol_type, symbol_declaration, products, types, arr_symbol, bool_symbol, ind_symbol, eq_symbol, select_symbol}
+use Rattle.lp_spec.specs.Conversion.{symbol_definition, definition_of}
+use Rattle.lp_typing.specs.ConversionLaws.{symbol_type-append, symbol_definition-append}
+use Rattle.hol_laws.specs.Members.{All-at, All-weaker}
+use Rattle.module_spec.specs.Scopes.{Symbols, operator_symbol, constant_symbol, generic_type, generic_tree, sequent_tree}
+use Rattle.module_laws.specs.ScopeTyping.{DeclaresOperator, DeclaresConstant, TypeOver, TypesOver, TermOver}
+use Rattle.module_laws.specs.SequentScope.{SequentOver, IsPremise}
+use Rattle.module_laws.specs.ComputingBodies.{IsDefinition, DefinesConstant, StandsForVariable}
+use Rattle.hol_spec.specs.Rules.{Parameters}
+use Rattle.hol_spec.specs.declared.StepKind.{StepKind}
+use Rattle.hol_spec.specs.declared.StepKind.TheVariants as kinds
+use Rattle.module_spec.specs.Rows.{type_or}
+use Rattle.module_laws.specs.BodyTyping.{ArePremises, Defined}
+use Rattle.module_spec.specs.Items.{Content, operator, constant, defined_constant, unproved, step, Item, declaration_of, says}
+use Rattle.module_laws.specs.ItemConditions.{IsDefinedBy, IsDefiningEquation, Has, OperatorTaken, ConstantTaken, TypeTaken, TypesTaken, TermTaken, SequentTaken, ArePremisesAmong, DefinesAmong, IsContent, Tells}
+use Rattle.module_laws.specs.ItemConditions as items
+use Rattle.hol_spec.specs.DefinitionLists.{constants_put}
+
+-- what the module has of an item
+abbrev pub Holds : List Declaration → Symbols → ℕ → Content → Type 0
+Holds m symbols i (operator n k) = DeclaresOperator m symbols n k
+Holds m symbols i (constant n a) = DeclaresConstant m symbols n × (generic_type symbols n ≡ a)
+Holds m symbols i (defined_constant n a t) = DeclaresConstant m symbols n × IsDefinition m symbols n a t
+Holds m symbols i (unproved s) = IsPremise m symbols i s
+Holds m symbols i (step kind js premises given s) = IsPremise m symbols i s
+
+abbrev pub HoldsItem : List Declaration → Symbols → Item → Type 0
+HoldsItem m symbols x = Holds m symbols x.symbol x.content
+
+-- further declarations keep what is declared
+module _ (m rest : List Declaration) (symbols : Symbols) where
+  mutual
+    TypeOver-append : (t : HolType) → TypeOver m symbols t → TypeOver (m ++ rest) symbols t
+    TypeOver-append (HolType.variable n) h = tt
+    TypeOver-append (HolType.operator n ts) h = (symbol_type-append m rest _ _ h.0, TypesOver-append ts h.1)
+
+    TypesOver-append : (ts : HolTypes) → TypesOver m symbols ts → TypesOver (m ++ rest) symbols ts
+    TypesOver-append none h = tt
+    TypesOver-append (more t ts) h = (TypeOver-append t h.0, TypesOver-append ts h.1)
+
+  TermOver-append : (t : Term) → TermOver m symbols t → TermOver (m ++ rest) symbols t
+  TermOver-append (free n t) h = TypeOver-append t h
+  TermOver-append (bound k) h = tt
+  TermOver-append (Term.constant n t) h = record { declared = symbol_type-append m rest _ _ h.declared; instance = h.instance; ty = TypeOver-append t h.ty }
+  TermOver-append (app f x) h = (TermOver-append f h.0, TermOver-append x h.1)
+  TermOver-append (lam t b) h = (TypeOver-append t h.0, TermOver-append b h.1)
+
+  IsPremise-append : (i : ℕ) (s : Sequent) → IsPremise m symbols i s → IsPremise (m ++ rest) symbols i s
+  IsPremise-append i s p = record {
+    declared = symbol_type-append m rest _ _ p.declared;
+    is = p.is;
+    over = record { hypotheses = All-weaker (TermOver m symbols) (TermOver (m ++ rest) symbols) TermOver-append s.hypotheses p.over.hypotheses; conclusion = TermOver-append s.conclusion p.over.conclusion };
+  }
+
+  pub Holds-append : (i : ℕ) (c : Content) → Holds m symbols i c → Holds (m ++ rest) symbols i c
+  Holds-append i (operator n k) h = symbol_type-append m rest _ _ h
+  Holds-append i (constant n a) h = (symbol_type-append m rest _ _ h.0, h.1)
+  Holds-append i (defined_constant n a t) h = (
+    symbol_type-append m rest _ _ h.0,
+    record { generic = h.1.generic; definition = symbol_definition-append m rest _ _ h.1.definition; typed = h.1.typed; over = TermOver-append t h.1.over; no_free = h.1.no_free; type_variables = h.1.type_variables },
+  )
+  Holds-append i (unproved s) h = IsPremise-append i s h
+  Holds-append i (step kind js premises given s) h = IsPremise-append i s h
+
+-- the signature declares the primitive operators and constants
+operator_declared : (m : List Declaration) (symbols : Symbols) (n : Name) (k : ℕ) → primitive_arity n ≡ Some k → DeclaresOperator m symbols n k
+operator_declared m symbols n k h = first (name_eq n arrow_name) refl
+  where
+    at : (s j : ℕ) → primitive_arity n ≡ Some j → ((i : ℕ) → operator_symbol symbols n i ≡ s) → symbol_type m s ≡ Some (products (replicate j types) types) → DeclaresOperator m symbols n k
+    at s j a e d =
+        let same : j ≡ k = some_is (sym a ∙ h) in
+        subst (λ i. symbol_type m (operator_symbol symbols n i) ≡ Some (products (replicate i types) types)) same (ap (symbol_type m) (e j) ∙ d)
+
+    third : (b : Bool) → name_eq n ind_name ≡ b → name_eq n bool_name ≡ false → name_eq n arrow_name ≡ false → DeclaresOperator m symbols n k
+    third true e f g = at ind_symbol 0 (rw (g, f, e) refl) (λ i. rw (g, f, e) refl) refl
+    third false e f g = let a : primitive_arity n ≡ None = rw (g, f, e) refl in absurd (cc)
+
+    second : (b : Bool) → name_eq n bool_name ≡ b → name_eq n arrow_name ≡ false → DeclaresOperator m symbols n k
+    second true f g = at bool_symbol 0 (rw (g, f) refl) (λ i. rw (g, f) refl) refl
+    second false f g = third (name_eq n ind_name) refl f g
+
+    first : (b : Bool) → name_eq n arrow_name ≡ b → DeclaresOperator m symbols n k
+    first true g = at arr_symbol 2 (rw g refl) (λ i. rw g refl) refl
+    first false g = second (name_eq n bool_name) refl g
+
+-- a primitive constant is declared at its generic type
+record PrimitiveDeclared (m : List Declaration) (symbols : Symbols) (n : Name) (g : HolType) : Type 0 where
+  declared : DeclaresConstant m symbols n
+  is : generic_type symbols n ≡ g
+
+constant_declared : (m : List Declaration) (symbols : Symbols) (n : Name) (g : HolType) → primitive_type n ≡ Some g → PrimitiveDeclared m symbols n g
+constant_declared m symbols n g h = first (name_eq n equality_name) refl
+  where
+    own : generic_type symbols n ≡ g
+    own = ap (λ o. unwrap_or o (symbols.generic n)) h
+
+    at : (s : ℕ) (t : HolType) → primitive_type n ≡ Some t → constant_symbol symbols n ≡ s → symbol_type m s ≡ Some (generic_tree symbols t) → PrimitiveDeclared m symbols n g
+    at s t a e d =
+        let same : t ≡ generic_type symbols n = some_is (sym a ∙ h) ∙ sym own in
+        record { declared = ap (symbol_type m) e ∙ d ∙ ap (λ u. Some (generic_tree symbols u)) same; is = own }
+
+    second : (b : Bool) → name_eq n select_name ≡ b → name_eq n equality_name ≡ false → PrimitiveDeclared m symbols n g
+    second true e f = at select_symbol (select_type generic) (rw (f, e) refl) (rw (f, e) refl) refl
+    second false e f = let a : primitive_type n ≡ None = rw (f, e) refl in absurd (cc)
+
+    first : (b : Bool) → name_eq n equality_name ≡ b → PrimitiveDeclared m symbols n g
+    first true e = at eq_symbol (equality_type generic) (rw e refl) (rw e refl) refl
+    first false e = second (name_eq n select_name) refl e
+
+-- what is over what is taken is over what is declared
+module _ (m : List Declaration) (symbols : Symbols) (before : List Item) (holds : AllByRecursion (HoldsItem m symbols) before) where
+  pub held : (c : Content) → (h : Has before c) → Holds m symbols h.0.symbol c
+  held c h = subst (Holds m symbols h.0.symbol) h.2 (All-at (HoldsItem m symbols) before h.0 holds h.1)
+
+  operator_taken : (n : Name) (k : ℕ) → OperatorTaken before n k → DeclaresOperator m symbols n k
+  operator_taken n k (items.OperatorTaken.primitive e) = operator_declared m symbols n k e
+  operator_taken n k (items.OperatorTaken.declared h) = held (operator n k) h
+
+  mutual
+    pub TypeOver-taken : (t : HolType) → TypeTaken before t → TypeOver m symbols t
+    TypeOver-taken (HolType.variable n) h = tt
+    TypeOver-taken (HolType.operator n ts) h = (operator_taken n (count ts) h.0, TypesOver-taken ts h.1)
+
+    TypesOver-taken : (ts : HolTypes) → TypesTaken before ts → TypesOver m symbols ts
+    TypesOver-taken none h = tt
+    TypesOver-taken (more t ts) h = (TypeOver-taken t h.0, TypesOver-taken ts h.1)
+
+  constant_taken : (n : Name) (t : HolType) → ConstantTaken before n t → DeclaresConstant m symbols n × Instance (generic_type symbols n) t
+  constant_taken n t (items.ConstantTaken.primitive g e i) = let p = constant_declared m symbols n g e in (p.declared, subst (λ u. Instance u t) (sym p.is) i)
+  constant_taken n t (items.ConstantTaken.declared a h i) = let d = held (constant n a) h in (d.0, subst (λ u. Instance u t) (sym d.1) i)
+  constant_taken n t (items.ConstantTaken.defined a u h i) = let d = held (defined_constant n a u) h in (d.0, subst (λ u. Instance u t) (sym d.1.generic) i)
+
+  pub TermOver-taken : (t : Term) → TermTaken before t → TermOver m symbols t
+  TermOver-taken (free n t) h = TypeOver-taken t h
+  TermOver-taken (bound k) h = tt
+  TermOver-taken (Term.constant n t) h = let c = constant_taken n t h.0 in record { declared = c.0; instance = c.1; ty = TypeOver-taken t h.1 }
+  TermOver-taken (app f x) h = (TermOver-taken f h.0, TermOver-taken x h.1)
+  TermOver-taken (lam t b) h = (TypeOver-taken t h.0, TermOver-taken b h.1)
+
+  pub SequentOver-taken : (s : Sequent) → SequentTaken before s → SequentOver m symbols s
+  SequentOver-taken s h = record { hypotheses = All-weaker (TermTaken before) (TermOver m symbols) TermOver-taken s.hypotheses h.hypotheses; conclusion = TermOver-taken s.conclusion h.conclusion }
+
+  said : (i : ℕ) (c : Content) (s : Sequent) → says c ≡ Some s → Holds m symbols i c → IsPremise m symbols i s
+  said i (operator n k) s e h = absurd (cc)
+  said i (constant n a) s e h = absurd (cc)
+  said i (defined_constant n a t) s e h = absurd (cc)
+  said i (unproved r) s e h = subst (IsPremise m symbols i) (some_is e) h
+  said i (step kind js premises given r) s e h = subst (IsPremise m symbols i) (some_is e) h
+
+  pub ArePremises-among : (js : List ℕ) (ss : List Sequent) → ArePremisesAmong before js ss → ArePremises m symbols js ss
+  ArePremises-among [] [] h = tt
+  ArePremises-among [] (s ∷ ss) h = absurd h
+  ArePremises-among (j ∷ js) [] h = absurd h
+  ArePremises-among (j ∷ js) (s ∷ ss) h =
+      let x = h.0.0 in
+      (subst (λ k. IsPremise m symbols k s) h.0.2 (said x.symbol x.content s h.0.3 (All-at (HoldsItem m symbols) before x holds h.0.1)), ArePremises-among js ss h.1)
+
+  defined_equation : (terms : TermPairs) (h : Term) → IsDefiningEquation before terms h → DefinesConstant m symbols terms h
+  defined_equation terms h d =
+      let k = held (defined_constant d.defined.name d.variable.1 d.term) d.defined.has in
+      record { name = d.defined.name; variable = d.variable; term = d.term; is = d.is; image = d.defined.image; declared = k.0; definition = k.1 }
+
+  defined_variable : (terms : TermPairs) (v : Variable) → ((t : Term) × IsDefinedBy before terms v t) → StandsForVariable m symbols terms v
+  defined_variable terms v d =
+      let k = held (defined_constant d.1.name v.1 d.0) d.1.has in
+      record { name = d.1.name; term = d.0; image = d.1.image; declared = k.0; definition = k.1 }
+
+  defined_list : (premises : List Sequent) (given : Parameters) → DefinesAmong before kinds.DefineConstList premises given → Defined m symbols kinds.DefineConstList premises given
+  defined_list (one ∷ []) (Parameters.constants pairs) h = (
+    All-weaker _ _ (defined_equation (constants_put pairs)) one.hypotheses h.0,
+    All-weaker _ _ (defined_variable (constants_put pairs)) (free_variables_of one) h.1,
+  )
+  defined_list [] given h = tt
+  defined_list (one ∷ two ∷ ss) given h = tt
+  defined_list (one ∷ []) Parameters.nothing h = tt
+  defined_list (one ∷ []) (Parameters.term t) h = tt
+  defined_list (one ∷ []) (Parameters.variable v) h = tt
+  defined_list (one ∷ []) (Parameters.substitution ps ts) h = tt
+  defined_list (one ∷ []) (Parameters.constant n t) h = tt
+  defined_list (one ∷ []) (Parameters.sequent s) h = tt
+  defined_list (one ∷ []) (Parameters.type_operator names) h = tt
+
+  defined_one : (premises : List Sequent) (given : Parameters) → DefinesAmong before kinds.DefineConst premises given → Defined m symbols kinds.DefineConst premises given
+  defined_one premises (Parameters.constant n t) h = (held (defined_constant n (type_or t) t) h).1
+  defined_one premises Parameters.nothing h = tt
+  defined_one premises (Parameters.term t) h = tt
+  defined_one premises (Parameters.variable v) h = tt
+  defined_one premises (Parameters.substitution ps ts) h = tt
+  defined_one premises (Parameters.constants ts) h = tt
+  defined_one premises (Parameters.sequent s) h = tt
+  defined_one premises (Parameters.type_operator names) h = tt
+
+  pub defined_among : (kind : StepKind) (premises : List Sequent) (given : Parameters) → DefinesAmong before kind premises given → Defined m symbols kind premises given
+  defined_among kinds.DefineConst premises given h = defined_one premises given h
+  defined_among kinds.DefineConstList premises given h = defined_list premises given h
+  defined_among kinds.Refl premises given h = tt
+  defined_among kinds.Assume premises given h = tt
+  defined_among kinds.EqMp premises given h = tt
+  defined_among kinds.AbsThm premises given h = tt
+  defined_among kinds.AppThm premises given h = tt
+  defined_among kinds.DeductAntisym premises given h = tt
+  defined_among kinds.BetaConv premises given h = tt
+  defined_among kinds.Sym premises given h = tt
+  defined_among kinds.Trans premises given h = tt
+  defined_among kinds.ProveHyp premises given h = tt
+  defined_among kinds.Subst premises given h = tt
+  defined_among kinds.Restate premises given h = tt
+  defined_among kinds.Axiom premises given h = tt
+  defined_among kinds.FirstLaw premises given h = tt
+  defined_among kinds.SecondLaw premises given h = tt
+
+-- the last declaration of a module
+pub slice_get-last : (xs ys : List Declaration) (d : Declaration) → slice_get (xs ++ (ys ++ d ∷ [])) (length xs + length ys) ≡ Some d
+slice_get-last [] [] d = refl
+slice_get-last [] (y ∷ ys) d =
+    let e : 0 + suc (length ys) ≡ suc (0 + length ys) = omega arith in
+    ap (slice_get (y ∷ (ys ++ d ∷ []))) e ∙ slice_get-last [] ys d
+slice_get-last (x ∷ xs) ys d =
+    let e : suc (length xs) + length ys ≡ suc (length xs + length ys) = omega arith in
+    ap (slice_get (x ∷ (xs ++ (ys ++ d ∷ [])))) e ∙ slice_get-last xs ys d
+
+module _ (symbols : Symbols) where
+  IsPremise-new : (m : List Declaration) (before : List Item) (i : ℕ) (s : Sequent) (d : Declaration) → AllByRecursion (HoldsItem m symbols) before → SequentTaken before s
+      → symbol_type (m ++ d ∷ []) i ≡ Some (sequent_tree symbols s) → IsPremise (m ++ d ∷ []) symbols i s
+  IsPremise-new m before i s d holds h e =
+      let over = SequentOver-taken m symbols before holds s h in
+      record {
+        declared = e;
+        is = h.is;
+        over = record {
+          hypotheses = All-weaker (TermOver m symbols) (TermOver (m ++ d ∷ []) symbols) (TermOver-append m (d ∷ []) symbols) s.hypotheses over.hypotheses;
+          conclusion = TermOver-append m (d ∷ []) symbols s.conclusion over.conclusion;
+        };
+      }
+
+  -- what the module has of an item once it is declared
+  pub content-holds : (m : List Declaration) (before : List Item) (i : ℕ) (name : List ℕ) (c : Content) → AllByRecursion (HoldsItem m symbols) before → IsContent before c → Tells symbols i c
+      → symbol_declaration (m ++ declaration_of symbols name c ∷ []) i ≡ Some (declaration_of symbols name c) → Holds (m ++ declaration_of symbols name c ∷ []) symbols i c
+  content-holds m before i name (operator n k) holds h t e =
+      ap (symbol_type (m ++ declaration_of symbols name (operator n k) ∷ [])) t ∙ ap (λ o. option_map (λ (d : Declaration). d.ty) o) e
+  content-holds m before i name (constant n a) holds h t e =
+      (ap (symbol_type (m ++ declaration_of symbols name (constant n a) ∷ [])) t.0 ∙ ap (λ o. option_map (λ (d : Declaration). d.ty) o) e ∙ ap (λ u. Some (generic_tree symbols u)) (sym t.1), t.1)
+  content-holds m before i name (defined_constant n a u) holds h t e =
+      let d = declaration_of symbols name (defined_constant n a u) in (
+        ap (symbol_type (m ++ d ∷ [])) t.0 ∙ ap (λ o. option_map (λ (d : Declaration). d.ty) o) e ∙ ap (λ v. Some (generic_tree symbols v)) (sym t.1),
+        record {
+          generic = t.1;
+          definition = ap (symbol_definition (m ++ d ∷ [])) t.0 ∙ ap (λ o. option_and_then (λ (d : Declaration). definition_of d.form d.body) o) e;
+          typed = h.typed;
+          over = TermOver-append m (d ∷ []) symbols u (TermOver-taken m symbols before holds u h.taken);
+          no_free = h.no_free;
+          type_variables = h.type_variables;
+        },
+      )
+  content-holds m before i name (unproved s) holds h t e =
+      IsPremise-new m before i s (declaration_of symbols name (unproved s)) holds h (ap (λ o. option_map (λ (d : Declaration). d.ty) o) e)
+  content-holds m before i name (step kind js premises given s) holds h t e =
+      IsPremise-new m before i s (declaration_of symbols name (step kind js premises given s)) holds h.0.taken (ap (λ o. option_map (λ (d : Declaration). d.ty) o) e)

@@ -1,0 +1,88 @@
+//! Laws of the translation and of modules, over the definitions of `module_spec`: what translation does to substitution, that what is
+//! translated is shaped and so well typed, and that a type stands for at most one sequent.
+//!
+//! There is no code: what is shown beyond lemmas is a function that does nothing, whose contract is the law.
+//!
+//! | File | Laws of |
+//! |---|---|
+//! | `ScopeLaws`, `TermScopeLaws`, `DeepScopes`, `PuttingLaws`, `SimultaneousArguments`, `SubstitutionTranslated` | translation under lifting, putting and substitution |
+//! | `ListedTranslation`, `ListedScopes`, `SameSequents` | scopes that lists tell, and the translation that the first path computes |
+//! | `MeaningLaws`, `SequentEncoding`, `EncLaws` | what symbols and types stand for |
+//! | `ScopeTyping`, `TheoremTyping`, `SequentScope`, `Bodies`, `BodyTyping` | what a scope and a premise must be |
+//! | `ShapeLaws`, `ShapedScopes`, `ShapedTheorems`, `ShapedSequents` | translated terms, theorems and sequents are shaped |
+//! | `ShapedRows`, `AbstractionBody`, `AbstractionRow`, `SubstitutionBody`, `SubstitutionRow`, `ComputingBodies`, `ComputingRows`, `RuleShapes` | every rule's proof is shaped |
+//! | `ItemConditions`, `MadeModules`, `KeptModules`, `WantedItems`, `ModuleTyping`, `ItemShapes` | what each item asks of those before it; what is reached is kept and renumbered; each declaration is shaped |
+//! | `ShapesTyped`, `OrderedModules`, `PricedModules`, `LawSpreads` | what is shaped is typed, over what stands before it, and checked at its price |
+//! | `SymbolsHeld`, `DefinitionsHeld`, `AcceptedItems` | what a proof made is, as items, made in order |
+//! | `TranslationStatements`, `TranslationShown`, `ShapeStatements` | the statements of the functions below |
+#![tactic(auto)]
+
+ghost use Rattle.module_spec.specs.Enc.{OneEncoding};
+ghost use Rattle.module_laws.specs.TranslationStatements.{SameSoFar, SequentSubstitutionTranslated, SequentsEncoded, TermSubstitutionTranslated, TypeSubstitutionTranslated};
+ghost use Rattle.module_laws.specs.ShapeStatements.{ModulesPriced, ModulesShaped, ModulesTyped, RulesShaped, SequentsShaped, TermsShaped, TheoremsShaped};
+
+/// The law of translation of substitution, for types: the tree of a type with types put is its tree in the scope of the images.
+pub fn type_substitution_translated()
+    ensures { TypeSubstitutionTranslated }
+{}
+
+/// The same for terms: types are put first, and no binder captures.
+pub fn term_substitution_translated()
+    ensures { TermSubstitutionTranslated }
+{}
+
+/// The same for sequents: what follows the products over type variables and free variables, with the translated images put in,
+/// is the product over the substituted hypotheses, one for each, which ends in the substituted conclusion.
+pub fn sequent_substitution_translated()
+    ensures { SequentSubstitutionTranslated }
+{}
+
+/// The law of encodings: the tree of a sequent stands for its closed form.
+pub fn sequents_encoded()
+    ensures { SequentsEncoded }
+{}
+
+/// A type of a module stands for at most one closed sequent.
+pub fn one_encoding()
+    ensures { OneEncoding }
+{}
+
+/// Over the primitive symbols the tree of a sequent is that of the translation over lists, which the first path computes.
+pub fn same_so_far()
+    ensures { SameSoFar }
+{}
+
+/// The law of terms: the tree of a term is a term of the tree of its type.
+pub fn terms_shaped()
+    ensures { TermsShaped }
+{}
+
+/// The law of sequents: the telescope is declared, and the scope under it is shaped.
+pub fn sequents_shaped()
+    ensures { SequentsShaped }
+{}
+
+/// The law of theorems: one in a scope that fits its sequent is a shaped proof of its conclusion there.
+pub fn theorems_shaped()
+    ensures { TheoremsShaped }
+{}
+
+/// The law of rows: the proof of a step is shaped, and its found type is near its conclusion.
+pub fn rules_shaped()
+    ensures { RulesShaped }
+{}
+
+/// The law of modules: each declaration of what the roots reach, of what was made, is shaped.
+pub fn modules_shaped()
+    ensures { ModulesShaped }
+{}
+
+/// So the module is well typed.
+pub fn modules_typed()
+    ensures { ModulesTyped }
+{}
+
+/// And its check says yes, each declaration at a price of at most 64 times the square of its weight.
+pub fn modules_priced()
+    ensures { ModulesPriced }
+{}

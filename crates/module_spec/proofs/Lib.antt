@@ -1,0 +1,5 @@
+mod EncExamples
+mod EncRows
+pub mod Examples
+mod ItemsExample
+mod RowExamples

@@ -1,0 +1,12 @@
+pub mod ConstantMeaning
+pub mod Enc
+pub mod Image
+pub mod Items
+pub mod MadeItems
+pub mod OperatorMeaning
+pub mod ProofTrees
+pub mod Reach
+pub mod Rows
+pub mod Scopes
+pub mod Stands
+pub mod TypeEnc

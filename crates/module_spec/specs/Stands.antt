@@ -1,0 +1,113 @@
+-- What a module says for its run: it is a well-typed module, it leaves unproved only what the run gave, it defines only what the run
+-- defined, and its exports are the run's.
+use Rattle.std.specs.Prelude.{ℕ, suc, ◌≡◌, ◌+◌, ◌&&◌, ◌||◌, Bool, true, false, List, [], ◌∷◌, ◌++◌, length, nat_eq, nat_le, replicate, slice_get, Some, None, codes, decimal}
+use Rattle.std.specs.List.{filter, list_all, IsAmong}
+use Rattle.std.specs.Option.{option_map_or}
+use Rattle.hol_spec.specs.Names.{Name}
+use Rattle.hol_spec.specs.Types.{HolType, type_variables}
+use Rattle.hol_spec.specs.Terms.{Term, HasType}
+use Rattle.hol_spec.specs.Definitions.{Definition, TypeNames}
+use Rattle.hol_spec.specs.NewTypes.{abstraction_type, representation_type}
+use Rattle.hol_spec.specs.Symbols.{Symbol}
+use Rattle.hol_spec.specs.ClosedForm.{close_type, close_term, closed_form}
+use Rattle.hol_spec.specs.Proofs.{Step, symbols_of, steps_of, sequent_at, Accepted}
+use Rattle.hol_spec.specs.declared.StepKind.{StepKind}
+use Rattle.hol_spec.specs.declared.StepKind.TheVariants.{FirstLaw, SecondLaw}
+use Rattle.lp_spec.specs.declared.form.Form.TheVariants.{Thm, Def}
+use Rattle.lp_spec.specs.Trees.{Tree, SortType, SortKind, Var, Sym, App, Lam, Pi}
+use Rattle.lp_spec.specs.Modules.{Declaration, signature, symbol, products, abstractions, types, term_of}
+use Rattle.lp_spec.specs.ModuleOrder.{IsModule}
+use Rattle.lp_spec.specs.Typing.{WellTyped}
+use Rattle.module_spec.specs.TypeEnc.{place, StandsForType}
+use Rattle.module_spec.specs.Enc.{Enc, StandsForTerm}
+use Rattle.module_spec.specs.Image.{input_constant_name, input_operator_name, constant_name, operator_name}
+
+-- `E` and a number; 69 is `E`, and 48 to 57 are the digits
+abbrev pub is_decimal_digit : ℕ → Bool
+is_decimal_digit b = nat_le 48 b && nat_le b 57
+
+abbrev pub is_export_name : List ℕ → Bool
+is_export_name [] = false
+is_export_name (b ∷ []) = false
+is_export_name (b ∷ digit ∷ digits) = nat_eq b 69 && list_all is_decimal_digit (digit ∷ digits)
+
+-- a symbol stands in a tree
+abbrev pub occurs : ℕ → Tree → Bool
+occurs s SortType = false
+occurs s SortKind = false
+occurs s (Var n) = false
+occurs s (Sym r) = nat_eq s r
+occurs s (App f x) = occurs s f || occurs s x
+occurs s (Lam a b) = occurs s a || occurs s b
+occurs s (Pi a b) = occurs s a || occurs s b
+
+-- a declaration uses a symbol in its type or in its body
+abbrev pub uses : Declaration → ℕ → Bool
+uses d s = occurs s d.ty || option_map_or (occurs s) d.body false
+
+-- the declaration with this number is an export, or one that is reached uses it
+pub data IsReached (m : List Declaration) : ℕ → Type 0 where
+  export : {i : ℕ} (d : Declaration) → slice_get m i ≡ Some d → is_export_name d.name ≡ true → IsReached m i
+  used : {i : ℕ} (j : ℕ) (d : Declaration) → IsReached m j → slice_get m j ≡ Some d → uses d (length signature + i) ≡ true → IsReached m i
+
+-- the type of a constant of this generic type
+pub record IsConstantType (m : List Declaration) (generic : HolType) (A : Tree) : Type 0 where
+  pub tree : Tree
+  pub stands : StandsForType m (close_type (type_variables generic) generic) (place (length (type_variables generic)) 0 0 0) tree
+  pub is : A ≡ products (replicate (length (type_variables generic)) types) (term_of tree)
+
+-- a kind of step is that of the two laws of a type definition
+abbrev pub IsLawKind : StepKind → Type 0
+IsLawKind FirstLaw = Unit {0}
+IsLawKind SecondLaw = Unit {0}
+IsLawKind kind = ⊥
+
+-- a step of a run that is one of the two laws of a type definition
+pub record IsLaw (run : Accepted) (i : ℕ) : Type 0 where
+  pub step : Step
+  pub at : slice_get (steps_of run.made) i ≡ Some step
+  pub law : IsLawKind step.kind
+
+-- why a declaration may have no body
+pub data IsGiven (m : List Declaration) (run : Accepted) : Declaration → Type 0 where
+  input_constant : (n : Name) → IsAmong (symbols_of run.made) (Symbol.input_constant n) → IsGiven m run (symbol (input_constant_name n) (Pi types (term_of (Var 0))))
+  input_operator : (n : Name) (k : ℕ) → IsAmong (symbols_of run.made) (Symbol.input_operator n k) → IsGiven m run (symbol (input_operator_name k n) (products (replicate k types) types))
+  assumption : (k i : ℕ) (A : Tree) → slice_get run.assumptions k ≡ Some i → Enc m (closed_form (sequent_at run.made i)) A → IsGiven m run (symbol (codes "A" ++ decimal k) A)
+  type_operator : (names : TypeNames) (c : HolType) (f : Term) → IsAmong (symbols_of run.made) (Symbol.defined (Definition.type_operator names c f))
+      → IsGiven m run (symbol (operator_name names.operator) (products (replicate (length names.variables) types) types))
+  abstraction : (names : TypeNames) (c : HolType) (f : Term) (A : Tree) → IsAmong (symbols_of run.made) (Symbol.defined (Definition.type_operator names c f))
+      → IsConstantType m (abstraction_type names c) A → IsGiven m run (symbol (constant_name names.abstraction) A)
+  representation : (names : TypeNames) (c : HolType) (f : Term) (A : Tree) → IsAmong (symbols_of run.made) (Symbol.defined (Definition.type_operator names c f))
+      → IsConstantType m (representation_type names c) A → IsGiven m run (symbol (constant_name names.representation) A)
+  law : (i : ℕ) (A : Tree) → IsLaw run i → Enc m (closed_form (sequent_at run.made i)) A → IsGiven m run (symbol (codes "L" ++ decimal i) A)
+
+-- a declaration defines a constant of a run by its term, over the type variables of its type
+pub record IsDefined (m : List Declaration) (run : Accepted) (d : Declaration) : Type 0 where
+  pub name : Name
+  pub term : Term
+  pub ty : HolType
+  pub among : IsAmong (symbols_of run.made) (Symbol.defined (Definition.constant name term))
+  pub typed : HasType term ty
+  pub A : Tree
+  pub B : Tree
+  pub type_stands : IsConstantType m ty A
+  pub term_stands : StandsForTerm m (close_term (type_variables ty) [] term) (place (length (type_variables ty)) 0 0 0) B
+  pub is : d ≡ record { name = constant_name name; form = Def; ty = A; body = Some (abstractions (replicate (length (type_variables ty)) types) B) }
+
+-- the declarations are E and the places from k on, each the theorem of the export at its place
+pub data AreExports (m : List Declaration) (run : Accepted) : ℕ → List ℕ → List Declaration → Type 0 where
+  none : {k : ℕ} → AreExports m run k [] []
+  more : {k i : ℕ} {is : List ℕ} {d : Declaration} {ds : List Declaration} → d.name ≡ codes "E" ++ decimal k → d.form ≡ Thm → Enc m (closed_form (sequent_at run.made i)) d.ty
+      → AreExports m run (suc k) is ds → AreExports m run k (i ∷ is) (d ∷ ds)
+
+-- a declaration without a body is given, and an export reaches it
+pub record IsUnproved (m : List Declaration) (run : Accepted) (i : ℕ) (d : Declaration) : Type 0 where
+  pub given : IsGiven m run d
+  pub reached : IsReached m i
+
+pub record Stands (m : List Declaration) (run : Accepted) : Type 0 where
+  pub is_module : IsModule m
+  pub typed : WellTyped m
+  pub unproved : (i : ℕ) (d : Declaration) → slice_get m i ≡ Some d → d.body ≡ None → IsUnproved m run i d
+  pub definitions : (i : ℕ) (d : Declaration) → slice_get m i ≡ Some d → d.form ≡ Def → IsDefined m run d
+  pub exports : AreExports m run 0 run.exports (filter (λ d. is_export_name d.name) m)

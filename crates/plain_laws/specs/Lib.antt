@@ -1,0 +1,11 @@
+pub mod FewSteps
+pub mod FirstPathLaws
+pub mod PlainImage
+pub mod PlainItems
+pub mod PlainModules
+pub mod PlainOutcomes
+pub mod PlainReach
+pub mod PlainRuns
+pub mod PlainSequents
+pub mod PlainStands
+pub mod PrimitiveSymbols

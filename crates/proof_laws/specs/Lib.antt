@@ -1,0 +1,10 @@
+pub mod DefinitionListLaws
+pub mod EquationLaws
+pub mod ProofCodes
+pub mod ProofGrowth
+pub mod ProofLaws
+pub mod RuleSequents
+pub mod RuleTaken
+pub mod StepsDerive
+pub mod SymbolGrowth
+pub mod TakenTerms

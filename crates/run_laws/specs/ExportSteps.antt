@@ -1,0 +1,324 @@
+-- Each export of an accepted run is a step that restates a theorem.
+use Rattle.std.proofs.Common.{◌≡◌, ℕ, List, [], ◌∷◌, ◌++◌, map, length, Bool, true, false, Result, Ok, Err, Option, Some, None, slice_get, refl, sym, ap, subst, ◌∙◌, append_assoc}
+use Rattle.bridge_base.specs.declared.faults.Kind.{Kind}
+use Rattle.std.proofs.lemmas.List.{append-nil}
+use Rattle.hol_spec.specs.Proofs.{Made, Step, steps_of, Accepted, sequent_at, symbols_of}
+use Rattle.article_spec.specs.State.{State, Object, Place, start, version, body, initial, list, constant, variable}
+use Rattle.article_spec.specs.Results.{◌>>=◌, ◌>>◌}
+use Rattle.article_spec.specs.Changes.{with_stack, conclude, next_step, with_symbols}
+use Rattle.article_spec.specs.Conditions.{sequent_in_limits, all_bool, follows, demand, in_limits, typed, type_in_limits, term_in_limits, arity_fits, generic_fits, is_of_type, equation_of}
+use Rattle.article_spec.specs.Inference.{eq_mp, refl_word, step_by, assume, abs_thm, app_thm, deduct_antisym, contracted, beta_conv, sym_word, trans_word, prove_hyp, subst_word}
+use Rattle.article_spec.specs.Operands.{as_name, as_names, as_term, as_theorem, as_constant_pairs, pop, as_number, as_list, as_type_operator, as_type, as_types, as_constant, as_variable, any_object, head_and_tail, as_terms, as_substitution}
+use Rattle.bridge_base.specs.declared.faults.Kind.TheVariants.{VersionPlace, NameTaken, NotClosed, ExtraTypeVars, BadDefinitionList, NotTheSequent, NoSuchKey, TypeMismatch, NotBool, NotAlike, VarInHyps, NotRedex, BadSubst}
+use Rattle.hol_spec.specs.Defining.{is_closed, has_type_variables_of}
+use Rattle.hol_spec.specs.DefinitionLists.{names_of, defining_equations, is_definition_list, definitions_in, constants_put}
+use Rattle.hol_spec.specs.Definitions.{Definition, TypeNames}
+use Rattle.hol_spec.specs.Lists.{distinct}
+use Rattle.hol_spec.specs.Measures.{type_measure, sequent_measure}
+use Rattle.hol_spec.specs.NewTypes.{new_type, abstraction_type, representation_type}
+use Rattle.hol_spec.specs.Primitives.{bool, function}
+use Rattle.hol_spec.specs.Rules.{Parameters, constants, derived, nothing, variable, substitution, joined, removed, abstraction, is_free_in}
+use Rattle.hol_spec.specs.Sequents.{Sequent}
+use Rattle.hol_spec.specs.Symbols.{defined, is_taken_constant, generic_type, operator_arity, new_constant, new_operator}
+use Rattle.hol_spec.specs.TermSubstitution.{sub}
+use Rattle.hol_spec.specs.Terms.{Term, app, equation, term_eq, application_type, type_of}
+use Rattle.hol_spec.specs.TypeDefinitions.{first_law, second_law}
+use Rattle.hol_spec.specs.Types.{HolType, types_of}
+use Rattle.hol_spec.specs.declared.StepKind.TheVariants as by_rule
+use Rattle.std.specs.FinMap as entries
+use Rattle.std.specs.List.{list_all, list_any, AllByRecursion}
+use Rattle.std.specs.Option.{ok_or}
+use Rattle.std.specs.Prelude.{pos, not, ◌||◌, nat_eq, is_some}
+use Rattle.article_spec.specs.Building.{nil, cons, hd_tl, type_op, var_type, op_type, const, const_term, var, var_term, app_term, abs_term, def, ref, remove, drop_object}
+use Rattle.article_spec.specs.DefiningWords.{define_const, constant_objects, define_const_list, application_parts, predicate_fits, are_new_names, make_type, define_type, define_type_op}
+use Rattle.article_spec.specs.Stating.{stated, restatement, assume_or_meet, axiom_word, export, thm}
+use Rattle.article_spec.specs.Step.{obey, step_at, is_version, is_body, finish}
+use Rattle.article_spec.specs.Run.{machine, accepted, Run}
+use Rattle.article_laws.specs.SoundSteps.{runs-have}
+use Rattle.article_spec.specs.declared.commands.Item.{Item}
+use Rattle.article_spec.specs.declared.commands.Item.TheVariants as item
+use Rattle.article_spec.specs.declared.commands.Word.{Word}
+use Rattle.article_spec.specs.declared.commands.Word.TheVariants as word
+use Rattle.std.specs.Ordering.{int_eq}
+use Rattle.std.specs.Cmp.{unsigned_Decides}
+use Rattle.lp_binding.specs.LookUps.{slice_get-append}
+use Rattle.hol_laws.specs.Members.{All-weaker, All-append}
+use Rattle.proof_laws.specs.ProofGrowth.{steps_of-append}
+use Rattle.module_spec.specs.Rows.{has_row}
+use Rattle.module_spec.specs.Image.{is_one_of}
+use Rattle.run_laws.specs.ExportOrder.{HaveRows}
+
+-- a state after another with its exports, where more was made
+pub record Extends (s t : State) : Type 0 where
+  pub exports : t.exports ≡ s.exports
+  pub more : List Made
+  pub made : t.made ≡ s.made ++ more
+
+-- what a word answers extends a state
+abbrev pub Keeps : State → Result State Kind → Type 0
+Keeps s r = (t : State) → r ≡ Ok t → Extends s t
+
+bind : {A : Type 0} (s : State) (o : Result A Kind) (f : A → Result State Kind) → ((a : A) → Keeps s (f a)) → Keeps s (o >>= f)
+bind s (Ok a) f h t e = h a t e
+bind s (Err k) f h t e = absurd (cc)
+
+next : {A : Type 0} (s : State) (o : Result A Kind) (r : Result State Kind) → Keeps s r → Keeps s (o >> r)
+next s (Ok a) r h t e = h t e
+next s (Err k) r h t e = absurd (cc)
+
+answer : (s u : State) → Extends s u → Keeps s (Ok u)
+answer s u h t e = let f : u ≡ t = cc in subst (Extends s) f h
+
+same : (s u : State) → u.exports ≡ s.exports → u.made ≡ s.made → Keeps s (Ok u)
+same s u e f = answer s u (record { exports = e; more = []; made = f ∙ sym (append-nil s.made) })
+
+concluded : (s u : State) (x : Step) → u.exports ≡ s.exports → (grown : List Made) → u.made ≡ s.made ++ grown → Keeps s (conclude u x)
+concluded s u x e grown f = next s (sequent_in_limits x.sequent) _ (answer s _ (record { exports = e; more = grown ++ Made.step x ∷ []; made = ap (λ l. l ++ Made.step x ∷ []) f ∙ append_assoc s.made grown (Made.step x ∷ []) }))
+
+nil-keeps : (s : State) → Keeps s (nil s)
+nil-keeps s = same s _ refl refl
+
+cons-keeps : (s : State) → Keeps s (cons s)
+cons-keeps s = bind s (pop as_list s.stack) _ (λ p1. let tail = p1.0 in let below = p1.1 in bind s (pop any_object below) _ (λ p2. let head = p2.0 in let rest = p2.1 in same s _ refl refl))
+
+hd_tl-keeps : (s : State) → Keeps s (hd_tl s)
+hd_tl-keeps s = bind s (pop as_list s.stack) _ (λ p1. let xs = p1.0 in let rest = p1.1 in bind s (head_and_tail xs) _ (λ p2. let head = p2.0 in let tail = p2.1 in same s _ refl refl))
+
+type_op-keeps : (s : State) → Keeps s (type_op s)
+type_op-keeps s = bind s (pop as_name s.stack) _ (λ p1. let n = p1.0 in let rest = p1.1 in same s _ refl refl)
+
+var_type-keeps : (s : State) → Keeps s (var_type s)
+var_type-keeps s = bind s (pop as_name s.stack) _ (λ p1. let n = p1.0 in let rest = p1.1 in same s _ refl refl)
+
+op_type-keeps : (s : State) → Keeps s (op_type s)
+op_type-keeps s = bind s (pop as_types s.stack) _ (λ p1. let arguments = p1.0 in let below = p1.1 in bind s (pop as_type_operator below) _ (λ p2. let n = p2.0 in let rest = p2.1 in next s (arity_fits (operator_arity (symbols_of s.made) n) (length arguments)) _ (next s (type_in_limits (HolType.operator n (types_of arguments))) _ (answer s _ (record { exports = refl; more = map Made.symbol (new_operator (symbols_of s.made) n (length arguments)); made = refl })))))
+
+const-keeps : (s : State) → Keeps s (const s)
+const-keeps s = bind s (pop as_name s.stack) _ (λ p1. let n = p1.0 in let rest = p1.1 in same s _ refl refl)
+
+const_term-keeps : (s : State) → Keeps s (const_term s)
+const_term-keeps s = bind s (pop as_type s.stack) _ (λ p1. let a = p1.0 in let below = p1.1 in bind s (pop as_constant below) _ (λ p2. let n = p2.0 in let rest = p2.1 in next s (generic_fits (generic_type (symbols_of s.made) n) a) _ (next s (term_in_limits (Term.constant n a)) _ (answer s _ (record { exports = refl; more = map Made.symbol (new_constant (symbols_of s.made) n); made = refl })))))
+
+var-keeps : (s : State) → Keeps s (var s)
+var-keeps s = bind s (pop as_type s.stack) _ (λ p1. let a = p1.0 in let below = p1.1 in bind s (pop as_name below) _ (λ p2. let n = p2.0 in let rest = p2.1 in same s _ refl refl))
+
+var_term-keeps : (s : State) → Keeps s (var_term s)
+var_term-keeps s = bind s (pop as_variable s.stack) _ (λ p1. let v = p1.0 in let rest = p1.1 in next s (term_in_limits (Term.free v.0 v.1)) _ (same s _ refl refl))
+
+app_term-keeps : (s : State) → Keeps s (app_term s)
+app_term-keeps s = bind s (pop as_term s.stack) _ (λ p1. let x = p1.0 in let below = p1.1 in bind s (pop as_term below) _ (λ p2. let f = p2.0 in let rest = p2.1 in next s (demand (is_some (type_of (Term.app f x))) TypeMismatch) _ (next s (term_in_limits (Term.app f x)) _ (same s _ refl refl))))
+
+abs_term-keeps : (s : State) → Keeps s (abs_term s)
+abs_term-keeps s = bind s (pop as_term s.stack) _ (λ p1. let t = p1.0 in let below = p1.1 in bind s (pop as_variable below) _ (λ p2. let v = p2.0 in let rest = p2.1 in next s (term_in_limits (abstraction v t)) _ (same s _ refl refl)))
+
+def-keeps : (s : State) → Keeps s (def s)
+def-keeps s = bind s (pop as_number s.stack) _ (λ p1. let k = p1.0 in let below = p1.1 in bind s (pop any_object below) _ (λ p2. let x = p2.0 in let rest = p2.1 in same s _ refl refl))
+
+ref-keeps : (s : State) → Keeps s (ref s)
+ref-keeps s = bind s (pop as_number s.stack) _ (λ p1. let k = p1.0 in let rest = p1.1 in bind s (ok_or (entries.get s.dictionary k) NoSuchKey) _ (λ p2. let x = p2 in same s _ refl refl))
+
+remove-keeps : (s : State) → Keeps s (remove s)
+remove-keeps s = bind s (pop as_number s.stack) _ (λ p1. let k = p1.0 in let rest = p1.1 in bind s (ok_or (entries.get s.dictionary k) NoSuchKey) _ (λ p2. let x = p2 in same s _ refl refl))
+
+drop_object-keeps : (s : State) → Keeps s (drop_object s)
+drop_object-keeps s = bind s (pop any_object s.stack) _ (λ p1. let x = p1.0 in let rest = p1.1 in same s _ refl refl)
+
+refl_word-keeps : (s : State) → Keeps s (refl_word s)
+refl_word-keeps s = bind s (pop as_term s.stack) _ (λ p1. let t = p1.0 in let rest = p1.1 in bind s (typed t) _ (λ p2. let a = p2 in concluded s (with_stack s rest) (step_by by_rule.Refl [] (Parameters.term t) (derived [] (equation a t t))) refl [] (sym (append-nil s.made))))
+
+assume-keeps : (s : State) → Keeps s (assume s)
+assume-keeps s = bind s (pop as_term s.stack) _ (λ p1. let p = p1.0 in let rest = p1.1 in next s (demand (is_of_type bool p) NotBool) _ (concluded s (with_stack s rest) (step_by by_rule.Assume [] (Parameters.term p) (derived (p ∷ []) p)) refl [] (sym (append-nil s.made))))
+
+eq_mp-keeps : (s : State) → Keeps s (eq_mp s)
+eq_mp-keeps s = bind s (pop as_theorem s.stack) _ (λ p1. let j = p1.0 in let below = p1.1 in bind s (pop as_theorem below) _ (λ p2. let i = p2.0 in let rest = p2.1 in let one = sequent_at s.made i in let two = sequent_at s.made j in bind s (equation_of one) _ (λ p3. let e = p3 in next s (demand (term_eq two.conclusion e.left) NotAlike) _ (concluded s (with_stack s rest) (step_by by_rule.EqMp (i ∷ j ∷ []) nothing (derived (joined one.hypotheses two.hypotheses) e.right)) refl [] (sym (append-nil s.made))))))
+
+abs_thm-keeps : (s : State) → Keeps s (abs_thm s)
+abs_thm-keeps s = bind s (pop as_theorem s.stack) _ (λ p1. let i = p1.0 in let below = p1.1 in bind s (pop as_variable below) _ (λ p2. let v = p2.0 in let rest = p2.1 in let one = sequent_at s.made i in bind s (equation_of one) _ (λ p3. let e = p3 in next s (demand (not (is_free_in v one.hypotheses)) VarInHyps) _ (concluded s (with_stack s rest) (step_by by_rule.AbsThm (i ∷ []) (variable v) (derived one.hypotheses (equation (function v.1 e.ty) (abstraction v e.left) (abstraction v e.right)))) refl [] (sym (append-nil s.made))))))
+
+app_thm-keeps : (s : State) → Keeps s (app_thm s)
+app_thm-keeps s = bind s (pop as_theorem s.stack) _ (λ p1. let j = p1.0 in let below = p1.1 in bind s (pop as_theorem below) _ (λ p2. let i = p2.0 in let rest = p2.1 in let one = sequent_at s.made i in let two = sequent_at s.made j in bind s (equation_of one) _ (λ p3. let f = p3 in bind s (equation_of two) _ (λ p4. let x = p4 in bind s (ok_or (application_type (Some f.ty) (Some x.ty)) TypeMismatch) _ (λ p5. let b = p5 in concluded s (with_stack s rest) (step_by by_rule.AppThm (i ∷ j ∷ []) nothing (derived (joined one.hypotheses two.hypotheses) (equation b (app f.left x.left) (app f.right x.right)))) refl [] (sym (append-nil s.made)))))))
+
+deduct_antisym-keeps : (s : State) → Keeps s (deduct_antisym s)
+deduct_antisym-keeps s = bind s (pop as_theorem s.stack) _ (λ p1. let j = p1.0 in let below = p1.1 in bind s (pop as_theorem below) _ (λ p2. let i = p2.0 in let rest = p2.1 in let one = sequent_at s.made i in let two = sequent_at s.made j in concluded s (with_stack s rest) (step_by by_rule.DeductAntisym (i ∷ j ∷ []) nothing (derived (joined (removed one.hypotheses two.conclusion) (removed two.hypotheses one.conclusion)) (equation bool one.conclusion two.conclusion))) refl [] (sym (append-nil s.made))))
+
+beta_conv-keeps : (s : State) → Keeps s (beta_conv s)
+beta_conv-keeps s = bind s (pop as_term s.stack) _ (λ p1. let t = p1.0 in let rest = p1.1 in bind s (ok_or (contracted t) NotRedex) _ (λ p2. let u = p2 in bind s (typed t) _ (λ p3. let a = p3 in concluded s (with_stack s rest) (step_by by_rule.BetaConv [] (Parameters.term t) (derived [] (equation a t u))) refl [] (sym (append-nil s.made)))))
+
+sym_word-keeps : (s : State) → Keeps s (sym_word s)
+sym_word-keeps s = bind s (pop as_theorem s.stack) _ (λ p1. let i = p1.0 in let rest = p1.1 in let one = sequent_at s.made i in bind s (equation_of one) _ (λ p2. let e = p2 in concluded s (with_stack s rest) (step_by by_rule.Sym (i ∷ []) nothing (derived one.hypotheses (equation e.ty e.right e.left))) refl [] (sym (append-nil s.made))))
+
+trans_word-keeps : (s : State) → Keeps s (trans_word s)
+trans_word-keeps s = bind s (pop as_theorem s.stack) _ (λ p1. let j = p1.0 in let below = p1.1 in bind s (pop as_theorem below) _ (λ p2. let i = p2.0 in let rest = p2.1 in let one = sequent_at s.made i in let two = sequent_at s.made j in bind s (equation_of one) _ (λ p3. let e = p3 in bind s (equation_of two) _ (λ p4. let f = p4 in next s (demand (term_eq f.left e.right) NotAlike) _ (concluded s (with_stack s rest) (step_by by_rule.Trans (i ∷ j ∷ []) nothing (derived (joined one.hypotheses two.hypotheses) (equation e.ty e.left f.right))) refl [] (sym (append-nil s.made)))))))
+
+prove_hyp-keeps : (s : State) → Keeps s (prove_hyp s)
+prove_hyp-keeps s = bind s (pop as_theorem s.stack) _ (λ p1. let j = p1.0 in let below = p1.1 in bind s (pop as_theorem below) _ (λ p2. let i = p2.0 in let rest = p2.1 in let one = sequent_at s.made i in let two = sequent_at s.made j in concluded s (with_stack s rest) (step_by by_rule.ProveHyp (i ∷ j ∷ []) nothing (derived (joined one.hypotheses (removed two.hypotheses one.conclusion)) two.conclusion)) refl [] (sym (append-nil s.made))))
+
+subst_word-keeps : (s : State) → Keeps s (subst_word s)
+subst_word-keeps s = bind s (pop as_theorem s.stack) _ (λ p1. let i = p1.0 in let below = p1.1 in bind s (pop as_substitution below) _ (λ p2. let types = p2.0.0 in let terms = p2.0.1 in let rest = p2.1 in let one = sequent_at s.made i in next s (demand (list_all (λ p. is_of_type p.0.1 p.1) terms) BadSubst) _ (concluded s (with_stack s rest) (step_by by_rule.Subst (i ∷ []) (substitution types terms) (derived (distinct term_eq (map (sub types terms) one.hypotheses)) (sub types terms one.conclusion))) refl [] (sym (append-nil s.made)))))
+
+define_const-keeps : (s : State) → Keeps s (define_const s)
+define_const-keeps s = bind s (pop as_term s.stack) _ (λ p1. let t = p1.0 in let below = p1.1 in bind s (pop as_name below) _ (λ p2. let n = p2.0 in let rest = p2.1 in next s (demand (not (is_taken_constant (symbols_of s.made) n)) NameTaken) _ (next s (demand (is_closed t) NotClosed) _ (bind s (typed t) _ (λ p3. let a = p3 in next s (demand (has_type_variables_of a t) ExtraTypeVars) _ (concluded s (with_symbols (with_stack s (constant n ∷ rest)) (defined (Definition.constant n t) ∷ [])) (step_by by_rule.DefineConst [] (Parameters.constant n t) (derived [] (equation a (Term.constant n a) t))) refl (map Made.symbol (defined (Definition.constant n t) ∷ [])) refl))))))
+
+define_const_list-keeps : (s : State) → Keeps s (define_const_list s)
+define_const_list-keeps s = bind s (pop as_theorem s.stack) _ (λ p1. let i = p1.0 in let below = p1.1 in bind s (pop as_constant_pairs below) _ (λ p2. let pairs = p2.0 in let rest = p2.1 in let one = sequent_at s.made i in let equations = defining_equations pairs one.hypotheses in next s (demand (not (list_any (is_taken_constant (symbols_of s.made)) (names_of pairs))) NameTaken) _ (next s (demand (list_all (λ e. is_closed e.1) equations) NotClosed) _ (next s (demand (list_all (λ e. has_type_variables_of e.0.1 e.1) equations) ExtraTypeVars) _ (next s (demand (is_definition_list pairs one) BadDefinitionList) _ (concluded s (with_symbols (with_stack s (list (constant_objects (names_of pairs)) ∷ rest)) (map defined (definitions_in pairs one.hypotheses))) (step_by by_rule.DefineConstList (i ∷ []) (constants pairs) (derived [] (sub [] (constants_put pairs) one.conclusion))) refl (map Made.symbol (map defined (definitions_in pairs one.hypotheses))) refl))))))
+
+restacked : (s t : State) (stack : List Object) → Extends (with_stack s stack) t → Extends s t
+restacked s t stack h = record { exports = h.exports; more = h.more; made = h.made }
+
+two_more : {A : Type 0} (xs ys zs ws : List A) → ((xs ++ ys) ++ zs) ++ ws ≡ xs ++ (ys ++ (zs ++ ws))
+two_more xs ys zs ws = append_assoc (xs ++ ys) zs ws ∙ append_assoc xs ys (zs ++ ws)
+
+make_type-keeps : (s : State) (names : TypeNames) (i : ℕ) (c : HolType) (f : Term) → Keeps s (make_type s names i c f)
+make_type-keeps s names i c f =
+    let one = Made.step (step_by by_rule.FirstLaw (i ∷ []) (Parameters.type_operator names) (first_law names c)) in
+    let two = Made.step (step_by by_rule.SecondLaw (i ∷ []) (Parameters.type_operator names) (second_law names c f)) in
+    let taken = map Made.symbol (defined (Definition.type_operator names c f) ∷ []) in
+    next s (in_limits (type_measure (new_type names) ∷ type_measure (abstraction_type names c) ∷ type_measure (representation_type names c) ∷ sequent_measure (first_law names c) ∷ sequent_measure (second_law names c f) ∷ [])) _
+    (answer s _ (record { exports = refl; more = taken ++ (one ∷ [] ++ two ∷ []); made = two_more s.made taken (one ∷ []) (two ∷ []) }))
+
+define_type-keeps : (s : State) (names : TypeNames) (i : ℕ) → Keeps s (define_type s names i)
+define_type-keeps s names i =
+    let one = sequent_at s.made i in
+    next s (are_new_names (symbols_of s.made) names) _ (next s (predicate_fits names.variables (application_parts one.conclusion)) _ (next s (demand (nat_eq (length one.hypotheses) 0) NotTheSequent) _
+    (bind s (ok_or (application_parts one.conclusion) NotTheSequent) _ (λ p. bind s (typed p.1) _ (λ c. make_type-keeps s names i c p.0)))))
+
+define_type_op-keeps : (s : State) → Keeps s (define_type_op s)
+define_type_op-keeps s =
+    bind s (pop as_theorem s.stack) _ (λ p. bind s (pop as_names p.1) _ (λ q. bind s (pop as_name q.1) _ (λ r. bind s (pop as_name r.1) _ (λ v. bind s (pop as_name v.1) _
+    (λ w t e. restacked s t w.1 (define_type-keeps (with_stack s w.1) (record { operator = w.0; abstraction = v.0; representation = r.0; variables = q.0 }) p.0 t e))))))
+
+assume_or_meet-keeps : (s : State) (sequent : Sequent) (o : Option ℕ) → Keeps s (assume_or_meet s sequent o)
+assume_or_meet-keeps s sequent (Some i) = concluded s s (restatement i sequent) refl [] (sym (append-nil s.made))
+assume_or_meet-keeps s sequent None = concluded s (record s { assumptions = s.assumptions ++ next_step s ∷ [] }) (step_by by_rule.Axiom [] (Parameters.sequent sequent) sequent) refl [] (sym (append-nil s.made))
+
+axiom_word-keeps : (s : State) → Keeps s (axiom_word s)
+axiom_word-keeps s =
+    bind s (pop as_term s.stack) _ (λ p. bind s (pop as_terms p.1) _ (λ q. next s (all_bool (p.0 ∷ q.0)) _
+    (λ t e. restacked s t q.1 (assume_or_meet-keeps (with_stack s q.1) (stated q.0 p.0) _ t e))))
+
+-- the step of a number restates a theorem
+pub record IsRestated (made : List Made) (i : ℕ) : Type 0 where
+  pub step : Step
+  pub at : slice_get (steps_of made) i ≡ Some step
+  pub restates : step.kind ≡ by_rule.Restate
+
+-- each export does
+abbrev HasRestated : State → Type 0
+HasRestated s = AllByRecursion (IsRestated s.made) s.exports
+
+restated-more : (m n : List Made) (i : ℕ) → IsRestated m i → IsRestated (m ++ n) i
+restated-more m n i h = record { step = h.step; at = ap (λ l. slice_get l i) (steps_of-append m n) ∙ slice_get-append (steps_of m) (steps_of n) i h.step h.at; restates = h.restates }
+
+extended : (s t : State) → HasRestated s → Extends s t → HasRestated t
+extended s t h x =
+    subst (λ l. AllByRecursion (IsRestated t.made) l) (sym x.exports)
+    (All-weaker (IsRestated s.made) (IsRestated t.made) (λ i r. subst (λ m. IsRestated m i) (sym x.made) (restated-more s.made x.more i r)) s.exports h)
+
+-- what a word answers has the exports restated
+abbrev Gives : Result State Kind → Type 0
+Gives r = (t : State) → r ≡ Ok t → HasRestated t
+
+gives-bind : {A : Type 0} (o : Result A Kind) (f : A → Result State Kind) → ((a : A) → Gives (f a)) → Gives (o >>= f)
+gives-bind (Ok a) f h t e = h a t e
+gives-bind (Err k) f h t e = absurd (cc)
+
+gives-next : {A : Type 0} (o : Result A Kind) (r : Result State Kind) → Gives r → Gives (o >> r)
+gives-next (Ok a) r h t e = h t e
+gives-next (Err k) r h t e = absurd (cc)
+
+gives-answer : (u : State) → HasRestated u → Gives (Ok u)
+gives-answer u h t e = let f : u ≡ t = cc in subst HasRestated f h
+
+seam : {A : Type 0} (xs : List A) (y : A) → slice_get (xs ++ y ∷ []) (length xs) ≡ Some y
+seam [] y = refl
+seam (x ∷ xs) y = seam xs y
+
+export-gives : (s : State) (i : ℕ) (sequent : Sequent) (o : Option ℕ) → HasRestated s → Gives (export s i sequent o)
+export-gives s i sequent (Some j) h = gives-answer s h
+export-gives s i sequent None h =
+    let x = restatement i sequent in
+    let new : List Made = Made.step x ∷ [] in
+    gives-next (sequent_in_limits sequent) _
+    (gives-answer _ (All-append (IsRestated (s.made ++ new)) s.exports (next_step s ∷ []) (All-weaker (IsRestated s.made) (IsRestated (s.made ++ new)) (λ j r. restated-more s.made new j r) s.exports h)
+    (record { step = x; at = ap (λ l. slice_get l (next_step s)) (steps_of-append s.made new) ∙ seam (steps_of s.made) x; restates = refl }, tt {0})))
+
+thm-gives : (s : State) → HasRestated s → Gives (thm s)
+thm-gives s h =
+    gives-bind (pop as_term s.stack) _ (λ p. gives-bind (pop as_terms p.1) _ (λ q. gives-bind (pop as_theorem q.1) _ (λ r. gives-next (all_bool (p.0 ∷ q.0)) _
+    (gives-next (follows (sequent_at s.made r.0) (stated q.0 p.0)) _ (export-gives (with_stack s r.1) r.0 (stated q.0 p.0) _ h)))))
+
+obey-gives : (s t : State) (w : Word) → HasRestated s → obey s w ≡ Ok t → HasRestated t
+obey-gives s t word.Version h e = absurd (cc)
+obey-gives s t word.Nil h e = extended s t h (nil-keeps s t e)
+obey-gives s t word.Cons h e = extended s t h (cons-keeps s t e)
+obey-gives s t word.HdTl h e = extended s t h (hd_tl-keeps s t e)
+obey-gives s t word.TypeOp h e = extended s t h (type_op-keeps s t e)
+obey-gives s t word.VarType h e = extended s t h (var_type-keeps s t e)
+obey-gives s t word.OpType h e = extended s t h (op_type-keeps s t e)
+obey-gives s t word.Const h e = extended s t h (const-keeps s t e)
+obey-gives s t word.ConstTerm h e = extended s t h (const_term-keeps s t e)
+obey-gives s t word.Var h e = extended s t h (var-keeps s t e)
+obey-gives s t word.VarTerm h e = extended s t h (var_term-keeps s t e)
+obey-gives s t word.AppTerm h e = extended s t h (app_term-keeps s t e)
+obey-gives s t word.AbsTerm h e = extended s t h (abs_term-keeps s t e)
+obey-gives s t word.Def h e = extended s t h (def-keeps s t e)
+obey-gives s t word.Ref h e = extended s t h (ref-keeps s t e)
+obey-gives s t word.Remove h e = extended s t h (remove-keeps s t e)
+obey-gives s t word.Pop h e = extended s t h (drop_object-keeps s t e)
+obey-gives s t word.Pragma h e = extended s t h (drop_object-keeps s t e)
+obey-gives s t word.Refl h e = extended s t h (refl_word-keeps s t e)
+obey-gives s t word.Assume h e = extended s t h (assume-keeps s t e)
+obey-gives s t word.EqMp h e = extended s t h (eq_mp-keeps s t e)
+obey-gives s t word.AbsThm h e = extended s t h (abs_thm-keeps s t e)
+obey-gives s t word.AppThm h e = extended s t h (app_thm-keeps s t e)
+obey-gives s t word.DeductAntisym h e = extended s t h (deduct_antisym-keeps s t e)
+obey-gives s t word.BetaConv h e = extended s t h (beta_conv-keeps s t e)
+obey-gives s t word.Sym h e = extended s t h (sym_word-keeps s t e)
+obey-gives s t word.Trans h e = extended s t h (trans_word-keeps s t e)
+obey-gives s t word.ProveHyp h e = extended s t h (prove_hyp-keeps s t e)
+obey-gives s t word.Subst h e = extended s t h (subst_word-keeps s t e)
+obey-gives s t word.DefineConst h e = extended s t h (define_const-keeps s t e)
+obey-gives s t word.DefineConstList h e = extended s t h (define_const_list-keeps s t e)
+obey-gives s t word.DefineTypeOp h e = extended s t h (define_type_op-keeps s t e)
+obey-gives s t word.Axiom h e = extended s t h (axiom_word-keeps s t e)
+obey-gives s t word.Thm h e = thm-gives s h t e
+
+step_at-gives : (s t : State) (p : Place) (i : Item) → HasRestated s → step_at p s i ≡ Ok t → HasRestated t
+step_at-gives s t start (item.Number z) h e = extended s t h (next s (demand (int_eq z (pos 6)) VersionPlace) _ (same s _ refl refl) t e)
+step_at-gives s t start (item.Name n) h e = absurd (cc)
+step_at-gives s t start (item.Word w) h e = absurd (cc)
+step_at-gives s t version (item.Number z) h e = absurd (cc)
+step_at-gives s t version (item.Name n) h e = absurd (cc)
+step_at-gives s t version (item.Word w) h e = extended s t h (next s (demand (is_version w) VersionPlace) _ (same s _ refl refl) t e)
+step_at-gives s t body (item.Number z) h e = extended s t h (same s _ refl refl t e)
+step_at-gives s t body (item.Name n) h e = extended s t h (same s _ refl refl t e)
+step_at-gives s t body (item.Word w) h e = obey-gives s t w h e
+
+finish-gives : (s t : State) → HasRestated s → finish s ≡ Ok t → HasRestated t
+finish-gives s t h e = extended s t h (next s (demand (is_body s.place) VersionPlace) _ (same s _ refl refl) t e)
+
+abbrev RestatesExports : Accepted → Type 0
+RestatesExports a = AllByRecursion (IsRestated a.made) a.exports
+
+-- EACH EXPORT OF AN ACCEPTED RUN RESTATES A THEOREM
+pub exports-restated : (articles : List (List ℕ)) (a : Accepted) → Run articles (accepted a) → AllByRecursion (IsRestated a.made) a.exports
+exports-restated articles a r =
+    runs-have machine HasRestated (record { command = λ s t c h e. step_at-gives s t s.place c.item h e; end = finish-gives }) RestatesExports (λ s h. h) 1 initial articles (accepted a) a (tt {0}) refl r
+
+some_is : {A : Type 0} {x y : A} → Some x ≡ Some y → x ≡ y
+some_is e = cc
+
+one-restated : (a : Accepted) (is : List ℕ) → AllByRecursion (IsRestated a.made) is → (i : ℕ) → is_one_of i is ≡ true → IsRestated a.made i
+one-restated a [] h i e = absurd (cc)
+one-restated a (j ∷ is) h i e = go (nat_eq i j) (unsigned_Decides i j).0 e (one-restated a is h.1 i)
+  where
+    go : (b : Bool) → (b ≡ true → i ≡ j) → (b || is_one_of i is) ≡ true → (is_one_of i is ≡ true → IsRestated a.made i) → IsRestated a.made i
+    go true f e rest = subst (IsRestated a.made) (sym (f refl)) h.0
+    go false f e rest = rest e
+
+-- so each has a proof
+pub exports-proved : (articles : List (List ℕ)) (a : Accepted) → Run articles (accepted a) → HaveRows a
+exports-proved articles a r i x one at =
+    let h = one-restated a a.exports (exports-restated articles a r) i one in
+    let is : x ≡ h.step = some_is (sym at ∙ h.at) in
+    ap (λ (y : Step). has_row y.kind) is ∙ ap has_row h.restates

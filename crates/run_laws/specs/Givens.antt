@@ -1,0 +1,220 @@
+-- What a run's module leaves without a body was given to the run, and what it defines the run defined.
+use Rattle.std.proofs.Common.{◌≡◌, ℕ, suc, ◌+◌, ◌⊎◌, inl, inr, List, [], ◌∷◌, ◌++◌, length, Bool, true, false, Some, None, slice_get, refl, sym, ap, subst, ◌∙◌, arith}
+use Rattle.std.specs.Prelude.{nat_eq}
+use Rattle.std.specs.List.{AllByRecursion, IsAmong, IsDistinct, position_or_len}
+use Rattle.hol_spec.specs.Names.{Name}
+use Rattle.hol_spec.specs.NameEquality.{name_eq}
+use Rattle.hol_laws.specs.NameEqualityLaws.{name_eq-Decides}
+use Rattle.hol_spec.specs.Types.{HolType, variable_places, type_variables}
+use Rattle.hol_spec.specs.Terms.{Term, bound}
+use Rattle.hol_laws.specs.TermTyping.{loose-typed}
+use Rattle.hol_laws.specs.ListLaws.{distinct-IsDistinct}
+use Rattle.hol_spec.specs.Sequents.{Sequent}
+use Rattle.hol_spec.specs.Definitions.{Definition}
+use Rattle.hol_spec.specs.NewTypes.{abstraction_type, representation_type}
+use Rattle.hol_spec.specs.ClosedForm.{close_term, closed_form}
+use Rattle.hol_spec.specs.Symbols.{Symbol}
+use Rattle.hol_spec.specs.Rules.{Parameters}
+use Rattle.hol_spec.specs.declared.StepKind.{StepKind}
+use Rattle.hol_spec.specs.declared.StepKind.TheVariants as kinds
+use Rattle.hol_spec.specs.Proofs.{Step, symbols_of, steps_of, sequent_at, Accepted}
+use Rattle.article_spec.specs.SoundRuns.{assumed_from, IsSoundRun}
+use Rattle.hol_spec.specs.Lists.{IsIn}
+use Rattle.hol_laws.specs.Members.{IsIn-distinct, All-at, All-each}
+use Rattle.lp_spec.specs.declared.form.Form.TheVariants.{Def}
+use Rattle.lp_spec.specs.Modules.{Declaration, symbol, products, abstractions, term_of}
+use Rattle.module_spec.specs.TypeEnc.{place}
+use Rattle.module_spec.specs.Enc.{Enc, StandsForTerm}
+use Rattle.module_spec.specs.Rows.{has_row, type_or}
+use Rattle.module_spec.specs.Scopes.{Symbols, type_tree, term_tree, generic_tree, under_types, unfilled, filled}
+use Rattle.module_spec.specs.Items.{Content, constant, defined_constant, Item, says, declaration_of}
+use Rattle.module_spec.specs.MadeItems.{contents_of, content_by, items_of}
+use Rattle.module_spec.specs.Reach.{kept, renumbered, renumbered_content}
+use Rattle.module_spec.specs.Image.{symbol_name, type_definition_name, step_name, name_in, is_one_of, image, constant_name, operator_name}
+use Rattle.module_spec.specs.Stands.{IsConstantType, IsLawKind, IsGiven, IsDefined}
+use Rattle.module_laws.specs.BodyTyping.{IsIn-map}
+use Rattle.module_laws.specs.KeptModules.{IsIn-kept}
+use Rattle.module_laws.specs.ItemConditions.{IsDefining, IsContent}
+use Rattle.module_laws.specs.WantedItems.{AreMadeInOrder}
+use Rattle.module_laws.specs.SameSequents.{TypesTold, TypesTold-own, symmetric}
+use Rattle.module_laws.specs.SequentEncoding.{TypeMeant, TermMeant, TypesPlaced, placed-types, type_stands, term_stands, types-are}
+use Rattle.run_laws.specs.Origins.{Origin}
+use Rattle.run_laws.specs.Named.{HasNames, IsStepName, step_name-is, is-assumed, at-place}
+use Rattle.run_laws.specs.ExportOrder.{HaveRows, sequent-step}
+use Rattle.run_laws.specs.Meanings.{ContentMeant}
+use Rattle.run_laws.specs.Standing.{Always, items, keep, number, stays, symbols, declared, stays-meant, item-stands, BothMeant}
+use Rattle.run_laws.specs.PrimitiveRuns.{proved-body, no_definition}
+
+-- a member is among the list
+pub among : {A : Type 0} (xs : List A) (x : A) → IsIn xs x → IsAmong xs x
+among [] x i = absurd i
+among (y ∷ ys) x (inl e) = (0, (omega arith, e))
+among (y ∷ ys) x (inr i) = let r = among ys x i in (suc r.0, (let l = r.1.0 in omega (arith, l), r.1.1))
+
+-- the content of an item asks for something of those before it
+content-asked : (before xs : List Item) (z : Item) → AreMadeInOrder before xs → IsIn xs z → (front : List Item) × IsContent front z.content
+content-asked before [] z h i = absurd i
+content-asked before (y ∷ ys) z h (inl e) = (before, subst (λ (x : Item). IsContent before x.content) (sym e) h.2)
+content-asked before (y ∷ ys) z h (inr i) = content-asked (before ++ y ∷ []) ys z h.3 i
+
+module _ (m : List Declaration) (symbols : Symbols) where
+  own-placed : (vs : List Name) (a : HolType) → vs ≡ type_variables a → TypesPlaced m symbols vs (place (length vs) 0 0 0) (under_types vs unfilled)
+  own-placed vs a e =
+      let outer : length vs ≡ length vs + 0 + 0 + 0 = omega arith in
+      let told = TypesTold-own vs (subst (IsDistinct name_eq) (sym e) (distinct-IsDistinct name_eq (symmetric name_eq name_eq-Decides) (variable_places a))) in
+      placed-types m symbols vs (place (length vs) 0 0 0) (under_types vs unfilled) refl (subst (λ j. TypesTold vs j (under_types vs unfilled)) outer told)
+
+  -- the type of a constant whose symbols mean what they stand for
+  pub constant_type-is : (a : HolType) → TypeMeant m symbols a → IsConstantType m a (generic_tree symbols a)
+  constant_type-is a meant =
+      let vs = type_variables a in
+      record {
+        tree = type_tree symbols (under_types vs unfilled) a;
+        stands = type_stands m symbols vs (place (length vs) 0 0 0) (under_types vs unfilled) (own-placed vs a refl) a meant
+            (All-each (IsIn vs) (variable_places a) (λ n i. IsIn-distinct name_eq name_eq-Decides (variable_places a) n i));
+        is = ap (λ ds. products ds (term_of (type_tree symbols (under_types vs unfilled) a))) (types-are vs);
+      }
+
+  -- and the term of a definition
+  pub definition-stands : (before : List Item) (a : HolType) (t : Term) → IsDefining before a t → TermMeant m symbols t
+      → StandsForTerm m (close_term (type_variables a) [] t) (place (length (type_variables a)) 0 0 0) (term_tree symbols (filled symbols (under_types (type_variables a) unfilled)) t)
+  definition-stands before a t h meant =
+      let vs = type_variables a in
+      let scope = filled symbols (under_types vs unfilled) in
+      term_stands m symbols vs [] (place (length vs) 0 0 0) scope
+      (record { types = own-placed vs a refl; terms = λ v i. absurd i; bounds = λ k l. refl })
+      t meant h.type_variables h.no_free (loose-typed [] t a h.typed)
+
+  module _ (run : Accepted) (number : ℕ → ℕ) where
+    abbrev made_of : List ℕ → Content → Declaration
+    made_of name c = declaration_of symbols name (renumbered_content number c)
+
+    meant-at : (c d : Content) → c ≡ d → ContentMeant m symbols (renumbered_content number c) → ContentMeant m symbols (renumbered_content number d)
+    meant-at c d e h = subst (λ b. ContentMeant m symbols (renumbered_content number b)) e h
+
+    -- the declaration of a symbol without a body
+    pub symbol-given : (name : List ℕ) (c : Content) (x : Symbol) → IsIn (symbols_of run.made) x → IsIn (contents_of x) c → name ≡ symbol_name x c → ContentMeant m symbols (renumbered_content number c)
+        → (made_of name c).body ≡ None → IsGiven m run (made_of name c)
+    symbol-given name c (Symbol.input_constant n) i (inl e) w meant none = subst (IsGiven m run) (sym (λ t. made_of (w t) (e t))) (IsGiven.input_constant n (among (symbols_of run.made) _ i))
+    symbol-given name c (Symbol.input_constant n) i (inr k) w meant none = absurd k
+    symbol-given name c (Symbol.input_operator n j) i (inl e) w meant none = subst (IsGiven m run) (sym (λ t. made_of (w t) (e t))) (IsGiven.input_operator n j (among (symbols_of run.made) _ i))
+    symbol-given name c (Symbol.input_operator n j) i (inr k) w meant none = absurd k
+    symbol-given name c (Symbol.defined (Definition.constant n u)) i (inl e) w meant none = let f : Some _ ≡ None = sym (ap (λ b. (made_of name b).body) e) ∙ none in absurd (cc)
+    symbol-given name c (Symbol.defined (Definition.constant n u)) i (inr k) w meant none = absurd k
+    symbol-given name c (Symbol.defined (Definition.type_operator names a f)) i (inl e) w meant none =
+        let v : name ≡ operator_name names.operator = w ∙ ap type_definition_name e in
+        subst (IsGiven m run) (sym (λ t. made_of (v t) (e t))) (IsGiven.type_operator names a f (among (symbols_of run.made) _ i))
+    symbol-given name c (Symbol.defined (Definition.type_operator names a f)) i (inr (inl e)) w meant none =
+        let v : name ≡ constant_name names.abstraction = w ∙ ap type_definition_name e in
+        subst (IsGiven m run) (sym (λ t. made_of (v t) (e t)))
+        (IsGiven.abstraction names a f _ (among (symbols_of run.made) _ i) (constant_type-is (abstraction_type names a) (meant-at c (constant names.abstraction (abstraction_type names a)) e meant)))
+    symbol-given name c (Symbol.defined (Definition.type_operator names a f)) i (inr (inr (inl e))) w meant none =
+        let v : name ≡ constant_name names.representation = w ∙ ap type_definition_name e in
+        subst (IsGiven m run) (sym (λ t. made_of (v t) (e t)))
+        (IsGiven.representation names a f _ (among (symbols_of run.made) _ i) (constant_type-is (representation_type names a) (meant-at c (constant names.representation (representation_type names a)) e meant)))
+    symbol-given name c (Symbol.defined (Definition.type_operator names a f)) i (inr (inr (inr k))) w meant none = absurd k
+
+    -- the declaration of a definition
+    pub symbol-defined : (name : List ℕ) (c : Content) (x : Symbol) (front : List Item) → IsContent front c → IsIn (symbols_of run.made) x → IsIn (contents_of x) c → name ≡ symbol_name x c → ContentMeant m symbols (renumbered_content number c)
+        → (made_of name c).form ≡ Def → IsDefined m run (made_of name c)
+    symbol-defined name c (Symbol.input_constant n) front h i (inl e) w meant def = let f = sym (ap (λ b. (made_of name b).form) e) ∙ def in absurd (cc)
+    symbol-defined name c (Symbol.input_constant n) front h i (inr k) w meant def = absurd k
+    symbol-defined name c (Symbol.input_operator n j) front h i (inl e) w meant def = let f = sym (ap (λ b. (made_of name b).form) e) ∙ def in absurd (cc)
+    symbol-defined name c (Symbol.input_operator n j) front h i (inr k) w meant def = absurd k
+    symbol-defined name c (Symbol.defined (Definition.constant n u)) front h i (inl e) w meant def =
+        let a = type_or u in
+        let vs = type_variables a in
+        let both = meant-at c (defined_constant n a u) e meant in
+        let asked = subst (IsContent front) e h in
+        let body = term_tree symbols (filled symbols (under_types vs unfilled)) u in
+        record {
+          name = n;
+          term = u;
+          ty = a;
+          among = among (symbols_of run.made) _ i;
+          typed = asked.typed;
+          A = generic_tree symbols a;
+          B = body;
+          type_stands = constant_type-is a both.0;
+          term_stands = definition-stands front a u asked both.1;
+          is = (λ t. made_of (w t) (e t)) ∙ ap (λ ds. record { name = constant_name n; form = Def; ty = generic_tree symbols a; body = Some (abstractions ds body) }) (types-are vs);
+        }
+    symbol-defined name c (Symbol.defined (Definition.constant n u)) front h i (inr k) w meant def = absurd k
+    symbol-defined name c (Symbol.defined (Definition.type_operator names a f)) front h i (inl e) w meant def = let f = sym (ap (λ b. (made_of name b).form) e) ∙ def in absurd (cc)
+    symbol-defined name c (Symbol.defined (Definition.type_operator names a f)) front h i (inr (inl e)) w meant def = let f = sym (ap (λ b. (made_of name b).form) e) ∙ def in absurd (cc)
+    symbol-defined name c (Symbol.defined (Definition.type_operator names a f)) front h i (inr (inr (inl e))) w meant def = let f = sym (ap (λ b. (made_of name b).form) e) ∙ def in absurd (cc)
+    symbol-defined name c (Symbol.defined (Definition.type_operator names a f)) front h i (inr (inr (inr k))) w meant def = absurd k
+
+    -- what is unproved has no body
+    unproved-is : (name : List ℕ) (b : Bool) → b ≡ false → (kind : StepKind) (js : List ℕ) (ss : List Sequent) (g : Parameters) (s : Sequent)
+        → made_of name (content_by b kind js ss g s) ≡ symbol name (made_of name (content_by b kind js ss g s)).ty
+    unproved-is name false e kind js ss g s = refl
+    unproved-is name true e kind js ss g s = absurd (cc)
+
+    law-kind : (kind : StepKind) → (kind ≡ kinds.FirstLaw) ⊎ (kind ≡ kinds.SecondLaw) → IsLawKind kind
+    law-kind kind (inl e) = subst IsLawKind (sym e) (tt {0})
+    law-kind kind (inr e) = subst IsLawKind (sym e) (tt {0})
+
+    differ : {A : Type 0} (b : Bool) → b ≡ true → b ≡ false → A
+    differ b e f = let g : true ≡ false = sym e ∙ f in absurd (cc)
+
+    -- the declaration of a step without a proof
+    pub step-given : (rows : HaveRows run) (name : List ℕ) (c : Content) (i : ℕ) (x : Step) (kind : StepKind) (js : List ℕ) (ss : List Sequent) (g : Parameters) → slice_get (steps_of run.made) i ≡ Some x
+        → c ≡ content_by (has_row x.kind) kind js ss g x.sequent → IsStepName run i x.kind name → Enc m (closed_form (sequent_at run.made i)) (made_of name c).ty → (made_of name c).body ≡ None → IsGiven m run (made_of name c)
+    step-given rows name c i x kind js ss g at e w enc none = go (has_row x.kind) refl w
+      where
+        is_symbol : has_row x.kind ≡ false → made_of name c ≡ symbol name (made_of name c).ty
+        is_symbol row = subst (λ d. made_of name d ≡ symbol name (made_of name d).ty) (sym e) (unproved-is name (has_row x.kind) row kind js ss g x.sequent)
+
+        go : (b : Bool) → has_row x.kind ≡ b → IsStepName run i x.kind name → IsGiven m run (made_of name c)
+        go true row n = absurd (proved-body symbols number name (has_row x.kind) row kind js ss g x.sequent (ap (λ d. (made_of name d).body) (sym e) ∙ none))
+        go false row (IsStepName.an_export one v) = differ (has_row x.kind) (rows i x one at) row
+        go false row (IsStepName.a_theorem out theorem v) = differ (has_row x.kind) theorem row
+        go false row (IsStepName.an_assumption out one k v) =
+            subst (IsGiven m run) (sym (is_symbol row ∙ ap (λ l. symbol l (made_of name c).ty) v)) (IsGiven.assumption (position_or_len (nat_eq i) run.assumptions) i (made_of name c).ty (at-place i run.assumptions one) enc)
+        go false row (IsStepName.a_law out k v) =
+            subst (IsGiven m run) (sym (is_symbol row ∙ ap (λ l. symbol l (made_of name c).ty) v)) (IsGiven.law i (made_of name c).ty (record { step = x; at = at; law = law-kind x.kind k }) enc)
+
+module _ (run : Accepted) (named : HasNames run) (sound : IsSoundRun run) (rows : HaveRows run) (order : AreMadeInOrder [] (items_of (name_in run) run.made))
+    (origins : AllByRecursion (Origin run run.made Always) (items_of (name_in run) run.made)) where
+  content-of : (z : Item) → IsIn (items run named sound) z → keep run named sound z.symbol ≡ true → ContentMeant (image run) (symbols run named sound) (renumbered_content (number run named sound) z.content)
+  content-of z i k =
+      (All-at (BothMeant run named sound) (stays run named sound) (renumbered (number run named sound) z) (stays-meant run named sound order origins)
+      (IsIn-map (renumbered (number run named sound)) (kept (keep run named sound) (items run named sound)) z (IsIn-kept (keep run named sound) (items run named sound) z i k))).1
+
+  zero-plus : (i : ℕ) → 0 + i ≡ i
+  zero-plus i = omega arith
+
+  named-step : (j : ℕ) (x : Step) → slice_get (steps_of run.made) j ≡ Some x → IsStepName run j x.kind (step_name run j x.kind)
+  named-step j x at =
+      step_name-is run j x.kind (λ idle. ap (is_one_of j) sound.assumptions ∙ subst (λ k. is_one_of k (assumed_from 0 (steps_of run.made)) ≡ true) (zero-plus j) (is-assumed 0 (steps_of run.made) j x at idle))
+
+  -- WHAT HAS NO BODY WAS GIVEN
+  pub item-given : (z : Item) → IsIn (items run named sound) z → keep run named sound z.symbol ≡ true → (declared run named sound z).body ≡ None → IsGiven (image run) run (declared run named sound z)
+  item-given z i k none = go (All-at (Origin run run.made Always) (items run named sound) z origins i)
+    where
+      go : Origin run run.made Always z → IsGiven (image run) run (declared run named sound z)
+      go (Origin.of_symbol x one j e) = symbol-given (image run) (symbols run named sound) run (number run named sound) z.name z.content x one j e (content-of z i k) none
+      go (Origin.of_step j x kind js ss g p at e w) =
+          step-given (image run) (symbols run named sound) run (number run named sound) rows z.name z.content j x kind js ss g at e
+          (subst (IsStepName run j x.kind) (sym w) (named-step j x at))
+          (subst (λ s. Enc (image run) (closed_form s) (declared run named sound z).ty)
+          (sym (sequent-step (steps_of run.made) j x (record { hypotheses = []; conclusion = bound 0 }) at))
+          (item-stands run named sound order origins z i k x.sequent (ap says e ∙ says-step (has_row x.kind) kind js ss g x.sequent)))
+          none
+        where
+          says-step : (b : Bool) (kind : StepKind) (js : List ℕ) (ss : List Sequent) (g : Parameters) (s : Sequent) → says (content_by b kind js ss g s) ≡ Some s
+          says-step false kind js ss g s = refl
+          says-step true kind js ss g s = refl
+
+  -- WHAT IS DEFINED THE RUN DEFINED
+  pub item-defined : (z : Item) → IsIn (items run named sound) z → keep run named sound z.symbol ≡ true → (declared run named sound z).form ≡ Def → IsDefined (image run) run (declared run named sound z)
+  item-defined z i k def = go (All-at (Origin run run.made Always) (items run named sound) z origins i)
+    where
+      go : Origin run run.made Always z → IsDefined (image run) run (declared run named sound z)
+      go (Origin.of_symbol x one j e) =
+          let asked = content-asked [] (items run named sound) z order i in
+          symbol-defined (image run) (symbols run named sound) run (number run named sound) z.name z.content x asked.0 asked.1 one j e (content-of z i k) def
+      go (Origin.of_step j x kind js ss g p at e w) =
+          absurd (no_definition (symbols run named sound) (number run named sound) z.name (has_row x.kind) kind js ss g x.sequent
+          (ap (λ c. (declaration_of (symbols run named sound) z.name (renumbered_content (number run named sound) c)).form) (sym e) ∙ def))

@@ -1,0 +1,17 @@
+pub mod AcceptedRuns
+pub mod ExportOrder
+pub mod ExportSteps
+pub mod ExportsKept
+pub mod FaithfulRuns
+pub mod Givens
+pub mod Meanings
+pub mod NameLaws
+pub mod Named
+pub mod NewNames
+pub mod Origins
+pub mod PremiseUses
+pub mod PrimitiveRuns
+pub mod Reaching
+pub mod RunModules
+pub mod Standing
+pub mod Uses

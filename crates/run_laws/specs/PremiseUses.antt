@@ -1,0 +1,168 @@
+-- The proof of a step uses each of its premises, where what a hypothesis is proved for is a hypothesis.
+use Rattle.std.proofs.Common.{◌≡◌, ℕ, List, [], ◌∷◌, ◌++◌, map, Bool, true, false, ◌||◌, cond, inl, inr, refl, sym, ap, subst, ◌∙◌}
+use Rattle.std.specs.Cmp.{unsigned_Decides}
+use Rattle.std.specs.List.{list_any}
+use Rattle.hol_spec.specs.Terms.{Term}
+use Rattle.hol_laws.specs.TermLaws.{term_eq-Decides}
+use Rattle.hol_spec.specs.DefinitionLists.{constants_put}
+use Rattle.hol_spec.specs.Sequents.{Sequent, type_variables_of, free_variables_of}
+use Rattle.hol_spec.specs.Rules.{Rule, Parameters}
+use Rattle.hol_spec.specs.Rules as rule
+use Rattle.hol_spec.specs.declared.StepKind.{StepKind}
+use Rattle.hol_spec.specs.declared.StepKind.TheVariants as kinds
+use Rattle.hol_spec.specs.Lists.{IsIn}
+use Rattle.hol_laws.specs.Members.{IsIn-right}
+use Rattle.lp_spec.specs.Trees.{Tree, Sym, Lam}
+use Rattle.lp_spec.specs.Modules.{applied, term_of, proof_of, eq_mp_symbol, fun_ext_symbol, app_thm_symbol, prop_ext_symbol}
+use Rattle.module_spec.specs.Scopes.{Symbols, Scope, type_tree, term_tree, under_term, under_proof, set_proof, images}
+use Rattle.module_spec.specs.ProofTrees.{sym_symbol, trans_symbol, premise_tree, prove_hyp_tree, constants_scope}
+use Rattle.module_spec.specs.Rows.{proof_tree, equated_type, left_side, right_side, argument_type, result_type}
+use Rattle.module_spec.specs.Items.{Item}
+use Rattle.module_spec.specs.Stands.{occurs}
+use Rattle.module_laws.specs.ItemConditions.{ArePremisesAmong}
+use Rattle.run_laws.specs.Uses.{head-occurs, argument-occurs}
+
+-- the premise that proves a hypothesis proves one of the other premise
+abbrev pub ProvesHypothesis : StepKind → List Sequent → Type 0
+ProvesHypothesis kinds.ProveHyp (one ∷ two ∷ []) = IsIn two.hypotheses one.conclusion
+ProvesHypothesis kind premises = Unit {0}
+
+module _ (before : List Item) where
+  no-premises : (js : List ℕ) → ArePremisesAmong before js [] → js ≡ []
+  no-premises [] h = refl
+  no-premises (j ∷ js) h = absurd h
+
+  one-premise : (js : List ℕ) (one : Sequent) → ArePremisesAmong before js (one ∷ []) → (a : ℕ) × (js ≡ a ∷ [])
+  one-premise [] one h = absurd h
+  one-premise (a ∷ []) one h = (a, refl)
+  one-premise (a ∷ b ∷ js) one h = absurd h.1
+
+  two-premises : (js : List ℕ) (one two : Sequent) → ArePremisesAmong before js (one ∷ two ∷ []) → (a : ℕ) × (b : ℕ) × (js ≡ a ∷ b ∷ [])
+  two-premises [] one two h = absurd h
+  two-premises (a ∷ []) one two h = absurd h.1
+  two-premises (a ∷ b ∷ []) one two h = (a, b, refl)
+  two-premises (a ∷ b ∷ c ∷ js) one two h = absurd h.1.1
+
+module _ (j : ℕ) where
+  or-right : (a b : Bool) → b ≡ true → (a || b) ≡ true
+  or-right true b e = refl
+  or-right false b e = e
+
+  any-at : (xs : List Tree) (x : Tree) → IsIn xs x → occurs j x ≡ true → list_any (occurs j) xs ≡ true
+  any-at [] x i e = absurd i
+  any-at (y ∷ ys) x (inl is) e = ap (λ b. b || list_any (occurs j) ys) (ap (occurs j) (sym is) ∙ e)
+  any-at (y ∷ ys) x (inr i) e = or-right (occurs j y) (list_any (occurs j) ys) (any-at ys x i e)
+
+  premise-occurs : (scope : Scope) (a : ℕ) (q : Sequent) → j ≡ a → occurs j (premise_tree scope (a, q)) ≡ true
+  premise-occurs scope a q e = head-occurs j (Sym a) (map scope.types (type_variables_of q) ++ map scope.terms (free_variables_of q) ++ map scope.proofs q.hypotheses) ((unsigned_Decides j a).1 e)
+
+  within : (f : ℕ) (xs : List Tree) (x : Tree) → IsIn xs x → occurs j x ≡ true → occurs j (applied (Sym f) xs) ≡ true
+  within f xs x i e = argument-occurs j (Sym f) xs (any-at xs x i e)
+
+  under_lam : (a b : Tree) → occurs j b ≡ true → occurs j (Lam a b) ≡ true
+  under_lam a b e = or-right (occurs j a) (occurs j b) e
+
+  mapped : (f : Term → Tree) (hs : List Term) (h : Term) → IsIn hs h → IsIn (map f hs) (f h)
+  mapped f [] h i = absurd i
+  mapped f (g ∷ hs) h (inl e) = inl (ap f e)
+  mapped f (g ∷ hs) h (inr i) = inr (mapped f hs h i)
+
+  module _ (symbols : Symbols) (scope : Scope) where
+    -- the proof of a hypothesis
+    hypothesis-occurs : (a b : ℕ) (one two : Sequent) → IsIn two.hypotheses one.conclusion → j ≡ a → occurs j (prove_hyp_tree symbols scope one.conclusion (a, one) (b, two)) ≡ true
+    hypothesis-occurs a b one two i e =
+        let inner = set_proof one.conclusion (premise_tree scope (a, one)) scope in
+        let own : inner.proofs one.conclusion ≡ premise_tree scope (a, one) = ap (λ t. cond t (premise_tree scope (a, one)) (scope.proofs one.conclusion)) ((term_eq-Decides one.conclusion one.conclusion).1 refl) in
+        within b (map inner.types (type_variables_of two) ++ map inner.terms (free_variables_of two) ++ map inner.proofs two.hypotheses) (inner.proofs one.conclusion)
+        (IsIn-right (map inner.types (type_variables_of two) ++ map inner.terms (free_variables_of two)) (map inner.proofs two.hypotheses) (inner.proofs one.conclusion) (mapped inner.proofs two.hypotheses one.conclusion i))
+        (ap (occurs j) own ∙ premise-occurs scope a one e)
+
+    abbrev Uses : StepKind → List Sequent → Parameters → List ℕ → Type 0
+    Uses kind premises given js = IsIn js j → occurs j (proof_tree symbols scope kind js premises given) ≡ true
+
+    none : (before : List Item) (kind : StepKind) (given : Parameters) (js : List ℕ) → ArePremisesAmong before js [] → Uses kind [] given js
+    none before kind given js h = subst (Uses kind [] given) (sym (no-premises before js h)) (λ i. absurd i)
+
+    -- THE PROOF OF A STEP USES ITS PREMISES
+    pub premises-used : (before : List Item) (kind : StepKind) (js : List ℕ) (premises : List Sequent) (given : Parameters) (s : Sequent) → Rule kind premises given s → ArePremisesAmong before js premises → ProvesHypothesis kind premises
+        → (kind ≡ kinds.FirstLaw → ⊥) → (kind ≡ kinds.SecondLaw → ⊥) → Uses kind premises given js
+    premises-used before kind js premises given s (rule.refl h e) among used f g = none before kind given js among
+    premises-used before kind js premises given s (rule.assume h e) among used f g = none before kind given js among
+    premises-used before kind js premises given s (rule.beta_conv h e) among used f g = none before kind given js among
+    premises-used before kind js premises given s (rule.define_const h e) among used f g = none before kind given js among
+    premises-used before kind js premises given s (rule.recorded is) among used f g = none before kind given js among
+    premises-used before kind js premises given s (rule.first_law d e) among used f g = absurd (f refl)
+    premises-used before kind js premises given s (rule.second_law d e) among used f g = absurd (g refl)
+    premises-used before kind js premises given s (rule.eq_mp {one = one} {two = two} e p i) among used f g =
+        let w = two-premises before js one two among in
+        let xs : List Tree = term_tree symbols scope (left_side one.conclusion) ∷ term_tree symbols scope (right_side one.conclusion) ∷ premise_tree scope (w.0, one) ∷ premise_tree scope (w.1, two) ∷ [] in
+        subst (Uses kind premises given) (sym w.2) (λ k. elim k [
+          | inl same ↦ within eq_mp_symbol xs (premise_tree scope (w.0, one)) (inr (inr (inl refl))) (premise-occurs scope w.0 one same)
+          | inr (inl same) ↦ within eq_mp_symbol xs (premise_tree scope (w.1, two)) (inr (inr (inr (inl refl)))) (premise-occurs scope w.1 two same)
+          | inr (inr no_more) ↦ absurd no_more
+        ])
+    premises-used before kind js premises given s (rule.abs_thm {v = v} {one = one} e p i) among used f g =
+        let w = one-premise before js one among in
+        let xs : List Tree = type_tree symbols scope.types (v.1) ∷ type_tree symbols scope.types (equated_type one.conclusion) ∷ Lam (term_of (type_tree symbols scope.types (v.1))) (term_tree symbols (under_term v scope) (left_side one.conclusion)) ∷ Lam (term_of (type_tree symbols scope.types (v.1))) (term_tree symbols (under_term v scope) (right_side one.conclusion)) ∷ Lam (term_of (type_tree symbols scope.types (v.1))) (premise_tree (under_term v scope) (w.0, one)) ∷ [] in
+        subst (Uses kind premises given) (sym w.1) (λ k. elim k [
+          | inl same ↦ within fun_ext_symbol xs _ (inr (inr (inr (inr (inl refl))))) (under_lam (term_of (type_tree symbols scope.types v.1)) (premise_tree (under_term v scope) (w.0, one)) (premise-occurs (under_term v scope) w.0 one same))
+          | inr no_more ↦ absurd no_more
+        ])
+    premises-used before kind js premises given s (rule.app_thm {one = one} {two = two} e p i) among used f g =
+        let w = two-premises before js one two among in
+        let xs : List Tree = type_tree symbols scope.types (argument_type (equated_type one.conclusion)) ∷ type_tree symbols scope.types (result_type (equated_type one.conclusion)) ∷ term_tree symbols scope (left_side one.conclusion) ∷ term_tree symbols scope (right_side one.conclusion) ∷ term_tree symbols scope (left_side two.conclusion) ∷ term_tree symbols scope (right_side two.conclusion) ∷ premise_tree scope (w.0, one) ∷ premise_tree scope (w.1, two) ∷ [] in
+        subst (Uses kind premises given) (sym w.2) (λ k. elim k [
+          | inl same ↦ within app_thm_symbol xs (premise_tree scope (w.0, one)) (inr (inr (inr (inr (inr (inr (inl refl))))))) (premise-occurs scope w.0 one same)
+          | inr (inl same) ↦ within app_thm_symbol xs (premise_tree scope (w.1, two)) (inr (inr (inr (inr (inr (inr (inr (inl refl)))))))) (premise-occurs scope w.1 two same)
+          | inr (inr no_more) ↦ absurd no_more
+        ])
+    premises-used before kind js premises given s (rule.deduct_antisym {one = one} {two = two} e) among used f g =
+        let w = two-premises before js one two among in
+        let xs : List Tree = term_tree symbols scope (one.conclusion) ∷ term_tree symbols scope (two.conclusion) ∷ Lam (proof_of (term_tree symbols scope (one.conclusion))) (premise_tree (under_proof one.conclusion scope) (w.1, two)) ∷ Lam (proof_of (term_tree symbols scope (two.conclusion))) (premise_tree (under_proof two.conclusion scope) (w.0, one)) ∷ [] in
+        let p = one.conclusion in
+        let q = two.conclusion in
+        subst (Uses kind premises given) (sym w.2) (λ k. elim k [
+          | inl same ↦ within prop_ext_symbol xs _ (inr (inr (inr (inl refl)))) (under_lam (proof_of (term_tree symbols scope q)) (premise_tree (under_proof q scope) (w.0, one)) (premise-occurs (under_proof q scope) w.0 one same))
+          | inr (inl same) ↦ within prop_ext_symbol xs _ (inr (inr (inl refl))) (under_lam (proof_of (term_tree symbols scope p)) (premise_tree (under_proof p scope) (w.1, two)) (premise-occurs (under_proof p scope) w.1 two same))
+          | inr (inr no_more) ↦ absurd no_more
+        ])
+    premises-used before kind js premises given s (rule.sym {one = one} e p) among used f g =
+        let w = one-premise before js one among in
+        let xs : List Tree = type_tree symbols scope.types (equated_type one.conclusion) ∷ term_tree symbols scope (left_side one.conclusion) ∷ term_tree symbols scope (right_side one.conclusion) ∷ premise_tree scope (w.0, one) ∷ [] in
+        subst (Uses kind premises given) (sym w.1) (λ k. elim k [
+          | inl same ↦ within sym_symbol xs (premise_tree scope (w.0, one)) (inr (inr (inr (inl refl)))) (premise-occurs scope w.0 one same)
+          | inr no_more ↦ absurd no_more
+        ])
+    premises-used before kind js premises given s (rule.trans {one = one} {two = two} e p i) among used f g =
+        let w = two-premises before js one two among in
+        let xs : List Tree = type_tree symbols scope.types (equated_type one.conclusion) ∷ term_tree symbols scope (left_side one.conclusion) ∷ term_tree symbols scope (right_side one.conclusion) ∷ term_tree symbols scope (right_side two.conclusion) ∷ premise_tree scope (w.0, one) ∷ premise_tree scope (w.1, two) ∷ [] in
+        subst (Uses kind premises given) (sym w.2) (λ k. elim k [
+          | inl same ↦ within trans_symbol xs (premise_tree scope (w.0, one)) (inr (inr (inr (inr (inl refl))))) (premise-occurs scope w.0 one same)
+          | inr (inl same) ↦ within trans_symbol xs (premise_tree scope (w.1, two)) (inr (inr (inr (inr (inr (inl refl)))))) (premise-occurs scope w.1 two same)
+          | inr (inr no_more) ↦ absurd no_more
+        ])
+    premises-used before kind js premises given s (rule.prove_hyp {one = one} {two = two} e) among used f g =
+        let w = two-premises before js one two among in
+        subst (Uses kind premises given) (sym w.2) (λ k. elim k [
+          | inl same ↦ hypothesis-occurs w.0 w.1 one two used same
+          | inr (inl same) ↦ premise-occurs (set_proof one.conclusion (premise_tree scope (w.0, one)) scope) w.1 two same
+          | inr (inr no_more) ↦ absurd no_more
+        ])
+    premises-used before kind js premises given s (rule.subst {types = types} {terms = terms} {one = one} h e) among used f g =
+        let w = one-premise before js one among in
+        subst (Uses kind premises given) (sym w.1) (λ k. elim k [
+          | inl same ↦ premise-occurs (images symbols types terms scope) w.0 one same
+          | inr no_more ↦ absurd no_more
+        ])
+    premises-used before kind js premises given s (rule.restate {one = one} is l) among used f g =
+        let w = one-premise before js one among in
+        subst (Uses kind premises given) (sym w.1) (λ k. elim k [
+          | inl same ↦ premise-occurs scope w.0 one same
+          | inr no_more ↦ absurd no_more
+        ])
+    premises-used before kind js premises given s (rule.define_const_list {pairs = pairs} {one = one} d l e) among used f g =
+        let w = one-premise before js one among in
+        subst (Uses kind premises given) (sym w.1) (λ k. elim k [
+          | inl same ↦ premise-occurs (constants_scope symbols scope (constants_put pairs)) w.0 one same
+          | inr no_more ↦ absurd no_more
+        ])

@@ -1,0 +1,12 @@
+//! Worked examples of what is meant, where they need the definitions of several crates, or of a crate that much stands on. Nothing stands on them; each is computed, or built of the parts of the definition.
+//!
+//! | File of `proofs/` | Examples |
+//! |---|---|
+//! | `SmallRules` | the words of the rules, on small articles |
+//! | `Parameters` | what counts as a parameter of a sequent, and the limit |
+//! | `WeakenedRun` | a run with an assumption and an export: its module, why its assumption may stand without a body, and that its export reaches it |
+//! | `DefinedConstant` | a definition that is the run's |
+//! | `ProofRows` | two runs as proofs, and what their steps say derives |
+//! | `Reasons` | why the other declarations may have no body: inputs, and what a type definition makes |
+//! | `WhatWasRead` | what was read of a shelf that tells its files, and of one that doesn't, and how an answer comes of it |
+#![tactic(auto)]

@@ -1,0 +1,14 @@
+pub mod ByteNames
+pub mod FewCommands
+pub mod ItemUses
+pub mod Keys
+pub mod ListedVariables
+pub mod ModuleItems
+pub mod NamedBuilding
+pub mod NamedDefining
+pub mod NamedInference
+pub mod NamedRuns
+pub mod NamedStates
+pub mod NeededItems
+pub mod RootItems
+pub mod StandingRuns

@@ -1,0 +1,32 @@
+//! The module of every accepted run stands for its run: beside what is shown of every run's module, each of its declarations is reached by an export.
+//!
+//! There is no code: what is shown beyond lemmas is a function that does nothing, whose contract is the law.
+//!
+//! | File | Laws of |
+//! |---|---|
+//! | `Keys` | what types, terms and sequents mention: operators and constants |
+//! | `ModuleItems` | where each item of a module is declared, what it asks of those before it, and which item a constant is |
+//! | `ListedVariables` | the variables of a list of constants: each is free in the premise, and its constant is put for it |
+//! | `ItemUses` | the declaration of an item uses what the item needs, or a constant whose generic type mentions it |
+//! | `NeededItems` | each step needs its premises, and a kept item needs what it needed |
+//! | `RootItems` | what gives a root is named as an export |
+//! | `StandingRuns` | what is kept is reached, so the module of an accepted run with names stands for it |
+//! | `FewCommands` | a text within its limits gives few commands |
+//! | `ByteNames` | a line of bytes writes a name of bytes, and so do the name items of a text of bytes |
+//! | `NamedStates` | a state whose objects and symbols have names of bytes, and what a command adds to it |
+//! | `NamedBuilding`, `NamedInference`, `NamedDefining` | each word keeps the names of a state, takes inputs of few arguments, and makes two steps at most |
+//! | `NamedRuns` | every accepted run over fewer than 2^31 articles of bytes has names, so its module stands for it |
+#![tactic(auto)]
+
+ghost use Rattle.standing_laws.specs.NamedRuns.{RunsOfBytesStand};
+ghost use Rattle.standing_laws.specs.StandingRuns.{RunsStand};
+
+/// The module of an accepted run that has names stands for it.
+pub fn runs_stand()
+    ensures { RunsStand }
+{}
+
+/// The module of an accepted run over fewer than 2^31 articles of bytes stands for it.
+pub fn runs_of_bytes_stand()
+    ensures { RunsOfBytesStand }
+{}

@@ -1,0 +1,53 @@
+//! The laws of texts: every text has one answer, the prelude says the types of the signature, and what is written of a module reads
+//! as that module alone.
+//!
+//! The functions here do nothing, and each has a law for its contract. Each file of `specs/` has the laws of one subject:
+//!
+//! | File | Laws |
+//! |---|---|
+//! | `ReadingSound`, `ReadingComplete` | what is not refused is of the grammar, and what is of the grammar is not refused |
+//! | `ReadingLaws` | so every text has one answer |
+//! | `FaultNames`, `FaultContexts`, `FaultMoves`, `FaultReach`, `FaultStands`, `FaultFollows`, `FaultPlaces`, `FaultLeast`, `FaultLaws` | a text is refused for a fault that it shows, the one at the least place |
+//! | `FaultLimits` | and so it is under a limit of its bytes |
+//! | `ReadingOrder` | what has been read so far can come in a module |
+//! | `PreludeLaws` | each line of the prelude says the type of its symbol |
+//! | `WrittenTokens`, `WrittenReads`, `WrittenModules` | the tokens, the trees and the module that are read of what is written |
+//!
+//! A proof has a law by a call, or cites one by its path:
+//!
+//! ```text
+//! text_laws::one_answer();
+//! use Rattle.text_laws.specs.ReadingLaws.{answer-Reads}
+//! ```
+#![tactic(auto)]
+
+ghost use Rattle.lp_spec.specs.TextLaws.{EachFaultTold, EachLimitTold, OneAnswer, PreludeReads, WrittenReads};
+
+/// The law of readings: every text reads as exactly one module, or is refused for exactly one fault.
+pub fn one_answer()
+    ensures { OneAnswer }
+{}
+
+/// The law of faults: a text is refused for a fault that it shows, the one at the least place, and it reads as a module
+/// exactly where it shows none.
+pub fn faults_told()
+    ensures { EachFaultTold }
+{}
+
+/// The law of limits: under a limit of its bytes a text is refused for a fault that it shows under it, the one at the least
+/// place where it isn't refused as too long, and a text that reads as a module under it shows none.
+pub fn limits_told()
+    ensures { EachLimitTold }
+{}
+
+/// The law of the prelude: its lines declare the symbols of the signature in order, each by its name and its type, and its
+/// rewriting rule is that of conversion.
+pub fn prelude_reads()
+    ensures { PreludeReads }
+{}
+
+/// The law of texts: what is written of a module reads as that module and no other, where its names are identifiers
+/// unlike those of binders, and its trees are not too deep.
+pub fn written_reads()
+    ensures { WrittenReads }
+{}
