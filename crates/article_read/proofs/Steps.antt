@@ -5,7 +5,7 @@ use Rattle.bridge_base.specs.declared.faults.Kind.TheVariants.{LineTooLong, Inpu
 use Rattle.article_spec.specs.declared.commands.Command.{Command}
 use Rattle.article_spec.specs.Contents.{Content, skipped, command, faulty, content}
 use Rattle.article_spec.specs.Lines.{newline, max_line, max_article, command_at, EndedLine, Opens, open_line, skips, gives, Stops, faults, long_line, long_article, ended, Lines, last_skipped, last_gives, last_faults, stops}
-use Rattle.article_spec.specs.LineLaws.{opens_then, stops_then, Stops-append, IsLine-push}
+use Rattle.article_laws.specs.LineLaws.{opens_then, stops_then, Stops-append, IsLine-push}
 use Rattle.article_read.specs.declared.lines.LineFault.{LineFault}
 use Rattle.article_read.specs.declared.lines.LineFault.TheVariants.{Memory, Refused}
 use Rattle.article_read.specs.Reading.{Reading, fed_with, IsFed, Feeds, Ends, EndsWith, IsKept, commands_of, GivesLine, RefusesLine}

@@ -51,7 +51,7 @@ fn read_item(alloc: Global, text: &[u8]) -> Judgement
 }
 
 /// The words of the stack machine, as they are written.
-const WORDS: [(&[u8], Word); 20] = [
+const WORDS: [(&[u8], Word); 34] = [
     (b"version", Word::Version),
     (b"nil", Word::Nil),
     (b"cons", Word::Cons),
@@ -71,6 +71,20 @@ const WORDS: [(&[u8], Word); 20] = [
     (b"pop", Word::Pop),
     (b"pragma", Word::Pragma),
     (b"refl", Word::Refl),
+    (b"assume", Word::Assume),
+    (b"eqMp", Word::EqMp),
+    (b"absThm", Word::AbsThm),
+    (b"appThm", Word::AppThm),
+    (b"deductAntisym", Word::DeductAntisym),
+    (b"betaConv", Word::BetaConv),
+    (b"sym", Word::Sym),
+    (b"trans", Word::Trans),
+    (b"proveHyp", Word::ProveHyp),
+    (b"subst", Word::Subst),
+    (b"defineConst", Word::DefineConst),
+    (b"defineConstList", Word::DefineConstList),
+    (b"defineTypeOp", Word::DefineTypeOp),
+    (b"axiom", Word::Axiom),
     (b"thm", Word::Thm),
 ];
 

@@ -20,8 +20,6 @@ ghost use Rattle.article_spec.specs.OneReading.{OneReading, OpensOrStops, OpensF
 mod content;
 mod lines;
 mod number;
-#[cfg(test)]
-mod tests;
 
 pub use article_spec::{Command, Item, Word};
 pub use lines::{LineFault, Lines, read_all};

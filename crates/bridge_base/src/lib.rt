@@ -4,6 +4,7 @@
 //!   bytes what a shelf or a sink tells. `write_all` writes a whole piece, or says that it could not.
 //! - `MemShelf` and `MemSink` are in memory and fail at the calls that they are told to fail at, `QuietShelf`
 //!   and `QuietSink` never fail, and `FileShelf` and `StdSink` are real files and the standard streams.
+//! - `Budget` counts the steps that a bounded piece of work may still take.
 //! - `Kind` is why an article is refused, `Fault` that or want of memory, and `Memory` want of memory alone.
 //!
 //! ```
@@ -14,6 +15,7 @@
 #![tactic(auto)]
 
 pub mod binding;
+pub mod budget;
 mod call_log;
 pub mod faults;
 mod folder;
@@ -25,6 +27,7 @@ pub mod real;
 pub mod stack;
 
 pub use binding::Binding;
+pub use budget::Budget;
 pub use faults::{Fault, Kind, Memory};
 pub use mem_shelf::MemShelf;
 pub use mem_sink::MemSink;

@@ -1,14 +1,15 @@
 -- What the machine's commands answer, in which no symbol is taken.
-use Rattle.std.proofs.Common.{◌≡◌, ℕ, suc, ℤ, pos, drop, IfNone, MatchOption, ◌+◌, List, [], ◌∷◌, ◌++◌, map, length, Bool, true, false, cond, Option, None, Some, Result, Ok, Err, refl, sym, ap, subst, ◌∙◌, arith}
-use Rattle.std.specs.List.{list_any}
+use Rattle.std.proofs.Common.{◌≡◌, ℕ, suc, ℤ, pos, drop, IfNone, MatchOption, ◌+◌, List, [], ◌∷◌, ◌++◌, map, length, Bool, true, false, cond, ◌||◌, is_some, Option, None, Some, Result, Ok, Err, refl, sym, ap, subst, ◌∙◌, arith}
+use Rattle.std.specs.List.{list_all, list_any, find}
 use Rattle.std.specs.Ordering.{int_eq}
 use Rattle.std.specs.FinMap as entry
 use Rattle.std.proofs.lemmas.List.{map-append, append-nil}
 use Rattle.hol_spec.specs.Names.{Name}
 use Rattle.hol_spec.specs.Types.{HolType}
-use Rattle.hol_spec.specs.Terms.{type_of, equation}
+use Rattle.hol_spec.specs.Primitives.{bool}
+use Rattle.hol_spec.specs.Terms.{type_of}
 use Rattle.hol_spec.specs.Terms as hol
-use Rattle.hol_spec.specs.Sequents.{same}
+use Rattle.hol_spec.specs.Sequents.{same, within}
 use Rattle.hol_spec.specs.Sequents as sequents
 use Rattle.hol_spec.specs.Proofs.{Made, symbols_of, steps_of, sequent_at}
 use Rattle.bridge_base.specs.declared.faults.Kind.{Kind}
@@ -17,15 +18,17 @@ use Rattle.article_spec.specs.declared.commands.Word.TheVariants as word
 use Rattle.article_spec.specs.State as state
 use Rattle.article_spec.specs.State.{State}
 use Rattle.article_spec.specs.Operands.{pop, as_list, as_name, as_type, as_variable, as_term, as_terms, as_number, as_theorem}
-use Rattle.article_spec.specs.Conditions.{term_in_limits, sequent_in_limits, all_bool, follows}
+use Rattle.article_spec.specs.Conditions.{is_of_type, term_in_limits, sequent_in_limits}
 use Rattle.article_spec.specs.declared.commands.Item.{Item}
 use Rattle.article_spec.specs.declared.commands.Item.TheVariants as item
-use Rattle.article_spec.specs.Step.{step_at, obey, finish, export, with_stack, reflexivity, restatement, stated}
-use Rattle.article_spec.specs.Restriction.{restricted}
-use Rattle.article_spec.specs.RestrictionLaws.{restricted-passes}
+use Rattle.article_spec.specs.Step.{step_at, obey, finish}
+use Rattle.article_spec.specs.Stating.{export, restatement, stated}
+use Rattle.article_spec.specs.Changes.{with_stack, first_same}
+use Rattle.bridge_spec.specs.FirstPath.{restricted}
+use Rattle.plain_laws.specs.FirstPathLaws.{restricted-passes}
 use Rattle.bridge_run.specs.Refusals.{article_end}
 use Rattle.bridge_run.specs.ObjectViews.{object_view}
-use Rattle.bridge_run.specs.MachineViews.{step_view, made_view, exports_it, exports_from, place_view, dictionary_view}
+use Rattle.bridge_run.specs.MachineViews.{reflexivity, step_view, made_view, exports_it, exports_from, place_view, dictionary_view}
 use Rattle.bridge_run.specs.declared.first.objects.Object.{Object}
 use Rattle.bridge_run.specs.declared.first.machine.Progress.{Progress}
 use Rattle.bridge_run.specs.declared.first.machine.Progress.TheVariants.{Numbered, Running}
@@ -75,6 +78,27 @@ made_view-push steps x = map-append (λ y. Made.step (step_view y)) steps (x ∷
 pub dropped : (r : Option Object) (old new : List Object) → MatchOption r (old ≡ []) (λ x. old ≡ x ∷ new) → IfNone r (new ≡ []) → drop 1 (map object_view old) ≡ map object_view new
 dropped (Some x) old new h e = rw h refl
 dropped None old new h e = rw (h, e) refl
+
+find-Some : {A : Type 0} (p : A → Bool) (b : Bool) (x : A) (xs : List A) → is_some (find p xs) ≡ list_any p xs → is_some (cond b (Some x) (find p xs)) ≡ (b || list_any p xs)
+find-Some p true x xs e = refl
+find-Some p false x xs e = e
+
+-- An element is found where one meets the test.
+is_some-find : {A : Type 0} (p : A → Bool) (xs : List A) → is_some (find p xs) ≡ list_any p xs
+is_some-find p [] = refl
+is_some-find p (x ∷ xs) = find-Some p (p x) x xs (is_some-find p xs)
+
+is_none : {A : Type 0} (o : Option A) → is_some o ≡ false → o ≡ None
+is_none None e = refl
+is_none (Some x) e = absurd (cc)
+
+find-none : {A : Type 0} (p : A → Bool) (xs : List A) → list_any p xs ≡ false → find p xs ≡ None
+find-none p xs e = is_none (find p xs) (is_some-find p xs ∙ e)
+
+-- A sequent that an export has is not exported again.
+export-met : (s : State) (one : ℕ) (sequent : sequents.Sequent) (met : Option ℕ) → is_some met ≡ true → export s one sequent met ≡ Ok s
+export-met s one sequent None e = absurd (cc)
+export-met s one sequent (Some earlier) e = refl
 
 module _ (entries : List (ℤ × Object)) (steps : List Step) (p : Progress) where
   pub nil-taken : (stack new : List Object) → map object_view new ≡ state.Object.list state.Objects.none ∷ map object_view stack → restricted (obey (shown stack entries steps p) word.Nil) ≡ Ok (shown new entries steps p)
@@ -128,25 +152,28 @@ module _ (entries : List (ℤ × Object)) (steps : List Step) (p : Progress) whe
   reflexivity-refused stack rest t a k e g l = rw (e, g, l) refl
 
   pub export-held : (stack : List Object) (one : ℕ) (s : sequents.Sequent) → list_any (λ i. same (sequent_at (made_view steps) i) s) (exports_from 0 steps) ≡ true
-      → restricted (export (shown stack entries steps p) one s) ≡ Ok (shown stack entries steps p)
-  export-held stack one s e = answer (export (shown stack entries steps p) one s) (shown stack entries steps p) (rw e refl) (none_taken steps)
+      → restricted (export (shown stack entries steps p) one s (first_same (shown stack entries steps p) (exports_from 0 steps) s)) ≡ Ok (shown stack entries steps p)
+  export-held stack one s e = answer (export (shown stack entries steps p) one s (first_same (shown stack entries steps p) (exports_from 0 steps) s)) (shown stack entries steps p)
+      (export-met (shown stack entries steps p) one s _ (is_some-find (λ i. same (sequent_at (made_view steps) i) s) (exports_from 0 steps) ∙ e)) (none_taken steps)
 
   pub export-refused : (stack : List Object) (one : ℕ) (s : sequents.Sequent) (k : Kind) → list_any (λ i. same (sequent_at (made_view steps) i) s) (exports_from 0 steps) ≡ false
-      → sequent_in_limits s ≡ Err k → restricted (export (shown stack entries steps p) one s) ≡ Err BadLine
-  export-refused stack one s k e l = rw (e, l) refl
+      → sequent_in_limits s ≡ Err k → restricted (export (shown stack entries steps p) one s (first_same (shown stack entries steps p) (exports_from 0 steps) s)) ≡ Err BadLine
+  export-refused stack one s k e l = rw (find-none (λ i. same (sequent_at (made_view steps) i) s) (exports_from 0 steps) e, l) refl
 
   pub export-taken : (stack : List Object) (one : ℕ) (s : sequents.Sequent) (after : List Step) (x : Step) → list_any (λ i. same (sequent_at (made_view steps) i) s) (exports_from 0 steps) ≡ false
       → sequent_in_limits s ≡ Ok tt → after ≡ steps ++ x ∷ [] → step_view x ≡ restatement one s → exports_it x.origin ≡ true
-      → restricted (export (shown stack entries steps p) one s) ≡ Ok (shown stack entries after p)
+      → restricted (export (shown stack entries steps p) one s (first_same (shown stack entries steps p) (exports_from 0 steps) s)) ≡ Ok (shown stack entries after p)
   export-taken stack one s after x e l more is it =
-      answer (export (shown stack entries steps p) one s) (shown stack entries after p)
-      (rw (e, l, more, made_view-push steps x, exports-export steps x it, is, length_steps steps) refl) (none_taken after)
+      answer (export (shown stack entries steps p) one s (first_same (shown stack entries steps p) (exports_from 0 steps) s)) (shown stack entries after p)
+      (rw (find-none (λ i. same (sequent_at (made_view steps) i) s) (exports_from 0 steps) e, l, more, made_view-push steps x, exports-export steps x it, is, length_steps steps) refl) (none_taken after)
 
-  pub theorem-exports : (stack below under rest : List Object) (conclusion : hol.Term) (hypotheses : List hol.Term) (one : ℕ) → pop as_term (map object_view stack) ≡ Ok (conclusion, map object_view below)
+  pub theorem-exports : (stack below under rest : List Object) (conclusion : hol.Term) (hypotheses : List hol.Term) (one : ℕ) (s : sequents.Sequent) → pop as_term (map object_view stack) ≡ Ok (conclusion, map object_view below)
       → pop as_terms (map object_view below) ≡ Ok (hypotheses, map object_view under) → pop as_theorem (map object_view under) ≡ Ok (one, map object_view rest)
-      → all_bool (conclusion ∷ hypotheses) ≡ Ok tt → follows (sequent_at (made_view steps) one) (stated hypotheses conclusion) ≡ Ok tt
-      → obey (shown stack entries steps p) word.Thm ≡ export (shown rest entries steps p) one (stated hypotheses conclusion)
-  theorem-exports stack below under rest conclusion hypotheses one e f g b w = rw (e, f, g, b, w) refl
+      → is_of_type bool conclusion ≡ true → list_all (is_of_type bool) hypotheses ≡ true → s ≡ stated hypotheses conclusion → within (sequent_at (made_view steps) one) s ≡ true
+      → obey (shown stack entries steps p) word.Thm ≡ export (shown rest entries steps p) one s (first_same (shown rest entries steps p) (exports_from 0 steps) s)
+  theorem-exports stack below under rest conclusion hypotheses one s e f g b bs is w =
+      let met : within (sequent_at (made_view steps) one) (stated hypotheses conclusion) ≡ true = subst (λ t. within (sequent_at (made_view steps) one) t ≡ true) is w in
+      rw (e, f, g, b, bs, is, met) refl
 
   pub begin-taken : (stack new : List Object) (z : ℤ) → int_eq z (pos 6) ≡ true → map object_view new ≡ state.Object.number z ∷ map object_view stack
       → restricted (step_at state.Place.start (shown stack entries steps p) (item.Number z)) ≡ Ok (shown new entries steps Numbered)

@@ -5,7 +5,8 @@ use Rattle.std.specs.Option.{option_map_or}
 use Rattle.std.proofs.lemmas.List.{reverse-append}
 use Rattle.lp_spec.specs.Trees.{Tree, SortType, SortKind, Var, Sym, App, Lam, Pi, size, lift, put_all, put_all_var}
 use Rattle.lp_spec.specs.Weight.{spread_after}
-use Rattle.lp_spec.specs.Substitution.{ap2, up, ren, ups, sub, lift_is, put_all_at_is, put_all_var-high}
+use Rattle.lp_binding.specs.Composition.{ap2, lift_is, put_all_at_is, put_all_var-high}
+use Rattle.lp_spec.specs.Substitution.{up, ren, ups, sub}
 use Rattle.bridge_run.specs.declared.first.weight.Sizes.{None, the_lemmas}
 use Rattle.bridge_run.specs.Sizes.{capped, sizes_of, capped_sizes, counted, counted_spread}
 use Rattle.bridge_run.proofs.Capped.{capped-add, capped-capped, capped-suc}

@@ -7,15 +7,15 @@ use Rattle.std.proofs.lemmas.Grind.{common_steps}
 use Rattle.std.proofs.lemmas.List.{length-reverse}
 use Rattle.hol_spec.specs.Rules.{Parameters}
 use Rattle.hol_spec.specs.Proofs as proof
-use Rattle.hol_spec.specs.Proofs.{sequent_at, steps_of}
+use Rattle.hol_spec.specs.Proofs.{sequent_at, steps_of, Accepted}
 use Rattle.hol_spec.specs.Sequents as sequents
-use Rattle.article_spec.specs.Run.{Accepted}
 use Rattle.lp_spec.specs.Trees.{Tree}
 use Rattle.lp_spec.specs.Modules.{Declaration}
 use Rattle.lp_spec.specs.Lemmas.{theorem, lemmas}
-use Rattle.bridge_spec.specs.Translation.{context_of, domains_of, conclusion_tree}
+use Rattle.module_laws.specs.ListedTranslation.{context_of, domains_of, conclusion_tree}
 use Rattle.bridge_spec.specs.Texts.{Counts}
-use Rattle.bridge_spec.specs.Image.{is_one_of, reached, reached_among, step_symbol, reflexivity_tree, theorem_tree, step_declaration, step_declarations, image}
+use Rattle.module_spec.specs.Image.{is_one_of}
+use Rattle.plain_laws.specs.PlainImage.{reached, reached_among, step_symbol, reflexivity_tree, theorem_tree, step_declaration, step_declarations, plain_image}
 use Rattle.bridge_run.specs.TermViews.{term_view, sequent_view}
 use Rattle.bridge_run.specs.MachineViews.{step_of, step_view, made_view, exports_from, exports_it}
 use Rattle.bridge_run.specs.Runs.{run_of, exports_before, HasSymbols}
@@ -169,7 +169,7 @@ declared-next steps flags number r d b old new h is e flag o n =
 -- the declarations of all steps
 pub declared-all : (steps : List Step) (flags : List Bool) (number : ℕ) (ds : List Declaration) → length steps ≤ number
     → flags ≡ reached_among (reverse (map step_view steps)) (exports_from 0 steps)
-    → ds ≡ lemmas ++ step_declarations (run_of steps) 0 (take number (map step_view steps)) (take number flags) → ds ≡ image (run_of steps)
+    → ds ≡ lemmas ++ step_declarations (run_of steps) 0 (take number (map step_view steps)) (take number flags) → ds ≡ plain_image (run_of steps)
 declared-all steps flags number ds h e is =
     is
     ∙ ap (λ (xs : List proof.Step). lemmas ++ step_declarations (run_of steps) 0 xs (take number flags)) (take-past (map step_view steps) number (omega (arith, length-seen step_view steps)) ∙ sym (steps_of-made steps))

@@ -1,10 +1,9 @@
 -- What the sinks hold after an answer was delivered.
-use Rattle.std.proofs.Common.{◌≡◌, ℕ, List, Option, Result, Ok, Err, OnOk, OnErr, true, false, refl, inl, inr}
+use Rattle.std.proofs.Common.{◌≡◌, Result, Ok, Err, OnOk, OnErr, true, false, refl, inl, inr}
 use Rattle.std.specs.Result.{is_err}
-use Rattle.bridge_base.specs.Outside.{Gains, GainsFront}
-use Rattle.bridge_base.specs.Gaining.{front_of_whole}
 use Rattle.bridge_spec.specs.Texts.{write_fault_line}
-use Rattle.bridge_spec.specs.Outputs.{Sunk, Gained, GainedFront, Failed, Delivers}
+use Rattle.bridge_spec.specs.Calls.{Sunk}
+use Rattle.bridge_spec.specs.Outputs.{Gained, GainedFront, Failed, TellsWriteFault, Delivers}
 use Rattle.bridge_spec.specs.declared.status.Status.{Status}
 use Rattle.bridge_spec.specs.declared.status.Status.TheVariants.{WriteFault}
 use Rattle.bridge_run.specs.AnswerTexts.{status_of, text_of, note_of}
@@ -20,13 +19,14 @@ pub of_ok : {T E P : Type 0} (result : Result T E) → is_err result ≡ false �
 of_ok (Ok value) e fact = fact
 of_ok (Err error) e fact = cc
 
--- whether the write was whole or not, a prefix was written
-pub front_of_either : {T E : Type 0} (result : Result T E) (a b : Option (List ℕ)) (xs : List ℕ) → OnOk result (Gains a xs b) → OnErr result (GainsFront a xs b) → GainsFront a xs b
-front_of_either (Ok value) a b xs whole front = front_of_whole a b xs whole
-front_of_either (Err error) a b xs whole front = front
+-- the note that is to tell of a write fault does, or it failed
+pub told_of_fault : {T E : Type 0} (result : Result T E) (note : Sunk) → OnOk result (Gained note write_fault_line) → OnErr result (GainedFront note write_fault_line)
+    → OnErr result (Failed note) → TellsWriteFault note
+told_of_fault (Ok value) note whole front failed = inl whole
+told_of_fault (Err error) note whole front failed = inr (failed, front)
 
 -- the output failed
-pub output_stopped : (answer : Answer) (out note : Sunk) → Failed out → GainedFront out (text_of answer) → GainedFront note write_fault_line → Delivers (status_of answer) (text_of answer) (note_of answer) out note WriteFault
+pub output_stopped : (answer : Answer) (out note : Sunk) → Failed out → GainedFront out (text_of answer) → TellsWriteFault note → Delivers (status_of answer) (text_of answer) (note_of answer) out note WriteFault
 output_stopped answer out note failed front said = inr (refl, inl (failed, front, said))
 
 -- the note failed

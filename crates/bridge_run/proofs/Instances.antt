@@ -2,11 +2,12 @@
 use Rattle.std.proofs.Common.{rules, Box, Global, ◌≡◌, List, length, nat_eq, cond, Some, None, Err, Bool, true, false, ◌&&◌, refl, sym, ap, ◌∙◌}
 use Rattle.bridge_base.specs.declared.faults.Kind.TheVariants.{BadArity, BadConstType}
 use Rattle.hol_spec.specs.Names.{Name}
-use Rattle.hol_spec.specs.NameEquality.{name_eq, name_eq-Decides}
+use Rattle.hol_spec.specs.NameEquality.{name_eq}
+use Rattle.hol_laws.specs.NameEqualityLaws.{name_eq-Decides}
 use Rattle.std.proofs.lemmas.Bool.Decides.{Decides-eqb}
 use Rattle.bridge_run.specs.PrimitiveSymbols.{applied_to, primitive_operator, at_type, primitive_constant}
 use Rattle.hol_spec.specs.Types.{HolType, type_eq}
-use Rattle.hol_spec.specs.TermLaws.{type_eq-refl}
+use Rattle.hol_laws.specs.TermLaws.{type_eq-refl}
 use Rattle.hol_spec.specs.Primitives.{bool, function, generic, equality_type, select_type, arrow_name, bool_name, ind_name, equality_name, select_name}
 use Rattle.hol_spec.specs.Substitution.{is_instance}
 use Rattle.bridge_run.specs.TypeViews.{type_view}

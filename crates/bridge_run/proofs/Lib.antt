@@ -7,7 +7,6 @@ pub mod Declared
 pub mod Delivered
 pub mod Dictionaries
 pub mod Elements
-pub mod Exact
 pub mod Exported
 pub mod Fronts
 pub mod Images
@@ -17,6 +16,7 @@ pub mod Objects
 pub mod Outcomes
 pub mod Parameters
 pub mod PrimitiveCommands
+pub mod Promised
 pub mod Reached
 pub mod Readings
 pub mod Scopes

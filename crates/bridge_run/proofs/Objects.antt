@@ -6,9 +6,8 @@ use Rattle.bridge_run.specs.TypeViews.{type_view}
 use Rattle.bridge_run.specs.TermViews.{term_view}
 use Rattle.bridge_run.specs.ObjectViews.{object_view, elements_view}
 use Rattle.bridge_run.specs.declared.first.types.Type.{«Type» as Source}
-use Rattle.bridge_run.specs.declared.first.terms.Term.{Term}
+use Rattle.bridge_run.specs.declared.first.terms.Term.{Term, the_lemmas as term_lemmas}
 use Rattle.hol_spec.specs.Terms as hol
-use Rattle.bridge_run.specs.declared.first.terms.Term.{the_lemmas as term_lemmas}
 use Rattle.bridge_run.specs.declared.first.terms.Term.TheVariants as term
 use Rattle.bridge_run.specs.declared.first.objects.Object.{Object, the_lemmas}
 use Rattle.bridge_run.specs.declared.first.objects.Object.TheVariants as object

@@ -6,7 +6,7 @@ use Rattle.bridge_base.specs.declared.faults.Kind.TheVariants.{BadLine}
 use Rattle.bridge_base.specs.declared.faults.Fault.{Fault}
 use Rattle.bridge_base.specs.declared.faults.Fault.TheVariants.{Memory, Refused}
 use Rattle.article_spec.specs.State.{State}
-use Rattle.article_spec.specs.Restriction.{restricted}
+use Rattle.bridge_spec.specs.FirstPath.{restricted}
 use Rattle.article_spec.specs.Results.{Fails}
 use Rattle.bridge_run.specs.Refusals.{Refuses}
 

@@ -9,11 +9,11 @@ use Rattle.hol_spec.specs.Names.{Name}
 use Rattle.hol_spec.specs.Types as HolType
 use Rattle.hol_spec.specs.Limits.{greatest_parameter_count}
 use Rattle.hol_spec.specs.Sequents.{free_variables_of, parameter_count}
-use Rattle.bridge_spec.specs.Image.{theorem_tree}
+use Rattle.plain_laws.specs.PlainImage.{theorem_tree}
 use Rattle.bridge_run.proofs.Closed.{sequent_view-closed}
 use Rattle.lp_spec.specs.Trees.{Tree, App, Sym}
 use Rattle.lp_spec.specs.Modules.{applied, term_of, proof_of}
-use Rattle.bridge_spec.specs.Translation.{Context, context_of, context_depth, inner_scope, hypothesis_tree, type_tree, term_tree, scope_under, variable_domains, hypothesis_domains}
+use Rattle.module_laws.specs.ListedTranslation.{Context, context_of, context_depth, inner_scope, hypothesis_tree, type_tree, term_tree, scope_under, variable_domains, hypothesis_domains}
 use Rattle.bridge_run.specs.TermViews.{term_view, sequent_view, variable_term, AreFound, Lists}
 use Rattle.bridge_run.specs.Contexts.{bare}
 use Rattle.bridge_run.specs.declared.first.terms.Term.{Term}

@@ -6,11 +6,11 @@ use Rattle.hol_spec.specs.Types.{HolType, operator, types_of}
 use Rattle.hol_spec.specs.Terms as hol
 use Rattle.hol_spec.specs.Substitution.{is_instance}
 use Rattle.hol_spec.specs.Primitives.{primitive_arity, primitive_type}
-use Rattle.hol_spec.specs.Symbols.{Symbol, generic_type, first_defined_type, is_input_operator, is_input_constant}
+use Rattle.hol_spec.specs.Symbols.{Symbol, operator_arity, generic_type, first_defined_arity, first_defined_type, is_input_operator, is_input_constant}
 use Rattle.std.specs.List.{list_any}
 use Rattle.std.specs.Option.{option_or}
 use Rattle.hol_spec.specs.Proofs.{Made, symbols_of}
-use Rattle.hol_spec.specs.ProofLaws.{symbols_of-symbols}
+use Rattle.proof_laws.specs.ProofLaws.{symbols_of-symbols}
 use Rattle.bridge_base.specs.declared.faults.Kind.{Kind}
 use Rattle.bridge_base.specs.declared.faults.Kind.TheVariants.{BadLine, BadArity, BadConstType}
 use Rattle.article_spec.specs.declared.commands.Word.TheVariants as word
@@ -20,8 +20,8 @@ use Rattle.article_spec.specs.Operands.{pop, as_type, as_types, as_type_operator
 use Rattle.article_spec.specs.Conditions.{demand, arity_fits, generic_fits, type_in_limits, term_in_limits}
 use Rattle.article_spec.specs.Results.{◌>>◌}
 use Rattle.article_spec.specs.Step.{obey}
-use Rattle.article_spec.specs.Restriction.{restricted}
-use Rattle.article_spec.specs.RestrictionLaws.{restricted-refuses}
+use Rattle.bridge_spec.specs.FirstPath.{restricted}
+use Rattle.plain_laws.specs.FirstPathLaws.{restricted-refuses}
 use Rattle.bridge_run.specs.PrimitiveSymbols.{applied_to, primitive_operator, at_type, primitive_constant}
 use Rattle.bridge_run.specs.ObjectViews.{object_view}
 use Rattle.bridge_run.specs.MachineViews.{made_view}
@@ -92,9 +92,13 @@ new_symbol : (steps : List Step) (has : Bool) (among : List Symbol → Bool) (x 
     → symbols_of (made_view steps ++ map Made.symbol (cond (has || among (symbols_of (made_view steps))) [] (x ∷ []))) ≡ x ∷ []
 new_symbol steps has among x none h = rw (h, none_taken steps, none) (one_symbol steps x)
 
-or_none : (o : Option HolType) → option_or o None ≡ o
+or_none : {A : Type 0} (o : Option A) → option_or o None ≡ o
 or_none None = refl
 or_none (Some t) = refl
+
+-- Without symbols only primitive operators have an arity.
+only_primitive_arity : (steps : List Step) (n : Name) → operator_arity (symbols_of (made_view steps)) n ≡ primitive_arity n
+only_primitive_arity steps n = ap (λ xs. option_or (primitive_arity n) (first_defined_arity n xs)) (none_taken steps) ∙ or_none (primitive_arity n)
 
 -- Without symbols only primitive constants have a generic type.
 only_primitive : (steps : List Step) (n : Name) → generic_type (symbols_of (made_view steps)) n ≡ primitive_type n
@@ -105,21 +109,24 @@ module _ (entries : List (ℤ × Object)) (steps : List Step) (p : Progress) whe
       → pop as_type_operator (map object_view below) ≡ Ok (n, map object_view rest) → primitive_operator n arguments ≡ Ok t → type_in_limits t ≡ Ok tt
       → map object_view new ≡ state.Object.type t ∷ map object_view rest → restricted (obey (shown stack entries steps p) word.OpType) ≡ Ok (shown new entries steps p)
   operator_type-taken stack below rest new arguments n t e f q l put =
+      let g : operator_arity (symbols_of (made_view steps)) n ≡ primitive_arity n = only_primitive_arity steps n in
       let m = applied (primitive_arity n) n arguments t q in
       let limit : type_in_limits (operator n (types_of arguments)) ≡ Ok tt = subst (λ u. type_in_limits u ≡ Ok tt) m.is l in
-      answer (obey (shown stack entries steps p) word.OpType) (shown new entries steps p) (rw (e, f, m.fits, limit, m.has, put, m.is, append-nil (made_view steps)) refl) (none_taken steps)
+      answer (obey (shown stack entries steps p) word.OpType) (shown new entries steps p) (rw (e, f, g, m.fits, limit, m.has, put, m.is, append-nil (made_view steps)) refl) (none_taken steps)
 
   pub operator_type-limited : (stack below rest : List Object) (arguments : List HolType) (n : Name) (t : HolType) (k : Kind) → pop as_types (map object_view stack) ≡ Ok (arguments, map object_view below)
       → pop as_type_operator (map object_view below) ≡ Ok (n, map object_view rest) → primitive_operator n arguments ≡ Ok t → type_in_limits t ≡ Err k → restricted (obey (shown stack entries steps p) word.OpType) ≡ Err BadLine
   operator_type-limited stack below rest arguments n t k e f q l =
+      let g : operator_arity (symbols_of (made_view steps)) n ≡ primitive_arity n = only_primitive_arity steps n in
       let m = applied (primitive_arity n) n arguments t q in
       let limit : type_in_limits (operator n (types_of arguments)) ≡ Err k = subst (λ u. type_in_limits u ≡ Err k) m.is l in
-      rw (e, f, m.fits, limit) refl
+      rw (e, f, g, m.fits, limit) refl
 
   pub operator_type-refused : (stack below rest : List Object) (arguments : List HolType) (n : Name) (k : Kind) → pop as_types (map object_view stack) ≡ Ok (arguments, map object_view below)
       → pop as_type_operator (map object_view below) ≡ Ok (n, map object_view rest) → primitive_operator n arguments ≡ Err k → restricted (obey (shown stack entries steps p) word.OpType) ≡ Err BadLine
   operator_type-refused stack below rest arguments n k e f q =
-      rw (e, f) (operator_refused (primitive_arity n) n arguments k q (type_in_limits (operator n (types_of arguments))) _ (Symbol.input_operator n (length arguments))
+      let g : operator_arity (symbols_of (made_view steps)) n ≡ primitive_arity n = only_primitive_arity steps n in
+      rw (e, f, g) (operator_refused (primitive_arity n) n arguments k q (type_in_limits (operator n (types_of arguments))) _ (Symbol.input_operator n (length arguments))
       (λ h. new_symbol steps (is_some (primitive_arity n)) (λ xs. list_any (is_input_operator n (length arguments)) xs) (Symbol.input_operator n (length arguments)) refl h))
 
   pub constant_term-taken : (stack below rest new : List Object) (a : HolType) (n : Name) (t : hol.Term) → pop as_type (map object_view stack) ≡ Ok (a, map object_view below)

@@ -6,7 +6,8 @@ use Rattle.std.proofs.lemmas.List.Folds.{list_any-append}
 use Rattle.std.proofs.lemmas.List.Sums.{sum_by-cons}
 use Rattle.std.proofs.lemmas.Bool.{eq-eqb, ne_eqb}
 use Rattle.hol_spec.specs.Proofs.{Step}
-use Rattle.bridge_spec.specs.Image.{is_one_of, reached_among}
+use Rattle.module_spec.specs.Image.{is_one_of}
+use Rattle.plain_laws.specs.PlainImage.{reached_among}
 use Rattle.bridge_run.specs.MachineViews.{step_view, exports_it, exports_from}
 use Rattle.bridge_run.specs.declared.first.machine.Step.{Step as CodeStep}
 

@@ -5,7 +5,8 @@ use Rattle.std.specs.Map.{lookup}
 use Rattle.hol_spec.specs.Lists.{is_in}
 use Rattle.hol_spec.specs.Terms.{Term, Variable, variable_eq, term_eq}
 use Rattle.lp_spec.specs.Trees.{Tree}
-use Rattle.bridge_spec.specs.Translation.{parameter, parameters, term_tree, type_tree, filler}
+use Rattle.module_spec.specs.TypeEnc.{parameter}
+use Rattle.module_laws.specs.ListedTranslation.{parameters, term_tree, type_tree, filler}
 use Rattle.bridge_run.specs.TermViews.{variable_term}
 use Rattle.bridge_run.specs.Contexts.{plain}
 

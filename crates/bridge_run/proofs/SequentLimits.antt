@@ -1,12 +1,11 @@
 -- When a sequent is within the limits.
-use Rattle.std.proofs.Common.{◌≡◌, ℕ, ◌+◌, ◌-◌, ◌^◌, ◌≤◌, ◌<◌, min, nat_le, List, Bool, true, false, length, Result, Ok, Err, refl, ap, ◌∙◌, arith}
+use Rattle.std.proofs.Common.{◌≡◌, ℕ, ◌+◌, ◌-◌, ◌^◌, ◌≤◌, ◌<◌, min, nat_le, List, Bool, true, false, ◌&&◌, length, Ok, Err, refl, ap, ◌∙◌, arith}
 use Rattle.std.specs.Borrow.{Bor}
 use Rattle.std.proofs.lemmas.List.{length-take, length-map}
 use Rattle.std.proofs.lemmas.Grind.{common_steps}
 use Rattle.hol_spec.specs.Limits.{sequent_size, sequent_depth}
 use Rattle.hol_spec.specs.Sequents.{parameter_count, free_variables_of, type_variables_of}
 use Rattle.hol_spec.specs.Sequents as hol
-use Rattle.bridge_base.specs.declared.faults.Kind.{Kind}
 use Rattle.bridge_base.specs.declared.faults.Kind.TheVariants.{TooManyParams, TooLarge, TooDeep}
 use Rattle.article_spec.specs.Conditions.{demand, sequent_in_limits}
 use Rattle.article_spec.specs.Results.{◌>>◌}
@@ -17,10 +16,12 @@ use Rattle.bridge_run.specs.declared.first.sequents.Sequent.{Sequent}
 use Rattle.bridge_run.proofs.Variables.{found_length}
 use Rattle.bridge_run.proofs.Closed.{sequent_view-closed}
 
-split_limits : (a b : Bool) (rest : Result (Unit {0}) Kind) → (demand a TooLarge >> demand b TooDeep) ≡ Ok tt → (demand a TooLarge >> (demand b TooDeep >> rest)) ≡ rest
-split_limits true true rest e = refl
-split_limits true false rest e = absurd (cc)
-split_limits false b rest e = absurd (cc)
+-- Of one thing each limit is judged alone.
+split_limits : (a b c : Bool) → (demand a TooLarge >> demand b TooDeep) ≡ Ok tt → (demand (a && true) TooLarge >> (demand (b && true) TooDeep >> demand (c && true) TooManyParams)) ≡ demand c TooManyParams
+split_limits true true true e = refl
+split_limits true true false e = refl
+split_limits true false c e = absurd (cc)
+split_limits false b c e = absurd (cc)
 
 cut_le : (n m k : ℕ) → k < m → nat_le (min n m) k ≡ nat_le n k
 cut_le n m k l = grind (arith, common_steps)
@@ -30,7 +31,7 @@ by_parameters : (s : hol.Sequent) (size depth : ℕ) → size ≡ min (sequent_s
 by_parameters s size depth p q e =
     let a : nat_le size 1048576 ≡ nat_le (sequent_size s) 1048576 = ap (λ n. nat_le n 1048576) p ∙ cut_le (sequent_size s) (2 ^ 64 - 1) 1048576 (omega arith) in
     let b : nat_le depth 1024 ≡ nat_le (sequent_depth s) 1024 = ap (λ n. nat_le n 1024) q ∙ cut_le (sequent_depth s) (2 ^ 64 - 1) 1024 (omega arith) in
-    split_limits (nat_le (sequent_size s) 1048576) (nat_le (sequent_depth s) 1024) (demand (nat_le (parameter_count s) 1024) TooManyParams) (rw (← a, ← b) e)
+    split_limits (nat_le (sequent_size s) 1048576) (nat_le (sequent_depth s) 1024) (nat_le (parameter_count s) 1024) (rw (← a, ← b) e)
 
 -- how many parameters a sequent without type variables has
 few : (s : Sequent) (found : List (Bor Term)) → AreFound found (free_variables_of (sequent_view s)) → nat_le (parameter_count (sequent_view s)) 1024 ≡ nat_le (length found + length s.hypotheses.items) 1024

@@ -1,5 +1,5 @@
 -- A run goes on by a step that has its premise before it.
-use Rattle.std.proofs.Common.{◌≡◌, ◌⊎◌, inl, inr, ℕ, zero, suc, ◌≤◌, nat_le, List, [], ◌∷◌, ◌++◌, length, Some, Bool, true, false, Ok, slice_get, refl, sym, ap, subst, arith}
+use Rattle.std.proofs.Common.{◌≡◌, ◌⊎◌, inl, inr, ℕ, zero, suc, ◌≤◌, nat_le, List, [], ◌∷◌, ◌++◌, length, Some, Bool, true, false, ◌&&◌, Ok, slice_get, refl, sym, ap, subst, arith}
 use Rattle.std.proofs.lemmas.List.{length-map}
 use Rattle.std.proofs.lemmas.Grind.{common_steps}
 use Rattle.hol_spec.specs.Sequents.{parameter_count}
@@ -31,14 +31,17 @@ snoc-AreSteps steps step h one number x e = by_cases (slice_get-snoc steps step 
     by_cases (inl f) = h number x f
     by_cases (inr f) = subst (λ y. IsStep number y) f.1 (subst (λ n. IsStep n step) (sym f.0) one)
 
-last_demand : (a b : Bool) (n : ℕ) → (demand a TooLarge >> (demand b TooDeep >> demand (nat_le n greatest_parameter_count) TooManyParams)) ≡ Ok tt → n ≤ greatest_parameter_count
-last_demand true true n e = grind (arith, common_steps)
-last_demand true false n e = absurd (cc)
-last_demand false b n e = absurd (cc)
+last_demand : (a b c : Bool) → (demand (a && true) TooLarge >> (demand (b && true) TooDeep >> demand (c && true) TooManyParams)) ≡ Ok tt → c ≡ true
+last_demand true true true e = refl
+last_demand true true false e = absurd (cc)
+last_demand true false c e = absurd (cc)
+last_demand false b c e = absurd (cc)
 
 -- A sequent within the limits has no more parameters than it may have.
 pub in_limits-parameters : (s : hol.Sequent) → sequent_in_limits s ≡ Ok tt → parameter_count s ≤ greatest_parameter_count
-in_limits-parameters s e = last_demand (nat_le (sequent_size s) greatest_size) (nat_le (sequent_depth s) greatest_depth) (parameter_count s) e
+in_limits-parameters s e =
+    let f : nat_le (parameter_count s) greatest_parameter_count ≡ true = last_demand (nat_le (sequent_size s) greatest_size) (nat_le (sequent_depth s) greatest_depth) (nat_le (parameter_count s) greatest_parameter_count) e in
+    grind (arith, common_steps)
 
 pub length-made_view : (steps : List Step) → length (made_view steps) ≡ length steps
 length-made_view steps = length-map steps _

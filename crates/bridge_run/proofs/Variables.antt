@@ -4,7 +4,7 @@ use Rattle.std.specs.Borrow.{Bor}
 use Rattle.std.specs.List.{flat_map}
 use Rattle.std.proofs.lemmas.List.{length-take, length-map, map-append, take-append-le}
 use Rattle.hol_spec.specs.Lists.{is_in, union}
-use Rattle.hol_spec.specs.ListLaws.{union-append}
+use Rattle.hol_laws.specs.ListLaws.{union-append}
 use Rattle.hol_spec.specs.Terms.{Variable, variable_eq, term_eq, free_places}
 use Rattle.hol_spec.specs.Terms as hol
 use Rattle.bridge_run.specs.TermViews.{term_view, variable_term, AreFound, FindsAll}

@@ -1,7 +1,7 @@
 -- The context of a sequent without type variables.
 use Rattle.std.specs.Prelude.{ℕ, List, []}
 use Rattle.hol_spec.specs.Terms.{Term, Variable}
-use Rattle.bridge_spec.specs.Translation.{Scope, Context, parameters}
+use Rattle.module_laws.specs.ListedTranslation.{Scope, Context, parameters}
 
 -- the variables stand for the outermost of so many binders
 abbrev pub plain : ℕ → List Variable → Scope

@@ -2,8 +2,10 @@
 use Rattle.std.specs.Prelude.{ℕ, ℤ, ◌+◌, List, [], ◌∷◌, map, Bool, true, false, cond}
 use Rattle.std.specs.Ordering.{int_cmp}
 use Rattle.std.specs.FinMap.{FinMap, from_entries}
+use Rattle.hol_spec.specs.Types.{HolType}
+use Rattle.hol_spec.specs.Terms.{Term, equation}
 use Rattle.hol_spec.specs.Proofs as proof
-use Rattle.hol_spec.specs.Rules.{Parameters}
+use Rattle.hol_spec.specs.Rules.{Parameters, derived}
 use Rattle.hol_spec.specs.declared.StepKind.TheVariants as by_rule
 use Rattle.article_spec.specs.State as state
 use Rattle.bridge_run.specs.TermViews.{term_view, sequent_view}
@@ -15,6 +17,10 @@ use Rattle.bridge_run.specs.declared.first.machine.Progress.TheVariants.{Begun, 
 use Rattle.bridge_run.specs.declared.first.machine.Origin.{Origin}
 use Rattle.bridge_run.specs.declared.first.machine.Origin.TheVariants.{Reflexivity, Export}
 use Rattle.bridge_run.specs.declared.first.machine.Step.{Step}
+
+-- |- t = t, at the type of t.
+abbrev pub reflexivity : HolType → Term → proof.Step
+reflexivity a t = record { kind = by_rule.Refl; premises = []; parameters = Parameters.term t; sequent = derived [] (equation a t t) }
 
 -- A step by its origin: reflexivity of a term, or the theorem of an earlier step again.
 abbrev pub step_of : Origin → Sequent → proof.Step

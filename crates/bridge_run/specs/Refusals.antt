@@ -11,7 +11,7 @@ use Rattle.article_spec.specs.declared.commands.Word.{Word}
 use Rattle.article_spec.specs.State.{State, Place, start}
 use Rattle.article_spec.specs.Conditions.{demand}
 use Rattle.article_spec.specs.Results.{◌>>◌}
-use Rattle.article_spec.specs.Restriction.{restricted, is_obeyed, is_obeyed_word}
+use Rattle.bridge_spec.specs.FirstPath.{restricted, is_obeyed, is_obeyed_word}
 use Rattle.article_spec.specs.Step.{step_at, obey}
 
 -- The machine's answers to a word and, at a place of an article, to what a command says.

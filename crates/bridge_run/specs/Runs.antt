@@ -1,9 +1,13 @@
 -- The steps of a machine as an accepted run.
-use Rattle.std.specs.Prelude.{◌≡◌, ℕ, ◌<◌, ◌≤◌, List, [], length, take, slice_get, count_by, Some}
+use Rattle.std.specs.Prelude.{◌≡◌, ℕ, ◌<◌, ◌≤◌, List, [], length, map, min, sum, take, slice_get, count_by, Some}
 use Rattle.hol_spec.specs.Sequents.{parameter_count}
 use Rattle.hol_spec.specs.Limits.{greatest_parameter_count}
-use Rattle.article_spec.specs.Run.{Accepted}
-use Rattle.bridge_spec.specs.Image.{reached, step_symbol}
+use Rattle.hol_spec.specs.Proofs.{Accepted}
+use Rattle.lp_spec.specs.Modules.{Declaration}
+use Rattle.lp_spec.specs.Text.{written}
+use Rattle.lp_spec.specs.Weight.{bound, greatest}
+use Rattle.bridge_spec.specs.Texts.{Counts}
+use Rattle.plain_laws.specs.PlainImage.{reached, step_symbol}
 use Rattle.bridge_run.specs.TermViews.{sequent_view}
 use Rattle.bridge_run.specs.MachineViews.{made_view, exports_from, exports_it}
 use Rattle.bridge_run.specs.declared.first.machine.Step.{Step}
@@ -35,3 +39,10 @@ pub record HasSymbols (steps : List Step) (symbols : List ℕ) (count : ℕ) : T
 -- how many of the first so many steps are exports
 abbrev pub exports_before : ℕ → List Step → ℕ
 exports_before number steps = count_by (λ step. exports_it step.origin) (take number steps)
+
+-- the text of a module with its bounds, and what is counted of it
+abbrev pub text_with_bounds : List Declaration → List ℕ
+text_with_bounds ds = written ds (map (bound ds) ds)
+
+abbrev pub counts_with_bounds : ℕ → List Declaration → Counts
+counts_with_bounds exports ds = record { exports = exports; declarations = length ds; bounds = min (sum (map (bound ds) ds)) greatest }

@@ -1,7 +1,8 @@
 ghost use Rattle.std.specs.Prelude.{◌≡◌, ◌<◌, ◌≤◌, length, map, OnOk, OnErr};
 ghost use Rattle.std.specs.List.{flat_map};
 ghost use Rattle.bridge_base.specs.Outside.{HasCause, Gains, GainsFront};
-ghost use Rattle.bridge_spec.specs.Outputs.{Delivers, sunk};
+ghost use Rattle.bridge_spec.specs.Calls.{sunk};
+ghost use Rattle.bridge_spec.specs.Outputs.{Delivers};
 ghost use Rattle.bridge_run.specs.AnswerTexts.{status_of, text_of, note_of};
 
 use crate::answer::{Answer, Translation};
@@ -16,7 +17,9 @@ const USAGE: &[u8] =
 /// Writes the texts of an answer, the output first, and gives its status. Where the output fails, the
 /// note says so; where either fails, the status is that of a write fault.
 pub fn deliver<O: Sink, N: Sink>(answer: &Answer, out: &mut O, note: &mut N) -> Status
-    ensures { Delivers (status_of answer.now) (text_of answer.now) (note_of answer.now) (sunk (O.got out.old) (O.faults out.old) (O.got out.new) (O.faults out.new)) (sunk (N.got note.old) (N.faults note.old) (N.got note.new) (N.faults note.new)) result }
+    ensures delivered { Delivers (status_of answer.now) (text_of answer.now) (note_of answer.now) (sunk O.got O.faults out.old out.new) (sunk N.got N.faults note.old note.new) result }
+    ensures out_count { O.faults out.old ≤ O.faults out.new }
+    ensures note_count { N.faults note.old ≤ N.faults note.new }
 {
     if write_lines(out, answer.text()).is_err() {
         let _ = write_all(note, b"write fault\n");

@@ -1,13 +1,13 @@
 //! From an article of the first path to the text of its module.
 
-ghost use Rattle.std.specs.Prelude.{◌≡◌, Some, ◌∷◌, [], IfOk, map, min, sum, count_by};
+ghost use Rattle.std.specs.Prelude.{◌≡◌, ◌≤◌, ◌∷◌, [], IfOk, length, map, min, sum, count_by};
 ghost use Rattle.lp_spec.specs.Weight.{bound, greatest};
-ghost use Rattle.bridge_spec.specs.Forms.{translate};
-ghost use Rattle.bridge_spec.specs.Texts.{module_text, counts_of};
-ghost use Rattle.bridge_spec.specs.Answers.{called, Answers};
+ghost use Rattle.plain_laws.specs.PlainImage.{plain_image};
+ghost use Rattle.bridge_spec.specs.Calls.{shelved};
+ghost use Rattle.bridge_spec.specs.Answers.{AnswersTranslate};
 ghost use Rattle.bridge_run.specs.AnswerTexts.{status_of, text_of, note_of, counts_in};
 ghost use Rattle.bridge_run.specs.MachineViews.{exports_it};
-ghost use Rattle.bridge_run.specs.Runs.{AreSteps, run_of};
+ghost use Rattle.bridge_run.specs.Runs.{AreSteps, run_of, text_with_bounds, counts_with_bounds};
 ghost use Rattle.bridge_run.specs.Trees.{declarations_of};
 
 pub mod image;
@@ -38,7 +38,9 @@ use std::alloc::Global;
 
 /// What is to be answered for the article in a file: its module where the machine accepts it.
 pub fn translated<H: Shelf>(alloc: Global, file: &str, shelf: &mut H) -> Answer
-    ensures { Answers (called (Some (translate (file.now ∷ []))) (H.told shelf.old) (H.faults shelf.old) (H.faults shelf.new)) (status_of result) (text_of result) (note_of result) }
+    ensures answers { AnswersTranslate (file.now ∷ []) (shelved H.told H.faults shelf.old shelf.new) (status_of result) (text_of result) (note_of result) }
+    ensures told_kept { H.told shelf.new ≡ H.told shelf.old }
+    ensures count { H.faults shelf.old ≤ H.faults shelf.new }
 {
     match read_article(alloc, file, shelf) {
         Ok(machine) => match translation_of(alloc, machine.steps()) {
@@ -54,8 +56,8 @@ pub fn translated<H: Shelf>(alloc: Global, file: &str, shelf: &mut H) -> Answer
 /// The module of the steps of a run.
 fn translation_of(alloc: Global, steps: &[Step]) -> Result<Translation, Memory>
     requires { AreSteps steps.now }
-    ensures text { IfOk result (λ translation. translation.text.items ≡ module_text (run_of steps.now)) }
-    ensures counts { IfOk result (λ translation. counts_in translation ≡ counts_of (run_of steps.now)) }
+    ensures text { IfOk result (λ translation. translation.text.items ≡ text_with_bounds (plain_image (run_of steps.now))) }
+    ensures counts { IfOk result (λ translation. counts_in translation ≡ counts_with_bounds (length (run_of steps.now).exports) (plain_image (run_of steps.now))) }
 {
     let declarations = image_of(alloc, steps)?;
     let bounds = bounds_of(alloc, &declarations)?;

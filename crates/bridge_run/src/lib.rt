@@ -23,6 +23,3 @@ mod words;
 
 pub use crate::program::{bridge, translate};
 pub use bridge_spec::Status;
-
-#[cfg(test)]
-mod tests;

@@ -1,10 +1,11 @@
-ghost use Rattle.std.specs.Prelude.{◌≡◌, Some, None, MatchOption, map, string_bytes, length};
-ghost use Rattle.bridge_spec.specs.Forms.{form_of, translate, is_file};
+ghost use Rattle.std.specs.Prelude.{◌≡◌, Some, None, MatchOption, length};
+ghost use Rattle.bridge_spec.specs.Forms.{translate, is_file};
+ghost use Rattle.bridge_spec.specs.Calls.{form_in, names_in};
 
 /// The file that is to be translated, where the words ask for that: `translate` and one file after the
 /// program's name.
 pub fn file_to_translate(words: &[String]) -> Option<&[String]>
-    ensures { MatchOption result (form_of (map string_bytes words.now) ≡ None) (λ files. (length files.now ≡ 1) × (form_of (map string_bytes words.now) ≡ Some (translate (map string_bytes files.now)))) }
+    ensures { MatchOption result (form_in words.now ≡ None) (λ files. (length files.now ≡ 1) × (form_in words.now ≡ Some (translate (names_in files.now)))) }
 {
     match words {
         [_, word, file] => {

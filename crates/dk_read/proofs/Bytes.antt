@@ -3,7 +3,7 @@ use Rattle.std.proofs.Common.{◌≡◌, ℕ, sym, ap, subst, ◌∙◌, List, R
 use Rattle.lp_spec.specs.Modules.{Declaration}
 use Rattle.lp_spec.specs.Tokens as tokens
 use Rattle.lp_spec.specs.ReadingFaults as reading
-use Rattle.lp_spec.specs.ReadingOrder.{IsState, IsOrdered, advance-IsOrdered}
+use Rattle.text_laws.specs.ReadingOrder.{IsState, IsOrdered, advance-IsOrdered}
 use Rattle.dk_read.specs.declared.faults.DkFault.{DkFault}
 use Rattle.dk_read.specs.declared.faults.DkFault.TheVariants as fault
 use Rattle.dk_read.specs.declared.terms.State.{State}

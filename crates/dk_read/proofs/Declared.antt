@@ -7,7 +7,7 @@ use Rattle.lp_spec.specs.Trees.{Tree, SortType}
 use Rattle.lp_spec.specs.Modules.{Declaration, signature}
 use Rattle.lp_spec.specs.ModuleOrder.{MayFollow}
 use Rattle.lp_spec.specs.ReadingFaults as reading
-use Rattle.lp_spec.specs.ReadingOrder.{IsOrdered, meaning-IsUnder, IsState, IsHead, IsUnder, whole-IsUnder, symbol_follows, body_follows}
+use Rattle.text_laws.specs.ReadingOrder.{IsOrdered, meaning-IsUnder, IsState, IsHead, IsUnder, whole-IsUnder, symbol_follows, body_follows}
 use Rattle.lp_term.specs.declared.LpId.{LpId}
 use Rattle.lp_term.specs.Tables.{tree_at, Keeps, Holds}
 use Rattle.lp_term.specs.TableLaws.{tree_at-Stays}

@@ -5,7 +5,7 @@ use Rattle.std.proofs.lemmas.Grind.{common_steps}
 use Rattle.lp_spec.specs.Text.{prelude}
 use Rattle.lp_spec.specs.Tokens.{Nothing}
 use Rattle.lp_spec.specs.ReadingFaults as reading
-use Rattle.lp_spec.specs.ReadingLaws.{read_bytes-Refused}
+use Rattle.text_laws.specs.ReadingLaws.{read_bytes-Refused}
 use Rattle.dk_read.specs.declared.faults.DkFault.{DkFault}
 use Rattle.dk_read.specs.declared.faults.DkFault.TheVariants as fault
 use Rattle.dk_read.specs.declared.faults.DkKind.TheVariants as kind

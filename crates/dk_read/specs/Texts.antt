@@ -6,7 +6,7 @@ use Rattle.holide_sig.specs.Modules.{declarations_of, IsHeld}
 use Rattle.dk_read.specs.declared.faults.DkKind.{DkKind}
 use Rattle.lp_spec.specs.Tokens as tokens
 use Rattle.lp_spec.specs.ReadingFaults as reading
-use Rattle.lp_spec.specs.ReadingOrder.{IsState}
+use Rattle.text_laws.specs.ReadingOrder.{IsState}
 use Rattle.dk_read.specs.declared.faults.DkFault.{DkFault}
 use Rattle.dk_read.specs.declared.faults.DkFault.TheVariants as fault
 use Rattle.dk_read.specs.declared.text.Pending.{Pending}

@@ -14,8 +14,6 @@ mod faults;
 mod machine;
 mod reader;
 mod terms;
-#[cfg(test)]
-mod tests;
 mod text;
 
 pub use faults::{DkFault, DkKind};

@@ -4,7 +4,7 @@ ghost use Rattle.lp_spec.specs.Modules.{signature};
 ghost use Rattle.lp_spec.specs.ModuleOrder.{IsModule, MayFollow};
 ghost use Rattle.lp_spec.specs.Reading.{variable_of, symbol_of};
 ghost use Rattle.lp_spec.specs.ReadingFaults as reading;
-ghost use Rattle.lp_spec.specs.ReadingOrder.{IsState};
+ghost use Rattle.text_laws.specs.ReadingOrder.{IsState};
 ghost use Rattle.lp_term.specs.Tables.{tree_at, tree_of_node, Holds, Keeps, PartsBelow};
 ghost use Rattle.holide_sig.specs.Modules.{declarations_of, declaration_in, IsHeld, IsKnown};
 ghost use Rattle.dk_read.specs.declared.faults.DkKind.TheVariants as kind;

@@ -6,7 +6,7 @@ use Rattle.hol_spec.specs.Names.{Name}
 use Rattle.hol_spec.specs.Types.{HolType}
 use Rattle.hol_spec.specs.Terms.{Term, bound, lam, IsTerm, HasType, type_of, type_under}
 use Rattle.hol_spec.specs.TermBinding.{close}
-use Rattle.hol_spec.specs.TermTyping.{type_under-close_at}
+use Rattle.hol_laws.specs.TermTyping.{type_under-close_at}
 use Rattle.hol_type.specs.TableLaws.{some_is}
 use Rattle.hol_term.specs.Tables.{Trees, term_at, Holds, Keeps, IsBodyFor}
 use Rattle.hol_term.specs.TableLaws.{term_in-Stays}

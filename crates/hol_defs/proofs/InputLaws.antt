@@ -8,13 +8,13 @@ use Rattle.indexmap.specs.IndexSet.{insert_key}
 use Rattle.hol_spec.specs.Names.{Name}
 use Rattle.hol_spec.specs.Types.{HolType}
 use Rattle.hol_spec.specs.Primitives.{primitive_type, primitive_arity}
-use Rattle.hol_spec.specs.Symbols.{Symbol, is_input_constant, is_input_operator, first_defined_type, generic_type}
+use Rattle.hol_spec.specs.Symbols.{Symbol, is_input_constant, is_input_operator, is_input_operator_named, first_defined_type, first_defined_arity, generic_type}
 use Rattle.hol_type.specs.TableLaws.{ap2}
 use Rattle.hol_defs.specs.declared.input.Input.{Input}
 use Rattle.hol_defs.specs.declared.input.Input.TheVariants.{Constant, Operator}
 use Rattle.hol_defs.specs.declared.SymbolKind.TheVariants as kind
 use Rattle.hol_defs.specs.contracts.input.InputPartialEq.TheImpl as input_eq
-use Rattle.hol_defs.specs.Inputs.{symbol_of, newly, is_input_operator_named}
+use Rattle.hol_defs.specs.Inputs.{symbol_of, newly}
 use Rattle.hol_defs.specs.declared.primitive.Primitive.{Primitive}
 use Rattle.hol_defs.specs.Generics.{generic_of}
 use Rattle.hol_defs.specs.Kinds.{constant_kind, operator_kind}
@@ -24,6 +24,11 @@ pub inputs_undefined : (n : Name) (es : List Input) → first_defined_type n (ma
 inputs_undefined n [] = refl
 inputs_undefined n (Constant m ∷ es) = inputs_undefined n es
 inputs_undefined n (Operator m k ∷ es) = inputs_undefined n es
+
+pub inputs_without_arity : (n : Name) (es : List Input) → first_defined_arity n (map symbol_of es) ≡ None
+inputs_without_arity n [] = refl
+inputs_without_arity n (Constant m ∷ es) = inputs_without_arity n es
+inputs_without_arity n (Operator m k ∷ es) = inputs_without_arity n es
 
 -- a name that isn't primitive has no generic type
 pub generic_of_inputs : (n : Name) (es : List Input) → None ≡ primitive_type n → generic_type (map symbol_of es) n ≡ None
@@ -62,7 +67,7 @@ pub constant_kind_of_inputs : (n : Name) (es : List Input) (b : Bool) → None �
 constant_kind_of_inputs n es b e h = rw (← e, inputs_undefined n es, h) refl
 
 pub operator_kind_of_inputs : (n : Name) (es : List Input) (b : Bool) → None ≡ primitive_arity n → list_any (is_input_operator_named n) (map symbol_of es) ≡ b → (if b then Some kind.Input else None) ≡ operator_kind (map symbol_of es) n
-operator_kind_of_inputs n es b e h = rw (← e, h) refl
+operator_kind_of_inputs n es b e h = rw (← e, inputs_without_arity n es, h) refl
 
 -- a test that an input passes, and one that none passes
 pub any_here : (p : Symbol → Bool) (es : List Input) (i : ℕ) (e : Input) → i < length es → e ≡ get_or es i e → p (symbol_of e) ≡ true → list_any p (map symbol_of (drop i es)) ≡ true
@@ -81,3 +86,8 @@ none_left p es i h = rw (drop_all es i h) refl
 pub not_primitive : (o : Option Primitive) (t : Option HolType) → is_some o ≡ false → option_map generic_of o ≡ t → None ≡ t
 not_primitive None t h e = e
 not_primitive (Some x) t h e = absurd (cc)
+
+-- a name that stands for no primitive operator
+pub no_primitive_arity : (o t : Option ℕ) → is_some o ≡ false → o ≡ t → None ≡ t
+no_primitive_arity None t h e = e
+no_primitive_arity (Some k) t h e = absurd (cc)

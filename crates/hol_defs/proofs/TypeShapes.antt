@@ -1,7 +1,8 @@
 -- The types of equality and of choice, by their parts.
 use Rattle.std.proofs.Common.{◌≡◌, refl, ap, sym, ◌∙◌, List, [], ◌∷◌, Bool, true, false, Option, None, Some, length}
 use Rattle.hol_spec.specs.Names.{Name}
-use Rattle.hol_spec.specs.NameEquality.{name_eq, name_eq-Decides}
+use Rattle.hol_spec.specs.NameEquality.{name_eq}
+use Rattle.hol_laws.specs.NameEqualityLaws.{name_eq-Decides}
 use Rattle.hol_spec.specs.Types.{HolType, variable, operator, none, more, types_of}
 use Rattle.hol_spec.specs.Primitives.{arrow_name, function, function_parts, bool, equality_type, select_type}
 use Rattle.hol_type.specs.declared.table.TypeId.{TypeId}

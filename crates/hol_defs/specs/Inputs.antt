@@ -1,9 +1,7 @@
 -- Inputs as symbols.
-use Rattle.std.specs.Prelude.{List, [], ◌∷◌, Bool, false, if◌then◌else◌}
+use Rattle.std.specs.Prelude.{List, [], ◌∷◌, if◌then◌else◌}
 use Rattle.std.specs.List.{list_any}
-use Rattle.hol_spec.specs.Names.{Name}
-use Rattle.hol_spec.specs.NameEquality.{name_eq}
-use Rattle.hol_spec.specs.Symbols.{Symbol, input_constant, input_operator, defined, is_input_constant, is_input_operator}
+use Rattle.hol_spec.specs.Symbols.{Symbol, input_constant, input_operator, is_input_constant, is_input_operator}
 use Rattle.hol_defs.specs.declared.input.Input.{Input}
 use Rattle.hol_defs.specs.declared.input.Input.TheVariants.{Constant, Operator}
 
@@ -16,9 +14,3 @@ symbol_of (Operator n k) = input_operator n k
 abbrev pub newly : List Symbol → Input → List Symbol
 newly symbols (Constant n) = if list_any (is_input_constant n) symbols then [] else input_constant n ∷ []
 newly symbols (Operator n k) = if list_any (is_input_operator n k) symbols then [] else input_operator n k ∷ []
-
--- whether a symbol is an input operator of this name, with any number of arguments
-abbrev pub is_input_operator_named : Name → Symbol → Bool
-is_input_operator_named n (input_constant m) = false
-is_input_operator_named n (input_operator m k) = name_eq n m
-is_input_operator_named n (defined d) = false

@@ -4,10 +4,9 @@ use Rattle.std.specs.Prelude.{List, Option, None, Some, is_some, if◌then◌els
 use Rattle.std.specs.List.{list_any}
 use Rattle.hol_spec.specs.Names.{Name}
 use Rattle.hol_spec.specs.Primitives.{primitive_arity, primitive_type}
-use Rattle.hol_spec.specs.Symbols.{Symbol, first_defined_type, is_input_constant}
+use Rattle.hol_spec.specs.Symbols.{Symbol, first_defined_type, first_defined_arity, is_input_constant, is_input_operator_named}
 use Rattle.hol_defs.specs.declared.SymbolKind.{SymbolKind}
 use Rattle.hol_defs.specs.declared.SymbolKind.TheVariants.{Primitive, Input, Defined}
-use Rattle.hol_defs.specs.Inputs.{is_input_operator_named}
 
 -- how a name is taken as a constant, if it is
 abbrev pub constant_kind : List Symbol → Name → Option SymbolKind
@@ -17,9 +16,10 @@ constant_kind symbols n =
     else (if list_any (is_input_constant n) symbols then Some Input
     else None))
 
--- how a name is taken as an operator, if it is; no symbol defines one
+-- how a name is taken as an operator, if it is
 abbrev pub operator_kind : List Symbol → Name → Option SymbolKind
 operator_kind symbols n =
     if is_some (primitive_arity n) then Some Primitive
+    else (if is_some (first_defined_arity n symbols) then Some Defined
     else (if list_any (is_input_operator_named n) symbols then Some Input
-    else None)
+    else None))

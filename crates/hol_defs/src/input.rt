@@ -1,7 +1,7 @@
 //! Inputs: symbols that are taken where they are first used.
 ghost use Rattle.std.specs.Prelude.{◌≡◌};
-ghost use Rattle.hol_spec.specs.Symbols.{is_input_constant};
-ghost use Rattle.hol_defs.specs.Inputs.{symbol_of, is_input_operator_named};
+ghost use Rattle.hol_spec.specs.Symbols.{is_input_constant, is_input_operator_named};
+ghost use Rattle.hol_defs.specs.Inputs.{symbol_of};
 
 use hol_name::Name;
 

@@ -15,7 +15,7 @@
 ghost use Rattle.std.specs.Prelude.{◌≡◌, ◌<◌, ◌++◌, [], length, None, IfOk, IfErr, OnOk, OnErr};
 ghost use Rattle.bridge_base.specs.declared.faults.Fault.TheVariants as the_fault;
 ghost use Rattle.hol_spec.specs.Names.{Name as AName};
-ghost use Rattle.hol_spec.specs.Symbols.{first_defined_type, generic_type, operator_arity, new_constant, new_operator};
+ghost use Rattle.hol_spec.specs.Symbols.{first_defined_type, first_defined_arity, generic_type, operator_arity, new_constant, new_operator};
 ghost use Rattle.hol_type.specs.Tables.{tree_at};
 ghost use Rattle.hol_term.specs.Tables.{type_at};
 ghost use Rattle.hol_defs.specs.Inputs.{newly};
@@ -25,8 +25,6 @@ ghost use Rattle.hol_defs.specs.Refusals.{FitsGeneric, FitsArity, RefusesConstan
 
 mod input;
 mod primitive;
-#[cfg(test)]
-mod tests;
 
 use crate::input::Input;
 use crate::primitive::{Primitive, arity_of};
@@ -70,7 +68,7 @@ impl Model for Symbols {
     ghost use Rattle.std.specs.Prelude.{List, map};
     ghost use Rattle.std.specs.Coded.{coded_list};
     ghost use Rattle.hol_spec.specs.Symbols.{Symbol};
-    ghost use Rattle.hol_spec.specs.ProofLaws.{coded_symbol};
+    ghost use Rattle.proof_laws.specs.ProofCodes.{coded_symbol};
     ghost use Rattle.hol_defs.specs.Inputs.{symbol_of};
 
     ghost Value = { List Symbol };
@@ -170,6 +168,13 @@ impl Symbols {
         }
     }
 
+    /// How many symbols are taken.
+    pub fn count(&self) -> usize
+        ensures { result ≡ length self.now }
+    {
+        self.inputs.len()
+    }
+
     // The use of a constant at a type of this table.
     fn use_const_at(&mut self, types: &TypeTable, name: &Name, ty: TypeId) -> Result<(), Fault>
         requires { ty.0 < length types.now }
@@ -196,7 +201,8 @@ impl Symbols {
     // Takes an input, if it isn't taken. No symbol is defined.
     fn take(&mut self, input: Input) -> Result<(), Memory>
         ensures takes { OnOk result (self.new ≡ self.old ++ newly self.old input) }
-        ensures undefined { (n : AName) → first_defined_type n self.old ≡ None }
+        ensures no_type { (n : AName) → first_defined_type n self.old ≡ None }
+        ensures no_arity { (n : AName) → first_defined_arity n self.old ≡ None }
         ensures unchanged { OnErr result (self.new ≡ self.old) }
     {
         match self.inputs.insert_full(input) {

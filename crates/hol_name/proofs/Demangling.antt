@@ -3,7 +3,7 @@ use Rattle.std.proofs.Common.{◌≡◌, ◌≢◌, ◌⊎◌, ◌<◌, inl, inr
 use Rattle.std.specs.List.{AllByRecursion}
 use Rattle.hol_spec.specs.Names.{Name}
 use Rattle.hol_spec.specs.Mangling.{underscore, mangled_before, mangled_more, mangled, AreBytes, IsName}
-use Rattle.hol_spec.specs.ManglingLaws.{Follows, IsByteless, follows-byteless, follows-more, same_component}
+use Rattle.hol_laws.specs.ManglingLaws.{Follows, IsByteless, follows-byteless, follows-more, same_component}
 use Rattle.hol_name.specs.Behind.{IsFault}
 use Rattle.hol_name.specs.Demangled.{HasNoName}
 

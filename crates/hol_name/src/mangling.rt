@@ -3,7 +3,7 @@
 ghost use Rattle.std.specs.Prelude.{◌≡◌, ◌<◌, ◌≤◌, ℕ, ◌∷◌, ◌++◌, [], List, length, map, IfOk, IfSome, IfNone, MatchOption};
 ghost use Rattle.std.specs.Iterator.{YieldsFirst, item_count};
 ghost use Rattle.hol_spec.specs.Mangling.{hex_digit, mangled, mangled_before, mangled_more, AreBytes, IsName};
-ghost use Rattle.hol_spec.specs.ManglingLaws.{IsByteless};
+ghost use Rattle.hol_laws.specs.ManglingLaws.{IsByteless};
 ghost use Rattle.hol_name.specs.Behind.{IsBehind};
 ghost use Rattle.hol_name.specs.Demangled.{HasNoName, IsEscaped};
 ghost use Rattle.hol_name.specs.Escapes.{waiting_text};

@@ -3,7 +3,7 @@ use Rattle.std.proofs.Common.{◌≡◌, ◌<◌, refl, sym, ap, ◌∙◌, List
 use Rattle.std.proofs.lemmas.List.{append_assoc, append-nil}
 use Rattle.hol_spec.specs.Names.{Name}
 use Rattle.hol_spec.specs.Lists.{union, distinct}
-use Rattle.hol_spec.specs.ListLaws.{union-append}
+use Rattle.hol_laws.specs.ListLaws.{union-append}
 use Rattle.hol_spec.specs.NameEquality.{name_eq}
 use Rattle.hol_term.specs.declared.TermId.{TermId}
 use Rattle.hol_term.specs.declared.Variable.{Variable}

@@ -3,13 +3,14 @@ use Rattle.std.proofs.Common.{◌≡◌, refl, sym, ap, ◌∙◌, subst, List, 
 use Rattle.std.specs.List.{list_any}
 use Rattle.std.proofs.lemmas.List.{append_assoc, append-nil}
 use Rattle.hol_spec.specs.Names.{Name}
-use Rattle.hol_spec.specs.NameEquality.{name_eq, name_eq-Decides}
+use Rattle.hol_spec.specs.NameEquality.{name_eq}
+use Rattle.hol_laws.specs.NameEqualityLaws.{name_eq-Decides}
 use Rattle.hol_spec.specs.Lists.{is_in, union, distinct}
-use Rattle.hol_spec.specs.ListLaws.{union-append}
+use Rattle.hol_laws.specs.ListLaws.{union-append}
 use Rattle.hol_spec.specs.Types.{HolType, variable_places}
 use Rattle.hol_spec.specs.Terms.{Term, free, bound, constant, app, lam, variable_eq, term_eq, free_places, type_variable_places}
-use Rattle.hol_spec.specs.TermLaws.{term_eq-Decides}
-use Rattle.hol_spec.specs.TermRenamings.{ap2}
+use Rattle.hol_laws.specs.TermLaws.{term_eq-Decides}
+use Rattle.hol_laws.specs.TermRenamings.{ap2}
 use Rattle.hol_term.specs.Subterms.{subterms, free_head, type_head, gathered, AreIn}
 
 pub or_left : (a b : Bool) → a ≡ true → (a || b) ≡ true

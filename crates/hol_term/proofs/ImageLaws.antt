@@ -8,10 +8,10 @@ use Rattle.bridge_base.specs.declared.faults.Fault.TheVariants.{Refused, Memory}
 use Rattle.bridge_base.specs.declared.faults.Kind.TheVariants.{TooLarge, TooDeep}
 use Rattle.hol_spec.specs.Types.{HolType}
 use Rattle.hol_spec.specs.Substitution.{TypePairs, substitute}
-use Rattle.hol_spec.specs.TermRenamings.{ap2}
+use Rattle.hol_laws.specs.TermRenamings.{ap2}
 use Rattle.hol_spec.specs.Terms.{Term, free, app, lam, variable_eq, type_of, IsTerm}
-use Rattle.hol_spec.specs.TermSubstitution.{TermPairs, sub}
-use Rattle.hol_spec.specs.TermSubstitutionLaws.{AreFitting, type_of-sub}
+use Rattle.hol_spec.specs.TermSubstitution.{TermPairs, sub, AreFitting}
+use Rattle.hol_laws.specs.TermSubstitutionLaws.{type_of-sub}
 use Rattle.hol_type.specs.declared.table.TypeId.{TypeId}
 use Rattle.hol_type.specs.Tables as type
 use Rattle.hol_type.specs.TableLaws as type_law

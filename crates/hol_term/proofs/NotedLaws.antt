@@ -14,7 +14,7 @@ use Rattle.hol_term.specs.contracts.memo.PlacePartialEq.TheImpl as place_eq
 use Rattle.hol_term.specs.contracts.seats.SeatPartialEq.TheImpl as seat_eq
 use Rattle.hol_term.specs.Noted.{IsNoted}
 use Rattle.hol_type.specs.TableLaws.{some_is}
-use Rattle.hol_spec.specs.TermRenamings.{ap2}
+use Rattle.hol_laws.specs.TermRenamings.{ap2}
 
 pub and_both : (a b : Bool) → (a && b) ≡ true → (a ≡ true) × (b ≡ true)
 and_both true b e = (refl, e)

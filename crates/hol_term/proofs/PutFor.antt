@@ -6,7 +6,7 @@ use Rattle.std.proofs.lemmas.Bool.{eqb-true}
 use Rattle.hol_spec.specs.Names.{Name}
 use Rattle.hol_spec.specs.Types.{HolType, type_eq}
 use Rattle.hol_spec.specs.Terms.{HasType, variable_eq}
-use Rattle.hol_spec.specs.TermLaws.{type_eq-refl}
+use Rattle.hol_laws.specs.TermLaws.{type_eq-refl}
 use Rattle.hol_type.specs.declared.table.TypeId.{TypeId}
 use Rattle.hol_type.specs.Tables.{tree_at}
 use Rattle.hol_type.specs.Tables as type

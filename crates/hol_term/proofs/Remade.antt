@@ -6,10 +6,10 @@ use Rattle.std.proofs.lemmas.Option.{slice_get-map}
 use Rattle.std.proofs.lemmas.List.{length-map, map-append, reverse-append}
 use Rattle.hol_spec.specs.Terms.{Term, free, bound, constant, app, lam, Variable, variable_eq}
 use Rattle.hol_spec.specs.Types.{HolType}
-use Rattle.hol_spec.specs.TermLaws.{variable_eq-Decides}
+use Rattle.hol_laws.specs.TermLaws.{variable_eq-Decides}
 use Rattle.hol_spec.specs.TermBinding.{lift, close_at, loose, put_all_at}
-use Rattle.hol_spec.specs.TermRenamings.{ap2, put_all_bound-high}
-use Rattle.hol_spec.specs.TermClosed.{lift_at-closed, lift_at-zero, put_all_at-closed}
+use Rattle.hol_laws.specs.TermRenamings.{ap2, put_all_bound-high}
+use Rattle.hol_laws.specs.TermClosed.{lift_at-closed, lift_at-zero, put_all_at-closed}
 use Rattle.hol_type.specs.declared.table.TypeId.{TypeId}
 use Rattle.hol_type.specs.TableLaws as type_law
 use Rattle.hol_type.specs.TableLaws.{some_is}

@@ -1,16 +1,14 @@
 -- What a call that makes a term answers, once its tree is made and judged.
-use Rattle.std.proofs.Common.{◌≡◌, ℕ, ◌<◌, ◌≤◌, refl, sym, ap, ◌∙◌, subst, arith, Option, Some, None, Result, Ok, Err, cond, length, List, [], ◌∷◌, get_or}
+use Rattle.std.proofs.Common.{◌≡◌, ℕ, ◌<◌, ◌≤◌, refl, sym, ap, ◌∙◌, subst, arith, Option, Some, None, Result, Ok, Err, cond, length, List, [], ◌∷◌, get_or, ◌⊎◌, inl, inr}
 use Rattle.std.specs.Prelude.{IfErr, IsSome, slice_get, unwrap_or}
 use Rattle.std.proofs.lemmas.Option.{slice_get_cases}
-use Rattle.std.proofs.Common.{◌⊎◌, inl, inr}
-use Rattle.hol_spec.specs.Types.{HolType}
+use Rattle.hol_spec.specs.Types.{HolType, type_eq}
 use Rattle.hol_spec.specs.Names.{Name}
-use Rattle.hol_spec.specs.Types.{type_eq}
 use Rattle.hol_spec.specs.Primitives.{bool}
 use Rattle.hol_spec.specs.Terms.{Term, free, bound, lam, IsTerm, HasType, type_of, equation}
-use Rattle.hol_spec.specs.TermLaws.{type_eq-refl, type_of-equation}
+use Rattle.hol_laws.specs.TermLaws.{type_eq-refl, type_of-equation}
 use Rattle.hol_spec.specs.TermBinding.{close}
-use Rattle.hol_spec.specs.TermRenamings.{ap2}
+use Rattle.hol_laws.specs.TermRenamings.{ap2}
 use Rattle.hol_spec.specs.Limits.{TermWithin, greatest_size, greatest_depth}
 use Rattle.bridge_base.specs.declared.faults.Fault.{Fault}
 use Rattle.bridge_base.specs.declared.faults.Fault.TheVariants.{Refused, Memory}

@@ -3,14 +3,14 @@ use Rattle.std.proofs.Common.{◌≡◌, ℕ, zero, suc, ◌<◌, ◌≤◌, ref
 use Rattle.std.specs.Prelude.{slice_get, IfOk}
 use Rattle.std.specs.Option.{option_map}
 use Rattle.hol_spec.specs.Types.{HolType, type_eq}
-use Rattle.hol_spec.specs.TypeLaws.{type_eq-Decides}
+use Rattle.hol_laws.specs.TypeLaws.{type_eq-Decides}
 use Rattle.hol_spec.specs.Primitives.{function, function_parts}
 use Rattle.hol_spec.specs.Terms.{Term, free, bound, constant, app, lam, type_under, type_of, application_type, result_type}
-use Rattle.hol_spec.specs.TermLaws.{type_eq-refl}
+use Rattle.hol_laws.specs.TermLaws.{type_eq-refl}
 use Rattle.hol_spec.specs.TermBinding.{loose}
-use Rattle.hol_spec.specs.TermRenamings.{ap2}
-use Rattle.hol_spec.specs.TermClosed.{lift_at-closed}
-use Rattle.hol_spec.specs.TermTyping.{type_under-lift_at, loose-typed}
+use Rattle.hol_laws.specs.TermRenamings.{ap2}
+use Rattle.hol_laws.specs.TermClosed.{lift_at-closed}
+use Rattle.hol_laws.specs.TermTyping.{type_under-lift_at, loose-typed}
 use Rattle.hol_type.specs.declared.table.TypeId.{TypeId}
 use Rattle.hol_type.specs.Tables.{tree_at, two_at, types_at}
 use Rattle.hol_type.specs.Tables as type

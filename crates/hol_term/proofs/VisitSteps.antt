@@ -3,10 +3,10 @@ use Rattle.std.proofs.Common.{◌≡◌, ℕ, suc, ◌<◌, refl, sym, ap, ◌�
 use Rattle.std.specs.Prelude.{Result, Ok, Err, OnOk, IfOk}
 use Rattle.std.specs.List.{list_any}
 use Rattle.hol_spec.specs.Lists.{is_in, union, distinct}
-use Rattle.hol_spec.specs.ListLaws.{union-append}
+use Rattle.hol_laws.specs.ListLaws.{union-append}
 use Rattle.hol_spec.specs.Types.{HolType}
 use Rattle.hol_spec.specs.Terms.{Term, free, bound, constant, app, lam, term_eq}
-use Rattle.hol_spec.specs.TermLaws.{term_eq-Decides}
+use Rattle.hol_laws.specs.TermLaws.{term_eq-Decides}
 use Rattle.hol_term.specs.declared.TermId.{TermId}
 use Rattle.hol_term.specs.Tables.{Trees, term_at, terms_at, AreKnown, IsDistinct}
 use Rattle.hol_term.specs.TableLaws.{term_in-same}

@@ -3,8 +3,8 @@ use Rattle.std.proofs.Common.{◌≡◌, ℕ, suc, refl, sym, ap, ◌∙◌, Lis
 use Rattle.bridge_base.specs.Binding.{puts as puts_of, Pairwise}
 use Rattle.hol_spec.specs.Terms.{Term}
 use Rattle.hol_spec.specs.TermBinding.{lift, put, put_at, put_all}
-use Rattle.hol_spec.specs.TermRenamings.{ap2}
-use Rattle.hol_spec.specs.TermBindingLaws.{put_all-puts, puts}
+use Rattle.hol_laws.specs.TermRenamings.{ap2}
+use Rattle.hol_laws.specs.TermBindingLaws.{put_all-puts, puts}
 use Rattle.std.proofs.lemmas.Option.{slice_get_within}
 use Rattle.hol_type.specs.TableLaws.{some_is}
 use Rattle.hol_term.specs.declared.TermId.{TermId}

@@ -2,9 +2,9 @@
 use Rattle.std.specs.Prelude.{◌≡◌, ℕ, ◌<◌, ◌≤◌, List, [], ◌∷◌, length, map, Option, None, Some, slice_get, unwrap_or, refl}
 use Rattle.std.specs.Coded.{Coded, code_by, coded×, coded_list}
 use Rattle.hol_spec.specs.Types.{HolType}
-use Rattle.hol_spec.specs.TypeLaws.{coded_type}
+use Rattle.hol_laws.specs.TypeLaws.{coded_type}
 use Rattle.hol_spec.specs.Terms.{Term, bound, IsTerm, HasType, type_under}
-use Rattle.hol_spec.specs.TermLaws.{coded_term}
+use Rattle.hol_laws.specs.TermLaws.{coded_term}
 use Rattle.hol_type.specs.declared.table.TypeId.{TypeId}
 use Rattle.hol_type.specs.Tables.{tree_at}
 use Rattle.hol_type.specs.Tables as type

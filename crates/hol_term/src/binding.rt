@@ -2,7 +2,7 @@
 ghost use Rattle.std.specs.Prelude.{◌≡◌, ◌<◌, length, IfOk, IfErr, OnErr};
 ghost use Rattle.hol_spec.specs.Limits.{TermWithin};
 ghost use Rattle.hol_spec.specs.TermBinding.{lift as lift_tree, put as put_tree, put_at, put_all as put_all_trees};
-ghost use Rattle.hol_spec.specs.TermBindingLaws as laws;
+ghost use Rattle.hol_laws.specs.TermBindingLaws as laws;
 ghost use Rattle.hol_spec.specs.Terms.{Term};
 ghost use Rattle.hol_term.specs.BindingLaws.{put_list_puts as puts_law, one_tree as one_tree_law};
 ghost use Rattle.hol_term.specs.Refusals.{RefusesTerm};

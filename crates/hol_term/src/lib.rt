@@ -37,8 +37,6 @@ mod scopes;
 mod seats;
 mod seen;
 mod substitution;
-#[cfg(test)]
-mod tests;
 mod typing;
 mod variables;
 mod walk;
@@ -169,8 +167,15 @@ impl TermTable {
         }
     }
 
-    // The number of a tree's type, if it is a term.
-    pub(crate) fn ty(&self, id: TermId) -> Option<TypeId>
+    /// How many trees there are.
+    pub fn count(&self) -> usize
+        ensures { result ≡ length self.now.terms }
+    {
+        self.entries.len()
+    }
+
+    /// The number of a tree's type, if it is a term.
+    pub fn ty(&self, id: TermId) -> Option<TypeId>
         requires { id.0 < length self.now.terms }
         ensures typed { IsTypeNumber self.now.types result (the_type (term_at self.now id.0)) }
         ensures one_each { type.IsDistinct self.now.types }

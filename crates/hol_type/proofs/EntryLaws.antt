@@ -5,7 +5,8 @@ use Rattle.std.proofs.lemmas.Option.{slice_get_within}
 use Rattle.std.proofs.lemmas.Bool.{eqb-true}
 use lib.Pointwise.{pointwise}
 use Rattle.hol_spec.specs.Names.{Name}
-use Rattle.hol_spec.specs.NameEquality.{name_eq, name_eq-Decides}
+use Rattle.hol_spec.specs.NameEquality.{name_eq}
+use Rattle.hol_laws.specs.NameEqualityLaws.{name_eq-Decides}
 use Rattle.hol_spec.specs.Types.{HolType, HolTypes, variable, operator, none, types_of}
 use Rattle.hol_type.specs.declared.table.TypeId.{TypeId}
 use Rattle.hol_type.specs.declared.node.Node.{Node}

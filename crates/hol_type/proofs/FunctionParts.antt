@@ -1,7 +1,8 @@
 -- Types that are not of functions.
 use Rattle.std.proofs.Common.{◌≡◌, refl, arith, List, [], ◌∷◌, length, Some, None, get_or, Bool, true, false}
 use Rattle.hol_spec.specs.Names.{Name}
-use Rattle.hol_spec.specs.NameEquality.{name_eq, name_eq-Decides}
+use Rattle.hol_spec.specs.NameEquality.{name_eq}
+use Rattle.hol_laws.specs.NameEqualityLaws.{name_eq-Decides}
 use Rattle.hol_spec.specs.Types.{HolType, operator, types_of}
 use Rattle.hol_spec.specs.Primitives.{arrow_name, function_parts}
 use Rattle.hol_type.specs.declared.table.TypeId.{TypeId}

@@ -3,7 +3,8 @@ use Rattle.std.proofs.Common.{◌≡◌, ℕ, zero, suc, ◌+◌, ◌<◌, ◌�
 use Rattle.std.specs.Prelude.{slice_get, if◌then◌else◌, unwrap_or}
 use Rattle.std.specs.Map.{lookup}
 use Rattle.hol_spec.specs.Names.{Name}
-use Rattle.hol_spec.specs.NameEquality.{name_eq, name_eq-Decides}
+use Rattle.hol_spec.specs.NameEquality.{name_eq}
+use Rattle.hol_laws.specs.NameEqualityLaws.{name_eq-Decides}
 use Rattle.hol_spec.specs.Types.{HolType, variable, operator, more, types_of}
 use Rattle.hol_spec.specs.Limits.{type_size, types_size}
 use Rattle.hol_spec.specs.Substitution.{TypePairs, substitute, substitute_all}

@@ -2,9 +2,10 @@
 use Rattle.std.proofs.Common.{◌≡◌, ◌<◌, refl, sym, ap, ◌∙◌, subst, List, [], ◌∷◌, ◌++◌, length, Bool, true, false, ◌||◌, ◌⊎◌, ⊎_elim, inl, inr}
 use Rattle.std.specs.List.{list_any}
 use Rattle.hol_spec.specs.Names.{Name}
-use Rattle.hol_spec.specs.NameEquality.{name_eq, name_eq-Decides}
+use Rattle.hol_spec.specs.NameEquality.{name_eq}
+use Rattle.hol_laws.specs.NameEqualityLaws.{name_eq-Decides}
 use Rattle.hol_spec.specs.Lists.{is_in, union}
-use Rattle.hol_spec.specs.ListLaws.{union-append}
+use Rattle.hol_laws.specs.ListLaws.{union-append}
 use Rattle.hol_spec.specs.Types.{HolType, variable, operator, types_of, variable_places, variable_places_of_all, type_variables}
 use Rattle.hol_type.specs.declared.table.TypeId.{TypeId}
 use Rattle.hol_type.specs.declared.visits.Task.{Task}

@@ -17,8 +17,6 @@ mod matching;
 mod node;
 mod substitution;
 mod table;
-#[cfg(test)]
-mod tests;
 mod type_map;
 mod variables;
 mod visits;

@@ -48,7 +48,7 @@ impl Model for TypeTable {
     ghost use Rattle.std.specs.Coded.{coded_list};
     ghost use Rattle.hol_spec.specs.Names.{Name as AName};
     ghost use Rattle.hol_spec.specs.Types.{HolType};
-    ghost use Rattle.hol_spec.specs.TypeLaws.{coded_type};
+    ghost use Rattle.hol_laws.specs.TypeLaws.{coded_type};
 
     ghost Value = { List HolType };
 

@@ -4,8 +4,8 @@ use Rattle.std.proofs.lemmas.Bool.{ltb-true}
 use Rattle.std.proofs.lemmas.List.{drop_all}
 use Rattle.std.specs.Prelude.{◌&&◌, ◌||◌, nat_lt}
 use Rattle.std.specs.List.{list_any}
-use Rattle.lp_spec.specs.Trees.{Tree}
-use Rattle.lp_spec.specs.TreeEquality.{tree_eq, tree_eq-refl}
+use Rattle.lp_spec.specs.Trees.{Tree, tree_eq}
+use Rattle.lp_binding.specs.TreeEquality.{tree_eq-refl}
 use Rattle.lp_term.specs.declared.LpNode.{LpNode}
 use Rattle.lp_term.specs.declared.LpNode.TheVariants as node
 use Rattle.lp_term.specs.Tables.{tree_of_node, PartsBelow, Holds, Adds}

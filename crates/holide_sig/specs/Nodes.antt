@@ -1,8 +1,7 @@
 -- Trees that are added to a table by their nodes, of which it has none yet.
 use Rattle.std.specs.Prelude.{ℕ, Bool, true, not, ◌&&◌, nat_lt, List, [], ◌∷◌, ◌++◌, length}
 use Rattle.std.specs.List.{list_any}
-use Rattle.lp_spec.specs.Trees.{Tree}
-use Rattle.lp_spec.specs.TreeEquality.{tree_eq}
+use Rattle.lp_spec.specs.Trees.{Tree, tree_eq}
 use Rattle.lp_term.specs.declared.LpNode.{LpNode}
 use Rattle.lp_term.specs.declared.LpNode.TheVariants as node
 use Rattle.lp_term.specs.Tables.{tree_of_node}

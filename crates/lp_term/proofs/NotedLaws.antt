@@ -12,7 +12,7 @@ use Rattle.lp_term.specs.contracts.memo.ChangePartialEq.TheImpl as change_eq
 use Rattle.lp_term.specs.contracts.memo.PlacePartialEq.TheImpl as place_eq
 use Rattle.lp_term.specs.Noted.{IsNoted}
 use Rattle.lp_term.specs.TableLaws.{some_is}
-use Rattle.lp_spec.specs.Substitution.{ap2}
+use Rattle.lp_binding.specs.Composition.{ap2}
 
 and_both : (a b : Bool) → (a && b) ≡ true → (a ≡ true) × (b ≡ true)
 and_both true b e = (refl, e)

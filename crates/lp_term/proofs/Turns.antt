@@ -5,8 +5,8 @@ use Rattle.std.specs.Option.{option_map, option_map_or}
 use Rattle.std.proofs.lemmas.Option.{slice_get-map}
 use Rattle.std.proofs.lemmas.List.{length-map, map-append, reverse-append}
 use Rattle.lp_spec.specs.Trees.{Tree, SortType, SortKind, Var, Sym, App, Lam, Pi, size, loose, lift, put_all_at}
-use Rattle.lp_spec.specs.Substitution.{ap2, put_all_var-high}
-use Rattle.lp_spec.specs.Closed.{lift_at-closed, lift_at-zero, put_all_at-closed}
+use Rattle.lp_binding.specs.Composition.{ap2, put_all_var-high}
+use Rattle.lp_binding.specs.Closed.{lift_at-closed, lift_at-zero, put_all_at-closed}
 use Rattle.lp_term.specs.declared.LpId.{LpId}
 use Rattle.lp_term.specs.declared.LpNode.{LpNode}
 use Rattle.lp_term.specs.declared.LpNode.TheVariants as node

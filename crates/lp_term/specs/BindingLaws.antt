@@ -2,8 +2,8 @@
 use Rattle.std.proofs.Common.{◌≡◌, ℕ, suc, refl, sym, ap, ◌∙◌, List, [], ◌∷◌, Some}
 use Rattle.bridge_base.specs.Binding.{puts as puts_of, Pairwise}
 use Rattle.lp_spec.specs.Trees.{Tree, lift, put, put_at, put_all}
-use Rattle.lp_spec.specs.Substitution.{ap2}
-use Rattle.lp_spec.specs.Binding.{put_all-puts, puts}
+use Rattle.lp_binding.specs.Composition.{ap2}
+use Rattle.lp_binding.specs.Binding.{put_all-puts, puts}
 use Rattle.lp_term.specs.declared.LpId.{LpId}
 use Rattle.lp_term.specs.Tables.{tree_at, trees_at, AreKnown, Holds}
 use Rattle.lp_term.specs.TableLaws.{some_is, Holds-tree_at, Holds-within}

@@ -3,7 +3,7 @@ use Rattle.std.proofs.Common.{◌≡◌, ℕ, zero, suc, ◌<◌, ◌≤◌, ref
 use Rattle.std.specs.Prelude.{slice_get, unwrap_or, take}
 use Rattle.std.proofs.lemmas.Option.{slice_get_within, slice_get-get_or, unwrap_or-slice_get}
 use Rattle.lp_spec.specs.Trees.{Tree, SortType, App, Lam, Pi}
-use Rattle.lp_spec.specs.Substitution.{ap2}
+use Rattle.lp_binding.specs.Composition.{ap2}
 use Rattle.lp_term.specs.declared.LpNode.{LpNode}
 use Rattle.lp_term.specs.declared.LpNode.TheVariants as node
 use Rattle.lp_term.specs.Tables.{tree_at, Holds, tree_of_node, PartsBelow, IsDistinct, Stays, Keeps, Adds}

@@ -7,7 +7,7 @@ use Rattle.hol_spec.specs.ClosedForm as form
 use Rattle.hol_spec.specs.ClosedForm.{ClosedSequent, close_type, close_types, close_term, closed_form}
 use Rattle.hol_spec.specs.Names.{Name}
 use Rattle.hol_spec.specs.Sequents.{Sequent, type_variables_of, free_variables_of}
-use Rattle.hol_spec.specs.TermRenamings.{ap2}
+use Rattle.hol_laws.specs.TermRenamings.{ap2}
 use Rattle.hol_spec.specs.Terms.{Variable as ATreeVariable, variable_eq, free}
 use Rattle.hol_spec.specs.Types.{HolType, operator, types_of}
 use Rattle.hol_type.specs.declared.table.TypeId.{TypeId}

@@ -6,11 +6,11 @@ use Rattle.std.specs.List.{list_all, AllByRecursion, IsDistinct as HasNoRepeats}
 use Rattle.std.proofs.lemmas.Bool.Decides.{Decides-eqb, Decides-like, same_from_decides}
 use Rattle.std.proofs.lemmas.List.{drop_all}
 use Rattle.hol_spec.specs.Lists.{is_in, union, distinct, without}
-use Rattle.hol_spec.specs.ListLaws.{All-filter, IsDistinct-filter, distinct-itself, is_in-map, union-All, union-map, without-map}
+use Rattle.hol_laws.specs.ListLaws.{All-filter, IsDistinct-filter, distinct-itself, is_in-map, union-All, union-map, without-map}
 use Rattle.hol_spec.specs.Sequents.{within}
-use Rattle.hol_spec.specs.TermRenamings.{ap2}
+use Rattle.hol_laws.specs.TermRenamings.{ap2}
 use Rattle.hol_spec.specs.Terms.{term_eq}
-use Rattle.hol_spec.specs.TermLaws.{term_eq-Decides}
+use Rattle.hol_laws.specs.TermLaws.{term_eq-Decides}
 use Rattle.hol_term.specs.declared.TermId.{TermId}
 use Rattle.hol_term.specs.Tables.{Trees, term_at, terms_at, AreKnown, IsDistinct}
 use Rattle.hol_term.specs.TableLaws.{term_in-same}

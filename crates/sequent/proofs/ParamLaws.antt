@@ -7,9 +7,9 @@ use Rattle.std.proofs.lemmas.Grind.{flat_map-append}
 use Rattle.std.proofs.lemmas.List.{append-nil}
 use Rattle.hol_spec.specs.NameEquality.{name_eq}
 use Rattle.hol_spec.specs.Lists.{union, distinct}
-use Rattle.hol_spec.specs.ListLaws.{union-All, union-append, union-map}
+use Rattle.hol_laws.specs.ListLaws.{union-All, union-append, union-map}
 use Rattle.hol_spec.specs.Types.{type_eq}
-use Rattle.hol_spec.specs.TypeLaws.{type_eq-Decides}
+use Rattle.hol_laws.specs.TypeLaws.{type_eq-Decides}
 use Rattle.hol_spec.specs.Terms.{Variable as ATreeVariable, variable_eq, free_places, type_variable_places}
 use Rattle.hol_type.specs.declared.table.TypeId.{TypeId}
 use Rattle.hol_type.specs.Tables as type

@@ -27,8 +27,6 @@ ghost use Rattle.sequent.specs.Sequents.{hyps_at, same_id, sequent_at, IsKnown};
 mod closed;
 mod hyps;
 mod params;
-#[cfg(test)]
-mod tests;
 
 use bridge_base::Memory;
 pub use closed::{Closed, ClosedTerm, ClosedType};

@@ -4,11 +4,11 @@ use Rattle.std.specs.Prelude.{slice_get, unwrap_or}
 use Rattle.std.proofs.lemmas.Option.{slice_get_within}
 use Rattle.std.proofs.lemmas.List.{append-nil}
 use Rattle.hol_spec.specs.Names.{Name}
-use Rattle.hol_spec.specs.Symbols.{Symbol}
 use Rattle.hol_type.specs.TableLaws.{some_is}
 use Rattle.hol_term.specs.Tables.{Trees}
 use Rattle.hol_term.specs.Tables as table
 use Rattle.article_spec.specs.State as state
+use Rattle.stack_machine.specs.Making.{Run}
 use Rattle.stack_machine.specs.declared.object.List.{List as AList}
 use Rattle.stack_machine.specs.declared.object.List.TheVariants.{Empty, Cell as CellOf}
 use Rattle.stack_machine.specs.declared.object.Cell.{Cell}
@@ -20,8 +20,8 @@ pub at-last : {A : Type 0} (d : A) (xs : List A) (x : A) → unwrap_or (slice_ge
 at-last d [] x = refl
 at-last d (y ∷ xs) x = at-last d xs x
 
--- types, terms, names and symbols come, and the cells stay
-module _ (t u : Trees) (ns ms : List Name) (ss rs : List Symbol) (cs : List Cell) (k : table.Keeps t u) (f : IsFront ns ms) where
+-- types, terms, names and what was made come, and the cells stay
+module _ (t u : Trees) (ns ms : List Name) (ss rs : Run) (cs : List Cell) (k : table.Keeps t u) (f : IsFront ns ms) where
   base : Grows (without_lists t ns ss) (without_lists u ms rs)
   base = record { trees = k; names = f; lists = IsFront-refl [] }
 
@@ -32,7 +32,7 @@ module _ (t u : Trees) (ns ms : List Name) (ss rs : List Symbol) (cs : List Cell
   stored-AreCells h = AreCells-Grows _ _ base refl cs h
 
 -- a cell comes
-module _ (t : Trees) (ns : List Name) (ss : List Symbol) (cs : List Cell) (c : Cell) where
+module _ (t : Trees) (ns : List Name) (ss : Run) (cs : List Cell) (c : Cell) where
   pub pushed-Grows : Grows (stored t ns ss cs) (stored t ns ss (cs ++ c ∷ []))
   pushed-Grows = record { trees = (Grows-refl (stored t ns ss cs)).trees; names = IsFront-refl ns; lists = record { more = cell_view (stored t ns ss cs) c ∷ []; is = lists_from-push (without_lists t ns ss) cs c } }
 
@@ -90,8 +90,8 @@ cell_at a (d ∷ cs) (suc i) c k e =
     subst (λ j. CellAt (record a { lists = lists_from (with_one a d) cs }) c j) n (cell_at (with_one a d) cs i c k.2 e)
 
 -- the same of what is kept
-pub cell_at-stored : (t : Trees) (ns : List Name) (ss : List Symbol) (cs : List Cell) (i : ℕ) (c : Cell) → AreCells (without_lists t ns ss) cs → slice_get cs i ≡ Some c → CellAt (stored t ns ss cs) c i
+pub cell_at-stored : (t : Trees) (ns : List Name) (ss : Run) (cs : List Cell) (i : ℕ) (c : Cell) → AreCells (without_lists t ns ss) cs → slice_get cs i ≡ Some c → CellAt (stored t ns ss cs) c i
 cell_at-stored t ns ss cs i c k e = let z : 0 + i ≡ i = omega arith in subst (λ j. CellAt (stored t ns ss cs) c j) z (cell_at (without_lists t ns ss) cs i c k e)
 
-pub length-stored : (t : Trees) (ns : List Name) (ss : List Symbol) (cs : List Cell) → length (stored t ns ss cs).lists ≡ length cs
+pub length-stored : (t : Trees) (ns : List Name) (ss : Run) (cs : List Cell) → length (stored t ns ss cs).lists ≡ length cs
 length-stored t ns ss cs = let e = length-lists_from (without_lists t ns ss) cs in omega (arith, e)

@@ -14,7 +14,7 @@ use Rattle.stack_machine.specs.declared.object.Object.{Object}
 use Rattle.stack_machine.specs.Stored.{Stored, object_view, IsKnown, Grows}
 use Rattle.stack_machine.specs.StoredLaws.{object_view-Grows, IsKnown-Grows}
 use Rattle.stack_machine.specs.Shown.{dictionary_view, AreEntriesKnown}
-use Rattle.hol_spec.specs.TermRenamings.{ap2}
+use Rattle.hol_laws.specs.TermRenamings.{ap2}
 
 module _ (m : Stored) where
   abbrev pairs : List (ℤ × Object) → List (ℤ × state.Object)

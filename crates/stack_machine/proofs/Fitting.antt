@@ -1,11 +1,11 @@
 -- The conditions of what is made: met where a call answers Ok, and refused with its fault.
-use Rattle.std.proofs.Common.{◌≡◌, ℕ, ◌≤◌, ◌<◌, refl, arith, Bool, true, false, Option, None, Some, option_map, Result, Ok}
+use Rattle.std.proofs.Common.{◌≡◌, ℕ, ◌≤◌, ◌<◌, refl, arith, List, [], ◌∷◌, Bool, true, false, Option, None, Some, option_map, Result, Ok}
 use Rattle.std.specs.Prelude.{IsSome, is_some, nat_le, nat_eq}
 use Rattle.std.proofs.lemmas.Grind.{common_steps}
 use Rattle.hol_spec.specs.Types.{HolType}
 use Rattle.hol_spec.specs.Terms.{Term, Variable, lam, type_of, IsTerm}
 use Rattle.hol_spec.specs.TermBinding.{close}
-use Rattle.hol_spec.specs.TermTyping.{type_of-close}
+use Rattle.hol_laws.specs.TermTyping.{type_of-close}
 use Rattle.hol_spec.specs.Limits.{greatest_size, greatest_depth, type_size, type_depth, term_size, term_depth, TypeWithin, TermWithin}
 use Rattle.hol_spec.specs.Primitives.{function}
 use Rattle.hol_spec.specs.Substitution.{is_instance}
@@ -17,7 +17,8 @@ use Rattle.hol_type.specs.Refusals.{Refuses, RefusesType}
 use Rattle.hol_term.specs.Refusals.{RefusesTerm, RefusesTyped}
 use Rattle.hol_defs.specs.Refusals.{FitsGeneric, FitsArity, RefusesConstant, RefusesOperator}
 use Rattle.article_spec.specs.Results.{◌>>◌, Fails}
-use Rattle.article_spec.specs.Conditions.{demand, type_in_limits, term_in_limits, arity_fits, generic_fits}
+use Rattle.hol_spec.specs.Measures.{Measure}
+use Rattle.article_spec.specs.Conditions.{demand, in_limits, type_in_limits, term_in_limits, arity_fits, generic_fits}
 use Rattle.stack_machine.specs.Refusals.{application_fits}
 
 at_most : (n m : ℕ) → n ≤ m → nat_le n m ≡ true
@@ -32,13 +33,11 @@ type_within t h = rw (at_most (type_size t) greatest_size h.size, at_most (type_
 pub term_within : (t : Term) → TermWithin t → term_in_limits t ≡ Ok tt
 term_within t h = rw (at_most (term_size t) greatest_size h.size, at_most (term_depth t) greatest_depth h.depth) refl
 
--- the limits, of a size and a depth
-abbrev in_limits : ℕ → ℕ → Result (Unit {0}) Kind
-in_limits size depth = do
-  demand (nat_le size greatest_size) kind.TooLarge
-  demand (nat_le depth greatest_depth) kind.TooDeep
+-- the limits on one thing without parameters, of a size and a depth
+abbrev measured : ℕ → ℕ → List Measure
+measured size depth = record { size = size; depth = depth; parameters = 0 } ∷ []
 
-limits_fail : (fault : Fault) (size depth : ℕ) → Refuses fault size depth → Fails fault (in_limits size depth)
+limits_fail : (fault : Fault) (size depth : ℕ) → Refuses fault size depth → Fails fault (in_limits (measured size depth))
 limits_fail Memory size depth h = tt
 limits_fail (Refused kind.TooLarge) size depth h = rw (more_than size greatest_size h) refl
 limits_fail (Refused kind.TooDeep) size depth h = rw (at_most size greatest_size h.0, more_than depth greatest_depth h.1) refl

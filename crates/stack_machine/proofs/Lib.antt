@@ -1,8 +1,9 @@
 mod Passing
-mod Slots
 mod Cells
 mod Fitting
 mod Elements
+mod Turned
+mod Read
 mod Placed
 mod Obeyed
 mod Dictionaries

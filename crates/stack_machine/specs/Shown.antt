@@ -3,7 +3,6 @@ use Rattle.std.specs.Prelude.{ℤ, List, [], map}
 use Rattle.std.specs.List.{AllByRecursion}
 use Rattle.std.specs.Ordering.{int_cmp}
 use Rattle.std.specs.FinMap.{FinMap, from_entries}
-use Rattle.hol_spec.specs.Proofs.{Made}
 use Rattle.article_spec.specs.declared.commands.Item.{Item}
 use Rattle.article_spec.specs.declared.commands.Item.TheVariants as item
 use Rattle.article_spec.specs.declared.commands.Word.{Word}
@@ -13,27 +12,56 @@ use Rattle.article_spec.specs.State as state
 use Rattle.stack_machine.specs.declared.object.Object.{Object}
 use Rattle.stack_machine.specs.declared.machine.Progress.{Progress}
 use Rattle.stack_machine.specs.declared.machine.Progress.TheVariants.{Begun, Numbered, Running}
-use Rattle.stack_machine.specs.Stored.{Stored, IsKnown, object_view, stack_view}
+use Rattle.stack_machine.specs.Making.{Run}
+use Rattle.stack_machine.specs.Stored.{Stored, IsKnown, object_view, objects_view}
 
--- the state with this stack and these symbols; no step is made yet
+-- the state with this stack and this run
+abbrev pub in_state : State → List state.Object → Run → State
+in_state s stack run = record s { stack = stack; made = run.made; assumptions = run.assumptions; exports = run.exports; pool = run.pool }
+
+-- the state with these objects on the stack
 abbrev pub shown : Stored → List Object → State → State
-shown m objects s = record s { stack = stack_view m objects; made = map Made.symbol m.symbols }
+shown m objects s = in_state s (objects_view m objects) m.run
 
 -- the word works on the stack alone
 abbrev pub IsOnStack : Word → Type 0
-IsOnStack word.Version = ⊥
-IsOnStack word.Def = ⊥
-IsOnStack word.Ref = ⊥
-IsOnStack word.Remove = ⊥
-IsOnStack word.Refl = ⊥
-IsOnStack word.Thm = ⊥
-IsOnStack w = Unit {0}
+IsOnStack word.Nil = Unit {0}
+IsOnStack word.Cons = Unit {0}
+IsOnStack word.HdTl = Unit {0}
+IsOnStack word.TypeOp = Unit {0}
+IsOnStack word.VarType = Unit {0}
+IsOnStack word.OpType = Unit {0}
+IsOnStack word.Const = Unit {0}
+IsOnStack word.ConstTerm = Unit {0}
+IsOnStack word.Var = Unit {0}
+IsOnStack word.VarTerm = Unit {0}
+IsOnStack word.AppTerm = Unit {0}
+IsOnStack word.AbsTerm = Unit {0}
+IsOnStack word.Pop = Unit {0}
+IsOnStack word.Pragma = Unit {0}
+IsOnStack w = ⊥
 
 -- the word neither makes nor takes a theorem
 abbrev pub IsBuildingWord : Word → Type 0
-IsBuildingWord word.Refl = ⊥
-IsBuildingWord word.Thm = ⊥
-IsBuildingWord w = Unit {0}
+IsBuildingWord word.Version = Unit {0}
+IsBuildingWord word.Nil = Unit {0}
+IsBuildingWord word.Cons = Unit {0}
+IsBuildingWord word.HdTl = Unit {0}
+IsBuildingWord word.TypeOp = Unit {0}
+IsBuildingWord word.VarType = Unit {0}
+IsBuildingWord word.OpType = Unit {0}
+IsBuildingWord word.Const = Unit {0}
+IsBuildingWord word.ConstTerm = Unit {0}
+IsBuildingWord word.Var = Unit {0}
+IsBuildingWord word.VarTerm = Unit {0}
+IsBuildingWord word.AppTerm = Unit {0}
+IsBuildingWord word.AbsTerm = Unit {0}
+IsBuildingWord word.Def = Unit {0}
+IsBuildingWord word.Ref = Unit {0}
+IsBuildingWord word.Remove = Unit {0}
+IsBuildingWord word.Pop = Unit {0}
+IsBuildingWord word.Pragma = Unit {0}
+IsBuildingWord w = ⊥
 
 abbrev pub IsBuilding : Item → Type 0
 IsBuilding (item.Number z) = Unit {0}
@@ -52,6 +80,6 @@ place_view Begun = state.Place.start
 place_view Numbered = state.Place.version
 place_view Running = state.Place.body
 
--- the state without its stack and its symbols
+-- the state without its stack and its run
 abbrev pub article_state : Stored → List (ℤ × Object) → Progress → State
 article_state m entries p = record { stack = []; dictionary = dictionary_view m entries; place = place_view p; made = []; assumptions = []; exports = []; pool = [] }

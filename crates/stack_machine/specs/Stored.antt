@@ -1,34 +1,39 @@
 -- What the machine keeps, and which objects its numbers stand for.
-use Rattle.std.specs.Prelude.{◌≡◌, ℕ, ◌<◌, ◌+◌, List, [], ◌∷◌, ◌++◌, length, map, reverse, slice_get, unwrap_or, refl}
+use Rattle.std.specs.Prelude.{◌≡◌, ℕ, ◌<◌, ◌+◌, List, [], ◌∷◌, ◌++◌, length, map, slice_get, unwrap_or, refl}
 use Rattle.std.specs.Coded.{Coded, code_by, coded×, coded_list}
 use Rattle.std.specs.List.{AllByRecursion}
 use Rattle.hol_spec.specs.Names.{Name}
-use Rattle.hol_spec.specs.TypeLaws.{coded_name}
+use Rattle.hol_laws.specs.TypeLaws.{coded_name}
 use Rattle.hol_spec.specs.Symbols.{Symbol}
-use Rattle.hol_spec.specs.ProofLaws.{coded_symbol}
+use Rattle.hol_spec.specs.Proofs.{symbols_of}
 use Rattle.hol_term.specs.Tables.{Trees, coded_trees, term_at, type_at, IsTermAt}
 use Rattle.hol_term.specs.Tables as table
 use Rattle.article_spec.specs.State as state
-use Rattle.article_spec.specs.StateLaws.{objects_code, objects_inj}
+use Rattle.article_laws.specs.StateLaws.{objects_code, objects_inj}
+use Rattle.stack_machine.specs.Making.{Run, coded_run}
 use Rattle.stack_machine.specs.declared.object.List.{List as AList}
 use Rattle.stack_machine.specs.declared.object.List.TheVariants.{Empty, Cell as CellOf}
 use Rattle.stack_machine.specs.declared.object.Object.{Object}
 use Rattle.stack_machine.specs.declared.object.Object.TheVariants as object
 use Rattle.stack_machine.specs.declared.object.Cell.{Cell}
 
--- the types and terms, the names and the lists by number, and the symbols that are taken
+-- the types and terms, the names and the lists by number, and what the run made
 pub record Stored : Type 0 where
   pub trees : Trees
   pub names : List Name
   pub lists : List state.Objects
-  pub symbols : List Symbol
+  pub run : Run
 
 abbrev coded_objects : Coded state.Objects
 coded_objects = record { code = objects_code; inj = objects_inj }
 
 abbrev pub coded_stored : Coded Stored
-coded_stored = code_by ((Trees × List Name) × (List state.Objects × List Symbol)) (coded× (coded× coded_trees (coded_list coded_name)) (coded× (coded_list coded_objects) (coded_list coded_symbol)))
-    (λ m. ((m.trees, m.names), (m.lists, m.symbols))) (λ p. record { trees = p.0.0; names = p.0.1; lists = p.1.0; symbols = p.1.1 }) (λ _. refl)
+coded_stored = code_by ((Trees × List Name) × (List state.Objects × Run)) (coded× (coded× coded_trees (coded_list coded_name)) (coded× (coded_list coded_objects) coded_run))
+    (λ m. ((m.trees, m.names), (m.lists, m.run))) (λ p. record { trees = p.0.0; names = p.0.1; lists = p.1.0; run = p.1.1 }) (λ _. refl)
+
+-- the symbols that are taken
+abbrev pub taken_symbols : Stored → List Symbol
+taken_symbols m = symbols_of m.run.made
 
 -- the number's name
 abbrev pub name_at : Stored → ℕ → Name
@@ -53,9 +58,9 @@ object_view m (object.Constant n) = state.Object.constant (name_at m n.0)
 object_view m (object.Variable n t) = state.Object.variable (name_at m n.0, type_at m.trees t.0)
 object_view m (object.Term t) = state.Object.term (term_at m.trees t.0)
 
--- the objects of a stack that grows at its end, from the top
-abbrev pub stack_view : Stored → List Object → List state.Object
-stack_view m xs = map (object_view m) (reverse xs)
+-- the objects of a stack, from the top
+abbrev pub objects_view : Stored → List Object → List state.Object
+objects_view m xs = map (object_view m) xs
 
 abbrev pub cell_view : Stored → Cell → state.Objects
 cell_view m c = state.Objects.more (object_view m c.head) (list_view m c.tail)
@@ -66,11 +71,11 @@ lists_from m [] = m.lists
 lists_from m (c ∷ cs) = lists_from (record m { lists = m.lists ++ cell_view m c ∷ [] }) cs
 
 -- what is kept, where the lists are those of these cells
-abbrev pub without_lists : Trees → List Name → List Symbol → Stored
-without_lists trees names symbols = record { trees = trees; names = names; lists = []; symbols = symbols }
+abbrev pub without_lists : Trees → List Name → Run → Stored
+without_lists trees names run = record { trees = trees; names = names; lists = []; run = run }
 
-abbrev pub stored : Trees → List Name → List Symbol → List Cell → Stored
-stored trees names symbols cells = record { trees = trees; names = names; lists = lists_from (without_lists trees names symbols) cells; symbols = symbols }
+abbrev pub stored : Trees → List Name → Run → List Cell → Stored
+stored trees names run cells = record { trees = trees; names = names; lists = lists_from (without_lists trees names run) cells; run = run }
 
 -- the numbers are of what is kept, and terms are well typed
 abbrev pub IsListKnown : Stored → AList → Type 0

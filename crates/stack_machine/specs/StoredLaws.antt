@@ -3,7 +3,7 @@ use Rattle.std.proofs.Common.{◌≡◌, ℕ, ◌+◌, zero, suc, ◌<◌, refl,
 use Rattle.std.specs.Prelude.{slice_get, unwrap_or}
 use Rattle.std.proofs.lemmas.List.{append-nil}
 use Rattle.hol_spec.specs.Terms as hol
-use Rattle.hol_spec.specs.TermRenamings.{ap2}
+use Rattle.hol_laws.specs.TermRenamings.{ap2}
 use Rattle.hol_type.specs.TableLaws as type_law
 use Rattle.hol_term.specs.TableLaws as table_law
 use Rattle.article_spec.specs.State as state

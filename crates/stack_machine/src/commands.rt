@@ -1,246 +1,177 @@
 //! The words that work on the stack alone.
-ghost use Rattle.std.specs.Prelude.{◌≡◌, ◌<◌, ◌∷◌, ◌++◌, [], length, take, Ok, OnOk, OnErr, IfErr};
+ghost use Rattle.std.specs.Prelude.{◌≡◌};
 ghost use Rattle.article_spec.specs.declared.commands.Word.TheVariants as word;
-ghost use Rattle.article_spec.specs.Results.{Fails};
-ghost use Rattle.article_spec.specs.State.{State};
-ghost use Rattle.article_spec.specs.Step.{obey};
-ghost use Rattle.stack_machine.specs.Stored.{AreKnown, Grows};
-ghost use Rattle.stack_machine.specs.Shown.{IsOnStack, shown};
+ghost use Rattle.article_spec.specs.Operands.{as_types};
+ghost use Rattle.hol_type.specs.Tables.{AreKnown as AreTypes, types_at};
+ghost use Rattle.stack_machine.specs.Obeying.{Obeys};
+ghost use Rattle.stack_machine.specs.Reading.{Operand};
+ghost use Rattle.stack_machine.specs.Shown.{IsOnStack};
+ghost use Rattle.stack_machine.specs.Stored.{AreKnown};
 
 use crate::object::{List, Object};
 use crate::operands::{
-    pop, pop_constant, pop_list, pop_name, pop_term, pop_type, pop_type_operator, pop_variable,
+    constant_on, list_on, name_on, object_on, term_on, type_on, type_operator_on, variable_on,
 };
+use crate::stack::Stack;
 use crate::store::Store;
 use article_spec::Word;
 use bridge_base::{Fault, Kind};
+use hol_type::TypeId;
 use std::alloc::Global;
 
+/// The list of types at a depth of the stack.
+fn types_on(alloc: Global, store: &Store, stack: &Stack, depth: usize) -> Result<Vec<TypeId>, Fault>
+    requires { AreKnown store.now stack.now }
+    ensures { Operand store.now as_types (λ ids. types_at store.now.trees.types ids.items) (λ ids. AreTypes store.now.trees.types ids.items) stack.now depth result }
+{
+    let list = list_on(stack, depth)?;
+    store.types_in(alloc, list)
+}
+
 /// The empty list.
-pub(crate) fn nil(store: &mut Store, stack: &mut Vec<Object>) -> Result<(), Fault>
-    requires { AreKnown store.old stack.old.items }
-    ensures taken { OnOk result ((s : State) → obey (shown store.old stack.old.items s) word.Nil ≡ Ok (shown store.new stack.new.items s)) }
-    ensures refused { IfErr result (λ fault. (s : State) → Fails fault (obey (shown store.old stack.old.items s) word.Nil)) }
-    ensures known { AreKnown store.new stack.new.items }
-    ensures grows { Grows store.old store.new }
-    ensures same { OnErr result (stack.new.items ≡ stack.old.items) }
-    ensures symbols { OnErr result (store.new.symbols ≡ store.old.symbols) }
+fn nil(store: &mut Store, stack: &mut Stack) -> Result<(), Fault>
+    requires { AreKnown store.old stack.old }
+    ensures { Obeys word.Nil store.old stack.old store.new stack.new result }
 {
     stack.push(Object::List(List::Empty))?;
     Ok(())
 }
 
 /// The list of an object and a list.
-pub(crate) fn cons(store: &mut Store, stack: &mut Vec<Object>) -> Result<(), Fault>
-    requires { AreKnown store.old stack.old.items }
-    ensures taken { OnOk result ((s : State) → obey (shown store.old stack.old.items s) word.Cons ≡ Ok (shown store.new stack.new.items s)) }
-    ensures refused { IfErr result (λ fault. (s : State) → Fails fault (obey (shown store.old stack.old.items s) word.Cons)) }
-    ensures known { AreKnown store.new stack.new.items }
-    ensures grows { Grows store.old store.new }
-    ensures same { OnErr result (stack.new.items ≡ stack.old.items) }
-    ensures symbols { OnErr result (store.new.symbols ≡ store.old.symbols) }
+fn cons(store: &mut Store, stack: &mut Stack) -> Result<(), Fault>
+    requires { AreKnown store.old stack.old }
+    ensures { Obeys word.Cons store.old stack.old store.new stack.new result }
 {
-    let (tail, below) = pop_list(stack)?;
-    let (head, rest) = pop(below)?;
-    let keep = rest.len();
+    let tail = list_on(stack, 0)?;
+    let head = object_on(stack, 1)?;
     let list = store.cons(head, tail)?;
-    put(stack, keep, Object::List(list));
+    stack.put(2, Object::List(list));
     Ok(())
 }
 
 /// The first element of a list, and on it the rest.
-pub(crate) fn head_and_tail(store: &mut Store, stack: &mut Vec<Object>) -> Result<(), Fault>
-    requires { AreKnown store.old stack.old.items }
-    ensures taken { OnOk result ((s : State) → obey (shown store.old stack.old.items s) word.HdTl ≡ Ok (shown store.new stack.new.items s)) }
-    ensures refused { IfErr result (λ fault. (s : State) → Fails fault (obey (shown store.old stack.old.items s) word.HdTl)) }
-    ensures known { AreKnown store.new stack.new.items }
-    ensures grows { Grows store.old store.new }
-    ensures same { OnErr result (stack.new.items ≡ stack.old.items) }
-    ensures symbols { OnErr result (store.new.symbols ≡ store.old.symbols) }
+fn head_and_tail(store: &mut Store, stack: &mut Stack) -> Result<(), Fault>
+    requires { AreKnown store.old stack.old }
+    ensures { Obeys word.HdTl store.old stack.old store.new stack.new result }
 {
-    let (list, rest) = pop_list(stack)?;
-    let keep = rest.len();
+    let list = list_on(stack, 0)?;
     let List::Cell(id) = list else {
         return Err(Fault::Refused(Kind::EmptyList));
     };
     let cell = store.cell(id);
     stack.push(Object::List(cell.tail))?;
-    stack[keep] = cell.head;
+    stack.set(1, cell.head);
     Ok(())
 }
 
 /// The type operator of a name.
-pub(crate) fn type_operator(store: &mut Store, stack: &mut Vec<Object>) -> Result<(), Fault>
-    requires { AreKnown store.old stack.old.items }
-    ensures taken { OnOk result ((s : State) → obey (shown store.old stack.old.items s) word.TypeOp ≡ Ok (shown store.new stack.new.items s)) }
-    ensures refused { IfErr result (λ fault. (s : State) → Fails fault (obey (shown store.old stack.old.items s) word.TypeOp)) }
-    ensures known { AreKnown store.new stack.new.items }
-    ensures grows { Grows store.old store.new }
-    ensures same { OnErr result (stack.new.items ≡ stack.old.items) }
-    ensures symbols { OnErr result (store.new.symbols ≡ store.old.symbols) }
+fn type_operator(store: &mut Store, stack: &mut Stack) -> Result<(), Fault>
+    requires { AreKnown store.old stack.old }
+    ensures { Obeys word.TypeOp store.old stack.old store.new stack.new result }
 {
-    let (name, rest) = pop_name(stack)?;
-    let keep = rest.len();
-    put(stack, keep, Object::TypeOperator(name));
+    let name = name_on(stack, 0)?;
+    stack.put(1, Object::TypeOperator(name));
     Ok(())
 }
 
 /// The type variable of a name.
-pub(crate) fn type_variable(store: &mut Store, stack: &mut Vec<Object>) -> Result<(), Fault>
-    requires { AreKnown store.old stack.old.items }
-    ensures taken { OnOk result ((s : State) → obey (shown store.old stack.old.items s) word.VarType ≡ Ok (shown store.new stack.new.items s)) }
-    ensures refused { IfErr result (λ fault. (s : State) → Fails fault (obey (shown store.old stack.old.items s) word.VarType)) }
-    ensures known { AreKnown store.new stack.new.items }
-    ensures grows { Grows store.old store.new }
-    ensures same { OnErr result (stack.new.items ≡ stack.old.items) }
-    ensures symbols { OnErr result (store.new.symbols ≡ store.old.symbols) }
+fn type_variable(store: &mut Store, stack: &mut Stack) -> Result<(), Fault>
+    requires { AreKnown store.old stack.old }
+    ensures { Obeys word.VarType store.old stack.old store.new stack.new result }
 {
-    let (name, rest) = pop_name(stack)?;
-    let keep = rest.len();
+    let name = name_on(stack, 0)?;
     let ty = store.type_variable(name)?;
-    put(stack, keep, Object::Type(ty));
+    stack.put(1, Object::Type(ty));
     Ok(())
 }
 
 /// The type of an operator and a list of types.
-pub(crate) fn operator_type(
-    alloc: Global,
-    store: &mut Store,
-    stack: &mut Vec<Object>,
-) -> Result<(), Fault>
-    requires { AreKnown store.old stack.old.items }
-    ensures taken { OnOk result ((s : State) → obey (shown store.old stack.old.items s) word.OpType ≡ Ok (shown store.new stack.new.items s)) }
-    ensures refused { IfErr result (λ fault. (s : State) → Fails fault (obey (shown store.old stack.old.items s) word.OpType)) }
-    ensures known { AreKnown store.new stack.new.items }
-    ensures grows { Grows store.old store.new }
-    ensures same { OnErr result (stack.new.items ≡ stack.old.items) }
-    ensures symbols { OnErr result (store.new.symbols ≡ store.old.symbols) }
+fn operator_type(alloc: Global, store: &mut Store, stack: &mut Stack) -> Result<(), Fault>
+    requires { AreKnown store.old stack.old }
+    ensures { Obeys word.OpType store.old stack.old store.new stack.new result }
 {
-    let (list, below) = pop_list(stack)?;
-    let args = store.types_in(alloc, list)?;
-    let (name, rest) = pop_type_operator(below)?;
-    let keep = rest.len();
+    let args = types_on(alloc, store, stack, 0)?;
+    let name = type_operator_on(stack, 1)?;
     let ty = store.operator_type(name, &args)?;
-    put(stack, keep, Object::Type(ty));
+    stack.put(2, Object::Type(ty));
     Ok(())
 }
 
 /// The constant of a name.
-pub(crate) fn constant(store: &mut Store, stack: &mut Vec<Object>) -> Result<(), Fault>
-    requires { AreKnown store.old stack.old.items }
-    ensures taken { OnOk result ((s : State) → obey (shown store.old stack.old.items s) word.Const ≡ Ok (shown store.new stack.new.items s)) }
-    ensures refused { IfErr result (λ fault. (s : State) → Fails fault (obey (shown store.old stack.old.items s) word.Const)) }
-    ensures known { AreKnown store.new stack.new.items }
-    ensures grows { Grows store.old store.new }
-    ensures same { OnErr result (stack.new.items ≡ stack.old.items) }
-    ensures symbols { OnErr result (store.new.symbols ≡ store.old.symbols) }
+fn constant(store: &mut Store, stack: &mut Stack) -> Result<(), Fault>
+    requires { AreKnown store.old stack.old }
+    ensures { Obeys word.Const store.old stack.old store.new stack.new result }
 {
-    let (name, rest) = pop_name(stack)?;
-    let keep = rest.len();
-    put(stack, keep, Object::Constant(name));
+    let name = name_on(stack, 0)?;
+    stack.put(1, Object::Constant(name));
     Ok(())
 }
 
 /// The term of a constant at a type.
-pub(crate) fn constant_term(store: &mut Store, stack: &mut Vec<Object>) -> Result<(), Fault>
-    requires { AreKnown store.old stack.old.items }
-    ensures taken { OnOk result ((s : State) → obey (shown store.old stack.old.items s) word.ConstTerm ≡ Ok (shown store.new stack.new.items s)) }
-    ensures refused { IfErr result (λ fault. (s : State) → Fails fault (obey (shown store.old stack.old.items s) word.ConstTerm)) }
-    ensures known { AreKnown store.new stack.new.items }
-    ensures grows { Grows store.old store.new }
-    ensures same { OnErr result (stack.new.items ≡ stack.old.items) }
-    ensures symbols { OnErr result (store.new.symbols ≡ store.old.symbols) }
+fn constant_term(store: &mut Store, stack: &mut Stack) -> Result<(), Fault>
+    requires { AreKnown store.old stack.old }
+    ensures { Obeys word.ConstTerm store.old stack.old store.new stack.new result }
 {
-    let (ty, below) = pop_type(stack)?;
-    let (name, rest) = pop_constant(below)?;
-    let keep = rest.len();
+    let ty = type_on(stack, 0)?;
+    let name = constant_on(stack, 1)?;
     let term = store.constant_term(name, ty)?;
-    put(stack, keep, Object::Term(term));
+    stack.put(2, Object::Term(term));
     Ok(())
 }
 
 /// The variable of a name and a type.
-pub(crate) fn variable(store: &mut Store, stack: &mut Vec<Object>) -> Result<(), Fault>
-    requires { AreKnown store.old stack.old.items }
-    ensures taken { OnOk result ((s : State) → obey (shown store.old stack.old.items s) word.Var ≡ Ok (shown store.new stack.new.items s)) }
-    ensures refused { IfErr result (λ fault. (s : State) → Fails fault (obey (shown store.old stack.old.items s) word.Var)) }
-    ensures known { AreKnown store.new stack.new.items }
-    ensures grows { Grows store.old store.new }
-    ensures same { OnErr result (stack.new.items ≡ stack.old.items) }
-    ensures symbols { OnErr result (store.new.symbols ≡ store.old.symbols) }
+fn variable(store: &mut Store, stack: &mut Stack) -> Result<(), Fault>
+    requires { AreKnown store.old stack.old }
+    ensures { Obeys word.Var store.old stack.old store.new stack.new result }
 {
-    let (ty, below) = pop_type(stack)?;
-    let (name, rest) = pop_name(below)?;
-    let keep = rest.len();
-    put(stack, keep, Object::Variable(name, ty));
+    let ty = type_on(stack, 0)?;
+    let name = name_on(stack, 1)?;
+    stack.put(2, Object::Variable(name, ty));
     Ok(())
 }
 
 /// The term of a variable.
-pub(crate) fn variable_term(store: &mut Store, stack: &mut Vec<Object>) -> Result<(), Fault>
-    requires { AreKnown store.old stack.old.items }
-    ensures taken { OnOk result ((s : State) → obey (shown store.old stack.old.items s) word.VarTerm ≡ Ok (shown store.new stack.new.items s)) }
-    ensures refused { IfErr result (λ fault. (s : State) → Fails fault (obey (shown store.old stack.old.items s) word.VarTerm)) }
-    ensures known { AreKnown store.new stack.new.items }
-    ensures grows { Grows store.old store.new }
-    ensures same { OnErr result (stack.new.items ≡ stack.old.items) }
-    ensures symbols { OnErr result (store.new.symbols ≡ store.old.symbols) }
+fn variable_term(store: &mut Store, stack: &mut Stack) -> Result<(), Fault>
+    requires { AreKnown store.old stack.old }
+    ensures { Obeys word.VarTerm store.old stack.old store.new stack.new result }
 {
-    let ((name, ty), rest) = pop_variable(stack)?;
-    let keep = rest.len();
+    let (name, ty) = variable_on(stack, 0)?;
     let term = store.free_variable(name, ty)?;
-    put(stack, keep, Object::Term(term));
+    stack.put(1, Object::Term(term));
     Ok(())
 }
 
 /// The application of a term to a term.
-pub(crate) fn application_term(store: &mut Store, stack: &mut Vec<Object>) -> Result<(), Fault>
-    requires { AreKnown store.old stack.old.items }
-    ensures taken { OnOk result ((s : State) → obey (shown store.old stack.old.items s) word.AppTerm ≡ Ok (shown store.new stack.new.items s)) }
-    ensures refused { IfErr result (λ fault. (s : State) → Fails fault (obey (shown store.old stack.old.items s) word.AppTerm)) }
-    ensures known { AreKnown store.new stack.new.items }
-    ensures grows { Grows store.old store.new }
-    ensures same { OnErr result (stack.new.items ≡ stack.old.items) }
-    ensures symbols { OnErr result (store.new.symbols ≡ store.old.symbols) }
+fn application_term(store: &mut Store, stack: &mut Stack) -> Result<(), Fault>
+    requires { AreKnown store.old stack.old }
+    ensures { Obeys word.AppTerm store.old stack.old store.new stack.new result }
 {
-    let (argument, below) = pop_term(stack)?;
-    let (function, rest) = pop_term(below)?;
-    let keep = rest.len();
+    let argument = term_on(stack, 0)?;
+    let function = term_on(stack, 1)?;
     let term = store.application(function, argument)?;
-    put(stack, keep, Object::Term(term));
+    stack.put(2, Object::Term(term));
     Ok(())
 }
 
 /// The abstraction of a term over a variable.
-pub(crate) fn abstraction_term(store: &mut Store, stack: &mut Vec<Object>) -> Result<(), Fault>
-    requires { AreKnown store.old stack.old.items }
-    ensures taken { OnOk result ((s : State) → obey (shown store.old stack.old.items s) word.AbsTerm ≡ Ok (shown store.new stack.new.items s)) }
-    ensures refused { IfErr result (λ fault. (s : State) → Fails fault (obey (shown store.old stack.old.items s) word.AbsTerm)) }
-    ensures known { AreKnown store.new stack.new.items }
-    ensures grows { Grows store.old store.new }
-    ensures same { OnErr result (stack.new.items ≡ stack.old.items) }
-    ensures symbols { OnErr result (store.new.symbols ≡ store.old.symbols) }
+fn abstraction_term(store: &mut Store, stack: &mut Stack) -> Result<(), Fault>
+    requires { AreKnown store.old stack.old }
+    ensures { Obeys word.AbsTerm store.old stack.old store.new stack.new result }
 {
-    let (body, below) = pop_term(stack)?;
-    let ((name, ty), rest) = pop_variable(below)?;
-    let keep = rest.len();
+    let body = term_on(stack, 0)?;
+    let (name, ty) = variable_on(stack, 1)?;
     let term = store.abstraction(name, ty, body)?;
-    put(stack, keep, Object::Term(term));
+    stack.put(2, Object::Term(term));
     Ok(())
 }
 
 /// Takes an object off.
-pub(crate) fn drop_object(store: &mut Store, stack: &mut Vec<Object>) -> Result<(), Fault>
-    requires { AreKnown store.old stack.old.items }
-    ensures taken { OnOk result ((s : State) → obey (shown store.old stack.old.items s) word.Pop ≡ Ok (shown store.new stack.new.items s)) }
-    ensures refused { IfErr result (λ fault. (s : State) → Fails fault (obey (shown store.old stack.old.items s) word.Pop)) }
-    ensures known { AreKnown store.new stack.new.items }
-    ensures same { OnErr result (stack.new.items ≡ stack.old.items) }
-    ensures store { store.new ≡ store.old }
+fn drop_object(store: &mut Store, stack: &mut Stack) -> Result<(), Fault>
+    requires { AreKnown store.old stack.old }
+    ensures { Obeys word.Pop store.old stack.old store.new stack.new result }
 {
-    let (_object, rest) = pop(stack)?;
-    let keep = rest.len();
-    stack.truncate(keep);
+    let _object = object_on(stack, 0)?;
+    stack.drop_top(1);
     Ok(())
 }
 
@@ -248,17 +179,12 @@ pub(crate) fn drop_object(store: &mut Store, stack: &mut Vec<Object>) -> Result<
 pub(crate) fn obey_on_stack(
     alloc: Global,
     store: &mut Store,
-    stack: &mut Vec<Object>,
+    stack: &mut Stack,
     word: Word,
 ) -> Result<(), Fault>
     requires word { IsOnStack word }
-    requires stack { AreKnown store.old stack.old.items }
-    ensures taken { OnOk result ((s : State) → obey (shown store.old stack.old.items s) word ≡ Ok (shown store.new stack.new.items s)) }
-    ensures refused { IfErr result (λ fault. (s : State) → Fails fault (obey (shown store.old stack.old.items s) word)) }
-    ensures known { AreKnown store.new stack.new.items }
-    ensures grows { Grows store.old store.new }
-    ensures same { OnErr result (stack.new.items ≡ stack.old.items) }
-    ensures symbols { OnErr result (store.new.symbols ≡ store.old.symbols) }
+    requires stack { AreKnown store.old stack.old }
+    ensures { Obeys word store.old stack.old store.new stack.new result }
 {
     match word {
         Word::Nil => nil(store, stack),
@@ -275,17 +201,6 @@ pub(crate) fn obey_on_stack(
         Word::AbsTerm => abstraction_term(store, stack),
         Word::Pop => drop_object(store, stack),
         Word::Pragma => drop_object(store, stack),
-        Word::Version | Word::Def | Word::Ref | Word::Remove | Word::Refl | Word::Thm => {
-            unreachable!()
-        }
+        _ => unreachable!(),
     }
-}
-
-/// Keeps so many objects, and puts this one on them.
-pub(crate) fn put(stack: &mut Vec<Object>, keep: usize, object: Object)
-    requires { keep < length stack.old.items }
-    ensures { stack.new.items ≡ take keep stack.old.items ++ object ∷ [] }
-{
-    stack.truncate(keep + 1);
-    stack[keep] = object;
 }

@@ -2,10 +2,11 @@
 //! lists.
 //!
 //! [`Machine`] obeys the commands of one article after another. Contracts see its state, the `State` of `article_spec`:
-//! the objects on the stack from the top, the dictionary as a finite map from numbers to objects, the symbols that are
-//! taken, and how far the article is. A call answers exactly as that crate's `step` and `finish` do: the next state,
-//! or the first kind of refusal in the order of the definition. After a refusal or want of memory the state is as
-//! before. Constants and operators that are neither primitive nor defined become inputs where they are first used.
+//! the objects on the stack from the top, the dictionary as a finite map from numbers to objects, how far the article
+//! is, and what the run made: symbols and steps in order, and which steps are assumptions and exports. A call answers
+//! exactly as that crate's `step` and `finish` do: the next state, or the first kind of refusal in the order of the
+//! definition. After a refusal or want of memory the state is as before. Constants and operators that are neither
+//! primitive nor defined become inputs where they are first used. No command of this machine makes a step yet.
 //!
 //! What stands on the stack are numbers of what the machine keeps once: types and terms in a table of `hol_term`,
 //! names, and lists by their cells. So to keep an object, or to give it back, copies one number, however large it is,
@@ -24,8 +25,8 @@ mod machine;
 mod making;
 mod object;
 mod operands;
+mod stack;
+mod step;
 mod store;
-#[cfg(test)]
-mod tests;
 
 pub use machine::Machine;

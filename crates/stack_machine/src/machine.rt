@@ -7,9 +7,10 @@ ghost use Rattle.article_spec.specs.State.{Place, initial};
 ghost use Rattle.article_spec.specs.Step.{finish, obey, step, step_at};
 ghost use Rattle.stack_machine.specs.Shown.{IsBuilding, IsBuildingWord, IsOnStack};
 
-use crate::commands::{obey_on_stack, put};
+use crate::commands::obey_on_stack;
 use crate::object::Object;
-use crate::operands::{pop, pop_number};
+use crate::operands::{number_on, object_on};
+use crate::stack::Stack;
 use crate::store::Store;
 use article_spec::{Command, Item, Word};
 use bridge_base::{Fault, Kind, Memory};
@@ -30,19 +31,19 @@ pub(crate) enum Progress {
 }
 
 /// The stack machine. Contracts see its state: the stack as a list of objects from the top, the dictionary as a
-/// finite map, the symbols that are taken, and how far the article is.
+/// finite map, how far the article is, and what the run made.
 #[derive(Drop)]
 pub struct Machine {
     alloc: Global,
     store: Store,
-    stack: Vec<Object>,
+    stack: Stack,
     dictionary: BTreeMap<i64, Object>,
     progress: Progress,
 }
 
 impl Model for Machine {
     ghost use Rattle.article_spec.specs.State.{State};
-    ghost use Rattle.article_spec.specs.StateLaws.{coded_state};
+    ghost use Rattle.article_laws.specs.StateLaws.{coded_state};
     ghost use Rattle.stack_machine.specs.Stored.{AreKnown};
     ghost use Rattle.stack_machine.specs.Shown.{AreEntriesKnown, article_state, shown};
 
@@ -50,9 +51,9 @@ impl Model for Machine {
 
     ghost coded = { coded_state };
 
-    ghost invariant = { λ m. AreKnown m.store m.stack.items × AreEntriesKnown m.store m.dictionary.entries };
+    ghost invariant = { λ m. AreKnown m.store m.stack × AreEntriesKnown m.store m.dictionary.entries };
 
-    ghost view = { λ m. shown m.store m.stack.items (article_state m.store m.dictionary.entries m.progress) };
+    ghost view = { λ m. shown m.store m.stack (article_state m.store m.dictionary.entries m.progress) };
 }
 
 impl Machine {
@@ -63,7 +64,7 @@ impl Machine {
         Ok(Machine {
             alloc,
             store: Store::new(alloc)?,
-            stack: Vec::new(alloc),
+            stack: Stack::new(alloc),
             dictionary: BTreeMap::new(alloc),
             progress: Progress::Begun,
         })
@@ -107,7 +108,7 @@ impl Machine {
             Progress::Running => {
                 self.stack.clear();
                 self.dictionary.clear();
-                self.store.forget();
+                self.store.end_article();
                 self.progress = Progress::Begun;
                 Ok(())
             }
@@ -149,7 +150,7 @@ impl Machine {
     {
         match item {
             Item::Word(Word::Version) => {
-                let _six = self.stack.pop();
+                self.stack.drop_top(1);
                 self.progress = Progress::Running;
                 Ok(())
             }
@@ -205,9 +206,8 @@ impl Machine {
             | Word::AppTerm
             | Word::AbsTerm
             | Word::Pop
-            | Word::Pragma
-            | Word::Refl
-            | Word::Thm => self.on_stack(word),
+            | Word::Pragma => self.on_stack(word),
+            _ => unreachable!(),
         }
     }
 
@@ -227,11 +227,10 @@ impl Machine {
         ensures refused { IfErr result (λ fault. Fails fault (obey self.old word.Def)) }
         ensures unchanged { OnErr result (self.new ≡ self.old) }
     {
-        let (key, below) = pop_number(&self.stack)?;
-        let (object, _rest) = pop(below)?;
-        let keep = below.len();
+        let key = number_on(&self.stack, 0)?;
+        let object = object_on(&self.stack, 1)?;
         self.dictionary.insert(key, object)?;
-        self.stack.truncate(keep);
+        self.stack.drop_top(1);
         Ok(())
     }
 
@@ -241,13 +240,12 @@ impl Machine {
         ensures refused { IfErr result (λ fault. Fails fault (obey self.old word.Ref)) }
         ensures unchanged { OnErr result (self.new ≡ self.old) }
     {
-        let (key, rest) = pop_number(&self.stack)?;
-        let keep = rest.len();
+        let key = number_on(&self.stack, 0)?;
         let Some(object) = self.dictionary.get(&key) else {
             return Err(Fault::Refused(Kind::NoSuchKey));
         };
         let object = *object;
-        put(&mut self.stack, keep, object);
+        self.stack.put(1, object);
         Ok(())
     }
 
@@ -257,12 +255,11 @@ impl Machine {
         ensures refused { IfErr result (λ fault. Fails fault (obey self.old word.Remove)) }
         ensures unchanged { OnErr result (self.new ≡ self.old) }
     {
-        let (key, rest) = pop_number(&self.stack)?;
-        let keep = rest.len();
+        let key = number_on(&self.stack, 0)?;
         let Some(object) = self.dictionary.remove(&key) else {
             return Err(Fault::Refused(Kind::NoSuchKey));
         };
-        put(&mut self.stack, keep, object);
+        self.stack.put(1, object);
         Ok(())
     }
 }
@@ -272,7 +269,6 @@ fn is_building_word(word: Word) -> bool
     ensures { IsTrue result ↔ IsBuildingWord word }
 {
     match word {
-        Word::Refl | Word::Thm => false,
         Word::Version
         | Word::Nil
         | Word::Cons
@@ -291,5 +287,6 @@ fn is_building_word(word: Word) -> bool
         | Word::Remove
         | Word::Pop
         | Word::Pragma => true,
+        _ => false,
     }
 }

@@ -1,58 +1,69 @@
-//! What a command takes from the stack, which grows at its end.
-ghost use Rattle.std.specs.Prelude.{◌≡◌, ◌++◌, ◌∷◌, [], Ok, IfOk, IfErr};
+//! What a command takes from the stack.
+ghost use Rattle.std.specs.Prelude.{◌≡◌};
 ghost use Rattle.hol_term.specs.Tables.{term_at, type_at};
-ghost use Rattle.article_spec.specs.Operands as operand;
-ghost use Rattle.article_spec.specs.Results.{Fails};
-ghost use Rattle.stack_machine.specs.Stored.{Stored, list_view, name_at, object_view, stack_view};
+ghost use Rattle.article_spec.specs.Operands.{any_object, as_constant, as_list, as_name, as_number, as_term, as_type, as_type_operator, as_variable};
+ghost use Rattle.stack_machine.specs.Reading.{Operand, Reads};
+ghost use Rattle.stack_machine.specs.Stored.{Stored, IsKnown, IsListKnown, IsName, IsTerm, IsType, list_view, name_at, object_view};
 
 use crate::object::{List, NameId, Object};
+use crate::stack::Stack;
 use bridge_base::{Fault, Kind};
 use hol_term::TermId;
 use hol_type::TypeId;
 
-/// The object on top, and the stack below it.
-pub(crate) fn pop(stack: &[Object]) -> Result<(Object, &[Object]), Fault>
-    ensures is { IfOk result (λ r. stack.now ≡ r.1.now ++ r.0 ∷ []) }
-    ensures taken { IfOk result (λ r. (m : Stored) → operand.pop operand.any_object (stack_view m stack.now) ≡ Ok (object_view m r.0, stack_view m r.1.now)) }
-    ensures refused { IfErr result (λ fault. (m : Stored) → Fails fault (operand.pop operand.any_object (stack_view m stack.now))) }
+/// The object at a depth of the stack.
+pub(crate) fn object_on(stack: &Stack, depth: usize) -> Result<Object, Fault>
+    ensures { (m : Stored) → Operand m any_object (object_view m) (IsKnown m) stack.now depth result }
 {
-    match stack {
-        [below @ .., object] => Ok((*object, below)),
-        [] => Err(Fault::Refused(Kind::StackShort)),
+    match stack.at(depth) {
+        Some(object) => Ok(object),
+        None => Err(Fault::Refused(Kind::StackShort)),
     }
 }
 
-/// The number on top.
-pub(crate) fn pop_number(stack: &[Object]) -> Result<(i64, &[Object]), Fault>
-    ensures is { IfOk result (λ r. stack.now ≡ r.1.now ++ Object.Number r.0 ∷ []) }
-    ensures taken { IfOk result (λ r. (m : Stored) → operand.pop operand.as_number (stack_view m stack.now) ≡ Ok (r.0, stack_view m r.1.now)) }
-    ensures refused { IfErr result (λ fault. (m : Stored) → Fails fault (operand.pop operand.as_number (stack_view m stack.now))) }
+/// The object as a number.
+pub(crate) fn number_in(object: Object) -> Result<i64, Fault>
+    ensures { (m : Stored) → Reads m as_number (λ z. z) (λ z. Unit {0}) object result }
 {
-    match stack {
-        [below @ .., Object::Number(number)] => Ok((*number, below)),
-        [_, ..] => Err(Fault::Refused(Kind::WrongKind)),
-        [] => Err(Fault::Refused(Kind::StackShort)),
+    match object {
+        Object::Number(number) => Ok(number),
+        _ => Err(Fault::Refused(Kind::WrongKind)),
     }
 }
 
-/// The name on top.
-pub(crate) fn pop_name(stack: &[Object]) -> Result<(NameId, &[Object]), Fault>
-    ensures is { IfOk result (λ r. stack.now ≡ r.1.now ++ Object.Name r.0 ∷ []) }
-    ensures taken { IfOk result (λ r. (m : Stored) → operand.pop operand.as_name (stack_view m stack.now) ≡ Ok (name_at m r.0.0, stack_view m r.1.now)) }
-    ensures refused { IfErr result (λ fault. (m : Stored) → Fails fault (operand.pop operand.as_name (stack_view m stack.now))) }
+/// The object as a name.
+pub(crate) fn name_in(object: Object) -> Result<NameId, Fault>
+    ensures { (m : Stored) → Reads m as_name (λ n. name_at m n.0) (λ n. IsName m n.0) object result }
 {
-    match stack {
-        [below @ .., Object::Name(name)] => Ok((*name, below)),
-        [_, ..] => Err(Fault::Refused(Kind::WrongKind)),
-        [] => Err(Fault::Refused(Kind::StackShort)),
+    match object {
+        Object::Name(name) => Ok(name),
+        _ => Err(Fault::Refused(Kind::WrongKind)),
+    }
+}
+
+/// The object as a list.
+pub(crate) fn list_in(object: Object) -> Result<List, Fault>
+    ensures { (m : Stored) → Reads m as_list (list_view m) (IsListKnown m) object result }
+{
+    match object {
+        Object::List(list) => Ok(list),
+        _ => Err(Fault::Refused(Kind::WrongKind)),
+    }
+}
+
+/// The object as a type operator.
+pub(crate) fn type_operator_in(object: Object) -> Result<NameId, Fault>
+    ensures { (m : Stored) → Reads m as_type_operator (λ n. name_at m n.0) (λ n. IsName m n.0) object result }
+{
+    match object {
+        Object::TypeOperator(name) => Ok(name),
+        _ => Err(Fault::Refused(Kind::WrongKind)),
     }
 }
 
 /// The object as a type.
 pub(crate) fn type_in(object: Object) -> Result<TypeId, Fault>
-    ensures is { IfOk result (λ ty. object ≡ Object.Type ty) }
-    ensures taken { IfOk result (λ ty. (m : Stored) → operand.as_type (object_view m object) ≡ Ok (type_at m.trees ty.0)) }
-    ensures refused { IfErr result (λ fault. (m : Stored) → Fails fault (operand.as_type (object_view m object))) }
+    ensures { (m : Stored) → Reads m as_type (λ ty. type_at m.trees ty.0) (λ ty. IsType m ty.0) object result }
 {
     match object {
         Object::Type(ty) => Ok(ty),
@@ -60,80 +71,112 @@ pub(crate) fn type_in(object: Object) -> Result<TypeId, Fault>
     }
 }
 
-/// The list on top.
-pub(crate) fn pop_list(stack: &[Object]) -> Result<(List, &[Object]), Fault>
-    ensures is { IfOk result (λ r. stack.now ≡ r.1.now ++ Object.List r.0 ∷ []) }
-    ensures taken { IfOk result (λ r. (m : Stored) → operand.pop operand.as_list (stack_view m stack.now) ≡ Ok (list_view m r.0, stack_view m r.1.now)) }
-    ensures refused { IfErr result (λ fault. (m : Stored) → Fails fault (operand.pop operand.as_list (stack_view m stack.now))) }
+/// The object as a constant.
+pub(crate) fn constant_in(object: Object) -> Result<NameId, Fault>
+    ensures { (m : Stored) → Reads m as_constant (λ n. name_at m n.0) (λ n. IsName m n.0) object result }
 {
-    match stack {
-        [below @ .., Object::List(list)] => Ok((*list, below)),
-        [_, ..] => Err(Fault::Refused(Kind::WrongKind)),
-        [] => Err(Fault::Refused(Kind::StackShort)),
+    match object {
+        Object::Constant(name) => Ok(name),
+        _ => Err(Fault::Refused(Kind::WrongKind)),
     }
 }
 
-/// The type operator on top.
-pub(crate) fn pop_type_operator(stack: &[Object]) -> Result<(NameId, &[Object]), Fault>
-    ensures is { IfOk result (λ r. stack.now ≡ r.1.now ++ Object.TypeOperator r.0 ∷ []) }
-    ensures taken { IfOk result (λ r. (m : Stored) → operand.pop operand.as_type_operator (stack_view m stack.now) ≡ Ok (name_at m r.0.0, stack_view m r.1.now)) }
-    ensures refused { IfErr result (λ fault. (m : Stored) → Fails fault (operand.pop operand.as_type_operator (stack_view m stack.now))) }
+/// The object as a variable.
+pub(crate) fn variable_in(object: Object) -> Result<(NameId, TypeId), Fault>
+    ensures { (m : Stored) → Reads m as_variable (λ v. (name_at m v.0.0, type_at m.trees v.1.0)) (λ v. IsName m v.0.0 × IsType m v.1.0) object result }
 {
-    match stack {
-        [below @ .., Object::TypeOperator(name)] => Ok((*name, below)),
-        [_, ..] => Err(Fault::Refused(Kind::WrongKind)),
-        [] => Err(Fault::Refused(Kind::StackShort)),
+    match object {
+        Object::Variable(name, ty) => Ok((name, ty)),
+        _ => Err(Fault::Refused(Kind::WrongKind)),
     }
 }
 
-/// The type on top.
-pub(crate) fn pop_type(stack: &[Object]) -> Result<(TypeId, &[Object]), Fault>
-    ensures is { IfOk result (λ r. stack.now ≡ r.1.now ++ Object.Type r.0 ∷ []) }
-    ensures taken { IfOk result (λ r. (m : Stored) → operand.pop operand.as_type (stack_view m stack.now) ≡ Ok (type_at m.trees r.0.0, stack_view m r.1.now)) }
-    ensures refused { IfErr result (λ fault. (m : Stored) → Fails fault (operand.pop operand.as_type (stack_view m stack.now))) }
+/// The object as a term.
+pub(crate) fn term_in(object: Object) -> Result<TermId, Fault>
+    ensures { (m : Stored) → Reads m as_term (λ t. term_at m.trees t.0) (λ t. IsTerm m t.0) object result }
 {
-    match stack {
-        [below @ .., Object::Type(ty)] => Ok((*ty, below)),
-        [_, ..] => Err(Fault::Refused(Kind::WrongKind)),
-        [] => Err(Fault::Refused(Kind::StackShort)),
+    match object {
+        Object::Term(term) => Ok(term),
+        _ => Err(Fault::Refused(Kind::WrongKind)),
     }
 }
 
-/// The constant on top.
-pub(crate) fn pop_constant(stack: &[Object]) -> Result<(NameId, &[Object]), Fault>
-    ensures is { IfOk result (λ r. stack.now ≡ r.1.now ++ Object.Constant r.0 ∷ []) }
-    ensures taken { IfOk result (λ r. (m : Stored) → operand.pop operand.as_constant (stack_view m stack.now) ≡ Ok (name_at m r.0.0, stack_view m r.1.now)) }
-    ensures refused { IfErr result (λ fault. (m : Stored) → Fails fault (operand.pop operand.as_constant (stack_view m stack.now))) }
+/// The number at a depth of the stack.
+pub(crate) fn number_on(stack: &Stack, depth: usize) -> Result<i64, Fault>
+    ensures { (m : Stored) → Operand m as_number (λ z. z) (λ z. Unit {0}) stack.now depth result }
 {
-    match stack {
-        [below @ .., Object::Constant(name)] => Ok((*name, below)),
-        [_, ..] => Err(Fault::Refused(Kind::WrongKind)),
-        [] => Err(Fault::Refused(Kind::StackShort)),
+    match stack.at(depth) {
+        Some(object) => number_in(object),
+        None => Err(Fault::Refused(Kind::StackShort)),
     }
 }
 
-/// The variable on top.
-pub(crate) fn pop_variable(stack: &[Object]) -> Result<((NameId, TypeId), &[Object]), Fault>
-    ensures is { IfOk result (λ r. stack.now ≡ r.1.now ++ Object.Variable r.0.0 r.0.1 ∷ []) }
-    ensures taken { IfOk result (λ r. (m : Stored) → operand.pop operand.as_variable (stack_view m stack.now) ≡ Ok ((name_at m r.0.0.0, type_at m.trees r.0.1.0), stack_view m r.1.now)) }
-    ensures refused { IfErr result (λ fault. (m : Stored) → Fails fault (operand.pop operand.as_variable (stack_view m stack.now))) }
+/// The name at a depth of the stack.
+pub(crate) fn name_on(stack: &Stack, depth: usize) -> Result<NameId, Fault>
+    ensures { (m : Stored) → Operand m as_name (λ n. name_at m n.0) (λ n. IsName m n.0) stack.now depth result }
 {
-    match stack {
-        [below @ .., Object::Variable(name, ty)] => Ok(((*name, *ty), below)),
-        [_, ..] => Err(Fault::Refused(Kind::WrongKind)),
-        [] => Err(Fault::Refused(Kind::StackShort)),
+    match stack.at(depth) {
+        Some(object) => name_in(object),
+        None => Err(Fault::Refused(Kind::StackShort)),
     }
 }
 
-/// The term on top.
-pub(crate) fn pop_term(stack: &[Object]) -> Result<(TermId, &[Object]), Fault>
-    ensures is { IfOk result (λ r. stack.now ≡ r.1.now ++ Object.Term r.0 ∷ []) }
-    ensures taken { IfOk result (λ r. (m : Stored) → operand.pop operand.as_term (stack_view m stack.now) ≡ Ok (term_at m.trees r.0.0, stack_view m r.1.now)) }
-    ensures refused { IfErr result (λ fault. (m : Stored) → Fails fault (operand.pop operand.as_term (stack_view m stack.now))) }
+/// The list at a depth of the stack.
+pub(crate) fn list_on(stack: &Stack, depth: usize) -> Result<List, Fault>
+    ensures { (m : Stored) → Operand m as_list (list_view m) (IsListKnown m) stack.now depth result }
 {
-    match stack {
-        [below @ .., Object::Term(term)] => Ok((*term, below)),
-        [_, ..] => Err(Fault::Refused(Kind::WrongKind)),
-        [] => Err(Fault::Refused(Kind::StackShort)),
+    match stack.at(depth) {
+        Some(object) => list_in(object),
+        None => Err(Fault::Refused(Kind::StackShort)),
+    }
+}
+
+/// The type operator at a depth of the stack.
+pub(crate) fn type_operator_on(stack: &Stack, depth: usize) -> Result<NameId, Fault>
+    ensures { (m : Stored) → Operand m as_type_operator (λ n. name_at m n.0) (λ n. IsName m n.0) stack.now depth result }
+{
+    match stack.at(depth) {
+        Some(object) => type_operator_in(object),
+        None => Err(Fault::Refused(Kind::StackShort)),
+    }
+}
+
+/// The type at a depth of the stack.
+pub(crate) fn type_on(stack: &Stack, depth: usize) -> Result<TypeId, Fault>
+    ensures { (m : Stored) → Operand m as_type (λ ty. type_at m.trees ty.0) (λ ty. IsType m ty.0) stack.now depth result }
+{
+    match stack.at(depth) {
+        Some(object) => type_in(object),
+        None => Err(Fault::Refused(Kind::StackShort)),
+    }
+}
+
+/// The constant at a depth of the stack.
+pub(crate) fn constant_on(stack: &Stack, depth: usize) -> Result<NameId, Fault>
+    ensures { (m : Stored) → Operand m as_constant (λ n. name_at m n.0) (λ n. IsName m n.0) stack.now depth result }
+{
+    match stack.at(depth) {
+        Some(object) => constant_in(object),
+        None => Err(Fault::Refused(Kind::StackShort)),
+    }
+}
+
+/// The variable at a depth of the stack.
+pub(crate) fn variable_on(stack: &Stack, depth: usize) -> Result<(NameId, TypeId), Fault>
+    ensures { (m : Stored) → Operand m as_variable (λ v. (name_at m v.0.0, type_at m.trees v.1.0)) (λ v. IsName m v.0.0 × IsType m v.1.0) stack.now depth result }
+{
+    match stack.at(depth) {
+        Some(object) => variable_in(object),
+        None => Err(Fault::Refused(Kind::StackShort)),
+    }
+}
+
+/// The term at a depth of the stack.
+pub(crate) fn term_on(stack: &Stack, depth: usize) -> Result<TermId, Fault>
+    ensures { (m : Stored) → Operand m as_term (λ t. term_at m.trees t.0) (λ t. IsTerm m t.0) stack.now depth result }
+{
+    match stack.at(depth) {
+        Some(object) => term_in(object),
+        None => Err(Fault::Refused(Kind::StackShort)),
     }
 }

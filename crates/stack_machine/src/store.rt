@@ -1,8 +1,9 @@
-//! What the machine keeps: types, terms, names and lists by number, and the symbols that are taken.
+//! What the machine keeps: types, terms, names and lists by number, and what the run made.
 ghost use Rattle.std.specs.Prelude.{◌≡◌, ◌<◌, ◌≤◌, ◌++◌, [], length, slice_get, unwrap_or, Ok, Some, IfOk, IfErr, OnOk, OnErr};
 ghost use Rattle.hol_spec.specs.Types.{operator, types_of, variable};
 ghost use Rattle.hol_spec.specs.Terms.{free, constant, app};
 ghost use Rattle.hol_spec.specs.Symbols.{new_constant, new_operator};
+ghost use Rattle.hol_spec.specs.Rules.{abstraction};
 ghost use Rattle.hol_type.specs.Tables.{AreKnown as AreTypes, types_at};
 ghost use Rattle.hol_term.specs.Tables.{term_at, type_at};
 ghost use Rattle.bridge_base.specs.declared.faults.Fault.TheVariants as the_fault;
@@ -10,13 +11,14 @@ ghost use Rattle.article_spec.specs.Conditions.{term_in_limits};
 ghost use Rattle.article_spec.specs.Operands.{as_type, each};
 ghost use Rattle.article_spec.specs.Results.{Fails};
 ghost use Rattle.article_spec.specs.State as state;
-ghost use Rattle.article_spec.specs.Step.{abstraction};
+ghost use Rattle.stack_machine.specs.Making.{taking};
 ghost use Rattle.stack_machine.specs.Refusals.{application_fits, constant_fits, operator_fits};
-ghost use Rattle.stack_machine.specs.Stored.{Grows, rank, IsKnown, IsListKnown, IsName, IsTerm, IsType, cell_view, list_view, name_at, object_view};
+ghost use Rattle.stack_machine.specs.Stored.{Grows, rank, IsKnown, IsListKnown, IsName, IsTerm, IsType, cell_view, list_view, name_at, object_view, taken_symbols};
 
 use crate::making::{make_constant, make_operator};
 use crate::object::{Cell, CellId, List, NameId, Object};
 use crate::operands::type_in;
+use crate::step::Step;
 use bridge_base::{Fault, Memory};
 use hol_defs::Symbols;
 use hol_name::Name;
@@ -48,45 +50,57 @@ pub(crate) struct Store {
     names: Vec<Name>,
     cells: Vec<Cell>,
     symbols: Symbols,
+    steps: Vec<Step>,
+    assumptions: Vec<usize>,
+    exports: Vec<usize>,
+    // how many exports earlier articles made
+    pool: usize,
 }
 
 impl Model for Store {
+    ghost use Rattle.stack_machine.specs.Making.{IsRunKnown, run_view};
     ghost use Rattle.stack_machine.specs.Stored.{Stored, AreCells, coded_stored, stored, without_lists};
 
     ghost Value = { Stored };
 
     ghost coded = { coded_stored };
 
-    ghost invariant = { λ s. AreCells (without_lists s.terms s.names.items s.symbols) s.cells.items };
+    ghost invariant = { λ s. AreCells (without_lists s.terms s.names.items (run_view s.terms s.symbols s.steps.items s.assumptions.items s.exports.items s.pool)) s.cells.items × IsRunKnown s.terms s.symbols s.steps.items s.exports.items s.pool };
 
-    ghost view = { λ s. stored s.terms s.names.items s.symbols s.cells.items };
+    ghost view = { λ s. stored s.terms s.names.items (run_view s.terms s.symbols s.steps.items s.assumptions.items s.exports.items s.pool) s.cells.items };
 }
 
 impl Store {
     pub(crate) fn new(alloc: Global) -> Result<Store, Memory>
-        ensures empty { IfOk result (λ s. s.symbols ≡ []) }
+        ensures empty { IfOk result (λ s. s.run ≡ record { made = []; assumptions = []; exports = []; pool = [] }) }
     {
         Ok(Store {
             terms: TermTable::new(alloc),
             names: Vec::new(alloc),
             cells: Vec::new(alloc),
             symbols: Symbols::new(alloc)?,
+            steps: Vec::new(alloc),
+            assumptions: Vec::new(alloc),
+            exports: Vec::new(alloc),
+            pool: 0,
         })
     }
 
+    // The symbols that are taken, in order of taking.
     pub(crate) fn symbols(&self) -> &Symbols
-        ensures { result.now ≡ self.now.symbols }
+        ensures { result.now ≡ taken_symbols self.now }
     {
         &self.symbols
     }
 
-    // Gives up all names and lists: nothing stands for them any more.
-    pub(crate) fn forget(&mut self)
+    // Gives up all names and lists at the end of an article, whose exports are there for the next.
+    pub(crate) fn end_article(&mut self)
         ensures trees { self.new.trees ≡ self.old.trees }
-        ensures symbols { self.new.symbols ≡ self.old.symbols }
+        ensures run { self.new.run ≡ record self.old.run { pool = self.old.run.exports } }
     {
         self.names.clear();
         self.cells.clear();
+        self.pool = self.exports.len();
     }
 
     // Keeps a name.
@@ -94,7 +108,7 @@ impl Store {
         ensures known { IfOk result (λ id. IsName self.new id.0) }
         ensures kept { IfOk result (λ id. name_at self.new id.0 ≡ name.now) }
         ensures grows { Grows self.old self.new }
-        ensures symbols { self.new.symbols ≡ self.old.symbols }
+        ensures run { self.new.run ≡ self.old.run }
     {
         let id = NameId(self.names.len());
         self.names.push(name.clone()?)?;
@@ -108,7 +122,7 @@ impl Store {
         ensures known { IfOk result (λ xs. IsListKnown self.new xs) }
         ensures made { IfOk result (λ xs. list_view self.new xs ≡ state.Objects.more (object_view self.old head) (list_view self.old tail)) }
         ensures grows { Grows self.old self.new }
-        ensures symbols { self.new.symbols ≡ self.old.symbols }
+        ensures run { self.new.run ≡ self.old.run }
     {
         let id = CellId(self.cells.len());
         self.cells.push(Cell { head, tail })?;
@@ -133,7 +147,7 @@ impl Store {
         ensures made { IfOk result (λ id. type_at self.new.trees id.0 ≡ variable (name_at self.old name.0)) }
         ensures refused { IfErr result (λ fault. fault ≡ the_fault.Memory) }
         ensures grows { Grows self.old self.new }
-        ensures symbols { self.new.symbols ≡ self.old.symbols }
+        ensures run { self.new.run ≡ self.old.run }
     {
         let name = name_in(&self.names, name);
         self.terms.ty_var(name)
@@ -148,7 +162,7 @@ impl Store {
         ensures fits { OnOk result (term_in_limits (free (name_at self.old name.0) (type_at self.old.trees ty.0)) ≡ Ok tt) }
         ensures refused { IfErr result (λ fault. Fails fault (term_in_limits (free (name_at self.old name.0) (type_at self.old.trees ty.0)))) }
         ensures grows { Grows self.old self.new }
-        ensures symbols { self.new.symbols ≡ self.old.symbols }
+        ensures run { self.new.run ≡ self.old.run }
     {
         let name = name_in(&self.names, name);
         self.terms.free(name, ty)
@@ -163,7 +177,7 @@ impl Store {
         ensures fits { OnOk result (application_fits (app (term_at self.old.trees f.0) (term_at self.old.trees x.0)) ≡ Ok tt) }
         ensures refused { IfErr result (λ fault. Fails fault (application_fits (app (term_at self.old.trees f.0) (term_at self.old.trees x.0)))) }
         ensures grows { Grows self.old self.new }
-        ensures symbols { self.new.symbols ≡ self.old.symbols }
+        ensures run { self.new.run ≡ self.old.run }
     {
         self.terms.app(f, x)
     }
@@ -183,7 +197,7 @@ impl Store {
         ensures fits { OnOk result (term_in_limits (abstraction (name_at self.old name.0, type_at self.old.trees ty.0) (term_at self.old.trees body.0)) ≡ Ok tt) }
         ensures refused { IfErr result (λ fault. Fails fault (term_in_limits (abstraction (name_at self.old name.0, type_at self.old.trees ty.0) (term_at self.old.trees body.0)))) }
         ensures grows { Grows self.old self.new }
-        ensures symbols { self.new.symbols ≡ self.old.symbols }
+        ensures run { self.new.run ≡ self.old.run }
     {
         let variable = self.variable(name, ty)?;
         self.abstraction_over(&variable, body)
@@ -208,7 +222,7 @@ impl Store {
         ensures fits { OnOk result (term_in_limits (abstraction (variable.now.name, type_at self.old.trees variable.now.ty.0) (term_at self.old.trees body.0)) ≡ Ok tt) }
         ensures refused { IfErr result (λ fault. Fails fault (term_in_limits (abstraction (variable.now.name, type_at self.old.trees variable.now.ty.0) (term_at self.old.trees body.0)))) }
         ensures grows { Grows self.old self.new }
-        ensures symbols { self.new.symbols ≡ self.old.symbols }
+        ensures run { self.new.run ≡ self.old.run }
     {
         self.terms.abs(variable, body)
     }
@@ -219,10 +233,10 @@ impl Store {
         requires args { AreTypes self.old.trees.types args.now }
         ensures known { IfOk result (λ id. IsType self.new id.0) }
         ensures made { IfOk result (λ id. type_at self.new.trees id.0 ≡ operator (name_at self.old name.0) (types_of (types_at self.old.trees.types args.now))) }
-        ensures fits { OnOk result (operator_fits self.old.symbols (name_at self.old name.0) (types_at self.old.trees.types args.now) ≡ Ok tt) }
-        ensures takes { OnOk result (self.new.symbols ≡ self.old.symbols ++ new_operator self.old.symbols (name_at self.old name.0) (length (types_at self.old.trees.types args.now))) }
-        ensures refused { IfErr result (λ fault. Fails fault (operator_fits self.old.symbols (name_at self.old name.0) (types_at self.old.trees.types args.now))) }
-        ensures unchanged { OnErr result (self.new.symbols ≡ self.old.symbols) }
+        ensures fits { OnOk result (operator_fits (taken_symbols self.old) (name_at self.old name.0) (types_at self.old.trees.types args.now) ≡ Ok tt) }
+        ensures takes { OnOk result (self.new.run ≡ taking self.old.run (new_operator (taken_symbols self.old) (name_at self.old name.0) (length (types_at self.old.trees.types args.now)))) }
+        ensures refused { IfErr result (λ fault. Fails fault (operator_fits (taken_symbols self.old) (name_at self.old name.0) (types_at self.old.trees.types args.now))) }
+        ensures unchanged { OnErr result (self.new.run ≡ self.old.run) }
         ensures grows { Grows self.old self.new }
     {
         let name = name_in(&self.names, name);
@@ -235,10 +249,10 @@ impl Store {
         requires ty { IsType self.old ty.0 }
         ensures known { IfOk result (λ id. IsTerm self.new id.0) }
         ensures made { IfOk result (λ id. term_at self.new.trees id.0 ≡ constant (name_at self.old name.0) (type_at self.old.trees ty.0)) }
-        ensures fits { OnOk result (constant_fits self.old.symbols (name_at self.old name.0) (type_at self.old.trees ty.0) ≡ Ok tt) }
-        ensures takes { OnOk result (self.new.symbols ≡ self.old.symbols ++ new_constant self.old.symbols (name_at self.old name.0)) }
-        ensures refused { IfErr result (λ fault. Fails fault (constant_fits self.old.symbols (name_at self.old name.0) (type_at self.old.trees ty.0))) }
-        ensures unchanged { OnErr result (self.new.symbols ≡ self.old.symbols) }
+        ensures fits { OnOk result (constant_fits (taken_symbols self.old) (name_at self.old name.0) (type_at self.old.trees ty.0) ≡ Ok tt) }
+        ensures takes { OnOk result (self.new.run ≡ taking self.old.run (new_constant (taken_symbols self.old) (name_at self.old name.0))) }
+        ensures refused { IfErr result (λ fault. Fails fault (constant_fits (taken_symbols self.old) (name_at self.old name.0) (type_at self.old.trees ty.0))) }
+        ensures unchanged { OnErr result (self.new.run ≡ self.old.run) }
         ensures grows { Grows self.old self.new }
     {
         let name = name_in(&self.names, name);

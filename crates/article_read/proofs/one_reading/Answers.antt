@@ -1,4 +1,4 @@
-use Rattle.article_spec.specs.ReadingLaws as laws
+use Rattle.article_laws.specs.ReadingLaws as laws
 use Rattle.article_read.proofs.one_reading.Goals as goal
 
 pub returns : goal.returns

@@ -1,4 +1,4 @@
-ghost use Rattle.std.specs.Prelude.{◌≡◌, ◌+◌, ◌∷◌, [], ◌++◌, ◌<◌, ◌≤◌, List, ℕ, length, map, IfOk, OnOk, Some, if◌then◌else◌, codes, decimal, slice_get};
+ghost use Rattle.std.specs.Prelude.{◌≡◌, ◌+◌, ◌∷◌, [], ◌++◌, ◌<◌, ◌≤◌, List, ℕ, length, map, IfOk, OnOk, Some, if◌then◌else◌, codes, decimal, slice_get, false, ◌||◌, ◌&&◌, get_or, drop, reverse};
 ghost use Rattle.std.specs.List.{position_or_len};
 ghost use Rattle.std.specs.Option.{option_map_or};
 ghost use Rattle.hol_spec.specs.Primitives.{equality_name, select_name};
@@ -9,17 +9,16 @@ ghost use Rattle.lp_spec.specs.Modules.{bools, term_of, proof_of, applied, produ
 ghost use Rattle.lp_spec.specs.Lemmas.{theorem, lemmas as both_lemmas};
 ghost use Rattle.hol_spec.specs.Sequents.{parameter_count};
 ghost use Rattle.hol_spec.specs.Limits.{greatest_parameter_count};
-ghost use Rattle.bridge_spec.specs.Translation.{Scope, Context, context_of, type_tree as type_tree_of, term_tree as term_tree_of, filler as filler_of, constant_tree, parameter, domains_of as domains_in, variable_domains as variable_domains_of, hypothesis_domains as hypothesis_domains_of, hypothesis_tree as hypothesis_tree_of, conclusion_tree};
-ghost use Rattle.bridge_spec.specs.Image.{image, reflexivity_tree as reflexivity_tree_of, theorem_tree as theorem_tree_of, step_declaration as step_declaration_of};
-ghost use Rattle.bridge_run.specs.MachineViews.{step_view, exports_it};
+ghost use Rattle.module_laws.specs.ListedTranslation.{Scope, Context, context_of, type_tree as type_tree_of, term_tree as term_tree_of, filler as filler_of, constant_tree, domains_of as domains_in, variable_domains as variable_domains_of, hypothesis_domains as hypothesis_domains_of, hypothesis_tree as hypothesis_tree_of, conclusion_tree};
+ghost use Rattle.module_spec.specs.TypeEnc.{parameter};
+ghost use Rattle.plain_laws.specs.PlainImage.{plain_image, reflexivity_tree as reflexivity_tree_of, theorem_tree as theorem_tree_of, step_declaration as step_declaration_of, reached_among};
+ghost use Rattle.module_spec.specs.Image.{is_one_of};
+ghost use Rattle.bridge_run.specs.MachineViews.{step_view, exports_it, exports_from};
 ghost use Rattle.bridge_run.specs.Runs.{AreSteps, HasSymbols, run_of, exports_before};
 ghost use Rattle.bridge_run.specs.Trees.{tree_of, declaration_of, declarations_of, title_name};
 ghost use Rattle.bridge_run.specs.TypeViews.{type_view};
 ghost use Rattle.bridge_run.specs.TermViews.{term_view, sequent_view, primitive_name, variable_term, Lists};
 ghost use Rattle.bridge_run.specs.Contexts.{plain, bare};
-ghost use Rattle.std.specs.Prelude.{false, ◌||◌, ◌&&◌, get_or, drop, reverse};
-ghost use Rattle.bridge_spec.specs.Image.{is_one_of, reached_among};
-ghost use Rattle.bridge_run.specs.MachineViews.{step_view, exports_it, exports_from};
 
 use crate::first::lambda::{
     BOOL, CHOICE, EQUALITY, INDIVIDUALS, Maker, REFLEXIVITY, SIGNATURE, Tree,
@@ -54,7 +53,7 @@ pub struct Declaration {
 /// The declarations of a run: the two lemmas, then what its exports reach, in order of making.
 pub fn image_of(alloc: Global, steps: &[Step]) -> Result<Vec<Declaration>, Memory>
     requires { AreSteps steps.now }
-    ensures { IfOk result (λ declarations. declarations_of declarations.items ≡ image (run_of steps.now)) }
+    ensures { IfOk result (λ declarations. declarations_of declarations.items ≡ plain_image (run_of steps.now)) }
 {
     let make = Maker { alloc };
     let reached = reached_steps(alloc, steps)?;

@@ -5,12 +5,15 @@ ghost use Rattle.std.specs.List.{list_all, list_any};
 ghost use Rattle.hol_spec.specs.Sequents.{same, within};
 ghost use Rattle.hol_spec.specs.Proofs.{sequent_at};
 ghost use Rattle.article_spec.specs.declared.commands.Word.TheVariants as word;
-ghost use Rattle.article_spec.specs.Conditions.{is_bool, type_in_limits, term_in_limits, sequent_in_limits};
-ghost use Rattle.article_spec.specs.Restriction.{restricted};
+ghost use Rattle.hol_spec.specs.Primitives.{bool};
+ghost use Rattle.article_spec.specs.Conditions.{is_of_type, type_in_limits, term_in_limits, sequent_in_limits};
+ghost use Rattle.bridge_spec.specs.FirstPath.{restricted};
 ghost use Rattle.article_spec.specs.Results.{Fails};
 ghost use Rattle.article_spec.specs.State as state;
 ghost use Rattle.article_spec.specs.State.{Place, initial};
-ghost use Rattle.article_spec.specs.Step.{step_at, obey, export, finish};
+ghost use Rattle.article_spec.specs.Step.{step_at, obey, finish};
+ghost use Rattle.article_spec.specs.Stating.{export};
+ghost use Rattle.article_spec.specs.Changes.{first_same};
 ghost use Rattle.bridge_run.specs.TypeViews.{type_view};
 ghost use Rattle.bridge_run.specs.TermViews.{term_view, sequent_view};
 ghost use Rattle.bridge_run.specs.ObjectViews.{object_view};
@@ -75,7 +78,7 @@ pub struct Machine {
 impl Model for Machine {
     ghost use Rattle.std.specs.Prelude.{[], map};
     ghost use Rattle.article_spec.specs.State.{State};
-    ghost use Rattle.article_spec.specs.StateLaws.{coded_state};
+    ghost use Rattle.article_laws.specs.StateLaws.{coded_state};
     ghost use Rattle.bridge_run.specs.ObjectViews.{object_view as view_of_object};
     ghost use Rattle.bridge_run.specs.MachineViews.{dictionary_view, place_view, made_view as view_of_made, exports_from as exports_in};
     ghost use Rattle.bridge_run.specs.Runs.{AreSteps as AreStepsOfRun};
@@ -189,7 +192,7 @@ impl Machine {
         }
     }
 
-    /// A word of the body. Six words aren't obeyed yet.
+    /// A word of the body. Those that the first path leaves out are bad lines.
     fn word(&mut self, word: Word) -> Result<(), Fault>
         ensures taken { OnOk result (obeyed_word self.old word ≡ Ok self.new) }
         ensures refused { IfErr result (λ fault. Tells fault (obeyed_word self.old word)) }
@@ -209,8 +212,26 @@ impl Machine {
             Word::Ref => self.refer(),
             Word::Refl => self.reflexivity(),
             Word::Thm => self.theorem(),
-            Word::HdTl | Word::VarType | Word::AbsTerm | Word::Remove | Word::Pop | Word::Pragma =>
-                Err(Fault::Refused(Kind::BadLine)),
+            Word::HdTl
+            | Word::VarType
+            | Word::AbsTerm
+            | Word::Remove
+            | Word::Pop
+            | Word::Pragma
+            | Word::Assume
+            | Word::EqMp
+            | Word::AbsThm
+            | Word::AppThm
+            | Word::DeductAntisym
+            | Word::BetaConv
+            | Word::Sym
+            | Word::Trans
+            | Word::ProveHyp
+            | Word::Subst
+            | Word::DefineConst
+            | Word::DefineConstList
+            | Word::DefineTypeOp
+            | Word::Axiom => Err(Fault::Refused(Kind::BadLine)),
         }
     }
 }
@@ -377,8 +398,8 @@ impl Machine {
     /// Exports the theorem of a step as the sequent states it, unless the same one is exported.
     fn export(&mut self, premise: usize, sequent: Sequent) -> Result<(), Fault>
         requires known { premise < length self.old.made }
-        ensures taken { OnOk result (restricted (export self.old premise (sequent_view sequent)) ≡ Ok self.new) }
-        ensures refused { IfErr result (λ fault. Refuses fault (export self.old premise (sequent_view sequent))) }
+        ensures taken { OnOk result (restricted (export self.old premise (sequent_view sequent) (first_same self.old self.old.exports (sequent_view sequent))) ≡ Ok self.new) }
+        ensures refused { IfErr result (λ fault. Refuses fault (export self.old premise (sequent_view sequent) (first_same self.old self.old.exports (sequent_view sequent)))) }
     {
         if is_exported(&self.steps, &sequent) {
             return Ok(());
@@ -420,7 +441,7 @@ fn push_term(stack: &mut Stack<Object>, term: Term) -> Result<(), Fault>
 
 /// Whether each of the terms is of type `bool`.
 fn are_formulas(terms: &[Term]) -> bool
-    ensures formulas { result ≡ list_all is_bool (map term_view terms.now) }
+    ensures formulas { result ≡ list_all (is_of_type bool) (map term_view terms.now) }
 {
     for term in terms {
         if !is_formula(term) {

@@ -1,8 +1,9 @@
-ghost use Rattle.std.specs.Prelude.{◌≡◌, ◌≢◌, ◌≤◌, ◌∷◌, [], Ok, OnOk, IfOk, IfErr, IfSome};
-ghost use Rattle.bridge_base.specs.Outside.{Rose, file as bytes_of};
-ghost use Rattle.article_spec.specs.Run.{obey_all, Run, accepted, accepted_state};
+ghost use Rattle.std.specs.Prelude.{◌≡◌, ◌≢◌, ◌≤◌, ◌∷◌, [], Ok, OnOk, IfOk, IfErr};
+ghost use Rattle.bridge_base.specs.Outside.{Rose};
+ghost use Rattle.article_spec.specs.Run.{obey_all, RunsBy, accepted, accepted_state};
+ghost use Rattle.bridge_spec.specs.FirstPath.{first_path};
 ghost use Rattle.bridge_run.specs.declared.first.reading.Stop.{Stop};
-ghost use Rattle.bridge_run.specs.Halts.{Halts, ReadsTo, StopsText, StopsRun, stop_of_fault, stop_of_line};
+ghost use Rattle.bridge_run.specs.Halts.{Halts, ReadsTo, OfText, bytes_told, StopsText, StopsRun, stop_of_fault, stop_of_line};
 
 use crate::first::machine::Machine;
 use article_read::{Command, LineFault, Lines};
@@ -18,11 +19,14 @@ pub enum Stop {
     Memory,
 }
 
-/// The machine at the end of an article.
+/// The machine at the end of an article: that of the file's bytes, where the shelf tells them, and else
+/// that of the bytes that were read.
 pub fn read_article<H: Shelf>(alloc: Global, file: &str, shelf: &mut H) -> Result<Machine, Stop>
-    ensures accepted { IfSome (H.told shelf.old) (λ files. IfOk result (λ machine. Run (bytes_of files file.now ∷ []) (accepted (accepted_state machine)))) }
-    ensures refused { IfSome (H.told shelf.old) (λ files. IfErr result (λ stop. StopsRun stop (bytes_of files file.now))) }
+    ensures accepted { IfOk result (λ machine. OfText (bytes_told (H.told shelf.old) file.now) (λ text. RunsBy first_path (text ∷ []) (accepted (accepted_state machine)))) }
+    ensures refused { IfErr result (λ stop. StopsRun stop (bytes_told (H.told shelf.old) file.now)) }
     ensures read_fault { IfErr result (λ stop. stop ≡ Stop.ReadFault → Rose (H.faults shelf.old) (H.faults shelf.new)) }
+    ensures told_kept { H.told shelf.new ≡ H.told shelf.old }
+    ensures count { H.faults shelf.old ≤ H.faults shelf.new }
 {
     if shelf.begin(file).is_err() {
         return Err(Stop::ReadFault);
@@ -37,10 +41,11 @@ pub fn read_article<H: Shelf>(alloc: Global, file: &str, shelf: &mut H) -> Resul
 
 /// Gives the machine each command of the file begun, and gives the line of its end.
 fn read_commands<H: Shelf>(alloc: Global, shelf: &mut H, machine: &mut Machine) -> Result<u64, Stop>
-    ensures read { IfSome (H.left shelf.old) (λ text. IfOk result (λ line. ReadsTo text machine.old line machine.new)) }
-    ensures refused { IfSome (H.left shelf.old) (λ text. IfErr result (λ stop. StopsText stop text machine.old)) }
+    ensures read { IfOk result (λ line. OfText (H.left shelf.old) (λ text. ReadsTo text machine.old line machine.new)) }
+    ensures refused { IfErr result (λ stop. StopsText stop (H.left shelf.old) machine.old) }
     ensures read_fault { IfErr result (λ stop. stop ≡ Stop.ReadFault → Rose (H.faults shelf.old) (H.faults shelf.new)) }
-    ensures later { H.faults shelf.old ≤ H.faults shelf.new }
+    ensures told_kept { H.told shelf.new ≡ H.told shelf.old }
+    ensures count { H.faults shelf.old ≤ H.faults shelf.new }
 {
     let mut lines = Lines::new(alloc);
     let mut commands = Vec::new(alloc);
@@ -71,8 +76,8 @@ fn read_commands<H: Shelf>(alloc: Global, shelf: &mut H, machine: &mut Machine) 
 
 /// Runs commands up to the first that is refused.
 fn run_all(machine: &mut Machine, commands: &[Command]) -> Result<(), Stop>
-    ensures obeyed { OnOk result (obey_all machine.old commands.now ≡ Ok machine.new) }
-    ensures halted { IfErr result (λ stop. Halts stop (obey_all machine.old commands.now)) }
+    ensures obeyed { OnOk result (obey_all first_path machine.old commands.now ≡ Ok machine.new) }
+    ensures halted { IfErr result (λ stop. Halts stop (obey_all first_path machine.old commands.now)) }
     ensures own { IfErr result (λ stop. stop ≢ Stop.ReadFault) }
 {
     for command in commands {

@@ -2,7 +2,8 @@ ghost use Rattle.std.specs.Prelude.{◌≡◌, ◌-◌, ◌^◌, min, IfOk, Some
 ghost use Rattle.hol_spec.specs.Terms.{term_eq, app, application_type};
 ghost use Rattle.hol_spec.specs.Terms as hol;
 ghost use Rattle.hol_spec.specs.Limits.{term_size, term_depth};
-ghost use Rattle.article_spec.specs.Conditions.{is_bool};
+ghost use Rattle.hol_spec.specs.Primitives.{bool};
+ghost use Rattle.article_spec.specs.Conditions.{is_of_type};
 ghost use Rattle.bridge_run.specs.TypeViews.{type_view};
 ghost use Rattle.bridge_run.specs.TermViews.{term_view};
 
@@ -108,7 +109,7 @@ fn applied_type<'a>(function: &'a Type, argument: &Type) -> Option<&'a Type>
 
 /// Whether a term has type `bool`.
 pub fn is_formula(term: &Term) -> bool
-    ensures formula { result ≡ is_bool (term_view term.now) }
+    ensures formula { result ≡ is_of_type bool (term_view term.now) }
 {
     match type_of(term) {
         Some(Type::Bool) => true,

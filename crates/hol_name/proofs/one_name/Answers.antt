@@ -1,4 +1,4 @@
-use Rattle.hol_spec.specs.NameLaws.{name_of-IsNameLine}
+use Rattle.hol_laws.specs.NameLaws.{name_of-IsNameLine}
 use Rattle.hol_name.proofs.one_name.Goals as goal
 
 pub returns : goal.returns

@@ -1,17 +1,24 @@
-use Rattle.std.proofs.Common.{◌≡◌, ◌∷◌, [], IfSome, ap, subst}
-use Rattle.bridge_base.specs.Outside.{file}
-use Rattle.article_spec.specs.Run.{Run, accepted, accepted_state}
+use Rattle.std.proofs.Common.{◌≡◌, ◌∷◌, [], length, ap, subst, ◌∙◌}
+use Rattle.article_spec.specs.Run.{RunsBy, accepted, accepted_state}
+use Rattle.bridge_spec.specs.FirstPath.{first_path}
+use Rattle.plain_laws.specs.PlainImage.{plain_image}
+use Rattle.module_spec.specs.Image.{image}
 use Rattle.bridge_spec.specs.Texts.{five_lines}
-use Rattle.bridge_run.specs.Runs.{run_of}
-use Rattle.bridge_run.proofs.Answered.{run-RunsTo, accepted_state-run_of}
+use Rattle.bridge_run.specs.Halts.{OfText, bytes_told}
+use Rattle.bridge_run.specs.Runs.{run_of, text_with_bounds, counts_with_bounds}
+use Rattle.bridge_run.proofs.Answered.{of_text-RunsTo, of_text-image, accepted_state-run_of}
 use Rattle.bridge_run.proofs.first.translated.Goals as goal
 
-pub returns-in-Ok-translation_of : goal.returns-in-Ok-translation_of
-returns-in-Ok-translation_of g c =
-    let same : accepted_state c.in-Ok.machine ≡ run_of c.steps.result.now = accepted_state-run_of c.in-Ok.machine c.steps.result.now c.steps.ensures.made c.steps.ensures.exports c.steps.ensures.assumptions in (
-      run_of c.steps.result.now,
-      run-RunsTo c.args.file.now (g.H.Shelf.told c.args.shelf.now) (accepted (run_of c.steps.result.now))
-          (subst (λ run. IfSome (g.H.Shelf.told c.args.shelf.now) (λ files. Run (file files c.args.file.now ∷ []) (accepted run))) same c.in-Ok.ensures.accepted),
-      c.in-Ok-translation_of.ensures.text,
-      ap five_lines c.in-Ok-translation_of.ensures.counts,
+pub returns-in-Ok-translation_of-clause-answers : goal.returns-in-Ok-translation_of-clause-answers
+returns-in-Ok-translation_of-clause-answers g c =
+    let told = g.H.Shelf.told c.args.shelf.now in
+    let same : accepted_state c.in-Ok.machine ≡ run_of c.steps.result.now = accepted_state-run_of c.in-Ok.machine c.steps.result.now c.steps.ensures.made c.steps.ensures.exports c.steps.ensures.assumptions in
+    let run = run_of c.steps.result.now in
+    let text : OfText (bytes_told told c.args.file.now) (λ text. RunsBy first_path (text ∷ []) (accepted run)) =
+    subst (λ run. OfText (bytes_told told c.args.file.now) (λ text. RunsBy first_path (text ∷ []) (accepted run))) same c.in-Ok.ensures.accepted in
+    let is : plain_image run ≡ image run = of_text-image (bytes_told told c.args.file.now) run text in (
+      run,
+      of_text-RunsTo told c.args.file.now (accepted run) text,
+      c.in-Ok-translation_of.ensures.text ∙ ap text_with_bounds is,
+      ap five_lines (c.in-Ok-translation_of.ensures.counts ∙ ap (counts_with_bounds (length run.exports)) is),
     )

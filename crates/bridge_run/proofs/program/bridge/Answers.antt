@@ -1,20 +1,21 @@
-use Rattle.std.proofs.Common.{map, string_bytes, sym, subst}
-use Rattle.bridge_spec.specs.Forms.{form_of}
-use Rattle.bridge_spec.specs.Answers.{called}
-use Rattle.bridge_spec.specs.Outputs.{Leaves, sunk}
-use Rattle.bridge_run.proofs.Exact.{Leaves-exact, RunsTo-Stands, usage-Leaves}
+use Rattle.std.proofs.Common.{◌≡◌, Option, None, Some, refl, sym, subst, ◌∙◌, arith}
+use Rattle.bridge_spec.specs.Forms.{Form, translate}
+use Rattle.bridge_spec.specs.Calls.{call, shelved, sunk, form_in}
+use Rattle.bridge_spec.specs.Promises.{Promise}
+use Rattle.bridge_run.proofs.Promised.{usage-Outputs, outputs-Promise}
 use Rattle.bridge_run.proofs.program.bridge.Goals as goal
 
-pub returns-in-Some-clause-exact : goal.returns-in-Some-clause-exact
-returns-in-Some-clause-exact g c outcome has well = Leaves-exact _ _ _ c.translate.result outcome
-    (subst (λ form. Leaves (called form (g.H.Shelf.told c.args.shelf.now) (g.H.Shelf.faults c.args.shelf.now) (g.H.Shelf.faults c.translate.new.shelf)) (sunk (g.O.Sink.got c.args.out.now) (g.O.Sink.faults c.args.out.now) (g.O.Sink.got c.translate.new.out) (g.O.Sink.faults c.translate.new.out)) (sunk (g.N.Sink.got c.args.note.now) (g.N.Sink.faults c.args.note.now) (g.N.Sink.got c.translate.new.note) (g.N.Sink.faults c.translate.new.note)) c.translate.result)
-    (sym c.in-Some.ensures.1) c.translate.ensures.outputs) has well
+pub returns-in-Some : goal.returns-in-Some
+returns-in-Some g c =
+    let shelf = shelved g.H.Shelf.told g.H.Shelf.faults c.args.shelf.now c.translate.new.shelf in
+    let out = sunk g.O.Sink.got g.O.Sink.faults c.args.out.now c.translate.new.out in
+    let note = sunk g.N.Sink.got g.N.Sink.faults c.args.note.now c.translate.new.note in
+    subst (λ form. Promise (call form shelf out note) c.translate.result) (sym c.in-Some.ensures.1) c.translate.ensures
 
-pub returns-in-None-clause-outputs : goal.returns-in-None-clause-outputs
-returns-in-None-clause-outputs g c = usage-Leaves (called (form_of (map string_bytes c.args.words.now)) (g.H.Shelf.told c.args.shelf.now) (g.H.Shelf.faults c.args.shelf.now) (g.H.Shelf.faults c.args.shelf.now)) _ _ c.deliver.result c.in-None.ensures c.deliver.ensures
-
-pub returns-in-Some-clause-stands : goal.returns-in-Some-clause-stands
-returns-in-Some-clause-stands g c run has on = RunsTo-Stands (form_of (map string_bytes c.args.words.now)) (g.H.Shelf.told c.args.shelf.now) run has on
-
-pub returns-in-None-clause-stands : goal.returns-in-None-clause-stands
-returns-in-None-clause-stands g c run has on = RunsTo-Stands (form_of (map string_bytes c.args.words.now)) (g.H.Shelf.told c.args.shelf.now) run has on
+pub returns-in-None : goal.returns-in-None
+returns-in-None g c =
+    let shelf = shelved g.H.Shelf.told g.H.Shelf.faults c.args.shelf.now c.args.shelf.now in
+    let out = sunk g.O.Sink.got g.O.Sink.faults c.args.out.now c.deliver.new.out in
+    let note = sunk g.N.Sink.got g.N.Sink.faults c.args.note.now c.deliver.new.note in
+    let this = call (form_in c.args.words.now) shelf out note in
+    outputs-Promise this c.deliver.result (λ names e. let other : ◌≡◌ {A = Option Form} None (Some (translate names)) = sym c.in-None.ensures ∙ e in absurd (cc)) (usage-Outputs this c.deliver.result c.in-None.ensures c.deliver.ensures.delivered) refl (omega arith) c.deliver.ensures.out_count c.deliver.ensures.note_count

@@ -1,6 +1,6 @@
 use Rattle.std.proofs.Common.{◌∙◌, ap, map}
 use Rattle.hol_defs.specs.Inputs.{symbol_of}
-use Rattle.hol_defs.proofs.InputLaws.{inputs_undefined, taken}
+use Rattle.hol_defs.proofs.InputLaws.{inputs_undefined, inputs_without_arity, taken}
 use Rattle.hol_defs.proofs.Symbols.take.Goals as goal
 use Rattle.hol_defs.proofs.Symbols.take.Goals.{in-Ok, in-Err}
 
@@ -10,5 +10,8 @@ returns-clause-takes c = elim c.match-insert_full.branch [
   | in-Err w ↦ rw w.result-is tt
 ]
 
-pub returns-clause-undefined : goal.returns-clause-undefined
-returns-clause-undefined c n = rw (← c.self.view_is) (inputs_undefined n c.self.inside.inputs.keys)
+pub returns-clause-no_type : goal.returns-clause-no_type
+returns-clause-no_type c n = rw (← c.self.view_is) (inputs_undefined n c.self.inside.inputs.keys)
+
+pub returns-clause-no_arity : goal.returns-clause-no_arity
+returns-clause-no_arity c n = rw (← c.self.view_is) (inputs_without_arity n c.self.inside.inputs.keys)

@@ -1,5 +1,5 @@
 use Rattle.std.proofs.lemmas.Bool.Decides.{same_from_decides}
-use Rattle.hol_spec.specs.NameEquality.{name_eq-Decides}
+use Rattle.hol_laws.specs.NameEqualityLaws.{name_eq-Decides}
 use Rattle.hol_defs.proofs.primitive.is_named.Goals as goal
 
 pub returns : goal.returns

@@ -1,6 +1,6 @@
 use Rattle.std.proofs.Common.{◌∷◌, [], sym, ap, ◌∙◌, arith}
 use Rattle.hol_spec.specs.Mangling.{mangled_before}
-use Rattle.hol_spec.specs.ManglingLaws.{mangled_before-append}
+use Rattle.hol_laws.specs.ManglingLaws.{mangled_before-append}
 use Rattle.hol_name.proofs.Demangling.{bytes-push}
 use Rattle.hol_name.proofs.mangling.component_of.Goals as goal
 

@@ -1,5 +1,5 @@
 use Rattle.hol_spec.specs.TermBinding.{put}
-use Rattle.hol_spec.specs.TermTyping.{type_of-put}
+use Rattle.hol_laws.specs.TermTyping.{type_of-put}
 use Rattle.hol_term.specs.Tables.{term_at}
 use Rattle.hol_term.proofs.Settled.{known_term, IsTerm-HasType}
 use Rattle.hol_term.proofs.Typings.{IfOk-map}

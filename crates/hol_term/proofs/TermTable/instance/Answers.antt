@@ -1,5 +1,5 @@
 use Rattle.std.proofs.Common.{ap, ◌∙◌, Some}
-use Rattle.hol_spec.specs.TermRenamings.{put_all_at-one}
+use Rattle.hol_laws.specs.TermRenamings.{put_all_at-one}
 use Rattle.hol_term.specs.Tables.{term_at}
 use Rattle.hol_term.proofs.TermTable.instance.Goals as goal
 

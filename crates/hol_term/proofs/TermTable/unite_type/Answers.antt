@@ -1,7 +1,8 @@
 use Rattle.std.proofs.Common.{ap, ◌∙◌}
 use Rattle.hol_spec.specs.Lists.{union}
-use Rattle.hol_spec.specs.ListLaws.{union-distinct}
-use Rattle.hol_spec.specs.NameEquality.{name_eq, name_eq-Decides}
+use Rattle.hol_laws.specs.ListLaws.{union-distinct}
+use Rattle.hol_spec.specs.NameEquality.{name_eq}
+use Rattle.hol_laws.specs.NameEqualityLaws.{name_eq-Decides}
 use Rattle.hol_spec.specs.Types.{variable_places}
 use Rattle.hol_type.specs.Tables.{tree_at}
 use Rattle.hol_term.proofs.VisitSteps.{OnOk-map}

@@ -1,6 +1,6 @@
 use Rattle.std.proofs.Common.{◌∙◌}
 use Rattle.hol_spec.specs.ClosedForm.{close_type}
-use Rattle.hol_spec.specs.TermRenamings.{ap2}
+use Rattle.hol_laws.specs.TermRenamings.{ap2}
 use Rattle.hol_type.specs.Tables.{tree_at}
 use Rattle.sequent.proofs.ClosedLaws.{has_type_at, closes_next}
 use Rattle.sequent.proofs.closed.close_variables.Goals as goal

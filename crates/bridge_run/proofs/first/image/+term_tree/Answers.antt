@@ -1,5 +1,5 @@
 use Rattle.std.proofs.Common.{◌∙◌, ap, sym, map}
-use Rattle.bridge_spec.specs.Translation.{term_tree}
+use Rattle.module_laws.specs.ListedTranslation.{term_tree}
 use Rattle.bridge_run.specs.TermViews.{term_view}
 use Rattle.bridge_run.specs.TypeViews.{type_view}
 use Rattle.bridge_run.specs.Contexts.{plain}

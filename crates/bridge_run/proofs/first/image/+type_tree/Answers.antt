@@ -1,7 +1,7 @@
 use Rattle.std.proofs.Common.{◌∙◌, ap, sym}
 use Rattle.lp_spec.specs.Trees.{lift}
 use Rattle.lp_spec.specs.Modules.{arr_of}
-use Rattle.bridge_spec.specs.Translation.{type_tree}
+use Rattle.module_laws.specs.ListedTranslation.{type_tree}
 use Rattle.bridge_run.specs.TypeViews.{type_view}
 use Rattle.bridge_run.proofs.Images.{if_ok_then, both}
 use Rattle.bridge_run.proofs.Views.{type_view-Function}

@@ -1,7 +1,7 @@
 use Rattle.std.proofs.Common.{◌≡◌, ◌++◌, ◌+◌, ◌∙◌, ℕ, ap, sym, take, map, length, append_assoc}
 use Rattle.std.proofs.lemmas.List.{map-append}
 use Rattle.lp_spec.specs.Modules.{proof_of}
-use Rattle.bridge_spec.specs.Translation.{hypothesis_domains, term_tree}
+use Rattle.module_laws.specs.ListedTranslation.{hypothesis_domains, term_tree}
 use Rattle.bridge_run.specs.Trees.{tree_of}
 use Rattle.bridge_run.specs.TermViews.{term_view}
 use Rattle.bridge_run.specs.Contexts.{plain, bare}

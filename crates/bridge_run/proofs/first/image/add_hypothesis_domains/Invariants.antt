@@ -1,6 +1,6 @@
 use Rattle.std.proofs.Common.{◌≡◌, ◌++◌, List, map, take, length}
 use Rattle.hol_spec.specs.Terms.{Term, Variable}
-use Rattle.bridge_spec.specs.Translation.{hypothesis_domains}
+use Rattle.module_laws.specs.ListedTranslation.{hypothesis_domains}
 use Rattle.bridge_run.specs.Trees.{tree_of}
 use Rattle.bridge_run.specs.TermViews.{term_view, Lists}
 use Rattle.bridge_run.specs.Contexts.{bare}

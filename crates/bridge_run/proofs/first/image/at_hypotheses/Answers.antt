@@ -1,7 +1,7 @@
 use Rattle.std.proofs.Common.{◌∙◌, ap, take, map}
 use Rattle.std.proofs.lemmas.List.{map-append}
 use Rattle.lp_spec.specs.Trees.{App}
-use Rattle.bridge_spec.specs.Translation.{hypothesis_tree}
+use Rattle.module_laws.specs.ListedTranslation.{hypothesis_tree}
 use Rattle.bridge_run.specs.Trees.{tree_of}
 use Rattle.bridge_run.specs.TermViews.{term_view, sequent_view}
 use Rattle.bridge_run.specs.Contexts.{bare}

@@ -1,7 +1,7 @@
 use Rattle.std.proofs.Common.{◌≡◌, List, map, take}
 use Rattle.hol_spec.specs.Terms.{Variable}
 use Rattle.lp_spec.specs.Modules.{applied}
-use Rattle.bridge_spec.specs.Translation.{hypothesis_tree}
+use Rattle.module_laws.specs.ListedTranslation.{hypothesis_tree}
 use Rattle.bridge_run.specs.Trees.{tree_of}
 use Rattle.bridge_run.specs.TermViews.{term_view, sequent_view, Lists}
 use Rattle.bridge_run.specs.Contexts.{bare}

@@ -2,7 +2,7 @@ use Rattle.std.proofs.Common.{◌∙◌, ap, take, map, arith}
 use Rattle.hol_spec.specs.Terms.{free}
 use Rattle.lp_spec.specs.Trees.{App}
 use Rattle.lp_spec.specs.Modules.{applied}
-use Rattle.bridge_spec.specs.Translation.{term_tree}
+use Rattle.module_laws.specs.ListedTranslation.{term_tree}
 use Rattle.bridge_run.specs.Trees.{tree_of}
 use Rattle.bridge_run.specs.TermViews.{term_view}
 use Rattle.bridge_run.specs.Contexts.{plain}

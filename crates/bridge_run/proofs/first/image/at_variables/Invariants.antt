@@ -1,7 +1,7 @@
 use Rattle.std.proofs.Common.{◌≡◌, List, map, take}
 use Rattle.hol_spec.specs.Terms.{Variable, free}
 use Rattle.lp_spec.specs.Modules.{applied}
-use Rattle.bridge_spec.specs.Translation.{term_tree}
+use Rattle.module_laws.specs.ListedTranslation.{term_tree}
 use Rattle.bridge_run.specs.Trees.{tree_of}
 use Rattle.bridge_run.specs.TermViews.{Lists}
 use Rattle.bridge_run.specs.Contexts.{plain}

@@ -1,6 +1,6 @@
 use Rattle.std.proofs.Common.{◌≡◌, ◌+◌, ◌++◌, ◌∷◌, [], ◌∙◌, Some, ℕ, Bool, length, slice_get, true, false, cond, refl, ap, sym, subst, arith}
 use Rattle.std.proofs.lemmas.List.{append-nil}
-use Rattle.bridge_spec.specs.Image.{step_declaration}
+use Rattle.plain_laws.specs.PlainImage.{step_declaration}
 use Rattle.bridge_run.specs.Trees.{declarations_of}
 use Rattle.std.proofs.lemmas.Grind.{common_steps}
 use Rattle.bridge_run.specs.MachineViews.{step_view, exports_it}

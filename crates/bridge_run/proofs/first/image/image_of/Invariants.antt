@@ -1,6 +1,6 @@
 use Rattle.std.proofs.Common.{◌≡◌, ◌++◌, map, take}
 use Rattle.lp_spec.specs.Lemmas.{lemmas}
-use Rattle.bridge_spec.specs.Image.{step_declarations}
+use Rattle.plain_laws.specs.PlainImage.{step_declarations}
 use Rattle.bridge_run.specs.Trees.{declarations_of}
 use Rattle.bridge_run.specs.MachineViews.{step_view}
 use Rattle.bridge_run.specs.Runs.{HasSymbols, run_of, exports_before}

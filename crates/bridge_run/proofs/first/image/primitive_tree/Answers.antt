@@ -1,6 +1,6 @@
 use Rattle.std.proofs.Common.{◌∙◌, ap, sym}
 use Rattle.lp_spec.specs.Trees.{App, Sym}
-use Rattle.bridge_spec.specs.Translation.{constant_tree}
+use Rattle.module_laws.specs.ListedTranslation.{constant_tree}
 use Rattle.bridge_run.specs.TermViews.{primitive_name}
 use Rattle.bridge_run.specs.TypeViews.{type_view}
 use Rattle.bridge_run.specs.Contexts.{plain}

@@ -1,5 +1,5 @@
 use Rattle.std.proofs.Common.{map, reverse}
-use Rattle.bridge_spec.specs.Image.{reached_among}
+use Rattle.plain_laws.specs.PlainImage.{reached_among}
 use Rattle.bridge_run.specs.MachineViews.{step_view, exports_from}
 use Rattle.bridge_run.proofs.Reached.{Marked}
 use Rattle.bridge_run.proofs.first.image.reached_steps.Given as goal

@@ -4,8 +4,8 @@ use Rattle.hol_spec.specs.Rules.{Parameters}
 use Rattle.hol_spec.specs.Sequents.{free_variables_of}
 use Rattle.lp_spec.specs.Trees.{Tree}
 use Rattle.lp_spec.specs.Lemmas.{theorem}
-use Rattle.bridge_spec.specs.Translation.{Context, domains_of, conclusion_tree}
-use Rattle.bridge_spec.specs.Image.{reflexivity_tree}
+use Rattle.module_laws.specs.ListedTranslation.{Context, domains_of, conclusion_tree}
+use Rattle.plain_laws.specs.PlainImage.{reflexivity_tree}
 use Rattle.bridge_run.specs.TermViews.{term_view, sequent_view, Lists}
 use Rattle.bridge_run.specs.Contexts.{bare}
 use Rattle.bridge_run.proofs.Images.{if_ok_then}

@@ -1,7 +1,7 @@
 use Rattle.std.proofs.Common.{◌∙◌, ℕ, ap}
 use Rattle.hol_spec.specs.Primitives.{bool}
 use Rattle.lp_spec.specs.Modules.{refl_of}
-use Rattle.bridge_spec.specs.Translation.{type_tree, term_tree, inner_scope}
+use Rattle.module_laws.specs.ListedTranslation.{type_tree, term_tree, inner_scope}
 use Rattle.bridge_run.specs.TypeViews.{type_view}
 use Rattle.bridge_run.specs.TermViews.{term_view, sequent_view}
 use Rattle.bridge_run.specs.Contexts.{plain, bare}

@@ -1,5 +1,5 @@
 use Rattle.std.proofs.Common.{◌≡◌, ◌∙◌, ◌<◌, ◌+◌, length, Some, slice_get, ap, sym, subst, arith}
-use Rattle.bridge_spec.specs.Image.{step_declaration}
+use Rattle.plain_laws.specs.PlainImage.{step_declaration}
 use Rattle.bridge_run.specs.MachineViews.{step_view}
 use Rattle.bridge_run.specs.Runs.{IsStep, IsBelow, run_of}
 use Rattle.bridge_run.proofs.Images.{if_ok_then}

@@ -4,7 +4,7 @@ use Rattle.hol_spec.specs.Terms.{Variable, free}
 use Rattle.lp_spec.specs.Trees.{Tree, Sym}
 use Rattle.bridge_run.specs.Trees.{tree_of}
 use Rattle.lp_spec.specs.Modules.{applied}
-use Rattle.bridge_spec.specs.Translation.{term_tree, hypothesis_tree}
+use Rattle.module_laws.specs.ListedTranslation.{term_tree, hypothesis_tree}
 use Rattle.bridge_run.specs.TermViews.{term_view, sequent_view, Lists}
 use Rattle.bridge_run.specs.Contexts.{plain, bare}
 use Rattle.bridge_run.proofs.Images.{if_ok_then}

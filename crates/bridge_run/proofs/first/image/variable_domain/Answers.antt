@@ -2,7 +2,7 @@ use Rattle.std.proofs.Common.{◌∙◌, ap}
 use Rattle.hol_spec.specs.Primitives.{bool}
 use Rattle.hol_spec.specs.Terms as hol
 use Rattle.lp_spec.specs.Modules.{term_of}
-use Rattle.bridge_spec.specs.Translation.{type_tree}
+use Rattle.module_laws.specs.ListedTranslation.{type_tree}
 use Rattle.bridge_run.specs.TypeViews.{type_view}
 use Rattle.bridge_run.proofs.Images.{if_ok_then}
 use Rattle.bridge_run.proofs.Parameters.{option_map_or-seen}

@@ -1,5 +1,5 @@
 use Rattle.std.proofs.Common.{◌+◌, ◌∙◌, ap, sym, take, length, arith}
-use Rattle.bridge_spec.specs.Translation.{variable_domains, scope_under}
+use Rattle.module_laws.specs.ListedTranslation.{variable_domains, scope_under}
 use Rattle.bridge_run.specs.Trees.{tree_of}
 use Rattle.bridge_run.specs.TermViews.{term_view}
 use Rattle.bridge_run.proofs.Parameters.{take-past, variable_at, length-Lists, front-next, variable_domains-push, map-push}

@@ -1,6 +1,6 @@
 use Rattle.std.proofs.Common.{◌≡◌, ℕ, List, map, take}
 use Rattle.hol_spec.specs.Terms.{Variable}
-use Rattle.bridge_spec.specs.Translation.{Context, variable_domains}
+use Rattle.module_laws.specs.ListedTranslation.{Context, variable_domains}
 use Rattle.bridge_run.specs.Trees.{tree_of}
 use Rattle.bridge_run.specs.TermViews.{Lists}
 use Rattle.bridge_run.proofs.first.image.variable_domains.Given as goal

@@ -2,8 +2,7 @@ use Rattle.std.proofs.Common.{◌≡◌, false, true, ◌∙◌}
 use Rattle.bridge_run.specs.TypeViews.{type_view}
 use Rattle.bridge_run.proofs.Instances.{no_constant}
 use Rattle.bridge_run.proofs.first.primitives.primitive_constant.Goals as goal
-use Rattle.bridge_run.proofs.first.primitives.primitive_constant.Goals.{else-is_single-via-then-is_single+else-is_relation, else-is_single-via-else-is_single}
-use Rattle.bridge_run.proofs.first.primitives.primitive_constant.Goals.{else-is_single-2-via-then-is_single-2+else-is_choice, else-is_single-2-via-else-is_single-2}
+use Rattle.bridge_run.proofs.first.primitives.primitive_constant.Goals.{else-is_single-via-then-is_single+else-is_relation, else-is_single-via-else-is_single, else-is_single-2-via-then-is_single-2+else-is_choice, else-is_single-2-via-else-is_single-2}
 
 pub returns-clause-refused : goal.returns-clause-refused
 returns-clause-refused c = no_constant c.args.name.now (type_view c.args.ty)

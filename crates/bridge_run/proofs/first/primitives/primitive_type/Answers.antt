@@ -4,8 +4,7 @@ use Rattle.std.proofs.lemmas.List.{length-map}
 use Rattle.bridge_run.specs.TypeViews.{type_view}
 use Rattle.bridge_run.proofs.Instances.{unapplied}
 use Rattle.bridge_run.proofs.first.primitives.primitive_type.Goals as goal
-use Rattle.bridge_run.proofs.first.primitives.primitive_type.Goals.{else-is_single-2-via-then-is_single-2+else-is_empty, else-is_single-2-via-else-is_single-2}
-use Rattle.bridge_run.proofs.first.primitives.primitive_type.Goals.{else-is_single-3-via-then-is_single-3+else-is_empty-2, else-is_single-3-via-else-is_single-3}
+use Rattle.bridge_run.proofs.first.primitives.primitive_type.Goals.{else-is_single-2-via-then-is_single-2+else-is_empty, else-is_single-2-via-else-is_single-2, else-is_single-3-via-then-is_single-3+else-is_empty-2, else-is_single-3-via-else-is_single-3}
 
 pub returns-clause-refused : goal.returns-clause-refused
 returns-clause-refused c = unapplied c.args.name.now (map type_view c.args.arguments.items) (λ e. (let f = c.if-is_single.ensures.1 e in cc))

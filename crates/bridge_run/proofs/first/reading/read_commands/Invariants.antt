@@ -1,13 +1,14 @@
-use Rattle.std.proofs.Common.{◌≡◌, ◌≤◌, ◌+◌, ◌-◌, length, List, ℕ, Some}
+use Rattle.std.proofs.Common.{◌≡◌, ◌≤◌, ◌+◌, ◌-◌, length}
 use Rattle.article_spec.specs.Lines.{max_article}
 use Rattle.bridge_run.proofs.Readings.{IsRead}
 use Rattle.bridge_run.proofs.first.reading.read_commands.Given as goal
 
 abbrev pub invariant-loop-count : goal.invariant-loop-count
 invariant-loop-count g l = record {
-  later : g.H.Shelf.faults l.fn.shelf ≤ g.H.Shelf.faults l.shelf;
+  count : g.H.Shelf.faults l.fn.shelf ≤ g.H.Shelf.faults l.shelf;
+  told : g.H.Shelf.told l.shelf ≡ g.H.Shelf.told l.fn.shelf;
   within : l.lines.offset + length l.lines.rest ≤ max_article;
-  read : (text : List ℕ) → g.H.Shelf.left l.fn.shelf ≡ Some text → IsRead text (g.H.Shelf.left l.shelf) l.fn.machine l.machine l.lines;
+  read : IsRead (g.H.Shelf.left l.fn.shelf) (g.H.Shelf.left l.shelf) l.fn.machine l.machine l.lines;
 }
 
 abbrev pub decreases-loop-count : goal.decreases-loop-count

@@ -1,5 +1,5 @@
 use Rattle.std.proofs.lemmas.Bool.Decides.{same_from_decides}
-use Rattle.hol_spec.specs.PrimitiveLaws.{equality_instance, select_instance}
+use Rattle.hol_laws.specs.PrimitiveLaws.{equality_instance, select_instance}
 use Rattle.hol_defs.proofs.primitive.Primitive.stands_at.Goals as goal
 
 pub returns-in-Equality : goal.returns-in-Equality

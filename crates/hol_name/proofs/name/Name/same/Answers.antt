@@ -1,4 +1,4 @@
-use Rattle.hol_spec.specs.NameEquality.{name_eq-Decides}
+use Rattle.hol_laws.specs.NameEqualityLaws.{name_eq-Decides}
 use Rattle.hol_name.proofs.name.Name.same.Goals as goal
 
 pub returns : goal.returns

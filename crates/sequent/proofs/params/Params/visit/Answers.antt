@@ -1,10 +1,11 @@
 use Rattle.std.proofs.Common.{ap, sym, subst, ◌∙◌}
 use Rattle.std.proofs.lemmas.Result.{IfOk-weaker}
 use Rattle.hol_spec.specs.Lists.{union}
-use Rattle.hol_spec.specs.ListLaws.{union-distinct}
-use Rattle.hol_spec.specs.NameEquality.{name_eq, name_eq-Decides}
+use Rattle.hol_laws.specs.ListLaws.{union-distinct}
+use Rattle.hol_spec.specs.NameEquality.{name_eq}
+use Rattle.hol_laws.specs.NameEqualityLaws.{name_eq-Decides}
 use Rattle.hol_spec.specs.Terms.{variable_eq, free_places, type_variable_places}
-use Rattle.hol_spec.specs.TermLaws.{variable_eq-Decides}
+use Rattle.hol_laws.specs.TermLaws.{variable_eq-Decides}
 use Rattle.hol_term.specs.Subterms.{variables_of, HaveTypes}
 use Rattle.hol_term.specs.Tables.{term_at}
 use Rattle.sequent.proofs.ParamLaws.{HaveTypes-union, variables_of-union}

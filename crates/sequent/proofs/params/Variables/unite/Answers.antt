@@ -1,6 +1,6 @@
 use Rattle.std.proofs.Common.{[], ◌∷◌, ap, sym, ◌∙◌}
 use Rattle.hol_spec.specs.Lists.{union}
-use Rattle.hol_spec.specs.ListLaws.{union-append}
+use Rattle.hol_laws.specs.ListLaws.{union-append}
 use Rattle.sequent.specs.Params.{same_variable}
 use Rattle.sequent.proofs.params.Variables.unite.Goals as goal
 

@@ -10,11 +10,11 @@ invariant_of-self c = (c.obey_on_stack.ensures.known, entries-Grow c.obey_on_sta
 
 pub returns-clause-taken : goal.returns-clause-taken
 returns-clause-taken c = OnOk-map c.obey_on_stack.result _ _ c.obey_on_stack.ensures.taken
-    (λ f. rw (← c.self.view_is) (f (article_state c.self.inside.store c.self.inside.dictionary.entries c.self.inside.progress) ∙ ap (λ s. Ok (shown c.obey_on_stack.new.store c.obey_on_stack.new.stack.items s)) (article-Grows c.obey_on_stack.ensures.grows c.self.inside.dictionary.entries c.self.inside.progress c.self.invariant.1)))
+    (λ f. rw (← c.self.view_is) (f (article_state c.self.inside.store c.self.inside.dictionary.entries c.self.inside.progress) ∙ ap (λ s. Ok (shown c.obey_on_stack.new.store c.obey_on_stack.new.stack s)) (article-Grows c.obey_on_stack.ensures.grows c.self.inside.dictionary.entries c.self.inside.progress c.self.invariant.1)))
 
 pub returns-clause-refused : goal.returns-clause-refused
 returns-clause-refused c = IfErr-map c.obey_on_stack.result _ _ c.obey_on_stack.ensures.refused (λ fault f. rw (← c.self.view_is) (f (article_state c.self.inside.store c.self.inside.dictionary.entries c.self.inside.progress)))
 
 pub returns-clause-unchanged : goal.returns-clause-unchanged
-returns-clause-unchanged c = OnErr-map2 c.obey_on_stack.result _ _ _ c.obey_on_stack.ensures.same c.obey_on_stack.ensures.symbols
-    (λ e f. rw (← c.self.view_is) (ap (λ xs. shown c.obey_on_stack.new.store xs (article_state c.obey_on_stack.new.store c.self.inside.dictionary.entries c.self.inside.progress)) e ∙ shown-Grows c.obey_on_stack.ensures.grows c.self.inside.stack.items c.self.inside.dictionary.entries c.self.inside.progress c.self.invariant.0 c.self.invariant.1 f))
+returns-clause-unchanged c = OnErr-map2 c.obey_on_stack.result _ _ _ c.obey_on_stack.ensures.same c.obey_on_stack.ensures.run
+    (λ e f. rw (← c.self.view_is) (ap (λ xs. shown c.obey_on_stack.new.store xs (article_state c.obey_on_stack.new.store c.self.inside.dictionary.entries c.self.inside.progress)) e ∙ shown-Grows c.obey_on_stack.ensures.grows c.self.inside.stack c.self.inside.dictionary.entries c.self.inside.progress c.self.invariant.0 c.self.invariant.1 f))

@@ -1,50 +1,46 @@
-use Rattle.std.proofs.Common.{◌≡◌, ℤ, ap, subst, sym, ◌∙◌, length, refl, None, Some, option_map, IfErr, Ok, Err, rules, cond, SFits, w64}
+use Rattle.std.proofs.Common.{◌≡◌, ℤ, ap, subst, sym, ◌∙◌, None, Some, option_map, Ok, rules, cond, SFits, w64}
 use Rattle.std.specs.Ordering.{int_cmp, is_eq}
 use Rattle.std.specs.Map.{lookup}
+use Rattle.std.specs.Option.{ok_or}
 use Rattle.std.specs.BTreeMap.{is_at}
 use Rattle.std.proofs.lemmas.Int.{to_z-of_z}
-use Rattle.article_spec.specs.declared.commands.Word.TheVariants as word
+use Rattle.hol_laws.specs.TermRenamings.{ap2}
+use Rattle.bridge_base.specs.declared.faults.Fault.TheVariants.{Refused}
 use Rattle.bridge_base.specs.declared.faults.Kind.TheVariants.{NoSuchKey}
-use Rattle.article_spec.specs.Results.{Fails}
-use Rattle.article_spec.specs.Step.{obey}
-use Rattle.stack_machine.specs.declared.object.Object.TheVariants as object
-use Rattle.stack_machine.specs.Stored.{AreKnown, object_view, stack_view}
-use Rattle.stack_machine.specs.StoredLaws.{Grows-refl}
-use Rattle.stack_machine.specs.Shown.{shown, article_state, AreEntriesKnown}
+use Rattle.stack_machine.specs.Stored.{AreKnown, object_view, objects_view}
+use Rattle.stack_machine.specs.Shown.{in_state, article_state, AreEntriesKnown}
 use Rattle.stack_machine.proofs.Passing.{handed_on}
-use Rattle.stack_machine.proofs.Placed.{known_below, placed, placed_known, instead_of_one}
-use Rattle.stack_machine.proofs.Obeyed.{first_fails, remove-obeyed, remove-refused}
+use Rattle.stack_machine.proofs.Placed.{known-drop}
+use Rattle.stack_machine.proofs.Obeyed.{first_fails, next_fails, next}
 use Rattle.stack_machine.proofs.Dictionaries.{dictionary-get, dictionary-remove, known_found, known_removed}
 use Rattle.stack_machine.proofs.machine.Machine.remove.Goals as goal
 
 pub returns-in_err-key-clause-refused : goal.returns-in_err-key-clause-refused
-returns-in_err-key-clause-refused c = rw (← c.self.view_is) (subst (λ xs. IfErr c.from_residual.result (λ fault. Fails fault (obey (shown c.self.inside.store xs (article_state c.self.inside.store c.self.inside.dictionary.entries c.self.inside.progress)) word.Remove))) c.deref.ensures.value
-    (handed_on _ c.in_err-key.field-0.0 _ c.from_residual.ensures.1 (first_fails c.in_err-key.field-0.0 _ _ (c.in_err-key.ensures.refused c.self.inside.store))))
+returns-in_err-key-clause-refused c = rw (← c.self.view_is) (handed_on _ _ _ c.from_residual.ensures.1 (first_fails _ _ _ (c.in_err-key.ensures c.self.inside.store).refused))
 
 pub returns-in_default-clause-refused : goal.returns-in_default-clause-refused
 returns-in_default-clause-refused c =
     let f : SFits w64 c.in_ok-key.key = search rules in
     let e : lookup (is_at (int_cmp c.in_ok-key.key)) c.self.inside.dictionary.entries ≡ None = sym (simp to_z-of_z at c.in_default.ensures.value) in
-    rw (← c.self.view_is) (subst (λ xs. obey (shown c.self.inside.store xs (article_state c.self.inside.store c.self.inside.dictionary.entries c.self.inside.progress)) word.Remove ≡ Err NoSuchKey) c.deref.ensures.value
-    (remove-refused c.self.inside.store c.deref.result.now c.self.inside.dictionary.entries c.self.inside.progress c.in_ok-key.rest.now c.in_ok-key.key (c.in_ok-key.ensures.taken c.self.inside.store) (dictionary-get c.self.inside.store c.self.inside.dictionary.entries c.in_ok-key.key ∙ ap (option_map (object_view c.self.inside.store)) e)))
+    let m = c.self.inside.store in
+    rw (← c.self.view_is) (next_fails (Refused NoSuchKey) _ _ _ (c.in_ok-key.ensures m).taken (first_fails (Refused NoSuchKey) _ _ (ap (λ o. ok_or o NoSuchKey) (dictionary-get m c.self.inside.dictionary.entries c.in_ok-key.key ∙ ap (option_map (object_view m)) e))))
+
+pub put-requires-clause-there : goal.put-requires-clause-there
+put-requires-clause-there c = (c.in_ok-key.ensures c.self.inside.store).there
 
 pub invariant_of-self-2 : goal.invariant_of-self-2
 invariant_of-self-2 c =
     let f : SFits w64 c.in_ok-key.key = search rules in
     let e : lookup (is_at (int_cmp c.in_ok-key.key)) c.self.inside.dictionary.entries ≡ Some c.in-Some.object = sym (simp to_z-of_z at c.in-Some.ensures.value) in
-    let k0 : AreKnown c.self.inside.store c.deref.result.now = rw c.deref.ensures.value c.self.invariant.0 in
-    let k1 = known_below c.self.inside.store c.deref.result.now c.in_ok-key.rest.now (object.Number c.in_ok-key.key) c.in_ok-key.ensures.is k0 in
-    let p = instead_of_one c.deref.result.now c.in_ok-key.rest.now c.put.new.stack.items (object.Number c.in_ok-key.key) c.in-Some.object (length c.in_ok-key.rest.now) c.in_ok-key.ensures.is refl (rw c.deref.ensures.value c.put.ensures) in
-    (subst (AreKnown c.self.inside.store) (sym p) (placed_known (Grows-refl c.self.inside.store) c.in_ok-key.rest.now c.in-Some.object k1 (known_found c.self.inside.store (is_at (int_cmp c.in_ok-key.key)) c.self.inside.dictionary.entries c.in-Some.object c.self.invariant.1 e)), subst (AreEntriesKnown c.self.inside.store) (sym c.in-Some.ensures.entries) (known_removed c.self.inside.store _ c.self.inside.dictionary.entries c.self.invariant.1))
+    let known = known_found c.self.inside.store (is_at (int_cmp c.in_ok-key.key)) c.self.inside.dictionary.entries c.in-Some.object c.self.invariant.1 e in
+    (subst (AreKnown c.self.inside.store) (sym c.put.ensures) (known, known-drop c.self.inside.store 1 c.self.inside.stack c.self.invariant.0), subst (AreEntriesKnown c.self.inside.store) (sym c.in-Some.ensures.entries) (known_removed c.self.inside.store _ c.self.inside.dictionary.entries c.self.invariant.1))
 
 pub returns-clause-taken : goal.returns-clause-taken
 returns-clause-taken c =
     let f : SFits w64 c.in_ok-key.key = search rules in
     let e : lookup (is_at (int_cmp c.in_ok-key.key)) c.self.inside.dictionary.entries ≡ Some c.in-Some.object = sym (simp to_z-of_z at c.in-Some.ensures.value) in
-    let k0 : AreKnown c.self.inside.store c.deref.result.now = rw c.deref.ensures.value c.self.invariant.0 in
-    let k1 = known_below c.self.inside.store c.deref.result.now c.in_ok-key.rest.now (object.Number c.in_ok-key.key) c.in_ok-key.ensures.is k0 in
-    let p = instead_of_one c.deref.result.now c.in_ok-key.rest.now c.put.new.stack.items (object.Number c.in_ok-key.key) c.in-Some.object (length c.in_ok-key.rest.now) c.in_ok-key.ensures.is refl (rw c.deref.ensures.value c.put.ensures) in
-    let u : (q : ℤ) → lookup (is_at (int_cmp q)) c.remove.new.self.entries ≡ cond (is_eq (int_cmp c.in_ok-key.key q)) None (lookup (is_at (int_cmp q)) c.self.inside.dictionary.entries) = simp to_z-of_z at c.in-Some.ensures.updates.0 in
-    rw (← c.self.view_is) (subst (λ xs. obey (shown c.self.inside.store xs (article_state c.self.inside.store c.self.inside.dictionary.entries c.self.inside.progress)) word.Remove ≡ Ok (shown c.self.inside.store c.put.new.stack.items (article_state c.self.inside.store c.remove.new.self.entries c.self.inside.progress))) c.deref.ensures.value
-    (remove-obeyed c.self.inside.store c.deref.result.now c.self.inside.dictionary.entries c.self.inside.progress c.in_ok-key.rest.now c.put.new.stack.items c.remove.new.self.entries c.in_ok-key.key (object_view c.self.inside.store c.in-Some.object) (c.in_ok-key.ensures.taken c.self.inside.store) (dictionary-get c.self.inside.store c.self.inside.dictionary.entries c.in_ok-key.key ∙ ap (option_map (object_view c.self.inside.store)) e)
-    (dictionary-remove c.self.inside.store c.self.inside.dictionary.entries c.remove.new.self.entries c.in_ok-key.key u) (ap (stack_view c.self.inside.store) p ∙ placed (Grows-refl c.self.inside.store) c.in_ok-key.rest.now c.in-Some.object _ k1 refl)))
+    let m = c.self.inside.store in
+    let es = c.self.inside.dictionary.entries in
+    let u : (q : ℤ) → lookup (is_at (int_cmp q)) c.remove.new.self.entries ≡ cond (is_eq (int_cmp c.in_ok-key.key q)) None (lookup (is_at (int_cmp q)) es) = simp to_z-of_z at c.in-Some.ensures.updates.0 in
+    rw (← c.self.view_is) (next _ _ _ _ (c.in_ok-key.ensures m).taken (next _ _ _ _ (ap (λ o. ok_or o NoSuchKey) (dictionary-get m es c.in_ok-key.key ∙ ap (option_map (object_view m)) e))
+    (ap2 (λ xs entries. Ok (in_state (record (article_state m es c.self.inside.progress) { dictionary = entries }) (objects_view m xs) m.run)) (sym c.put.ensures) (sym (dictionary-remove m es c.remove.new.self.entries c.in_ok-key.key u)))))

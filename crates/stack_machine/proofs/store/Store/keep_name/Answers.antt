@@ -12,7 +12,7 @@ longer : (c : goal.In_ok-push) → IsFront c.self.inside.names.items c.push.new.
 longer c = record { more = _; is = c.in_ok-push.ensures.items }
 
 pub invariant_of-self-2 : goal.invariant_of-self-2
-invariant_of-self-2 c = stored-AreCells _ _ _ _ _ _ _ (stays c) (longer c) c.self.invariant
+invariant_of-self-2 c = (stored-AreCells _ _ _ _ _ _ _ (stays c) (longer c) c.self.invariant.0, c.self.invariant.1)
 
 pub returns-clause-grows : goal.returns-clause-grows
-returns-clause-grows c = rw (← c.self.view_is) (stored-Grows _ _ _ _ _ _ _ (stays c) (longer c) c.self.invariant)
+returns-clause-grows c = rw (← c.self.view_is) (stored-Grows _ _ _ _ _ _ _ (stays c) (longer c) c.self.invariant.0)

@@ -1,6 +1,7 @@
 use Rattle.std.proofs.Common.{◌≡◌, ◌<◌, List, ◌∷◌, [], ◌++◌, length, refl, sym, ap, subst, ◌∙◌}
 use Rattle.article_spec.specs.Conditions.{sequent_in_limits}
-use Rattle.article_spec.specs.Step.{export}
+use Rattle.article_spec.specs.Stating.{export}
+use Rattle.article_spec.specs.Changes.{first_same}
 use Rattle.bridge_run.specs.TermViews.{sequent_view}
 use Rattle.bridge_run.specs.Refusals.{Refuses}
 use Rattle.bridge_run.proofs.Commands.{export-held, export-refused, export-taken}
@@ -14,8 +15,8 @@ pub returns-then-is_exported-clause-taken : goal.returns-then-is_exported-clause
 returns-then-is_exported-clause-taken c = rw (← c.self.view_is) (export-held c.self.inside.dictionary.entries c.self.inside.steps.items c.self.inside.progress c.self.inside.stack c.args.premise (sequent_view c.args.sequent) (rw (← c.deref.ensures.value) (sym c.if-is_exported.ensures.exported)))
 
 pub returns-in_err-judge_sequent-clause-refused : goal.returns-in_err-judge_sequent-clause-refused
-returns-in_err-judge_sequent-clause-refused c = handed_on c.from_residual.result c.in_err-judge_sequent.field-0.0 (λ fault. Refuses fault (export c.args.self.now c.args.premise (sequent_view c.args.sequent))) c.from_residual.ensures.1
-    (part_refuses c.in_err-judge_sequent.field-0.0 (sequent_in_limits (sequent_view c.args.sequent)) (export c.args.self.now c.args.premise (sequent_view c.args.sequent)) c.in_err-judge_sequent.ensures.refused
+returns-in_err-judge_sequent-clause-refused c = handed_on c.from_residual.result c.in_err-judge_sequent.field-0.0 (λ fault. Refuses fault (export c.args.self.now c.args.premise (sequent_view c.args.sequent) (first_same c.args.self.now c.args.self.now.exports (sequent_view c.args.sequent)))) c.from_residual.ensures.1
+    (part_refuses c.in_err-judge_sequent.field-0.0 (sequent_in_limits (sequent_view c.args.sequent)) (export c.args.self.now c.args.premise (sequent_view c.args.sequent) (first_same c.args.self.now c.args.self.now.exports (sequent_view c.args.sequent))) c.in_err-judge_sequent.ensures.refused
     (λ k l. rw (← c.self.view_is) (export-refused c.self.inside.dictionary.entries c.self.inside.steps.items c.self.inside.progress c.self.inside.stack c.args.premise (sequent_view c.args.sequent) k (rw (← c.deref.ensures.value) (sym c.if-is_exported.ensures.exported)) l)))
 
 pub returns-clause-taken : goal.returns-clause-taken

@@ -2,9 +2,9 @@ use Rattle.std.proofs.Common.{◌≡◌, Ok, refl, ap, sym, subst, ◌∙◌, ar
 use Rattle.std.proofs.lemmas.Grind.{common_steps}
 use Rattle.article_spec.specs.State as state
 use Rattle.article_spec.specs.Conditions.{sequent_in_limits}
-use Rattle.article_spec.specs.Step.{reflexivity}
 use Rattle.bridge_run.specs.TypeViews.{type_view}
 use Rattle.bridge_run.specs.TermViews.{term_view, sequent_view}
+use Rattle.bridge_run.specs.MachineViews.{reflexivity}
 use Rattle.bridge_run.specs.Runs.{AreSteps}
 use Rattle.bridge_run.proofs.Steps.{snoc-AreSteps, in_limits-parameters}
 use Rattle.bridge_run.proofs.Commands.{reflexivity-taken}

@@ -1,0 +1,5 @@
+use Rattle.std.specs.Prelude.{◌<◌, length}
+use Rattle.hol_term_tests.proofs.bench.Bench.lists.Given as goal
+
+abbrev pub invariant-loop : goal.invariant-loop
+invariant-loop l = l.id.0 < length l.self.table.types

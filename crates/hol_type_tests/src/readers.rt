@@ -1,0 +1,102 @@
+//! What the table tells of a type: its measures, its head and its variables.
+use crate::bench::{Bench, Step};
+use std::test::Fail;
+
+#[test]
+fn types_have_a_size_and_a_depth(rt: HostRuntime) -> Result<(), Fail> {
+    let cases: [(&[Step], (u64, u64)); 8] = [
+        (&[Step::Variable(b'A')], (1, 1)),
+        (&[Step::Bool], (1, 1)),
+        (&[Step::Variable(b'A'), Step::List], (2, 2)),
+        (&[Step::Bool, Step::Bool, Step::Function], (3, 3)),
+        (
+            &[
+                Step::Bool,
+                Step::Bool,
+                Step::Function,
+                Step::Variable(b'A'),
+                Step::List,
+                Step::Function,
+            ],
+            (6, 5),
+        ),
+        (&[Step::Variable(b'A'), Step::Lists(1023)], (1024, 1024)),
+        (
+            &[Step::Variable(b'A'), Step::Doubled(19), Step::List],
+            (1_048_576, 40),
+        ),
+        (
+            &[
+                Step::Variable(b'A'),
+                Step::Variable(b'B'),
+                Step::Function,
+                Step::Doubled(100_000),
+            ],
+            (u64::MAX, 200_003),
+        ),
+    ];
+    for (index, (steps, wanted)) in cases.iter().enumerate() {
+        let mut bench = Bench::new(rt.alloc());
+        assert_eq!(rt; bench.measures(steps), Ok(*wanted), "case {index}");
+    }
+    Ok(())
+}
+
+#[test]
+fn types_of_functions_show_their_sides(rt: HostRuntime) -> Result<(), Fail> {
+    let mut bench = Bench::new(rt.alloc());
+    let a = bench.make(&[Step::Variable(b'A')])?;
+    let truth = bench.make(&[Step::Bool])?;
+    let cases: [(&[Step], Option<_>); 4] = [
+        (
+            &[Step::Variable(b'A'), Step::Bool, Step::Function],
+            Some((a, truth)),
+        ),
+        (
+            &[Step::Bool, Step::Variable(b'A'), Step::Function],
+            Some((truth, a)),
+        ),
+        (&[Step::Bool], None),
+        (&[Step::Variable(b'A')], None),
+    ];
+    for (steps, wanted) in cases {
+        assert_eq!(rt; bench.sides(steps), Ok(wanted));
+    }
+    Ok(())
+}
+
+#[test]
+fn variables_come_in_order(rt: HostRuntime) -> Result<(), Fail> {
+    let cases: [(&[Step], &[u8]); 4] = [
+        (&[Step::Bool], b""),
+        (&[Step::Variable(b'A'), Step::Lists(2)], b"A"),
+        (
+            &[
+                Step::Variable(b'B'),
+                Step::Variable(b'A'),
+                Step::Function,
+                Step::Variable(b'B'),
+                Step::Function,
+            ],
+            b"BA",
+        ),
+        (
+            &[
+                Step::Variable(b'A'),
+                Step::Variable(b'B'),
+                Step::Function,
+                Step::Doubled(100_000),
+            ],
+            b"AB",
+        ),
+    ];
+    for (steps, letters) in cases {
+        let mut bench = Bench::new(rt.alloc());
+        assert_eq!(rt;
+            bench.has_variables(steps, letters),
+            Ok(true),
+            "{letters:?}"
+        );
+    }
+    Ok(())
+}

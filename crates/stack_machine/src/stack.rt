@@ -1,0 +1,88 @@
+//! The stack of an article.
+ghost use Rattle.std.specs.Prelude.{◌≡◌, ◌<◌, ◌≤◌, ◌∷◌, [], length, drop, slice_get, slice_set, OnOk, OnErr};
+
+use crate::object::Object;
+use bridge_base::Memory;
+use std::alloc::Global;
+use std::marker::Model;
+
+/// The objects, which grow at the end. Contracts see them from the top.
+#[derive(Drop)]
+pub(crate) struct Stack {
+    items: Vec<Object>,
+}
+
+impl Model for Stack {
+    ghost use Rattle.std.specs.Prelude.{List, reverse};
+    ghost use Rattle.stack_machine.specs.declared.object.Object.{Object as AnObject};
+
+    ghost Value = { List AnObject };
+
+    ghost view = { λ s. reverse s.items.items };
+}
+
+impl Stack {
+    /// No objects.
+    pub(crate) fn new(alloc: Global) -> Stack
+        ensures empty { result ≡ [] }
+    {
+        Stack {
+            items: Vec::new(alloc),
+        }
+    }
+
+    /// The object at a depth below the top.
+    pub(crate) fn at(&self, depth: usize) -> Option<Object>
+        ensures { result ≡ slice_get self.now depth }
+    {
+        let count = self.items.len();
+        if depth < count {
+            Some(self.items[count - 1 - depth])
+        } else {
+            None
+        }
+    }
+
+    /// Puts an object on top.
+    pub(crate) fn push(&mut self, object: Object) -> Result<(), Memory>
+        ensures pushed { OnOk result (self.new ≡ object ∷ self.old) }
+        ensures unchanged { OnErr result (self.new ≡ self.old) }
+    {
+        self.items.push(object)?;
+        Ok(())
+    }
+
+    /// Puts another object at a depth below the top.
+    pub(crate) fn set(&mut self, depth: usize, object: Object)
+        requires { depth < length self.old }
+        ensures { self.new ≡ slice_set self.old depth object }
+    {
+        let place = self.items.len() - 1 - depth;
+        self.items[place] = object;
+    }
+
+    /// Takes so many objects off the top, or all where there are fewer.
+    pub(crate) fn drop_top(&mut self, count: usize)
+        ensures { self.new ≡ drop count self.old }
+    {
+        let keep = self.items.len().saturating_sub(count);
+        self.items.truncate(keep);
+    }
+
+    /// Puts an object in place of so many on top.
+    pub(crate) fn put(&mut self, count: usize, object: Object)
+        requires some { 0 < count }
+        requires there { count ≤ length self.old }
+        ensures { self.new ≡ object ∷ drop count self.old }
+    {
+        self.drop_top(count - 1);
+        self.set(0, object);
+    }
+
+    /// Takes all objects off.
+    pub(crate) fn clear(&mut self)
+        ensures { self.new ≡ [] }
+    {
+        self.items.clear();
+    }
+}

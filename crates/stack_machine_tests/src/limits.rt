@@ -1,0 +1,188 @@
+//! Types and terms have at most 1,048,576 nodes and a depth of at most 1,024, whatever command makes them.
+use crate::articles::run;
+use article_read::LineFault;
+use bridge_base::Kind;
+use stack_machine::Machine;
+use std::alloc::Global;
+use std::test::Fail;
+
+/// A text, and how often it stands.
+type Part<'a> = (u32, &'a [u8]);
+
+// The beginning of an article.
+const BEGIN: Part = (1, b"6\nversion\n");
+// The type `bool`.
+const BOOL: Part = (1, b"\"bool\"\ntypeOp\nnil\nopType\n");
+// The type on the stack goes under the key 0.
+const KEEP: Part = (1, b"0\ndef\npop\n");
+
+const KEPT: Part = (1, b"0\nref\n");
+// The type under the key 0, of size 1, becomes one of size 1,048,575.
+const GROW: Part = (
+    19,
+    b"\"->\"\ntypeOp\n0\nref\n0\nref\nnil\ncons\ncons\nopType\n0\ndef\npop\n",
+);
+// Between these, a type becomes `list` over it, or so many times that.
+const OPEN: Part = (1, b"\"list\"\ntypeOp\n");
+
+const CLOSE: Part = (1, b"nil\ncons\nopType\n");
+
+const OPEN_ALL: Part = (1023, b"\"list\"\ntypeOp\n");
+
+const CLOSE_ALL: Part = (1023, b"nil\ncons\nopType\n");
+
+const NAME: Part = (1, b"\"x\"\n");
+
+const CONST: Part = (1, b"\"c\"\nconst\n");
+
+const VAR: Part = (1, b"var\n");
+
+const VAR_TERM: Part = (1, b"var\nvarTerm\n");
+
+const CONST_TERM: Part = (1, b"constTerm\n");
+
+const ABS_TERM: Part = (1, b"absTerm\n");
+// `f : bool -> bool` goes under the key 1.
+const UNARY: Part = (
+    1,
+    b"\"f\"\nconst\n\"->\"\ntypeOp\n0\nref\n0\nref\nnil\ncons\ncons\nopType\n1\ndef\nconstTerm\n1\ndef\npop\n",
+);
+// `g : bool -> bool -> bool` goes under the key 2.
+const BINARY: Part = (
+    1,
+    b"\"g\"\nconst\n\"->\"\ntypeOp\n0\nref\n\"->\"\ntypeOp\n0\nref\n0\nref\nnil\ncons\ncons\nopType\nnil\ncons\ncons\nopType\nconstTerm\n2\ndef\npop\n",
+);
+// `p : bool` goes under the key 3.
+const ATOM: Part = (1, b"\"p\"\n0\nref\nvar\nvarTerm\n3\ndef\npop\n");
+
+const ATOM_KEPT: Part = (1, b"3\nref\n");
+// The term under the key 3 becomes `g` over it and itself: first of size 655,352, and then of 1,310,712.
+const GROW_TERM: Part = (
+    16,
+    b"2\nref\n3\nref\nappTerm\n3\nref\nappTerm\n3\ndef\npop\n",
+);
+
+const TWICE: Part = (1, b"2\nref\n3\nref\nappTerm\n3\nref\nappTerm\n");
+
+// The parts, one after another.
+fn article(alloc: Global, parts: &[Part]) -> Result<Vec<u8>, Fail> {
+    let mut text = Vec::new(alloc);
+    for (times, part) in parts {
+        for _ in 0..*times {
+            text.extend_from_slice(part)?;
+        }
+    }
+    Ok(text)
+}
+
+fn line_count(text: &[u8]) -> u64 {
+    let mut count: u64 = 0;
+    for byte in text {
+        if *byte == b'\n' {
+            count = count.saturating_add(1);
+        }
+    }
+    count
+}
+
+#[test]
+fn the_largest_and_the_deepest_are_made(rt: HostRuntime) -> Result<(), Fail> {
+    let cases: [&[Part]; 3] = [
+        &[BEGIN, BOOL, KEEP, GROW, OPEN, KEPT, CLOSE],
+        &[BEGIN, OPEN_ALL, BOOL, CLOSE_ALL],
+        &[
+            BEGIN,
+            BOOL,
+            KEEP,
+            UNARY,
+            ATOM,
+            (1020, b"1\nref\n"),
+            ATOM_KEPT,
+            (1020, b"appTerm\n"),
+        ],
+    ];
+    for (index, parts) in cases.iter().enumerate() {
+        let mut machine = Machine::new(rt.alloc())?;
+        let text = article(rt.alloc(), parts)?;
+        assert_eq!(rt;
+            run(&mut machine, rt.alloc(), &text, 4096),
+            Ok(()),
+            "case {index}"
+        );
+    }
+    Ok(())
+}
+
+// The last line of each article is refused for the limit that it passes.
+#[test]
+fn limits_are_told_at_their_line(rt: HostRuntime) -> Result<(), Fail> {
+    let cases: [(&[Part], Kind); 10] = [
+        (
+            &[BEGIN, BOOL, KEEP, GROW, OPEN, OPEN, KEPT, CLOSE, CLOSE],
+            Kind::TooLarge,
+        ),
+        (
+            &[BEGIN, OPEN, OPEN_ALL, BOOL, CLOSE_ALL, CLOSE],
+            Kind::TooDeep,
+        ),
+        (
+            &[
+                BEGIN, BOOL, KEEP, GROW, CONST, OPEN, KEPT, CLOSE, CONST_TERM,
+            ],
+            Kind::TooLarge,
+        ),
+        (
+            &[BEGIN, CONST, OPEN_ALL, BOOL, CLOSE_ALL, CONST_TERM],
+            Kind::TooDeep,
+        ),
+        (
+            &[BEGIN, BOOL, KEEP, GROW, NAME, OPEN, KEPT, CLOSE, VAR_TERM],
+            Kind::TooLarge,
+        ),
+        (
+            &[BEGIN, NAME, OPEN_ALL, BOOL, CLOSE_ALL, VAR_TERM],
+            Kind::TooDeep,
+        ),
+        (
+            &[
+                BEGIN, BOOL, KEEP, GROW, NAME, KEPT, VAR, NAME, BOOL, VAR_TERM, ABS_TERM,
+            ],
+            Kind::TooLarge,
+        ),
+        (
+            &[
+                BEGIN, NAME, OPEN_ALL, BOOL, CLOSE_ALL, VAR, NAME, BOOL, VAR_TERM, ABS_TERM,
+            ],
+            Kind::TooDeep,
+        ),
+        (
+            &[BEGIN, BOOL, KEEP, BINARY, ATOM, GROW_TERM, TWICE],
+            Kind::TooLarge,
+        ),
+        (
+            &[
+                BEGIN,
+                BOOL,
+                KEEP,
+                UNARY,
+                ATOM,
+                (1021, b"1\nref\n"),
+                ATOM_KEPT,
+                (1021, b"appTerm\n"),
+            ],
+            Kind::TooDeep,
+        ),
+    ];
+    for (index, (parts, kind)) in cases.iter().enumerate() {
+        let mut machine = Machine::new(rt.alloc())?;
+        let text = article(rt.alloc(), parts)?;
+        let line = line_count(&text);
+        let kind = *kind;
+        assert_eq!(rt;
+            run(&mut machine, rt.alloc(), &text, 4096),
+            Err(LineFault::Refused { line, kind }),
+            "case {index}"
+        );
+    }
+    Ok(())
+}
