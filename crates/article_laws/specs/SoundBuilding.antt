@@ -78,7 +78,7 @@ all-types : (symbols : List Symbol) (ts : List HolType) → AllByRecursion (Type
 all-types symbols [] h = tt
 all-types symbols (t ∷ ts) h = (h.0, all-types symbols ts h.1)
 
-count-types : (ts : List HolType) → count (types_of ts) ≡ length ts
+pub count-types : (ts : List HolType) → count (types_of ts) ≡ length ts
 count-types [] = refl
 count-types (t ∷ ts) = ap (λ k. k + 1) (count-types ts) ∙ grind arith
 

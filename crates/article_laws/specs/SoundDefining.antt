@@ -1,5 +1,5 @@
 -- The words that define symbols keep a state sound.
-use Rattle.std.proofs.Common.{◌≡◌, ℕ, zero, suc, ◌+◌, ◌<◌, List, [], ◌∷◌, ◌++◌, map, length, Bool, true, false, ◌&&◌, ◌||◌, cond, Option, None, Some, Result, Ok, slice_get, refl, sym, ap, subst, ◌∙◌, arith}
+use Rattle.std.proofs.Common.{◌≡◌, ℕ, zero, suc, ◌+◌, ◌<◌, List, [], ◌∷◌, ◌++◌, map, length, true, false, ◌&&◌, cond, Option, None, Some, Result, Ok, slice_get, refl, sym, ap, subst, ◌∙◌, arith}
 use Rattle.std.specs.Prelude.{is_some, not, nat_eq}
 use Rattle.std.specs.Option.{ok_or, option_map, option_or, option_to_list}
 use Rattle.std.specs.List.{AllByRecursion, IsAmong, filter_map, cons_option, list_all, list_any}
@@ -7,11 +7,12 @@ use Rattle.std.proofs.lemmas.List.{length-append, append_assoc}
 use Rattle.std.proofs.lemmas.List.Folds.{list_any-append}
 use Rattle.std.proofs.Math.Seq.{get_or-append_seam}
 use Rattle.std.proofs.lemmas.Bool.Decides.{Decides-eqb}
+use Rattle.std.proofs.lemmas.Option.{same_Some}
 use Rattle.hol_spec.specs.Names.{Name}
 use Rattle.hol_spec.specs.NameEquality.{name_eq}
 use Rattle.hol_laws.specs.NameEqualityLaws.{name_eq-Decides}
 use Rattle.hol_spec.specs.Lists.{is_in}
-use Rattle.hol_laws.specs.ListLaws.{All-filter}
+use Rattle.hol_laws.specs.ListLaws.{All-filter, neither}
 use Rattle.hol_spec.specs.Types.{HolType}
 use Rattle.hol_spec.specs.Primitives.{bool}
 use Rattle.hol_spec.specs.Terms.{Term, Variable, free, app, variable_eq, type_of, HasType}
@@ -24,7 +25,7 @@ use Rattle.hol_spec.specs.NewTypes.{new_type, abstraction_type, representation_t
 use Rattle.hol_spec.specs.Defining.{is_closed, has_type_variables_of}
 use Rattle.hol_spec.specs.Repeats.{no_repeats}
 use Rattle.hol_spec.specs.Equations.{Equation, equation_parts}
-use Rattle.proof_laws.specs.EquationLaws.{equation_parts-is, equation-sides, some_is}
+use Rattle.proof_laws.specs.EquationLaws.{equation_parts-is, equation-sides}
 use Rattle.hol_spec.specs.DefinitionLists.{ConstantPairs, names_of, variables_of, variable_side, of_equation, variable_equation, defining_equations, definiens, is_definition_list, definitions_in}
 use Rattle.hol_spec.specs.TypeDefinitions.{IsTypeDefinition, are_type_variables_of, first_law, second_law}
 use Rattle.hol_spec.specs.Symbols.{Symbol, defined, generic_type, is_input_constant, is_taken_constant}
@@ -35,16 +36,16 @@ use Rattle.hol_spec.specs.Taken.{TypeTaken, TermTaken, TermsTaken}
 use Rattle.proof_laws.specs.TakenTerms.{type_of-taken, sides}
 use Rattle.hol_laws.specs.Members.{All-weaker}
 use Rattle.hol_spec.specs.Measures.{type_measure, sequent_measure}
-use Rattle.hol_spec.specs.Rules.{Parameters, constants, derived, IsDefining}
+use Rattle.hol_spec.specs.Rules.{Parameters, constants, IsDefining, derived}
 use Rattle.hol_spec.specs.Rules as rule
-use Rattle.proof_laws.specs.RuleTaken.{lookup-All, list_parts}
+use Rattle.proof_laws.specs.RuleTaken.{lookup-All, list_parts, both}
 use Rattle.proof_laws.specs.RuleSequents.{predicate-typed}
 use Rattle.hol_spec.specs.Derivations.{type_definition_in}
 use Rattle.proof_laws.specs.StepsDerive.{among-front}
 use Rattle.hol_spec.specs.Proofs.{Made, symbols_of, steps_of, sequents_of, sequent_at, definitions_of}
 use Rattle.proof_laws.specs.ProofGrowth.{All-get, symbols_of-append, sequents_of-append, definitions_of-append, over-sequents}
 use Rattle.hol_spec.specs.declared.StepKind.TheVariants as by_rule
-use Rattle.article_spec.specs.State.{Object, Objects, State}
+use Rattle.article_spec.specs.State.{Object, State, Objects}
 use Rattle.article_spec.specs.State as object
 use Rattle.article_spec.specs.Operands.{as_name, as_names, as_term, as_theorem, as_constant_pairs, pop}
 use Rattle.article_spec.specs.Conditions.{demand, in_limits, typed}
@@ -122,8 +123,8 @@ record Defines (symbols : List Symbol) (p : Variable × Term) : Type 0 where
 module _ (symbols : List Symbol) where
   of_side : (l r : Term) (v : Variable) (t : Term) → variable_side l r ≡ Some (v, t) → (a : HolType) → HasType l a → HasType r a → TermTaken symbols r → Defines symbols (v, t)
   of_side (free n b) r v t e a h k taken =
-      let p : ((n, b), r) ≡ (v, t) = some_is e in
-      let same : b ≡ a = some_is h in
+      let p : ((n, b), r) ≡ (v, t) = same_Some _ _ e in
+      let same : b ≡ a = same_Some _ _ h in
       subst (Defines symbols) p (record { typed = k ∙ ap Some (sym same); taken = taken })
   of_side l r v t e a h k taken = absurd (cc)
 
@@ -143,28 +144,19 @@ module _ (symbols : List Symbol) where
       go None f rest = rest
       go (Some p) f rest = (f p.0 p.1 refl, rest)
 
--- what is not taken isn't taken after another constant is defined
-or-both : (a b : Bool) → a ≡ false → b ≡ false → (a || b) ≡ false
-or-both true b e f = absurd (cc)
-or-both false b e f = f
-
 still-new : (symbols : List Symbol) (n m : Name) (t : Term) → is_taken_constant symbols n ≡ false → name_eq n m ≡ false → is_taken_constant (symbols ++ defined (Definition.constant m t) ∷ []) n ≡ false
 still-new symbols n m t new other =
     let parts = or-neither (is_some (generic_type symbols n)) (list_any (is_input_constant n) symbols) new in
-    or-both _ _
+    neither _ _
     (ap is_some (generic_type-new symbols (defined (Definition.constant m t) ∷ []) n parts.0 ∙ ap (λ b. option_or (cond b (type_of t) None) None) other))
-    (list_any-append (is_input_constant n) symbols (defined (Definition.constant m t) ∷ []) ∙ or-both _ _ parts.1 refl)
+    (list_any-append (is_input_constant n) symbols (defined (Definition.constant m t) ∷ []) ∙ neither _ _ parts.1 refl)
 
 all-still-new : (symbols : List Symbol) (m : Name) (t : Term) (ns : List Name) → list_any (is_taken_constant symbols) ns ≡ false → is_in name_eq m ns ≡ false → list_any (is_taken_constant (symbols ++ defined (Definition.constant m t) ∷ [])) ns ≡ false
 all-still-new symbols m t [] e f = refl
 all-still-new symbols m t (n ∷ ns) e f =
     let a = or-neither (is_taken_constant symbols n) (list_any (is_taken_constant symbols) ns) e in
     let b = or-neither (name_eq m n) (is_in name_eq m ns) f in
-    or-both _ _ (still-new symbols n m t a.0 (symmetric name_eq name_eq-Decides m n b.0)) (all-still-new symbols m t ns a.1 b.1)
-
-both : (a b : Bool) → (a && b) ≡ true → (a ≡ true) × (b ≡ true)
-both true b e = (refl, e)
-both false b e = absurd (cc)
+    neither _ _ (still-new symbols n m t a.0 (symmetric name_eq name_eq-Decides m n b.0)) (all-still-new symbols m t ns a.1 b.1)
 
 -- the constants of a list are taken one after another
 listed-taken : (d : Variable → Option Term) → ((v : Variable) (t : Term) → d v ≡ Some t → IsDefining v.1 t) → (ps : ConstantPairs) (m : List Made) → ((v : Variable) (t : Term) → d v ≡ Some t → TermTaken (symbols_of m) t)
@@ -242,7 +234,7 @@ define_const_list-sound s t g e =
 
 -- defineTypeOp
 application-is : (p f t : Term) → application_parts p ≡ Some (f, t) → p ≡ app f t
-application-is (app g u) f t e = let q : (g, u) ≡ (f, t) = some_is e in ap (λ (x : Term × Term). app x.0 x.1) q
+application-is (app g u) f t e = let q : (g, u) ≡ (f, t) = same_Some _ _ e in ap (λ (x : Term × Term). app x.0 x.1) q
 application-is p f t e = absurd (cc)
 
 no-hypotheses : (hs : List Term) → nat_eq (length hs) 0 ≡ true → hs ≡ []
@@ -257,7 +249,7 @@ fits-is : (variables : List Name) (o : Option (Term × Term)) (f u : Term) (x : 
 fits-is variables None f u x e is = absurd (cc)
 fits-is variables (Some parts) f u x e is =
     let a = passed (demand (is_closed parts.0) NotClosed) _ x e in
-    let same : parts ≡ (f, u) = some_is is in
+    let same : parts ≡ (f, u) = same_Some _ _ is in
     subst (λ (q : Term × Term). PredicateFits variables q.0) same (record { closed = demanded _ NotClosed a.0 a.1; names = demanded _ BadTypeVars x a.2 })
 
 new-names : (symbols : List Symbol) (names : TypeNames) (x : Unit {0}) → are_new_names symbols names ≡ Ok x → AreNew symbols names

@@ -3,6 +3,7 @@ use Rattle.std.proofs.Common.{◌≡◌, ℕ, ◌<◌, List, [], ◌∷◌, leng
 use Rattle.std.specs.Prelude.{not}
 use Rattle.std.specs.Option.{ok_or}
 use Rattle.std.specs.List.{AllByRecursion, IsAmong, list_all}
+use Rattle.std.proofs.lemmas.Option.{same_Some}
 use Rattle.hol_spec.specs.Types.{HolType}
 use Rattle.hol_laws.specs.TypeLaws.{type_eq-Decides}
 use Rattle.hol_spec.specs.Primitives.{bool, function}
@@ -13,11 +14,11 @@ use Rattle.hol_laws.specs.TermSubstitutionLaws.{application_type-is}
 use Rattle.hol_spec.specs.Sequents.{Sequent, IsSequent}
 use Rattle.bridge_base.specs.declared.faults.Kind.TheVariants.{NotBool, NotEquation, TypeMismatch, NotAlike, VarInHyps, NotRedex, BadSubst}
 use Rattle.hol_spec.specs.Equations.{Equation, equation_parts}
-use Rattle.proof_laws.specs.EquationLaws.{equation_parts-is, equation-sides, some_is}
+use Rattle.proof_laws.specs.EquationLaws.{equation_parts-is, equation-sides}
 use Rattle.hol_spec.specs.Taken.{TypeTaken, TermTaken, ParametersTaken}
 use Rattle.hol_spec.specs.Derivations.{definitions_used, infers}
 use Rattle.hol_laws.specs.Members.{All-weaker}
-use Rattle.hol_spec.specs.Rules.{Parameters, nothing, variable, substitution, derived, joined, removed, abstraction, is_free_in, Rule}
+use Rattle.hol_spec.specs.Rules.{Parameters, derived, is_free_in, Rule, nothing, variable, substitution, joined, removed, abstraction}
 use Rattle.hol_spec.specs.Rules as rule
 use Rattle.hol_spec.specs.Proofs.{Step, symbols_of, steps_of, sequents_of, sequent_at, definitions_of, ArePremises}
 use Rattle.proof_laws.specs.ProofGrowth.{All-get, proof-sequents}
@@ -117,7 +118,7 @@ eq_mp-sound s t g e =
     let same : two.conclusion ≡ q.0.left = (term_eq-Decides two.conclusion q.0.left).0 (demanded (term_eq two.conclusion q.0.left) NotAlike alike.0 alike.1) in
     let left_type : HasType q.0.left q.0.ty = (equation-sides q.0.ty q.0.left q.0.right one.conclusion is (said s i.0.0 g k.step).conclusion).left in
     let truth : HasType q.0.left bool = subst (λ u. HasType u bool) same (said s j.0.0 g h.step).conclusion in
-    let ty : q.0.ty ≡ bool = some_is (sym left_type ∙ truth) in
+    let ty : q.0.ty ≡ bool = same_Some _ _ (sym left_type ∙ truth) in
     on_two s t g i.0.1 k.rest _ refl i.0.0 j.0.0 k.step h.step refl (rule.Rule.eq_mp (is ∙ ap (λ a. equation a q.0.left q.0.right) ty) same refl) refl (tt {0}) alike.2
 
 pub abs_thm-sound : (s t : State) → IsSound s → abs_thm s ≡ Ok t → IsSound t
@@ -143,8 +144,8 @@ app_thm-sound s t g e =
     let h = one_popped s s.stack j.0 g.stack j.1 in
     let k = one_popped s j.0.1 i.0 h.rest i.1 in
     let parts = application_type-is (Some f.0.ty) (Some x.0.ty) b.0 (found (application_type (Some f.0.ty) (Some x.0.ty)) TypeMismatch b.0 b.1) in
-    let functions : f.0.ty ≡ function parts.0 b.0 = some_is parts.1.0 in
-    let arguments : x.0.ty ≡ parts.0 = some_is parts.1.1 in
+    let functions : f.0.ty ≡ function parts.0 b.0 = same_Some _ _ parts.1.0 in
+    let arguments : x.0.ty ≡ parts.0 = same_Some _ _ parts.1.1 in
     on_two s t g i.0.1 k.rest _ refl i.0.0 j.0.0 k.step h.step refl
     (rule.Rule.app_thm (equation_is one f.0 f.1 ∙ ap (λ a. equation a f.0.left f.0.right) functions) (equation_is two x.0 x.1 ∙ ap (λ a. equation a x.0.left x.0.right) arguments) refl) refl (tt {0}) b.2
 
@@ -157,7 +158,7 @@ deduct_antisym-sound s t g e =
     on_two s t g i.0.1 k.rest _ refl i.0.0 j.0.0 k.step h.step refl (rule.Rule.deduct_antisym refl) refl (tt {0}) i.2
 
 contracted-rule : (t u : Term) (a : HolType) → contracted t ≡ Some u → HasType t a → Rule by_rule.BetaConv [] (Parameters.term t) (derived [] (equation a t u))
-contracted-rule (app (lam b c) x) u a e h = rule.Rule.beta_conv h (ap (λ w. derived [] (equation a (app (lam b c) x) w)) (sym (some_is e)))
+contracted-rule (app (lam b c) x) u a e h = rule.Rule.beta_conv h (ap (λ w. derived [] (equation a (app (lam b c) x) w)) (sym (same_Some _ _ e)))
 contracted-rule t u a e h = absurd (cc)
 
 pub beta_conv-sound : (s t : State) → IsSound s → beta_conv s ≡ Ok t → IsSound t
@@ -192,7 +193,7 @@ trans-sound s t g e =
     let second = equation_is two q.0 q.1 in
     let middle : HasType p.0.right p.0.ty = (equation-sides p.0.ty p.0.left p.0.right one.conclusion first (said s i.0.0 g k.step).conclusion).right in
     let again : HasType q.0.left q.0.ty = (equation-sides q.0.ty q.0.left q.0.right two.conclusion second (said s j.0.0 g h.step).conclusion).left in
-    let ty : q.0.ty ≡ p.0.ty = some_is (sym again ∙ ap type_of same ∙ middle) in
+    let ty : q.0.ty ≡ p.0.ty = same_Some _ _ (sym again ∙ ap type_of same ∙ middle) in
     on_two s t g i.0.1 k.rest _ refl i.0.0 j.0.0 k.step h.step refl
     (rule.Rule.trans first (second ∙ (λ n. equation (ty n) (same n) q.0.right)) refl) refl (tt {0}) alike.2
 

@@ -4,8 +4,6 @@ use Rattle.std.specs.Prelude.{is_some, nat_eq}
 use Rattle.std.specs.List.{list_any}
 use Rattle.std.proofs.lemmas.Bool.Decides.{Decides-eqb}
 use Rattle.hol_spec.specs.Names.{Name}
-use Rattle.hol_spec.specs.NameEquality.{name_eq}
-use Rattle.hol_laws.specs.NameEqualityLaws.{name_eq-Decides}
 use Rattle.hol_spec.specs.Types.{HolType}
 use Rattle.hol_spec.specs.Substitution.{is_instance}
 use Rattle.hol_laws.specs.SubstitutionLaws.{is_instance-Decides}
@@ -15,7 +13,7 @@ use Rattle.hol_spec.specs.Taking.{Takes}
 use Rattle.hol_spec.specs.Taking as taking
 use Rattle.hol_spec.specs.Taken.{OperatorTaken, ConstantTaken}
 use Rattle.hol_spec.specs.Taken as taken
-use Rattle.proof_laws.specs.SymbolGrowth.{any-left, any-right, or-neither, operator-more, constant-more}
+use Rattle.proof_laws.specs.SymbolGrowth.{any-left, any-right, or-neither, operator-more, constant-more, itself}
 use Rattle.hol_spec.specs.Proofs.{Made, symbols_of}
 use Rattle.proof_laws.specs.ProofGrowth.{symbols_of-append}
 use Rattle.article_spec.specs.Conditions.{arity_fits, generic_fits}
@@ -28,9 +26,6 @@ symbols_of-taken made xs = symbols_of-append made (map Made.symbol xs) ∙ ap (�
     all : (xs : List Symbol) → symbols_of (map Made.symbol xs) ≡ xs
     all [] = refl
     all (x ∷ xs) = ap (λ ys. x ∷ ys) (all xs)
-
-itself : (n : Name) → name_eq n n ≡ true
-itself n = (name_eq-Decides n n).1 refl
 
 pub operator-new : (made : List Made) (n : Name) (k : ℕ) → AreTakenAfter made (new_operator (symbols_of made) n k)
 operator-new made n k = go (is_some (operator_arity (symbols_of made) n) || list_any (is_input_operator n k) (symbols_of made)) refl

@@ -24,7 +24,7 @@ use Rattle.hol_spec.specs.Rules.{Rule}
 use Rattle.proof_laws.specs.RuleTaken.{rule-taken}
 use Rattle.hol_spec.specs.Derivations.{definitions_used, infers}
 use Rattle.hol_laws.specs.Members.{All-weaker}
-use Rattle.hol_spec.specs.Proofs.{Made, Step, symbols_of, steps_of, sequents_of, sequent_at, definitions_of, ArePremises, IsStep, IsMade}
+use Rattle.hol_spec.specs.Proofs.{Made, Step, symbols_of, steps_of, sequents_of, sequent_at, definitions_of, ArePremises, IsMade, IsStep}
 use Rattle.hol_spec.specs.Proofs as made
 use Rattle.proof_laws.specs.ProofGrowth.{symbols_of-append, steps_of-append, All-among, premises-All, over-sequents, proof-definitions}
 use Rattle.hol_spec.specs.Over.{IsMadeOver}
@@ -62,7 +62,7 @@ pub list_all-All : {A : Type 0} (p : A → Bool) (P : A → Type 0) → ((x : A)
 list_all-All p P f [] e = tt
 list_all-All p P f (x ∷ xs) e = let h = both (p x) (list_all p xs) e in (f x h.0, list_all-All p P f xs h.1)
 
-at_most : (m n : ℕ) → nat_le m n ≡ true → m ≤ n
+pub at_most : (m n : ℕ) → nat_le m n ≡ true → m ≤ n
 at_most m n e = grind (arith, e)
 
 -- the limits

@@ -113,7 +113,7 @@ pub record Keeps (by : Obeys) (P : State → Type 0) : Type 0 where
   pub command : (s t : State) (c : Command) → P s → by.command s c ≡ Ok t → P t
   pub end : (s t : State) → P s → by.end s ≡ Ok t → P t
 
-on_line : (line : ℕ) (a : Result State Kind) (t : State) → at_line line a ≡ Ok t → a ≡ Ok t
+pub on_line : (line : ℕ) (a : Result State Kind) (t : State) → at_line line a ≡ Ok t → a ≡ Ok t
 on_line line (Ok s) t e = cc
 on_line line (Err k) t e = absurd (cc)
 

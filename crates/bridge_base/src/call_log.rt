@@ -1,3 +1,4 @@
+//! Calls counted, of which the listed ones fail.
 ghost use Rattle.std.specs.Prelude.{◌≡◌, ◌≤◌, OnOk, OnErr, is_err};
 ghost use Rattle.bridge_base.specs.Outside.{next_count};
 ghost use Rattle.bridge_base.specs.Calls.{is_listed, passed, failed};

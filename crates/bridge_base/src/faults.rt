@@ -1,3 +1,4 @@
+//! Why an article is refused.
 ghost use Rattle.std.specs.Prelude.{◌≡◌};
 ghost use Rattle.bridge_base.specs.Kinds.{kind_number, kind_name};
 

@@ -1,3 +1,4 @@
+//! Files in memory by name, and a place in the one begun.
 ghost use Rattle.std.specs.Prelude.{◌≡◌, ◌≤◌, ◌++◌, [], Some, None, ℕ, drop, take, length, min, map, unwrap_or, is_some};
 ghost use Rattle.std.specs.Map.{lookup};
 ghost use Rattle.std.specs.Str.{bytes_eq};

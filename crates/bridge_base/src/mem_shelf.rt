@@ -1,3 +1,4 @@
+//! A shelf in memory that fails where it is told to.
 ghost use Rattle.std.specs.Prelude.{◌≡◌, ◌<◌, ◌++◌, [], IsTrue, IfOk, OnOk, OnErr, is_ok, is_err, take, drop, length};
 ghost use Rattle.bridge_base.specs.Outside.{HasCause};
 ghost use Rattle.bridge_base.specs.Calls.{is_listed};

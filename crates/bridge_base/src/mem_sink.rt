@@ -1,3 +1,4 @@
+//! A sink in memory that fails where it is told to.
 ghost use Rattle.std.specs.Prelude.{◌≡◌, IsTrue, IsErr, IfOk, OnOk, OnErr, length, if◌then◌else◌};
 ghost use Rattle.bridge_base.specs.Outside.{HasCause};
 ghost use Rattle.bridge_base.specs.Calls.{is_listed};

@@ -1,3 +1,4 @@
+//! The outside: shelves that give files, and sinks that take bytes.
 ghost use Rattle.std.specs.Prelude.{◌≡◌, ◌<◌, ◌≤◌, ℕ, List, [], Option, IfOk, IfSome, OnOk, OnErr, length, take, option_map};
 ghost use Rattle.bridge_base.specs.Outside.{HasCause, Files, file, Gains, GainsFront, Gives};
 

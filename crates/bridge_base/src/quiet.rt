@@ -1,3 +1,4 @@
+//! A shelf in memory and a sink, which never fail.
 ghost use Rattle.std.specs.Prelude.{◌≡◌, ◌++◌, [], IsOk, IfOk, Ok, take, drop, length, min};
 ghost use Rattle.bridge_base.specs.Opened.{as_files, begun, advanced};
 

@@ -1,3 +1,4 @@
+//! The files of the file system as a shelf, and its streams as sinks.
 ghost use Rattle.std.specs.Prelude.{◌≡◌, ◌≤◌, ◌<◌, ℕ, true, false, Ok, IfOk, OnOk, OnErr, length};
 ghost use Rattle.bridge_base.specs.Outside.{next_count, HasCause};
 

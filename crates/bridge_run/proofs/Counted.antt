@@ -3,9 +3,10 @@ use Rattle.std.proofs.Common.{rules, ◌≡◌, ℕ, zero, suc, ◌+◌, ◌-◌
 use Rattle.std.specs.Prelude.{slice_get, slice_index_or}
 use Rattle.std.specs.Option.{option_map_or}
 use Rattle.std.proofs.lemmas.List.{reverse-append}
+use Rattle.std.proofs.Math.Path.{ap₂}
 use Rattle.lp_spec.specs.Trees.{Tree, SortType, SortKind, Var, Sym, App, Lam, Pi, size, lift, put_all, put_all_var}
 use Rattle.lp_spec.specs.Weight.{spread_after}
-use Rattle.lp_binding.specs.Composition.{ap2, lift_is, put_all_at_is, put_all_var-high}
+use Rattle.lp_binding.specs.Composition.{lift_is, put_all_at_is, put_all_var-high}
 use Rattle.lp_spec.specs.Substitution.{up, ren, ups, sub}
 use Rattle.bridge_run.specs.declared.first.weight.Sizes.{None, the_lemmas}
 use Rattle.bridge_run.specs.Sizes.{capped, sizes_of, capped_sizes, counted, counted_spread}
@@ -19,9 +20,9 @@ size-ren r SortType = refl
 size-ren r SortKind = refl
 size-ren r (Var n) = refl
 size-ren r (Sym s) = refl
-size-ren r (App f x) = ap2 (λ a b. 1 + a + b) (size-ren r f) (size-ren r x)
-size-ren r (Lam a b) = ap2 (λ m n. 1 + m + n) (size-ren r a) (size-ren (up r) b)
-size-ren r (Pi a b) = ap2 (λ m n. 1 + m + n) (size-ren r a) (size-ren (up r) b)
+size-ren r (App f x) = ap₂ (λ a b. 1 + a + b) (size-ren r f) (size-ren r x)
+size-ren r (Lam a b) = ap₂ (λ m n. 1 + m + n) (size-ren r a) (size-ren (up r) b)
+size-ren r (Pi a b) = ap₂ (λ m n. 1 + m + n) (size-ren r a) (size-ren (up r) b)
 
 size-lift : (k : ℕ) (t : Tree) → size (lift k t) ≡ size t
 size-lift k t = ap size (lift_is k t) ∙ size-ren (λ n. n + k) t

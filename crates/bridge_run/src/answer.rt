@@ -1,3 +1,4 @@
+//! What a run of an article comes to.
 ghost use Rattle.std.specs.Prelude.{◌≡◌};
 ghost use Rattle.bridge_run.specs.AnswerTexts.{status_of, text_of};
 

@@ -1,3 +1,4 @@
+//! An answer as texts to two sinks, and as a status.
 ghost use Rattle.std.specs.Prelude.{◌≡◌, ◌<◌, ◌≤◌, length, map, OnOk, OnErr};
 ghost use Rattle.std.specs.List.{flat_map};
 ghost use Rattle.bridge_base.specs.Outside.{HasCause, Gains, GainsFront};

@@ -1,3 +1,4 @@
+//! The program as one call.
 ghost use Rattle.std.specs.Prelude.{◌≡◌, Some, length};
 ghost use Rattle.bridge_spec.specs.Forms.{translate};
 ghost use Rattle.bridge_spec.specs.Calls.{call, shelved, sunk, form_in, names_in};

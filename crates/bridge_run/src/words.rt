@@ -1,3 +1,4 @@
+//! The words of a command line.
 ghost use Rattle.std.specs.Prelude.{◌≡◌, Some, None, MatchOption, length};
 ghost use Rattle.bridge_spec.specs.Forms.{translate, is_file};
 ghost use Rattle.bridge_spec.specs.Calls.{form_in, names_in};

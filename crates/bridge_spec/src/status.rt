@@ -1,3 +1,4 @@
+//! How a run of the program went.
 ghost use Rattle.std.specs.Prelude.{◌≡◌};
 ghost use Rattle.bridge_spec.specs.Texts.{status_number};
 

@@ -1,3 +1,4 @@
+//! Whole runs of the program over files in memory.
 ghost use Rattle.std.specs.Prelude.{◌<◌};
 
 use bridge_base::{Kind, MemShelf, MemSink};

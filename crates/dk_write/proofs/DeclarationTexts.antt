@@ -2,12 +2,12 @@
 use Rattle.std.proofs.Common.{◌≡◌, ℕ, suc, ◌+◌, ◌<◌, ◌≤◌, refl, sym, ap, subst, ◌∙◌, List, [], ◌∷◌, ◌++◌, Option, Some, append_assoc, codes, length, map, drop, drop-cons, get_or, add-one, zero}
 use Rattle.std.specs.Prelude.{option_map, slice_get}
 use Rattle.std.proofs.lemmas.List.{append-nil, drop_all}
+use Rattle.std.proofs.lemmas.Option.{same_Some}
 use Rattle.lp_spec.specs.Trees.{Tree}
 use Rattle.lp_spec.specs.Modules.{Declaration}
 use Rattle.lp_spec.specs.Text.{opening, tree_text, body_text, declaration_text, declarations_text}
 use Rattle.lp_term.specs.declared.LpId.{LpId}
 use Rattle.lp_term.specs.Tables.{tree_at}
-use Rattle.lp_term.specs.TableLaws.{some_is}
 use Rattle.holide_sig.specs.declared.decls.Decl.{Decl}
 use Rattle.dk_write.specs.Shallow.{IsShallow, AreShallow}
 
@@ -26,7 +26,7 @@ body_parts m trees body id e = ap (λ b. body_text m (option_map (λ i. tree_at 
 
 drop_at : {X : Type 0} (xs : List X) (i : ℕ) (x : X) → slice_get xs i ≡ Some x → drop i xs ≡ x ∷ drop (i + 1) xs
 drop_at [] i x e = absurd (cc)
-drop_at (y ∷ ys) zero x e = ap (λ z. z ∷ ys) (some_is e)
+drop_at (y ∷ ys) zero x e = ap (λ z. z ∷ ys) (same_Some _ _ e)
 drop_at (y ∷ ys) (suc i) x e = rw add-one (drop_at ys i x e ∙ rw add-one refl)
 
 -- the line of the next declaration, and those of the rest
@@ -39,7 +39,7 @@ next_line m ds bs i b d e h f =
 
 pub slice_get-map : {X Y : Type 0} (f : X → Y) (xs : List X) (i : ℕ) (x : X) → slice_get xs i ≡ Some x → slice_get (map f xs) i ≡ Some (f x)
 slice_get-map f [] i x e = absurd (cc)
-slice_get-map f (y ∷ ys) zero x e = ap Some (ap f (some_is e))
+slice_get-map f (y ∷ ys) zero x e = ap Some (ap f (same_Some _ _ e))
 slice_get-map f (y ∷ ys) (suc i) x e = slice_get-map f ys i x e
 
 -- where the bounds are at their end
@@ -52,5 +52,5 @@ no_line m ds bs i h = ap (declarations_text m (drop i ds)) (drop_all i bs h) ∙
 
 pub AreShallow-slice_get : (ts : List Tree) (ds : List Decl) (i : ℕ) (d : Decl) → AreShallow ts ds → slice_get ds i ≡ Some d → IsShallow ts d
 AreShallow-slice_get ts [] i d h e = absurd (cc)
-AreShallow-slice_get ts (x ∷ xs) zero d h e = subst (IsShallow ts) (some_is e) h.0
+AreShallow-slice_get ts (x ∷ xs) zero d h e = subst (IsShallow ts) (same_Some _ _ e) h.0
 AreShallow-slice_get ts (x ∷ xs) (suc i) d h e = AreShallow-slice_get ts xs i d h.1 e

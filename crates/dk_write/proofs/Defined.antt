@@ -1,5 +1,5 @@
 -- What a test's definitions and theorems ask of a module.
-use Rattle.std.proofs.Common.{◌≡◌, ℕ, ◌≤◌, ◌-◌, ◌^◌, min, refl, sym, subst, arith, List, [], ◌∷◌, ◌++◌, length, Option, None, Some, Result, Ok, Err, OnOk}
+use Rattle.std.proofs.Common.{◌≡◌, ℕ, ◌≤◌, ◌-◌, ◌^◌, min, refl, sym, subst, arith, List, [], ◌∷◌, ◌++◌, length, Option, None, Some}
 use Rattle.std.specs.Prelude.{false, IsFalse}
 use Rattle.std.specs.Option.{is_some}
 use Rattle.lp_spec.specs.declared.form.Form.TheVariants.{Def, Thm}
@@ -61,10 +61,6 @@ AreShallow-Keeps k (d ∷ ds) h s = (
 pub AreShallow-push : (ts : List Tree) (ds : List Decl) (d : Decl) → AreShallow ts ds → IsShallow ts d → AreShallow ts (ds ++ d ∷ [])
 AreShallow-push ts [] d h s = (s, tt)
 AreShallow-push ts (x ∷ xs) d h s = (h.0, AreShallow-push ts xs d h.1 s)
-
-pub on_ok : {E P Q : Type 0} (r : Result (Unit {0}) E) → (P → Q) → OnOk r P → OnOk r Q
-on_ok (Ok u) f p = f p
-on_ok (Err e) f p = tt
 
 pub pushed_shallow : (ts us : List Tree) (ds es : List Decl) (d : Decl) → us ≡ ts → AreShallow ts ds → IsShallow ts d → es ≡ ds ++ d ∷ [] → AreShallow us es
 pushed_shallow ts us ds es d e h s f = subst (λ l. AreShallow l es) (sym e) (subst (AreShallow ts) (sym f) (AreShallow-push ts ds d h s))

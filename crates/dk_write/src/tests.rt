@@ -1,3 +1,4 @@
+//! The text of modules that are made for it.
 ghost use Rattle.std.specs.Prelude.{◌≡◌, ◌<◌, ◌≤◌, ◌+◌, ◌++◌, ◌∷◌, [], length, IsFalse, IsOk, IfOk, IfSome, OnOk};
 ghost use Rattle.std.specs.Bool.{OnTrue};
 ghost use Rattle.lp_spec.specs.Trees.{depth as depth_of, loose};

@@ -1,13 +1,12 @@
 -- The body of an abstraction that was made of a term.
 use Rattle.std.proofs.Common.{◌⊎◌, inl, inr, ◌≡◌, ℕ, ◌<◌, ◌≤◌, refl, sym, ap, ◌∙◌, subst, [], ◌∷◌, length, Option, Some, None, get_or}
 use Rattle.std.specs.Prelude.{IsSome, slice_get, unwrap_or}
-use Rattle.std.proofs.lemmas.Option.{slice_get_cases}
+use Rattle.std.proofs.lemmas.Option.{slice_get_cases, same_Some}
 use Rattle.hol_spec.specs.Names.{Name}
 use Rattle.hol_spec.specs.Types.{HolType}
 use Rattle.hol_spec.specs.Terms.{Term, bound, lam, IsTerm, HasType, type_of, type_under}
 use Rattle.hol_spec.specs.TermBinding.{close}
 use Rattle.hol_laws.specs.TermTyping.{type_under-close_at}
-use Rattle.hol_type.specs.TableLaws.{some_is}
 use Rattle.hol_term.specs.Tables.{Trees, term_at, Holds, Keeps, IsBodyFor}
 use Rattle.hol_term.specs.TableLaws.{term_in-Stays}
 
@@ -31,7 +30,7 @@ known_typed trees id a h = go (slice_get_cases trees.terms id).1
 pub body_fits : (old new : Trees) (body arg made id : ℕ) (name : Name) (a c : HolType) → Keeps old new → IsTerm (term_at old id) → HasType (term_at old arg) a → Holds new made (lam a (close (name, a) (term_at old id))) → Holds new made (lam c (term_at new body)) → IsBodyFor new body arg
 body_fits old new body arg made id name a c k it typed h v =
     let b = its_type (term_at old id) it in
-    let e : term_at new body ≡ close (name, a) (term_at old id) = (let l : lam c (term_at new body) ≡ lam a (close (name, a) (term_at old id)) = some_is (sym v ∙ h) in cc) in (
+    let e : term_at new body ≡ close (name, a) (term_at old id) = (let l : lam c (term_at new body) ≡ lam a (close (name, a) (term_at old id)) = same_Some _ _ (sym v ∙ h) in cc) in (
       a,
       (
         b.0,

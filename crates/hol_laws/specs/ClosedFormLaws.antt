@@ -3,6 +3,7 @@ use Rattle.std.proofs.Common.{◌≡◌, ℕ, zero, suc, ◌<◌, List, [], ◌�
 use Rattle.std.proofs.lemmas.List.{get_or-map}
 use Rattle.std.specs.Bool.{Decides}
 use Rattle.std.specs.List.{AllByRecursion, IsDistinct, flat_map, position_or_len}
+use Rattle.std.proofs.Math.Path.{ap₂}
 use Rattle.hol_spec.specs.Names.{Name}
 use Rattle.hol_spec.specs.NameEquality.{name_eq}
 use Rattle.hol_laws.specs.NameEqualityLaws.{name_eq-Decides}
@@ -12,7 +13,6 @@ use Rattle.hol_spec.specs.Types.{HolType, HolTypes, variable_places, variable_pl
 use Rattle.hol_spec.specs.Terms as term
 use Rattle.hol_spec.specs.Terms.{Term, Variable, variable_eq, type_variable_places, free_places}
 use Rattle.hol_laws.specs.TermLaws.{variable_eq-Decides}
-use Rattle.hol_laws.specs.TermRenamings.{ap2}
 use Rattle.hol_spec.specs.Sequents.{Sequent, IsSequent, terms_of, type_variables_of, free_variables_of}
 use Rattle.hol_spec.specs.Limits.{SequentWithin}
 use Rattle.hol_spec.specs.ClosedForm.{ClosedType, ClosedTypes, ClosedTerm, ClosedSequent, close_type, close_types, close_term, closed_form}
@@ -89,7 +89,7 @@ module _ (r : Name → Name) (ns : List Name) (one : (m n : Name) → IsIn ns m 
     close_types-renamed : (ts : HolTypes) → AllByRecursion (IsIn ns) (variable_places_of_all ts) → close_types (map r ns) (renamed_types r ts) ≡ close_types ns ts
     close_types-renamed type.HolTypes.none h = refl
     close_types-renamed (type.HolTypes.more t ts) h =
-        ap2 ClosedTypes.more (close_type-renamed t (All-left _ (variable_places t) (variable_places_of_all ts) h)) (close_types-renamed ts (All-right _ (variable_places t) (variable_places_of_all ts) h))
+        ap₂ ClosedTypes.more (close_type-renamed t (All-left _ (variable_places t) (variable_places_of_all ts) h)) (close_types-renamed ts (All-right _ (variable_places t) (variable_places_of_all ts) h))
 
   module _ (q : Variable → Name) (vs : List Variable) (other : (v w : Variable) → IsIn vs v → IsIn vs w → renamed_variable r q v ≡ renamed_variable r q w → v ≡ w) where
     close_term-renamed : (t : Term) → AllByRecursion (IsIn ns) (type_variable_places t) → AllByRecursion (IsIn vs) (free_places t)
@@ -100,11 +100,11 @@ module _ (r : Name → Name) (ns : List Name) (one : (m n : Name) → IsIn ns m 
     close_term-renamed (term.Term.bound i) h k = refl
     close_term-renamed (term.Term.constant n t) h k = ap (ClosedTerm.constant n) (close_type-renamed t h)
     close_term-renamed (term.Term.app f x) h k =
-        ap2 ClosedTerm.app
+        ap₂ ClosedTerm.app
         (close_term-renamed f (All-left _ (type_variable_places f) (type_variable_places x) h) (All-left _ (free_places f) (free_places x) k))
         (close_term-renamed x (All-right _ (type_variable_places f) (type_variable_places x) h) (All-right _ (free_places f) (free_places x) k))
     close_term-renamed (term.Term.lam t b) h k =
-        ap2 ClosedTerm.lam (close_type-renamed t (All-left _ (variable_places t) (type_variable_places b) h)) (close_term-renamed b (All-right _ (variable_places t) (type_variable_places b) h) k)
+        ap₂ ClosedTerm.lam (close_type-renamed t (All-left _ (variable_places t) (type_variable_places b) h)) (close_term-renamed b (All-right _ (variable_places t) (type_variable_places b) h) k)
 
 module _ (r : Name → Name) (q : Variable → Name) (s : Sequent)
     (one : (m n : Name) → IsIn (type_variables_of s) m → IsIn (type_variables_of s) n → r m ≡ r n → m ≡ n)
@@ -152,7 +152,7 @@ module _ (ns ns' : List Name) where
     type-taken (type.HolType.operator m ts) (type.HolType.operator n us) h e =
         let f : m ≡ n = cc in
         let g : close_types ns ts ≡ close_types ns' us = cc in
-        ap2 type.HolType.operator f (types-taken ts us h g)
+        ap₂ type.HolType.operator f (types-taken ts us h g)
 
     types-taken : (ts us : HolTypes) → AllByRecursion (IsIn ns') (variable_places_of_all us) → close_types ns ts ≡ close_types ns' us → renamed_types name_of ts ≡ us
     types-taken type.HolTypes.none type.HolTypes.none h e = refl
@@ -161,7 +161,7 @@ module _ (ns ns' : List Name) where
     types-taken (type.HolTypes.more t ts) (type.HolTypes.more u us) h e =
         let f : close_type ns t ≡ close_type ns' u = cc in
         let g : close_types ns ts ≡ close_types ns' us = cc in
-        ap2 type.HolTypes.more (type-taken t u (All-left _ (variable_places u) (variable_places_of_all us) h) f) (types-taken ts us (All-right _ (variable_places u) (variable_places_of_all us) h) g)
+        ap₂ type.HolTypes.more (type-taken t u (All-left _ (variable_places u) (variable_places_of_all us) h) f) (types-taken ts us (All-right _ (variable_places u) (variable_places_of_all us) h) g)
 
   -- one to one
   name_of-apart : length ns ≡ length ns' → IsDistinct name_eq ns' → (m n : Name) → IsIn ns m → IsIn ns n → name_of m ≡ name_of n → m ≡ n
@@ -224,17 +224,17 @@ module _ (ns ns' : List Name) where
     term-taken (term.Term.constant m t) (term.Term.constant n u) o h k e =
         let a : m ≡ n = cc in
         let b : close_type ns t ≡ close_type ns' u = cc in
-        ap2 term.Term.constant a (type-taken t u h b)
+        ap₂ term.Term.constant a (type-taken t u h b)
     term-taken (term.Term.app t x) (term.Term.app u y) o h k e =
         let a : close_term ns vs t ≡ close_term ns' vs' u = cc in
         let b : close_term ns vs x ≡ close_term ns' vs' y = cc in
-        ap2 term.Term.app
+        ap₂ term.Term.app
         (term-taken t u (All-left _ (free_places t) (free_places x) o) (All-left _ (type_variable_places u) (type_variable_places y) h) (All-left _ (free_places u) (free_places y) k) a)
         (term-taken x y (All-right _ (free_places t) (free_places x) o) (All-right _ (type_variable_places u) (type_variable_places y) h) (All-right _ (free_places u) (free_places y) k) b)
     term-taken (term.Term.lam t x) (term.Term.lam u y) o h k e =
         let a : close_type ns t ≡ close_type ns' u = cc in
         let b : close_term ns vs x ≡ close_term ns' vs' y = cc in
-        ap2 term.Term.lam (type-taken t u (All-left _ (variable_places u) (type_variable_places y) h) a) (term-taken x y o (All-right _ (variable_places u) (type_variable_places y) h) k b)
+        ap₂ term.Term.lam (type-taken t u (All-left _ (variable_places u) (type_variable_places y) h) a) (term-taken x y o (All-right _ (variable_places u) (type_variable_places y) h) k b)
     term-taken t u o h k e = absurd (cc)
 
     terms-taken_in_order : (ts us : List Term) → AllByRecursion (IsOver ns vs) ts → AllByRecursion (IsOver ns' vs') us
@@ -245,7 +245,7 @@ module _ (ns ns' : List Name) where
     terms-taken_in_order (t ∷ ts) (u ∷ us) o p e =
         let a : close_term ns vs t ≡ close_term ns' vs' u = cc in
         let b : map (close_term ns vs) ts ≡ map (close_term ns' vs') us = cc in
-        ap2 (λ x l. x ∷ l) (term-taken t u o.0.terms p.0.types p.0.terms a) (terms-taken_in_order ts us o.1 p.1 b)
+        ap₂ (λ x l. x ∷ l) (term-taken t u o.0.terms p.0.types p.0.terms a) (terms-taken_in_order ts us o.1 p.1 b)
 
 pub closed-alike : (s t : Sequent) → closed_form s ≡ closed_form t → AreAlike s t
 closed-alike s t e =

@@ -4,6 +4,7 @@ use Rattle.std.specs.Option.{unwrap_or}
 use Rattle.std.specs.Map.{lookup}
 use Rattle.std.specs.List.{AllByRecursion}
 use Rattle.std.proofs.lemmas.List.{map-append}
+use Rattle.std.proofs.Math.Path.{ap₂}
 use Rattle.hol_spec.specs.Names.{Name}
 use Rattle.hol_spec.specs.NameEquality.{name_eq}
 use Rattle.hol_laws.specs.NameEqualityLaws.{name_eq-Decides}
@@ -11,9 +12,6 @@ use Rattle.hol_spec.specs.Types.{HolType, HolTypes, variable, operator, none, mo
 use Rattle.hol_spec.specs.Substitution.{TypePairs, image, substitute, substitute_all, read_off, read_off_all, Instance, type_arguments}
 use Rattle.hol_spec.specs.Lists.{IsIn}
 use Rattle.hol_laws.specs.Members.{IsIn-either, IsIn-distinct_of, All-each, All-left, All-right, All-mapped, map-each, map-twice}
-
-ap2 : {A B C : Type 0} (f : A → B → C) {a a' : A} {b b' : B} → a ≡ a' → b ≡ b' → f a b ≡ f a' b'
-ap2 f p q = λ i. f (p i) (q i)
 
 -- a type with types for its variables
 abbrev mutual
@@ -33,7 +31,7 @@ mutual
 
   pub substitute_all-is : (s : TypePairs) (ts : HolTypes) → substitute_all s ts ≡ filled_in_all (image s) ts
   substitute_all-is s none = refl
-  substitute_all-is s (more t ts) = ap2 more (substitute-is s t) (substitute_all-is s ts)
+  substitute_all-is s (more t ts) = ap₂ more (substitute-is s t) (substitute_all-is s ts)
 
 -- and so is substitution in such
 mutual
@@ -43,7 +41,7 @@ mutual
 
   substitute_all-filled_in : (s : TypePairs) (f : Name → HolType) (ts : HolTypes) → substitute_all s (filled_in_all f ts) ≡ filled_in_all (λ n. substitute s (f n)) ts
   substitute_all-filled_in s f none = refl
-  substitute_all-filled_in s f (more t ts) = ap2 more (substitute-filled_in s f t) (substitute_all-filled_in s f ts)
+  substitute_all-filled_in s f (more t ts) = ap₂ more (substitute-filled_in s f t) (substitute_all-filled_in s f ts)
 
 pub count-substitute_all : (s : TypePairs) (ts : HolTypes) → count (substitute_all s ts) ≡ count ts
 count-substitute_all s none = refl

@@ -65,7 +65,7 @@ pub All-filter : {A : Type 0} (P : A → Type 0) (p : A → Bool) (xs : List A) 
 All-filter P p [] h = tt
 All-filter P p (x ∷ xs) h = All-kept P (p x) x (filter p xs) h.0 (All-filter P p xs h.1)
 
-neither : (a b : Bool) → a ≡ false → b ≡ false → (a || b) ≡ false
+pub neither : (a b : Bool) → a ≡ false → b ≡ false → (a || b) ≡ false
 neither true b e f = absurd (cc)
 neither false b e f = f
 

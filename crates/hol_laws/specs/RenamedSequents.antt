@@ -17,7 +17,7 @@ use Rattle.hol_spec.specs.Renamings.{renamed_variable, renamed, renamed_sequent}
 use Rattle.hol_laws.specs.RenamingLaws.{map-append, renamed-injective, type_places-renamed, free_places-renamed, term_size-renamed, term_depth-renamed, type_under-renamed, agree, distinct-map, IsDistinct-map, flat_map-map, sum_by-map, greatest_by-map, length_map}
 
 -- the type variables of a free variable's type are type variables of the term
-type_variables-of_free : (P : Name → Type 0) (t : Term) → AllByRecursion P (type_variable_places t) → AllByRecursion (λ v. AllByRecursion P (variable_places v.1)) (free_places t)
+pub type_variables-of_free : (P : Name → Type 0) (t : Term) → AllByRecursion P (type_variable_places t) → AllByRecursion (λ v. AllByRecursion P (variable_places v.1)) (free_places t)
 type_variables-of_free P (term.Term.free n t) h = (h, tt {0})
 type_variables-of_free P (term.Term.bound k) h = tt
 type_variables-of_free P (term.Term.constant n t) h = tt
@@ -27,7 +27,7 @@ type_variables-of_free P (term.Term.app f x) h =
     (type_variables-of_free P x (All-right P (type_variable_places f) (type_variable_places x) h))
 type_variables-of_free P (term.Term.lam t b) h = type_variables-of_free P b (All-right P (variable_places t) (type_variable_places b) h)
 
-flat_free : (P : Name → Type 0) (ts : List Term) → AllByRecursion P (flat_map type_variable_places ts) → AllByRecursion (λ v. AllByRecursion P (variable_places v.1)) (flat_map free_places ts)
+pub flat_free : (P : Name → Type 0) (ts : List Term) → AllByRecursion P (flat_map type_variable_places ts) → AllByRecursion (λ v. AllByRecursion P (variable_places v.1)) (flat_map free_places ts)
 flat_free P [] h = tt
 flat_free P (t ∷ ts) h =
     All-append _ (free_places t) (flat_map free_places ts) (type_variables-of_free P t (All-left P (type_variable_places t) (flat_map type_variable_places ts) h))

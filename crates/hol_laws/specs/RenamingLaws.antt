@@ -7,6 +7,7 @@ use Rattle.std.specs.List.{AllByRecursion, IsDistinct, flat_map, sum_by}
 use Rattle.std.proofs.lemmas.Option.{slice_get-map}
 use Rattle.std.proofs.lemmas.Bool.Decides.{same_from_decides}
 use Rattle.std.proofs.lemmas.List.Sums.{sum_by-cons}
+use Rattle.std.proofs.Math.Path.{ap₂}
 use Rattle.hol_spec.specs.Names.{Name}
 use Rattle.hol_spec.specs.Lists.{distinct, IsIn}
 use Rattle.hol_laws.specs.ListLaws.{union-map}
@@ -14,7 +15,6 @@ use Rattle.hol_spec.specs.Types.{HolType, HolTypes, variable, operator, none, mo
 use Rattle.hol_spec.specs.Primitives.{function}
 use Rattle.hol_spec.specs.Terms.{Term, free, bound, constant, app, lam, Variable, type_under, type_variable_places, free_places}
 use Rattle.hol_laws.specs.TermLaws.{type_under-app, type_under-lam}
-use Rattle.hol_laws.specs.TermRenamings.{ap2}
 use Rattle.hol_laws.specs.TermSubstitutionLaws.{application_type-is, abstraction_type-is}
 use Rattle.hol_spec.specs.Limits.{type_size, types_size, type_depth, types_depth, term_size, term_depth, greatest_by}
 use Rattle.hol_laws.specs.Members.{All-left, All-right}
@@ -32,7 +32,7 @@ module _ (r : Name → Name) where
 
     pub places_all-renamed : (ts : HolTypes) → variable_places_of_all (renamed_types r ts) ≡ map r (variable_places_of_all ts)
     places_all-renamed none = refl
-    places_all-renamed (more t ts) = ap2 (λ a b. a ++ b) (places-renamed t) (places_all-renamed ts) ∙ sym (map-append r (variable_places t) (variable_places_of_all ts))
+    places_all-renamed (more t ts) = ap₂ (λ a b. a ++ b) (places-renamed t) (places_all-renamed ts) ∙ sym (map-append r (variable_places t) (variable_places_of_all ts))
 
   count-renamed : (ts : HolTypes) → count (renamed_types r ts) ≡ count ts
   count-renamed none = refl
@@ -45,45 +45,45 @@ module _ (r : Name → Name) where
 
     types_size-renamed : (ts : HolTypes) → types_size (renamed_types r ts) ≡ types_size ts
     types_size-renamed none = refl
-    types_size-renamed (more t ts) = ap2 (λ a b. a + b) (type_size-renamed t) (types_size-renamed ts)
+    types_size-renamed (more t ts) = ap₂ (λ a b. a + b) (type_size-renamed t) (types_size-renamed ts)
 
   mutual
     pub type_depth-renamed : (t : HolType) → type_depth (renamed_type r t) ≡ type_depth t
     type_depth-renamed (variable n) = refl
-    type_depth-renamed (operator n ts) = ap2 (λ k d. max 1 k + d) (count-renamed ts) (types_depth-renamed ts)
+    type_depth-renamed (operator n ts) = ap₂ (λ k d. max 1 k + d) (count-renamed ts) (types_depth-renamed ts)
 
     types_depth-renamed : (ts : HolTypes) → types_depth (renamed_types r ts) ≡ types_depth ts
     types_depth-renamed none = refl
-    types_depth-renamed (more t ts) = ap2 max (type_depth-renamed t) (types_depth-renamed ts)
+    types_depth-renamed (more t ts) = ap₂ max (type_depth-renamed t) (types_depth-renamed ts)
 
 module _ (r : Name → Name) (q : Variable → Name) where
   pub type_places-renamed : (t : Term) → type_variable_places (renamed r q t) ≡ map r (type_variable_places t)
   type_places-renamed (free n t) = places-renamed r t
   type_places-renamed (bound k) = refl
   type_places-renamed (constant n t) = places-renamed r t
-  type_places-renamed (app f x) = ap2 (λ a b. a ++ b) (type_places-renamed f) (type_places-renamed x) ∙ sym (map-append r (type_variable_places f) (type_variable_places x))
-  type_places-renamed (lam t b) = ap2 (λ a b. a ++ b) (places-renamed r t) (type_places-renamed b) ∙ sym (map-append r (variable_places t) (type_variable_places b))
+  type_places-renamed (app f x) = ap₂ (λ a b. a ++ b) (type_places-renamed f) (type_places-renamed x) ∙ sym (map-append r (type_variable_places f) (type_variable_places x))
+  type_places-renamed (lam t b) = ap₂ (λ a b. a ++ b) (places-renamed r t) (type_places-renamed b) ∙ sym (map-append r (variable_places t) (type_variable_places b))
 
   pub free_places-renamed : (t : Term) → free_places (renamed r q t) ≡ map (renamed_variable r q) (free_places t)
   free_places-renamed (free n t) = refl
   free_places-renamed (bound k) = refl
   free_places-renamed (constant n t) = refl
-  free_places-renamed (app f x) = ap2 (λ a b. a ++ b) (free_places-renamed f) (free_places-renamed x) ∙ sym (map-append (renamed_variable r q) (free_places f) (free_places x))
+  free_places-renamed (app f x) = ap₂ (λ a b. a ++ b) (free_places-renamed f) (free_places-renamed x) ∙ sym (map-append (renamed_variable r q) (free_places f) (free_places x))
   free_places-renamed (lam t b) = free_places-renamed b
 
   pub term_size-renamed : (t : Term) → term_size (renamed r q t) ≡ term_size t
   term_size-renamed (free n t) = ap (λ k. 1 + k) (type_size-renamed r t)
   term_size-renamed (bound k) = refl
   term_size-renamed (constant n t) = ap (λ k. 1 + k) (type_size-renamed r t)
-  term_size-renamed (app f x) = ap2 (λ a b. 1 + a + b) (term_size-renamed f) (term_size-renamed x)
-  term_size-renamed (lam t b) = ap2 (λ a b. 1 + a + b) (type_size-renamed r t) (term_size-renamed b)
+  term_size-renamed (app f x) = ap₂ (λ a b. 1 + a + b) (term_size-renamed f) (term_size-renamed x)
+  term_size-renamed (lam t b) = ap₂ (λ a b. 1 + a + b) (type_size-renamed r t) (term_size-renamed b)
 
   pub term_depth-renamed : (t : Term) → term_depth (renamed r q t) ≡ term_depth t
   term_depth-renamed (free n t) = ap (λ k. 1 + k) (type_depth-renamed r t)
   term_depth-renamed (bound k) = refl
   term_depth-renamed (constant n t) = ap (λ k. 1 + k) (type_depth-renamed r t)
-  term_depth-renamed (app f x) = ap2 (λ a b. 1 + max a b) (term_depth-renamed f) (term_depth-renamed x)
-  term_depth-renamed (lam t b) = ap2 (λ a b. 1 + max a b) (type_depth-renamed r t) (term_depth-renamed b)
+  term_depth-renamed (app f x) = ap₂ (λ a b. 1 + max a b) (term_depth-renamed f) (term_depth-renamed x)
+  term_depth-renamed (lam t b) = ap₂ (λ a b. 1 + max a b) (type_depth-renamed r t) (term_depth-renamed b)
 
   -- a renamed term has its type renamed
   pub type_under-renamed : (binders : List HolType) (t : Term) (a : HolType) → type_under binders t ≡ Some a → type_under (map (renamed_type r) binders) (renamed r q t) ≡ Some (renamed_type r a)
@@ -107,7 +107,7 @@ module _ (r : Name → Name) (ns : List Name) (one : (m n : Name) → IsIn ns m 
     renamed_type-injective (operator m ts) (operator n us) h k e =
         let f : m ≡ n = cc in
         let g : renamed_types r ts ≡ renamed_types r us = cc in
-        ap2 operator f (renamed_types-injective ts us h k g)
+        ap₂ operator f (renamed_types-injective ts us h k g)
 
     pub renamed_types-injective : (ts us : HolTypes) → AllByRecursion (IsIn ns) (variable_places_of_all ts) → AllByRecursion (IsIn ns) (variable_places_of_all us) → renamed_types r ts ≡ renamed_types r us → ts ≡ us
     renamed_types-injective none none h k e = refl
@@ -116,7 +116,7 @@ module _ (r : Name → Name) (ns : List Name) (one : (m n : Name) → IsIn ns m 
     renamed_types-injective (more t ts) (more u us) h k e =
         let f : renamed_type r t ≡ renamed_type r u = cc in
         let g : renamed_types r ts ≡ renamed_types r us = cc in
-        ap2 more
+        ap₂ more
         (renamed_type-injective t u (All-left (IsIn ns) (variable_places t) (variable_places_of_all ts) h) (All-left (IsIn ns) (variable_places u) (variable_places_of_all us) k) f)
         (renamed_types-injective ts us (All-right (IsIn ns) (variable_places t) (variable_places_of_all ts) h) (All-right (IsIn ns) (variable_places u) (variable_places_of_all us) k) g)
 
@@ -131,17 +131,17 @@ module _ (r : Name → Name) (ns : List Name) (one : (m n : Name) → IsIn ns m 
     renamed-injective (constant m t) (constant n u) h k f g e =
         let a : m ≡ n = cc in
         let b : renamed_type r t ≡ renamed_type r u = cc in
-        ap2 constant a (renamed_type-injective t u h k b)
+        ap₂ constant a (renamed_type-injective t u h k b)
     renamed-injective (app t x) (app u y) h k f g e =
         let a : renamed r q t ≡ renamed r q u = cc in
         let b : renamed r q x ≡ renamed r q y = cc in
-        ap2 app
+        ap₂ app
         (renamed-injective t u (All-left (IsIn ns) (type_variable_places t) (type_variable_places x) h) (All-left (IsIn ns) (type_variable_places u) (type_variable_places y) k) (All-left (IsIn vs) (free_places t) (free_places x) f) (All-left (IsIn vs) (free_places u) (free_places y) g) a)
         (renamed-injective x y (All-right (IsIn ns) (type_variable_places t) (type_variable_places x) h) (All-right (IsIn ns) (type_variable_places u) (type_variable_places y) k) (All-right (IsIn vs) (free_places t) (free_places x) f) (All-right (IsIn vs) (free_places u) (free_places y) g) b)
     renamed-injective (lam t x) (lam u y) h k f g e =
         let a : renamed_type r t ≡ renamed_type r u = cc in
         let b : renamed r q x ≡ renamed r q y = cc in
-        ap2 lam
+        ap₂ lam
         (renamed_type-injective t u (All-left (IsIn ns) (variable_places t) (type_variable_places x) h) (All-left (IsIn ns) (variable_places u) (type_variable_places y) k) a)
         (renamed-injective x y (All-right (IsIn ns) (variable_places t) (type_variable_places x) h) (All-right (IsIn ns) (variable_places u) (type_variable_places y) k) f g b)
     renamed-injective t u h k f g e = absurd (cc)
@@ -166,15 +166,15 @@ module _ {A B : Type 0} (f : A → B) (same : A → A → Bool) (eq : B → B �
 
 pub flat_map-map : {A B C D : Type 0} (f : A → B) (g : B → List D) (h : A → List C) (k : C → D) (says : (x : A) → g (f x) ≡ map k (h x)) (xs : List A) → flat_map g (map f xs) ≡ map k (flat_map h xs)
 flat_map-map f g h k says [] = refl
-flat_map-map f g h k says (x ∷ xs) = ap2 (λ a b. a ++ b) (says x) (flat_map-map f g h k says xs) ∙ sym (map-append k (h x) (flat_map h xs))
+flat_map-map f g h k says (x ∷ xs) = ap₂ (λ a b. a ++ b) (says x) (flat_map-map f g h k says xs) ∙ sym (map-append k (h x) (flat_map h xs))
 
 pub sum_by-map : {A B : Type 0} (f : A → B) (g : B → ℕ) (h : A → ℕ) (says : (x : A) → g (f x) ≡ h x) (xs : List A) → sum_by g (map f xs) ≡ sum_by h xs
 sum_by-map f g h says [] = refl
-sum_by-map f g h says (x ∷ xs) = sum_by-cons g (f x) (map f xs) ∙ ap2 (λ a b. a + b) (says x) (sum_by-map f g h says xs) ∙ sym (sum_by-cons h x xs)
+sum_by-map f g h says (x ∷ xs) = sum_by-cons g (f x) (map f xs) ∙ ap₂ (λ a b. a + b) (says x) (sum_by-map f g h says xs) ∙ sym (sum_by-cons h x xs)
 
 pub greatest_by-map : {A B : Type 0} (f : A → B) (g : B → ℕ) (h : A → ℕ) (says : (x : A) → g (f x) ≡ h x) (xs : List A) → greatest_by g (map f xs) ≡ greatest_by h xs
 greatest_by-map f g h says [] = refl
-greatest_by-map f g h says (x ∷ xs) = ap2 max (says x) (greatest_by-map f g h says xs)
+greatest_by-map f g h says (x ∷ xs) = ap₂ max (says x) (greatest_by-map f g h says xs)
 
 pub length_map : {A B : Type 0} (f : A → B) (xs : List A) → length (map f xs) ≡ length xs
 length_map f [] = refl

@@ -2,6 +2,7 @@
 use Rattle.std.proofs.Common.{◌≡◌, List, [], ◌∷◌, ◌++◌, map, Bool, true, false, Option, Some, cond, refl, sym, ap}
 use Rattle.std.specs.Bool.{Decides}
 use Rattle.std.specs.Map.{lookup}
+use Rattle.std.proofs.lemmas.List.{append-nil, append_assoc}
 use Rattle.hol_spec.specs.Names.{Name}
 use Rattle.hol_spec.specs.NameEquality.{name_eq}
 use Rattle.hol_laws.specs.NameEqualityLaws.{name_eq-Decides}
@@ -35,14 +36,6 @@ lookup-said : (s : TypePairs) (n : Name) (ms os : List Name) → lookup (name_eq
 lookup-said s n [] os = rw ((name_eq-Decides n n).1 refl) refl
 lookup-said s n (m ∷ ms) os = lookup-head (name_eq n m) s m n _ (name_eq-Decides n m).0 (lookup-said s n ms os)
 
-append-assoc : {A : Type 0} (xs ys zs : List A) → (xs ++ ys) ++ zs ≡ xs ++ (ys ++ zs)
-append-assoc [] ys zs = refl
-append-assoc (x ∷ xs) ys zs = ap (λ l. x ∷ l) (append-assoc xs ys zs)
-
-append-nil : {A : Type 0} (xs : List A) → xs ++ [] ≡ xs
-append-nil [] = refl
-append-nil (x ∷ xs) = ap (λ l. x ∷ l) (append-nil xs)
-
 -- The pairs that say what a substitution does with a type's variables do with the type what it does.
 mutual
   substitute-said : (s : TypePairs) (t : HolType) (ms os : List Name) → substitute (said s (ms ++ (variable_places t ++ os))) t ≡ substitute s t
@@ -53,9 +46,9 @@ mutual
   substitute_all-said s none ms os = refl
   substitute_all-said s (more t ts) ms os =
       let left : substitute (said s (ms ++ ((variable_places t ++ variable_places_of_all ts) ++ os))) t ≡ substitute s t
-      = rw (append-assoc (variable_places t) (variable_places_of_all ts) os) (substitute-said s t ms (variable_places_of_all ts ++ os)) in
+      = rw (append_assoc (variable_places t) (variable_places_of_all ts) os) (substitute-said s t ms (variable_places_of_all ts ++ os)) in
       let right : substitute_all (said s (ms ++ ((variable_places t ++ variable_places_of_all ts) ++ os))) ts ≡ substitute_all s ts
-      = rw (append-assoc (variable_places t) (variable_places_of_all ts) os, ← append-assoc ms (variable_places t) (variable_places_of_all ts ++ os)) (substitute_all-said s ts (ms ++ variable_places t) os) in
+      = rw (append_assoc (variable_places t) (variable_places_of_all ts) os, ← append_assoc ms (variable_places t) (variable_places_of_all ts ++ os)) (substitute_all-said s ts (ms ++ variable_places t) os) in
       rw (left, right) refl
 
 substitute-read_off : (s : TypePairs) (t : HolType) → substitute (read_off t (substitute s t)) t ≡ substitute s t

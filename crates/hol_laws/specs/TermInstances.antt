@@ -2,12 +2,12 @@
 use Rattle.std.proofs.Common.{◌≡◌, ℕ, suc, ◌≤◌, refl, sym, ap, ◌∙◌, arith, [], ◌∷◌, Bool, true, false, cond, Some, None, Option}
 use Rattle.std.specs.Prelude.{IsSome}
 use Rattle.std.specs.Option.{unwrap_or}
+use Rattle.std.proofs.Math.Path.{ap₂}
 use Rattle.hol_spec.specs.Types.{HolType, HolTypes, variable, operator, none, more}
 use Rattle.hol_spec.specs.Substitution.{substitute, substitute_all}
 use Rattle.hol_spec.specs.Terms.{Term, free, bound, constant, app, lam, Variable, variable_eq, type_of, IsTerm}
 use Rattle.hol_spec.specs.TermBinding.{raised, lift, put_bound, put_at, close_at, loose}
 use Rattle.hol_spec.specs.TermSubstitution.{term_image, sub}
-use Rattle.hol_laws.specs.TermRenamings.{ap2}
 use Rattle.hol_laws.specs.TermClosed.{lift_at-closed}
 use Rattle.hol_laws.specs.TermTyping.{loose-typed}
 use Rattle.hol_spec.specs.BindingStatements.{PutClose}
@@ -20,7 +20,7 @@ mutual
 
   substitute_all-nothing : (ts : HolTypes) → substitute_all [] ts ≡ ts
   substitute_all-nothing none = refl
-  substitute_all-nothing (more t ts) = ap2 more (substitute-nothing t) (substitute_all-nothing ts)
+  substitute_all-nothing (more t ts) = ap₂ more (substitute-nothing t) (substitute_all-nothing ts)
 
 -- A term of some type has that type.
 typed : (o : Option HolType) → IsSome o → (a : HolType) × (o ≡ Some a)
@@ -47,8 +47,8 @@ put_at-close_at d v u h (free m c) =
     put_closed_free (variable_eq (m, c) v) d u (m, c) h ∙ sym (ap (λ a. term_image ((v, u) ∷ []) (m, a)) (substitute-nothing c))
 put_at-close_at d v u h (bound n) = put_bound-raised d u n
 put_at-close_at d v u h (constant m c) = ap (constant m) (sym (substitute-nothing c))
-put_at-close_at d v u h (app f x) = ap2 app (put_at-close_at d v u h f) (put_at-close_at d v u h x)
-put_at-close_at d v u h (lam c b) = ap2 lam (sym (substitute-nothing c)) (put_at-close_at (suc d) v u h b)
+put_at-close_at d v u h (app f x) = ap₂ app (put_at-close_at d v u h f) (put_at-close_at d v u h x)
+put_at-close_at d v u h (lam c b) = ap₂ lam (sym (substitute-nothing c)) (put_at-close_at (suc d) v u h b)
 
 pub put-close : PutClose
 put-close v u t h = put_at-close_at 0 v u (loose-IsTerm u h) t

@@ -6,12 +6,9 @@ use Rattle.std.proofs.lemmas.List.{length-reverse}
 use Rattle.std.proofs.lemmas.Option.{slice_get_cases}
 use Rattle.std.specs.Option.{option_map_or}
 use Rattle.std.proofs.lemmas.Bool.{cases_lt}
-use Rattle.std.proofs.Math.Path.{fun_ext}
+use Rattle.std.proofs.Math.Path.{fun_ext, ap₂}
 use Rattle.hol_spec.specs.Terms.{Term, free, bound, constant, app, lam}
 use Rattle.hol_spec.specs.TermBinding.{raised, lift_at, lift, put_bound, put_at, put, put_all_bound, put_all_at}
-
-pub ap2 : {A B C : Type 0} (f : A → B → C) {a a' : A} {b b' : B} → a ≡ a' → b ≡ b' → f a b ≡ f a' b'
-ap2 f p q = λ i. f (p i) (q i)
 
 -- A renaming under a binder.
 abbrev pub up : (ℕ → ℕ) → ℕ → ℕ
@@ -45,7 +42,7 @@ pub rename_rename : (r q : ℕ → ℕ) (t : Term) → rename r (rename q t) ≡
 rename_rename r q (free name ty) = refl
 rename_rename r q (bound n) = refl
 rename_rename r q (constant name ty) = refl
-rename_rename r q (app f x) = ap2 app (rename_rename r q f) (rename_rename r q x)
+rename_rename r q (app f x) = ap₂ app (rename_rename r q f) (rename_rename r q x)
 rename_rename r q (lam a b) = ap (lam a) (rename_rename (up r) (up q) b ∙ ap (λ w. rename w b) (fun_ext (up_up r q)))
 
 up_terms_up : (s : ℕ → Term) (q : ℕ → ℕ) (n : ℕ) → up_terms s (up q n) ≡ up_terms (λ m. s (q m)) n
@@ -56,7 +53,7 @@ pub replace_rename : (s : ℕ → Term) (q : ℕ → ℕ) (t : Term) → replace
 replace_rename s q (free name ty) = refl
 replace_rename s q (bound n) = refl
 replace_rename s q (constant name ty) = refl
-replace_rename s q (app f x) = ap2 app (replace_rename s q f) (replace_rename s q x)
+replace_rename s q (app f x) = ap₂ app (replace_rename s q f) (replace_rename s q x)
 replace_rename s q (lam a b) = ap (lam a) (replace_rename (up_terms s) (up q) b ∙ ap (λ w. replace w b) (fun_ext (up_terms_up s q)))
 
 rename_up_terms : (r : ℕ → ℕ) (s : ℕ → Term) (n : ℕ) → rename (up r) (up_terms s n) ≡ up_terms (λ m. rename r (s m)) n
@@ -67,7 +64,7 @@ pub rename_replace : (r : ℕ → ℕ) (s : ℕ → Term) (t : Term) → rename 
 rename_replace r s (free name ty) = refl
 rename_replace r s (bound n) = refl
 rename_replace r s (constant name ty) = refl
-rename_replace r s (app f x) = ap2 app (rename_replace r s f) (rename_replace r s x)
+rename_replace r s (app f x) = ap₂ app (rename_replace r s f) (rename_replace r s x)
 rename_replace r s (lam a b) = ap (lam a) (rename_replace (up r) (up_terms s) b ∙ ap (λ w. replace w b) (fun_ext (rename_up_terms r s)))
 
 replace_up_terms : (s u : ℕ → Term) (n : ℕ) → replace (up_terms s) (up_terms u n) ≡ up_terms (λ m. replace s (u m)) n
@@ -78,7 +75,7 @@ pub replace_replace : (s u : ℕ → Term) (t : Term) → replace s (replace u t
 replace_replace s u (free name ty) = refl
 replace_replace s u (bound n) = refl
 replace_replace s u (constant name ty) = refl
-replace_replace s u (app f x) = ap2 app (replace_replace s u f) (replace_replace s u x)
+replace_replace s u (app f x) = ap₂ app (replace_replace s u f) (replace_replace s u x)
 replace_replace s u (lam a b) = ap (lam a) (replace_replace (up_terms s) (up_terms u) b ∙ ap (λ w. replace w b) (fun_ext (replace_up_terms s u)))
 
 up_terms_bound : (n : ℕ) → up_terms bound n ≡ bound n
@@ -89,7 +86,7 @@ pub replace_bound : (t : Term) → replace bound t ≡ t
 replace_bound (free name ty) = refl
 replace_bound (bound n) = refl
 replace_bound (constant name ty) = refl
-replace_bound (app f x) = ap2 app (replace_bound f) (replace_bound x)
+replace_bound (app f x) = ap₂ app (replace_bound f) (replace_bound x)
 replace_bound (lam a b) = ap (lam a) (ap (λ w. replace w b) (fun_ext up_terms_bound) ∙ replace_bound b)
 
 up_terms_rename : (r : ℕ → ℕ) (n : ℕ) → up_terms (λ m. bound (r m)) n ≡ bound (up r n)
@@ -100,7 +97,7 @@ pub rename_is_replace : (r : ℕ → ℕ) (t : Term) → rename r t ≡ replace 
 rename_is_replace r (free name ty) = refl
 rename_is_replace r (bound n) = refl
 rename_is_replace r (constant name ty) = refl
-rename_is_replace r (app f x) = ap2 app (rename_is_replace r f) (rename_is_replace r x)
+rename_is_replace r (app f x) = ap₂ app (rename_is_replace r f) (rename_is_replace r x)
 rename_is_replace r (lam a b) = ap (lam a) (rename_is_replace (up r) b ∙ sym (ap (λ w. replace w b) (fun_ext (up_terms_rename r))))
 
 -- Lifting and putting are such renamings and replacements.
@@ -112,7 +109,7 @@ pub lift_at_is : (c k : ℕ) (t : Term) → lift_at c k t ≡ rename (raised c k
 lift_at_is c k (free name ty) = refl
 lift_at_is c k (bound n) = refl
 lift_at_is c k (constant name ty) = refl
-lift_at_is c k (app f x) = ap2 app (lift_at_is c k f) (lift_at_is c k x)
+lift_at_is c k (app f x) = ap₂ app (lift_at_is c k f) (lift_at_is c k x)
 lift_at_is c k (lam a b) = ap (lam a) (lift_at_is (suc c) k b ∙ sym (ap (λ w. rename w b) (fun_ext (up_raised c k))))
 
 raised_zero : (n : ℕ) → raised 0 0 n ≡ n
@@ -138,7 +135,7 @@ pub put_at_is : (d : ℕ) (a t : Term) → put_at d a t ≡ replace (put_bound d
 put_at_is d a (free name ty) = refl
 put_at_is d a (bound n) = refl
 put_at_is d a (constant name ty) = refl
-put_at_is d a (app f x) = ap2 app (put_at_is d a f) (put_at_is d a x)
+put_at_is d a (app f x) = ap₂ app (put_at_is d a f) (put_at_is d a x)
 put_at_is d a (lam t b) = ap (lam t) (put_at_is (suc d) a b ∙ sym (ap (λ w. replace w b) (fun_ext (up_terms_put_bound d a))))
 
 -- The term a for 0, and the others lowered.
@@ -188,7 +185,7 @@ pub put_all_at_is : (d : ℕ) (us : List Term) (t : Term) → put_all_at d us t 
 put_all_at_is d us (free name ty) = refl
 put_all_at_is d us (bound n) = refl
 put_all_at_is d us (constant name ty) = refl
-put_all_at_is d us (app f x) = ap2 app (put_all_at_is d us f) (put_all_at_is d us x)
+put_all_at_is d us (app f x) = ap₂ app (put_all_at_is d us f) (put_all_at_is d us x)
 put_all_at_is d us (lam t b) = ap (lam t) (put_all_at_is (suc d) us b ∙ sym (ap (λ w. replace w b) (fun_ext (up_terms_put_all d us))))
 
 -- To put one argument is to put a list of it.

@@ -3,13 +3,13 @@ use Rattle.std.proofs.Common.{◌≡◌, ℕ, zero, suc, ◌+◌, refl, sym, ap,
 use Rattle.std.specs.Prelude.{slice_get}
 use Rattle.std.specs.Option.{option_map}
 use Rattle.std.proofs.lemmas.Option.{slice_get_within}
-use Rattle.std.proofs.Math.Path.{fun_ext}
+use Rattle.std.proofs.Math.Path.{fun_ext, ap₂}
 use Rattle.hol_spec.specs.Types.{HolType}
 use Rattle.hol_spec.specs.Primitives.{function}
 use Rattle.hol_spec.specs.Terms.{Term, free, bound, constant, app, lam, Variable, variable_eq, type_under, application_type}
 use Rattle.hol_laws.specs.TermLaws.{variable_eq-Decides}
 use Rattle.hol_spec.specs.TermBinding.{raised, lift_at, lift, put_bound, put_at, close_at}
-use Rattle.hol_laws.specs.TermRenamings.{ap2, rename, lift_is, up_terms_put_bound}
+use Rattle.hol_laws.specs.TermRenamings.{rename, lift_is, up_terms_put_bound}
 use Rattle.hol_laws.specs.TermClosed.{lift_at-zero}
 use Rattle.hol_spec.specs.BindingStatements.{TypeOfAbstraction, TypeOfInstance, LooseTyped}
 
@@ -34,7 +34,7 @@ pub type_under-lift_at : (front mid back : List HolType) (t : Term) → type_und
 type_under-lift_at front mid back (free m c) = refl
 type_under-lift_at front mid back (bound n) = slice_get-raised front mid back n
 type_under-lift_at front mid back (constant m c) = refl
-type_under-lift_at front mid back (app f x) = ap2 application_type (type_under-lift_at front mid back f) (type_under-lift_at front mid back x)
+type_under-lift_at front mid back (app f x) = ap₂ application_type (type_under-lift_at front mid back f) (type_under-lift_at front mid back x)
 type_under-lift_at front mid back (lam c b) = ap (option_map (function c)) (type_under-lift_at (c ∷ front) mid back b)
 
 -- The variable of a new binder has the type of the free variable that it was.
@@ -51,7 +51,7 @@ pub type_under-close_at : (front back : List HolType) (v : Variable) (t : Term) 
 type_under-close_at front back v (free m c) = close_free (variable_eq (m, c) v) front back v (m, c) (variable_eq-Decides (m, c) v).0
 type_under-close_at front back v (bound n) = slice_get-raised front (v.1 ∷ []) back n
 type_under-close_at front back v (constant m c) = refl
-type_under-close_at front back v (app f x) = ap2 application_type (type_under-close_at front back v f) (type_under-close_at front back v x)
+type_under-close_at front back v (app f x) = ap₂ application_type (type_under-close_at front back v f) (type_under-close_at front back v x)
 type_under-close_at front back v (lam c b) = ap (option_map (function c)) (type_under-close_at (c ∷ front) back v b)
 
 pub type_of-close : TypeOfAbstraction
@@ -83,7 +83,7 @@ pub type_under-put_at : (front back : List HolType) (a : HolType) (u : Term) →
 type_under-put_at front back a u e (free m c) = refl
 type_under-put_at front back a u e (bound n) = type_under-put_bound front back a u e n
 type_under-put_at front back a u e (constant m c) = refl
-type_under-put_at front back a u e (app f x) = ap2 application_type (type_under-put_at front back a u e f) (type_under-put_at front back a u e x)
+type_under-put_at front back a u e (app f x) = ap₂ application_type (type_under-put_at front back a u e f) (type_under-put_at front back a u e x)
 type_under-put_at front back a u e (lam c b) = ap (option_map (function c)) (type_under-put_at (c ∷ front) back a u e b)
 
 pub type_of-put : TypeOfInstance

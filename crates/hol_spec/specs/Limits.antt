@@ -24,7 +24,7 @@ abbrev mutual
   types_size none = 0
   types_size (more t ts) = type_size t + types_size ts
 
--- An operator of k arguments lies at least k above the deepest of them.
+-- An operator of k arguments lies exactly max 1 k above the deepest of them.
 abbrev mutual
   pub type_depth : HolType → ℕ
   type_depth (variable n) = 1

@@ -4,12 +4,12 @@ use Rattle.std.proofs.lemmas.Bool.{ltb-true}
 use Rattle.std.proofs.lemmas.List.{drop_all}
 use Rattle.std.specs.Prelude.{◌&&◌, ◌||◌, nat_lt}
 use Rattle.std.specs.List.{list_any}
+use Rattle.std.proofs.lemmas.Option.{same_Some}
 use Rattle.lp_spec.specs.Trees.{Tree, tree_eq}
 use Rattle.lp_binding.specs.TreeEquality.{tree_eq-refl}
 use Rattle.lp_term.specs.declared.LpNode.{LpNode}
 use Rattle.lp_term.specs.declared.LpNode.TheVariants as node
 use Rattle.lp_term.specs.Tables.{tree_of_node, PartsBelow, Holds, Adds}
-use Rattle.lp_term.specs.TableLaws.{some_is}
 use Rattle.holide_sig.specs.Nodes.{parts_below, are_new, trees_with}
 
 found_later : (a : Bool) {b : Bool} → b ≡ true → (a || b) ≡ true
@@ -20,7 +20,7 @@ found_later false h = h
 holds_found : (ts : List Tree) (i : ℕ) (t : Tree) → Holds ts i t → list_any (tree_eq t) ts ≡ true
 holds_found [] i t h = absurd (cc)
 holds_found (u ∷ ts) zero t h =
-    let same : tree_eq t u ≡ true = ap (tree_eq t) (some_is h) ∙ tree_eq-refl t in
+    let same : tree_eq t u ≡ true = ap (tree_eq t) (same_Some _ _ h) ∙ tree_eq-refl t in
     ap (λ b. b || list_any (tree_eq t) ts) same
 holds_found (u ∷ ts) (suc i) t h = found_later (tree_eq t u) (holds_found ts i t h)
 

@@ -5,10 +5,10 @@ use Rattle.std.specs.Prelude.{◌||◌, ◌-◌, option_map, slice_get, Result, 
 use Rattle.std.specs.List.{list_any}
 use Rattle.std.specs.Str.{bytes_eq}
 use Rattle.std.proofs.lemmas.List.Folds.{list_any-append}
+use Rattle.std.proofs.lemmas.Option.{same_Some}
 use Rattle.lp_spec.specs.Trees.{Tree}
 use Rattle.lp_spec.specs.Modules.{Declaration, signature}
 use Rattle.lp_spec.specs.ModuleOrder.{MayFollow, AreDeclared, IsModule, is_declared}
-use Rattle.lp_term.specs.TableLaws.{some_is}
 use Rattle.holide_sig.specs.declared.decls.Decl.{Decl}
 use Rattle.holide_sig.specs.declared.module.Module.{Module}
 use Rattle.holide_sig.specs.Modules.{declaration_in, declarations_of, IsKnown, IsHeld, AreDeclsKnown}
@@ -60,7 +60,7 @@ module _ (ts : List Tree) (name : List ℕ) (ds : List Decl) where
 
 pub slice_get-map : {X Y : Type 0} (f : X → Y) (xs : List X) (i : ℕ) (x : X) → slice_get xs i ≡ Some x → slice_get (map f xs) i ≡ Some (f x)
 slice_get-map f [] i x e = absurd (cc)
-slice_get-map f (y ∷ ys) zero x e = ap Some (ap f (some_is e))
+slice_get-map f (y ∷ ys) zero x e = ap Some (ap f (same_Some _ _ e))
 slice_get-map f (y ∷ ys) (suc i) x e = slice_get-map f ys i x e
 
 pub slice_get-behind : {X : Type 0} (xs ys : List X) (i j : ℕ) → length xs + j ≡ i → slice_get (xs ++ ys) i ≡ slice_get ys j

@@ -4,7 +4,7 @@ use Rattle.std.specs.List.{list_any}
 use Rattle.std.specs.Str.{bytes_eq}
 use Rattle.std.specs.Option.{option_map_or}
 use Rattle.std.proofs.lemmas.List.Quantifiers.{position-Some}
-use Rattle.std.proofs.lemmas.Option.{slice_get-get_or}
+use Rattle.std.proofs.lemmas.Option.{slice_get-get_or, same_Some}
 use Rattle.std.specs.Cmp.Lexicographic.{same_text}
 use Rattle.std.specs.Prelude.{◌||◌, IsFalse, option_map, slice_get}
 use Rattle.bridge_base.specs.Binding.{Pairwise}
@@ -14,7 +14,7 @@ use Rattle.lp_spec.specs.ModuleOrder.{is_declared}
 use Rattle.lp_spec.specs.Text.{prelude}
 use Rattle.lp_term.specs.declared.LpId.{LpId}
 use Rattle.lp_term.specs.Tables.{tree_at, Holds, Stays, Keeps}
-use Rattle.lp_term.specs.TableLaws.{some_is, tree_at-Stays}
+use Rattle.lp_term.specs.TableLaws.{tree_at-Stays}
 use Rattle.holide_sig.specs.declared.decls.Decl.{Decl}
 use Rattle.holide_sig.specs.declared.module.Module.{Module}
 use Rattle.holide_sig.specs.declared.signature.TheConstants.{PRELUDE}
@@ -45,7 +45,7 @@ AreDeclsKnown-Keeps k (d ∷ ds) h = (IsKnown-Keeps k d h.0, AreDeclsKnown-Keeps
 -- each of the known declarations is known
 pub AreDeclsKnown-slice_get : (ts : List Tree) (ds : List Decl) (i : ℕ) (d : Decl) → AreDeclsKnown ts ds → slice_get ds i ≡ Some d → IsKnown ts d
 AreDeclsKnown-slice_get ts [] i d h e = absurd (cc)
-AreDeclsKnown-slice_get ts (x ∷ xs) zero d h e = subst (IsKnown ts) (some_is e) h.0
+AreDeclsKnown-slice_get ts (x ∷ xs) zero d h e = subst (IsKnown ts) (same_Some _ _ e) h.0
 AreDeclsKnown-slice_get ts (x ∷ xs) (suc i) d h e = AreDeclsKnown-slice_get ts xs i d h.1 e
 
 -- a module holds what it should when its table has grown

@@ -1,3 +1,4 @@
+//! Modules of a few declarations.
 ghost use Rattle.std.specs.Prelude.{◌≡◌, ◌++◌, ◌∷◌, [], IsFalse, OnOk};
 ghost use Rattle.lp_spec.specs.Modules.{signature, symbol, types as types_tree};
 ghost use Rattle.lp_spec.specs.ModuleOrder.{is_declared};

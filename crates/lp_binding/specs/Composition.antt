@@ -5,13 +5,9 @@ use Rattle.std.proofs.lemmas.List.{length-reverse}
 use Rattle.std.proofs.lemmas.Option.{slice_get_cases}
 use Rattle.std.specs.Option.{option_map_or}
 use Rattle.std.proofs.lemmas.Bool.{cases_lt}
-use Rattle.std.proofs.Math.Path.{fun_ext}
+use Rattle.std.proofs.Math.Path.{fun_ext, ap₂}
 use Rattle.lp_spec.specs.Substitution.{up, ren, ups, sub, cons}
 use Rattle.lp_spec.specs.Trees.{Tree, SortType, SortKind, Var, Sym, App, Lam, Pi, raised, lift_at, lift, put_var, put_at, put, put_all_var, put_all_at}
-
--- a function of two arguments at equal arguments
-pub ap2 : {A B C : Type 0} (f : A → B → C) {a a' : A} {b b' : B} → a ≡ a' → b ≡ b' → f a b ≡ f a' b'
-ap2 f p q = λ i. f (p i) (q i)
 
 up_up : (r q : ℕ → ℕ) (n : ℕ) → up r (up q n) ≡ up (λ m. r (q m)) n
 up_up r q zero = refl
@@ -22,9 +18,9 @@ ren_ren r q SortType = refl
 ren_ren r q SortKind = refl
 ren_ren r q (Var n) = refl
 ren_ren r q (Sym s) = refl
-ren_ren r q (App f x) = ap2 App (ren_ren r q f) (ren_ren r q x)
-ren_ren r q (Lam a b) = ap2 Lam (ren_ren r q a) (ren_ren (up r) (up q) b ∙ ap (λ w. ren w b) (fun_ext (up_up r q)))
-ren_ren r q (Pi a b) = ap2 Pi (ren_ren r q a) (ren_ren (up r) (up q) b ∙ ap (λ w. ren w b) (fun_ext (up_up r q)))
+ren_ren r q (App f x) = ap₂ App (ren_ren r q f) (ren_ren r q x)
+ren_ren r q (Lam a b) = ap₂ Lam (ren_ren r q a) (ren_ren (up r) (up q) b ∙ ap (λ w. ren w b) (fun_ext (up_up r q)))
+ren_ren r q (Pi a b) = ap₂ Pi (ren_ren r q a) (ren_ren (up r) (up q) b ∙ ap (λ w. ren w b) (fun_ext (up_up r q)))
 
 ups_up : (s : ℕ → Tree) (q : ℕ → ℕ) (n : ℕ) → ups s (up q n) ≡ ups (λ m. s (q m)) n
 ups_up s q zero = refl
@@ -35,9 +31,9 @@ sub_ren s q SortType = refl
 sub_ren s q SortKind = refl
 sub_ren s q (Var n) = refl
 sub_ren s q (Sym x) = refl
-sub_ren s q (App f x) = ap2 App (sub_ren s q f) (sub_ren s q x)
-sub_ren s q (Lam a b) = ap2 Lam (sub_ren s q a) (sub_ren (ups s) (up q) b ∙ ap (λ w. sub w b) (fun_ext (ups_up s q)))
-sub_ren s q (Pi a b) = ap2 Pi (sub_ren s q a) (sub_ren (ups s) (up q) b ∙ ap (λ w. sub w b) (fun_ext (ups_up s q)))
+sub_ren s q (App f x) = ap₂ App (sub_ren s q f) (sub_ren s q x)
+sub_ren s q (Lam a b) = ap₂ Lam (sub_ren s q a) (sub_ren (ups s) (up q) b ∙ ap (λ w. sub w b) (fun_ext (ups_up s q)))
+sub_ren s q (Pi a b) = ap₂ Pi (sub_ren s q a) (sub_ren (ups s) (up q) b ∙ ap (λ w. sub w b) (fun_ext (ups_up s q)))
 
 ren_ups : (r : ℕ → ℕ) (s : ℕ → Tree) (n : ℕ) → ren (up r) (ups s n) ≡ ups (λ m. ren r (s m)) n
 ren_ups r s zero = refl
@@ -48,9 +44,9 @@ ren_sub r s SortType = refl
 ren_sub r s SortKind = refl
 ren_sub r s (Var n) = refl
 ren_sub r s (Sym x) = refl
-ren_sub r s (App f x) = ap2 App (ren_sub r s f) (ren_sub r s x)
-ren_sub r s (Lam a b) = ap2 Lam (ren_sub r s a) (ren_sub (up r) (ups s) b ∙ ap (λ w. sub w b) (fun_ext (ren_ups r s)))
-ren_sub r s (Pi a b) = ap2 Pi (ren_sub r s a) (ren_sub (up r) (ups s) b ∙ ap (λ w. sub w b) (fun_ext (ren_ups r s)))
+ren_sub r s (App f x) = ap₂ App (ren_sub r s f) (ren_sub r s x)
+ren_sub r s (Lam a b) = ap₂ Lam (ren_sub r s a) (ren_sub (up r) (ups s) b ∙ ap (λ w. sub w b) (fun_ext (ren_ups r s)))
+ren_sub r s (Pi a b) = ap₂ Pi (ren_sub r s a) (ren_sub (up r) (ups s) b ∙ ap (λ w. sub w b) (fun_ext (ren_ups r s)))
 
 sub_ups : (s u : ℕ → Tree) (n : ℕ) → sub (ups s) (ups u n) ≡ ups (λ m. sub s (u m)) n
 sub_ups s u zero = refl
@@ -61,9 +57,9 @@ sub_sub s u SortType = refl
 sub_sub s u SortKind = refl
 sub_sub s u (Var n) = refl
 sub_sub s u (Sym x) = refl
-sub_sub s u (App f x) = ap2 App (sub_sub s u f) (sub_sub s u x)
-sub_sub s u (Lam a b) = ap2 Lam (sub_sub s u a) (sub_sub (ups s) (ups u) b ∙ ap (λ w. sub w b) (fun_ext (sub_ups s u)))
-sub_sub s u (Pi a b) = ap2 Pi (sub_sub s u a) (sub_sub (ups s) (ups u) b ∙ ap (λ w. sub w b) (fun_ext (sub_ups s u)))
+sub_sub s u (App f x) = ap₂ App (sub_sub s u f) (sub_sub s u x)
+sub_sub s u (Lam a b) = ap₂ Lam (sub_sub s u a) (sub_sub (ups s) (ups u) b ∙ ap (λ w. sub w b) (fun_ext (sub_ups s u)))
+sub_sub s u (Pi a b) = ap₂ Pi (sub_sub s u a) (sub_sub (ups s) (ups u) b ∙ ap (λ w. sub w b) (fun_ext (sub_ups s u)))
 
 ups_var : (n : ℕ) → ups Var n ≡ Var n
 ups_var zero = refl
@@ -74,9 +70,9 @@ sub_var SortType = refl
 sub_var SortKind = refl
 sub_var (Var n) = refl
 sub_var (Sym x) = refl
-sub_var (App f x) = ap2 App (sub_var f) (sub_var x)
-sub_var (Lam a b) = ap2 Lam (sub_var a) (ap (λ w. sub w b) (fun_ext ups_var) ∙ sub_var b)
-sub_var (Pi a b) = ap2 Pi (sub_var a) (ap (λ w. sub w b) (fun_ext ups_var) ∙ sub_var b)
+sub_var (App f x) = ap₂ App (sub_var f) (sub_var x)
+sub_var (Lam a b) = ap₂ Lam (sub_var a) (ap (λ w. sub w b) (fun_ext ups_var) ∙ sub_var b)
+sub_var (Pi a b) = ap₂ Pi (sub_var a) (ap (λ w. sub w b) (fun_ext ups_var) ∙ sub_var b)
 
 ups_ren : (r : ℕ → ℕ) (n : ℕ) → ups (λ m. Var (r m)) n ≡ Var (up r n)
 ups_ren r zero = refl
@@ -87,9 +83,9 @@ ren_is_sub r SortType = refl
 ren_is_sub r SortKind = refl
 ren_is_sub r (Var n) = refl
 ren_is_sub r (Sym x) = refl
-ren_is_sub r (App f x) = ap2 App (ren_is_sub r f) (ren_is_sub r x)
-ren_is_sub r (Lam a b) = ap2 Lam (ren_is_sub r a) (ren_is_sub (up r) b ∙ sym (ap (λ w. sub w b) (fun_ext (ups_ren r))))
-ren_is_sub r (Pi a b) = ap2 Pi (ren_is_sub r a) (ren_is_sub (up r) b ∙ sym (ap (λ w. sub w b) (fun_ext (ups_ren r))))
+ren_is_sub r (App f x) = ap₂ App (ren_is_sub r f) (ren_is_sub r x)
+ren_is_sub r (Lam a b) = ap₂ Lam (ren_is_sub r a) (ren_is_sub (up r) b ∙ sym (ap (λ w. sub w b) (fun_ext (ups_ren r))))
+ren_is_sub r (Pi a b) = ap₂ Pi (ren_is_sub r a) (ren_is_sub (up r) b ∙ sym (ap (λ w. sub w b) (fun_ext (ups_ren r))))
 
 -- the words of the specification are such renamings and substitutions
 up_raised : (c k n : ℕ) → up (raised c k) n ≡ raised (suc c) k n
@@ -101,9 +97,9 @@ lift_at_is c k SortType = refl
 lift_at_is c k SortKind = refl
 lift_at_is c k (Var n) = refl
 lift_at_is c k (Sym s) = refl
-lift_at_is c k (App f x) = ap2 App (lift_at_is c k f) (lift_at_is c k x)
-lift_at_is c k (Lam a b) = ap2 Lam (lift_at_is c k a) (lift_at_is (suc c) k b ∙ sym (ap (λ w. ren w b) (fun_ext (up_raised c k))))
-lift_at_is c k (Pi a b) = ap2 Pi (lift_at_is c k a) (lift_at_is (suc c) k b ∙ sym (ap (λ w. ren w b) (fun_ext (up_raised c k))))
+lift_at_is c k (App f x) = ap₂ App (lift_at_is c k f) (lift_at_is c k x)
+lift_at_is c k (Lam a b) = ap₂ Lam (lift_at_is c k a) (lift_at_is (suc c) k b ∙ sym (ap (λ w. ren w b) (fun_ext (up_raised c k))))
+lift_at_is c k (Pi a b) = ap₂ Pi (lift_at_is c k a) (lift_at_is (suc c) k b ∙ sym (ap (λ w. ren w b) (fun_ext (up_raised c k))))
 
 raised_zero : (n : ℕ) → raised 0 0 n ≡ n
 raised_zero n = grind arith
@@ -129,9 +125,9 @@ put_at_is d a SortType = refl
 put_at_is d a SortKind = refl
 put_at_is d a (Var n) = refl
 put_at_is d a (Sym s) = refl
-put_at_is d a (App f x) = ap2 App (put_at_is d a f) (put_at_is d a x)
-put_at_is d a (Lam t b) = ap2 Lam (put_at_is d a t) (put_at_is (suc d) a b ∙ sym (ap (λ w. sub w b) (fun_ext (ups_put_var d a))))
-put_at_is d a (Pi t b) = ap2 Pi (put_at_is d a t) (put_at_is (suc d) a b ∙ sym (ap (λ w. sub w b) (fun_ext (ups_put_var d a))))
+put_at_is d a (App f x) = ap₂ App (put_at_is d a f) (put_at_is d a x)
+put_at_is d a (Lam t b) = ap₂ Lam (put_at_is d a t) (put_at_is (suc d) a b ∙ sym (ap (λ w. sub w b) (fun_ext (ups_put_var d a))))
+put_at_is d a (Pi t b) = ap₂ Pi (put_at_is d a t) (put_at_is (suc d) a b ∙ sym (ap (λ w. sub w b) (fun_ext (ups_put_var d a))))
 
 put_var_cons : (a : Tree) (n : ℕ) → put_var 0 a n ≡ cons a Var n
 put_var_cons a zero = lift_zero a
@@ -176,9 +172,9 @@ put_all_at_is d us SortType = refl
 put_all_at_is d us SortKind = refl
 put_all_at_is d us (Var n) = refl
 put_all_at_is d us (Sym s) = refl
-put_all_at_is d us (App f x) = ap2 App (put_all_at_is d us f) (put_all_at_is d us x)
-put_all_at_is d us (Lam t b) = ap2 Lam (put_all_at_is d us t) (put_all_at_is (suc d) us b ∙ sym (ap (λ w. sub w b) (fun_ext (ups_put_all d us))))
-put_all_at_is d us (Pi t b) = ap2 Pi (put_all_at_is d us t) (put_all_at_is (suc d) us b ∙ sym (ap (λ w. sub w b) (fun_ext (ups_put_all d us))))
+put_all_at_is d us (App f x) = ap₂ App (put_all_at_is d us f) (put_all_at_is d us x)
+put_all_at_is d us (Lam t b) = ap₂ Lam (put_all_at_is d us t) (put_all_at_is (suc d) us b ∙ sym (ap (λ w. sub w b) (fun_ext (ups_put_all d us))))
+put_all_at_is d us (Pi t b) = ap₂ Pi (put_all_at_is d us t) (put_all_at_is (suc d) us b ∙ sym (ap (λ w. sub w b) (fun_ext (ups_put_all d us))))
 
 -- to put one argument is to put a list of it
 pub put_all_at-one : (d : ℕ) (a t : Tree) → put_all_at d (a ∷ []) t ≡ put_at d a t

@@ -1,13 +1,9 @@
 -- Renamings and substitutions leave closed trees alone, and pass through putting and lifting.
-use Rattle.std.proofs.Common.{◌≡◌, ℕ, zero, suc, ◌<◌, ◌≤◌, refl, sym, ap, ◌∙◌, subst, arith}
-use Rattle.std.proofs.Math.Path.{fun_ext}
+use Rattle.std.proofs.Common.{◌≡◌, ℕ, zero, suc, ◌<◌, ◌≤◌, refl, sym, ap, ◌∙◌, arith}
+use Rattle.std.proofs.Math.Path.{fun_ext, ap₂}
 use Rattle.lp_spec.specs.Trees.{Tree, SortType, SortKind, Var, Sym, App, Lam, Pi, lift, put, loose}
-use Rattle.lp_binding.specs.Composition.{ap2, ren_ren, sub_ren, ren_sub, sub_sub, sub_var, lift_is, put_is}
+use Rattle.lp_binding.specs.Composition.{ren_ren, sub_ren, ren_sub, sub_sub, sub_var, lift_is, put_is}
 use Rattle.lp_spec.specs.Substitution.{up, ren, ups, sub, cons}
-
--- a relation holds of what equals its arguments
-pub subst2 : {A B : Type 0} (P : A → B → Type 0) {a a' : A} {b b' : B} → a ≡ a' → b ≡ b' → P a b → P a' b'
-subst2 P {a' = a'} {b = b} p q h = subst (P a') q (subst (λ w. P w b) p h)
 
 -- the renaming moves no variable below c
 pub record Fixes (c : ℕ) (r : ℕ → ℕ) : Type 0 where
@@ -27,9 +23,9 @@ ren_fixed c r SortType f h = refl
 ren_fixed c r SortKind f h = refl
 ren_fixed c r (Var n) f h = ap Var (f.each n (omega (arith, h)))
 ren_fixed c r (Sym s) f h = refl
-ren_fixed c r (App g x) f h = ap2 App (ren_fixed c r g f (omega (arith, h))) (ren_fixed c r x f (omega (arith, h)))
-ren_fixed c r (Lam a b) f h = ap2 Lam (ren_fixed c r a f (omega (arith, h))) (ren_fixed (suc c) (up r) b (Fixes-up f) (omega (arith, h)))
-ren_fixed c r (Pi a b) f h = ap2 Pi (ren_fixed c r a f (omega (arith, h))) (ren_fixed (suc c) (up r) b (Fixes-up f) (omega (arith, h)))
+ren_fixed c r (App g x) f h = ap₂ App (ren_fixed c r g f (omega (arith, h))) (ren_fixed c r x f (omega (arith, h)))
+ren_fixed c r (Lam a b) f h = ap₂ Lam (ren_fixed c r a f (omega (arith, h))) (ren_fixed (suc c) (up r) b (Fixes-up f) (omega (arith, h)))
+ren_fixed c r (Pi a b) f h = ap₂ Pi (ren_fixed c r a f (omega (arith, h))) (ren_fixed (suc c) (up r) b (Fixes-up f) (omega (arith, h)))
 
 -- a renaming leaves a closed tree alone
 pub ren_closed : (r : ℕ → ℕ) (t : Tree) → loose t ≡ 0 → ren r t ≡ t
@@ -53,9 +49,9 @@ sub_fixed c s SortType f h = refl
 sub_fixed c s SortKind f h = refl
 sub_fixed c s (Var n) f h = f.each n (omega (arith, h))
 sub_fixed c s (Sym x) f h = refl
-sub_fixed c s (App g x) f h = ap2 App (sub_fixed c s g f (omega (arith, h))) (sub_fixed c s x f (omega (arith, h)))
-sub_fixed c s (Lam a b) f h = ap2 Lam (sub_fixed c s a f (omega (arith, h))) (sub_fixed (suc c) (ups s) b (FixesVariables-ups f) (omega (arith, h)))
-sub_fixed c s (Pi a b) f h = ap2 Pi (sub_fixed c s a f (omega (arith, h))) (sub_fixed (suc c) (ups s) b (FixesVariables-ups f) (omega (arith, h)))
+sub_fixed c s (App g x) f h = ap₂ App (sub_fixed c s g f (omega (arith, h))) (sub_fixed c s x f (omega (arith, h)))
+sub_fixed c s (Lam a b) f h = ap₂ Lam (sub_fixed c s a f (omega (arith, h))) (sub_fixed (suc c) (ups s) b (FixesVariables-ups f) (omega (arith, h)))
+sub_fixed c s (Pi a b) f h = ap₂ Pi (sub_fixed c s a f (omega (arith, h))) (sub_fixed (suc c) (ups s) b (FixesVariables-ups f) (omega (arith, h)))
 
 -- a substitution leaves a closed tree alone
 pub sub_closed : (s : ℕ → Tree) (t : Tree) → loose t ≡ 0 → sub s t ≡ t

@@ -1,8 +1,8 @@
 -- The complete development of a tree takes all its redexes at once, and each parallel step goes on to it (Takahashi, 1995).
 use Rattle.std.proofs.Common.{◌≡◌, ℕ, suc, zero, refl, sym, ap, subst, List, Option, Some, None}
 use Rattle.std.specs.Prelude.{unwrap_or}
+use Rattle.std.proofs.Math.Path.{subst₂}
 use Rattle.lp_spec.specs.Trees.{Tree, SortType, SortKind, Var, Sym, App, Lam, Pi, lift, put}
-use Rattle.lp_binding.specs.SubstitutionLaws.{subst2}
 use Rattle.lp_spec.specs.Modules.{Declaration, arr_symbol, arr_of, term_of}
 use Rattle.lp_spec.specs.Conversion.{symbol_definition}
 use Rattle.lp_typing.specs.ConversionLaws.{IsClosed}
@@ -102,12 +102,12 @@ module _ (m : List Declaration) (closed : IsClosed m) where
       → Parallel m g df → Parallel m y dx → Parallel m (App g y) (developed_application r df dx)
   application_develops {g = g} {y = y} {df = df} {dx = dx} (is_beta {a = a} {b = b}) f x ef ex hf hx =
       let h = Parallel-Lam f in
-      let k = Parallel-Lam (subst2 (Parallel m) (sym h.is) ef hf) in
-      subst2 (λ w z. Parallel m (App w y) (put dx (body_of z))) h.is (sym ef) (p_beta (subst (Parallel m h.body) (ap body_of k.is) k.body_by) hx refl)
+      let k = Parallel-Lam (subst₂ (Parallel m) (sym h.is) ef hf) in
+      subst₂ (λ w z. Parallel m (App w y) (put dx (body_of z))) h.is (sym ef) (p_beta (subst (Parallel m h.body) (ap body_of k.is) k.body_by) hx refl)
   application_develops {g = g} {y = y} {df = df} {dx = dx} (is_rule {a = a} {b = b}) f x ef ex hf hx =
       let h = Parallel-arr_of x in
       let k = Parallel-arr_of (subst (λ w. Parallel m w dx) (sym h.is) hx) in
-      subst2 (λ w z. Parallel m (App w z) (product_of dx)) (Parallel-Sym refl f) h.is (p_rule k.left_by k.right_by (ap product_of k.is))
+      subst₂ (λ w z. Parallel m (App w z) (product_of dx)) (Parallel-Sym refl f) h.is (p_rule k.left_by k.right_by (ap product_of k.is))
   application_develops is_none f x ef ex hf hx = p_app hf hx
 
   -- a symbol goes to its development

@@ -1,10 +1,11 @@
 -- Parallel steps: any redexes of a tree at once (Tait and Martin-Löf; Takahashi, Parallel reductions in lambda-calculus, 1995).
 use Rattle.std.proofs.Common.{◌≡◌, ℕ, zero, suc, sym, ap, ◌∙◌, Some}
 use Rattle.std.specs.Prelude.{List}
+use Rattle.std.proofs.Math.Path.{subst₂}
 use Rattle.lp_spec.specs.Trees.{Tree, SortType, SortKind, Var, Sym, App, Lam, Pi, lift, put}
 use Rattle.lp_spec.specs.Substitution.{up, ren, ups, sub, cons}
 use Rattle.lp_binding.specs.Composition.{put_is}
-use Rattle.lp_binding.specs.SubstitutionLaws.{subst2, ren_closed, sub_closed, ren-put, sub-put, lift_one, ren-lift, sub-lift}
+use Rattle.lp_binding.specs.SubstitutionLaws.{ren_closed, sub_closed, ren-put, sub-put, lift_one, ren-lift, sub-lift}
 use Rattle.lp_spec.specs.Modules.{Declaration, arr_of, term_of}
 use Rattle.lp_spec.specs.Conversion.{symbol_definition, Step, beta, delta, rule, app_function, app_argument, lam_domain, lam_body, pi_domain, pi_body, Steps, done, next}
 use Rattle.lp_typing.specs.ConversionLaws.{IsClosed, Steps-trans, Steps-under}
@@ -61,7 +62,7 @@ module _ (m : List Declaration) where
 
     -- lifting keeps parallel steps
     pub Parallel-lift : {t u : Tree} → Parallel m t u → Parallel m (lift 1 t) (lift 1 u)
-    Parallel-lift {t = t} {u = u} h = subst2 (Parallel m) (sym (lift_one t)) (sym (lift_one u)) (Parallel-ren suc h)
+    Parallel-lift {t = t} {u = u} h = subst₂ (Parallel m) (sym (lift_one t)) (sym (lift_one u)) (Parallel-ren suc h)
 
     -- parallel steps of a substitution, under a binder
     Parallel-ups : (s w : ℕ → Tree) → ((n : ℕ) → Parallel m (s n) (w n)) → (n : ℕ) → Parallel m (ups s n) (ups w n)
@@ -89,7 +90,7 @@ module _ (m : List Declaration) where
     -- putting keeps parallel steps, of the argument and of the body
     pub Parallel-put : {x y b d : Tree} → Parallel m x y → Parallel m b d → Parallel m (put x b) (put y d)
     Parallel-put {x = x} {y = y} {b = b} {d = d} hx hb =
-        subst2 (Parallel m) (sym (put_is x b)) (sym (put_is y d)) (Parallel-sub (cons x Var) (cons y Var) (Parallel-cons hx) hb)
+        subst₂ (Parallel m) (sym (put_is x b)) (sym (put_is y d)) (Parallel-sub (cons x Var) (cons y Var) (Parallel-cons hx) hb)
 
 -- a parallel step is a chain of steps
 pub Parallel-Steps : {m : List Declaration} {t u : Tree} → Parallel m t u → Steps m t u

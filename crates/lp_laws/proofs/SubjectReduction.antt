@@ -1,6 +1,6 @@
 -- A step keeps the type: by cases on the step, with the inversion of typing and the injectivity of products.
 use Rattle.std.proofs.Common.{◌≡◌, refl, sym, ◌∙◌, subst, ℕ, List, Some}
-use Rattle.lp_binding.specs.LookUps.{some_is}
+use Rattle.std.proofs.lemmas.Option.{same_Some}
 use Rattle.lp_spec.specs.Trees.{Tree, SortType, Sym, App, Pi, put}
 use Rattle.lp_spec.specs.Modules.{Declaration, types, symbol_type}
 use Rattle.lp_spec.specs.Conversion.{Step, beta, delta, rule, app_function, app_argument, lam_domain, lam_body, pi_domain, pi_body, Conv, same, forth, back}
@@ -30,7 +30,7 @@ module _ (m : List Declaration) (sound : IsSound m) where
   simple_argument {x = x} B c e h =
       let a = Typed-App h in
       let o = Typed-Sym a.function in
-      let p = Conv-Pi m closed (subst (λ w. Conv m w (Pi a.domain a.codomain)) (some_is (sym o.declared ∙ e)) (Fits-Conv o.fits)) in
+      let p = Conv-Pi m closed (subst (λ w. Conv m w (Pi a.domain a.codomain)) (same_Some _ _ (sym o.declared ∙ e)) (Fits-Conv o.fits)) in
       (of_conversion a.argument (Conv-sym p.0) (Typed-types m) is_type, Fits-before (Conv-put m closed x p.1) (IsSorted-codomain m sound c a.function a.argument) a.fits)
 
   -- over a sound module a step keeps the type

@@ -1,3 +1,5 @@
+//! The forms of declarations.
+
 /// What a declaration is to conversion.
 #[derive(Clone, Copy, Debug, PartialEq, Eq)]
 pub enum Form {

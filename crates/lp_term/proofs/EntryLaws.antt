@@ -1,9 +1,9 @@
 -- The trees of a list of entries.
 use Rattle.std.proofs.Common.{◌≡◌, ℕ, zero, suc, ◌+◌, ◌<◌, refl, sym, ap, ◌∙◌, subst, arith, List, [], ◌∷◌, ◌++◌, length, Some, length-append, ◌⊎◌, ⊎_elim, inl, inr, true}
 use Rattle.std.specs.Prelude.{slice_get}
-use Rattle.std.proofs.lemmas.Option.{slice_get_within}
+use Rattle.std.proofs.lemmas.Option.{slice_get_within, same_Some}
+use Rattle.std.proofs.Math.Path.{ap₂}
 use Rattle.lp_spec.specs.Trees.{Tree, SortType, App, Lam, Pi}
-use Rattle.lp_binding.specs.Composition.{ap2}
 use Rattle.lp_term.specs.declared.LpId.{LpId}
 use Rattle.lp_term.specs.declared.LpNode.{LpNode}
 use Rattle.lp_term.specs.declared.LpNode.TheVariants as node
@@ -11,7 +11,7 @@ use Rattle.lp_term.specs.declared.Entry.{Entry}
 use Rattle.lp_term.specs.contracts.EntryPartialEq.TheImpl as entry_eq
 use Rattle.lp_term.specs.contracts.LpNodePartialEq.TheImpl as node_eq
 use Rattle.lp_term.specs.Tables.{tree_at, Holds, tree_of_node, PartsBelow, IsDistinct, Stays}
-use Rattle.lp_term.specs.TableLaws.{some_is, tree_at-Holds, Stays-refl, Stays-trans, Stays-append, tree_of_node-Stays}
+use Rattle.lp_term.specs.TableLaws.{tree_at-Holds, Stays-refl, Stays-trans, Stays-append, tree_of_node-Stays}
 use Rattle.lp_term.specs.Entries.{trees_from, trees_of}
 
 pub trees_from-append : (ts : List Tree) (es : List Entry) (e : Entry) → trees_from ts (es ++ e ∷ []) ≡ trees_from ts es ++ tree_of_node (trees_from ts es) e.node ∷ []
@@ -35,7 +35,7 @@ slice_get-last (z ∷ xs) x = slice_get-last xs x
 
 -- an item of a longer list is an old one or the last
 pub slice_get-one_more : {X : Type 0} (xs : List X) (x y : X) (i : ℕ) → slice_get (xs ++ x ∷ []) i ≡ Some y → (slice_get xs i ≡ Some y) ⊎ ((i ≡ length xs) × (x ≡ y))
-slice_get-one_more [] x y zero e = inr (refl, some_is e)
+slice_get-one_more [] x y zero e = inr (refl, same_Some _ _ e)
 slice_get-one_more [] x y (suc i) e = inl e
 slice_get-one_more (z ∷ xs) x y zero e = inl e
 slice_get-one_more (z ∷ xs) x y (suc i) e = ⊎_elim (λ h. inl h) (λ h. inr (ap suc h.0, h.1)) (slice_get-one_more xs x y i e)
@@ -45,7 +45,7 @@ node_from : (ts : List Tree) (es : List Entry) (j : ℕ) (m : Entry) → slice_g
 node_from ts [] j m e h = absurd (let h = slice_get_within [] j m e in omega arith)
 node_from ts (n ∷ es) zero m e h =
     let z : length ts + 0 ≡ length ts = omega arith in
-    let same : n ≡ m = some_is e in
+    let same : n ≡ m = same_Some _ _ e in
     let us = ts ++ tree_of_node ts n.node ∷ [] in
     let hn = subst (λ w. PartsBelow w n.node) z (subst (λ w. PartsBelow (length ts + 0) w.node) (sym same) h) in
     ap (slice_get (trees_from ts (n ∷ es))) z
@@ -115,7 +115,7 @@ tree_of_node-same d node.SortType node.SortType hm hn e = refl
 tree_of_node-same d node.SortKind node.SortKind hm hn e = refl
 tree_of_node-same d (node.Var a) (node.Var b) hm hn e = cc
 tree_of_node-same d (node.Sym a) (node.Sym b) hm hn e = cc
-tree_of_node-same d (node.App f x) (node.App g y) hm hn e = ap2 node.App (tree_at-same d f g hm.0 hn.0 (ap left_of e)) (tree_at-same d x y hm.1 hn.1 (ap right_of e))
-tree_of_node-same d (node.Lam f x) (node.Lam g y) hm hn e = ap2 node.Lam (tree_at-same d f g hm.0 hn.0 (ap left_of e)) (tree_at-same d x y hm.1 hn.1 (ap right_of e))
-tree_of_node-same d (node.Pi f x) (node.Pi g y) hm hn e = ap2 node.Pi (tree_at-same d f g hm.0 hn.0 (ap left_of e)) (tree_at-same d x y hm.1 hn.1 (ap right_of e))
+tree_of_node-same d (node.App f x) (node.App g y) hm hn e = ap₂ node.App (tree_at-same d f g hm.0 hn.0 (ap left_of e)) (tree_at-same d x y hm.1 hn.1 (ap right_of e))
+tree_of_node-same d (node.Lam f x) (node.Lam g y) hm hn e = ap₂ node.Lam (tree_at-same d f g hm.0 hn.0 (ap left_of e)) (tree_at-same d x y hm.1 hn.1 (ap right_of e))
+tree_of_node-same d (node.Pi f x) (node.Pi g y) hm hn e = ap₂ node.Pi (tree_at-same d f g hm.0 hn.0 (ap left_of e)) (tree_at-same d x y hm.1 hn.1 (ap right_of e))
 tree_of_node-same d _ _ hm hn e = absurd (cc)

@@ -3,6 +3,8 @@ use Rattle.std.proofs.Common.{◌≡◌, ℕ, zero, suc, refl, sym, ap, ◌∙�
 use Rattle.std.proofs.lemmas.Bool.{eqb-true}
 use Rattle.std.specs.Prelude.{slice_get, nat_eq, ◌&&◌, if◌then◌else◌, IfSome}
 use Rattle.std.specs.Map.{lookup}
+use Rattle.std.proofs.lemmas.Option.{same_Some}
+use Rattle.std.proofs.Math.Path.{ap₂}
 use Rattle.indexmap.specs.IndexMap.{insert_entry}
 use Rattle.lp_term.specs.declared.LpId.{LpId}
 use Rattle.lp_term.specs.declared.memo.Place.{Place}
@@ -11,8 +13,6 @@ use Rattle.lp_term.specs.declared.memo.Change.TheVariants.{Raise, Replace}
 use Rattle.lp_term.specs.contracts.memo.ChangePartialEq.TheImpl as change_eq
 use Rattle.lp_term.specs.contracts.memo.PlacePartialEq.TheImpl as place_eq
 use Rattle.lp_term.specs.Noted.{IsNoted}
-use Rattle.lp_term.specs.TableLaws.{some_is}
-use Rattle.lp_binding.specs.Composition.{ap2}
 
 and_both : (a b : Bool) → (a && b) ≡ true → (a ≡ true) × (b ≡ true)
 and_both true b e = (refl, e)
@@ -50,7 +50,7 @@ found p [] r h = absurd (cc)
 found p (e ∷ es) r h = go (λ w. found p es r w) (place_eq.eq-value.it p e.0) refl
   where
     go : (lookup (place_eq.eq-value.it p) es ≡ Some r → IsNoted es p r) → (b : Bool) → place_eq.eq-value.it p e.0 ≡ b → IsNoted (e ∷ es) p r
-    go on true q = (0, let v : e.1 ≡ r = some_is (sym (ap (λ b. if b then Some e.1 else lookup (place_eq.eq-value.it p) es) q) ∙ h) in ap Some (ap2 (λ a b. (a, b)) (sym (place_same p e.0 q)) v))
+    go on true q = (0, let v : e.1 ≡ r = same_Some _ _ (sym (ap (λ b. if b then Some e.1 else lookup (place_eq.eq-value.it p) es) q) ∙ h) in ap Some (ap₂ (λ a b. (a, b)) (sym (place_same p e.0 q)) v))
     go on false q = let w = on (sym (ap (λ b. if b then Some e.1 else lookup (place_eq.eq-value.it p) es) q) ∙ h) in (suc w.0, w.1)
 
 pub noted : (k : Place) (v : LpId) (es : List (Place × LpId)) (p : Place) (r : LpId) → IsNoted (insert_entry place_eq.eq-value.it es k v) p r → IsNoted es p r ⊎ ((p ≡ k) × (r ≡ v))

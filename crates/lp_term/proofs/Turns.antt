@@ -1,11 +1,12 @@
 -- What a turn does to a walk.
-use Rattle.std.proofs.Common.{◌≡◌, ℕ, zero, suc, ◌+◌, ◌-◌, ◌*◌, ◌<◌, ◌≤◌, ◌^◌, refl, sym, ap, ◌∙◌, subst, arith, List, [], ◌∷◌, ◌++◌, map, length, Some, Result, Ok, Err, ◌⊎◌, ⊎_elim, reverse}
-use Rattle.std.specs.Prelude.{slice_get, OnOk}
+use Rattle.std.proofs.Common.{◌≡◌, ℕ, zero, suc, ◌+◌, ◌-◌, ◌*◌, ◌<◌, ◌≤◌, ◌^◌, refl, sym, ap, ◌∙◌, subst, arith, List, [], ◌∷◌, ◌++◌, map, length, Some, ◌⊎◌, ⊎_elim, reverse}
+use Rattle.std.specs.Prelude.{slice_get}
 use Rattle.std.specs.Option.{option_map, option_map_or}
-use Rattle.std.proofs.lemmas.Option.{slice_get-map}
+use Rattle.std.proofs.lemmas.Option.{slice_get-map, same_Some}
 use Rattle.std.proofs.lemmas.List.{length-map, map-append, reverse-append}
+use Rattle.std.proofs.Math.Path.{ap₂}
 use Rattle.lp_spec.specs.Trees.{Tree, SortType, SortKind, Var, Sym, App, Lam, Pi, size, loose, lift, put_all_at}
-use Rattle.lp_binding.specs.Composition.{ap2, put_all_var-high}
+use Rattle.lp_binding.specs.Composition.{put_all_var-high}
 use Rattle.lp_binding.specs.Closed.{lift_at-closed, lift_at-zero, put_all_at-closed}
 use Rattle.lp_term.specs.declared.LpId.{LpId}
 use Rattle.lp_term.specs.declared.LpNode.{LpNode}
@@ -17,13 +18,9 @@ use Rattle.lp_term.specs.declared.walk.Task.{Task}
 use Rattle.lp_term.specs.declared.walk.Task.TheVariants.{Visit, Join}
 use Rattle.lp_term.specs.declared.walk.Variable.TheVariants.{Renamed, Argument}
 use Rattle.lp_term.specs.Tables.{tree_at, trees_at, tree_of_node, PartsBelow, AreKnown, Holds, Keeps}
-use Rattle.lp_term.specs.TableLaws.{some_is, tree_at-Holds, tree_at-Stays, Holds-tree_at, Holds-within, Keeps-refl}
+use Rattle.lp_term.specs.TableLaws.{tree_at-Holds, tree_at-Stays, Holds-tree_at, Holds-within, Keeps-refl}
 use Rattle.lp_term.specs.Noted.{IsNoted}
 use Rattle.lp_term.specs.Walks.{changed, wanted, with_parts, joined, Makes, IsPlace, ArePlaces, IsMemo, IsLeftAlone, IsReplaced, IsWalk, sizes, price, work}
-
-pub OnOk-map : {T E P Q : Type 0} (r : Result T E) → (P → Q) → OnOk r P → OnOk r Q
-OnOk-map (Ok v) f h = f h
-OnOk-map (Err e) f h = tt
 
 -- a longer table does the same
 module _ {ts us : List Tree} (keeps : Keeps ts us) where
@@ -36,7 +33,7 @@ module _ {ts us : List Tree} (keeps : Keeps ts us) where
 
   trees_at-Keeps : (ids : List LpId) → AreKnown ts ids → trees_at ts ids ≡ trees_at us ids
   trees_at-Keeps [] h = refl
-  trees_at-Keeps (id ∷ ids) h = ap2 (λ t l. t ∷ l) (tree_at-Stays keeps.stays id.0 h.0) (trees_at-Keeps ids h.1)
+  trees_at-Keeps (id ∷ ids) h = ap₂ (λ t l. t ∷ l) (tree_at-Stays keeps.stays id.0 h.0) (trees_at-Keeps ids h.1)
 
   ArePlaces-Keeps : (tasks : List Task) → ArePlaces ts tasks → ArePlaces us tasks
   ArePlaces-Keeps [] h = tt
@@ -57,12 +54,12 @@ module _ {ts us : List Tree} (keeps : Keeps ts us) where
 
   sizes-Keeps : (ids : List LpId) → AreKnown ts ids → sizes ts ids ≡ sizes us ids
   sizes-Keeps [] h = refl
-  sizes-Keeps (id ∷ ids) h = ap2 (λ t n. size t + n) (tree_at-Stays keeps.stays id.0 h.0) (sizes-Keeps ids h.1)
+  sizes-Keeps (id ∷ ids) h = ap₂ (λ t n. size t + n) (tree_at-Stays keeps.stays id.0 h.0) (sizes-Keeps ids h.1)
 
   pub work-Keeps : (ids : List LpId) (tasks : List Task) → AreKnown ts ids → ArePlaces ts tasks → work ts ids tasks ≡ work us ids tasks
   work-Keeps ids [] g h = refl
   work-Keeps ids (Visit p ∷ tasks) g h =
-      ap2 (λ a b. a + b) (ap2 (λ n t. price n p.change * size t) (sizes-Keeps ids g) (tree_at-Stays keeps.stays p.id.0 h.0.0)) (work-Keeps ids tasks g h.1)
+      ap₂ (λ a b. a + b) (ap₂ (λ n t. price n p.change * size t) (sizes-Keeps ids g) (tree_at-Stays keeps.stays p.id.0 h.0.0)) (work-Keeps ids tasks g h.1)
   work-Keeps ids (Join p ∷ tasks) g h = ap (λ n. 1 + n) (work-Keeps ids tasks g h.1)
 
 size_pos : (t : Tree) → 0 < size t
@@ -97,7 +94,7 @@ module _ {ts us : List Tree} (keeps : Keeps ts us) (ids : List LpId) (place : Pl
         places = ArePlaces-Keeps keeps tasks w.places.1;
         known = (Holds-within us id.0 (wanted args ts place) e, AreKnown-Keeps keeps made w.known);
         noted = IsMemo-Keeps keeps args memo w.noted;
-        makes = Makes-Keeps keeps args tasks (trees_at us (id ∷ made)) goal w.places.1 (subst (λ l. Makes args ts tasks l goal) (ap2 (λ t l. t ∷ l) (sym (Holds-tree_at us id.0 (wanted args ts place) e)) (trees_at-Keeps keeps made w.known)) w.makes);
+        makes = Makes-Keeps keeps args tasks (trees_at us (id ∷ made)) goal w.places.1 (subst (λ l. Makes args ts tasks l goal) (ap₂ (λ t l. t ∷ l) (sym (Holds-tree_at us id.0 (wanted args ts place) e)) (trees_at-Keeps keeps made w.known)) w.makes);
       }
 
   pub visit_less : (args : List Tree) (goal : Tree) → IsWalk args goal ts ids (Visit place ∷ tasks) made memo → work us ids tasks < work ts ids (Visit place ∷ tasks)
@@ -133,12 +130,12 @@ renamed_wanted {ts = ts} keeps ids place tasks made memo n m id h r e args goal 
 
 AreKnown-at : (ts : List Tree) (ids : List LpId) (i : ℕ) (id : LpId) → slice_get ids i ≡ Some id → AreKnown ts ids → id.0 < length ts
 AreKnown-at ts [] i id e h = absurd (cc)
-AreKnown-at ts (x ∷ ids) zero id e h = subst (λ y. y.0 < length ts) (some_is e) h.0
+AreKnown-at ts (x ∷ ids) zero id e h = subst (λ y. y.0 < length ts) (same_Some _ _ e) h.0
 AreKnown-at ts (x ∷ ids) (suc i) id e h = AreKnown-at ts ids i id e h.1
 
 sizes-at : (ts : List Tree) (ids : List LpId) (i : ℕ) (id : LpId) → slice_get ids i ≡ Some id → size (tree_at ts id.0) ≤ sizes ts ids
 sizes-at ts [] i id e = absurd (cc)
-sizes-at ts (x ∷ ids) zero id e = omega (arith, ap (λ y. size (tree_at ts y.0)) (some_is e))
+sizes-at ts (x ∷ ids) zero id e = omega (arith, ap (λ y. size (tree_at ts y.0)) (same_Some _ _ e))
 sizes-at ts (x ∷ ids) (suc i) id e = omega (arith, sizes-at ts ids i id e)
 
 map-reverse : {X Y : Type 0} (f : X → Y) (xs : List X) → map f (reverse xs) ≡ reverse (map f xs)
@@ -169,7 +166,7 @@ module _ (ts : List Tree) (ids : List LpId) (place : Place) (tasks : List Task) 
   pub argument_less : work ts ids (Visit (record { id = id; depth = 0; change = Raise place.depth }) ∷ tasks) < work ts ids (Visit place ∷ tasks)
   argument_less =
       let s = sizes-at ts ids r.3.0 id r.3.1 in
-      let p : price (sizes ts ids) place.change * size (tree_at ts place.id.0) ≡ (2 * sizes ts ids + 2) * 1 = ap2 (λ c t. price (sizes ts ids) c * size t) r.0 (Holds-tree_at ts place.id.0 (Var n) h) in
+      let p : price (sizes ts ids) place.change * size (tree_at ts place.id.0) ≡ (2 * sizes ts ids + 2) * 1 = ap₂ (λ c t. price (sizes ts ids) c * size t) r.0 (Holds-tree_at ts place.id.0 (Var n) h) in
       omega (arith, s, p)
 
 -- a place that is set out to be made of its parts
@@ -277,7 +274,7 @@ module _ {ts us : List Tree} (keeps : Keeps ts us) (ids : List LpId) (place : Pl
         places = ArePlaces-Keeps keeps tasks w.places.1;
         known = (Holds-within us id.0 (wanted args ts place) is, AreKnown-Keeps keeps rest known.1.1);
         noted = λ p r q. ⊎_elim (λ old. IsMemo-Keeps keeps args memo w.noted p r old) (λ new. here args is w.places.0.0 p r new.0 new.1) (notes p r q);
-        makes = Makes-Keeps keeps args tasks (trees_at us (id ∷ rest)) goal w.places.1 (subst (λ l. Makes args ts tasks l goal) (ap2 (λ t l. t ∷ l) (sym (Holds-tree_at us id.0 (wanted args ts place) is)) (trees_at-Keeps keeps rest known.1.1)) makes.1);
+        makes = Makes-Keeps keeps args tasks (trees_at us (id ∷ rest)) goal w.places.1 (subst (λ l. Makes args ts tasks l goal) (ap₂ (λ t l. t ∷ l) (sym (Holds-tree_at us id.0 (wanted args ts place) is)) (trees_at-Keeps keeps rest known.1.1)) makes.1);
       }
     where
       here : (args : List Tree) → Holds us id.0 (wanted args ts place) → place.id.0 < length ts → (p : Place) (r : LpId) → p ≡ place → r ≡ id → (p.id.0 < length us) × Holds us r.0 (wanted args us p)

@@ -1,21 +1,13 @@
 -- What follows from the words for tables.
-use Rattle.std.proofs.Common.{◌≡◌, ℕ, zero, suc, ◌<◌, ◌≤◌, refl, sym, ap, ◌∙◌, subst, arith, List, [], ◌∷◌, ◌++◌, length, Option, Some, None, ⊎_elim, length-append}
-use Rattle.std.specs.Prelude.{slice_get, unwrap_or, take}
-use Rattle.std.proofs.lemmas.Option.{slice_get_within, slice_get-get_or, unwrap_or-slice_get}
+use Rattle.std.proofs.Common.{◌≡◌, ℕ, suc, ◌<◌, ◌≤◌, refl, sym, ap, ◌∙◌, subst, arith, List, [], ◌∷◌, ◌++◌, length, Some, ⊎_elim, length-append}
+use Rattle.std.specs.Prelude.{unwrap_or, take}
+use Rattle.std.proofs.lemmas.Option.{slice_get_within, slice_get-get_or, unwrap_or-slice_get, same_Some}
+use Rattle.std.proofs.Math.Path.{ap₂}
 use Rattle.lp_spec.specs.Trees.{Tree, SortType, App, Lam, Pi}
-use Rattle.lp_binding.specs.Composition.{ap2}
+use Rattle.lp_binding.specs.LookUps.{slice_get-append}
 use Rattle.lp_term.specs.declared.LpNode.{LpNode}
 use Rattle.lp_term.specs.declared.LpNode.TheVariants as node
 use Rattle.lp_term.specs.Tables.{tree_at, Holds, tree_of_node, PartsBelow, IsDistinct, Stays, Keeps, Adds}
-
-some_or : {X : Type 0} → X → Option X → X
-some_or d None = d
-some_or d (Some x) = x
-
--- equal options have equal values
-pub some_is : {X : Type 0} {x y : X} → Some x ≡ Some y → x ≡ y
-unfolding some_or
-some_is {x = x} e = ap (some_or x) e
 
 -- a number that the table has, has its tree
 pub tree_at-Holds : (ts : List Tree) (i : ℕ) → i < length ts → Holds ts i (tree_at ts i)
@@ -34,12 +26,6 @@ Stays-refl ts = record { each = λ i t e. e }
 
 pub Stays-trans : {a b c : List Tree} → Stays a b → Stays b c → Stays a c
 Stays-trans h k = record { each = λ i t e. k.each i t (h.each i t e) }
-
--- what an item of a list is, it is in a longer one
-pub slice_get-append : {X : Type 0} (xs ys : List X) (i : ℕ) (x : X) → slice_get xs i ≡ Some x → slice_get (xs ++ ys) i ≡ Some x
-slice_get-append [] ys i x e = absurd (let h = slice_get_within [] i x e in omega arith)
-slice_get-append (z ∷ xs) ys zero x e = e
-slice_get-append (z ∷ xs) ys (suc i) x e = slice_get-append xs ys i x e
 
 pub Stays-append : (ts us : List Tree) → Stays ts (ts ++ us)
 Stays-append ts us = record { each = slice_get-append ts us }
@@ -60,9 +46,9 @@ tree_of_node-Stays k node.SortType h = refl
 tree_of_node-Stays k node.SortKind h = refl
 tree_of_node-Stays k (node.Var n) h = refl
 tree_of_node-Stays k (node.Sym n) h = refl
-tree_of_node-Stays k (node.App f x) h = ap2 App (tree_at-Stays k f.0 h.0) (tree_at-Stays k x.0 h.1)
-tree_of_node-Stays k (node.Lam a b) h = ap2 Lam (tree_at-Stays k a.0 h.0) (tree_at-Stays k b.0 h.1)
-tree_of_node-Stays k (node.Pi a b) h = ap2 Pi (tree_at-Stays k a.0 h.0) (tree_at-Stays k b.0 h.1)
+tree_of_node-Stays k (node.App f x) h = ap₂ App (tree_at-Stays k f.0 h.0) (tree_at-Stays k x.0 h.1)
+tree_of_node-Stays k (node.Lam a b) h = ap₂ Lam (tree_at-Stays k a.0 h.0) (tree_at-Stays k b.0 h.1)
+tree_of_node-Stays k (node.Pi a b) h = ap₂ Pi (tree_at-Stays k a.0 h.0) (tree_at-Stays k b.0 h.1)
 
 -- parts below a number are below a greater one
 pub PartsBelow-more : {a b : ℕ} → a ≤ b → (n : LpNode) → PartsBelow a n → PartsBelow b n
@@ -89,4 +75,4 @@ Adds-Keeps old new t a d = ⊎_elim
 pub take-Stays : (ts us : List Tree) → Stays ts us → take (length ts) us ≡ ts
 take-Stays [] us k = refl
 take-Stays (t ∷ ts) [] k = absurd (let h = slice_get_within [] 0 t (k.each 0 t refl) in omega arith)
-take-Stays (t ∷ ts) (u ∷ us) k = ap2 (λ x l. x ∷ l) (some_is (k.each 0 t refl)) (take-Stays ts us (record { each = λ i v e. k.each (suc i) v e }))
+take-Stays (t ∷ ts) (u ∷ us) k = ap₂ (λ x l. x ∷ l) (same_Some _ _ (k.each 0 t refl)) (take-Stays ts us (record { each = λ i v e. k.each (suc i) v e }))

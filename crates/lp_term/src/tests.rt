@@ -1,3 +1,4 @@
+//! Lifting and putting in small trees.
 ghost use Rattle.std.specs.Prelude.{◌<◌, ◌≤◌, length, IfOk};
 
 use crate::{LpId, LpNode, LpTable};

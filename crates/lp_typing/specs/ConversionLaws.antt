@@ -1,10 +1,11 @@
 -- Steps and conversion: chains joined and reversed, and what renamings, substitutions and further declarations keep of them.
 use Rattle.std.proofs.Common.{◌≡◌, ℕ, sym, ap, ◌∙◌, subst, List, ◌++◌, Some}
+use Rattle.std.proofs.Math.Path.{subst₂}
 use Rattle.lp_binding.specs.LookUps.{slice_get-append, option_map-append, option_and_then-append}
 use Rattle.lp_spec.specs.Trees.{Tree, Var, Pi, put, loose}
 use Rattle.lp_spec.specs.Substitution.{up, ren, ups, sub, cons}
 use Rattle.lp_binding.specs.Composition.{put_is}
-use Rattle.lp_binding.specs.SubstitutionLaws.{subst2, ren_closed, sub_closed, ren-put, sub-put, ren-lift, sub-lift}
+use Rattle.lp_binding.specs.SubstitutionLaws.{ren_closed, sub_closed, ren-put, sub-put, ren-lift, sub-lift}
 use Rattle.lp_spec.specs.Modules.{Declaration, signature, symbol_declaration, symbol_type, term_of}
 use Rattle.lp_spec.specs.Conversion.{symbol_definition, definition_of, Step, beta, delta, rule, app_function, app_argument, lam_domain, lam_body, pi_domain, pi_body, Steps, done, next, Conv, same, forth, back}
 
@@ -89,7 +90,7 @@ module _ (m : List Declaration) (closed : IsClosed m) where
 
   -- what is put in convertible trees leaves them convertible
   pub Conv-put : (x : Tree) {B C : Tree} → Conv m B C → Conv m (put x B) (put x C)
-  Conv-put x {B = B} {C = C} h = subst2 (Conv m) (sym (put_is x B)) (sym (put_is x C)) (Conv-sub (cons x Var) h)
+  Conv-put x {B = B} {C = C} h = subst₂ (Conv m) (sym (put_is x B)) (sym (put_is x C)) (Conv-sub (cons x Var) h)
 
 -- further declarations keep steps and conversion
 module _ (m more : List Declaration) where

@@ -1,8 +1,7 @@
 -- A type is Kind or has a sort (Barendregt, 1992, the lemma of correctness of types).
 use Rattle.std.proofs.Common.{◌≡◌, ◌⊎◌, inl, inr, ⊎_elim, refl, ◌∙◌, subst, ℕ, zero, suc, arith, List, [], ◌∷◌, Some}
 use Rattle.std.specs.Prelude.{slice_get}
-use Rattle.std.proofs.lemmas.Option.{slice_get_within}
-use Rattle.lp_binding.specs.LookUps.{some_is}
+use Rattle.std.proofs.lemmas.Option.{slice_get_within, same_Some}
 use Rattle.lp_spec.specs.Trees.{Tree, SortType, SortKind, Pi, lift, put}
 use Rattle.lp_binding.specs.Composition.{suc_lift}
 use Rattle.lp_binding.specs.SubstitutionLaws.{lift_one}
@@ -30,7 +29,7 @@ module _ (m : List Declaration) (closed : IsClosed m) where
   -- the type of a variable is a type
   pub Typed-lift : {G : List Tree} → IsContext m G → (n : ℕ) (A : Tree) → slice_get G n ≡ Some A → Typed m G (lift (suc n) A) SortType
   Typed-lift nothing n A e = absurd (let h = slice_get_within [] n A e in omega arith)
-  Typed-lift (entry {G = G} {A = B} c h) zero A e = subst (λ w. Typed m (B ∷ G) (lift 1 w) SortType) (some_is e) (weaken m closed h)
+  Typed-lift (entry {G = G} {A = B} c h) zero A e = subst (λ w. Typed m (B ∷ G) (lift 1 w) SortType) (same_Some _ _ e) (weaken m closed h)
   Typed-lift (entry {G = G} {A = B} c h) (suc n) A e =
       subst (λ w. Typed m (B ∷ G) w SortType) (lift_one (lift (suc n) A) ∙ suc_lift (suc n) A) (weaken m closed (Typed-lift c n A e))
 

@@ -2,9 +2,10 @@
 use Rattle.std.proofs.Common.{◌≡◌, ⊎_elim, sym, ap, ◌∙◌, subst, ℕ, List, [], ◌∷◌, ◌++◌, append_assoc, Option, Some, None}
 use Rattle.std.specs.Prelude.{option_map}
 use Rattle.std.proofs.lemmas.List.{append-nil}
+use Rattle.std.proofs.lemmas.Option.{same_Some}
 use Rattle.lp_spec.specs.declared.form.Form.{Form}
 use Rattle.lp_spec.specs.declared.form.Form.TheVariants.{Symbol, Def, Thm}
-use Rattle.lp_binding.specs.LookUps.{some_is, option_map-some, option_and_then-some, last_or}
+use Rattle.lp_binding.specs.LookUps.{option_map-some, option_and_then-some, last_or}
 use Rattle.lp_spec.specs.Trees.{Tree, SortType, loose}
 use Rattle.lp_spec.specs.Modules.{Declaration, signature, symbol_declaration, symbol_type}
 use Rattle.lp_spec.specs.Conversion.{definition_of, symbol_definition}
@@ -26,7 +27,7 @@ pub record IsSound (m : List Declaration) : Type 0 where
 Typed-definition_of : (m : List Declaration) (f : Form) (b : Option Tree) (A t : Tree) → definition_of f b ≡ Some t → IsBodyOf m f b A → Typed m [] t A
 Typed-definition_of m Symbol b A t e h = absurd (cc)
 Typed-definition_of m Def None A t e h = absurd h
-Typed-definition_of m Def (Some u) A t e h = subst (λ w. Typed m [] w A) (some_is e) h
+Typed-definition_of m Def (Some u) A t e h = subst (λ w. Typed m [] w A) (same_Some _ _ e) h
 Typed-definition_of m Thm b A t e h = absurd (cc)
 
 module _ (m : List Declaration) (sound : IsSound m) where
@@ -42,7 +43,7 @@ module _ (m : List Declaration) (sound : IsSound m) where
   pub symbol_definition-typed : (s : ℕ) (t A : Tree) → symbol_definition m s ≡ Some t → symbol_type m s ≡ Some A → Typed m [] t A
   symbol_definition-typed s t A e k =
       let h = option_and_then-some (λ (d : Declaration). definition_of d.form d.body) (symbol_declaration m s) t e in
-      let same : h.0.ty ≡ A = some_is (sym (ap (option_map (λ (d : Declaration). d.ty)) h.1) ∙ k) in
+      let same : h.0.ty ≡ A = same_Some _ _ (sym (ap (option_map (λ (d : Declaration). d.ty)) h.1) ∙ k) in
       subst (Typed m [] t) same (Typed-definition_of m h.0.form h.0.body h.0.ty t h.2 (sound.each s h.0 h.1).body)
 
   -- what a symbol stands for is closed

@@ -1,13 +1,13 @@
 -- Typing: what renamings, substitutions and further declarations keep of it, and which variables a typed tree may have.
 use Rattle.std.proofs.Common.{◌≡◌, ℕ, zero, suc, ◌≤◌, refl, sym, ap, ◌∙◌, subst, arith, List, [], ◌∷◌, ◌++◌, length, Some}
 use Rattle.std.specs.Prelude.{slice_get}
-use Rattle.std.proofs.lemmas.Option.{slice_get_within}
-use Rattle.lp_binding.specs.LookUps.{some_is}
+use Rattle.std.proofs.lemmas.Option.{slice_get_within, same_Some}
+use Rattle.std.proofs.Math.Path.{subst₂}
 use Rattle.lp_spec.specs.Trees.{Tree, SortType, Var, lift, put, loose}
 use Rattle.lp_spec.specs.Substitution.{up, ren, ups, sub, cons}
 use Rattle.lp_binding.specs.Composition.{ren_ren, sub_ren, ren_sub, sub_var, suc_lift, put_is}
 use Rattle.lp_binding.specs.Binding.{put-lift}
-use Rattle.lp_binding.specs.SubstitutionLaws.{subst2, ren_closed, sub_closed, ren-put, sub-put, lift_one, ren-lift, sub-lift}
+use Rattle.lp_binding.specs.SubstitutionLaws.{ren_closed, sub_closed, ren-put, sub-put, lift_one, ren-lift, sub-lift}
 use Rattle.lp_spec.specs.Modules.{Declaration}
 use Rattle.lp_spec.specs.Conversion.{Conv}
 use Rattle.lp_typing.specs.ConversionLaws.{IsClosed, Conv-sym, Conv-ren, Conv-sub, symbol_type-append, Conv-append}
@@ -61,7 +61,7 @@ Moves-up : {r : ℕ → ℕ} {G D : List Tree} {A : Tree} → Moves r G D → Mo
 Moves-up {r = r} {G = G} {D = D} {A = A} m = record { each = go }
   where
     go : (n : ℕ) (B : Tree) → slice_get (A ∷ G) n ≡ Some B → (C : Tree) × (slice_get (ren r A ∷ D) (up r n) ≡ Some C) × (lift (suc (up r n)) C ≡ ren (up r) (lift (suc n) B))
-    go zero B e = (ren r A, refl, sym (ren-lift r A) ∙ ap (λ o. ren (up r) (lift 1 o)) (some_is e))
+    go zero B e = (ren r A, refl, sym (ren-lift r A) ∙ ap (λ o. ren (up r) (lift 1 o)) (same_Some _ _ e))
     go (suc n) B e =
         let h = m.each n B e in (
           h.0,
@@ -88,12 +88,12 @@ module _ (m : List Declaration) (closed : IsClosed m) where
   pub weaken : {G : List Tree} {t A B : Tree} → Typed m G t A → Typed m (B ∷ G) (lift 1 t) (lift 1 A)
   weaken {G = G} {t = t} {A = A} {B = B} h =
       let v : Moves suc G (B ∷ G) = record { each = λ n C e. (C, e, sym (suc_lift (suc n) C)) } in
-      subst2 (Typed m (B ∷ G)) (sym (lift_one t)) (sym (lift_one A)) (Typed-ren suc v h)
+      subst₂ (Typed m (B ∷ G)) (sym (lift_one t)) (sym (lift_one A)) (Typed-ren suc v h)
 
   -- what is typed in no context is typed in each
   pub Typed-anywhere : (G : List Tree) {t A : Tree} → loose A ≡ 0 → Typed m [] t A → Typed m G t A
   Typed-anywhere G {t = t} {A = A} c h =
-      subst2 (Typed m G) (ren_closed (λ n. n) t (Typed-closed h)) (ren_closed (λ n. n) A c)
+      subst₂ (Typed m G) (ren_closed (λ n. n) t (Typed-closed h)) (ren_closed (λ n. n) A c)
       (Typed-ren (λ n. n) (record { each = λ n B e. absurd (let k = slice_get_within [] n B e in omega arith) }) h)
 
   -- a lifted type after a substitution, under a further entry
@@ -105,10 +105,10 @@ module _ (m : List Declaration) (closed : IsClosed m) where
   Puts-ups {s = s} {G = G} {D = D} {A = A} p = record { each = go }
     where
       go : (n : ℕ) (B : Tree) → slice_get (A ∷ G) n ≡ Some B → Typed m (sub s A ∷ D) (ups s n) (sub (ups s) (lift (suc n) B))
-      go zero B e = of_variable refl (sym (sub-lift s A) ∙ ap (λ o. sub (ups s) (lift 1 o)) (some_is e))
+      go zero B e = of_variable refl (sym (sub-lift s A) ∙ ap (λ o. sub (ups s) (lift 1 o)) (same_Some _ _ e))
       go (suc n) B e =
           let h = weaken {B = sub s A} (p.each n B e) in
-          subst2 (Typed m (sub s A ∷ D)) (lift_one (s n)) (lift_one (sub s (lift (suc n) B)) ∙ up_sub s n B) h
+          subst₂ (Typed m (sub s A ∷ D)) (lift_one (s n)) (lift_one (sub s (lift (suc n) B)) ∙ up_sub s n B) h
 
   -- a substitution between contexts keeps typing
   pub Typed-sub : (s : ℕ → Tree) {G D : List Tree} {t A : Tree} → Puts m s G D → Typed m G t A → Typed m D (sub s t) (sub s A)
@@ -123,23 +123,23 @@ module _ (m : List Declaration) (closed : IsClosed m) where
   -- Substitution: what is typed under an entry is typed with a tree of that type put for its variable.
   pub Typed-put : {G : List Tree} {x A t B : Tree} → Typed m G x A → Typed m (A ∷ G) t B → Typed m G (put x t) (put x B)
   Typed-put {G = G} {x = x} {A = A} {t = t} {B = B} hx ht =
-      subst2 (Typed m G) (sym (put_is x t)) (sym (put_is x B)) (Typed-sub (cons x Var) (record { each = go }) ht)
+      subst₂ (Typed m G) (sym (put_is x t)) (sym (put_is x B)) (Typed-sub (cons x Var) (record { each = go }) ht)
     where
       go : (n : ℕ) (C : Tree) → slice_get (A ∷ G) n ≡ Some C → Typed m G (cons x Var n) (sub (cons x Var) (lift (suc n) C))
-      go zero C e = subst (Typed m G x) (sym (put-lift x A) ∙ put_is x (lift 1 A) ∙ ap (λ o. sub (cons x Var) (lift 1 o)) (some_is e)) hx
+      go zero C e = subst (Typed m G x) (sym (put-lift x A) ∙ put_is x (lift 1 A) ∙ ap (λ o. sub (cons x Var) (lift 1 o)) (same_Some _ _ e)) hx
       go (suc n) C e = of_variable e (sym (sub_var (lift (suc n) C)) ∙ sym (sub_ren (cons x Var) suc (lift (suc n) C)) ∙ ap (sub (cons x Var)) (suc_lift (suc n) C))
 
   -- what is typed under an entry is typed under one that is convertible to it
   pub Typed-entry : {G : List Tree} {a c t B : Tree} → Conv m a c → Typed m G a SortType → Typed m (a ∷ G) t B → Typed m (c ∷ G) t B
   Typed-entry {G = G} {a = a} {c = c} {t = t} {B = B} k ha h =
-      subst2 (Typed m (c ∷ G)) (sub_var t) (sub_var B) (Typed-sub Var (record { each = go }) h)
+      subst₂ (Typed m (c ∷ G)) (sub_var t) (sub_var B) (Typed-sub Var (record { each = go }) h)
     where
       lifted : Conv m (lift 1 c) (lift 1 a)
-      lifted = subst2 (Conv m) (sym (lift_one c)) (sym (lift_one a)) (Conv-ren m closed suc (Conv-sym k))
+      lifted = subst₂ (Conv m) (sym (lift_one c)) (sym (lift_one a)) (Conv-ren m closed suc (Conv-sym k))
 
       go : (n : ℕ) (C : Tree) → slice_get (a ∷ G) n ≡ Some C → Typed m (c ∷ G) (Var n) (sub Var (lift (suc n) C))
       go zero C e =
-          subst (Typed m (c ∷ G) (Var 0)) (ap (lift 1) (some_is e) ∙ sym (sub_var (lift 1 C)))
+          subst (Typed m (c ∷ G) (Var 0)) (ap (lift 1) (same_Some _ _ e) ∙ sym (sub_var (lift 1 C)))
           (of_conversion (of_variable refl refl) lifted (weaken ha) is_type)
       go (suc n) C e = of_variable {n = suc n} e (sym (sub_var (lift (suc (suc n)) C)))
 

@@ -20,14 +20,15 @@ use Rattle.hol_laws.specs.Members.{IsIn-left, IsIn-right, IsIn-either, IsIn-dist
 use Rattle.module_spec.specs.TypeEnc.{parameter}
 use Rattle.module_spec.specs.Scopes.{Symbols, Scope, type_tree, term_tree, under_term, under_proof, under_proofs, term_domains, proof_domains, scope_of_types, scope_of_terms, scope_of, domains_of, conclusion_tree, theorem_tree}
 use Rattle.module_laws.specs.ListedTranslation as listed
-use Rattle.module_laws.specs.ListedTranslation.{parameters}
 use Rattle.module_laws.specs.ListedScopes.{primitive_symbols, type-same, under_all, under_all-is}
 use Rattle.module_laws.specs.TheoremTyping.{IsFormula, term-IsFormula}
 use Rattle.module_laws.specs.BodyTyping.{both, all_are_in}
-use Rattle.module_laws.specs.SameSequents.{apart, symmetric, TypesTold, TypesTold-lifted, TypesTold-own, TypesTold-terms, TermsTold, TermsTold-lifted, TermsTold-own, formula-same}
+use Rattle.module_laws.specs.SameSequents.{apart, TypesTold, TypesTold-lifted, TypesTold-own, TypesTold-terms, TermsTold, TermsTold-lifted, TermsTold-own, formula-same}
 use Rattle.module_laws.specs.SequentEncoding.{told-at}
 use Rattle.plain_laws.specs.PlainImage as plain
 use Rattle.plain_laws.specs.PrimitiveSymbols.{AreInstances-primitive, free_variables-taken, IsIn-flat, type-primitive, term-primitive}
+use Rattle.proof_laws.specs.SymbolGrowth.{symmetric}
+use Rattle.module_laws.specs.ListedTranslation.{parameters}
 
 -- under the binders of hypotheses each variable keeps its place
 TypesTold-proofs : (names : List Name) (hs : List Term) (d : ℕ) (scope : Scope) → length names ≤ d → TypesTold names d scope.types → TypesTold names (d + length hs) (under_proofs hs scope).types

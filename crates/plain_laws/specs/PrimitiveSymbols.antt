@@ -2,6 +2,7 @@
 use Rattle.std.proofs.Common.{◌≡◌, ℕ, List, [], ◌∷◌, map, Bool, true, false, cond, Option, None, Some, inl, inr, ⊎_elim, refl, sym, ap, subst, ◌∙◌}
 use Rattle.std.specs.Option.{option_or, unwrap_or}
 use Rattle.std.specs.List.{AllByRecursion, flat_map}
+use Rattle.std.proofs.Math.Path.{ap₂}
 use Rattle.hol_spec.specs.Names.{Name}
 use Rattle.hol_spec.specs.NameEquality.{name_eq}
 use Rattle.hol_laws.specs.NameEqualityLaws.{name_eq-Decides}
@@ -15,7 +16,6 @@ use Rattle.hol_laws.specs.TermLaws.{variable_eq-Decides}
 use Rattle.hol_spec.specs.Taken.{OperatorTaken, of_arity, ConstantTaken, instance, TypeTaken, TypesTaken, TermTaken, TermsTaken}
 use Rattle.hol_spec.specs.Taken as taken
 use Rattle.lp_spec.specs.Trees.{Sym, App, Lam}
-use Rattle.lp_binding.specs.Composition.{ap2}
 use Rattle.lp_spec.specs.Modules.{arr_symbol, bool_symbol, ind_symbol, eq_symbol, select_symbol, term_of, applied}
 use Rattle.hol_spec.specs.Lists.{IsIn}
 use Rattle.hol_laws.specs.Members.{IsIn-either, IsIn-distinct_of, All-each, All-at, All-append, All-mapped, All-weaker, map-each}
@@ -111,22 +111,22 @@ module _ (symbols other : Symbols) where
     -- a type
     pub type-primitive : (scope : TypeScope) (t : HolType) → TypeTaken [] t → type_tree symbols scope t ≡ type_tree other scope t
     type-primitive scope (variable n) h = refl
-    type-primitive scope (operator n ts) h = ap2 (λ s xs. applied (Sym s) xs) (operator-primitive n (count ts) h.0) (types-primitive scope ts h.1)
+    type-primitive scope (operator n ts) h = ap₂ (λ s xs. applied (Sym s) xs) (operator-primitive n (count ts) h.0) (types-primitive scope ts h.1)
 
     types-primitive : (scope : TypeScope) (ts : HolTypes) → TypesTaken [] ts → type_trees symbols scope ts ≡ type_trees other scope ts
     types-primitive scope none h = refl
-    types-primitive scope (more t ts) h = ap2 (λ x xs. x ∷ xs) (type-primitive scope t h.0) (types-primitive scope ts h.1)
+    types-primitive scope (more t ts) h = ap₂ (λ x xs. x ∷ xs) (type-primitive scope t h.0) (types-primitive scope ts h.1)
 
   -- a term
   pub term-primitive : (scope : Scope) (t : Term) → TermTaken [] t → term_tree symbols scope t ≡ term_tree other scope t
   term-primitive scope (term.Term.free n t) h = refl
   term-primitive scope (term.Term.bound k) h = refl
   term-primitive scope (term.Term.constant n t) (instance g e i, h) =
-      ap2 (λ s xs. applied (Sym s) xs) (constant-primitive n g e)
+      ap₂ (λ s xs. applied (Sym s) xs) (constant-primitive n g e)
       (ap (λ a. map (type_tree symbols scope.types) (type_arguments a t)) (generic-is (primitive_type n) g (symbols.generic n) e)
       ∙ map-each (type_tree symbols scope.types) (type_tree other scope.types) (type_arguments g t)
       (All-weaker (TypeTaken []) _ (λ u k. type-primitive scope.types u k) (type_arguments g t) (type_arguments-taken g t i h))
       ∙ ap (λ a. map (type_tree other scope.types) (type_arguments a t)) (sym (generic-is (primitive_type n) g (other.generic n) e)))
   term-primitive scope (term.Term.constant n t) (taken.ConstantTaken.input e, h) = absurd (cc)
-  term-primitive scope (term.Term.app f x) h = ap2 App (term-primitive scope f h.0) (term-primitive scope x h.1)
-  term-primitive scope (term.Term.lam t b) h = ap2 (λ a c. Lam (term_of a) c) (type-primitive scope.types t h.0) (term-primitive (inside scope) b h.1)
+  term-primitive scope (term.Term.app f x) h = ap₂ App (term-primitive scope f h.0) (term-primitive scope x h.1)
+  term-primitive scope (term.Term.lam t b) h = ap₂ (λ a c. Lam (term_of a) c) (type-primitive scope.types t h.0) (term-primitive (inside scope) b h.1)

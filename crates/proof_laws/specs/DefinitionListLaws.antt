@@ -7,6 +7,7 @@ use Rattle.std.proofs.lemmas.Bool.Decides.{Decides-eqb}
 use Rattle.std.proofs.lemmas.Map.Keys.{IsDistinct-cons}
 use Rattle.std.proofs.lemmas.Map.Steps.{length-le_from_keys}
 use Rattle.std.proofs.lemmas.List.{length-map}
+use Rattle.std.proofs.lemmas.Option.{same_Some}
 use Rattle.hol_spec.specs.Lists.{is_in}
 use Rattle.hol_spec.specs.Primitives.{bool}
 use Rattle.hol_spec.specs.Terms.{Term, Variable, free, variable_eq, HasType, equation}
@@ -16,11 +17,11 @@ use Rattle.hol_spec.specs.Sequents.{Sequent, IsSequent}
 use Rattle.hol_spec.specs.Repeats.{no_repeats}
 use Rattle.proof_laws.specs.SymbolGrowth.{or-neither}
 use Rattle.hol_spec.specs.Equations.{Equation, equation_parts}
-use Rattle.proof_laws.specs.EquationLaws.{equation_parts-is, equation-sides, some_is}
+use Rattle.proof_laws.specs.EquationLaws.{equation_parts-is, equation-sides}
 use Rattle.hol_spec.specs.DefinitionLists.{ConstantPairs, variables_of, variable_side, of_equation, variable_equation, defining_equations, definiens, is_definition_list}
 use Rattle.proof_laws.specs.RuleTaken.{both, list_parts}
 
-not-is : (b : Bool) → not b ≡ true → b ≡ false
+pub not-is : (b : Bool) → not b ≡ true → b ≡ false
 not-is true e = absurd (cc)
 not-is false e = refl
 
@@ -97,7 +98,7 @@ module _ (f : Term → Option (Variable × Term)) (p : Variable × Term → Bool
 
 -- an equation v = t, taken apart
 of_side : (l r : Term) (v : Variable) (t : Term) → variable_side l r ≡ Some (v, t) → (l ≡ free v.0 v.1) × (r ≡ t)
-of_side (free n b) r v t e = let p : ((n, b), r) ≡ (v, t) = some_is e in (ap (λ (q : Variable × Term). free q.0.0 q.0.1) p, ap (λ (q : Variable × Term). q.1) p)
+of_side (free n b) r v t e = let p : ((n, b), r) ≡ (v, t) = same_Some _ _ e in (ap (λ (q : Variable × Term). free q.0.0 q.0.1) p, ap (λ (q : Variable × Term). q.1) p)
 of_side l r v t e = absurd (cc)
 
 of_parts : (h : Term) (o : Option Equation) → equation_parts h ≡ o → HasType h bool → (v : Variable) (t : Term) → of_equation o ≡ Some (v, t) → h ≡ equation v.1 (free v.0 v.1) t
@@ -106,7 +107,7 @@ of_parts h (Some q) is typed v t e =
     let whole = equation_parts-is h q is in
     let sides = of_side q.left q.right v t e in
     let left : HasType q.left q.ty = (equation-sides q.ty q.left q.right h whole typed).left in
-    let ty : v.1 ≡ q.ty = some_is (subst (λ u. HasType u q.ty) sides.0 left) in
+    let ty : v.1 ≡ q.ty = same_Some _ _ (subst (λ u. HasType u q.ty) sides.0 left) in
     whole ∙ (λ i. equation (sym ty i) (sides.0 i) (sides.1 i))
 
 -- EVERY HYPOTHESIS of an accepted list is an equation v = t of a variable of the list.

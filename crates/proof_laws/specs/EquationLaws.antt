@@ -1,5 +1,6 @@
 -- Laws of equations: a term that is taken apart as one is one, and its sides have its type.
 use Rattle.std.proofs.Common.{◌≡◌, List, [], Bool, true, false, cond, Option, None, Some, refl, sym, ap, subst, ◌∙◌}
+use Rattle.std.proofs.lemmas.Option.{same_Some}
 use Rattle.hol_spec.specs.NameEquality.{name_eq}
 use Rattle.hol_laws.specs.NameEqualityLaws.{name_eq-Decides}
 use Rattle.hol_spec.specs.Types.{HolType, type_eq, operator, more}
@@ -9,9 +10,6 @@ use Rattle.hol_spec.specs.Terms.{Term, constant, app, type_under, HasType, equat
 use Rattle.hol_laws.specs.TermLaws.{type_under-app}
 use Rattle.hol_laws.specs.TermSubstitutionLaws.{application_type-is}
 use Rattle.hol_spec.specs.Equations.{Equation, equation_parts, equation_at}
-
-pub some_is : {X : Type 0} {x y : X} → Some x ≡ Some y → x ≡ y
-some_is e = cc
 
 abbrev pub first_argument : HolType → HolType
 first_argument (operator n (more a ts)) = a
@@ -31,7 +29,7 @@ equation-sides a x y t is typed =
     let h : HasType (equation a x y) bool = subst (λ u. HasType u bool) is typed in
     let p = application_type-is (type_under [] (app (constant equality_name (equality_type a)) x)) (type_under [] y) bool h in
     let q = application_type-is (type_under [] (constant equality_name (equality_type a))) (type_under [] x) (function p.0 bool) p.1.0 in
-    let e : equality_type a ≡ function q.0 (function p.0 bool) = some_is q.1.0 in
+    let e : equality_type a ≡ function q.0 (function p.0 bool) = same_Some _ _ q.1.0 in
     let first : a ≡ q.0 = ap first_argument e in
     let second : a ≡ p.0 = ap (λ t. first_argument (second_argument t)) e in
     record { left = q.1.1 ∙ ap Some (sym first); right = p.1.1 ∙ ap Some (sym second) }
@@ -50,7 +48,7 @@ equation_at-is c None x y e h = absurd (cc)
 equation_at-is c (Some parts) x y e h = go (type_eq c (equality_type parts.0)) (type_eq-Decides c (equality_type parts.0)).0 h
   where
     go : (b : Bool) → (b ≡ true → c ≡ equality_type parts.0) → cond b (Some (record { ty = parts.0; left = x; right = y })) None ≡ Some e → app (app (constant equality_name c) x) y ≡ tree_of e
-    go true f h = ap (λ d. app (app (constant equality_name d) x) y) (f refl) ∙ ap tree_of (some_is h)
+    go true f h = ap (λ d. app (app (constant equality_name d) x) y) (f refl) ∙ ap tree_of (same_Some _ _ h)
     go false f h = absurd (cc)
 
 pub equation_parts-is : (t : Term) (e : Equation) → equation_parts t ≡ Some e → t ≡ equation e.ty e.left e.right

@@ -2,6 +2,7 @@
 use Rattle.std.proofs.Common.{◌≡◌, List, [], ◌∷◌, map, false, not, Some, refl, sym, ap, subst, ◌∙◌}
 use Rattle.std.specs.Option.{option_map}
 use Rattle.std.specs.List.{AllByRecursion, IsDistinct}
+use Rattle.std.proofs.lemmas.Option.{same_Some}
 use Rattle.hol_spec.specs.Types.{HolType}
 use Rattle.hol_spec.specs.Lists.{union, without, distinct}
 use Rattle.hol_laws.specs.ListLaws.{union-All, union-IsDistinct, distinct-IsDistinct, IsDistinct-filter, All-filter}
@@ -19,7 +20,7 @@ use Rattle.hol_spec.specs.DefinitionLists.{ConstantPairs, constants_put}
 use Rattle.hol_spec.specs.TypeDefinitions.{IsTypeDefinition, abstracted, represented}
 use Rattle.hol_spec.specs.TypeDefinitions as type_definition
 use Rattle.hol_laws.specs.Members.{All-mapped, All-weaker}
-use Rattle.proof_laws.specs.EquationLaws.{equation-sides, type_under-equation, some_is, first_argument, second_argument}
+use Rattle.proof_laws.specs.EquationLaws.{equation-sides, type_under-equation, first_argument, second_argument}
 use Rattle.proof_laws.specs.SymbolGrowth.{symmetric}
 use Rattle.hol_spec.specs.Rules.{Parameters, Rule}
 use Rattle.hol_spec.specs.Rules as rule
@@ -71,7 +72,7 @@ constants-fit (p ∷ ps) = (refl, constants-fit ps)
 pub predicate-typed : (names : TypeNames) (c : HolType) (f : Term) (one : Sequent) → IsTypeDefinition names c f one → HasType one.conclusion bool → HasType f (function c bool)
 predicate-typed names c f one d h =
     let p = application_type-is (type_of f) (type_of d.witness) bool (subst (λ t. HasType t bool) d.holds h) in
-    let same : p.0 ≡ c = some_is (sym p.1.1 ∙ d.typed) in
+    let same : p.0 ≡ c = same_Some _ _ (sym p.1.1 ∙ d.typed) in
     p.1.0 ∙ ap (λ a. Some (function a bool)) same
 
 -- the two constants under a binder

@@ -61,7 +61,7 @@ generic_type-new xs ys n e = ap (option_or (primitive_type n)) (first_defined_ty
 pub operator_arity-new : (xs ys : List Symbol) (n : Name) → is_some (operator_arity xs n) ≡ false → operator_arity (xs ++ ys) n ≡ first_defined_arity n ys
 operator_arity-new xs ys n e = ap (option_or (primitive_arity n)) (first_defined_arity-append n xs ys) ∙ or-new (primitive_arity n) (first_defined_arity n xs) (first_defined_arity n ys) e
 
-or-first : (a b : Bool) → a ≡ true → (a || b) ≡ true
+pub or-first : (a b : Bool) → a ≡ true → (a || b) ≡ true
 or-first true b e = refl
 or-first false b e = absurd (cc)
 
@@ -125,7 +125,7 @@ mutual
 pub Instance-own : (t : HolType) → Instance t t
 Instance-own t = ([], substitute-nothing t)
 
-itself : (n : Name) → name_eq n n ≡ true
+pub itself : (n : Name) → name_eq n n ≡ true
 itself n = (name_eq-Decides n n).1 refl
 
 or-nothing : {A : Type 0} (o : Option A) → option_or o None ≡ o

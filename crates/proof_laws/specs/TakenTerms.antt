@@ -4,14 +4,15 @@ use Rattle.std.specs.Prelude.{slice_get, nat_lt, nat_eq, ◌-◌}
 use Rattle.std.specs.Option.{unwrap_or}
 use Rattle.std.specs.Map.{lookup}
 use Rattle.std.specs.List.{AllByRecursion}
+use Rattle.std.proofs.lemmas.Option.{same_Some}
 use Rattle.hol_spec.specs.Names.{Name}
 use Rattle.hol_spec.specs.NameEquality.{name_eq}
 use Rattle.hol_spec.specs.Types as type
-use Rattle.hol_spec.specs.Types.{HolType, HolTypes, count, variable_places, variable_places_of_all}
+use Rattle.hol_spec.specs.Types.{HolType, HolTypes, variable_places, variable_places_of_all, count}
 use Rattle.hol_spec.specs.Primitives.{bool, function, generic, generic_variable, equality_type}
 use Rattle.hol_spec.specs.Substitution.{TypePairs, substitute, substitute_all, Instance}
 use Rattle.hol_spec.specs.Terms as term
-use Rattle.hol_spec.specs.Terms.{Term, Variable, variable_eq, term_eq, type_under, HasType, equation}
+use Rattle.hol_spec.specs.Terms.{Term, Variable, variable_eq, type_under, HasType, equation, term_eq}
 use Rattle.hol_spec.specs.TermBinding.{lift_at, lift, put_at, close_at}
 use Rattle.hol_spec.specs.TermSubstitution.{TermPairs, term_image, sub}
 use Rattle.hol_laws.specs.TermSubstitutionLaws.{application_type-is, abstraction_type-is}
@@ -22,9 +23,6 @@ use Rattle.hol_spec.specs.Symbols.{Symbol}
 use Rattle.hol_spec.specs.Taken.{OperatorTaken, ConstantTaken, TypeTaken, TypesTaken, TermTaken, TermsTaken}
 use Rattle.hol_spec.specs.Taken as items
 
-some_is : {X : Type 0} {x y : X} → Some x ≡ Some y → x ≡ y
-some_is e = cc
-
 module _ (ps : List Symbol) where
   pub function-taken : (a b : HolType) → TypeTaken ps a → TypeTaken ps b → TypeTaken ps (function a b)
   function-taken a b ha hb = (items.OperatorTaken.of_arity refl, (ha, (hb, tt {0})))
@@ -34,9 +32,9 @@ module _ (ps : List Symbol) where
 
   -- the type of a term over what is taken is over it
   type-taken : (binders : List HolType) → ((k : ℕ) (a : HolType) → slice_get binders k ≡ Some a → TypeTaken ps a) → (t : Term) (a : HolType) → TermTaken ps t → type_under binders t ≡ Some a → TypeTaken ps a
-  type-taken binders b (term.Term.free n t) a h e = subst (TypeTaken ps) (some_is e) h
+  type-taken binders b (term.Term.free n t) a h e = subst (TypeTaken ps) (same_Some _ _ e) h
   type-taken binders b (term.Term.bound k) a h e = b k a e
-  type-taken binders b (term.Term.constant n t) a h e = subst (TypeTaken ps) (some_is e) h.1
+  type-taken binders b (term.Term.constant n t) a h e = subst (TypeTaken ps) (same_Some _ _ e) h.1
   type-taken binders b (term.Term.app f x) a h e =
       let p = application_type-is (type_under binders f) (type_under binders x) a e in
       (type-taken binders b f (function p.0 a) h.0 p.1.0).1.1.0
@@ -45,7 +43,7 @@ module _ (ps : List Symbol) where
       subst (TypeTaken ps) (sym p.1.1) (function-taken t p.0 h.0 (type-taken (t ∷ binders) (under t b h.0) c p.0 h.1 p.1.0))
     where
       under : (t : HolType) → ((k : ℕ) (a : HolType) → slice_get binders k ≡ Some a → TypeTaken ps a) → TypeTaken ps t → (k : ℕ) (a : HolType) → slice_get (t ∷ binders) k ≡ Some a → TypeTaken ps a
-      under t b h zero a e = subst (TypeTaken ps) (some_is e) h
+      under t b h zero a e = subst (TypeTaken ps) (same_Some _ _ e) h
       under t b h (suc k) a e = b k a e
 
   pub type_of-taken : (t : Term) (a : HolType) → TermTaken ps t → HasType t a → TypeTaken ps a

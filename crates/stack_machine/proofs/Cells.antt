@@ -1,10 +1,9 @@
 -- Cells of lists that come to what is kept, and those that are found there.
 use Rattle.std.proofs.Common.{◌≡◌, ℕ, zero, suc, ◌+◌, ◌≤◌, refl, sym, ap, subst, ◌∙◌, arith, List, [], ◌∷◌, ◌++◌, length, length-append, Some}
 use Rattle.std.specs.Prelude.{slice_get, unwrap_or}
-use Rattle.std.proofs.lemmas.Option.{slice_get_within}
+use Rattle.std.proofs.lemmas.Option.{slice_get_within, same_Some}
 use Rattle.std.proofs.lemmas.List.{append-nil}
 use Rattle.hol_spec.specs.Names.{Name}
-use Rattle.hol_type.specs.TableLaws.{some_is}
 use Rattle.hol_term.specs.Tables.{Trees}
 use Rattle.hol_term.specs.Tables as table
 use Rattle.article_spec.specs.State as state
@@ -83,7 +82,7 @@ first_cell a d cs h t =
 
 pub cell_at : (a : Stored) (cs : List Cell) (i : ℕ) (c : Cell) → AreCells a cs → slice_get cs i ≡ Some c → CellAt (record a { lists = lists_from a cs }) c (length a.lists + i)
 cell_at a [] i c k e = absurd (let h = slice_get_within [] i c e in omega arith)
-cell_at a (d ∷ cs) zero c k e = subst (λ w. CellAt (record a { lists = lists_from (with_one a d) cs }) w (length a.lists + 0)) (some_is e) (first_cell a d cs k.0 k.1)
+cell_at a (d ∷ cs) zero c k e = subst (λ w. CellAt (record a { lists = lists_from (with_one a d) cs }) w (length a.lists + 0)) (same_Some _ _ e) (first_cell a d cs k.0 k.1)
 cell_at a (d ∷ cs) (suc i) c k e =
     let l = length-append a.lists (cell_view a d ∷ []) in
     let n : length (a.lists ++ cell_view a d ∷ []) + i ≡ length a.lists + suc i = omega (arith, l) in

@@ -9,12 +9,12 @@ use Rattle.std.specs.FinMap as entry
 use Rattle.std.specs.FinMap.{find, put}
 use Rattle.std.specs.FinMap.Entries.{by_order, find-put}
 use Rattle.std.specs.Cmp.{int_cmp_total}
+use Rattle.std.proofs.Math.Path.{ap₂}
 use Rattle.article_spec.specs.State as state
 use Rattle.stack_machine.specs.declared.object.Object.{Object}
 use Rattle.stack_machine.specs.Stored.{Stored, object_view, IsKnown, Grows}
 use Rattle.stack_machine.specs.StoredLaws.{object_view-Grows, IsKnown-Grows}
 use Rattle.stack_machine.specs.Shown.{dictionary_view, AreEntriesKnown}
-use Rattle.hol_laws.specs.TermRenamings.{ap2}
 
 module _ (m : Stored) where
   abbrev pairs : List (ℤ × Object) → List (ℤ × state.Object)
@@ -67,7 +67,7 @@ module _ (m : Stored) where
   pub dictionary-remove : (es fs : List (ℤ × Object)) (k : ℤ) → ((q : ℤ) → lookup (is_at (int_cmp q)) fs ≡ cond (is_eq (int_cmp k q)) None (lookup (is_at (int_cmp q)) es)) → dictionary_view m fs ≡ entry.remove (dictionary_view m es) k
   dictionary-remove es fs k h = entry.same_map int_cmp_total entry.int_cmp-IsAntisymmetric _ _
       (λ q. dictionary-get fs q ∙ ap (option_map (object_view m)) (h q) ∙ without_value (is_eq (int_cmp k q)) (lookup (is_at (int_cmp q)) es)
-      ∙ sym (entry.get-remove int_cmp_total (dictionary_view m es) k q ∙ ap2 (λ b o. cond b None o) (same_either_way q k) (dictionary-get es q)))
+      ∙ sym (entry.get-remove int_cmp_total (dictionary_view m es) k q ∙ ap₂ (λ b o. cond b None o) (same_either_way q k) (dictionary-get es q)))
 
 -- what is known of the entries
 pub known_found : (m : Stored) (p : ℤ → Bool) (es : List (ℤ × Object)) (x : Object) → AreEntriesKnown m es → lookup p es ≡ Some x → IsKnown m x
@@ -102,7 +102,7 @@ entries-Grow h (e ∷ es) k = (IsKnown-Grows h e.1 k.0, entries-Grow h es k.1)
 
 pairs-Grow : {a b : Stored} → Grows a b → (es : List (ℤ × Object)) → AreEntriesKnown a es → pairs a es ≡ pairs b es
 pairs-Grow h [] k = refl
-pairs-Grow h (e ∷ es) k = ap2 (λ x xs. (e.0, x) ∷ xs) (object_view-Grows h e.1 k.0) (pairs-Grow h es k.1)
+pairs-Grow h (e ∷ es) k = ap₂ (λ x xs. (e.0, x) ∷ xs) (object_view-Grows h e.1 k.0) (pairs-Grow h es k.1)
 
 pub dictionary-Grows : {a b : Stored} → Grows a b → (es : List (ℤ × Object)) → AreEntriesKnown a es → dictionary_view a es ≡ dictionary_view b es
 dictionary-Grows h es k = ap entry.from_entries (pairs-Grow h es k)

@@ -2,11 +2,11 @@
 use Rattle.std.proofs.Common.{◌≡◌, ℕ, refl, sym, subst, ◌∙◌, List, ◌++◌, drop, length, Result, Ok, Err}
 use Rattle.std.specs.Prelude.{is_some}
 use Rattle.std.specs.Result.{IsErrAnd}
+use Rattle.std.proofs.Math.Path.{ap₂}
 use Rattle.hol_spec.specs.Names.{Name}
 use Rattle.hol_spec.specs.Types.{HolType, operator, types_of}
 use Rattle.hol_spec.specs.Terms.{Term, constant, type_of}
 use Rattle.hol_spec.specs.Symbols.{Symbol, generic_type, operator_arity}
-use Rattle.hol_laws.specs.TermRenamings.{ap2}
 use Rattle.bridge_base.specs.declared.faults.Fault.{Fault}
 use Rattle.bridge_base.specs.declared.faults.Fault.TheVariants.{Memory, Refused}
 use Rattle.bridge_base.specs.declared.faults.Kind.{Kind}
@@ -107,7 +107,7 @@ module _ {word : Word} {a b : Stored} {stack : List Object} where
   pub placed : {new : List Object} (n : ℕ) (ys : List Object) (vs : List state.Object) (run : Run) → AreKnown a stack → Grows a b → new ≡ ys ++ drop n stack → AreKnown b ys → objects_view b ys ≡ vs → b.run ≡ run
       → ((s : State) → obey (shown a stack s) word ≡ Ok (in_state s (vs ++ objects_view a (drop n stack)) run)) → Obeys word a stack b new (Ok tt)
   placed {new = new} n ys vs run k g e l v f h = record {
-    taken = λ s. h s ∙ ap2 (λ xs ys. Ok (in_state s xs ys)) (sym (placed-view g stack new ys n k e vs v)) (sym f);
+    taken = λ s. h s ∙ ap₂ (λ xs ys. Ok (in_state s xs ys)) (sym (placed-view g stack new ys n k e vs v)) (sym f);
     refused = tt;
     known = placed-known g stack new ys n k e l;
     grows = g;

@@ -7,7 +7,6 @@ use Rattle.hol_spec.specs.Symbols.{Symbol}
 use Rattle.hol_spec.specs.Terms as hol
 use Rattle.hol_spec.specs.Rules as rule
 use Rattle.hol_spec.specs.Proofs.{Made, symbols_of}
-use Rattle.hol_laws.specs.TermRenamings.{ap2}
 use Rattle.hol_type.specs.TableLaws as type_law
 use Rattle.hol_term.specs.declared.TermId.{TermId}
 use Rattle.hol_term.specs.declared.Variable.{Variable}
@@ -15,6 +14,7 @@ use Rattle.hol_term.specs.Tables.{Trees, Keeps, AreKnown}
 use Rattle.hol_term.specs.TableLaws as table_law
 use Rattle.hol_term.specs.Substitutions.{term_pairs_at, AreTermPairsKnown}
 use Rattle.std.specs.List.{AllByRecursion}
+use Rattle.std.proofs.Math.Path.{ap₂}
 use Rattle.sequent.specs.declared.Sequent.{Sequent}
 use Rattle.sequent.specs.Sequents.{sequent_at}
 use Rattle.stack_machine.specs.declared.step.Parameters.{Parameters}
@@ -38,7 +38,7 @@ module _ {a b : Trees} (k : Keeps a b) where
   numbers-known (i ∷ ids) h = (h.0.known, numbers-known ids h.1)
 
   sequent_at-Keeps : (s : Sequent) → IsSequentOf a s → sequent_at a s ≡ sequent_at b s
-  sequent_at-Keeps s h = ap2 (λ hypotheses conclusion. record { hypotheses = hypotheses; conclusion = conclusion }) (table_law.terms_at-Keeps k s.hyps (numbers-known s.hyps h.hypotheses)) (table_law.term_in-Stays k.stays s.concl.0 h.conclusion.known)
+  sequent_at-Keeps s h = ap₂ (λ hypotheses conclusion. record { hypotheses = hypotheses; conclusion = conclusion }) (table_law.terms_at-Keeps k s.hyps (numbers-known s.hyps h.hypotheses)) (table_law.term_in-Stays k.stays s.concl.0 h.conclusion.known)
 
   variable_view-Keeps : (v : Variable) → v.ty.0 < length a.types → variable_view a v ≡ variable_view b v
   variable_view-Keeps v h = ap (λ t. (v.name, t)) (type_law.tree_at-Stays k.types.stays v.ty.0 h)
@@ -49,7 +49,7 @@ module _ {a b : Trees} (k : Keeps a b) where
 
   term_pairs_at-Keeps : (ps : List (Variable × TermId)) → AreTermPairsKnown a ps → term_pairs_at a ps ≡ term_pairs_at b ps
   term_pairs_at-Keeps [] h = refl
-  term_pairs_at-Keeps (p ∷ ps) h = ap2 (λ q l. q ∷ l) (ap2 (λ v t. (v, t)) (variable_view-Keeps p.0 h.0) (table_law.term_in-Stays k.stays p.1.0 h.1.0)) (term_pairs_at-Keeps ps h.1.1)
+  term_pairs_at-Keeps (p ∷ ps) h = ap₂ (λ q l. q ∷ l) (ap₂ (λ v t. (v, t)) (variable_view-Keeps p.0 h.0) (table_law.term_in-Stays k.stays p.1.0 h.1.0)) (term_pairs_at-Keeps ps h.1.1)
 
   AreConstantPairsKnown-Keeps : (ps : List (Name × Variable)) → AreConstantPairsKnown a ps → AreConstantPairsKnown b ps
   AreConstantPairsKnown-Keeps [] h = tt
@@ -57,7 +57,7 @@ module _ {a b : Trees} (k : Keeps a b) where
 
   constant_pairs-Keeps : (ps : List (Name × Variable)) → AreConstantPairsKnown a ps → constant_pairs_view a ps ≡ constant_pairs_view b ps
   constant_pairs-Keeps [] h = refl
-  constant_pairs-Keeps (p ∷ ps) h = ap2 (λ v l. (p.0, v) ∷ l) (variable_view-Keeps p.1 h.0) (constant_pairs-Keeps ps h.1)
+  constant_pairs-Keeps (p ∷ ps) h = ap₂ (λ v l. (p.0, v) ∷ l) (variable_view-Keeps p.1 h.0) (constant_pairs-Keeps ps h.1)
 
   AreParametersKnown-Keeps : (p : Parameters) → AreParametersKnown a p → AreParametersKnown b p
   AreParametersKnown-Keeps parameters.Nothing h = tt
@@ -73,7 +73,7 @@ module _ {a b : Trees} (k : Keeps a b) where
   parameters_view-Keeps parameters.Nothing h = refl
   parameters_view-Keeps (parameters.Term t) h = ap rule.Parameters.term (table_law.term_in-Stays k.stays t.0 h)
   parameters_view-Keeps (parameters.Variable v) h = ap rule.Parameters.variable (variable_view-Keeps v h)
-  parameters_view-Keeps (parameters.Substitution types terms) h = ap2 rule.Parameters.substitution (type_law.pairs_at-Stays k.types.stays types.items h.0) (term_pairs_at-Keeps terms.items h.1)
+  parameters_view-Keeps (parameters.Substitution types terms) h = ap₂ rule.Parameters.substitution (type_law.pairs_at-Stays k.types.stays types.items h.0) (term_pairs_at-Keeps terms.items h.1)
   parameters_view-Keeps (parameters.Sequent s) h = ap rule.Parameters.sequent (sequent_at-Keeps s h)
   parameters_view-Keeps (parameters.Constant n t) h = ap (rule.Parameters.constant n) (table_law.term_in-Stays k.stays t.0 h)
   parameters_view-Keeps (parameters.Constants pairs) h = ap rule.Parameters.constants (constant_pairs-Keeps pairs.items h)
@@ -88,8 +88,8 @@ module _ {a b : Trees} (k : Keeps a b) where
   made_from-Keeps : (done : ℕ) (symbols : List Symbol) (xs : List Step) → AreStepsKnown a done symbols xs → made_from a done symbols xs ≡ made_from b done symbols xs
   made_from-Keeps done symbols [] h = refl
   made_from-Keeps done symbols (x ∷ xs) h =
-      ap2 (λ s made. map Made.symbol (take (x.symbols - done) symbols) ++ Made.step s ∷ made)
-      (ap2 (λ p s. record { kind = x.kind; premises = x.premises.items; parameters = p; sequent = s }) (parameters_view-Keeps x.parameters h.0.parameters) (sequent_at-Keeps x.sequent h.0.sequent))
+      ap₂ (λ s made. map Made.symbol (take (x.symbols - done) symbols) ++ Made.step s ∷ made)
+      (ap₂ (λ p s. record { kind = x.kind; premises = x.premises.items; parameters = p; sequent = s }) (parameters_view-Keeps x.parameters h.0.parameters) (sequent_at-Keeps x.sequent h.0.sequent))
       (made_from-Keeps x.symbols (drop (x.symbols - done) symbols) xs h.1)
 
   pub run_view-Keeps : (symbols : List Symbol) (steps : List Step) (assumptions exports : List ℕ) (pool : ℕ) → IsRunKnown a symbols steps exports pool
@@ -115,7 +115,7 @@ made_from-append : (t : Trees) (done : ℕ) (symbols new : List Symbol) (xs : Li
 made_from-append t done symbols new [] h = map-append Made.symbol symbols new
 made_from-append t done symbols new (x ∷ xs) h =
     let f = fits-front h.0.after h.0.behind in
-    ap2 (λ us ws. map Made.symbol us ++ Made.step (step_view t x) ∷ made_from t x.symbols ws xs) (take-append-le (x.symbols - done) symbols new f) (drop-append-le (x.symbols - done) symbols new f)
+    ap₂ (λ us ws. map Made.symbol us ++ Made.step (step_view t x) ∷ made_from t x.symbols ws xs) (take-append-le (x.symbols - done) symbols new f) (drop-append-le (x.symbols - done) symbols new f)
     ∙ ap (λ made. map Made.symbol (take (x.symbols - done) symbols) ++ Made.step (step_view t x) ∷ made) (made_from-append t x.symbols (drop (x.symbols - done) symbols) new xs h.1)
     ∙ sym (append_assoc (map Made.symbol (take (x.symbols - done) symbols)) (Made.step (step_view t x) ∷ made_from t x.symbols (drop (x.symbols - done) symbols) xs) (map Made.symbol new))
 
@@ -128,7 +128,7 @@ made_from-step : (t : Trees) (done : ℕ) (symbols : List Symbol) (xs : List Ste
 made_from-step t done symbols [] x h e =
     let z : x.symbols - done ≡ length symbols = omega (arith, e) in
     ap (λ n. map Made.symbol (take n symbols) ++ Made.step (step_view t x) ∷ map Made.symbol (drop n symbols)) z
-    ∙ ap2 (λ us ws. map Made.symbol us ++ Made.step (step_view t x) ∷ map Made.symbol ws) (take-length symbols) (drop-length symbols)
+    ∙ ap₂ (λ us ws. map Made.symbol us ++ Made.step (step_view t x) ∷ map Made.symbol ws) (take-length symbols) (drop-length symbols)
 made_from-step t done symbols (y ∷ xs) x h e =
     let l = length-drop (y.symbols - done) symbols in
     ap (λ made. map Made.symbol (take (y.symbols - done) symbols) ++ Made.step (step_view t y) ∷ made) (made_from-step t y.symbols (drop (y.symbols - done) symbols) xs x h.1 (behind-all done y.symbols _ (length symbols) x.symbols h.0.after h.0.behind e l))

@@ -2,8 +2,8 @@
 use Rattle.std.proofs.Common.{◌≡◌, ℕ, ◌+◌, zero, suc, ◌<◌, refl, sym, ap, subst, ◌∙◌, arith, List, [], ◌∷◌, ◌++◌, length, append_assoc, length-append}
 use Rattle.std.specs.Prelude.{slice_get, unwrap_or}
 use Rattle.std.proofs.lemmas.List.{append-nil}
+use Rattle.std.proofs.Math.Path.{ap₂}
 use Rattle.hol_spec.specs.Terms as hol
-use Rattle.hol_laws.specs.TermRenamings.{ap2}
 use Rattle.hol_type.specs.TableLaws as type_law
 use Rattle.hol_term.specs.TableLaws as table_law
 use Rattle.article_spec.specs.State as state
@@ -53,7 +53,7 @@ object_view-Grows h (object.List xs) k = ap state.Object.list (list_view-Grows h
 object_view-Grows h (object.TypeOperator n) k = ap state.Object.type_operator (name_at-Grows h n.0 k)
 object_view-Grows h (object.Type t) k = ap state.Object.type (type_law.tree_at-Stays h.trees.types.stays t.0 k)
 object_view-Grows h (object.Constant n) k = ap state.Object.constant (name_at-Grows h n.0 k)
-object_view-Grows h (object.Variable n t) k = ap state.Object.variable (ap2 (λ m a. (m, a)) (name_at-Grows h n.0 k.0) (type_law.tree_at-Stays h.trees.types.stays t.0 k.1))
+object_view-Grows h (object.Variable n t) k = ap state.Object.variable (ap₂ (λ m a. (m, a)) (name_at-Grows h n.0 k.0) (type_law.tree_at-Stays h.trees.types.stays t.0 k.1))
 object_view-Grows h (object.Term t) k = ap state.Object.term (table_law.term_in-Stays h.trees.stays t.0 k.known)
 
 -- what is known stays known
@@ -80,11 +80,11 @@ AreKnown-Grows h (x ∷ xs) k = (IsKnown-Grows h x k.0, AreKnown-Grows h xs k.1)
 
 -- lists stay where the rest grows
 pub cells-Grows : {a b : Stored} → Grows a b → (c : Cell) → IsKnown a c.head → IsListKnown a c.tail → cell_view a c ≡ cell_view b c
-cells-Grows h c k l = ap2 state.Objects.more (object_view-Grows h c.head k) (list_view-Grows h c.tail l)
+cells-Grows h c k l = ap₂ state.Objects.more (object_view-Grows h c.head k) (list_view-Grows h c.tail l)
 
 with_cell : {a b : Stored} → Grows a b → a.lists ≡ b.lists → (c : Cell) → IsKnown a c.head → IsListKnown a c.tail
     → (a.lists ++ cell_view a c ∷ []) ≡ (b.lists ++ cell_view b c ∷ [])
-with_cell {b = b} h e c k l = ap2 (λ xs x. xs ++ x ∷ []) e (cells-Grows h c k l)
+with_cell {b = b} h e c k l = ap₂ (λ xs x. xs ++ x ∷ []) e (cells-Grows h c k l)
 
 alike : {a b : Stored} (xs ys : List state.Objects) → Grows a b → xs ≡ ys → Grows (record a { lists = xs }) (record b { lists = ys })
 alike xs ys h e = record { trees = h.trees; names = h.names; lists = record { more = []; is = sym e ∙ sym (append-nil xs) } }

@@ -1,3 +1,4 @@
+//! The module of a run: its declarations, made from its steps.
 ghost use Rattle.std.specs.Prelude.{◌≡◌, ◌+◌, ◌∷◌, [], ◌++◌, ◌<◌, ◌≤◌, List, ℕ, length, map, IfOk, OnOk, Some, if◌then◌else◌, codes, decimal, slice_get, false, ◌||◌, ◌&&◌, get_or, drop, reverse};
 ghost use Rattle.std.specs.List.{position_or_len};
 ghost use Rattle.std.specs.Option.{option_map_or};

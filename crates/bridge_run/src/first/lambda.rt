@@ -1,3 +1,4 @@
+//! Trees of the lambda-Pi calculus.
 ghost use Rattle.std.specs.Prelude.{◌≡◌, IfOk};
 ghost use Rattle.lp_spec.specs.Trees.{Sym, App, Lam, Pi};
 ghost use Rattle.lp_spec.specs.Modules.{arr_of, term_of, eq_of, proof_of};

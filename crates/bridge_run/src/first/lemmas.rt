@@ -1,3 +1,4 @@
+//! The lemmas with which each module begins.
 ghost use Rattle.std.specs.Prelude.{◌≡◌, [], ◌∷◌, map, IfOk};
 ghost use Rattle.lp_spec.specs.Trees.{App, Sym, Var};
 ghost use Rattle.lp_spec.specs.Modules.{app_thm_symbol, eq_symbol, applied, bools, eq_of, refl_of, arr_of};

@@ -1,3 +1,4 @@
+//! How large and how deep types, terms and sequents may be.
 ghost use Rattle.std.specs.Prelude.{◌≡◌, ◌+◌, ◌-◌, ◌^◌, min, nat_lt, Ok, OnOk, IfErr};
 ghost use Rattle.hol_spec.specs.Limits.{greatest_parameter_count, sequent_size, sequent_depth};
 ghost use Rattle.article_spec.specs.Conditions.{type_in_limits, term_in_limits, sequent_in_limits};

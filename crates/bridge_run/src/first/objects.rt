@@ -1,3 +1,4 @@
+//! What the stack and the dictionary hold.
 ghost use Rattle.std.specs.Prelude.{◌≡◌, map, IfOk};
 ghost use Rattle.bridge_run.specs.ObjectViews.{object_view};
 

@@ -1,3 +1,4 @@
+//! An article read from a shelf, line by line, to its end.
 ghost use Rattle.std.specs.Prelude.{◌≡◌, ◌≢◌, ◌≤◌, ◌∷◌, [], Ok, OnOk, IfOk, IfErr};
 ghost use Rattle.bridge_base.specs.Outside.{Rose};
 ghost use Rattle.article_spec.specs.Run.{obey_all, RunsBy, accepted, accepted_state};

@@ -1,3 +1,4 @@
+//! Sequents, and their free variables.
 ghost use Rattle.std.specs.Prelude.{◌≡◌, ◌<◌, ◌∷◌, [], map, length, IfOk, IfSome, OnOk, is_some, unwrap_or};
 ghost use Rattle.std.specs.List.{list_all, position_or_len};
 ghost use Rattle.hol_spec.specs.Lists.{is_in, union, distinct};

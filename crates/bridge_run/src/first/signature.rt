@@ -1,3 +1,4 @@
+//! The prelude of each module: its bytes, and the symbols that it declares.
 ghost use Rattle.std.specs.Prelude.{◌≡◌, ◌+◌, ◌≤◌, ◌<◌, ◌-◌, ◌^◌, [], IfOk};
 ghost use Rattle.lp_spec.specs.Trees.{Var, Pi};
 ghost use Rattle.lp_spec.specs.Modules.{arr_of, term_of, eq_of, proof_of, bools, products, symbol_name, two_functions as two_functions_domains, pointwise_equal, arr_type, term_type, eq_type, select_type, proof_type, refl_type, fun_ext_type, app_thm_type, prop_ext_type, eq_mp_type};

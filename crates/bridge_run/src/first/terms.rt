@@ -1,3 +1,4 @@
+//! Terms of the first path.
 ghost use Rattle.std.specs.Prelude.{◌≡◌, ◌-◌, ◌^◌, min, IfOk, Some, option_map};
 ghost use Rattle.hol_spec.specs.Terms.{term_eq, app, application_type};
 ghost use Rattle.hol_spec.specs.Terms as hol;

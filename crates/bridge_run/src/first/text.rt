@@ -1,3 +1,4 @@
+//! The text of a module.
 ghost use Rattle.std.specs.Prelude.{◌≡◌, ◌++◌, suc, OnOk, IfOk, codes};
 ghost use Rattle.lp_spec.specs.Text.{binder_name, declaration_text, enclosed, is_binder as is_binder_tree, is_word as is_word_tree, tree_text, written};
 ghost use Rattle.lp_spec.specs.Modules.{symbol_name};
@@ -201,42 +202,5 @@ fn is_word(tree: &Tree) -> bool
     match tree {
         Tree::Sort | Tree::Variable(_) | Tree::Symbol(_) => true,
         Tree::Application(_, _) | Tree::Abstraction(_, _) | Tree::Product(_, _) => false,
-    }
-}
-
-#[cfg(test)]
-mod tests {
-    use super::*;
-    use crate::first::image::image_of;
-    use crate::first::signature::signature;
-    use crate::first::weight::{Symbols, bound_of};
-    use std::test::Fail;
-
-    const LEMMAS: &[u8] = b"(; bound 10764582912 ;)
-thm sym : v0 : type -> v1 : term v0 -> v2 : term v0 -> v3 : proof (eq v0 v1 v2) -> proof (eq v0 v2 v1) := v0 : type => v1 : term v0 => v2 : term v0 => v3 : proof (eq v0 v1 v2) => eq_mp (eq v0 v1 v1) (eq v0 v2 v1) (app_thm v0 bool (eq v0 v1) (eq v0 v2) v1 v1 (app_thm v0 (arr v0 bool) (eq v0) (eq v0) v1 v2 (refl (arr v0 (arr v0 bool)) (eq v0)) v3) (refl v0 v1)) (refl v0 v1).
-(; bound 5451776000 ;)
-thm trans : v0 : type -> v1 : term v0 -> v2 : term v0 -> v3 : term v0 -> v4 : proof (eq v0 v1 v2) -> v5 : proof (eq v0 v2 v3) -> proof (eq v0 v1 v3) := v0 : type => v1 : term v0 => v2 : term v0 => v3 : term v0 => v4 : proof (eq v0 v1 v2) => v5 : proof (eq v0 v2 v3) => eq_mp (eq v0 v1 v2) (eq v0 v1 v3) (app_thm v0 bool (eq v0 v1) (eq v0 v1) v2 v3 (refl (arr v0 bool) (eq v0 v1)) v5) v4.
-";
-
-    #[test]
-    fn a_module_begins_with_two_lemmas(rt: HostRuntime) -> Result<(), Fail> {
-        let alloc = rt.alloc();
-        let signature = signature(alloc)?;
-        let declarations = image_of(alloc, &[])?;
-        let symbols = Symbols {
-            signature: &signature,
-            declarations: &declarations,
-        };
-        let mut bounds = Vec::new(alloc);
-        for declaration in &declarations {
-            bounds.push(bound_of(symbols, declaration))?;
-        }
-        assert_eq!(rt;
-            bounds.as_slice(),
-            [10_764_582_912, 5_451_776_000].as_slice()
-        );
-        let text = text_of(alloc, &declarations, &bounds)?;
-        assert_eq!(rt; text.strip_prefix(PRELUDE), Some(LEMMAS));
-        Ok(())
     }
 }

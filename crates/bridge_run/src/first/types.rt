@@ -1,3 +1,4 @@
+//! Types of the first path.
 ghost use Rattle.std.specs.Prelude.{◌≡◌, ◌-◌, ◌^◌, min, IfOk};
 ghost use Rattle.hol_spec.specs.Types.{type_eq};
 ghost use Rattle.hol_spec.specs.Primitives.{function};

@@ -1,3 +1,4 @@
+//! How much checking a declaration may take: its bound.
 ghost use Rattle.std.specs.Prelude.{◌≡◌, ◌+◌, List, option_map, slice_index_or};
 ghost use Rattle.lp_spec.specs.Trees.{Tree as LpTree, size};
 ghost use Rattle.lp_spec.specs.Modules.{symbol_type};

@@ -1,11 +1,12 @@
 use Rattle.std.proofs.Common.{◌∙◌, ◌++◌, ◌∷◌, [], sym, subst, arith, Some, length-append}
+use Rattle.std.proofs.lemmas.Result.{on_ok_weaker}
 use Rattle.lp_spec.specs.declared.form.Form.TheVariants.{Def}
 use Rattle.lp_spec.specs.Modules.{signature}
 use Rattle.lp_spec.specs.ModuleOrder.{MayFollow}
 use Rattle.lp_term.specs.TableLaws.{Holds-tree_at, Keeps-trans}
 use Rattle.holide_sig.specs.Modules.{declaration_in, declarations_of}
 use Rattle.holide_sig.specs.ModuleLaws.{IsHeld-Keeps, declarations_of-Keeps}
-use Rattle.dk_write.proofs.Defined.{may_define, AreShallow-Keeps, pushed_shallow, shallow_type, shallow_by, on_ok}
+use Rattle.dk_write.proofs.Defined.{may_define, AreShallow-Keeps, pushed_shallow, shallow_type, shallow_by}
 use Rattle.dk_write.proofs.tests.push_nest.Goals as goal
 
 pub push-requires-clause-held : goal.push-requires-clause-held
@@ -24,7 +25,7 @@ pub returns-clause-shallow : goal.returns-clause-shallow
 returns-clause-shallow c =
     let kept = AreShallow-Keeps (Keeps-trans c.node.ensures.keeps c.nest.ensures.keeps) c.args.into.now.decls c.requires.held.decls c.requires.shallow in
     let ty = Holds-tree_at c.nest.new.table c.in_ok-ty.ty.0 _ (c.nest.ensures.keeps.stays.each c.in_ok-ty.ty.0 _ c.in_ok-ty.ensures.made) in
-    on_ok c.push.result
+    on_ok_weaker c.push.result
     (pushed_shallow c.nest.new.table c.push.new.self.table c.args.into.now.decls c.push.new.self.decls
     (record { name = c.new-name.result; form = Def; ty = c.in_ok-ty.ty; body = Some c.in_ok-body.body }) c.push.ensures.table kept
     (record { ty = shallow_type _ ty; body = shallow_by _ c.depth.result c.depth.ensures c.if-depth-gt16384.false }))

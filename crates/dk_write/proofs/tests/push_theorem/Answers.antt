@@ -1,10 +1,11 @@
 use Rattle.std.proofs.Common.{◌∙◌, ◌++◌, sym, arith, Some, length-append}
+use Rattle.std.proofs.lemmas.Result.{on_ok_weaker}
 use Rattle.lp_spec.specs.declared.form.Form.TheVariants.{Thm}
 use Rattle.lp_spec.specs.Modules.{signature}
 use Rattle.lp_term.specs.TableLaws.{Keeps-trans}
 use Rattle.holide_sig.specs.Modules.{declarations_of}
 use Rattle.holide_sig.specs.ModuleLaws.{IsHeld-Keeps, symbol_number-None}
-use Rattle.dk_write.proofs.Defined.{may_state, no_some, AreShallow-Keeps, pushed_shallow, on_ok}
+use Rattle.dk_write.proofs.Defined.{may_state, no_some, AreShallow-Keeps, pushed_shallow}
 use Rattle.dk_write.proofs.tests.push_theorem.Goals as goal
 
 pub push-requires-clause-held : goal.push-requires-clause-held
@@ -20,7 +21,7 @@ push-requires-clause-follows c =
 pub returns-clause-shallow : goal.returns-clause-shallow
 returns-clause-shallow c =
     let old = AreShallow-Keeps (Keeps-trans c.tree_of.ensures.keeps c.tree_of-2.ensures.keeps) c.args.into.now.decls c.requires.held.decls c.requires.shallow in
-    on_ok c.push.result
+    on_ok_weaker c.push.result
     (pushed_shallow c.tree_of-2.new.table c.push.new.self.table c.args.into.now.decls c.push.new.self.decls
     (record { name = c.new-name.result; form = Thm; ty = c.in_ok-ty.ty; body = Some c.in_ok-body.body }) c.push.ensures.table old
     (record { ty = c.if-not-may_stand.ensures.shallow; body = c.if-not-may_stand-2.ensures.shallow }))

@@ -1,4 +1,5 @@
-use Rattle.std.proofs.Common.{◌≡◌, ◌≤◌, ◌++◌, ◌∷◌, [], ℕ, List, ap, sym, subst, ◌∙◌, refl, arith, length-append, length, IsFalse, None, Ok, Err, OnOk, Result}
+use Rattle.std.proofs.Common.{◌≡◌, ◌≤◌, ◌++◌, ◌∷◌, [], ℕ, List, ap, sym, subst, ◌∙◌, refl, arith, length-append, length, IsFalse, None}
+use Rattle.std.proofs.lemmas.Result.{on_ok_weaker}
 use Rattle.lp_spec.specs.declared.form.Form.TheVariants.{Symbol}
 use Rattle.lp_spec.specs.Trees.{Tree}
 use Rattle.lp_spec.specs.Modules.{Declaration, signature, symbol, types}
@@ -36,13 +37,9 @@ push-requires-clause-follows c =
     (subst (λ ds. MayFollow (signature ++ ds) (symbol c.args.name.now types)) (sym (grown c))
     (follows (signature ++ declarations_of c.args.into.now) c.args.name.now (omega (arith, length-append signature (declarations_of c.args.into.now))) c.requires.new_name))
 
-on_ok : {E : Type 0} {P Q : Type 0} (r : Result (Unit {0}) E) → (P → Q) → OnOk r P → OnOk r Q
-on_ok (Ok u) f p = f p
-on_ok (Err e) f p = tt
-
 pub returns-clause-ok : goal.returns-clause-ok
 returns-clause-ok c =
     let ds = declarations_of c.args.into.now in
     let same = declared c.node.new.self c.new-name.result c.args.name.now c.in_ok-ty.ty c.in_ok-ty.ensures.made (c.new-name.ensures ∙ c.in_ok-from_slice.ensures.items) in
     let old = declarations_of-Keeps c.args.into.now c.node.new.self c.node.ensures.keeps c.requires.held in
-    on_ok c.push.result (λ e. e ∙ ap (λ l. l ++ declaration_in c.node.new.self (record { name = c.new-name.result; form = Symbol; ty = c.in_ok-ty.ty; body = None }) ∷ []) old ∙ ap (λ d. ds ++ d ∷ []) same) c.push.ensures.declared
+    on_ok_weaker c.push.result (λ e. e ∙ ap (λ l. l ++ declaration_in c.node.new.self (record { name = c.new-name.result; form = Symbol; ty = c.in_ok-ty.ty; body = None }) ∷ []) old ∙ ap (λ d. ds ++ d ∷ []) same) c.push.ensures.declared

@@ -2,7 +2,7 @@ use Rattle.std.proofs.Common.{◌≡◌, ap, subst, sym, ◌∙◌, Ok, arith}
 use Rattle.std.specs.Ordering.{int_cmp}
 use Rattle.std.specs.BTreeMap.{insert_entry}
 use Rattle.std.proofs.lemmas.Int.{to_z-of_z}
-use Rattle.hol_laws.specs.TermRenamings.{ap2}
+use Rattle.std.proofs.Math.Path.{ap₂}
 use Rattle.stack_machine.specs.Stored.{AreKnown, objects_view}
 use Rattle.stack_machine.specs.Shown.{in_state, article_state, dictionary_view, AreEntriesKnown}
 use Rattle.stack_machine.proofs.Passing.{handed_on}
@@ -30,4 +30,4 @@ returns-clause-taken c =
     let e : c.insert.new.self.entries ≡ insert_entry int_cmp es c.in_ok-key.key c.in_ok-object.object = grind (arith, to_z-of_z) in
     let inserted = ap (dictionary_view m) e ∙ dictionary-insert m es c.in_ok-key.key c.in_ok-object.object in
     rw (← c.self.view_is) (next _ _ _ _ (c.in_ok-key.ensures m).taken (next _ _ _ _ (c.in_ok-object.ensures m).taken
-    (ap2 (λ xs entries. Ok (in_state (record (article_state m es c.self.inside.progress) { dictionary = entries }) (objects_view m xs) m.run)) (sym c.drop_top.ensures) (sym inserted))))
+    (ap₂ (λ xs entries. Ok (in_state (record (article_state m es c.self.inside.progress) { dictionary = entries }) (objects_view m xs) m.run)) (sym c.drop_top.ensures) (sym inserted))))

@@ -4,7 +4,7 @@ use Rattle.std.specs.Map.{lookup}
 use Rattle.std.specs.Option.{ok_or}
 use Rattle.std.specs.BTreeMap.{is_at}
 use Rattle.std.proofs.lemmas.Int.{to_z-of_z}
-use Rattle.hol_laws.specs.TermRenamings.{ap2}
+use Rattle.std.proofs.Math.Path.{ap₂}
 use Rattle.bridge_base.specs.declared.faults.Fault.TheVariants.{Refused}
 use Rattle.bridge_base.specs.declared.faults.Kind.TheVariants.{NoSuchKey}
 use Rattle.stack_machine.specs.Stored.{AreKnown, object_view, objects_view}
@@ -43,4 +43,4 @@ returns-clause-taken c =
     let es = c.self.inside.dictionary.entries in
     let u : (q : ℤ) → lookup (is_at (int_cmp q)) c.remove.new.self.entries ≡ cond (is_eq (int_cmp c.in_ok-key.key q)) None (lookup (is_at (int_cmp q)) es) = simp to_z-of_z at c.in-Some.ensures.updates.0 in
     rw (← c.self.view_is) (next _ _ _ _ (c.in_ok-key.ensures m).taken (next _ _ _ _ (ap (λ o. ok_or o NoSuchKey) (dictionary-get m es c.in_ok-key.key ∙ ap (option_map (object_view m)) e))
-    (ap2 (λ xs entries. Ok (in_state (record (article_state m es c.self.inside.progress) { dictionary = entries }) (objects_view m xs) m.run)) (sym c.put.ensures) (sym (dictionary-remove m es c.remove.new.self.entries c.in_ok-key.key u)))))
+    (ap₂ (λ xs entries. Ok (in_state (record (article_state m es c.self.inside.progress) { dictionary = entries }) (objects_view m xs) m.run)) (sym c.put.ensures) (sym (dictionary-remove m es c.remove.new.self.entries c.in_ok-key.key u)))))
