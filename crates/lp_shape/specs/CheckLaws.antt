@@ -2,7 +2,7 @@
 use Rattle.std.proofs.Common.{◌≡◌, ℕ, suc, refl, sym, ap, subst, arith, Bool, List}
 use Rattle.lp_spec.specs.Trees.{Tree}
 use Rattle.lp_spec.specs.Modules.{Declaration}
-use Rattle.lp_shape.specs.Check.{Reply, Found, No, Plan, Ends, said, refused, asked}
+use Rattle.lp_shape.specs.Check.{Question, Reply, Found, No, Plan, Say, Ask, plan, Ends, said, refused, asked}
 
 found_tree : Tree → Reply → Tree
 found_tree d (Found t) = t
@@ -26,3 +26,18 @@ module _ (m : List Declaration) (r : Bool) where
       let same = subst (λ t. Ends m r (rest t) a n) (Found-injective e.0) k in
       let o = one_reply same j in
       (o.0, omega (arith, e.1, o.1))
+
+-- a plan finds the tree, where what each of its questions finds has the property
+pub data Backed (P : Question → Tree → Type 0) : Plan → Tree → Type 0 where
+  says : {t : Tree} → Backed P (Say (Found t)) t
+  asks : {q : Question} {rest : Tree → Plan} {t u : Tree} → P q t → Backed P (rest t) u → Backed P (Ask q rest) u
+
+module _ (m : List Declaration) (r : Bool) (P : Question → Tree → Type 0) (each : (q : Question) (t : Tree) → Backed P (plan m r q) t → P q t) where
+  -- induction over questions: where each question has the property if those of its plan do, every question has it
+  pub backed : {p : Plan} {reply : Reply} {n : ℕ} (t : Tree) → Ends m r p reply n → reply ≡ Found t → Backed P p t
+  backed t (said {reply = a}) e = subst (λ w. Backed P (Say w) t) (sym e) says
+  backed t (refused h) e = absurd (cc)
+  backed t (asked {t = u} h k) e = asks (each _ u (backed u h refl)) (backed t k e)
+
+  pub by_questions : (q : Question) (t : Tree) (n : ℕ) → Ends m r (plan m r q) (Found t) n → P q t
+  by_questions q t n h = each q t (backed t h refl)

@@ -2,24 +2,26 @@
 use Rattle.std.proofs.Common.{◌≡◌, ⊎_elim, refl, sym, ap, ◌∙◌, subst, ℕ, suc, arith, Bool, true, false, List, [], ◌∷◌, ◌++◌, ◌+◌, length, append_assoc, Option, Some, None}
 use Rattle.std.proofs.lemmas.List.{length-append}
 use Rattle.std.proofs.Math.Seq.{take-append_seam}
-use Rattle.lp_binding.specs.SubstitutionLaws.{subst2}
 use Rattle.std.specs.Prelude.{slice_get, take, if◌then◌else◌}
+use Rattle.std.proofs.Math.Path.{subst₂}
+use Rattle.std.proofs.lemmas.Option.{same_Some}
 use Rattle.lp_spec.specs.declared.form.Form.{Form}
 use Rattle.lp_spec.specs.declared.form.Form.TheVariants.{Symbol, Def, Thm}
-use Rattle.lp_binding.specs.LookUps.{some_is, option_map-some}
+use Rattle.lp_binding.specs.LookUps.{option_map-some}
 use Rattle.lp_spec.specs.Trees.{Tree, SortType, SortKind, Var, Sym, App, Lam, Pi, lift, put, tree_eq}
 use Rattle.lp_binding.specs.TreeEquality.{tree_eq-true}
 use Rattle.lp_spec.specs.Modules.{Declaration, signature, symbol_type}
-use Rattle.lp_spec.specs.Conversion.{app_function, app_argument, lam_domain, lam_body, pi_domain, pi_body, Conv, same}
-use Rattle.lp_typing.specs.ConversionLaws.{Conv-trans, Conv-sym, Conv-under, Conv-equal, Steps-Conv}
+use Rattle.lp_spec.specs.Conversion.{Conv, same}
+use Rattle.lp_typing.specs.ConversionLaws.{Conv-trans, Conv-sym}
 use Rattle.lp_spec.specs.Typing.{IsSort, is_type, is_kind, Typed, of_type, of_variable, of_symbol, of_product, of_abstraction, of_application, of_conversion, IsContext, entry, nothing, IsBodyOf, IsTypedAfter, AreTypedAfter, WellTyped}
-use Rattle.lp_typing.specs.Soundness.{IsSound, IsSound-closed, IsSound-after}
+use Rattle.lp_typing.specs.Soundness.{IsSound, IsSound-after}
 use Rattle.lp_typing.specs.SignatureLaws.{signature_sound}
 use Rattle.lp_spec.specs.ModuleOrder.{IsBodyOver, AreDeclared, IsModule}
 use Rattle.lp_typing.specs.Regularity.{regular}
 use Rattle.lp_shape.specs.HeadSteps.{head_step}
-use Rattle.lp_shape.specs.Check.{Question, Infer, Reach, Meet, Convert, Reply, Found, No, Plan, Say, Ask, if_type, if_sort, unless_kind, found_if, recheck, if_product, if_step, product_of, infer, reach, meet, convert_parts, convert_by, convert, plan, Ends, said, refused, asked, body_plan, declaration_plan, Check}
-use Rattle.lp_shape.specs.HeadStepLaws.{head_step-Steps}
+use Rattle.lp_shape.specs.Check.{Question, Infer, Reach, Meet, Convert, Found, No, Plan, Say, Ask, if_type, if_sort, unless_kind, found_if, recheck, if_product, if_step, product_of, infer, reach, meet, plan, Ends, body_plan, declaration_plan, Check}
+use Rattle.lp_shape.specs.CheckLaws.{Backed, says, asks, backed, by_questions}
+use Rattle.lp_shape.specs.ConvertLaws.{head_step-Conv, convert-Conv}
 
 -- a symbol has no body, and every other declaration has one
 abbrev pub HasBody : Form → Option Tree → Type 0
@@ -28,21 +30,6 @@ HasBody Def None = ⊥
 HasBody Def (Some t) = Unit {0}
 HasBody Thm None = ⊥
 HasBody Thm (Some t) = Unit {0}
-
--- a plan finds the tree, where what each of its questions finds has the property
-pub data Backed (P : Question → Tree → Type 0) : Plan → Tree → Type 0 where
-  says : {t : Tree} → Backed P (Say (Found t)) t
-  asks : {q : Question} {rest : Tree → Plan} {t u : Tree} → P q t → Backed P (rest t) u → Backed P (Ask q rest) u
-
-module _ (m : List Declaration) (r : Bool) (P : Question → Tree → Type 0) (each : (q : Question) (t : Tree) → Backed P (plan m r q) t → P q t) where
-  -- induction over questions: where each question has the property if those of its plan do, every question has it
-  backed : {p : Plan} {reply : Reply} {n : ℕ} (t : Tree) → Ends m r p reply n → reply ≡ Found t → Backed P p t
-  backed t (said {reply = a}) e = subst (λ w. Backed P (Say w) t) (sym e) says
-  backed t (refused h) e = absurd (cc)
-  backed t (asked {t = u} h k) e = asks (each _ u (backed u h refl)) (backed t k e)
-
-  pub by_questions : (q : Question) (t : Tree) (n : ℕ) → Ends m r (plan m r q) (Found t) n → P q t
-  by_questions q t n h = each q t (backed t h refl)
 
 module _ (m : List Declaration) (sound : IsSound m) where
   -- what a tree that was found says of the question
@@ -105,10 +92,6 @@ module _ (m : List Declaration) (sound : IsSound m) where
   of_if_step (Some H) h = record { made = H; is = refl; on = h }
   of_if_step None h = no h
 
-  -- a head step is a conversion
-  head_step-Conv : (t u : Tree) → head_step m t ≡ Some u → Conv m t u
-  head_step-Conv t u e = Steps-Conv (head_step-Steps m (IsSound-closed m sound) t u e)
-
   of_reach : (F : Tree) {t : Tree} → By (if_step (head_step m F) (λ H. Ask (Reach H) (λ P. Say (Found P)))) t → Conv m F t
   of_reach F h = go (of_if_step (head_step m F) h)
     where
@@ -116,7 +99,7 @@ module _ (m : List Declaration) (sound : IsSound m) where
       go s = on s.on
         where
           on : {t : Tree} → By (Ask (Reach s.made) (λ P. Say (Found P))) t → Conv m F t
-          on (asks h says) = Conv-trans (head_step-Conv F s.made s.is) h
+          on (asks h says) = Conv-trans (head_step-Conv m F s.made s.is) h
 
   reach-Conv : (F : Tree) {t : Tree} → By (reach m F) t → Conv m F t
   reach-Conv (Pi A B) says = same
@@ -148,7 +131,7 @@ module _ (m : List Declaration) (sound : IsSound m) where
               record {
                 domain = p.domain;
                 body = p.body;
-                turn = λ g f hf. subst (Typed m G f) p.is (of_conversion hf (Conv-trans (head_step-Conv F s.made s.is) c) (i g) sort.0);
+                turn = λ g f hf. subst (Typed m G f) p.is (of_conversion hf (Conv-trans (head_step-Conv m F s.made s.is) c) (i g) sort.0);
                 on = p.on;
               }
 
@@ -202,24 +185,6 @@ module _ (m : List Declaration) (sound : IsSound m) where
   infer-Typed G (Lam a b) h c = infer-abstraction G a b h c
   infer-Typed G (Pi a b) h c = infer-product G a b h c
 
-  convert_parts-Conv : (E F : Tree) {t : Tree} → By (convert_parts E F) t → Conv m E F
-  convert_parts-Conv (App f x) (App g y) (asks h (asks k says)) = Conv-trans (Conv-under (λ w. App w x) (λ a b. app_function) h) (Conv-under (App g) (λ a b. app_argument) k)
-  convert_parts-Conv (Lam a b) (Lam c d) (asks h (asks k says)) = Conv-trans (Conv-under (λ w. Lam w b) (λ a b. lam_domain) h) (Conv-under (Lam c) (λ a b. lam_body) k)
-  convert_parts-Conv (Pi a b) (Pi c d) (asks h (asks k says)) = Conv-trans (Conv-under (λ w. Pi w b) (λ a b. pi_domain) h) (Conv-under (Pi c) (λ a b. pi_body) k)
-  convert_parts-Conv _ _ h = no h
-
-  convert_by-Conv : (E F : Tree) (e f : Option Tree) {t : Tree} → head_step m E ≡ e → head_step m F ≡ f → By (convert_by E F e f) t → Conv m E F
-  convert_by-Conv E F (Some H) f p q (asks h says) = Conv-trans (head_step-Conv E H p) h
-  convert_by-Conv E F None (Some H) p q (asks h says) = Conv-trans h (Conv-sym (head_step-Conv F H q))
-  convert_by-Conv E F None None p q h = convert_parts-Conv E F h
-
-  convert-Conv : (E F : Tree) {t : Tree} → By (convert m E F) t → Conv m E F
-  convert-Conv E F h = go (tree_eq E F) refl h
-    where
-      go : (b : Bool) {t : Tree} → tree_eq E F ≡ b → By (if b then Say (Found E) else convert_by E F (head_step m E) (head_step m F)) t → Conv m E F
-      go true e h = Conv-equal (tree_eq-true E F e)
-      go false e h = convert_by-Conv E F _ _ refl refl h
-
   meet-Typed : (G : List Tree) (E F : Tree) {u : Tree} → By (meet true G E F) u → IsContext m G → (t : Tree) → Typed m G t F → Typed m G t E
   meet-Typed G E F h c t ht = go (tree_eq E F) refl h
     where
@@ -235,15 +200,11 @@ module _ (m : List Declaration) (sound : IsSound m) where
   each (Infer G t) A h = infer-Typed G t h
   each (Reach F) P h = reach-Conv F h
   each (Meet G E F) u h = meet-Typed G E F h
-  each (Convert E F) u h = convert-Conv E F h
+  each (Convert E F) u h = convert-Conv m Says (λ E F u c. c) E F h
 
   -- what is found is typed, over a sound module and in a context of types
   pub infer-sound : (G : List Tree) (t A : Tree) (n : ℕ) → IsContext m G → Ends m true (infer m true G t) (Found A) n → Typed m G t A
   infer-sound G t A n c h = by_questions m true Says each (Infer G t) A n h c
-
-  -- trees that are found convertible are
-  pub convert-sound : (E F u : Tree) (n : ℕ) → Ends m true (convert m E F) (Found u) n → Conv m E F
-  convert-sound E F u n h = by_questions m true Says each (Convert E F) u n h
 
   -- a body that passes has the type
   body-sound : (f : Form) (body : Option Tree) {A u s : Tree} → HasBody f body → Typed m [] A s → IsSort s → By (body_plan A body) u → IsBodyOf m f body A
@@ -274,7 +235,7 @@ abbrev ArePassed : List Declaration → List Declaration → Type 0
 ArePassed before [] = Unit {0}
 ArePassed before (d ∷ ds) = Passes before d × ArePassed (before ++ d ∷ []) ds
 
-HasBody-IsBodyOver : (count : ℕ) (f : Form) (body : Option Tree) → IsBodyOver count f body → HasBody f body
+pub HasBody-IsBodyOver : (count : ℕ) (f : Form) (body : Option Tree) → IsBodyOver count f body → HasBody f body
 HasBody-IsBodyOver count Symbol body h = h
 HasBody-IsBodyOver count Def None h = h
 HasBody-IsBodyOver count Def (Some t) h = tt
@@ -288,7 +249,7 @@ passed before (d ∷ ds) sound a h =
     (t, passed (before ++ d ∷ []) ds (IsSound-after before d sound t) (subst (λ l. AreDeclared l ds) (append_assoc signature before (d ∷ [])) a.1) h.1)
 
 -- the declaration passes, at this number
-record PassesAt (m : List Declaration) (i : ℕ) : Type 0 where
+pub record PassesAt (m : List Declaration) (i : ℕ) : Type 0 where
   pub found : Tree
   pub price : ℕ
   pub by : Check m i (Found found) price
@@ -305,17 +266,17 @@ each_passed before (d ∷ ds) h = (first (h 0 d refl), each_passed (before ++ d 
     first : PassesAt (before ++ d ∷ ds) (length before + 0) → Passes before d
     first p =
         let count : length before + 0 ≡ length before = omega arith in
-        let is : p.by.declaration ≡ d = some_is (sym p.by.at ∙ ap (slice_get (before ++ d ∷ ds)) count ∙ slice_get-after before ds d) in
+        let is : p.by.declaration ≡ d = same_Some _ _ (sym p.by.at ∙ ap (slice_get (before ++ d ∷ ds)) count ∙ slice_get-after before ds d) in
         let front : take (length before + 0) (before ++ d ∷ ds) ≡ before = ap (λ n. take n (before ++ d ∷ ds)) count ∙ take-append_seam before (d ∷ ds) in
-        record { found = p.found; price = p.price; by = subst2 (λ l e. Ends l true (declaration_plan e) (Found p.found) p.price) front is p.by.ends }
+        record { found = p.found; price = p.price; by = subst₂ (λ l e. Ends l true (declaration_plan e) (Found p.found) p.price) front is p.by.ends }
 
     further : (i : ℕ) → PassesAt (before ++ d ∷ ds) (length before + suc i) → PassesAt ((before ++ d ∷ []) ++ ds) (length (before ++ d ∷ []) + i)
     further i h =
         let count : length before + suc i ≡ length (before ++ d ∷ []) + i = omega (arith, length-append before (d ∷ [])) in
-        subst2 PassesAt (sym (append_assoc before (d ∷ []) ds)) count h
+        subst₂ PassesAt (sym (append_assoc before (d ∷ []) ds)) count h
 
 -- The checker's law: a module whose declarations pass, each over those before it, is well typed.
-pub CheckerLaw : Type 0
+unfoldable pub CheckerLaw : Type 0
 CheckerLaw = (m : List Declaration) → IsModule m → ((i : ℕ) (d : Declaration) → slice_get m i ≡ Some d → PassesAt m i) → WellTyped m
 
 pub checker_law : CheckerLaw

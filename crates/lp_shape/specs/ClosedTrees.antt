@@ -1,7 +1,7 @@
 -- What the rules say of a tree depends on the part of the context that it can see: a closed tree has one type in all contexts.
 use Rattle.std.proofs.Common.{◌≡◌, refl, sym, ap, subst, ℕ, zero, suc, ◌+◌, ◌<◌, ◌≤◌, arith, Bool, true, false, List, ◌∷◌, Option, Some, None}
 use Rattle.std.specs.Prelude.{slice_get, option_map, if◌then◌else◌}
-use Rattle.lp_binding.specs.LookUps.{some_is}
+use Rattle.std.proofs.lemmas.Option.{same_Some}
 use Rattle.lp_spec.specs.Trees.{Tree, SortType, SortKind, Var, Sym, App, Lam, Pi, lift, put, loose, tree_eq}
 use Rattle.lp_spec.specs.Substitution.{up, ren, ups, sub, cons}
 use Rattle.lp_binding.specs.Composition.{put_is, lift_is}
@@ -66,7 +66,7 @@ module _ (m : List Declaration) (closed : IsClosed m) where
   loose-Steps d (next s k) h = loose-Steps d k (loose-Step d s h)
 
   loose-head : (d : ℕ) (t u : Tree) → head_step m t ≡ Some u → loose t ≤ d → loose u ≤ d
-  loose-head d t u e h = loose-Steps d (head_step-Steps m closed t u e) h
+  loose-head d t u e h = loose-Steps d (head_step-Steps m t u e) h
 
 -- the contexts agree on their d innermost entries, which see no others
 record Agrees (d : ℕ) (G D : List Tree) : Type 0 where
@@ -84,7 +84,7 @@ agrees-under {d = d} {G = G} {D = D} {A = A} h a = record { same = same; seen = 
     same (suc n) l = a.same n (omega (arith, l))
 
     seen : (n : ℕ) (B : Tree) → n < suc d → slice_get (A ∷ G) n ≡ Some B → loose B + suc n ≤ suc d
-    seen zero B l e = subst (λ t. loose t + suc zero ≤ suc d) (some_is e) (omega (arith, h))
+    seen zero B l e = subst (λ t. loose t + suc zero ≤ suc d) (same_Some _ _ e) (omega (arith, h))
     seen (suc n) B l e = let k = a.seen n B (omega (arith, l)) e in omega (arith, k)
 
 -- questions that are one where contexts agree, and whose trees see no more than d variables
@@ -168,7 +168,7 @@ module _ (m : List Declaration) (closed : IsClosed m) (r : Bool) where
   product-alike d e (Lam b t) a h on = step-alike d e (Lam b t) a h on (head_step m (Lam b t)) refl
 
   entry-seen : (d : ℕ) {G D : List Tree} (n : ℕ) → Agrees d G D → n < d → (o : Option Tree) → slice_get G n ≡ o → (t : Tree) → option_map (lift (suc n)) o ≡ Some t → loose t ≤ d
-  entry-seen d n a l (Some A) e t q = subst (λ u. loose u ≤ d) (some_is q) (loose-lift (suc n) d A (a.seen n A l e))
+  entry-seen d n a l (Some A) e t q = subst (λ u. loose u ≤ d) (same_Some _ _ q) (loose-lift (suc n) d A (a.seen n A l e))
   entry-seen d n a l None e t q = absurd (cc)
 
   infer-alike : (d : ℕ) {G D : List Tree} (t : Tree) → Agrees d G D → loose t ≤ d → Alike d (infer m r G t) (infer m r D t)

@@ -1,6 +1,7 @@
 -- Declared types, and the conversion of types that are near: answers, each with a bound on its price.
 use Rattle.std.proofs.Common.{◌≡◌, refl, sym, ap, subst, ℕ, suc, ◌+◌, ◌*◌, ◌≤◌, arith, Bool, true, false, List, []}
 use Rattle.std.specs.Prelude.{if◌then◌else◌}
+use Rattle.std.proofs.Math.Path.{subst₂}
 use Rattle.lp_spec.specs.Trees.{Tree, SortType, Sym, App, Pi, size, tree_eq}
 use Rattle.lp_spec.specs.Modules.{Declaration, bools, arr_of, term_of, eq_of, proof_of, eq_symbol, proof_symbol}
 use Rattle.lp_binding.specs.Composition.{lift_zero}
@@ -11,7 +12,6 @@ use Rattle.lp_shape.specs.Check.{Infer, Convert, Found, Say, convert_by, Ends, s
 use Rattle.lp_shape.specs.Shaped.{IsConstant, constant, at_type, IsSimple, IsDeclared, of_types, of_terms, of_proofs, of_products, Unfolded, folded, Near, near_same, near_head, near_arrows, near_application, near_product}
 use Rattle.lp_shape.specs.Found.{Finds, Finds-more, find_application, find_constant, find_terms, meet_same, convert_same, convert_unfolded, unfolded-size}
 use Rattle.lp_shape.specs.TermPrice.{size-positive, AreSmall, small-entry, FindsTerm, find-apply}
-use Rattle.lp_binding.specs.SubstitutionLaws.{subst2}
 use Rattle.lp_shape.specs.SizedTerms.{sized, find-term}
 
 module _ (m : List Declaration) (closed : IsClosed m) where
@@ -65,7 +65,7 @@ module _ (m : List Declaration) (closed : IsClosed m) where
       let k = convert-near hf in
       let l = convert-near hx in
       Finds-more m (omega (arith, k.within, l.within))
-      (by-steps (App f x) (App g y) (subst2 (λ o u. Ends m true (convert_by (App f x) (App g y) o u) (Found (App f x)) (suc (k.steps + suc (l.steps + 0)))) (sym p) (sym q) (asked k.ends (asked l.ends said))))
+      (by-steps (App f x) (App g y) (subst₂ (λ o u. Ends m true (convert_by (App f x) (App g y) o u) (Found (App f x)) (suc (k.steps + suc (l.steps + 0)))) (sym p) (sym q) (asked k.ends (asked l.ends said))))
   convert-near (near_product {a = a} {b = b} {c = c} {d = d} ha hb) =
       let k = convert-near ha in
       let l = convert-near hb in

@@ -1,11 +1,12 @@
 -- What the rules find of simple types, and how they convert types of terms with unfolded arrows: answers, each with a bound on its price.
 use Rattle.std.proofs.Common.{◌≡◌, refl, sym, ap, ◌∙◌, subst, ℕ, suc, ◌+◌, ◌*◌, ◌≤◌, arith, Bool, true, false, List, ◌∷◌, None}
 use Rattle.std.specs.Prelude.{if◌then◌else◌, option_map}
+use Rattle.std.proofs.Math.Path.{subst₂}
 use Rattle.lp_spec.specs.Trees.{Tree, SortType, Var, Sym, App, Pi, lift, put, size, tree_eq}
 use Rattle.lp_binding.specs.TreeEquality.{tree_eq-refl}
 use Rattle.lp_spec.specs.Substitution.{ren, ups, sub, cons}
 use Rattle.lp_binding.specs.Composition.{put_is}
-use Rattle.lp_binding.specs.SubstitutionLaws.{subst2, ren_closed, ren-put, sub-lift, lift_one}
+use Rattle.lp_binding.specs.SubstitutionLaws.{ren_closed, ren-put, sub-lift, lift_one}
 use Rattle.lp_binding.specs.Binding.{put-lift}
 use Rattle.lp_spec.specs.Modules.{Declaration, types, arr_of, term_of}
 use Rattle.lp_typing.specs.ConversionLaws.{IsClosed}
@@ -98,7 +99,7 @@ module _ (m : List Declaration) (closed : IsClosed m) where
 
   -- an argument put into the type of what a function gives
   pub unfolded-put : (x : Tree) {b S : Tree} → Unfolded (lift 1 b) S → Unfolded b (put x S)
-  unfolded-put x {b = b} {S = S} h = subst2 Unfolded (sym (put_is x (lift 1 b)) ∙ put-lift x b) (sym (put_is x S)) (unfolded-sub (cons x Var) h)
+  unfolded-put x {b = b} {S = S} h = subst₂ Unfolded (sym (put_is x (lift 1 b)) ∙ put-lift x b) (sym (put_is x S)) (unfolded-sub (cons x Var) h)
 
   -- the type of terms converts to itself with arrows unfolded
   pub convert_unfolded : {a S : Tree} → Unfolded a S → Finds m (Convert (term_of a) S) (term_of a) (3 * size S)

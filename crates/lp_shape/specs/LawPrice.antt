@@ -1,17 +1,17 @@
 -- The price of laws: within 64 times the square of the weight too.
 use Rattle.std.proofs.Common.{◌≡◌, refl, sym, ap, subst, ℕ, zero, suc, ◌+◌, ◌*◌, ◌≤◌, arith, true, List, [], ◌∷◌, Some}
 use Rattle.std.specs.Prelude.{◌-◌}
+use Rattle.std.proofs.Math.Path.{subst₂}
 use Rattle.lp_spec.specs.Trees.{Tree, SortType, Sym, App, Lam, Pi, lift, size}
-use Rattle.lp_binding.specs.SubstitutionLaws.{subst2}
 use Rattle.lp_spec.specs.Modules.{Declaration, types, bools, arr_of, term_of, eq_of, proof_of}
 use Rattle.lp_spec.specs.Weight.{spread, spreads, tree_weight}
 use Rattle.lp_typing.specs.ConversionLaws.{IsClosed}
 use Rattle.lp_shape.specs.HeadSteps.{head_step}
 use Rattle.lp_shape.specs.Check.{Infer, Convert, Found, Say, unless_kind, convert_by, Ends, said, asked}
 use Rattle.lp_shape.specs.Shaped.{constant, two_abstractions, pointwise, Unfolded, folded, arrow, Close, close_same, close_step, close_arrow, close_application, close_product, IsLast, last_call, last_defined, IsLaw, at_close_abstractions, law_last, at_close_equation, law_under, IsCallDefinition, by_type, by_term, call_under}
-use Rattle.lp_shape.specs.Sizes.{size-lift}
+use Rattle.lp_shape.specs.Sizes.{size-lift, put_all-nil}
 use Rattle.lp_shape.specs.Found.{Finds, Finds-more, find_application, find_terms, meet_same, convert_same}
-use Rattle.lp_shape.specs.TermPrice.{put_all-nil, size-positive, AreSmall, small-entry}
+use Rattle.lp_shape.specs.TermPrice.{size-positive, AreSmall, small-entry}
 use Rattle.lp_shape.specs.SizedTerms.{sized, find-term}
 use Rattle.lp_shape.specs.DeclaredPrice.{find-equation, find-proofs, find-declared, by-steps}
 use Rattle.lp_shape.specs.ProofPrice.{cost, priced, find-meet, find-pointwise, call-spread}
@@ -64,7 +64,7 @@ module _ (m : List Declaration) (closed : IsClosed m) where
       record {
         most = 1 + k.most + l.most;
         finds = Finds-more m (omega (arith, k.finds.within, l.finds.within))
-            (by-steps m closed (App f x) (App g y) (subst2 (λ o u. Ends m true (convert_by (App f x) (App g y) o u) (Found (App f x)) (suc (k.finds.steps + suc (l.finds.steps + 0)))) (sym p) (sym q) (asked k.finds.ends (asked l.finds.ends said))));
+            (by-steps m closed (App f x) (App g y) (subst₂ (λ o u. Ends m true (convert_by (App f x) (App g y) o u) (Found (App f x)) (suc (k.finds.steps + suc (l.finds.steps + 0)))) (sym p) (sym q) (asked k.finds.ends (asked l.finds.ends said))));
         within = omega (arith, k.within, l.within);
       }
   convert-close (close_product {a = a} {b = b} {c = c} {d = d} ha hb) =
@@ -118,9 +118,9 @@ module _ (m : List Declaration) (closed : IsClosed m) where
       let sort : Finds m (Infer G (term_of S)) SortType (3 + s.most) = Finds-more m (omega arith) sorted in
       let c = convert_same m (Sym 4) in
       let l = convert_same m S in
-      let one : Finds m (Convert S n) S 2 = Finds-more m (omega (arith, l.within)) (by-steps m closed S n (subst2 (λ a b. Ends m true (convert_by S n a b) (Found S) (suc (l.steps + 0))) (sym z) (sym d) (asked l.ends said))) in
+      let one : Finds m (Convert S n) S 2 = Finds-more m (omega (arith, l.within)) (by-steps m closed S n (subst₂ (λ a b. Ends m true (convert_by S n a b) (Found S) (suc (l.steps + 0))) (sym z) (sym d) (asked l.ends said))) in
       let two : Finds m (Convert (term_of S) (term_of n)) (term_of S) 5 =
-      Finds-more m (omega (arith, one.within, c.within)) (by-steps m closed (term_of S) (term_of n) (subst2 (λ a b. Ends m true (convert_by (term_of S) (term_of n) a b) (Found (term_of S)) (suc (c.steps + suc (one.steps + 0)))) (sym v) (sym y) (asked c.ends (asked one.ends said)))) in
+      Finds-more m (omega (arith, one.within, c.within)) (by-steps m closed (term_of S) (term_of n) (subst₂ (λ a b. Ends m true (convert_by (term_of S) (term_of n) a b) (Found (term_of S)) (suc (c.steps + suc (one.steps + 0)))) (sym v) (sym y) (asked c.ends (asked one.ends said)))) in
       let meet = find-meet m closed sort two in
       let argument : Finds m (Infer G x) (term_of n) (7 * suc w * size x) = subst (λ t. Finds m (Infer G x) t (7 * suc w * size x)) same o.finds in
       let sizes : cost w * size S ≤ cost w * size f = times (cost w) (size S) (size f) ss in

@@ -2,13 +2,16 @@ pub mod Check
 pub mod CheckLaws
 pub mod CheckerLaw
 pub mod ClosedTrees
+pub mod ConvertLaws
 pub mod DeclaredPrice
+pub mod EarlierDeclarations
 pub mod FastCheck
 pub mod Found
 pub mod HeadStepLaws
 pub mod HeadSteps
 pub mod LawPrice
 pub mod PlanLaws
+pub mod PricedModules
 pub mod ProofPrice
 pub mod ShapeStatements
 pub mod Shaped

@@ -2,18 +2,18 @@
 use Rattle.std.proofs.Common.{◌≡◌, refl, sym, ap, ◌∙◌, subst, ℕ, zero, suc, ◌+◌, ◌*◌, ◌≤◌, arith, Bool, true, false, List, [], ◌∷◌, Some}
 use Rattle.std.specs.Prelude.{if◌then◌else◌, option_map}
 use Rattle.std.specs.Option.{option_map_or}
-use Rattle.std.proofs.Math.Path.{fun_ext}
+use Rattle.std.proofs.Math.Path.{fun_ext, ap₂}
 use Rattle.lp_spec.specs.Trees.{Tree, SortType, Var, App, Lam, Pi, raised, lift_at, lift, put, size, tree_eq}
-use Rattle.lp_binding.specs.Composition.{ap2, sub_ren, sub_var, put_is, lift_at_is}
+use Rattle.lp_binding.specs.Composition.{sub_ren, sub_var, put_is, lift_at_is}
 use Rattle.lp_spec.specs.Substitution.{sub, cons}
 use Rattle.lp_spec.specs.Modules.{Declaration, types, term_of, eq_of, proof_of, refl_of}
 use Rattle.lp_spec.specs.Weight.{spread, symbol_spread, spreads}
 use Rattle.lp_typing.specs.ConversionLaws.{IsClosed}
 use Rattle.lp_shape.specs.Check.{Infer, Meet, Convert, Found, Say, Ask, found_if, unless_kind, recheck, Ends, said, asked}
 use Rattle.lp_shape.specs.Shaped.{Solid, IsSimple, IsTerm, of_binder, Near, near_same, near_head, near_application, near_product, folded, two_abstractions, pointwise, IsProof, call, at_a_type, at_a_term, at_a_proof, at_a_definition, at_abstractions, called, hypothesis, under_binder}
-use Rattle.lp_shape.specs.Sizes.{size-lift}
+use Rattle.lp_shape.specs.Sizes.{size-lift, put_all-nil}
 use Rattle.lp_shape.specs.Found.{Finds, find_application, find_constant, find_terms, meet_same, meet_unfolded, simple-weaken, term-simple}
-use Rattle.lp_shape.specs.TermPrice.{put_all-nil, solid-put, spread-product, AreSmall, small-entry, find-apply}
+use Rattle.lp_shape.specs.TermPrice.{solid-put, spread-product, AreSmall, small-entry, find-apply}
 use Rattle.lp_shape.specs.SizedTerms.{by_entry, sized, sized-weaken, find-term}
 use Rattle.lp_shape.specs.DeclaredPrice.{find-equation, find-proofs, find-declared, convert-near}
 
@@ -67,7 +67,7 @@ module _ (m : List Declaration) (closed : IsClosed m) where
 
   -- how far a call's type spreads at an argument and further ones
   pub call-spread : {G : List Tree} {f E A B : Tree} (x : Tree) (args : List Tree) → IsProof m true G f (Pi E A) → put x A ≡ B → spread (x ∷ args) (Pi E A) ≡ size E + spread args B
-  call-spread {E = E} {A = A} x args hf e = spread-product x args E A (call-solid hf) ∙ ap2 (λ n k. n + k) (ap size (put_all-nil E)) (ap (spread args) e)
+  call-spread {E = E} {A = A} x args hf e = spread-product x args E A (call-solid hf) ∙ ap₂ (λ n k. n + k) (ap size (put_all-nil E)) (ap (spread args) e)
 
   -- a proof's type is no sort
   proof-unless-kind : {G : List Tree} {t A rest : Tree} {n : ℕ} → IsProof m false G t A → Ends m true (Say (Found rest)) (Found rest) n → Ends m true (unless_kind A (Say (Found rest))) (Found rest) n

@@ -1,11 +1,12 @@
 -- Terms whose types of functions are bounded: what is found of them, at a price of their size times the bound.
 use Rattle.std.proofs.Common.{◌≡◌, sym, ap, ◌∙◌, subst, ℕ, zero, suc, ◌+◌, ◌*◌, ◌≤◌, arith, true, List, [], ◌∷◌, Some}
 use Rattle.std.specs.Prelude.{slice_get, option_map}
-use Rattle.lp_binding.specs.LookUps.{some_is}
+use Rattle.std.proofs.Math.Path.{subst₂}
+use Rattle.std.proofs.lemmas.Option.{same_Some}
 use Rattle.lp_spec.specs.Trees.{Tree, Var, Sym, App, Lam, lift, size}
 use Rattle.lp_spec.specs.Substitution.{up, ren}
 use Rattle.lp_binding.specs.Composition.{ren_ren, ren_id, suc_lift}
-use Rattle.lp_binding.specs.SubstitutionLaws.{subst2, ren_closed, ren-put, ren-lift, lift_one}
+use Rattle.lp_binding.specs.SubstitutionLaws.{ren_closed, ren-put, ren-lift, lift_one}
 use Rattle.lp_spec.specs.Modules.{Declaration, types, arr_of, term_of}
 use Rattle.lp_spec.specs.Weight.{spreads}
 use Rattle.lp_typing.specs.ConversionLaws.{IsClosed}
@@ -35,7 +36,7 @@ pub record Moved (r : ℕ → ℕ) (D : List Tree) (n : ℕ) (A : Tree) : Type 0
 
 pub moved : {r : ℕ → ℕ} {G D : List Tree} → Weakens r G D → (n : ℕ) (A : Tree) → slice_get G n ≡ Some A → Moved r D n A
 moved outside n A e = record { by = λ n. n; at = e ∙ ap Some (sym (ren_id A)); is = ap (lift (suc (suc n))) (ren_id A) ∙ sym (suc_lift (suc n) A) }
-moved (inside {r = r} {A = B} w) zero A e = record { by = r; at = ap (λ t. Some (ren r t)) (some_is e); is = sym (ren-lift r A) }
+moved (inside {r = r} {A = B} w) zero A e = record { by = r; at = ap (λ t. Some (ren r t)) (same_Some _ _ e); is = sym (ren-lift r A) }
 moved (inside {r = r} w) (suc n) A e =
     let h = moved w n A e in
     record {
@@ -69,7 +70,7 @@ module _ (m : List Declaration) (closed : IsClosed m) where
 
   -- a term as a part of an entry more
   pub sized-weaken : {w : ℕ} {G : List Tree} {C t a : Tree} → IsSized m w G t a → IsSized m w (C ∷ G) (lift 1 t) (lift 1 a)
-  sized-weaken {w = w} {G = G} {C = C} {t = t} {a = a} h = subst2 (IsSized m w (C ∷ G)) (sym (lift_one t)) (sym (lift_one a)) (sized-ren outside h)
+  sized-weaken {w = w} {G = G} {C = C} {t = t} {a = a} h = subst₂ (IsSized m w (C ∷ G)) (sym (lift_one t)) (sym (lift_one a)) (sized-ren outside h)
 
   -- a term's types of functions are no greater than what it weighs with the greatest entry
   pub sized : {G : List Tree} {t a : Tree} (w e : ℕ) → IsTerm m G t a → AreSmall m e G → size t ≤ e → size t + spreads m [] t + e ≤ w → IsSized m w G t a

@@ -1,8 +1,8 @@
 -- Sizes under lifting, and what is put in after other arguments.
 use Rattle.std.proofs.Common.{◌≡◌, refl, sym, ap, ◌∙◌, ℕ, suc, ◌+◌, arith, List, [], ◌∷◌, length}
-use Rattle.std.proofs.Math.Path.{fun_ext}
+use Rattle.std.proofs.Math.Path.{fun_ext, ap₂}
 use Rattle.lp_spec.specs.Trees.{Tree, SortType, SortKind, Var, Sym, App, Lam, Pi, lift, put_var, put_at, put, put_all, size}
-use Rattle.lp_binding.specs.Composition.{ap2, sub_ren, ren_is_sub, lift_is, lift_zero, put_at_is}
+use Rattle.lp_binding.specs.Composition.{sub_ren, sub_var, ren_is_sub, lift_is, lift_zero, put_at_is, put_all_at_is}
 use Rattle.lp_spec.specs.Substitution.{up, ren, sub}
 use Rattle.lp_binding.specs.Binding.{put_at-put, puts, put_all-puts}
 
@@ -11,12 +11,16 @@ size-ren r SortType = refl
 size-ren r SortKind = refl
 size-ren r (Var n) = refl
 size-ren r (Sym s) = refl
-size-ren r (App f x) = ap2 (λ a b. 1 + a + b) (size-ren r f) (size-ren r x)
-size-ren r (Lam a b) = ap2 (λ m n. 1 + m + n) (size-ren r a) (size-ren (up r) b)
-size-ren r (Pi a b) = ap2 (λ m n. 1 + m + n) (size-ren r a) (size-ren (up r) b)
+size-ren r (App f x) = ap₂ (λ a b. 1 + a + b) (size-ren r f) (size-ren r x)
+size-ren r (Lam a b) = ap₂ (λ m n. 1 + m + n) (size-ren r a) (size-ren (up r) b)
+size-ren r (Pi a b) = ap₂ (λ m n. 1 + m + n) (size-ren r a) (size-ren (up r) b)
 
 pub size-lift : (k : ℕ) (t : Tree) → size (lift k t) ≡ size t
 size-lift k t = ap size (lift_is k t) ∙ size-ren (λ n. n + k) t
+
+-- no arguments leave a tree alone
+pub put_all-nil : (t : Tree) → put_all [] t ≡ t
+put_all-nil t = put_all_at_is 0 [] t ∙ ap (λ w. sub w t) (fun_ext (λ n. grind arith)) ∙ sub_var t
 
 -- what is put for a variable that a lifted tree lacks goes away
 put_at-lift : (d : ℕ) (x u : Tree) → put_at d x (lift (suc d) u) ≡ lift d u
@@ -32,7 +36,7 @@ put_at-puts d x [] t = let e : d ≡ 0 + d = omega arith in ap (λ n. put_at n x
 put_at-puts d x (u ∷ us) t =
     let e : length us + suc d ≡ length (u ∷ us) + d = omega arith in
     put_at-put d (lift (suc d) u) x (puts (suc (suc d)) us t)
-    ∙ ap2 put (put_at-lift d x u) (put_at-puts (suc d) x us t)
+    ∙ ap₂ put (put_at-lift d x u) (put_at-puts (suc d) x us t)
     ∙ ap (λ n. put (lift d u) (puts (suc d) us (put_at n x t))) e
 
 -- an argument before others is put in first

@@ -3,19 +3,17 @@ use Rattle.std.proofs.Common.{◌≡◌, refl, sym, ap, ◌∙◌, subst, ℕ, z
 use Rattle.std.specs.Prelude.{slice_get}
 use Rattle.std.specs.Option.{option_map_or}
 use Rattle.std.proofs.lemmas.List.{length-append}
-use Rattle.lp_binding.specs.LookUps.{some_is}
 use Rattle.lp_spec.specs.Trees.{Tree, SortType, SortKind, Var, Sym, App, Lam, Pi, put_at, put, put_all, size}
-use Rattle.lp_binding.specs.Composition.{ap2, sub_var, put_all_at_is}
-use Rattle.lp_spec.specs.Substitution.{sub}
-use Rattle.std.proofs.Math.Path.{fun_ext}
 use Rattle.lp_binding.specs.Binding.{put-lift}
 use Rattle.lp_spec.specs.Modules.{Declaration, types, arr_of, term_of}
 use Rattle.lp_spec.specs.Weight.{spread_after, spread, symbol_spread, spreads}
 use Rattle.lp_typing.specs.ConversionLaws.{IsClosed}
 use Rattle.lp_shape.specs.Check.{Infer, Found, Say, unless_kind, Ends, said, asked}
 use Rattle.lp_shape.specs.Shaped.{Solid, IsConstant, type_variable, constant, at_type, IsSimple, IsTerm, of_entry, of_constant, of_function, of_binder, Unfolded, folded, arrow}
-use Rattle.lp_shape.specs.Sizes.{size-lift, put_all-cons}
+use Rattle.lp_shape.specs.Sizes.{size-lift, put_all-nil, put_all-cons}
 use Rattle.lp_shape.specs.Found.{Finds, Finds-more, find_application, find_functions, meet_unfolded, unfolded-put}
+use Rattle.std.proofs.Math.Path.{ap₂}
+use Rattle.std.proofs.lemmas.Option.{same_Some}
 
 -- what is put in leaves a type solid
 pub solid-put : (d : ℕ) (x t : Tree) → Solid t → Solid (put_at d x t)
@@ -31,7 +29,7 @@ solid-put d x (Pi a b) h = solid-put (suc d) x b h
 spread_after-put : (x : Tree) (before args : List Tree) (t : Tree) → Solid t → spread_after (x ∷ before) args t ≡ spread_after before args (put_at (length before) x t)
 spread_after-put x before (u ∷ us) (Pi a b) h =
     let e : length (before ++ u ∷ []) ≡ suc (length before) = length-append before (u ∷ []) ∙ omega arith in
-    ap2 (λ n k. n + k) (ap size (put_all-cons x before a)) (spread_after-put x (before ++ u ∷ []) us b h ∙ ap (λ n. spread_after (before ++ u ∷ []) us (put_at n x b)) e)
+    ap₂ (λ n k. n + k) (ap size (put_all-cons x before a)) (spread_after-put x (before ++ u ∷ []) us b h ∙ ap (λ n. spread_after (before ++ u ∷ []) us (put_at n x b)) e)
 spread_after-put x before [] t h = ap size (put_all-cons x before t)
 spread_after-put x before (u ∷ us) (Var n) h = absurd h
 spread_after-put x before (u ∷ us) SortType h = refl
@@ -39,10 +37,6 @@ spread_after-put x before (u ∷ us) SortKind h = refl
 spread_after-put x before (u ∷ us) (Sym s) h = refl
 spread_after-put x before (u ∷ us) (App f y) h = ap size (put_all-cons x before (App f y))
 spread_after-put x before (u ∷ us) (Lam a b) h = ap size (put_all-cons x before (Lam a b))
-
--- no arguments leave a tree alone
-pub put_all-nil : (t : Tree) → put_all [] t ≡ t
-put_all-nil t = put_all_at_is 0 [] t ∙ ap (λ w. sub w t) (fun_ext (λ n. grind arith)) ∙ sub_var t
 
 -- a function's type spreads by its domain and by the rest with the argument put in
 pub spread-product : (x : Tree) (args : List Tree) (E D : Tree) → Solid D → spread (x ∷ args) (Pi E D) ≡ size (put_all [] E) + spread args (put x D)
@@ -110,7 +104,7 @@ module _ (m : List Declaration) where
   small-entry {e = e} {G = G} {A = A} h s = record { each = go }
     where
       go : (n : ℕ) (B : Tree) → slice_get (A ∷ G) n ≡ Some B → size B ≤ e
-      go zero B q = subst (λ t. size t ≤ e) (some_is q) h
+      go zero B q = subst (λ t. size t ≤ e) (same_Some _ _ q) h
       go (suc n) B q = s.each n B q
 
   -- a term's type is no greater than the term with its spreads and the greatest entry

@@ -9,15 +9,16 @@
 //! | `HeadSteps` | the head step of a tree |
 //! | `Check` | the directed rules as plans of questions, how they end, and at which price |
 //! | `Shaped` | the shapes of types, terms and proofs that come from higher-order logic |
-//! | `HeadStepLaws`, `CheckLaws`, `PlanLaws`, `CheckerLaw` | a head step is a chain of conversion; a check has one answer and one price; what passes is typed |
+//! | `HeadStepLaws`, `ConvertLaws` | a head step is a chain of steps, and what is found convertible is |
+//! | `CheckLaws`, `PlanLaws`, `CheckerLaw` | a check has one answer and one price; what passes is typed |
 //! | `Sizes`, `Found`, `SizedTerms`, `TermPrice`, `DeclaredPrice`, `ProofPrice`, `LawPrice` | what the rules find of shaped trees, and at which price |
-//! | `ShapedCalls`, `ShapedRows`, `ShapedPasses` | a shaped declaration passes within 64 times the square of its weight, and a shaped module is well typed |
-//! | `FastCheck`, `ClosedTrees` | a check without rechecks of sorts; what is found of closed trees owes nothing to the context |
+//! | `ShapedCalls`, `ShapedRows`, `ShapedPasses`, `PricedModules` | a shaped declaration passes within 64 times the square of its weight, and a shaped module is well typed |
+//! | `FastCheck`, `ClosedTrees`, `EarlierDeclarations` | a check without rechecks of sorts; what is found of closed trees owes nothing to the context, and nothing to later declarations |
 //! | `ShapeStatements` | the statements of the functions below |
 #![tactic(auto)]
 
 ghost use Rattle.lp_shape.specs.CheckerLaw.{CheckerLaw};
-ghost use Rattle.lp_shape.specs.ShapeStatements.{ShapedPass, ShapedTyped};
+ghost use Rattle.lp_shape.specs.ShapeStatements.{EarlierAlone, ShapedPass, ShapedTyped};
 
 /// The checker's law: a module whose declarations pass, each over those before it, is well typed.
 pub fn checker_law()
@@ -32,4 +33,9 @@ pub fn shaped_pass()
 /// A module of shaped declarations is well typed.
 pub fn shaped_typed()
     ensures { ShapedTyped }
+{}
+
+/// The check of a declaration of a module, over those before it, is its check over the whole module.
+pub fn earlier_alone()
+    ensures { EarlierAlone }
 {}

@@ -1,4 +1,4 @@
--- Row 16 with *Checked type definitions*, over a module that declares the five symbols: the three definitions and the two laws have the shapes.
+-- A type definition whose three definitions and two laws are checked, over a module that declares the five symbols: they have the shapes.
 use Rattle.std.proofs.Common.{inr, ◌≡◌, refl, ap, ℕ, arith, true, false, List, [], ◌∷◌, Some}
 use Rattle.std.specs.Prelude.{codes}
 use Rattle.lp_spec.specs.declared.form.Form.TheVariants.{Def}
@@ -23,7 +23,7 @@ own = Var 3 ∷ Var 2 ∷ Var 1 ∷ Var 0 ∷ []
 abbrev inner : List Tree
 inner = Var 4 ∷ Var 3 ∷ Var 2 ∷ Var 1 ∷ []
 
--- the predicate of row 16, and its parts at a type
+-- the predicate of the type definition, and its parts at a type
 abbrev pred : Tree → Tree
 pred c = Lam (term_of c) (eq_of (lift 1 c) (Var 0) (Var 0))
 

@@ -8,7 +8,8 @@ use Rattle.lp_spec.specs.Weight.{weight}
 use Rattle.module_spec.specs.Reach.{number_key, reached}
 use Rattle.module_laws.proofs.ItemExamples.{made, made_in_order, f_tree}
 use Rattle.module_laws.specs.ItemShapes.{reached-WellTyped}
-use Rattle.module_laws.specs.PricedModules.{IsPriced, reached-priced}
+use Rattle.lp_shape.specs.PricedModules.{IsPriced}
+use Rattle.module_laws.specs.PricedModules.{reached-priced}
 
 example_typed : WellTyped (reached (number_key 3 ∷ []) made)
 example_typed = reached-WellTyped (number_key 3 ∷ []) made made_in_order

@@ -1,11 +1,11 @@
 -- What an accepted run made is, as items, made in order: each is new and asks for nothing but what was made before it.
 use Rattle.std.proofs.Common.{◌≡◌, ℕ, zero, suc, ◌+◌, List, [], ◌∷◌, ◌++◌, map, length, Bool, true, false, ◌&&◌, ◌||◌, Option, None, Some, slice_get, inl, inr, refl, sym, ap, subst, ◌∙◌, append_assoc, arith}
 use Rattle.std.specs.Prelude.{◌==◌, slice_index_or}
-use Rattle.std.specs.Cmp.{unsigned_Decides}
 use Rattle.std.specs.Option.{option_map}
 use Rattle.std.specs.List.{AllByRecursion, IsAmong, cons_option, list_any}
 use Rattle.std.proofs.lemmas.List.{append-nil, length-append, map-append}
 use Rattle.std.proofs.lemmas.List.Elements.{filter_map-append}
+use Rattle.std.proofs.lemmas.Option.{same_Some}
 use Rattle.hol_spec.specs.Names.{Name}
 use Rattle.hol_spec.specs.NameEquality.{name_eq}
 use Rattle.hol_laws.specs.NameEqualityLaws.{name_eq-Decides}
@@ -37,7 +37,7 @@ use Rattle.module_spec.specs.Rows.{has_row, type_or}
 use Rattle.module_spec.specs.Items.{Content, operator, constant, Item, says, is_constant}
 use Rattle.module_laws.specs.ItemConditions.{Has, TypeTaken, TypesTaken, ArePremisesAmong, DefinesAmong, IsContent}
 use Rattle.module_laws.specs.ItemConditions as items
-use Rattle.module_laws.specs.MadeModules.{any_content, IsNew}
+use Rattle.module_laws.specs.MadeModules.{any_content, IsNew, operator_self, name_self}
 use Rattle.module_laws.specs.WantedItems.{AreMadeInOrder}
 use Rattle.module_spec.specs.MadeItems.{Naming, contents_of, said_of, said_by, premise_at, content_by, needed, sequents_at, shown_content, step_content, contents, numbered, items_after, items_of}
 use Rattle.module_laws.specs.SymbolsHeld.{IsHeld, held-type, held-term, held-sequent, IsNamed, named-more, new-constant, new-operator}
@@ -67,13 +67,10 @@ Has-more ps xs c (x, i, e) = (x, IsIn-left ps xs x i, e)
 held-more : (ps xs : List Item) (x : Symbol) → IsHeld ps x → IsHeld (ps ++ xs) x
 held-more ps xs x h = All-weaker (Has ps) (Has (ps ++ xs)) (Has-more ps xs) (contents_of x) h
 
-some_is : {X : Type 0} {x y : X} → Some x ≡ Some y → x ≡ y
-some_is e = cc
-
 -- premises
 pub found : (xs : List (ℕ × Sequent)) (k : ℕ) (s : Sequent) (d : ℕ × Sequent) → slice_get (map (λ (p : ℕ × Sequent). p.1) xs) k ≡ Some s → ((slice_index_or xs k d).1 ≡ s) × IsIn xs (slice_index_or xs k d)
 found [] k s d e = absurd (cc)
-found (x ∷ xs) zero s d e = (some_is e, inl refl)
+found (x ∷ xs) zero s d e = (same_Some _ _ e, inl refl)
 found (x ∷ xs) (suc k) s d e = let r = found xs k s d e in (r.0, inr r.1)
 
 abbrev pub Says : List Item → ℕ × Sequent → Type 0
@@ -122,7 +119,7 @@ rule-defines ps kind premises p s (rule.define_const_list {pairs = pairs} {one =
 rule-defines ps kind premises p s (rule.first_law d e) are held = tt
 rule-defines ps kind premises p s (rule.second_law d e) are held = tt
 
-says-step : (b : Bool) (kind : StepKind) (js : List ℕ) (ss : List Sequent) (g : Parameters) (s : Sequent) → says (content_by b kind js ss g s) ≡ Some s
+pub says-step : (b : Bool) (kind : StepKind) (js : List ℕ) (ss : List Sequent) (g : Parameters) (s : Sequent) → says (content_by b kind js ss g s) ≡ Some s
 says-step false kind js ss g s = refl
 says-step true kind js ss g s = refl
 
@@ -201,12 +198,6 @@ any-append : (test : Content → Bool) (ps : List Item) (x : Item) → any_conte
 any-append test [] x h e = ap (λ b. b || false) e
 any-append test (z ∷ zs) x h e =
     let parts = or-neither (test z.content) (any_content test zs) h in ap (λ b. b || any_content test (zs ++ x ∷ [])) parts.0 ∙ any-append test zs x parts.1 e
-
-name_self : (n : Name) → name_eq n n ≡ true
-name_self n = (name_eq-Decides n n).1 refl
-
-operator_self : (n : Name) (k : ℕ) → (name_eq n n && (k == k)) ≡ true
-operator_self n k = rw (name_self n) ((unsigned_Decides k k).1 refl)
 
 count-variables : (ns : List Name) → count (types_of (map type.HolType.variable ns)) ≡ length ns
 count-variables [] = refl

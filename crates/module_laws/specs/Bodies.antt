@@ -1,10 +1,10 @@
 -- The bodies of steps are typed: each proves the conclusion of its sequent, in the scope of that sequent.
 use Rattle.std.proofs.Common.{◌≡◌, List, [], Some, sym, ap, ◌∙◌}
+use Rattle.std.proofs.lemmas.Option.{same_Some}
 use Rattle.hol_spec.specs.Types.{HolType, variable, operator, none, more}
 use Rattle.hol_spec.specs.Primitives.{bool, function, equality_name, equality_type}
 use Rattle.hol_spec.specs.Terms.{Term, constant, app, HasType, type_under, equation}
 use Rattle.hol_laws.specs.TermSubstitutionLaws.{application_type-is}
-use Rattle.lp_binding.specs.LookUps.{some_is}
 use Rattle.lp_spec.specs.Modules.{Declaration, symbol_type}
 use Rattle.lp_spec.specs.Lemmas.{sym_lemma, trans_lemma}
 use Rattle.module_spec.specs.Scopes.{Symbols}
@@ -31,7 +31,7 @@ pub equation-sides : (a : HolType) (x y : Term) → HasType (equation a x y) boo
 equation-sides a x y h =
     let p = application_type-is (type_under [] (app (constant equality_name (equality_type a)) x)) (type_under [] y) bool h in
     let q = application_type-is (type_under [] (constant equality_name (equality_type a))) (type_under [] x) (function p.0 bool) p.1.0 in
-    let e : equality_type a ≡ function q.0 (function p.0 bool) = some_is q.1.0 in
+    let e : equality_type a ≡ function q.0 (function p.0 bool) = same_Some _ _ q.1.0 in
     let first : a ≡ q.0 = ap first_argument e in
     let second : a ≡ p.0 = ap (λ t. first_argument (second_argument t)) e in
     record { left = q.1.1 ∙ ap Some (sym first); right = p.1.1 ∙ ap Some (sym second) }

@@ -1,14 +1,13 @@
 -- The bodies of betaConv, defineConst and defineConstList are typed: reflexivity proves an equation whose sides compute to one.
 use Rattle.std.proofs.Common.{◌≡◌, List, [], map, Some, refl, sym, ap, subst, ◌∙◌}
 use Rattle.std.specs.List.{AllByRecursion}
+use Rattle.std.proofs.Math.Path.{ap₂}
 use Rattle.hol_spec.specs.Names.{Name}
 use Rattle.hol_spec.specs.Types.{HolType, type_variables}
 use Rattle.hol_spec.specs.Substitution.{image, Instance, type_arguments}
 use Rattle.hol_laws.specs.TermInstances.{substitute-nothing}
 use Rattle.hol_spec.specs.Terms.{Term, free, bound, constant, app, lam, Variable, HasType, equation, type_variable_places, free_places}
 use Rattle.hol_spec.specs.TermSubstitution.{TermPairs, term_image, sub}
-use Rattle.lp_binding.specs.Composition.{ap2, sub_var}
-use Rattle.lp_spec.specs.Substitution.{ups, cons}
 use Rattle.lp_spec.specs.Modules.{Declaration}
 use Rattle.lp_spec.specs.Conversion.{symbol_definition}
 use Rattle.hol_spec.specs.Lists.{IsIn}
@@ -17,6 +16,8 @@ use Rattle.hol_laws.specs.GenericInstances.{type_arguments-filled_in, substitute
 use Rattle.module_spec.specs.Scopes.{Symbols, type_tree, Scope, constant_symbol, generic_type}
 use Rattle.module_laws.specs.ScopeTyping.{DeclaresConstant, ConstantOver, TypeOver, TermOver}
 use Rattle.module_spec.specs.Items.{definition_tree}
+use Rattle.lp_binding.specs.Composition.{sub_var}
+use Rattle.lp_spec.specs.Substitution.{ups, cons}
 
 -- the module has this definition of a constant: its term is closed, and its type variables are those of its type
 pub record IsDefinition (m : List Declaration) (symbols : Symbols) (n : Name) (a : HolType) (t : Term) : Type 0 where
@@ -32,8 +33,8 @@ pub sub-closed : (terms : TermPairs) (t : Term) → AllByRecursion (λ v. ⊥) (
 sub-closed terms (free n t) h = absurd h.0
 sub-closed terms (bound k) h = refl
 sub-closed terms (constant n t) h = ap (constant n) (substitute-nothing t)
-sub-closed terms (app f x) h = ap2 app (sub-closed terms f (All-left (λ v. ⊥) (free_places f) (free_places x) h)) (sub-closed terms x (All-right (λ v. ⊥) (free_places f) (free_places x) h))
-sub-closed terms (lam t b) h = ap2 lam (substitute-nothing t) (sub-closed terms b h)
+sub-closed terms (app f x) h = ap₂ app (sub-closed terms f (All-left (λ v. ⊥) (free_places f) (free_places x) h)) (sub-closed terms x (All-right (λ v. ⊥) (free_places f) (free_places x) h))
+sub-closed terms (lam t b) h = ap₂ lam (substitute-nothing t) (sub-closed terms b h)
 
 -- the constant of a definition is over the symbols
 pub constant-over : (m : List Declaration) (symbols : Symbols) (n : Name) (a : HolType) (t : Term) → DeclaresConstant m symbols n → IsDefinition m symbols n a t → TypeOver m symbols a → ConstantOver m symbols n a

@@ -4,14 +4,14 @@ use Rattle.std.proofs.Common.{◌≡◌, ℕ, zero, suc, ◌+◌, ◌-◌, List,
 use Rattle.std.specs.Option.{option_map, unwrap_or}
 use Rattle.std.specs.List.{AllByRecursion, IsDistinct}
 use Rattle.std.specs.Map.{lookup}
-use Rattle.std.proofs.Math.Path.{fun_ext}
+use Rattle.std.proofs.Math.Path.{fun_ext, ap₂}
 use Rattle.hol_spec.specs.Names.{Name}
 use Rattle.hol_spec.specs.NameEquality.{name_eq}
 use Rattle.hol_spec.specs.Types.{HolType, HolTypes, variable, operator, none, more, count}
 use Rattle.hol_spec.specs.Primitives.{bool, arrow_name, bool_name, ind_name, equality_name, select_name, primitive_type}
 use Rattle.hol_spec.specs.Terms.{Term, free, bound, constant, app, lam, Variable, variable_eq}
 use Rattle.lp_spec.specs.Trees.{Tree, Var, Sym, App, Lam, raised, lift, lift_at}
-use Rattle.lp_binding.specs.Composition.{ap2, lift_at_is, lift_zero}
+use Rattle.lp_binding.specs.Composition.{lift_at_is, lift_zero}
 use Rattle.lp_spec.specs.Substitution.{up, ren, cons}
 use Rattle.lp_binding.specs.Binding.{lift-lift}
 use Rattle.lp_binding.specs.SubstitutionLaws.{lift_one, ren-lift}
@@ -87,11 +87,11 @@ arguments-same (Some g) t = refl
 mutual
   pub type-same : (scope : listed.Scope) (t : HolType) → listed.type_tree scope t ≡ type_tree primitive_symbols (told_types scope.types) t
   type-same scope (variable n) = refl
-  type-same scope (operator n ts) = ap2 (λ s xs. applied (Sym s) xs) (operator-same n (count ts)) (types-same scope ts)
+  type-same scope (operator n ts) = ap₂ (λ s xs. applied (Sym s) xs) (operator-same n (count ts)) (types-same scope ts)
 
   types-same : (scope : listed.Scope) (ts : HolTypes) → listed.type_trees scope ts ≡ type_trees primitive_symbols (told_types scope.types) ts
   types-same scope none = refl
-  types-same scope (more t ts) = ap2 (λ x xs. x ∷ xs) (type-same scope t) (types-same scope ts)
+  types-same scope (more t ts) = ap₂ (λ x xs. x ∷ xs) (type-same scope t) (types-same scope ts)
 
 told-inside : (symbols : Symbols) (entries : List (Name × Tree)) (terms : List (Variable × Tree))
     → told symbols (map (λ (entry : Name × Tree). (entry.0, lift 1 entry.1)) entries) (map (λ (entry : Variable × Tree). (entry.0, lift 1 entry.1)) terms) ≡ inside (told symbols entries terms)
@@ -104,7 +104,7 @@ told-inside symbols entries terms =
     go_terms : (v : Variable) → unwrap_or (lookup (variable_eq v) (map (λ (entry : Variable × Tree). (entry.0, lift 1 entry.1)) terms)) (filler (type_tree symbols (told_types (map (λ (entry : Name × Tree). (entry.0, lift 1 entry.1)) entries)) v.1))
         ≡ lift 1 (unwrap_or (lookup (variable_eq v) terms) (filler (type_tree symbols (told_types entries) v.1)))
     go_terms v =
-        ap2 (λ o x. unwrap_or o (filler x)) (lookup-lift (variable_eq v) terms) (ap (λ w. type_tree symbols w v.1) (fun_ext types) ∙ sym (type_tree-lift symbols (told_types entries) v.1))
+        ap₂ (λ o x. unwrap_or o (filler x)) (lookup-lift (variable_eq v) terms) (ap (λ w. type_tree symbols w v.1) (fun_ext types) ∙ sym (type_tree-lift symbols (told_types entries) v.1))
         ∙ ap (unwrap_or (option_map (lift 1) (lookup (variable_eq v) terms))) (sym (filler-lift (type_tree symbols (told_types entries) v.1)))
         ∙ unwrap-lift (lookup (variable_eq v) terms) (filler (type_tree symbols (told_types entries) v.1))
 
@@ -117,11 +117,11 @@ pub term-same : (scope : listed.Scope) (t : Term) → listed.term_tree scope t �
 term-same scope (free n t) = ap (λ x. unwrap_or (lookup (variable_eq (n, t)) scope.terms) (filler x)) (type-same scope t)
 term-same scope (bound k) = refl
 term-same scope (constant n t) =
-    ap2 (λ s xs. applied (Sym s) xs) (constant-same n)
+    ap₂ (λ s xs. applied (Sym s) xs) (constant-same n)
     (ap (λ f. map f (listed.type_arguments (primitive_type n) t)) (fun_ext (type-same scope)) ∙ ap (map (type_tree primitive_symbols (told_types scope.types))) (arguments-same (primitive_type n) t))
-term-same scope (app f x) = ap2 App (term-same scope f) (term-same scope x)
+term-same scope (app f x) = ap₂ App (term-same scope f) (term-same scope x)
 term-same scope (lam t b) =
-    ap2 (λ a c. Lam (term_of a) c) (type-same scope t)
+    ap₂ (λ a c. Lam (term_of a) c) (type-same scope t)
     (term-same (listed.under_binder scope) b ∙ ap (λ w. term_tree primitive_symbols w b) (told-inside primitive_symbols scope.types scope.terms))
 
 -- which list the binders of several are: each has its place

@@ -77,10 +77,10 @@ module _ (symbols : Symbols) where
   generic-input : (n : Name) → primitive_type n ≡ None → generic_type symbols n ≡ symbols.generic n
   generic-input n h = ap (λ o. unwrap_or o (symbols.generic n)) h
 
-name_self : (n : Name) → name_eq n n ≡ true
+pub name_self : (n : Name) → name_eq n n ≡ true
 name_self n = (name_eq-Decides n n).1 refl
 
-operator_self : (n : Name) (k : ℕ) → (name_eq n n && (k == k)) ≡ true
+pub operator_self : (n : Name) (k : ℕ) → (name_eq n n && (k == k)) ≡ true
 operator_self n k = rw (name_self n) ((unsigned_Decides k k).1 refl)
 
 -- the symbols of all items tell each one's

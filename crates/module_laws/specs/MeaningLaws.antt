@@ -6,6 +6,7 @@ use Rattle.std.specs.Bool.{Decides}
 use Rattle.std.specs.Cmp.{unsigned_Decides}
 use Rattle.std.specs.List.{IsDistinct, position_or_len}
 use Rattle.std.proofs.lemmas.List.{map-append}
+use Rattle.std.proofs.lemmas.Option.{same_Some}
 use Rattle.hol_spec.specs.Names.{Name}
 use Rattle.hol_spec.specs.NameEquality.{name_eq}
 use Rattle.hol_laws.specs.NameEqualityLaws.{name_eq-Decides}
@@ -16,15 +17,15 @@ use Rattle.hol_laws.specs.ListLaws.{union-map, distinct-IsDistinct}
 use Rattle.hol_spec.specs.Primitives.{primitive_type}
 use Rattle.hol_spec.specs.ClosedForm.{close_type, close_types}
 use Rattle.hol_spec.specs.Mangling.{mangled, IsName}
-use Rattle.lp_binding.specs.LookUps.{some_is}
 use Rattle.lp_spec.specs.Modules.{Declaration, symbol_name, products, term_of}
 use Rattle.module_spec.specs.TypeEnc.{place}
 use Rattle.module_spec.specs.ConstantMeaning.{parameter_places, parameter_places_of_all, numbers, MeansConstant, defined}
 use Rattle.hol_laws.specs.Members.{IsIn-distinct, All-each, All-weaker, map-each, map-twice}
 use Rattle.module_spec.specs.Scopes.{Symbols, constant_symbol, generic_type, type_tree, under_types, unfilled}
 use Rattle.module_laws.specs.ScopeTyping.{DeclaresConstant}
-use Rattle.module_laws.specs.SameSequents.{TypesTold, TypesTold-own, symmetric}
+use Rattle.module_laws.specs.SameSequents.{TypesTold, TypesTold-own}
 use Rattle.module_laws.specs.SequentEncoding.{TypeMeant, type_stands, placed-types, types-are}
+use Rattle.proof_laws.specs.SymbolGrowth.{symmetric}
 
 abbrev pub at : List Name → Name → ℕ
 at vs n = position_or_len (name_eq n) vs
@@ -59,7 +60,7 @@ at-agrees vs m n i j = go (name_eq m n) (name_eq-Decides m n) (nat_eq (at vs m) 
   where
     go : (b : Bool) → Decides b (m ≡ n) → (c : Bool) → Decides c (at vs m ≡ at vs n) → c ≡ b
     go true d c e = e.1 (ap (at vs) (d.0 refl))
-    go false d true e = let same : m ≡ n = some_is (sym (get-at vs m i) ∙ ap (slice_get vs) (e.0 refl) ∙ get-at vs n j) in sym (d.1 same)
+    go false d true e = let same : m ≡ n = same_Some _ _ (sym (get-at vs m i) ∙ ap (slice_get vs) (e.0 refl) ∙ get-at vs n j) in sym (d.1 same)
     go false d false e = refl
 
 map-numbers : (i k : ℕ) → map suc (numbers i k) ≡ numbers (suc i) k

@@ -2,6 +2,7 @@
 use Rattle.std.proofs.Common.{◌≡◌, ℕ, suc, ◌+◌, List, [], ◌∷◌, ◌++◌, length, Bool, true, false, None, Some, refl, sym, ap, subst, ◌∙◌, arith}
 use Rattle.std.specs.Prelude.{replicate, slice_get, unwrap_or, option_map, option_and_then}
 use Rattle.std.specs.List.{AllByRecursion}
+use Rattle.std.proofs.lemmas.Option.{same_Some}
 use Rattle.hol_spec.specs.Names.{Name}
 use Rattle.hol_spec.specs.NameEquality.{name_eq}
 use Rattle.hol_spec.specs.Types.{HolType, HolTypes, none, more, count}
@@ -10,7 +11,6 @@ use Rattle.hol_spec.specs.Substitution.{Instance}
 use Rattle.hol_spec.specs.Terms.{Term, Variable, free, bound, app, lam}
 use Rattle.hol_spec.specs.TermSubstitution.{TermPairs}
 use Rattle.hol_spec.specs.Sequents.{Sequent, free_variables_of}
-use Rattle.lp_binding.specs.LookUps.{some_is}
 use Rattle.lp_spec.specs.Modules.{Declaration, symbol_type, symbol_declaration, products, types, arr_symbol, bool_symbol, ind_symbol, eq_symbol, select_symbol}
 use Rattle.lp_spec.specs.Conversion.{symbol_definition, definition_of}
 use Rattle.lp_typing.specs.ConversionLaws.{symbol_type-append, symbol_definition-append}
@@ -81,7 +81,7 @@ operator_declared m symbols n k h = first (name_eq n arrow_name) refl
   where
     at : (s j : ℕ) → primitive_arity n ≡ Some j → ((i : ℕ) → operator_symbol symbols n i ≡ s) → symbol_type m s ≡ Some (products (replicate j types) types) → DeclaresOperator m symbols n k
     at s j a e d =
-        let same : j ≡ k = some_is (sym a ∙ h) in
+        let same : j ≡ k = same_Some _ _ (sym a ∙ h) in
         subst (λ i. symbol_type m (operator_symbol symbols n i) ≡ Some (products (replicate i types) types)) same (ap (symbol_type m) (e j) ∙ d)
 
     third : (b : Bool) → name_eq n ind_name ≡ b → name_eq n bool_name ≡ false → name_eq n arrow_name ≡ false → DeclaresOperator m symbols n k
@@ -109,7 +109,7 @@ constant_declared m symbols n g h = first (name_eq n equality_name) refl
 
     at : (s : ℕ) (t : HolType) → primitive_type n ≡ Some t → constant_symbol symbols n ≡ s → symbol_type m s ≡ Some (generic_tree symbols t) → PrimitiveDeclared m symbols n g
     at s t a e d =
-        let same : t ≡ generic_type symbols n = some_is (sym a ∙ h) ∙ sym own in
+        let same : t ≡ generic_type symbols n = same_Some _ _ (sym a ∙ h) ∙ sym own in
         record { declared = ap (symbol_type m) e ∙ d ∙ ap (λ u. Some (generic_tree symbols u)) same; is = own }
 
     second : (b : Bool) → name_eq n select_name ≡ b → name_eq n equality_name ≡ false → PrimitiveDeclared m symbols n g
@@ -157,8 +157,8 @@ module _ (m : List Declaration) (symbols : Symbols) (before : List Item) (holds 
   said i (operator n k) s e h = absurd (cc)
   said i (constant n a) s e h = absurd (cc)
   said i (defined_constant n a t) s e h = absurd (cc)
-  said i (unproved r) s e h = subst (IsPremise m symbols i) (some_is e) h
-  said i (step kind js premises given r) s e h = subst (IsPremise m symbols i) (some_is e) h
+  said i (unproved r) s e h = subst (IsPremise m symbols i) (same_Some _ _ e) h
+  said i (step kind js premises given r) s e h = subst (IsPremise m symbols i) (same_Some _ _ e) h
 
   pub ArePremises-among : (js : List ℕ) (ss : List Sequent) → ArePremisesAmong before js ss → ArePremises m symbols js ss
   ArePremises-among [] [] h = tt

@@ -1,8 +1,7 @@
 -- A step with the premises that its proof needs is a step: where the first premise of `proveHyp` proves no hypothesis of the second, the
 -- second premise is restated.
 use Rattle.std.proofs.Common.{◌≡◌, ℕ, List, [], ◌∷◌, Bool, true, false, ◌&&◌, ◌||◌, cond, inl, inr, ◌⊎◌, refl, sym, ap, subst, ◌∙◌}
-use Rattle.std.specs.Prelude.{IsTrue, not, drop}
-use Rattle.std.specs.Bool.{Decides}
+use Rattle.std.specs.Prelude.{IsTrue, drop}
 use Rattle.std.specs.List.{AllByRecursion, list_all}
 use Rattle.hol_spec.specs.Lists.{IsIn, is_in, union, without}
 use Rattle.hol_spec.specs.Terms.{Term, term_eq}
@@ -11,7 +10,6 @@ use Rattle.hol_laws.specs.Members.{IsIn-union_right}
 use Rattle.hol_spec.specs.Sequents.{Sequent, IsSequent, within}
 use Rattle.hol_spec.specs.Rules.{Parameters, Rule}
 use Rattle.hol_spec.specs.Rules as rule
-use Rattle.hol_spec.specs.Derivations.{definitions_used, Follows}
 use Rattle.hol_spec.specs.Proofs.{Made, Step, sequents_of, ArePremises, IsStep}
 use Rattle.hol_spec.specs.Over.{IsStepOver}
 use Rattle.hol_spec.specs.declared.StepKind.{StepKind}
@@ -20,6 +18,9 @@ use Rattle.proof_laws.specs.RuleSequents.{rule-IsSequent}
 use Rattle.module_spec.specs.Rows.{has_row}
 use Rattle.module_spec.specs.MadeItems.{proves_nothing, restated, needed}
 use Rattle.module_laws.specs.BodyTyping.{IsIn-without}
+use Rattle.proof_laws.specs.DefinitionListLaws.{not-is}
+use Rattle.std.specs.Bool.{Decides}
+use Rattle.hol_spec.specs.Derivations.{definitions_used, Follows}
 
 -- what is in a list passes the test
 in-list : (hs : List Term) (h : Term) → IsIn hs h → is_in term_eq h hs ≡ true
@@ -52,14 +53,10 @@ second-within one two s lacks e =
     left_out h other (inl is) = absurd (other is)
     left_out h other (inr i) = i
 
-not-true : (b : Bool) → not b ≡ true → b ≡ false
-not-true true e = absurd (cc)
-not-true false e = refl
-
 -- what proves nothing by its first premise follows from the others
 restated-rule : (kind : StepKind) (ss : List Sequent) (g : Parameters) (s : Sequent) → Rule kind ss g s → AllByRecursion IsSequent ss → proves_nothing kind ss ≡ true → Rule kinds.Restate (drop 1 ss) (Parameters.sequent s) s
 restated-rule kind ss g s (rule.prove_hyp {one = one} {two = two} e) are n =
-    rule.restate (rule-IsSequent kinds.ProveHyp (one ∷ two ∷ []) g s (rule.prove_hyp e) are) (second-within one two s (not-true (is_in term_eq one.conclusion two.hypotheses) n) e)
+    rule.restate (rule-IsSequent kinds.ProveHyp (one ∷ two ∷ []) g s (rule.prove_hyp e) are) (second-within one two s (not-is (is_in term_eq one.conclusion two.hypotheses) n) e)
 restated-rule kind ss g s (rule.refl h e) are n = absurd (cc)
 restated-rule kind ss g s (rule.assume h e) are n = absurd (cc)
 restated-rule kind ss g s (rule.eq_mp e f i) are n = absurd (cc)

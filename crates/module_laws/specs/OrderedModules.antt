@@ -1,4 +1,4 @@
--- Trees of shaped declarations are closed, over what is declared before, and without the sort of kinds: all that *Modules* asks but new names.
+-- Trees of shaped declarations are closed, over what is declared before, and without the sort of kinds: all that `IsModule` asks but new names.
 use Rattle.std.proofs.Common.{◌≡◌, inl, inr, suc, ◌≤◌, List, ◌++◌, length, Option, Some, None, refl, arith}
 use Rattle.std.specs.Prelude.{slice_get, option_map, IsFalse}
 use Rattle.std.proofs.lemmas.Option.{slice_get_within}
@@ -12,7 +12,7 @@ use Rattle.lp_spec.specs.Typing.{IsBodyOf}
 use Rattle.lp_typing.specs.TypingLaws.{Typed-closed}
 use Rattle.lp_shape.specs.Shaped.{IsBodyShaped, IsShaped}
 use Rattle.lp_shape.specs.ShapedPasses.{shaped-typed}
-use Rattle.module_laws.specs.PricedModules.{IsKnown, declared-known, proof-known, definition-known, law-known, call-known}
+use Rattle.lp_shape.specs.PricedModules.{IsKnown, declared-known, proof-known, definition-known, law-known, call-known}
 
 known-kindless : (m : List Declaration) (t : Tree) → IsKnown m t → IsFalse (has_kind t)
 known-kindless m SortType h = refl

@@ -1,13 +1,13 @@
 -- The tree of a term with a term put for a bound number, and translation of substitution as putting.
 use Rattle.std.proofs.Common.{◌≡◌, ℕ, zero, suc, List, [], ◌∷◌, ◌++◌, append_assoc, refl, sym, ap, ◌∙◌, arith}
-use Rattle.std.proofs.Math.Path.{fun_ext}
+use Rattle.std.proofs.Math.Path.{fun_ext, ap₂}
 use Rattle.std.proofs.lemmas.List.{append-nil}
 use Rattle.hol_spec.specs.Terms.{Term, free, bound, constant, app, lam}
 use Rattle.hol_spec.specs.TermBinding as binding
 use Rattle.hol_laws.specs.TermRenamings as renaming
 use Rattle.hol_laws.specs.TermRenamings.{rename, replace, up_terms}
 use Rattle.lp_spec.specs.Trees.{Tree, Var, App, Lam, lift, put, put_all_var, put_all}
-use Rattle.lp_binding.specs.Composition.{ap2, sub_var, put_is, ups_put_all, put_all_at_is}
+use Rattle.lp_binding.specs.Composition.{sub_var, put_is, ups_put_all, put_all_at_is}
 use Rattle.lp_spec.specs.Substitution.{ups, sub, cons}
 use Rattle.lp_spec.specs.Modules.{term_of}
 use Rattle.lp_binding.specs.Arguments.{put-put_all}
@@ -22,7 +22,7 @@ module _ (symbols : Symbols) where
   term_tree-rename r scope (free n t) = refl
   term_tree-rename r scope (bound k) = refl
   term_tree-rename r scope (constant n t) = refl
-  term_tree-rename r scope (app f x) = ap2 App (term_tree-rename r scope f) (term_tree-rename r scope x)
+  term_tree-rename r scope (app f x) = ap₂ App (term_tree-rename r scope f) (term_tree-rename r scope x)
   term_tree-rename r scope (lam t b) =
       ap (Lam (term_of (type_tree symbols scope.types t)))
       (term_tree-rename (renaming.up r) (inside scope) b
@@ -41,7 +41,7 @@ module _ (symbols : Symbols) where
   term_tree-replace s scope (free n t) = refl
   term_tree-replace s scope (bound k) = refl
   term_tree-replace s scope (constant n t) = refl
-  term_tree-replace s scope (app f x) = ap2 App (term_tree-replace s scope f) (term_tree-replace s scope x)
+  term_tree-replace s scope (app f x) = ap₂ App (term_tree-replace s scope f) (term_tree-replace s scope x)
   term_tree-replace s scope (lam t b) =
       ap (Lam (term_of (type_tree symbols scope.types t)))
       (term_tree-replace (up_terms s) (inside scope) b

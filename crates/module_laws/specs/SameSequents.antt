@@ -23,6 +23,7 @@ use Rattle.module_spec.specs.Scopes.{Scope, TypeScope, type_tree, term_tree, lif
 use Rattle.module_laws.specs.TermScopeLaws.{term_tree-agrees}
 use Rattle.module_laws.specs.TheoremTyping.{IsFormula, HasInstances, term-IsFormula}
 use Rattle.module_laws.specs.ListedScopes.{told_types, told, primitive_symbols, type-same, term-same, under_all-is, under_types-all, under_terms-all}
+use Rattle.proof_laws.specs.SymbolGrowth.{symmetric}
 
 -- equal elements are told apart from the same others
 pub apart : {A : Type 0} (same : A → A → Bool) → ((x y : A) → Decides (same x y) (x ≡ y)) → (a b c : A) → same a b ≡ true → same b c ≡ false → same a c ≡ false
@@ -137,13 +138,6 @@ module _ (context : listed.Context) where
       ((proofs-same ps c (suc d) (under_proof p scope) m (TypesTold-lifted context.names d scope.types n h)
       (TermsTold-lifted context.names context.variables d scope (under_proof p scope) l k (λ v. refl)) f.1 g
       ∙ ap (λ j. products (listed.hypothesis_domains context (suc d) ps) (proof_of (listed.term_tree (listed.scope_under context j) c))) z) i)
-
-pub symmetric : {A : Type 0} (same : A → A → Bool) → ((x y : A) → Decides (same x y) (x ≡ y)) → (x y : A) → same x y ≡ false → same y x ≡ false
-symmetric same decides x y h = go (same y x) (decides y x).0 (decides x y).1
-  where
-    go : (b : Bool) → (b ≡ true → y ≡ x) → (x ≡ y → same x y ≡ true) → b ≡ false
-    go true f g = absurd (let e = g (sym (f refl)) in cc)
-    go false f g = refl
 
 products-append : (xs ys : List Tree) (t : Tree) → products (xs ++ ys) t ≡ products xs (products ys t)
 products-append [] ys t = refl

@@ -1,12 +1,12 @@
 -- Laws of scopes: the translation of a substitution is the translation in the scope of the images.
 use Rattle.std.proofs.Common.{◌≡◌, ℕ, zero, suc, List, [], ◌∷◌, map, refl, sym, ap, ◌∙◌}
-use Rattle.std.proofs.Math.Path.{fun_ext}
+use Rattle.std.proofs.Math.Path.{fun_ext, ap₂}
 use Rattle.hol_spec.specs.Names.{Name}
 use Rattle.hol_spec.specs.Types.{HolType, HolTypes, variable, operator, none, more, count}
 use Rattle.hol_spec.specs.Substitution.{TypePairs, image, substitute, substitute_all, type_arguments}
 use Rattle.hol_spec.specs.Terms.{Term, free, bound, constant, app, lam, Variable}
 use Rattle.lp_spec.specs.Trees.{Tree, Var, Sym, App, Lam, lift}
-use Rattle.lp_binding.specs.Composition.{ap2, ren_is_sub}
+use Rattle.lp_binding.specs.Composition.{ren_is_sub}
 use Rattle.lp_spec.specs.Substitution.{ups, sub, cons}
 use Rattle.lp_binding.specs.SubstitutionLaws.{lift_one, sub-lift}
 use Rattle.lp_spec.specs.Modules.{applied, term_of}
@@ -57,7 +57,7 @@ module _ (symbols : Symbols) where
 
     type_trees-sub : (s : ℕ → Tree) (scope : TypeScope) (ts : HolTypes) → map (sub s) (type_trees symbols scope ts) ≡ type_trees symbols (through_types s scope) ts
     type_trees-sub s scope none = refl
-    type_trees-sub s scope (more t ts) = ap2 (λ x xs. x ∷ xs) (type_tree-sub s scope t) (type_trees-sub s scope ts)
+    type_trees-sub s scope (more t ts) = ap₂ (λ x xs. x ∷ xs) (type_tree-sub s scope t) (type_trees-sub s scope ts)
 
   -- and so is lifting
   pub type_tree-lift : (scope : TypeScope) (t : HolType) → lift 1 (type_tree symbols scope t) ≡ type_tree symbols (lifted_types scope) t
@@ -72,9 +72,9 @@ module _ (symbols : Symbols) where
       ∙ ap (applied (Sym (constant_symbol symbols n)))
       (map-twice (sub s) (type_tree symbols scope.types) (type_arguments (generic_type symbols n) t)
       ∙ ap (λ f. map f (type_arguments (generic_type symbols n) t)) (fun_ext (type_tree-sub s scope.types)))
-  term_tree-sub s scope (app f x) = ap2 App (term_tree-sub s scope f) (term_tree-sub s scope x)
+  term_tree-sub s scope (app f x) = ap₂ App (term_tree-sub s scope f) (term_tree-sub s scope x)
   term_tree-sub s scope (lam t b) =
-      ap2 (λ a c. Lam (term_of a) c) (type_tree-sub s scope.types t)
+      ap₂ (λ a c. Lam (term_of a) c) (type_tree-sub s scope.types t)
       (term_tree-sub (ups s) (inside scope) b ∙ ap (λ w. term_tree symbols w b) (inside-through s scope))
 
   -- and so is lifting
@@ -89,8 +89,8 @@ module _ (symbols : Symbols) where
     pub type_tree-substitute : (pairs : TypePairs) (scope : TypeScope) (t : HolType) → type_tree symbols scope (substitute pairs t) ≡ type_tree symbols (λ n. type_tree symbols scope (image pairs n)) t
     type_tree-substitute pairs scope (variable n) = refl
     type_tree-substitute pairs scope (operator n ts) =
-        ap2 (λ k xs. applied (Sym (operator_symbol symbols n k)) xs) (count-substitute_all pairs ts) (type_trees-substitute pairs scope ts)
+        ap₂ (λ k xs. applied (Sym (operator_symbol symbols n k)) xs) (count-substitute_all pairs ts) (type_trees-substitute pairs scope ts)
 
     type_trees-substitute : (pairs : TypePairs) (scope : TypeScope) (ts : HolTypes) → type_trees symbols scope (substitute_all pairs ts) ≡ type_trees symbols (λ n. type_tree symbols scope (image pairs n)) ts
     type_trees-substitute pairs scope none = refl
-    type_trees-substitute pairs scope (more t ts) = ap2 (λ x xs. x ∷ xs) (type_tree-substitute pairs scope t) (type_trees-substitute pairs scope ts)
+    type_trees-substitute pairs scope (more t ts) = ap₂ (λ x xs. x ∷ xs) (type_tree-substitute pairs scope t) (type_trees-substitute pairs scope ts)

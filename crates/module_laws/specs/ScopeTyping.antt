@@ -1,6 +1,7 @@
 -- Translated types and terms are typed: in a typed scope the tree of a type is a simple type, and that of a term has the tree of its type.
 use Rattle.std.proofs.Common.{◌≡◌, ℕ, zero, suc, List, [], ◌∷◌, map, length, Bool, true, false, cond, Some, ◌⊎◌, inl, inr, ⊎_elim, refl, sym, ap, subst, ◌∙◌, arith}
 use Rattle.std.specs.Prelude.{replicate, slice_get}
+use Rattle.std.proofs.lemmas.Option.{same_Some}
 use Rattle.hol_spec.specs.Names.{Name}
 use Rattle.hol_spec.specs.NameEquality.{name_eq}
 use Rattle.hol_laws.specs.NameEqualityLaws.{name_eq-Decides}
@@ -9,7 +10,6 @@ use Rattle.hol_spec.specs.Primitives.{function}
 use Rattle.hol_spec.specs.Substitution.{Instance}
 use Rattle.hol_spec.specs.Terms.{Term, free, bound, constant, app, lam, type_under}
 use Rattle.hol_laws.specs.TermSubstitutionLaws.{application_type-is, abstraction_type-is}
-use Rattle.lp_binding.specs.LookUps.{some_is}
 use Rattle.lp_spec.specs.Trees.{Tree, Var, lift}
 use Rattle.lp_spec.specs.Substitution.{sub, cons}
 use Rattle.lp_spec.specs.Modules.{Declaration, products, types, symbol_type}
@@ -71,9 +71,9 @@ module _ (m : List Declaration) (symbols : Symbols) where
 
   -- the type of a term over the symbols is over them
   pub TypeOver-type_under : (binders : List HolType) → ((k : ℕ) (a : HolType) → slice_get binders k ≡ Some a → TypeOver m symbols a) → (t : Term) (a : HolType) → TermOver m symbols t → type_under binders t ≡ Some a → TypeOver m symbols a
-  TypeOver-type_under binders b (free n t) a h e = subst (TypeOver m symbols) (some_is e) h
+  TypeOver-type_under binders b (free n t) a h e = subst (TypeOver m symbols) (same_Some _ _ e) h
   TypeOver-type_under binders b (bound k) a h e = b k a e
-  TypeOver-type_under binders b (constant n t) a h e = subst (TypeOver m symbols) (some_is e) h.ty
+  TypeOver-type_under binders b (constant n t) a h e = subst (TypeOver m symbols) (same_Some _ _ e) h.ty
   TypeOver-type_under binders b (app f x) a h e =
       let p = application_type-is (type_under binders f) (type_under binders x) a e in
       (TypeOver-type_under binders b f (function p.0 a) h.0 p.1.0).1.1.0
@@ -82,7 +82,7 @@ module _ (m : List Declaration) (symbols : Symbols) where
       subst (TypeOver m symbols) (sym p.1.1) (refl, (h.0, (TypeOver-type_under (t ∷ binders) (under t b h.0) c p.0 h.1 p.1.0, tt {0})))
     where
       under : (t : HolType) → ((k : ℕ) (a : HolType) → slice_get binders k ≡ Some a → TypeOver m symbols a) → TypeOver m symbols t → (k : ℕ) (a : HolType) → slice_get (t ∷ binders) k ≡ Some a → TypeOver m symbols a
-      under t b h zero a e = subst (TypeOver m symbols) (some_is e) h
+      under t b h zero a e = subst (TypeOver m symbols) (same_Some _ _ e) h
       under t b h (suc k) a e = b k a e
 
 pub length-type_trees : (symbols : Symbols) (scope : TypeScope) (ts : HolTypes) → count ts ≡ length (type_trees symbols scope ts)

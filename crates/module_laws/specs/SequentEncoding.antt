@@ -13,7 +13,7 @@ use Rattle.hol_spec.specs.Types.{HolType, HolTypes, count, variable_places, vari
 use Rattle.hol_laws.specs.ListLaws.{distinct-IsDistinct}
 use Rattle.hol_spec.specs.Substitution.{Instance, type_arguments}
 use Rattle.hol_spec.specs.Terms as term
-use Rattle.hol_spec.specs.Terms.{Term, Variable, variable_eq, HasType, type_variable_places, free_places}
+use Rattle.hol_spec.specs.Terms.{Term, Variable, variable_eq, type_variable_places, free_places, HasType}
 use Rattle.hol_laws.specs.TermLaws.{variable_eq-Decides}
 use Rattle.hol_spec.specs.TermBinding.{loose}
 use Rattle.hol_spec.specs.Limits.{SequentWithin}
@@ -32,16 +32,16 @@ use Rattle.hol_laws.specs.GenericInstances.{filled_in, filled_in_all, Instance-f
 use Rattle.module_spec.specs.Scopes.{Symbols, operator_symbol, constant_symbol, generic_type, TypeScope, type_tree, type_trees, Scope, constant_tree, term_tree, under_term, under_proof, under_proofs, term_domains, proof_domains, scope_of_types, scope_of_terms, scope_of, sequent_tree}
 use Rattle.module_spec.specs.Scopes as scopes
 use Rattle.module_laws.specs.TheoremTyping.{IsFormula, HasInstances, term-IsFormula, free_variables-known}
-use Rattle.module_laws.specs.SameSequents.{TypesTold, TypesTold-lifted, TypesTold-own, TypesTold-terms, TermsTold, TermsTold-lifted, TermsTold-own, parameter-lift, symmetric}
+use Rattle.module_laws.specs.SameSequents.{TypesTold, TypesTold-lifted, TypesTold-own, TypesTold-terms, TermsTold, TermsTold-lifted, TermsTold-own, parameter-lift}
+use Rattle.module_laws.specs.ScopeTyping.{length-type_trees}
+use Rattle.hol_laws.specs.PositionLaws.{position-cons}
+use Rattle.std.proofs.lemmas.List.{length-map}
+use Rattle.proof_laws.specs.SymbolGrowth.{symmetric}
 
 -- where the element of a list stands in it, and what its parameters tell
 pub record At {A : Type 0} (same : A → A → Bool) (d from : ℕ) (xs : List A) (y : A) : Type 0 where
   pub within : position_or_len (same y) xs < length xs
   pub told : lookup (same y) (parameters d from xs) ≡ Some (parameter d (from + position_or_len (same y) xs))
-
-position-cons : {A : Type 0} (test : A → Bool) (x : A) (xs : List A) (b : Bool) → test x ≡ b → position_or_len test (x ∷ xs) ≡ cond b 0 (suc (position_or_len test xs))
-position-cons test x xs true e = rw e refl
-position-cons test x xs false e = rw e (omega arith)
 
 pub told-at : {A : Type 0} (same : A → A → Bool) → ((x y : A) → Decides (same x y) (x ≡ y)) → (d from : ℕ) (xs : List A) (y : A) → IsIn xs y → At same d from xs y
 told-at same decides d from [] y k = absurd k
@@ -86,14 +86,6 @@ module _ (names vs : List Name) (f : Name → HolType) where
     instances-closed type.HolTypes.none h = refl
     instances-closed (type.HolTypes.more g gs) h =
         λ i. ClosedTypes.more (instance-closed g (All-left (IsIn vs) (variable_places g) (variable_places_of_all gs) h) i) (instances-closed gs (All-right (IsIn vs) (variable_places g) (variable_places_of_all gs) h) i)
-
-length-type_trees : (symbols : Symbols) (scope : TypeScope) (ts : HolTypes) → count ts ≡ length (type_trees symbols scope ts)
-length-type_trees symbols scope type.HolTypes.none = refl
-length-type_trees symbols scope (type.HolTypes.more t ts) = omega (arith, length-type_trees symbols scope ts)
-
-length-map : {A B : Type 0} (f : A → B) (xs : List A) → length (map f xs) ≡ length xs
-length-map f [] = refl
-length-map f (x ∷ xs) = ap suc (length-map f xs)
 
 -- the symbols of a type and of a term mean what they stand for
 abbrev mutual
@@ -170,7 +162,7 @@ module _ (d : List Declaration) (symbols : Symbols) (names : List Name) where
       let arguments : AllByRecursion (λ u. TypeMeant d symbols u × AllByRecursion (IsIn names) (variable_places u)) (map w.0 vs) =
       All-mapped (λ u. TypeMeant d symbols u × AllByRecursion (IsIn names) (variable_places u)) w.0 vs
       (All-each _ vs (λ k i. meant-filled_in w.0 g k (IsIn-distinct_of name_eq name_eq-Decides (variable_places g) k i) meant known)) in
-      let size : length vs ≡ length (map (type_tree symbols scope) (type_arguments g t)) = sym (length-map (type_tree symbols scope) (type_arguments g t) ∙ ap length own ∙ length-map w.0 vs) in
+      let size : length vs ≡ length (map (type_tree symbols scope) (type_arguments g t)) = sym (length-map (type_arguments g t) (type_tree symbols scope) ∙ ap length own ∙ length-map vs w.0) in
       record {
         symbol = constant_symbol symbols n;
         args = map (type_tree symbols scope) (type_arguments g t);

@@ -1,11 +1,11 @@
 -- The scope of a sequent is typed under its binders, so that its product is a type; and a theorem in such a scope proves its conclusion there.
 use Rattle.std.proofs.Common.{◌≡◌, ℕ, List, [], ◌∷◌, Some, refl, ap}
 use Rattle.std.specs.List.{AllByRecursion, flat_map}
+use Rattle.std.proofs.Math.Path.{ap₂}
 use Rattle.hol_spec.specs.Terms.{Term, free, bound, constant, app, lam, variable_eq, free_places}
 use Rattle.hol_laws.specs.TermLaws.{variable_eq-Decides}
 use Rattle.hol_spec.specs.Sequents.{Sequent, IsSequent, terms_of, free_variables_of}
 use Rattle.lp_spec.specs.Trees.{Tree, App, Lam, lift}
-use Rattle.lp_binding.specs.Composition.{ap2}
 use Rattle.lp_spec.specs.Modules.{Declaration, types, term_of, arr_of, symbol_type}
 use Rattle.lp_spec.specs.Conversion.{rule, same, back}
 use Rattle.lp_typing.specs.ConversionLaws.{IsClosed}
@@ -42,7 +42,7 @@ pub term_tree-proofs : (symbols : Symbols) (proofs : Term → Tree) (scope : Sco
 term_tree-proofs symbols proofs scope (free n t) = refl
 term_tree-proofs symbols proofs scope (bound k) = refl
 term_tree-proofs symbols proofs scope (constant n t) = refl
-term_tree-proofs symbols proofs scope (app f x) = ap2 App (term_tree-proofs symbols proofs scope f) (term_tree-proofs symbols proofs scope x)
+term_tree-proofs symbols proofs scope (app f x) = ap₂ App (term_tree-proofs symbols proofs scope f) (term_tree-proofs symbols proofs scope x)
 term_tree-proofs symbols proofs scope (lam t b) = ap (Lam (term_of (type_tree symbols scope.types t))) (term_tree-proofs symbols (λ h. lift 1 (proofs h)) (inside scope) b)
 
 -- the free variables of a term over the symbols have types over them

@@ -2,11 +2,12 @@
 use Rattle.std.proofs.Common.{◌≡◌, ℕ, zero, suc, true, false, List, [], ◌∷◌, ◌++◌, map, Some, refl, sym, ap, subst, ◌∙◌}
 use Rattle.std.specs.Prelude.{slice_get, replicate, length}
 use Rattle.std.specs.List.{AllByRecursion}
+use Rattle.std.proofs.Math.Path.{subst₂}
 use Rattle.hol_spec.specs.Names.{Name}
 use Rattle.lp_spec.specs.Trees.{Tree, Var, App, Pi, lift, put, put_at}
 use Rattle.lp_spec.specs.Substitution.{sub, cons, up, ren}
 use Rattle.lp_binding.specs.Composition.{suc_lift}
-use Rattle.lp_binding.specs.SubstitutionLaws.{subst2, ren-lift, lift_one}
+use Rattle.lp_binding.specs.SubstitutionLaws.{ren-lift, lift_one}
 use Rattle.lp_spec.specs.Modules.{Declaration, applied, products, abstractions, types, term_of, eq_of, proof_of, refl_of}
 use Rattle.lp_typing.specs.ConversionLaws.{IsClosed}
 use Rattle.lp_typing.specs.Telescopes.{under}
@@ -33,7 +34,7 @@ module _ (m : List Declaration) (closed : IsClosed m) where
       of_binder (constant-ren m closed v ha) (constant-ren m closed v hb) (subst (IsTerm m (term_of (ren r a) ∷ D) (ren (up r) t)) (ren-lift r b) (term-ren {r = up r} (inside v) h))
 
   pub term-weaken : {G : List Tree} {C t a : Tree} → IsTerm m G t a → IsTerm m (C ∷ G) (lift 1 t) (lift 1 a)
-  term-weaken {G = G} {C = C} {t = t} {a = a} h = subst2 (IsTerm m (C ∷ G)) (sym (lift_one t)) (sym (lift_one a)) (term-ren outside h)
+  term-weaken {G = G} {C = C} {t = t} {a = a} h = subst₂ (IsTerm m (C ∷ G)) (sym (lift_one t)) (sym (lift_one a)) (term-ren outside h)
 
 -- an entry of the context that proves a formula
 pub record IsEntry (G : List Tree) (t p : Tree) : Type 0 where

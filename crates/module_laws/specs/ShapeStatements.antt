@@ -27,7 +27,8 @@ use Rattle.module_laws.specs.ShapedSequents.{OwnShape, own_shape}
 use Rattle.module_laws.specs.ComputingRows.{Shown}
 use Rattle.module_laws.specs.RuleShapes.{rule-shaped}
 use Rattle.module_laws.specs.ItemShapes.{reached-shaped, reached-WellTyped}
-use Rattle.module_laws.specs.PricedModules.{IsPriced, reached-priced}
+use Rattle.lp_shape.specs.PricedModules.{IsPriced}
+use Rattle.module_laws.specs.PricedModules.{reached-priced}
 
 -- Translated terms are shaped.
 abbrev pub TermsShaped : Type 0

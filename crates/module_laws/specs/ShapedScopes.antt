@@ -3,6 +3,8 @@
 use Rattle.std.proofs.Common.{◌≡◌, ℕ, zero, suc, List, ◌∷◌, map, Some, inl, refl, sym, ap, subst, ◌∙◌}
 use Rattle.std.specs.Prelude.{replicate, slice_get}
 use Rattle.std.specs.List.{AllByRecursion}
+use Rattle.std.proofs.Math.Path.{subst₂}
+use Rattle.std.proofs.lemmas.Option.{same_Some}
 use Rattle.hol_spec.specs.Names.{Name}
 use Rattle.hol_spec.specs.NameEquality.{name_eq}
 use Rattle.hol_laws.specs.NameEqualityLaws.{name_eq-Decides}
@@ -11,11 +13,9 @@ use Rattle.hol_spec.specs.Primitives.{function}
 use Rattle.hol_spec.specs.Substitution.{image, type_arguments}
 use Rattle.hol_spec.specs.Terms.{Term, free, bound, constant, app, lam, Variable, type_under}
 use Rattle.hol_laws.specs.TermSubstitutionLaws.{application_type-is, abstraction_type-is}
-use Rattle.lp_binding.specs.LookUps.{some_is}
 use Rattle.lp_spec.specs.Trees.{Tree, Var, Sym, Lam, lift}
 use Rattle.lp_spec.specs.Substitution.{sub}
 use Rattle.lp_binding.specs.Composition.{sub_var}
-use Rattle.lp_binding.specs.SubstitutionLaws.{subst2}
 use Rattle.lp_spec.specs.Modules.{Declaration, applied, products, types, term_of}
 use Rattle.lp_typing.specs.ConversionLaws.{IsClosed}
 use Rattle.lp_shape.specs.Shaped.{Solid, IsConstant, IsSimple, IsTerm, of_entry, of_constant, of_function, of_binder}
@@ -74,7 +74,7 @@ module _ (m : List Declaration) (closed : IsClosed m) (symbols : Symbols) where
       → ShapedBounds m symbols (term_of (type_tree symbols scope.types t) ∷ G) (inside scope) (t ∷ binders)
   bounds-inside G scope binders t is o b zero a e =
       let A = type_tree symbols scope.types t in
-      let same : lift 1 A ≡ type_tree symbols (lifted_types scope.types) a = type_tree-lift symbols scope.types t ∙ ap (type_tree symbols (lifted_types scope.types)) (some_is e) in
+      let same : lift 1 A ≡ type_tree symbols (lifted_types scope.types) a = type_tree-lift symbols scope.types t ∙ ap (type_tree symbols (lifted_types scope.types)) (same_Some _ _ e) in
       of_entry refl same (subst (IsSimple m (term_of A ∷ G)) same (simple-weaken m closed (type_tree-shaped m G symbols scope.types is t o)))
   bounds-inside G scope binders t is o b (suc k) a e =
       subst (IsTerm m (term_of (type_tree symbols scope.types t) ∷ G) (lift 1 (scope.bounds k))) (type_tree-lift symbols scope.types a) (term-weaken m closed (b k a e))
@@ -102,15 +102,15 @@ module _ (m : List Declaration) (closed : IsClosed m) (symbols : Symbols) where
       let arguments : map other names ≡ map (type_tree symbols scope) (type_arguments generic t) =
       sym (map-twice (type_tree symbols scope) (image pairs) names)
       ∙ ap (map (type_tree symbols scope)) (sym (type_arguments-filled_in (image pairs) generic) ∙ ap (type_arguments generic) own) in
-      subst2 (λ xs a. IsConstant m G (applied (Sym (constant_symbol symbols n)) xs) (term_of a)) arguments result call
+      subst₂ (λ xs a. IsConstant m G (applied (Sym (constant_symbol symbols n)) xs) (term_of a)) arguments result call
 
   -- TRANSLATED TERMS ARE SHAPED
   pub term_tree-shaped : (G : List Tree) (scope : Scope) (binders : List HolType) → ShapedScope m symbols G scope → ShapedBounds m symbols G scope binders → ((k : ℕ) (a : HolType) → slice_get binders k ≡ Some a → TypeOver m symbols a)
       → (t : Term) (a : HolType) → TermOver m symbols t → type_under binders t ≡ Some a → IsTerm m G (term_tree symbols scope t) (type_tree symbols scope.types a)
-  term_tree-shaped G scope binders is b o (free n t) a h e = subst (λ u. IsTerm m G (scope.terms (n, t)) (type_tree symbols scope.types u)) (some_is e) (is.terms (n, t) h)
+  term_tree-shaped G scope binders is b o (free n t) a h e = subst (λ u. IsTerm m G (scope.terms (n, t)) (type_tree symbols scope.types u)) (same_Some _ _ e) (is.terms (n, t) h)
   term_tree-shaped G scope binders is b o (bound k) a h e = b k a e
   term_tree-shaped G scope binders is b o (constant n t) a h e =
-      subst (λ u. IsTerm m G (constant_tree symbols scope.types n t) (type_tree symbols scope.types u)) (some_is e)
+      subst (λ u. IsTerm m G (constant_tree symbols scope.types n t) (type_tree symbols scope.types u)) (same_Some _ _ e)
       (of_constant (constant_tree-shaped G scope.types is.types n t h) (type_tree-shaped m G symbols scope.types is.types t h.ty))
   term_tree-shaped G scope binders is b o (app f x) a h e =
       let p = application_type-is (type_under binders f) (type_under binders x) a e in
@@ -128,5 +128,5 @@ module _ (m : List Declaration) (closed : IsClosed m) (symbols : Symbols) where
       subst (λ u. IsTerm m G (Lam (term_of A) (term_tree symbols (inside scope) c)) (type_tree symbols scope.types u)) (sym p.1.1) (of_binder hA hB lowered)
     where
       under : (t : HolType) → TypeOver m symbols t → (k : ℕ) (a : HolType) → slice_get (t ∷ binders) k ≡ Some a → TypeOver m symbols a
-      under t h zero a e = subst (TypeOver m symbols) (some_is e) h
+      under t h zero a e = subst (TypeOver m symbols) (same_Some _ _ e) h
       under t h (suc k) a e = o k a e

@@ -74,7 +74,7 @@ module _ (m : List Declaration) where
     product-Conv {b = b} {c = c} h k = Conv-trans (Conv-under (λ w. Pi w b) (λ u v s. step.Step.pi_domain s) h) (Conv-under (Pi c) (λ u v s. step.Step.pi_body s) k)
 
     head-Conv : {E H : Tree} → head_step m E ≡ Some H → Conv m E H
-    head-Conv {E = E} {H = H} e = Steps-Conv (head_step-Steps m closed E H e)
+    head-Conv {E = E} {H = H} e = Steps-Conv (head_step-Steps m E H e)
 
     pub near-Conv : {E F : Tree} → Near m E F → Conv m E F
     near-Conv near_same = same
@@ -111,7 +111,7 @@ module _ (m : List Declaration) where
         let closed = IsSound-closed m sound in
         let simple = constant-typed (term-simple m ht) in
         let whole = equation-sorted closed simple (constant-typed hc) (term-typed closed ht) in
-        let same_sides = Conv-under (λ w. proof_of (eq_of a w t)) (λ u v s. step.Step.app_argument (step.Step.app_function (step.Step.app_argument s))) (Conv-sym (Steps-Conv (head_step-Steps m closed k t s))) in
+        let same_sides = Conv-under (λ w. proof_of (eq_of a w t)) (λ u v s. step.Step.app_argument (step.Step.app_function (step.Step.app_argument s))) (Conv-sym (Steps-Conv (head_step-Steps m k t s))) in
         of_application (proof-typed c f) (of_conversion (proof-typed c h) same_sides whole is_type) e
     proof-typed c (at_abstractions {a = a} {b = b} {t = t} {u = u} f ha hb ht hu h e) =
         let closed = IsSound-closed m sound in

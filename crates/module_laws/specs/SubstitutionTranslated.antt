@@ -2,6 +2,7 @@
 -- images put in.
 use Rattle.std.proofs.Common.{◌≡◌, ℕ, List, [], ◌∷◌, ◌++◌, map, inl, refl, sym, ap, ◌∙◌, arith}
 use Rattle.std.specs.List.{AllByRecursion}
+use Rattle.std.proofs.Math.Path.{ap₂}
 use Rattle.hol_spec.specs.Names.{Name}
 use Rattle.hol_spec.specs.Substitution.{TypePairs, image, substitute}
 use Rattle.hol_spec.specs.Terms.{Term, Variable}
@@ -9,7 +10,6 @@ use Rattle.hol_spec.specs.TermSubstitution.{TermPairs, term_image, sub}
 use Rattle.hol_spec.specs.Sequents.{Sequent, IsSequent, type_variables_of, free_variables_of}
 use Rattle.lp_spec.specs.Trees.{Tree, Var, Pi, lift, put_all}
 use Rattle.lp_spec.specs.Substitution as trees
-use Rattle.lp_binding.specs.Composition.{ap2}
 use Rattle.lp_spec.specs.Substitution.{ups}
 use Rattle.lp_binding.specs.SubstitutionLaws.{sub-lift}
 use Rattle.lp_spec.specs.Modules.{Declaration, products, proof_of}
@@ -38,7 +38,7 @@ module _ (symbols : Symbols) where
   -- a statement owes nothing to what stands for hypotheses
   statement-proofs : (hs : List Term) (c : Term) (scope : Scope) (proofs : Term → Tree) → statement_tree symbols hs c scope ≡ statement_tree symbols hs c (record { types = scope.types; terms = scope.terms; proofs = proofs; bounds = scope.bounds })
   statement-proofs [] c scope proofs = ap proof_of (term_tree-proofs symbols proofs scope c)
-  statement-proofs (h ∷ hs) c scope proofs = ap2 (λ x y. Pi (proof_of x) y) (term_tree-proofs symbols proofs scope h) (statement-proofs hs c (lifted scope) (λ g. lift 1 (proofs g)))
+  statement-proofs (h ∷ hs) c scope proofs = ap₂ (λ x y. Pi (proof_of x) y) (term_tree-proofs symbols proofs scope h) (statement-proofs hs c (lifted scope) (λ g. lift 1 (proofs g)))
 
   pub rest-statement : (hs : List Term) (c : Term) (scope : Scope) → products (proof_domains symbols hs scope) (proof_of (term_tree symbols (under_proofs hs scope) c)) ≡ statement_tree symbols hs c scope
   rest-statement [] c scope = refl
@@ -50,7 +50,7 @@ module _ (symbols : Symbols) where
   statement-sub : (s : ℕ → Tree) (hs : List Term) (c : Term) (scope : Scope) → trees.sub s (statement_tree symbols hs c scope) ≡ statement_tree symbols hs c (through s scope)
   statement-sub s [] c scope = ap proof_of (term_tree-sub symbols s scope c)
   statement-sub s (h ∷ hs) c scope =
-      ap2 (λ x y. Pi (proof_of x) y) (term_tree-sub symbols s scope h) (statement-sub (ups s) hs c (lifted scope) ∙ ap (statement_tree symbols hs c) (lifted-through s scope))
+      ap₂ (λ x y. Pi (proof_of x) y) (term_tree-sub symbols s scope h) (statement-sub (ups s) hs c (lifted scope) ∙ ap (statement_tree symbols hs c) (lifted-through s scope))
 
   module _ (P : Name → Type 0) (Q : Variable → Type 0) where
     formula-agrees : (scope other : Scope) → Agrees symbols P Q 0 scope other → (h : Term) → IsFormula symbols P Q h → term_tree symbols scope h ≡ term_tree symbols other h
@@ -60,7 +60,7 @@ module _ (symbols : Symbols) where
         → statement_tree symbols hs c scope ≡ statement_tree symbols hs c other
     statement-agrees [] c scope other a f g = ap proof_of (formula-agrees scope other a c g)
     statement-agrees (h ∷ hs) c scope other a f g =
-        ap2 (λ x y. Pi (proof_of x) y) (formula-agrees scope other a h f.0)
+        ap₂ (λ x y. Pi (proof_of x) y) (formula-agrees scope other a h f.0)
         (statement-agrees hs c (lifted scope) (lifted other) (record { types = λ n p. ap (lift 1) (a.types n p); terms = λ v q. ap (lift 1) (a.terms v q); bounds = λ k l. absurd (omega (arith, l)) }) f.1 g)
 
 -- what a statement is in a scope that fits a sequent: its rest with what stands there for its variables put in
@@ -96,7 +96,7 @@ substituted-statement : (symbols : Symbols) (pairs : TypePairs) (terms : TermPai
     → statement_tree symbols hs c (images symbols pairs terms scope) ≡ statement_tree symbols (map (sub pairs terms) hs) (sub pairs terms c) scope
 substituted-statement symbols pairs terms closed [] c scope i j = ap proof_of (sym (term_tree-substitution symbols pairs terms closed scope c j))
 substituted-statement symbols pairs terms closed (h ∷ hs) c scope i j =
-    ap2 (λ x y. Pi (proof_of x) y) (sym (term_tree-substitution symbols pairs terms closed scope h i.0))
+    ap₂ (λ x y. Pi (proof_of x) y) (sym (term_tree-substitution symbols pairs terms closed scope h i.0))
     (ap (statement_tree symbols hs c) (images-lifted symbols pairs terms scope) ∙ substituted-statement symbols pairs terms closed hs c (lifted scope) i.1 j)
 
 -- TRANSLATION OF SUBSTITUTION for a sequent: what follows its products over type variables and free variables, with the translated images put

@@ -4,6 +4,7 @@ use Rattle.std.specs.Prelude.{length, ◌==◌, is_some}
 use Rattle.std.specs.Cmp.{unsigned_Decides}
 use Rattle.std.specs.Option.{option_or, unwrap_or}
 use Rattle.std.specs.List.{AllByRecursion, list_any}
+use Rattle.std.proofs.lemmas.Option.{same_Some}
 use Rattle.hol_spec.specs.Names.{Name}
 use Rattle.hol_spec.specs.NameEquality.{name_eq}
 use Rattle.hol_laws.specs.NameEqualityLaws.{name_eq-Decides}
@@ -28,9 +29,6 @@ use Rattle.module_laws.specs.ItemConditions as items
 use Rattle.module_laws.specs.MadeModules.{any_content}
 use Rattle.module_spec.specs.MadeItems.{contents_of}
 
-some_is : {X : Type 0} {x y : X} → Some x ≡ Some y → x ≡ y
-some_is e = cc
-
 module _ (ps : List Item) where
   abbrev pub IsHeld : Symbol → Type 0
   IsHeld x = AllByRecursion (Has ps) (contents_of x)
@@ -42,7 +40,7 @@ module _ (ps : List Item) where
   symbol-operator n k (Symbol.defined (Definition.type_operator names c f)) h e = go (name_eq n names.operator) (name_eq-Decides n names.operator).0 e
     where
       go : (b : Bool) → (b ≡ true → n ≡ names.operator) → cond b (Some (length names.variables)) None ≡ Some k → OperatorTaken ps n k
-      go true same e = let i : length names.variables ≡ k = some_is e in items.OperatorTaken.declared (subst (Has ps) (λ j. operator (sym (same refl) j) (i j)) h.0)
+      go true same e = let i : length names.variables ≡ k = same_Some _ _ e in items.OperatorTaken.declared (subst (Has ps) (λ j. operator (sym (same refl) j) (i j)) h.0)
       go false same e = absurd (cc)
 
   symbol-constant : (n : Name) (g : HolType) (x : Symbol) → IsHeld x → defined_type n x ≡ Some g → (t : HolType) → Instance g t → ConstantTaken ps n t
@@ -59,13 +57,13 @@ module _ (ps : List Item) where
     where
       second : (b : Bool) → (b ≡ true → n ≡ names.representation) → cond b (Some (representation_type names c)) None ≡ Some g → ConstantTaken ps n t
       second true same e =
-          let a : representation_type names c ≡ g = some_is e in
+          let a : representation_type names c ≡ g = same_Some _ _ e in
           items.ConstantTaken.declared (representation_type names c) (subst (λ (l : Name). Has ps (constant l (representation_type names c))) (sym (same refl)) h.1.1.0) (subst (λ b. Instance b t) (sym a) i)
       second false same e = absurd (cc)
 
       go : (b : Bool) → (b ≡ true → n ≡ names.abstraction) → cond b (Some (abstraction_type names c)) (cond (name_eq n names.representation) (Some (representation_type names c)) None) ≡ Some g → ConstantTaken ps n t
       go true same e =
-          let a : abstraction_type names c ≡ g = some_is e in
+          let a : abstraction_type names c ≡ g = same_Some _ _ e in
           items.ConstantTaken.declared (abstraction_type names c) (subst (λ (l : Name). Has ps (constant l (abstraction_type names c))) (sym (same refl)) h.1.0) (subst (λ b. Instance b t) (sym a) i)
       go false same e = second (name_eq n names.representation) (name_eq-Decides n names.representation).0 e
 

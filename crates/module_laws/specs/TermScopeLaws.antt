@@ -1,7 +1,7 @@
 -- Laws of the trees of terms: what they owe to their scope, and substitution, closing and putting.
 use Rattle.std.proofs.Common.{◌≡◌, ℕ, zero, suc, ◌≤◌, ◌<◌, ◌∷◌, map, Bool, true, false, cond, refl, sym, ap, ◌∙◌, arith}
 use Rattle.std.specs.List.{AllByRecursion}
-use Rattle.std.proofs.Math.Path.{fun_ext}
+use Rattle.std.proofs.Math.Path.{fun_ext, ap₂}
 use Rattle.hol_spec.specs.Names.{Name}
 use Rattle.hol_spec.specs.Types.{HolType, HolTypes, variable, operator, none, more, count, variable_places, variable_places_of_all}
 use Rattle.hol_spec.specs.Substitution.{TypePairs, image, substitute, Instance, type_arguments}
@@ -9,7 +9,6 @@ use Rattle.hol_spec.specs.Terms.{Term, free, bound, constant, app, lam, Variable
 use Rattle.hol_spec.specs.TermBinding.{raised, close_at, close, loose}
 use Rattle.hol_spec.specs.TermSubstitution.{TermPairs, term_image, sub}
 use Rattle.lp_spec.specs.Trees.{Tree, Var, Sym, App, Lam, lift}
-use Rattle.lp_binding.specs.Composition.{ap2}
 use Rattle.lp_spec.specs.Substitution.{cons}
 use Rattle.lp_spec.specs.Modules.{applied, term_of}
 use Rattle.hol_laws.specs.Members.{map-twice, map-each, All-left, All-right, All-weaker}
@@ -39,7 +38,7 @@ module _ (symbols : Symbols) where
   term_tree-bounds d scope bounds e (free n t) h = refl
   term_tree-bounds d scope bounds e (bound k) h = e k (omega (arith, h))
   term_tree-bounds d scope bounds e (constant n t) h = refl
-  term_tree-bounds d scope bounds e (app f x) h = ap2 App (term_tree-bounds d scope bounds e f (omega (arith, h))) (term_tree-bounds d scope bounds e x (omega (arith, h)))
+  term_tree-bounds d scope bounds e (app f x) h = ap₂ App (term_tree-bounds d scope bounds e f (omega (arith, h))) (term_tree-bounds d scope bounds e x (omega (arith, h)))
   term_tree-bounds d scope bounds e (lam t b) h = ap (Lam (term_of (type_tree symbols scope.types t))) (term_tree-bounds (suc d) (inside scope) (cons (Var 0) (λ k. lift 1 (bounds k))) go b (omega (arith, h)))
     where
       go : (k : ℕ) → k < suc d → (inside scope).bounds k ≡ cons (Var 0) (λ k. lift 1 (bounds k)) k
@@ -59,9 +58,9 @@ module _ (symbols : Symbols) where
       (ap (map (type_tree symbols scope.types)) (type_arguments-substitute pairs (generic_type symbols n) t h)
       ∙ map-twice (type_tree symbols scope.types) (substitute pairs) (type_arguments (generic_type symbols n) t)
       ∙ ap (λ f. map f (type_arguments (generic_type symbols n) t)) (fun_ext (type_tree-substitute symbols pairs scope.types)))
-  term_tree-substitution pairs terms c scope (app f x) h = ap2 App (term_tree-substitution pairs terms c scope f h.0) (term_tree-substitution pairs terms c scope x h.1)
+  term_tree-substitution pairs terms c scope (app f x) h = ap₂ App (term_tree-substitution pairs terms c scope f h.0) (term_tree-substitution pairs terms c scope x h.1)
   term_tree-substitution pairs terms c scope (lam t b) h =
-      ap2 (λ a d. Lam (term_of a) d) (type_tree-substitute symbols pairs scope.types t)
+      ap₂ (λ a d. Lam (term_of a) d) (type_tree-substitute symbols pairs scope.types t)
       (term_tree-substitution pairs terms c (inside scope) b h
       ∙ ap (λ w. term_tree symbols w b)
       (same_scope (images symbols pairs terms (inside scope)) (inside (images symbols pairs terms scope))
@@ -90,7 +89,7 @@ module _ (symbols : Symbols) where
   term_tree-close_at d v scope (free n t) = closed_free (variable_eq (n, t) v) d scope n t
   term_tree-close_at d v scope (bound k) = refl
   term_tree-close_at d v scope (constant n t) = refl
-  term_tree-close_at d v scope (app f x) = ap2 App (term_tree-close_at d v scope f) (term_tree-close_at d v scope x)
+  term_tree-close_at d v scope (app f x) = ap₂ App (term_tree-close_at d v scope f) (term_tree-close_at d v scope x)
   term_tree-close_at d v scope (lam t b) =
       ap (Lam (term_of (type_tree symbols scope.types t)))
       (term_tree-close_at (suc d) v (inside scope) b
@@ -126,7 +125,7 @@ module _ (symbols : Symbols) where
       type_trees-agree : (scope other : TypeScope) → ((n : Name) → P n → scope n ≡ other n) → (ts : HolTypes) → AllByRecursion P (variable_places_of_all ts) → type_trees symbols scope ts ≡ type_trees symbols other ts
       type_trees-agree scope other e none h = refl
       type_trees-agree scope other e (more t ts) h =
-          ap2 (λ x xs. x ∷ xs) (type_tree-agrees scope other e t (All-left P (variable_places t) (variable_places_of_all ts) h))
+          ap₂ (λ x xs. x ∷ xs) (type_tree-agrees scope other e t (All-left P (variable_places t) (variable_places_of_all ts) h))
           (type_trees-agree scope other e ts (All-right P (variable_places t) (variable_places_of_all ts) h))
 
     module _ (Q : Variable → Type 0) where
@@ -154,10 +153,10 @@ module _ (symbols : Symbols) where
           (All-weaker _ _ (λ u all. type_tree-agrees scope.types other.types a.types u all) (type_arguments (generic_type symbols n) t)
           (type_arguments-All P (generic_type symbols n) t i p)))
       term_tree-agrees d scope other a (app f x) i p q h =
-          ap2 App
+          ap₂ App
           (term_tree-agrees d scope other a f i.0 (All-left P (type_variable_places f) (type_variable_places x) p) (All-left Q (free_places f) (free_places x) q) (omega (arith, h)))
           (term_tree-agrees d scope other a x i.1 (All-right P (type_variable_places f) (type_variable_places x) p) (All-right Q (free_places f) (free_places x) q) (omega (arith, h)))
       term_tree-agrees d scope other a (lam t b) i p q h =
-          ap2 (λ x y. Lam (term_of x) y)
+          ap₂ (λ x y. Lam (term_of x) y)
           (type_tree-agrees scope.types other.types a.types t (All-left P (variable_places t) (type_variable_places b) p))
           (term_tree-agrees (suc d) (inside scope) (inside other) (Agrees-inside d scope other a) b i (All-right P (variable_places t) (type_variable_places b) p) q (omega (arith, h)))

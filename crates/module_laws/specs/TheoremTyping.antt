@@ -7,7 +7,7 @@ use Rattle.hol_spec.specs.NameEquality.{name_eq}
 use Rattle.hol_laws.specs.NameEqualityLaws.{name_eq-Decides}
 use Rattle.hol_spec.specs.Types.{variable_places}
 use Rattle.hol_spec.specs.Primitives.{bool}
-use Rattle.hol_spec.specs.Terms.{Term, free, bound, constant, app, lam, Variable, variable_eq, HasType, type_variable_places, free_places}
+use Rattle.hol_spec.specs.Terms.{Term, free, Variable, variable_eq, HasType, type_variable_places, free_places}
 use Rattle.hol_laws.specs.TermLaws.{variable_eq-Decides}
 use Rattle.hol_spec.specs.TermBinding.{loose}
 use Rattle.hol_laws.specs.TermTyping.{loose-typed}
@@ -16,11 +16,12 @@ use Rattle.lp_spec.specs.Trees.{Tree, Var, lift}
 use Rattle.lp_spec.specs.Substitution.{sub, cons}
 use Rattle.lp_spec.specs.Modules.{Declaration}
 use Rattle.hol_spec.specs.Lists.{IsIn}
-use Rattle.hol_laws.specs.Members.{IsIn-distinct, IsIn-distinct_of, All-each, All-at, All-append, All-left, All-right, All-part}
+use Rattle.hol_laws.specs.Members.{IsIn-distinct, IsIn-distinct_of, All-each, All-at, All-part}
 use Rattle.module_spec.specs.Scopes.{Symbols, Scope, term_tree, under_term, under_terms, under_proof, under_proofs}
 use Rattle.module_laws.specs.ScopeLaws.{through, term_tree-sub}
 use Rattle.module_laws.specs.TermScopeLaws.{term_tree-agrees, AreInstances}
 use Rattle.module_laws.specs.SimultaneousArguments.{after, sub-cons_lift}
+use Rattle.hol_laws.specs.RenamedSequents.{flat_free}
 
 -- a formula whose variables are among these
 pub record IsFormula (symbols : Symbols) (P : Name → Type 0) (Q : Variable → Type 0) (h : Term) : Type 0 where
@@ -28,23 +29,6 @@ pub record IsFormula (symbols : Symbols) (P : Name → Type 0) (Q : Variable →
   pub type_variables : AllByRecursion P (type_variable_places h)
   pub free_variables : AllByRecursion Q (free_places h)
   pub closed : loose h ≤ 0
-
--- the type variables of a free variable's type are type variables of the term
-type_variables-of_free : (P : Name → Type 0) (t : Term) → AllByRecursion P (type_variable_places t) → AllByRecursion (λ v. AllByRecursion P (variable_places v.1)) (free_places t)
-type_variables-of_free P (free n t) h = (h, tt {0})
-type_variables-of_free P (bound k) h = tt
-type_variables-of_free P (constant n t) h = tt
-type_variables-of_free P (app f x) h =
-    All-append _ (free_places f) (free_places x)
-    (type_variables-of_free P f (All-left P (type_variable_places f) (type_variable_places x) h))
-    (type_variables-of_free P x (All-right P (type_variable_places f) (type_variable_places x) h))
-type_variables-of_free P (lam t b) h = type_variables-of_free P b (All-right P (variable_places t) (type_variable_places b) h)
-
-pub flat_free : (P : Name → Type 0) (ts : List Term) → AllByRecursion P (flat_map type_variable_places ts) → AllByRecursion (λ v. AllByRecursion P (variable_places v.1)) (flat_map free_places ts)
-flat_free P [] h = tt
-flat_free P (t ∷ ts) h =
-    All-append _ (free_places t) (flat_map free_places ts) (type_variables-of_free P t (All-left P (type_variable_places t) (flat_map type_variable_places ts) h))
-    (flat_free P ts (All-right P (type_variable_places t) (flat_map type_variable_places ts) h))
 
 module _ (s : Sequent) where
   pub all_type_variables : AllByRecursion (IsIn (type_variables_of s)) (flat_map type_variable_places (terms_of s))

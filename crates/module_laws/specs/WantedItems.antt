@@ -60,7 +60,7 @@ abbrev pub NumberedFrom : ℕ → List Item → Type 0
 NumberedFrom i [] = Unit {0}
 NumberedFrom i (x ∷ xs) = (x.symbol ≡ i) × NumberedFrom (suc i) xs
 
-at-least : (i : ℕ) (xs : List Item) → NumberedFrom i xs → AllByRecursion (λ (x : Item). i ≤ x.symbol) xs
+pub at-least : (i : ℕ) (xs : List Item) → NumberedFrom i xs → AllByRecursion (λ (x : Item). i ≤ x.symbol) xs
 at-least i [] h = tt
 at-least i (x ∷ xs) h = (omega (arith, h.0), All-weaker (λ (y : Item). suc i ≤ y.symbol) (λ (y : Item). i ≤ y.symbol) (λ y k. omega (arith, k)) xs (at-least (suc i) xs h.1))
 

@@ -16,7 +16,8 @@ use Rattle.hol_laws.specs.Members.{All-weaker}
 use Rattle.module_laws.specs.WantedItems.{AreMadeInOrder}
 use Rattle.module_spec.specs.Reach.{reached}
 use Rattle.module_laws.specs.ItemShapes.{reached-shaped, reached-WellTyped}
-use Rattle.module_laws.specs.PricedModules.{IsPriced, reached-priced}
+use Rattle.lp_shape.specs.PricedModules.{IsPriced}
+use Rattle.module_laws.specs.PricedModules.{reached-priced}
 use Rattle.module_spec.specs.MadeItems.{Naming, said_by, premise_at, items_of, roots_of}
 use Rattle.module_laws.specs.AcceptedItems.{Says, found, said-in, made-joined}
 

@@ -7,7 +7,7 @@ use Rattle.std.specs.Option.{option_map}
 use Rattle.std.specs.List.{AllByRecursion, filter, position_or_len, cons_option}
 use Rattle.std.proofs.lemmas.List.{append-nil, length-append, length-map}
 use Rattle.std.proofs.lemmas.List.Elements.{filter_map-append}
-use Rattle.std.proofs.lemmas.Option.{slice_get_within}
+use Rattle.std.proofs.lemmas.Option.{slice_get_within, same_Some}
 use Rattle.article_spec.specs.Ascending.{Ascend}
 use Rattle.article_spec.specs.SoundRuns.{IsSoundRun}
 use Rattle.hol_spec.specs.Names.{Name}
@@ -36,12 +36,9 @@ use Rattle.module_spec.specs.Image.{is_one_of, name_in, image}
 use Rattle.module_spec.specs.Stands.{is_export_name, AreExports}
 use Rattle.run_laws.specs.NameLaws.{export-named}
 use Rattle.run_laws.specs.ExportsKept.{numbered-from, gives-number}
-use Rattle.run_laws.specs.Named.{IsStepName}
+use Rattle.run_laws.specs.Named.{IsStepName, self-one}
 use Rattle.run_laws.specs.NewNames.{constant_named, IsSymbolName}
 use Rattle.run_laws.specs.RunModules.{content-says, IsItemName, HaveNames, declaration-name}
-
-some_is : {A : Type 0} {x y : A} → Some x ≡ Some y → x ≡ y
-some_is e = cc
 
 -- only `E` begins the name of an export
 no_front : (b : ℕ) (ds : List ℕ) → nat_eq b 69 ≡ false → is_export_name (b ∷ ds) ≡ false
@@ -102,9 +99,6 @@ passed-none : (i : ℕ) (done : List ℕ) → AllByRecursion (λ j. j < i) done 
 passed-none i [] h rest = refl
 passed-none i (j ∷ done) h rest = ap (λ b. b || is_one_of i (done ++ rest)) (other-number i j (λ e. let m = h.0 in omega (arith, m, e))) ∙ passed-none i done h.1 rest
 
-self-one : (i : ℕ) (is : List ℕ) → is_one_of i (i ∷ is) ≡ true
-self-one i is = ap (λ b. b || is_one_of i is) ((unsigned_Decides i i).1 refl)
-
 place-cons : (i j : ℕ) (is : List ℕ) (b : Bool) → nat_eq i j ≡ b → position_or_len (nat_eq i) (j ∷ is) ≡ cond b 0 (suc (position_or_len (nat_eq i) is))
 place-cons i j is true e = rw e refl
 place-cons i j is false e = rw e (omega arith)
@@ -125,10 +119,10 @@ no_more i high (r ∷ is) e h = let l = lowest (suc r) high is h.1 in let m = h.
 -- the sequent of a step
 pub sequent-step : (steps : List Step) (i : ℕ) (x : Step) (d : Sequent) → slice_get steps i ≡ Some x → slice_index_or (map (λ (y : Step). y.sequent) steps) i d ≡ x.sequent
 sequent-step [] i x d e = absurd (cc)
-sequent-step (y ∷ steps) zero x d e = ap (λ (y : Step). y.sequent) (some_is e)
+sequent-step (y ∷ steps) zero x d e = ap (λ (y : Step). y.sequent) (same_Some _ _ e)
 sequent-step (y ∷ steps) (suc i) x d e = sequent-step steps i x d e
 
-seam : {A : Type 0} (xs ys : List A) (y d : A) → slice_index_or (xs ++ y ∷ ys) (length xs) d ≡ y
+pub seam : {A : Type 0} (xs ys : List A) (y d : A) → slice_index_or (xs ++ y ∷ ys) (length xs) d ≡ y
 seam [] ys y d = refl
 seam (x ∷ xs) ys y d = seam xs ys y d
 

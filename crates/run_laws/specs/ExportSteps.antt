@@ -41,6 +41,7 @@ use Rattle.article_spec.specs.declared.commands.Word.{Word}
 use Rattle.article_spec.specs.declared.commands.Word.TheVariants as word
 use Rattle.std.specs.Ordering.{int_eq}
 use Rattle.std.specs.Cmp.{unsigned_Decides}
+use Rattle.std.proofs.lemmas.Option.{same_Some}
 use Rattle.lp_binding.specs.LookUps.{slice_get-append}
 use Rattle.hol_laws.specs.Members.{All-weaker, All-append}
 use Rattle.proof_laws.specs.ProofGrowth.{steps_of-append}
@@ -305,9 +306,6 @@ pub exports-restated : (articles : List (List ℕ)) (a : Accepted) → Run artic
 exports-restated articles a r =
     runs-have machine HasRestated (record { command = λ s t c h e. step_at-gives s t s.place c.item h e; end = finish-gives }) RestatesExports (λ s h. h) 1 initial articles (accepted a) a (tt {0}) refl r
 
-some_is : {A : Type 0} {x y : A} → Some x ≡ Some y → x ≡ y
-some_is e = cc
-
 one-restated : (a : Accepted) (is : List ℕ) → AllByRecursion (IsRestated a.made) is → (i : ℕ) → is_one_of i is ≡ true → IsRestated a.made i
 one-restated a [] h i e = absurd (cc)
 one-restated a (j ∷ is) h i e = go (nat_eq i j) (unsigned_Decides i j).0 e (one-restated a is h.1 i)
@@ -320,5 +318,5 @@ one-restated a (j ∷ is) h i e = go (nat_eq i j) (unsigned_Decides i j).0 e (on
 pub exports-proved : (articles : List (List ℕ)) (a : Accepted) → Run articles (accepted a) → HaveRows a
 exports-proved articles a r i x one at =
     let h = one-restated a a.exports (exports-restated articles a r) i one in
-    let is : x ≡ h.step = some_is (sym at ∙ h.at) in
+    let is : x ≡ h.step = same_Some _ _ (sym at ∙ h.at) in
     ap (λ (y : Step). has_row y.kind) is ∙ ap has_row h.restates

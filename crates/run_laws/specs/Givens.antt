@@ -36,7 +36,7 @@ use Rattle.module_laws.specs.BodyTyping.{IsIn-map}
 use Rattle.module_laws.specs.KeptModules.{IsIn-kept}
 use Rattle.module_laws.specs.ItemConditions.{IsDefining, IsContent}
 use Rattle.module_laws.specs.WantedItems.{AreMadeInOrder}
-use Rattle.module_laws.specs.SameSequents.{TypesTold, TypesTold-own, symmetric}
+use Rattle.module_laws.specs.SameSequents.{TypesTold, TypesTold-own}
 use Rattle.module_laws.specs.SequentEncoding.{TypeMeant, TermMeant, TypesPlaced, placed-types, type_stands, term_stands, types-are}
 use Rattle.run_laws.specs.Origins.{Origin}
 use Rattle.run_laws.specs.Named.{HasNames, IsStepName, step_name-is, is-assumed, at-place}
@@ -44,6 +44,7 @@ use Rattle.run_laws.specs.ExportOrder.{HaveRows, sequent-step}
 use Rattle.run_laws.specs.Meanings.{ContentMeant}
 use Rattle.run_laws.specs.Standing.{Always, items, keep, number, stays, symbols, declared, stays-meant, item-stands, BothMeant}
 use Rattle.run_laws.specs.PrimitiveRuns.{proved-body, no_definition}
+use Rattle.proof_laws.specs.SymbolGrowth.{symmetric}
 
 -- a member is among the list
 pub among : {A : Type 0} (xs : List A) (x : A) → IsIn xs x → IsAmong xs x

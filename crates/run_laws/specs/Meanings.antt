@@ -3,6 +3,7 @@ use Rattle.std.proofs.Common.{◌≡◌, ℕ, zero, suc, List, [], ◌∷◌, �
 use Rattle.std.specs.Prelude.{codes, decimal, option_map, unwrap_or}
 use Rattle.std.specs.Option.{option_map_or}
 use Rattle.std.specs.List.{AllByRecursion}
+use Rattle.std.proofs.lemmas.Option.{same_Some}
 use Rattle.hol_spec.specs.Names.{Name}
 use Rattle.hol_spec.specs.NameEquality.{name_eq}
 use Rattle.hol_laws.specs.NameEqualityLaws.{name_eq-Decides}
@@ -18,7 +19,6 @@ use Rattle.hol_spec.specs.Symbols.{Symbol}
 use Rattle.hol_spec.specs.Mangling.{mangled, IsName}
 use Rattle.hol_spec.specs.ClosedForm.{close_type}
 use Rattle.hol_laws.specs.Members.{All-at, All-append, All-weaker}
-use Rattle.lp_binding.specs.LookUps.{some_is}
 use Rattle.lp_spec.specs.Modules.{Declaration, symbol_declaration, symbol_name, symbol_type, arr_symbol, bool_symbol, ind_symbol, eq_symbol, select_symbol}
 use Rattle.module_spec.specs.OperatorMeaning.{MeansOperator}
 use Rattle.module_spec.specs.OperatorMeaning as means_operator
@@ -37,9 +37,9 @@ use Rattle.run_laws.specs.RunModules.{declaration-name}
 -- THE TYPE OF A TERM whose symbols mean what they stand for has such symbols
 module _ (m : List Declaration) (symbols : Symbols) where
   pub TypeMeant-type_under : (binders : List HolType) → ((k : ℕ) (a : HolType) → slice_get binders k ≡ Some a → TypeMeant m symbols a) → (t : Term) (a : HolType) → TermMeant m symbols t → type_under binders t ≡ Some a → TypeMeant m symbols a
-  TypeMeant-type_under binders b (term.Term.free n t) a h e = subst (TypeMeant m symbols) (some_is e) h
+  TypeMeant-type_under binders b (term.Term.free n t) a h e = subst (TypeMeant m symbols) (same_Some _ _ e) h
   TypeMeant-type_under binders b (term.Term.bound k) a h e = b k a e
-  TypeMeant-type_under binders b (term.Term.constant n t) a h e = subst (TypeMeant m symbols) (some_is e) h.ty
+  TypeMeant-type_under binders b (term.Term.constant n t) a h e = subst (TypeMeant m symbols) (same_Some _ _ e) h.ty
   TypeMeant-type_under binders b (term.Term.app f x) a h e =
       let p = application_type-is (type_under binders f) (type_under binders x) a e in
       (TypeMeant-type_under binders b f (function p.0 a) h.0 p.1.0).1.1.0
@@ -48,7 +48,7 @@ module _ (m : List Declaration) (symbols : Symbols) where
       subst (TypeMeant m symbols) (sym p.1.1) (means_operator.MeansOperator.arrow refl, (h.0, (TypeMeant-type_under (t ∷ binders) (under t b h.0) c p.0 h.1 p.1.0, tt {0})))
     where
       under : (t : HolType) → ((k : ℕ) (a : HolType) → slice_get binders k ≡ Some a → TypeMeant m symbols a) → TypeMeant m symbols t → (k : ℕ) (a : HolType) → slice_get (t ∷ binders) k ≡ Some a → TypeMeant m symbols a
-      under t b h zero a e = subst (TypeMeant m symbols) (some_is e) h
+      under t b h zero a e = subst (TypeMeant m symbols) (same_Some _ _ e) h
       under t b h (suc k) a e = b k a e
 
   -- the primitive operators and constants
@@ -57,7 +57,7 @@ module _ (m : List Declaration) (symbols : Symbols) where
     where
       at : (s j : ℕ) → primitive_arity n ≡ Some j → operator_symbol symbols n j ≡ s → MeansOperator m s n j → MeansOperator m (operator_symbol symbols n k) n k
       at s j a e d =
-          let same : j ≡ k = some_is (sym a ∙ h) in
+          let same : j ≡ k = same_Some _ _ (sym a ∙ h) in
           subst (λ i. MeansOperator m (operator_symbol symbols n i) n i) same (subst (λ r. MeansOperator m r n j) (sym e) d)
 
       third : (b : Bool) → name_eq n ind_name ≡ b → (name_eq n ind_name ≡ true → n ≡ ind_name) → name_eq n bool_name ≡ false → name_eq n arrow_name ≡ false → MeansOperator m (operator_symbol symbols n k) n k
@@ -88,7 +88,7 @@ module _ (m : List Declaration) (symbols : Symbols) where
 
       at : (s : ℕ) (t : HolType) → primitive_type n ≡ Some t → constant_symbol symbols n ≡ s → MeansConstant m s n (length (type_variables t)) (close_type (type_variables t) t) → GenericMeant n g
       at s t a e d =
-          let same : t ≡ g = some_is (sym a ∙ h) in
+          let same : t ≡ g = same_Some _ _ (sym a ∙ h) in
           record { means = subst (MeantAt n) same (subst (λ r. MeansConstant m r n (length (type_variables t)) (close_type (type_variables t) t)) (sym e) d); is = own }
 
       second : (b : Bool) → name_eq n select_name ≡ b → (name_eq n select_name ≡ true → n ≡ select_name) → name_eq n equality_name ≡ false → GenericMeant n g
@@ -208,8 +208,8 @@ module _ (m : List Declaration) (symbols : Symbols) where
     symbol-meant before (unproved s) (IsSymbolName.a_constant o is e w) new tells meant d = absurd (cc)
     symbol-meant before (step kind js qs g s) (IsSymbolName.a_constant o is e w) new tells meant d = absurd (cc)
     symbol-meant before (constant n a) (IsSymbolName.a_constant o is e w) new tells meant d =
-        let same : o ≡ n = sym (some_is e) in
+        let same : o ≡ n = sym (same_Some _ _ e) in
         named-constant n a (constant n a) (subst IsName same is) new.0 (w ∙ ap (λ k. codes "c_" ++ mangled k) same) d refl tells.0 tells.1 meant
     symbol-meant before (defined_constant n a u) (IsSymbolName.a_constant o is e w) new tells meant d =
-        let same : o ≡ n = sym (some_is e) in
+        let same : o ≡ n = sym (same_Some _ _ e) in
         named-constant n a (defined_constant n a u) (subst IsName same is) new.0 (w ∙ ap (λ k. codes "c_" ++ mangled k) same) d refl tells.0 tells.1 meant.0

@@ -1,8 +1,10 @@
--- Laws of names: `E` and a number is the name of an export, and `T` and a number is not.
-use Rattle.std.proofs.Common.{◌≡◌, ℕ, zero, suc, ◌/◌, ◌%◌, ◌==◌, ◌<◌, Bool, true, false, ◌&&◌, cond, List, [], ◌∷◌, ◌++◌, length, codes, refl, ap, ◌∙◌, arith}
+-- Laws of names: numbers below 10^64 are written differently; `E` and a number is the name of an export, and `T` and a number is not.
+use Rattle.std.proofs.Common.{◌≡◌, ℕ, zero, suc, ◌/◌, ◌%◌, ◌^◌, ◌==◌, ◌<◌, Bool, true, false, ◌&&◌, cond, List, [], ◌∷◌, ◌++◌, length, codes, refl, sym, ap, ◌∙◌, arith}
 use Rattle.std.specs.Prelude.{decimal}
 use Rattle.std.specs.List.{list_all}
 use Rattle.std.specs.Fmt.{digits, digits_onto, digit_glyph}
+use Rattle.std.specs.Str.Parse.{digits_value}
+use Rattle.std.proofs.lemmas.Fmt.{decimal_is_IsNumeral_wide}
 use Rattle.module_spec.specs.Stands.{is_decimal_digit, is_export_name}
 
 -- numbers are written with digits
@@ -62,6 +64,10 @@ decimal-all n = digits_onto-all 64 n [] refl
 pub decimal-some : (n : ℕ) → 0 < length (decimal n)
 unfolding digits
 decimal-some n = first_digit 63 n
+
+-- NUMBERS OF NO MORE THAN 64 DIGITS ARE WRITTEN DIFFERENTLY: what is written has their value
+pub decimal-same : (m n : ℕ) → m < 10 ^ 64 → n < 10 ^ 64 → decimal m ≡ decimal n → m ≡ n
+decimal-same m n p q e = sym (decimal_is_IsNumeral_wide m p).1 ∙ ap (digits_value 10) e ∙ (decimal_is_IsNumeral_wide n q).1
 
 -- the name of an export is one
 with_digits : (ds : List ℕ) → 0 < length ds → list_all is_decimal_digit ds ≡ true → is_export_name (codes "E" ++ ds) ≡ true

@@ -3,7 +3,6 @@ use Rattle.std.proofs.Common.{◌≡◌, ℕ, zero, suc, ◌+◌, ◌<◌, ◌�
 use Rattle.std.specs.Prelude.{nat_eq, nat_le, codes, decimal}
 use Rattle.std.specs.Cmp.{unsigned_Decides}
 use Rattle.std.specs.List.{AllByRecursion, list_all, position_or_len}
-use Rattle.std.proofs.lemmas.Fmt.{decimal_injective}
 use Rattle.article_spec.specs.Ascending.{Ascend}
 use Rattle.article_spec.specs.SoundRuns.{assumed_from}
 use Rattle.hol_spec.specs.Mangling.{IsName}
@@ -16,7 +15,8 @@ use Rattle.hol_spec.specs.Proofs.{Step, symbols_of, steps_of, Accepted}
 use Rattle.module_spec.specs.Rows.{has_row}
 use Rattle.module_spec.specs.Image.{is_one_of, place_among, unexported_name, step_name}
 use Rattle.module_spec.specs.Stands.{is_decimal_digit}
-use Rattle.run_laws.specs.NameLaws.{decimal-all}
+use Rattle.run_laws.specs.NameLaws.{decimal-same, decimal-all}
+use Rattle.std.proofs.lemmas.Option.{same_Some}
 
 -- the bytes of a name, and a number that decimal digits tell from others
 abbrev pub SymbolHasName : Symbol → Type 0
@@ -25,10 +25,10 @@ SymbolHasName (Symbol.input_operator n k) = IsName n × (k < 2 ^ 64)
 SymbolHasName (Symbol.defined (Definition.constant n t)) = IsName n
 SymbolHasName (Symbol.defined (Definition.type_operator names c f)) = IsName names.operator × IsName names.abstraction × IsName names.representation
 
--- a run whose names are bytes and whose steps are counted in a machine's word
+-- a run whose names are bytes and whose steps are so few that their numbers are all written differently
 pub record HasNames (run : Accepted) : Type 0 where
   pub symbols : AllByRecursion SymbolHasName (symbols_of run.made)
-  pub steps : length (steps_of run.made) < 2 ^ 64
+  pub steps : length (steps_of run.made) < 10 ^ 64
 
 -- the first two bytes of a name
 abbrev pub first_byte : List ℕ → ℕ
@@ -61,12 +61,9 @@ place-within i (j ∷ is) = go (nat_eq i j) refl (place-within i is)
     go true e l = let p = position-self i j is true e in omega (arith, p)
     go false e l = let p = position-self i j is false e in omega (arith, p, l)
 
-some_is : {A : Type 0} {x y : A} → Some x ≡ Some y → x ≡ y
-some_is e = cc
-
 -- members at one place are one
 same-place : (i j : ℕ) (is : List ℕ) → is_one_of i is ≡ true → is_one_of j is ≡ true → position_or_len (nat_eq i) is ≡ position_or_len (nat_eq j) is → i ≡ j
-same-place i j is e f p = some_is (sym (at-place i is e) ∙ ap (slice_get is) p ∙ at-place j is f)
+same-place i j is e f p = same_Some _ _ (sym (at-place i is e) ∙ ap (slice_get is) p ∙ at-place j is f)
 
 -- exports and assumptions are no more than the steps
 pub ascend-long : (low high : ℕ) (is : List ℕ) → Ascend low high is → low + length is ≤ high
@@ -81,7 +78,7 @@ assumed-long k (x ∷ xs) = go (infers x.kind) (assumed-long (k + 1) xs)
     go true l = omega (arith, l)
     go false l = omega (arith, l)
 
-self-one : (k : ℕ) (is : List ℕ) → is_one_of k (k ∷ is) ≡ true
+pub self-one : (k : ℕ) (is : List ℕ) → is_one_of k (k ∷ is) ≡ true
 self-one k is = ap (λ b. b || is_one_of k is) ((unsigned_Decides k k).1 refl)
 
 more-one : (i k : ℕ) (is : List ℕ) → is_one_of i is ≡ true → is_one_of i (k ∷ is) ≡ true
@@ -96,7 +93,7 @@ pub is-assumed : (k : ℕ) (xs : List Step) (i : ℕ) (x : Step) → slice_get x
 is-assumed k [] i x at idle = absurd (cc)
 is-assumed k (y ∷ xs) zero x at idle =
     let z : k ≡ k + 0 = omega arith in
-    let same : y ≡ x = some_is at in
+    let same : y ≡ x = same_Some _ _ at in
     let other : infers y.kind ≡ false = ap (λ (s : Step). infers s.kind) same ∙ idle in
     subst (λ j. is_one_of j (assumed_from k (y ∷ xs)) ≡ true) z
     (ap (λ b. is_one_of k (cond b (assumed_from (k + 1) xs) (k ∷ assumed_from (k + 1) xs))) other ∙ self-one k (assumed_from (k + 1) xs))
@@ -143,9 +140,9 @@ module _ (run : Accepted) (i : ℕ) where
 
 -- the numbers of a run are small
 pub record AreSmall (run : Accepted) : Type 0 where
-  pub steps : length (steps_of run.made) < 2 ^ 64
-  pub exports : length run.exports < 2 ^ 64
-  pub assumptions : length run.assumptions < 2 ^ 64
+  pub steps : length (steps_of run.made) < 10 ^ 64
+  pub exports : length run.exports < 10 ^ 64
+  pub assumptions : length run.assumptions < 10 ^ 64
 
 other_byte : (a b : ℕ) (r s name : List ℕ) → (nat_eq a b ≡ false) → name ≡ a ∷ r → name ≡ b ∷ s → ⊥
 other_byte a b r s name h e f =
@@ -153,29 +150,29 @@ other_byte a b r s name h e f =
     let yes = (unsigned_Decides a b).1 same in
     absurd (cc)
 
-one_byte : (a : ℕ) (r s name : List ℕ) → name ≡ a ∷ r → name ≡ a ∷ s → r ≡ s
+pub one_byte : (a : ℕ) (r s name : List ℕ) → name ≡ a ∷ r → name ≡ a ∷ s → r ≡ s
 one_byte a r s name e f = let g : a ∷ r ≡ a ∷ s = sym e ∙ f in cc
 
-place-small : (i : ℕ) (is : List ℕ) → length is < 2 ^ 64 → position_or_len (nat_eq i) is < 2 ^ 64
+place-small : (i : ℕ) (is : List ℕ) → length is < 10 ^ 64 → position_or_len (nat_eq i) is < 10 ^ 64
 place-small i is l = let p = place-within i is in omega (arith, l, p)
 
 -- NO TWO STEPS HAVE ONE NAME
 pub same-step : (run : Accepted) → AreSmall run → (i j : ℕ) (k l : StepKind) (name : List ℕ) → i < length (steps_of run.made) → j < length (steps_of run.made) → IsStepName run i k name → IsStepName run j l name → i ≡ j
 same-step run small i j k l name hi hj (IsStepName.an_export e n) (IsStepName.an_export f m) =
-    same-place i j run.exports e f (decimal_injective _ _ (place-small i run.exports small.exports) (place-small j run.exports small.exports) (one_byte 69 _ _ name n m))
+    same-place i j run.exports e f (decimal-same _ _ (place-small i run.exports small.exports) (place-small j run.exports small.exports) (one_byte 69 _ _ name n m))
 same-step run small i j k l name hi hj (IsStepName.an_export e n) (IsStepName.an_assumption f g x m) = absurd (other_byte 69 65 _ _ name refl n m)
 same-step run small i j k l name hi hj (IsStepName.an_export e n) (IsStepName.a_law f x m) = absurd (other_byte 69 76 _ _ name refl n m)
 same-step run small i j k l name hi hj (IsStepName.an_export e n) (IsStepName.a_theorem f x m) = absurd (other_byte 69 84 _ _ name refl n m)
 same-step run small i j k l name hi hj (IsStepName.an_assumption d e y n) (IsStepName.an_assumption f g x m) =
-    same-place i j run.assumptions e g (decimal_injective _ _ (place-small i run.assumptions small.assumptions) (place-small j run.assumptions small.assumptions) (one_byte 65 _ _ name n m))
+    same-place i j run.assumptions e g (decimal-same _ _ (place-small i run.assumptions small.assumptions) (place-small j run.assumptions small.assumptions) (one_byte 65 _ _ name n m))
 same-step run small i j k l name hi hj (IsStepName.an_assumption d e y n) (IsStepName.an_export f m) = absurd (other_byte 65 69 _ _ name refl n m)
 same-step run small i j k l name hi hj (IsStepName.an_assumption d e y n) (IsStepName.a_law f x m) = absurd (other_byte 65 76 _ _ name refl n m)
 same-step run small i j k l name hi hj (IsStepName.an_assumption d e y n) (IsStepName.a_theorem f x m) = absurd (other_byte 65 84 _ _ name refl n m)
-same-step run small i j k l name hi hj (IsStepName.a_law e y n) (IsStepName.a_law f x m) = decimal_injective i j (omega (arith, hi, small.steps)) (omega (arith, hj, small.steps)) (one_byte 76 _ _ name n m)
+same-step run small i j k l name hi hj (IsStepName.a_law e y n) (IsStepName.a_law f x m) = decimal-same i j (omega (arith, hi, small.steps)) (omega (arith, hj, small.steps)) (one_byte 76 _ _ name n m)
 same-step run small i j k l name hi hj (IsStepName.a_law e y n) (IsStepName.an_export f m) = absurd (other_byte 76 69 _ _ name refl n m)
 same-step run small i j k l name hi hj (IsStepName.a_law e y n) (IsStepName.an_assumption f g x m) = absurd (other_byte 76 65 _ _ name refl n m)
 same-step run small i j k l name hi hj (IsStepName.a_law e y n) (IsStepName.a_theorem f x m) = absurd (other_byte 76 84 _ _ name refl n m)
-same-step run small i j k l name hi hj (IsStepName.a_theorem e y n) (IsStepName.a_theorem f x m) = decimal_injective i j (omega (arith, hi, small.steps)) (omega (arith, hj, small.steps)) (one_byte 84 _ _ name n m)
+same-step run small i j k l name hi hj (IsStepName.a_theorem e y n) (IsStepName.a_theorem f x m) = decimal-same i j (omega (arith, hi, small.steps)) (omega (arith, hj, small.steps)) (one_byte 84 _ _ name n m)
 same-step run small i j k l name hi hj (IsStepName.a_theorem e y n) (IsStepName.an_export f m) = absurd (other_byte 84 69 _ _ name refl n m)
 same-step run small i j k l name hi hj (IsStepName.a_theorem e y n) (IsStepName.an_assumption f g x m) = absurd (other_byte 84 65 _ _ name refl n m)
 same-step run small i j k l name hi hj (IsStepName.a_theorem e y n) (IsStepName.a_law f x m) = absurd (other_byte 84 76 _ _ name refl n m)

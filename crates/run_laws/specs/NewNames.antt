@@ -6,6 +6,7 @@ use Rattle.std.specs.Option.{option_or}
 use Rattle.std.specs.List.{list_all}
 use Rattle.std.proofs.lemmas.Fmt.{decimal_injective}
 use Rattle.std.proofs.lemmas.List.{append-nil}
+use Rattle.std.proofs.lemmas.Option.{same_Some}
 use Rattle.hol_spec.specs.Names.{Name}
 use Rattle.hol_spec.specs.NameEquality.{name_eq}
 use Rattle.hol_laws.specs.NameEqualityLaws.{name_eq-Decides}
@@ -18,7 +19,7 @@ use Rattle.hol_spec.specs.Definitions.{Definition, TypeNames}
 use Rattle.hol_spec.specs.Symbols.{Symbol, defined_arity, first_defined_arity, operator_arity}
 use Rattle.hol_spec.specs.Taking as taking
 use Rattle.hol_spec.specs.Taking.{Takes}
-use Rattle.hol_spec.specs.Proofs.{Made, Step, symbols_of, steps_of, IsMade, IsProof, Accepted}
+use Rattle.hol_spec.specs.Proofs.{Made, symbols_of, IsProof, Step, steps_of, IsMade, Accepted}
 use Rattle.hol_spec.specs.Proofs as made
 use Rattle.proof_laws.specs.SymbolGrowth.{or-neither}
 use Rattle.proof_laws.specs.ProofGrowth.{symbols_of-append}
@@ -30,10 +31,7 @@ use Rattle.module_spec.specs.MadeItems.{contents_of}
 use Rattle.module_spec.specs.Image.{symbol_name, type_definition_name}
 use Rattle.module_spec.specs.Stands.{is_decimal_digit}
 use Rattle.run_laws.specs.NameLaws.{decimal-all, decimal-some}
-use Rattle.run_laws.specs.Named.{SymbolHasName, first_byte, second_byte, first_digit-low}
-
-some_is : {A : Type 0} {x y : A} → Some x ≡ Some y → x ≡ y
-some_is e = cc
+use Rattle.run_laws.specs.Named.{SymbolHasName, first_byte, second_byte, first_digit-low, one_byte}
 
 -- the constant that an item names
 abbrev pub constant_named : Content → Option Name
@@ -143,15 +141,15 @@ not-any test (z ∷ zs) y h (inr i) = not-any test zs y (or-neither (test z.cont
 
 constant-new : (n : Name) (c : Content) (before : List Item) → constant_named c ≡ Some n → IsNew before c → any_content (is_constant n) before ≡ false
 constant-new n (operator m k) before e h = absurd (cc)
-constant-new n (constant m a) before e h = subst (λ (l : Name). any_content (is_constant l) before ≡ false) (some_is e) h.1
-constant-new n (defined_constant m a t) before e h = subst (λ (l : Name). any_content (is_constant l) before ≡ false) (some_is e) h.1
+constant-new n (constant m a) before e h = subst (λ (l : Name). any_content (is_constant l) before ≡ false) (same_Some _ _ e) h.1
+constant-new n (defined_constant m a t) before e h = subst (λ (l : Name). any_content (is_constant l) before ≡ false) (same_Some _ _ e) h.1
 constant-new n (unproved s) before e h = absurd (cc)
 constant-new n (step kind js premises given s) before e h = absurd (cc)
 
 pub constant-is : (n : Name) (c : Content) → constant_named c ≡ Some n → is_constant n c ≡ true
 constant-is n (operator m k) e = absurd (cc)
-constant-is n (constant m a) e = (name_eq-Decides n m).1 (sym (some_is e))
-constant-is n (defined_constant m a t) e = (name_eq-Decides n m).1 (sym (some_is e))
+constant-is n (constant m a) e = (name_eq-Decides n m).1 (sym (same_Some _ _ e))
+constant-is n (defined_constant m a t) e = (name_eq-Decides n m).1 (sym (same_Some _ _ e))
 constant-is n (unproved s) e = absurd (cc)
 constant-is n (step kind js premises given s) e = absurd (cc)
 
@@ -174,9 +172,6 @@ other_front a b r s name h e f =
     let same : a ≡ b = sym (ap first_byte e) ∙ ap first_byte f in
     let yes = (unsigned_Decides a b).1 same in absurd (cc)
 
-one_front : (a : ℕ) (r s name : List ℕ) → name ≡ a ∷ r → name ≡ a ∷ s → r ≡ s
-one_front a r s name e f = let g : a ∷ r ≡ a ∷ s = sym e ∙ f in cc
-
 two_fronts : (a b : ℕ) (r s name : List ℕ) → name ≡ a ∷ b ∷ r → name ≡ a ∷ b ∷ s → r ≡ s
 two_fronts a b r s name e f = let g : a ∷ b ∷ r ≡ a ∷ b ∷ s = sym e ∙ f in cc
 
@@ -193,7 +188,7 @@ symbols-apart made p before y c name new i (IsSymbolName.a_constant n is e w) (I
 symbols-apart made p before y c name new i (IsSymbolName.a_constant n is e w) (IsSymbolName.an_input m js f v) = other_front 99 105 _ _ name refl w v
 symbols-apart made p before y c name new i (IsSymbolName.a_constant n is e w) (IsSymbolName.an_operator names a g js among f v) = other_front 99 111 _ _ name refl w v
 symbols-apart made p before y c name new i (IsSymbolName.an_input_operator n k is l e w) (IsSymbolName.an_input_operator m j js lj f v) =
-    let both = after_digits (decimal k) (decimal j) (mangled n) (mangled m) (decimal-all k) (decimal-all j) (one_front 116 _ _ name w v) in
+    let both = after_digits (decimal k) (decimal j) (mangled n) (mangled m) (decimal-all k) (decimal-all j) (one_byte 116 _ _ name w v) in
     let same : n ≡ m = mangled-injective n m is js both.1 in
     let count : k ≡ j = decimal_injective k j l lj both.0 in
     one-operator m j c before y new i (e ∙ (λ t. operator (same t) (count t))) f
@@ -204,7 +199,7 @@ symbols-apart made p before y c name new i (IsSymbolName.an_operator names a f i
     let same : names.operator ≡ others.operator = mangled-injective names.operator others.operator is js (two_fronts 111 95 _ _ name w v) in
     let first = arity-known made p (Symbol.defined (Definition.type_operator names a f)) among names.operator (length names.variables) (defined_arity-own names a f names.operator refl) in
     let second = arity-known made p (Symbol.defined (Definition.type_operator others b g)) there names.operator (length others.variables) (defined_arity-own others b g names.operator same) in
-    let count : length names.variables ≡ length others.variables = some_is (sym first ∙ second) in
+    let count : length names.variables ≡ length others.variables = same_Some _ _ (sym first ∙ second) in
     one-operator others.operator (length others.variables) c before y new i (e ∙ (λ t. operator (same t) (count t))) k
 symbols-apart made p before y c name new i (IsSymbolName.an_operator names a f is among e w) (IsSymbolName.an_input m js k v) = other_front 111 105 _ _ name refl w v
 symbols-apart made p before y c name new i (IsSymbolName.an_operator names a f is among e w) (IsSymbolName.a_constant m js k v) = other_front 111 99 _ _ name refl w v

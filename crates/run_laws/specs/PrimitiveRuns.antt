@@ -1,5 +1,5 @@
 -- The modules of runs that take no symbols and whose steps all have proofs: they stand for their runs.
-use Rattle.std.proofs.Common.{◌≡◌, ℕ, ◌<◌, ◌^◌, List, [], ◌∷◌, length, Bool, true, false, Some, None, slice_get, refl, sym, ap, subst, ◌∙◌}
+use Rattle.std.proofs.Common.{◌≡◌, ℕ, ◌<◌, ◌^◌, List, [], ◌∷◌, length, Bool, true, false, Some, None, slice_get, refl, sym, ap, subst, ◌∙◌, arith}
 use Rattle.std.specs.List.{AllByRecursion}
 use Rattle.hol_spec.specs.Sequents.{Sequent}
 use Rattle.hol_spec.specs.Rules.{Parameters}
@@ -48,7 +48,7 @@ no_definition symbols number name false kind js ss g s f = absurd (cc)
 
 module _ (run : Accepted) (plain : IsPrimitiveRun run) where
   primitive-names : HasNames run
-  primitive-names = record { symbols = subst (AllByRecursion SymbolHasName) (sym plain.symbols) (tt {0}); steps = plain.steps }
+  primitive-names = record { symbols = subst (AllByRecursion SymbolHasName) (sym plain.symbols) (tt {0}); steps = let few = plain.steps in omega (arith, few) }
 
   row-at : (i : ℕ) (x : Step) → slice_get (steps_of run.made) i ≡ Some x → has_row x.kind ≡ true
   row-at i x at = All-get (λ (x : Step). has_row x.kind ≡ true) (steps_of run.made) i x plain.rows at

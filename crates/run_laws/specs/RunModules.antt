@@ -26,7 +26,7 @@ use Rattle.lp_typing.specs.WellTypedLaws.{WellTyped-IsSound}
 use Rattle.lp_shape.specs.ShapedPasses.{AreShaped}
 use Rattle.module_laws.specs.ShapesTyped.{shaped-IsTypedAfter}
 use Rattle.module_laws.specs.OrderedModules.{shaped-over}
-use Rattle.article_laws.specs.SoundStates.{list_all-All}
+use Rattle.article_laws.specs.SoundStates.{list_all-All, at_most}
 use Rattle.module_laws.specs.MadeModules.{IsNew}
 use Rattle.module_laws.specs.WantedItems.{AreMadeInOrder}
 use Rattle.module_spec.specs.Rows.{has_row}
@@ -40,6 +40,7 @@ use Rattle.run_laws.specs.Origins.{Origin, HaveOrigins, made-origins}
 use Rattle.run_laws.specs.Named.{SymbolHasName, HasNames, AreSmall, first_byte, second_byte, IsStepName, step_name-is, step_name-low, same-step, is-assumed, ascend-long, assumed-long}
 use Rattle.run_laws.specs.NewNames.{IsSymbolName, symbol_name-is, symbols-apart, symbol_name-high}
 use Rattle.run_laws.specs.AcceptedRuns.{IsCarried, runs_are_carried}
+use Rattle.module_laws.specs.AcceptedItems.{says-step}
 
 -- the content of a step
 pub record IsStepContent (x : Step) (c : Content) : Type 0 where
@@ -53,10 +54,6 @@ pub record IsStepContent (x : Step) (c : Content) : Type 0 where
 pub data IsItemName (run : Accepted) (P : ℕ → Type 0) (z : Item) : Type 0 where
   by_symbol : IsSymbolName (symbols_of run.made) z.content z.name → IsItemName run P z
   by_step : (i : ℕ) (x : Step) → P i → slice_get (steps_of run.made) i ≡ Some x → IsStepContent x z.content → IsStepName run i x.kind z.name → IsItemName run P z
-
-says-step : (b : Bool) (kind : StepKind) (js : List ℕ) (ss : List Sequent) (g : Parameters) (s : Sequent) → says (content_by b kind js ss g s) ≡ Some s
-says-step false kind js ss g s = refl
-says-step true kind js ss g s = refl
 
 zero-plus : (i : ℕ) → 0 + i ≡ i
 zero-plus i = omega arith
@@ -216,12 +213,8 @@ names-append : (before ds es : List Declaration) → HaveNewNames before ds → 
 names-append before [] es h k = subst (λ b. HaveNewNames b es) (append-nil before) k
 names-append before (d ∷ ds) es h k = (h.0, names-append (before ++ d ∷ []) ds es h.1 (subst (λ b. HaveNewNames b es) (sym (append_assoc before (d ∷ []) ds)) k))
 
--- the second byte of each name of the signature and of the lemmas is a small letter
-le-true : (a b : ℕ) → nat_le a b ≡ true → a ≤ b
-le-true a b e = grind (arith, e)
-
 pub reserved-high : AllByRecursion (λ (b : Declaration). 97 ≤ second_byte b.name) (signature ++ lemmas)
-reserved-high = list_all-All (λ (b : Declaration). nat_le 97 (second_byte b.name)) (λ b. 97 ≤ second_byte b.name) (λ b e. le-true 97 (second_byte b.name) e) (signature ++ lemmas) refl
+reserved-high = list_all-All (λ (b : Declaration). nat_le 97 (second_byte b.name)) (λ b. 97 ≤ second_byte b.name) (λ b e. at_most 97 (second_byte b.name) e) (signature ++ lemmas) refl
 
 reserved-other : (name : List ℕ) → second_byte name ≤ 95 → AllByRecursion (λ (b : Declaration). b.name ≡ name → ⊥) (signature ++ lemmas)
 reserved-other name l = All-weaker (λ (b : Declaration). 97 ≤ second_byte b.name) (λ b. b.name ≡ name → ⊥) (λ b h e. let s = ap second_byte e in omega (arith, h, l, s)) (signature ++ lemmas) reserved-high
@@ -272,7 +265,7 @@ module _ (run : Accepted) (named : HasNames run) (sound : IsSoundRun run) where
       (names-append signature lemmas ds (refl, (refl, tt {0}))
       (new-names (signature ++ lemmas) ds (All-weaker (λ (d : Declaration). second_byte d.name ≤ 95) _ (λ d l. reserved-other d.name l) ds low) other))
 
--- THE LAW: of a run whose names are bytes and whose steps are counted in a word
+-- THE LAW: of a run whose names are bytes and whose steps are written differently
 abbrev pub RunsAreModules : Type 0
 RunsAreModules = (articles : List (List ℕ)) (run : Accepted) → Run articles (accepted run) → HasNames run → IsModule (image run)
 

@@ -2,6 +2,7 @@
 use Rattle.std.proofs.Common.{◌≡◌, ℕ, zero, suc, ◌+◌, List, [], ◌∷◌, ◌++◌, map, length, Bool, true, false, cond, Some, None, inl, inr, slice_get, refl, sym, ap, subst, ◌∙◌, append_assoc, arith}
 use Rattle.std.specs.List.{AllByRecursion}
 use Rattle.std.proofs.lemmas.List.{append-nil, map-append, length-append, length-map}
+use Rattle.std.proofs.lemmas.Option.{same_Some}
 use Rattle.hol_spec.specs.Terms as term
 use Rattle.hol_spec.specs.Terms.{Term}
 use Rattle.hol_spec.specs.Limits.{SequentWithin}
@@ -15,7 +16,6 @@ use Rattle.proof_laws.specs.ProofGrowth.{sequents_of-append, proof-sequents, All
 use Rattle.article_spec.specs.SoundRuns.{IsSoundRun}
 use Rattle.hol_spec.specs.Lists.{IsIn}
 use Rattle.hol_laws.specs.Members.{All-at, All-each, All-left, All-right, All-append, All-weaker, All-mapped}
-use Rattle.lp_binding.specs.LookUps.{some_is}
 use Rattle.lp_spec.specs.Modules.{Declaration, signature, symbol_declaration}
 use Rattle.lp_spec.specs.Lemmas.{lemmas, sym_lemma, trans_lemma}
 use Rattle.module_spec.specs.Scopes.{Symbols, sequent_tree}
@@ -39,6 +39,7 @@ use Rattle.run_laws.specs.Named.{HasNames}
 use Rattle.run_laws.specs.NewNames.{constant_named, IsSymbolName}
 use Rattle.run_laws.specs.RunModules.{IsItemName, content-says, item_name-is}
 use Rattle.run_laws.specs.Meanings.{ItemMeant, ContentMeant, content-meant, symbol-meant}
+use Rattle.lp_shape.specs.PricedModules.{slice_get-front}
 
 -- sequents of a run are within the limits
 within-all : (m : List Made) → IsOver m → AllByRecursion SequentWithin (sequents_of m)
@@ -51,16 +52,12 @@ within-all m (made.Each.more {made = before} (Made.step x) p h is) =
 
 get-map : {A B : Type 0} (f : A → B) (xs : List A) (i : ℕ) (x : A) → slice_get xs i ≡ Some x → slice_get (map f xs) i ≡ Some (f x)
 get-map f [] i x e = absurd (cc)
-get-map f (y ∷ xs) zero x e = ap (λ z. Some (f z)) (some_is e)
+get-map f (y ∷ xs) zero x e = ap (λ z. Some (f z)) (same_Some _ _ e)
 get-map f (y ∷ xs) (suc i) x e = get-map f xs i x e
 
-skip : {A : Type 0} (xs ys : List A) (k : ℕ) → slice_get (xs ++ ys) (length xs + k) ≡ slice_get ys k
+pub skip : {A : Type 0} (xs ys : List A) (k : ℕ) → slice_get (xs ++ ys) (length xs + k) ≡ slice_get ys k
 skip [] ys k = let z : 0 + k ≡ k = omega arith in ap (slice_get ys) z
 skip (x ∷ xs) ys k = let z : suc (length xs) + k ≡ suc (length xs + k) = omega arith in ap (slice_get (x ∷ (xs ++ ys))) z ∙ skip xs ys k
-
-seam : {A : Type 0} (xs ys : List A) (y : A) → slice_get (xs ++ y ∷ ys) (length xs) ≡ Some y
-seam [] ys y = refl
-seam (x ∷ xs) ys y = seam xs ys y
 
 -- an item of a run comes from a symbol, and has its name, or says what a step says
 pub data IsKind (run : Accepted) (z : Item) : Type 0 where
@@ -153,7 +150,7 @@ module _ (run : Accepted) (named : HasNames run) (sound : IsSoundRun run) where
       let D = declaration symbols in
       ap (symbol_declaration m) e ∙ skip signature m (length lemmas + length before) ∙ skip lemmas (map D stays) (length before)
       ∙ ap (λ l. slice_get (map D l) (length before)) whole ∙ ap (λ l. slice_get l (length before)) (map-append D before (z ∷ xs))
-      ∙ ap (slice_get (map D before ++ map D (z ∷ xs))) (sym (length-map before D)) ∙ seam (map D before) (map D xs) (D z)
+      ∙ ap (slice_get (map D before ++ map D (z ∷ xs))) (sym (length-map before D)) ∙ slice_get-front (map D before) (map D xs) (D z)
 
   abbrev pub BothMeant : Item → Type 0
   BothMeant z = ItemMeant m symbols z.content × ContentMeant m symbols z.content
@@ -182,15 +179,15 @@ module _ (run : Accepted) (named : HasNames run) (sound : IsSoundRun run) where
   content-terms (operator n k) s e h = absurd (cc)
   content-terms (constant n a) s e h = absurd (cc)
   content-terms (defined_constant n a t) s e h = absurd (cc)
-  content-terms (unproved r) s e h = subst (λ q. AllByRecursion (TermMeant m symbols) (terms_of q)) (some_is e) h
-  content-terms (step kind js ss g r) s e h = subst (λ q. AllByRecursion (TermMeant m symbols) (terms_of q)) (some_is e) h
+  content-terms (unproved r) s e h = subst (λ q. AllByRecursion (TermMeant m symbols) (terms_of q)) (same_Some _ _ e) h
+  content-terms (step kind js ss g r) s e h = subst (λ q. AllByRecursion (TermMeant m symbols) (terms_of q)) (same_Some _ _ e) h
 
   content-type : (name : List ℕ) (c : Content) (s : Sequent) → says c ≡ Some s → (declaration_of symbols name c).ty ≡ sequent_tree symbols s
   content-type name (operator n k) s e = absurd (cc)
   content-type name (constant n a) s e = absurd (cc)
   content-type name (defined_constant n a t) s e = absurd (cc)
-  content-type name (unproved r) s e = ap (sequent_tree symbols) (some_is e)
-  content-type name (step kind js ss g r) s e = ap (sequent_tree symbols) (some_is e)
+  content-type name (unproved r) s e = ap (sequent_tree symbols) (same_Some _ _ e)
+  content-type name (step kind js ss g r) s e = ap (sequent_tree symbols) (same_Some _ _ e)
 
   meant-instances : (t : Term) → TermMeant m symbols t → AreInstances symbols t
   meant-instances (term.Term.free n t) h = tt
@@ -236,7 +233,7 @@ module _ (run : Accepted) (named : HasNames run) (sound : IsSoundRun run) where
         silent ss c name (IsSymbolName.a_constant n is e w) s f = silent-constant n c e s f
         silent ss c name (IsSymbolName.an_operator names a g is among e w) s f = let g : None ≡ Some s = sym (ap says e) ∙ f in absurd (cc)
     stand z meant (IsKind.saying i x at e) s f =
-        let same : x.sequent ≡ s = some_is (sym e ∙ f) in
+        let same : x.sequent ≡ s = same_Some _ _ (sym e ∙ f) in
         let got : slice_get (sequents_of run.made) i ≡ Some x.sequent = get-map (λ (y : Step). y.sequent) (steps_of run.made) i x at in
         let is : IsSequent x.sequent = All-get IsSequent (sequents_of run.made) i x.sequent (proof-sequents run.made sound.proof) got in
         let within : SequentWithin x.sequent = All-get SequentWithin (sequents_of run.made) i x.sequent (within-all run.made sound.over) got in
@@ -255,7 +252,7 @@ module _ (run : Accepted) (named : HasNames run) (sound : IsSoundRun run) where
     each-stays P before [] h f i d e = absurd (cc)
     each-stays P before (z ∷ zs) h f zero d e =
         let n : length before + 0 ≡ length before = omega arith in
-        subst (P (length lemmas + (length before + 0))) (some_is e) (subst (λ k. P (length lemmas + k) (declaration symbols z)) (sym n) (f z (inl refl) (length lemmas + length before) (sym h.0)))
+        subst (P (length lemmas + (length before + 0))) (same_Some _ _ e) (subst (λ k. P (length lemmas + k) (declaration symbols z)) (sym n) (f z (inl refl) (length lemmas + length before) (sym h.0)))
     each-stays P before (z ∷ zs) h f (suc i) d e =
         let l = length-append before (z ∷ []) in
         let n : length (before ++ z ∷ []) + i ≡ length before + suc i = omega (arith, l) in
@@ -263,8 +260,8 @@ module _ (run : Accepted) (named : HasNames run) (sound : IsSoundRun run) where
 
     pub each-declaration : (P : ℕ → Declaration → Type 0) → P 0 sym_lemma → P 1 trans_lemma → ((z : Item) → IsIn items z → keep z.symbol ≡ true → (i : ℕ) → length signature + i ≡ number z.symbol → P i (declared z))
         → (i : ℕ) (d : Declaration) → slice_get m i ≡ Some d → P i d
-    each-declaration P one two f zero d e = subst (P 0) (some_is e) one
-    each-declaration P one two f (suc zero) d e = subst (P 1) (some_is e) two
+    each-declaration P one two f zero d e = subst (P 0) (same_Some _ _ e) one
+    each-declaration P one two f (suc zero) d e = subst (P 1) (same_Some _ _ e) two
     each-declaration P one two f (suc (suc i)) d e =
         let n : length lemmas + (0 + i) ≡ suc (suc i) = omega arith in
         subst (λ k. P k d) n

@@ -23,20 +23,13 @@ use Rattle.module_spec.specs.Reach.{Key, operator_key, constant_key, number_key,
 use Rattle.module_spec.specs.Stands.{occurs}
 use Rattle.module_laws.specs.TermScopeLaws.{AreInstances}
 use Rattle.module_laws.specs.TheoremTyping.{HasInstances}
+use Rattle.proof_laws.specs.SymbolGrowth.{or-first, or-second}
 
 -- the symbol of a key
 abbrev pub symbol_of_key : Symbols → Key → ℕ
 symbol_of_key symbols (operator_key n k) = operator_symbol symbols n k
 symbol_of_key symbols (constant_key n) = constant_symbol symbols n
 symbol_of_key symbols (number_key i) = i
-
-or-left : (a b : Bool) → a ≡ true → (a || b) ≡ true
-or-left true b e = refl
-or-left false b e = absurd (cc)
-
-or-right : (a b : Bool) → b ≡ true → (a || b) ≡ true
-or-right true b e = refl
-or-right false b e = e
 
 self : (s : ℕ) → nat_eq s s ≡ true
 self s = (unsigned_Decides s s).1 refl
@@ -45,14 +38,14 @@ self s = (unsigned_Decides s s).1 refl
 module _ (s : ℕ) where
   pub head-occurs : (f : Tree) (xs : List Tree) → occurs s f ≡ true → occurs s (applied f xs) ≡ true
   head-occurs f [] e = e
-  head-occurs f (x ∷ xs) e = head-occurs (App f x) xs (or-left (occurs s f) (occurs s x) e)
+  head-occurs f (x ∷ xs) e = head-occurs (App f x) xs (or-first (occurs s f) (occurs s x) e)
 
   pub argument-occurs : (f : Tree) (xs : List Tree) → list_any (occurs s) xs ≡ true → occurs s (applied f xs) ≡ true
   argument-occurs f [] e = absurd (cc)
   argument-occurs f (x ∷ xs) e = go (occurs s x) refl e (argument-occurs (App f x) xs)
     where
       go : (b : Bool) → occurs s x ≡ b → (b || list_any (occurs s) xs) ≡ true → (list_any (occurs s) xs ≡ true → occurs s (applied (App f x) xs) ≡ true) → occurs s (applied (App f x) xs) ≡ true
-      go true is e rest = head-occurs (App f x) xs (or-right (occurs s f) (occurs s x) is)
+      go true is e rest = head-occurs (App f x) xs (or-second (occurs s f) (occurs s x) is)
       go false is e rest = rest e
 
   pub domain-occurs : (domains : List Tree) (t : Tree) → list_any (occurs s) domains ≡ true → occurs s (products domains t) ≡ true
@@ -65,7 +58,7 @@ module _ (s : ℕ) where
 
   pub end-occurs : (domains : List Tree) (t : Tree) → occurs s t ≡ true → occurs s (products domains t) ≡ true
   end-occurs [] t e = e
-  end-occurs (d ∷ domains) t e = or-right (occurs s d) (occurs s (products domains t)) (end-occurs domains t e)
+  end-occurs (d ∷ domains) t e = or-second (occurs s d) (occurs s (products domains t)) (end-occurs domains t e)
 
   any-left : (xs ys : List Tree) → list_any (occurs s) xs ≡ true → list_any (occurs s) (xs ++ ys) ≡ true
   any-left [] ys e = absurd (cc)
@@ -77,7 +70,7 @@ module _ (s : ℕ) where
 
   any-right : (xs ys : List Tree) → list_any (occurs s) ys ≡ true → list_any (occurs s) (xs ++ ys) ≡ true
   any-right [] ys e = e
-  any-right (x ∷ xs) ys e = or-right (occurs s x) (list_any (occurs s) (xs ++ ys)) (any-right xs ys e)
+  any-right (x ∷ xs) ys e = or-second (occurs s x) (list_any (occurs s) (xs ++ ys)) (any-right xs ys e)
 
 module _ (symbols : Symbols) (k : Key) where
   abbrev s : ℕ
@@ -94,8 +87,8 @@ module _ (symbols : Symbols) (k : Key) where
     types-use : (ts : HolTypes) → IsIn (types_keys ts) k → (scope : TypeScope) → list_any (occurs s) (type_trees symbols scope ts) ≡ true
     types-use type.HolTypes.none i scope = absurd i
     types-use (type.HolTypes.more t ts) i scope = elim (IsIn-either (type_keys t) (types_keys ts) k i) [
-      | inl j ↦ or-left (occurs s (type_tree symbols scope t)) (list_any (occurs s) (type_trees symbols scope ts)) (type-uses t j scope)
-      | inr j ↦ or-right (occurs s (type_tree symbols scope t)) (list_any (occurs s) (type_trees symbols scope ts)) (types-use ts j scope)
+      | inl j ↦ or-first (occurs s (type_tree symbols scope t)) (list_any (occurs s) (type_trees symbols scope ts)) (type-uses t j scope)
+      | inr j ↦ or-second (occurs s (type_tree symbols scope t)) (list_any (occurs s) (type_trees symbols scope ts)) (types-use ts j scope)
     ]
 
   mutual
@@ -128,8 +121,8 @@ module _ (symbols : Symbols) (k : Key) where
   mapped-use : (f : Name → HolType) (vs : List Name) (n : Name) → IsIn vs n → IsIn (type_keys (f n)) k → (scope : TypeScope) → list_any (occurs s) (map (type_tree symbols scope) (map f vs)) ≡ true
   mapped-use f [] n i h scope = absurd i
   mapped-use f (v ∷ vs) n (inl e) h scope =
-      or-left (occurs s (type_tree symbols scope (f v))) (list_any (occurs s) (map (type_tree symbols scope) (map f vs))) (type-uses (f v) (subst (λ m. IsIn (type_keys (f m)) k) e h) scope)
-  mapped-use f (v ∷ vs) n (inr i) h scope = or-right (occurs s (type_tree symbols scope (f v))) (list_any (occurs s) (map (type_tree symbols scope) (map f vs))) (mapped-use f vs n i h scope)
+      or-first (occurs s (type_tree symbols scope (f v))) (list_any (occurs s) (map (type_tree symbols scope) (map f vs))) (type-uses (f v) (subst (λ m. IsIn (type_keys (f m)) k) e h) scope)
+  mapped-use f (v ∷ vs) n (inr i) h scope = or-second (occurs s (type_tree symbols scope (f v))) (list_any (occurs s) (map (type_tree symbols scope) (map f vs))) (mapped-use f vs n i h scope)
 
   -- a term uses what it mentions in each scope, or mentions it in the type of a free variable, or uses a constant whose generic type mentions it
   pub data TermUses (t : Term) : Type 0 where
@@ -149,20 +142,20 @@ module _ (symbols : Symbols) (k : Key) where
       ]
 
   in-function : (f x : Term) → TermUses f → TermUses (term.Term.app f x)
-  in-function f x (TermUses.itself h) = TermUses.itself (λ scope. or-left (occurs s (term_tree symbols scope f)) (occurs s (term_tree symbols scope x)) (h scope))
+  in-function f x (TermUses.itself h) = TermUses.itself (λ scope. or-first (occurs s (term_tree symbols scope f)) (occurs s (term_tree symbols scope x)) (h scope))
   in-function f x (TermUses.by_variable v i h) = TermUses.by_variable v (IsIn-left (free_places f) (free_places x) v i) h
-  in-function f x (TermUses.by_constant n h i) = TermUses.by_constant n (λ scope. or-left (occurs (constant_symbol symbols n) (term_tree symbols scope f)) (occurs (constant_symbol symbols n) (term_tree symbols scope x)) (h scope)) i
+  in-function f x (TermUses.by_constant n h i) = TermUses.by_constant n (λ scope. or-first (occurs (constant_symbol symbols n) (term_tree symbols scope f)) (occurs (constant_symbol symbols n) (term_tree symbols scope x)) (h scope)) i
 
   in-argument : (f x : Term) → TermUses x → TermUses (term.Term.app f x)
-  in-argument f x (TermUses.itself h) = TermUses.itself (λ scope. or-right (occurs s (term_tree symbols scope f)) (occurs s (term_tree symbols scope x)) (h scope))
+  in-argument f x (TermUses.itself h) = TermUses.itself (λ scope. or-second (occurs s (term_tree symbols scope f)) (occurs s (term_tree symbols scope x)) (h scope))
   in-argument f x (TermUses.by_variable v i h) = TermUses.by_variable v (IsIn-right (free_places f) (free_places x) v i) h
-  in-argument f x (TermUses.by_constant n h i) = TermUses.by_constant n (λ scope. or-right (occurs (constant_symbol symbols n) (term_tree symbols scope f)) (occurs (constant_symbol symbols n) (term_tree symbols scope x)) (h scope)) i
+  in-argument f x (TermUses.by_constant n h i) = TermUses.by_constant n (λ scope. or-second (occurs (constant_symbol symbols n) (term_tree symbols scope f)) (occurs (constant_symbol symbols n) (term_tree symbols scope x)) (h scope)) i
 
   in-body : (t : HolType) (b : Term) → TermUses b → TermUses (term.Term.lam t b)
-  in-body t b (TermUses.itself h) = TermUses.itself (λ scope. or-right (occurs s (term_of (type_tree symbols scope.types t))) (occurs s (term_tree symbols (inside scope) b)) (h (inside scope)))
+  in-body t b (TermUses.itself h) = TermUses.itself (λ scope. or-second (occurs s (term_of (type_tree symbols scope.types t))) (occurs s (term_tree symbols (inside scope) b)) (h (inside scope)))
   in-body t b (TermUses.by_variable v i h) = TermUses.by_variable v i h
   in-body t b (TermUses.by_constant n h i) =
-      TermUses.by_constant n (λ scope. or-right (occurs (constant_symbol symbols n) (term_of (type_tree symbols scope.types t))) (occurs (constant_symbol symbols n) (term_tree symbols (inside scope) b)) (h (inside scope))) i
+      TermUses.by_constant n (λ scope. or-second (occurs (constant_symbol symbols n) (term_of (type_tree symbols scope.types t))) (occurs (constant_symbol symbols n) (term_tree symbols (inside scope) b)) (h (inside scope))) i
 
   pub term-uses : (t : Term) → AreInstances symbols t → IsIn (term_keys t) k → TermUses t
   term-uses (term.Term.free n t) h i = TermUses.by_variable (n, t) (inl refl) i
@@ -176,8 +169,8 @@ module _ (symbols : Symbols) (k : Key) where
     | inr j ↦ in-argument f x (term-uses x h.1 j)
   ]
   term-uses (term.Term.lam t b) h i = elim (IsIn-either (type_keys t) (term_keys b) k i) [
-    | inl j ↦ TermUses.itself (λ scope. or-left (occurs s (term_of (type_tree symbols scope.types t))) (occurs s (term_tree symbols (inside scope) b))
-        (or-right (nat_eq s 4) (occurs s (type_tree symbols scope.types t)) (type-uses t j scope.types)))
+    | inl j ↦ TermUses.itself (λ scope. or-first (occurs s (term_of (type_tree symbols scope.types t))) (occurs s (term_tree symbols (inside scope) b))
+        (or-second (nat_eq s 4) (occurs s (type_tree symbols scope.types t)) (type-uses t j scope.types)))
     | inr j ↦ in-body t b (term-uses b h j)
   ]
 
@@ -190,18 +183,18 @@ module _ (symbols : Symbols) (k : Key) where
   variable-domain : (vs : List Variable) (v : Variable) → IsIn vs v → IsIn (type_keys v.1) k → (scope : Scope) → list_any (occurs s) (term_domains symbols vs scope) ≡ true
   variable-domain [] v i h scope = absurd i
   variable-domain (w ∷ vs) v (inl e) h scope =
-      or-left (occurs s (term_of (type_tree symbols scope.types w.1))) (list_any (occurs s) (term_domains symbols vs (under_term w scope)))
-      (or-right (nat_eq s 4) (occurs s (type_tree symbols scope.types w.1)) (type-uses w.1 (subst (λ (u : Variable). IsIn (type_keys u.1) k) e h) scope.types))
+      or-first (occurs s (term_of (type_tree symbols scope.types w.1))) (list_any (occurs s) (term_domains symbols vs (under_term w scope)))
+      (or-second (nat_eq s 4) (occurs s (type_tree symbols scope.types w.1)) (type-uses w.1 (subst (λ (u : Variable). IsIn (type_keys u.1) k) e h) scope.types))
   variable-domain (w ∷ vs) v (inr i) h scope =
-      or-right (occurs s (term_of (type_tree symbols scope.types w.1))) (list_any (occurs s) (term_domains symbols vs (under_term w scope))) (variable-domain vs v i h (under_term w scope))
+      or-second (occurs s (term_of (type_tree symbols scope.types w.1))) (list_any (occurs s) (term_domains symbols vs (under_term w scope))) (variable-domain vs v i h (under_term w scope))
 
   formula-domain : (r : ℕ) (hs : List Term) (h : Term) → IsIn hs h → ((scope : Scope) → occurs r (term_tree symbols scope h) ≡ true) → (scope : Scope) → list_any (occurs r) (proof_domains symbols hs scope) ≡ true
   formula-domain r [] h i f scope = absurd i
   formula-domain r (g ∷ hs) h (inl e) f scope =
-      or-left (occurs r (proof_of (term_tree symbols scope g))) (list_any (occurs r) (proof_domains symbols hs (under_proof g scope)))
-      (or-right (nat_eq r 7) (occurs r (term_tree symbols scope g)) (ap (λ u. occurs r (term_tree symbols scope u)) (sym e) ∙ f scope))
+      or-first (occurs r (proof_of (term_tree symbols scope g))) (list_any (occurs r) (proof_domains symbols hs (under_proof g scope)))
+      (or-second (nat_eq r 7) (occurs r (term_tree symbols scope g)) (ap (λ u. occurs r (term_tree symbols scope u)) (sym e) ∙ f scope))
   formula-domain r (g ∷ hs) h (inr i) f scope =
-      or-right (occurs r (proof_of (term_tree symbols scope g))) (list_any (occurs r) (proof_domains symbols hs (under_proof g scope))) (formula-domain r hs h i f (under_proof g scope))
+      or-second (occurs r (proof_of (term_tree symbols scope g))) (list_any (occurs r) (proof_domains symbols hs (under_proof g scope))) (formula-domain r hs h i f (under_proof g scope))
 
   module _ (q : Sequent) (instances : HasInstances symbols q) where
     -- a term of the sequent, wherever it stands
@@ -211,7 +204,7 @@ module _ (symbols : Symbols) (k : Key) where
           (any-right r (map (λ n. types) (type_variables_of q) ++ term_domains symbols (free_variables_of q) (scope_of_types symbols q)) (proof_domains symbols q.hypotheses (scope_of_terms symbols q))
           (formula-domain r q.hypotheses t j f (scope_of_terms symbols q)))
       | inr (inl e) ↦ end-occurs r (domains_of symbols q) (conclusion_tree symbols q)
-          (or-right (nat_eq r 7) (occurs r (term_tree symbols (scope_of symbols q) q.conclusion)) (ap (λ u. occurs r (term_tree symbols (scope_of symbols q) u)) (sym e) ∙ f (scope_of symbols q)))
+          (or-second (nat_eq r 7) (occurs r (term_tree symbols (scope_of symbols q) q.conclusion)) (ap (λ u. occurs r (term_tree symbols (scope_of symbols q) u)) (sym e) ∙ f (scope_of symbols q)))
       | inr (inr none) ↦ absurd none
     ]
 

@@ -19,6 +19,7 @@ use Rattle.module_spec.specs.TypeEnc.{Place, place, StandsForType}
 use Rattle.module_spec.specs.Enc.{Enc}
 use Rattle.module_spec.specs.Stands.{uses, IsGiven, IsReached, IsUnproved}
 use Rattle.article_spec.proofs.SmallArticles.{boolean}
+use Rattle.spec_examples.proofs.SmallRuns.{own_lines}
 
 abbrev pub p : Term
 p = boolean (codes "p")
@@ -77,6 +78,12 @@ the_assumption = refl
 the_export : slice_get m 3 ≡ Some export
 unfolding digits
 the_export = refl
+
+its_lines : own_lines run
+    ≡ codes "A0 : v0 : term bool -> v1 : term bool -> v2 : proof v0 -> proof v1"
+    ∷ codes "E0 : v0 : term bool -> v1 : term bool -> v2 : term bool -> v3 : proof v0 -> v4 : proof v1 -> proof v2 := v0 : term bool => v1 : term bool => v2 : term bool => v3 : proof v0 => v4 : proof v1 => A0 v0 v2 v3" ∷ []
+unfolding digits
+its_lines = refl
 
 -- what the types stand for
 bool_stands : (at : Place) → StandsForType m closed_bool at bools

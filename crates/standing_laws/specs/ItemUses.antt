@@ -1,5 +1,5 @@
 -- The declaration of an item uses the symbol of each key that the item needs, or a constant whose generic type mentions it.
-use Rattle.std.proofs.Common.{◌≡◌, ℕ, List, [], ◌∷◌, ◌++◌, map, Bool, true, false, ◌||◌, ◌⊎◌, Some, inl, inr, refl, sym, ap, subst, ◌∙◌}
+use Rattle.std.proofs.Common.{◌≡◌, ℕ, List, [], ◌∷◌, ◌++◌, map, true, false, ◌⊎◌, Some, inl, inr, refl, sym, ap, subst, ◌∙◌}
 use Rattle.std.specs.Prelude.{nat_eq}
 use Rattle.std.specs.Cmp.{unsigned_Decides}
 use Rattle.std.specs.Option.{option_map_or}
@@ -9,7 +9,7 @@ use Rattle.hol_spec.specs.Types.{HolType, type_variables}
 use Rattle.hol_spec.specs.Primitives.{equality_name, equality_type}
 use Rattle.hol_spec.specs.Substitution.{type_arguments}
 use Rattle.hol_spec.specs.Terms as term
-use Rattle.hol_spec.specs.Terms.{Term, Variable, equation, free_places}
+use Rattle.hol_spec.specs.Terms.{Term, Variable, free_places, equation}
 use Rattle.hol_spec.specs.TermSubstitution.{term_image}
 use Rattle.hol_laws.specs.TermInstances.{substitute-nothing}
 use Rattle.hol_spec.specs.DefinitionLists.{ConstantPairs, is_definition_list, constants_put}
@@ -37,6 +37,7 @@ use Rattle.run_laws.specs.PremiseUses.{ProvesHypothesis, premises-used}
 use Rattle.standing_laws.specs.Keys.{flat-from}
 use Rattle.standing_laws.specs.ModuleItems.{has-told, has-among, term-instances, sequent-instances}
 use Rattle.standing_laws.specs.ListedVariables.{listed-free, listed-variable, constant-put, put-from}
+use Rattle.proof_laws.specs.SymbolGrowth.{or-first, or-second}
 
 -- the premise that proves a hypothesis proves one of the other premise
 abbrev pub IsUsing : Content → Type 0
@@ -51,28 +52,20 @@ pub data KeyUses (symbols : Symbols) (k : Key) (d : Declaration) : Type 0 where
   it : uses d (symbol_of_key symbols k) ≡ true → KeyUses symbols k d
   by_constant : (n : Name) → uses d (constant_symbol symbols n) ≡ true → IsIn (type_keys (generic_type symbols n)) k → KeyUses symbols k d
 
-or-left : (a b : Bool) → a ≡ true → (a || b) ≡ true
-or-left true b e = refl
-or-left false b e = absurd (cc)
-
-or-right : (a b : Bool) → b ≡ true → (a || b) ≡ true
-or-right true b e = refl
-or-right false b e = e
-
 pub type-use : (d : Declaration) (r : ℕ) → occurs r d.ty ≡ true → uses d r ≡ true
-type-use d r e = or-left (occurs r d.ty) (option_map_or (occurs r) d.body false) e
+type-use d r e = or-first (occurs r d.ty) (option_map_or (occurs r) d.body false) e
 
 body-use : (d : Declaration) (r : ℕ) (b : Tree) → d.body ≡ Some b → occurs r b ≡ true → uses d r ≡ true
-body-use d r b is e = or-right (occurs r d.ty) (option_map_or (occurs r) d.body false) (ap (λ o. option_map_or (occurs r) o false) is ∙ e)
+body-use d r b is e = or-second (occurs r d.ty) (option_map_or (occurs r) d.body false) (ap (λ o. option_map_or (occurs r) o false) is ∙ e)
 
 under-abstractions : (r : ℕ) (domains : List Tree) (t : Tree) → occurs r t ≡ true → occurs r (abstractions domains t) ≡ true
 under-abstractions r [] t e = e
-under-abstractions r (a ∷ domains) t e = or-right (occurs r a) (occurs r (abstractions domains t)) (under-abstractions r domains t e)
+under-abstractions r (a ∷ domains) t e = or-second (occurs r a) (occurs r (abstractions domains t)) (under-abstractions r domains t e)
 
 any-at : (r : ℕ) (ts : List Tree) (t : Tree) → IsIn ts t → occurs r t ≡ true → list_any (occurs r) ts ≡ true
 any-at r [] t i e = absurd i
-any-at r (u ∷ ts) t (inl is) e = or-left (occurs r u) (list_any (occurs r) ts) (ap (occurs r) (sym is) ∙ e)
-any-at r (u ∷ ts) t (inr i) e = or-right (occurs r u) (list_any (occurs r) ts) (any-at r ts t i e)
+any-at r (u ∷ ts) t (inl is) e = or-first (occurs r u) (list_any (occurs r) ts) (ap (occurs r) (sym is) ∙ e)
+any-at r (u ∷ ts) t (inr i) e = or-second (occurs r u) (list_any (occurs r) ts) (any-at r ts t i e)
 
 module _ (symbols : Symbols) (k : Key) where
   -- the type of a constant uses what its generic type mentions
@@ -80,7 +73,7 @@ module _ (symbols : Symbols) (k : Key) where
   generic-uses a i =
       let r = symbol_of_key symbols k in
       let scope = under_types (type_variables a) unfilled in
-      end-occurs r (map (λ n. types) (type_variables a)) (term_of (type_tree symbols scope a)) (or-right (nat_eq r 4) (occurs r (type_tree symbols scope a)) (type-uses symbols k a i scope))
+      end-occurs r (map (λ n. types) (type_variables a)) (term_of (type_tree symbols scope a)) (or-second (nat_eq r 4) (occurs r (type_tree symbols scope a)) (type-uses symbols k a i scope))
 
   in-type : (d : Declaration) → TreeUses symbols k d.ty → KeyUses symbols k d
   in-type d (TreeUses.it e) = KeyUses.it (type-use d (symbol_of_key symbols k) e)

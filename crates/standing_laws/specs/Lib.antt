@@ -1,7 +1,10 @@
 pub mod ByteNames
+pub mod CountedModules
+pub mod CountedRows
 pub mod FewCommands
 pub mod ItemUses
 pub mod Keys
+pub mod LackingTrees
 pub mod ListedVariables
 pub mod ModuleItems
 pub mod NamedBuilding
@@ -10,5 +13,8 @@ pub mod NamedInference
 pub mod NamedRuns
 pub mod NamedStates
 pub mod NeededItems
+pub mod ParameterCounts
+pub mod PlaceCounts
 pub mod RootItems
 pub mod StandingRuns
+pub mod TypedBodies

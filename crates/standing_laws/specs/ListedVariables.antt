@@ -3,6 +3,7 @@ use Rattle.std.proofs.Common.{◌≡◌, List, [], ◌∷◌, Bool, true, false,
 use Rattle.std.specs.Prelude.{is_some, not, unwrap_or}
 use Rattle.std.specs.Map.{lookup}
 use Rattle.std.specs.List.{filter, filter_map, cons_option, flat_map}
+use Rattle.std.proofs.lemmas.Option.{same_Some}
 use Rattle.hol_spec.specs.Names.{Name}
 use Rattle.hol_spec.specs.Types.{HolType}
 use Rattle.hol_spec.specs.Lists.{IsIn, is_in}
@@ -14,9 +15,9 @@ use Rattle.hol_spec.specs.Sequents.{Sequent, terms_of, free_variables_of}
 use Rattle.hol_spec.specs.Repeats.{no_repeats}
 use Rattle.hol_spec.specs.Equations.{Equation, equation_parts}
 use Rattle.hol_spec.specs.DefinitionLists.{ConstantPairs, variables_of, variable_side, of_equation, variable_equation, defining_equations, definiens, is_definition_list, constants_put}
-use Rattle.proof_laws.specs.EquationLaws.{equation_parts-is, some_is}
+use Rattle.proof_laws.specs.EquationLaws.{equation_parts-is}
 use Rattle.proof_laws.specs.RuleTaken.{both, list_parts}
-use Rattle.proof_laws.specs.DefinitionListLaws.{passes}
+use Rattle.proof_laws.specs.DefinitionListLaws.{passes, not-is}
 
 -- what is in a list passes the test
 in-list : (vs : List Variable) (v : Variable) → IsIn vs v → is_in variable_eq v vs ≡ true
@@ -56,7 +57,7 @@ filtered-from f p (x ∷ hs) e i = by_option (f x) refl i (filtered-from f p hs 
 
 -- the variable of an equation is free in it
 side-free : (l r : Term) (a : HolType) (e : Variable × Term) → variable_side l r ≡ Some e → IsIn (free_places (equation a l r)) e.0
-side-free (free n b) r a e h = inl (ap (λ (q : Variable × Term). q.0) (sym (some_is h)))
+side-free (free n b) r a e h = inl (ap (λ (q : Variable × Term). q.0) (sym (same_Some _ _ h)))
 side-free l r a e h = absurd (cc)
 
 equation-free : (h : Term) (o : Option Equation) → equation_parts h ≡ o → (e : Variable × Term) → of_equation o ≡ Some e → IsIn (free_places h) e.0
@@ -78,10 +79,6 @@ listed-free pairs one good v i =
     let place = subst (IsIn (free_places h.0)) e.2 (equation-free h.0 (equation_parts h.0) refl e.0 h.2) in
     IsIn-distinct variable_eq variable_eq-Decides (flat_map free_places (terms_of one)) v
     (flat-IsIn free_places (terms_of one) h.0 v (IsIn-left one.hypotheses (one.conclusion ∷ []) h.0 h.1) place)
-
-not-is : (b : Bool) → not b ≡ true → b ≡ false
-not-is true e = absurd (cc)
-not-is false e = refl
 
 differ : {A : Type 0} (b : Bool) → b ≡ true → b ≡ false → A
 differ b e f = let g : true ≡ false = sym e ∙ f in absurd (cc)

@@ -1,6 +1,6 @@
 -- The items of a module: where each is declared, what it asks of those before it, and which item is a constant whose generic type mentions
 -- what isn't primitive.
-use Rattle.std.proofs.Common.{◌≡◌, ℕ, suc, ◌+◌, List, [], ◌∷◌, ◌++◌, map, length, Bool, true, false, cond, ◌⊎◌, Option, Some, None, inl, inr, slice_get, refl, sym, ap, subst, ◌∙◌, append_assoc, arith}
+use Rattle.std.proofs.Common.{◌≡◌, ℕ, ◌+◌, List, [], ◌∷◌, ◌++◌, map, length, Bool, true, false, cond, ◌⊎◌, Option, Some, None, inl, inr, slice_get, refl, sym, ap, subst, ◌∙◌, append_assoc}
 use Rattle.std.specs.Prelude.{unwrap_or}
 use Rattle.std.specs.List.{AllByRecursion}
 use Rattle.std.proofs.lemmas.List.{map-append, length-map}
@@ -25,14 +25,8 @@ use Rattle.module_laws.specs.MadeModules.{IsNew, AreMade, items-made}
 use Rattle.module_laws.specs.TermScopeLaws.{AreInstances}
 use Rattle.module_laws.specs.TheoremTyping.{HasInstances}
 use Rattle.run_laws.specs.Uses.{symbol_of_key}
-
-skip : {A : Type 0} (xs ys : List A) (k : ℕ) → slice_get (xs ++ ys) (length xs + k) ≡ slice_get ys k
-skip [] ys k = let z : 0 + k ≡ k = omega arith in ap (slice_get ys) z
-skip (x ∷ xs) ys k = let z : suc (length xs) + k ≡ suc (length xs + k) = omega arith in ap (slice_get (x ∷ (xs ++ ys))) z ∙ skip xs ys k
-
-seam : {A : Type 0} (xs ys : List A) (y : A) → slice_get (xs ++ y ∷ ys) (length xs) ≡ Some y
-seam [] ys y = refl
-seam (x ∷ xs) ys y = seam xs ys y
+use Rattle.lp_shape.specs.PricedModules.{slice_get-front}
+use Rattle.run_laws.specs.Standing.{skip}
 
 -- where an item is declared
 pub record IsPlaced (xs : List Item) (z : Item) : Type 0 where
@@ -53,7 +47,7 @@ module _ (xs : List Item) where
       let D = declaration (symbols_of xs) in
       skip lemmas (map D xs) (length before)
       ∙ ap (λ l. slice_get (map D l) (length before)) whole ∙ ap (λ l. slice_get l (length before)) (map-append D before (z ∷ ys))
-      ∙ ap (slice_get (map D before ++ map D (z ∷ ys))) (sym (length-map before D)) ∙ seam (map D before) (map D ys) (D z)
+      ∙ ap (slice_get (map D before ++ map D (z ∷ ys))) (sym (length-map before D)) ∙ slice_get-front (map D before) (map D ys) (D z)
 
   placed-after : (before ys : List Item) → xs ≡ before ++ ys → AreMade before ys → (z : Item) → IsIn ys z → IsPlaced xs z
   placed-after before [] whole h z i = absurd i

@@ -1,5 +1,5 @@
 -- The words that build objects keep the names of a state: they make names, operators and constants of names alone, and take inputs of few arguments.
-use Rattle.std.proofs.Common.{◌≡◌, ℕ, ◌+◌, ◌<◌, ◌^◌, List, [], ◌∷◌, length, Bool, true, false, cond, Ok, refl, ap, ◌∙◌, arith}
+use Rattle.std.proofs.Common.{◌≡◌, ℕ, ◌<◌, ◌^◌, List, [], ◌∷◌, length, Bool, true, false, cond, Ok, arith}
 use Rattle.std.specs.Prelude.{◌||◌, is_some}
 use Rattle.std.specs.Option.{ok_or}
 use Rattle.std.specs.List.{AllByRecursion, list_any}
@@ -14,7 +14,7 @@ use Rattle.hol_spec.specs.Limits.{TypeWithin}
 use Rattle.hol_spec.specs.Symbols.{Symbol, input_constant, input_operator, generic_type, operator_arity, is_taken_constant, is_input_operator, new_constant, new_operator}
 use Rattle.hol_spec.specs.Rules.{abstraction}
 use Rattle.hol_spec.specs.Proofs.{symbols_of}
-use Rattle.article_spec.specs.State.{Object, State}
+use Rattle.article_spec.specs.State.{State, Object}
 use Rattle.article_spec.specs.State as object
 use Rattle.article_spec.specs.Operands.{as_number, as_name, as_list, as_type_operator, as_type, as_types, as_constant, as_variable, as_term, any_object, head_and_tail, pop}
 use Rattle.article_spec.specs.Conditions.{demand, type_in_limits, term_in_limits, arity_fits, generic_fits}
@@ -22,6 +22,7 @@ use Rattle.article_spec.specs.Building.{nil, cons, hd_tl, type_op, var_type, op_
 use Rattle.article_laws.specs.SoundStates.{bound, passed, found, type_limits}
 use Rattle.run_laws.specs.Named.{SymbolHasName}
 use Rattle.standing_laws.specs.NamedStates.{IsNamed, AreNamed, IsNamedState, Follows, object-gives, list-gives, name-gives, type_operator-gives, constant-gives, pop-gives, popped, head_and_tail-gives, answers, stacked, taking, inserted, taken_out}
+use Rattle.article_laws.specs.SoundBuilding.{count-types}
 
 -- words that take no symbol
 pub nil-named : (s t : State) → IsNamedState s → nil s ≡ Ok t → Follows s t
@@ -54,16 +55,11 @@ var_type-named s t g e =
     let n = bound (pop as_name s.stack) _ t e in
     stacked s t (object.type (HolType.variable n.0.0) ∷ n.0.1) n.2 g (tt {0}, popped as_name s.stack n.0 g.stack n.1)
 
--- an operator within the limits has few arguments
-types_of-count : (ts : List HolType) → count (types_of ts) ≡ length ts
-types_of-count [] = refl
-types_of-count (t ∷ ts) = ap (λ k. k + 1) (types_of-count ts) ∙ grind arith
-
 arguments-few : (n : Name) (ts : List HolType) → TypeWithin (HolType.operator n (types_of ts)) → length ts < 2 ^ 64
 arguments-few n ts h =
     let most = le-max_right 1 (count (types_of ts)) in
     let deep = h.depth in
-    let same = types_of-count ts in
+    let same = count-types ts in
     omega (arith, most, deep, same)
 
 -- inputs that are newly taken

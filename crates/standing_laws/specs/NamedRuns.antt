@@ -1,5 +1,5 @@
 -- Every accepted run over so few articles of bytes has names, so its module stands for it.
-use Rattle.std.proofs.Common.{◌≡◌, ℕ, ◌+◌, ◌*◌, ◌<◌, ◌≤◌, ◌^◌, ℤ, List, [], ◌∷◌, length, Result, Ok, Err, None, Some, refl, sym, ap, subst, ◌∙◌, arith}
+use Rattle.std.proofs.Common.{◌≡◌, ℕ, ◌+◌, ◌*◌, ◌<◌, ◌≤◌, ◌^◌, ℤ, List, [], ◌∷◌, length, Result, Ok, None, Some, refl, sym, ap, subst, ◌∙◌, arith}
 use Rattle.std.specs.Prelude.{pos, drop}
 use Rattle.std.specs.List.{AllByRecursion}
 use Rattle.std.specs.Ordering.{int_eq, int_cmp}
@@ -30,6 +30,7 @@ use Rattle.standing_laws.specs.NamedBuilding.{nil-named, cons-named, hd_tl-named
 use Rattle.standing_laws.specs.NamedInference.{refl-named, assume-named, eq_mp-named, abs_thm-named, app_thm-named, deduct_antisym-named, beta_conv-named, sym-named, trans-named, prove_hyp-named, subst-named, axiom-named, thm-named}
 use Rattle.standing_laws.specs.NamedDefining.{define_const-named, define_const_list-named, define_type_op-named}
 use Rattle.standing_laws.specs.StandingRuns.{runs_stand}
+use Rattle.article_laws.specs.SoundSteps.{on_line}
 
 -- WORDS
 obey-named : (s t : State) (w : Word) → IsNamedState s → obey s w ≡ Ok t → Follows s t
@@ -108,11 +109,6 @@ finish-named s t g e =
 initial-named : IsNamedState initial
 initial-named = record { stack = tt {0}; dictionary = nothing-kept; made = tt {0} }
 
--- ARTICLES
-on_line : (line : ℕ) (a : Result State Kind) (t : State) → at_line line a ≡ Ok t → a ≡ Ok t
-on_line line (Ok s) t e = cc
-on_line line (Err k) t e = absurd (cc)
-
 -- what commands make: names are kept, and steps are few
 record Makes (s t : State) (steps : ℕ) : Type 0 where
   named : IsNamedState t
@@ -175,14 +171,14 @@ symbols-named (Made.symbol x ∷ made) h = (h.0, symbols-named made h.1)
 symbols-named (Made.step x ∷ made) h = symbols-named made h.1
 
 -- EVERY ACCEPTED RUN OVER SO FEW ARTICLES OF BYTES HAS NAMES
-pub run-has_names : (articles : List (List ℕ)) (run : Accepted) → AllByRecursion AreBytes articles → length articles < 2 ^ 31 → Run articles (accepted run) → HasNames run
+pub run-has_names : (articles : List (List ℕ)) (run : Accepted) → AllByRecursion AreBytes articles → length articles < 10 ^ 54 → Run articles (accepted run) → HasNames run
 run-has_names articles run bytes few r =
     let m = run-named 1 initial articles (accepted run) run initial-named bytes refl r in
     record { symbols = symbols-named run.made m.named; steps = let l = m.few in omega (arith, l, few) }
 
 -- THE LAW: THE MODULE OF AN ACCEPTED RUN OVER ARTICLES OF BYTES STANDS FOR IT
 abbrev pub RunsOfBytesStand : Type 0
-RunsOfBytesStand = (articles : List (List ℕ)) (run : Accepted) → AllByRecursion AreBytes articles → length articles < 2 ^ 31 → Run articles (accepted run) → Stands (image run) run
+RunsOfBytesStand = (articles : List (List ℕ)) (run : Accepted) → AllByRecursion AreBytes articles → length articles < 10 ^ 54 → Run articles (accepted run) → Stands (image run) run
 
 pub runs_of_bytes_stand : RunsOfBytesStand
 runs_of_bytes_stand articles run bytes few r = runs_stand articles run r (run-has_names articles run bytes few r)

@@ -3,7 +3,7 @@ use Rattle.std.proofs.Common.{◌≡◌, ℕ, suc, ◌+◌, ◌<◌, ◌≤◌, 
 use Rattle.std.specs.Prelude.{nat_eq, slice_index_or}
 use Rattle.std.specs.Cmp.{unsigned_Decides}
 use Rattle.std.specs.Option.{option_map}
-use Rattle.std.specs.List.{AllByRecursion, cons_option, position_or_len}
+use Rattle.std.specs.List.{cons_option, position_or_len}
 use Rattle.std.proofs.lemmas.List.{append-nil, length-append, length-map}
 use Rattle.std.proofs.lemmas.List.Elements.{filter_map-append}
 use Rattle.hol_spec.specs.Terms.{bound}
@@ -11,7 +11,7 @@ use Rattle.hol_spec.specs.Sequents.{Sequent}
 use Rattle.hol_spec.specs.Proofs.{Step, steps_of, symbols_of, Accepted}
 use Rattle.hol_spec.specs.declared.StepKind.{StepKind}
 use Rattle.hol_spec.specs.Lists.{IsIn}
-use Rattle.hol_laws.specs.Members.{IsIn-right, All-at, All-weaker}
+use Rattle.hol_laws.specs.Members.{IsIn-right, All-at}
 use Rattle.article_spec.specs.SoundRuns.{IsSoundRun, IsDerived}
 use Rattle.module_spec.specs.Items.{Content, operator, constant, defined_constant, unproved, step, Item, says}
 use Rattle.module_spec.specs.MadeItems.{said_of, said_by, premise_at, items_of, roots_of}
@@ -19,20 +19,15 @@ use Rattle.module_spec.specs.Reach.{Key, number_key, gives, gives_of, key_eq}
 use Rattle.module_spec.specs.Image.{is_one_of, name_in}
 use Rattle.module_spec.specs.Stands.{is_export_name}
 use Rattle.module_laws.specs.AcceptedItems.{made-joined}
-use Rattle.module_laws.specs.WantedItems.{NumberedFrom, AreMadeInOrder}
+use Rattle.module_laws.specs.WantedItems.{NumberedFrom, AreMadeInOrder, at-least}
 use Rattle.run_laws.specs.NameLaws.{export-named}
 use Rattle.run_laws.specs.Named.{HasNames, IsStepName}
 use Rattle.run_laws.specs.Origins.{made-origins}
 use Rattle.run_laws.specs.ExportsKept.{numbered-from}
-use Rattle.run_laws.specs.ExportOrder.{symbol-silent}
+use Rattle.run_laws.specs.ExportOrder.{symbol-silent, seam}
 use Rattle.run_laws.specs.RunModules.{IsItemName, HaveNames, items-named}
 use Rattle.run_laws.specs.Standing.{IsIn-map_of}
 use Rattle.standing_laws.specs.Keys.{key_eq-is}
-
--- items numbered in order are told by their numbers
-at-least : (i : ℕ) (xs : List Item) → NumberedFrom i xs → AllByRecursion (λ (x : Item). i ≤ x.symbol) xs
-at-least i [] h = tt
-at-least i (x ∷ xs) h = (let e = h.0 in omega (arith, e), All-weaker (λ (y : Item). suc i ≤ y.symbol) (λ (y : Item). i ≤ y.symbol) (λ y k. omega (arith, k)) xs (at-least (suc i) xs h.1))
 
 apart : (i : ℕ) (xs : List Item) (y z : Item) → y.symbol ≡ i → NumberedFrom (suc i) xs → IsIn xs z → y.symbol ≡ z.symbol → ⊥
 apart i xs y z e h k same = let l = All-at (λ (x : Item). suc i ≤ x.symbol) xs z (at-least (suc i) xs h) k in omega (arith, l, e, same)
@@ -64,10 +59,6 @@ silent-length before z e = let n = length-said before (z ∷ []) in let m = ap l
 
 telling-length : (before : List Item) (z : Item) (s : Sequent) → says z.content ≡ Some s → suc (length (said_by before)) ≡ length (said_by (before ++ z ∷ []))
 telling-length before z s e = let n = length-said before (z ∷ []) in let m = ap length (said-length z (Some s) e) in omega (arith, n, m)
-
-seam : {A : Type 0} (xs ys : List A) (y d : A) → slice_index_or (xs ++ y ∷ ys) (length xs) d ≡ y
-seam [] ys y d = refl
-seam (x ∷ xs) ys y d = seam xs ys y d
 
 -- what is said in a place has its item's number
 at-item : (items before zs : List Item) (z : Item) (s : Sequent) → items ≡ before ++ z ∷ zs → says z.content ≡ Some s → premise_at items (length (said_by before)) ≡ (z.symbol, s)

@@ -15,18 +15,35 @@
 //! | `ByteNames` | a line of bytes writes a name of bytes, and so do the name items of a text of bytes |
 //! | `NamedStates` | a state whose objects and symbols have names of bytes, and what a command adds to it |
 //! | `NamedBuilding`, `NamedInference`, `NamedDefining` | each word keeps the names of a state, takes inputs of few arguments, and makes two steps at most |
-//! | `NamedRuns` | every accepted run over fewer than 2^31 articles of bytes has names, so its module stands for it |
+//! | `TypedBodies` | the bodies of a run's module are typed over what is declared before, and its theorems are those of steps |
+//! | `PlaceCounts`, `LackingTrees`, `ParameterCounts` | to how many arguments a tree applies a symbol, what lacks the symbols of theorems, and how many domains the type of a theorem has |
+//! | `CountedRows`, `CountedModules` | each proof applies its premises, and so each body a theorem, to as many arguments as the theorem has parameters |
+//! | `NamedRuns` | every accepted run over fewer than 10^54 articles of bytes has names, so its module stands for it |
 #![tactic(auto)]
 
 ghost use Rattle.standing_laws.specs.NamedRuns.{RunsOfBytesStand};
 ghost use Rattle.standing_laws.specs.StandingRuns.{RunsStand};
+ghost use Rattle.standing_laws.specs.TypedBodies.{BodiesTyped};
+ghost use Rattle.standing_laws.specs.CountedModules.{FilledAndMerged};
 
 /// The module of an accepted run that has names stands for it.
 pub fn runs_stand()
     ensures { RunsStand }
 {}
 
-/// The module of an accepted run over fewer than 2^31 articles of bytes stands for it.
+/// The module of an accepted run over fewer than 10^54 articles of bytes stands for it.
 pub fn runs_of_bytes_stand()
     ensures { RunsOfBytesStand }
+{}
+
+/// In the module of an accepted run each body is typed at its declared type over the declarations before it; and where the run has names,
+/// each theorem after the two lemmas is named by a step and has a type that stands for the closed form of the step's sequent.
+pub fn bodies_typed()
+    ensures { BodiesTyped }
+{}
+
+/// In the module of an accepted run each body applies a theorem, wherever it uses it, to exactly as many arguments as the theorem's closed
+/// form has parameters: what vanishes is filled, and a hypothesis is passed for each that became it.
+pub fn filled_and_merged()
+    ensures { FilledAndMerged }
 {}

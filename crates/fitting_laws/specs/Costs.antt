@@ -1,0 +1,98 @@
+-- Costs of trees: their size with the spread of every symbol in them; and how far a symbol spreads whose type is a product.
+use Rattle.std.proofs.Common.{◌≡◌, ℕ, zero, suc, ◌+◌, ◌*◌, ◌≤◌, List, [], ◌∷◌, ◌++◌, length, Some, refl, ap, subst, arith}
+use Rattle.std.specs.Prelude.{replicate}
+use Rattle.std.specs.Option.{option_map_or}
+use Rattle.lp_spec.specs.Trees.{Tree, SortType, Var, Sym, App, lift, put_all_at, size}
+use Rattle.lp_spec.specs.Substitution.{sub, cons}
+use Rattle.lp_spec.specs.Modules.{Declaration, applied, products, abstractions, types, bools, symbol_type}
+use Rattle.lp_spec.specs.Weight.{spread_after, spread, spreads}
+use Rattle.module_laws.specs.SimultaneousArguments.{after, after-append}
+use Rattle.module_laws.specs.PuttingLaws.{put_all-after}
+
+-- the sizes of domains, each with the arguments before it put in
+abbrev pub domain_sizes : (ℕ → Tree) → List Tree → List Tree → ℕ
+domain_sizes s (d ∷ ds) (u ∷ us) = size (sub s d) + domain_sizes (cons u s) ds us
+domain_sizes s _ _ = 0
+
+-- a product spreads as its domains and what it ends in, whatever arguments follow
+last-spread : (before args : List Tree) (f x : Tree) → spread_after before args (App f x) ≡ size (sub (after Var before) (App f x))
+last-spread before [] f x = ap size (put_all-after before (App f x))
+last-spread before (u ∷ us) f x = ap size (put_all-after before (App f x))
+
+spread_after-products : (before us args ds : List Tree) (f x : Tree) → length us ≡ length ds
+    → spread_after before (us ++ args) (products ds (App f x)) ≡ domain_sizes (after Var before) ds us + size (sub (after (after Var before) us) (App f x))
+spread_after-products before [] args [] f x e = let l = last-spread before args f x in omega (arith, l)
+spread_after-products before [] args (d ∷ ds) f x e = absurd (omega (arith, e))
+spread_after-products before (u ∷ us) args [] f x e = absurd (omega (arith, e))
+spread_after-products before (u ∷ us) args (d ∷ ds) f x e =
+    let rest = spread_after-products (before ++ u ∷ []) us args ds f x (omega (arith, e)) in
+    let next : after Var (before ++ u ∷ []) ≡ cons u (after Var before) = after-append Var before (u ∷ []) in
+    let moved = subst (λ s. spread_after (before ++ u ∷ []) (us ++ args) (products ds (App f x)) ≡ domain_sizes s ds us + size (sub (after s us) (App f x))) next rest in
+    let first = ap size (put_all-after before d) in
+    omega (arith, moved, first)
+
+pub spread-products : (us args ds : List Tree) (f x : Tree) → length us ≡ length ds → spread (us ++ args) (products ds (App f x)) ≡ domain_sizes Var ds us + size (sub (after Var us) (App f x))
+spread-products us args ds f x e = spread_after-products [] us args ds f x e
+
+-- an operator's type spreads little
+operator-size : (d : ℕ) (us : List Tree) (k : ℕ) → size (put_all_at d us (products (replicate k types) types)) ≡ 2 * k + 1
+operator-size d us zero = refl
+operator-size d us (suc k) = let h = operator-size (suc d) us k in omega (arith, h)
+
+pub operator-spread : (before us : List Tree) (k : ℕ) → spread_after before us (products (replicate k types) types) ≤ 2 * k + 1
+operator-spread before [] k = let h = operator-size 0 before k in omega (arith, h)
+operator-spread before (u ∷ us) zero = omega arith
+operator-spread before (u ∷ us) (suc k) = let h = operator-spread (before ++ u ∷ []) us k in omega (arith, h)
+
+-- a tree of one node that stands in a scope
+pub data Plain : Tree → Type 0 where
+  variable : {n : ℕ} → Plain (Var n)
+  truth : Plain bools
+  nothing : Plain types
+
+pub plain-lift : (t : Tree) → Plain t → Plain (lift 1 t)
+plain-lift (Var n) variable = variable
+plain-lift t truth = truth
+plain-lift t nothing = nothing
+
+module _ (m : List Declaration) where
+  -- the size of a tree with the spread of every symbol in it, where it stands at these arguments
+  abbrev pub cost : List Tree → Tree → ℕ
+  cost args t = size t + spreads m args t
+
+  abbrev pub total : List Tree → ℕ
+  total [] = 0
+  total (x ∷ xs) = 1 + cost [] x + total xs
+
+  pub cost-applied : (f : Tree) (xs args : List Tree) → cost args (applied f xs) ≡ cost (xs ++ args) f + total xs
+  cost-applied f [] args = omega arith
+  cost-applied f (x ∷ xs) args = let h = cost-applied (App f x) xs args in omega (arith, h)
+
+  pub total-append : (xs ys : List Tree) → total (xs ++ ys) ≡ total xs + total ys
+  total-append [] ys = omega arith
+  total-append (x ∷ xs) ys = let h = total-append xs ys in omega (arith, h)
+
+  pub cost-products : (ds : List Tree) (t : Tree) → cost [] (products ds t) ≡ total ds + cost [] t
+  cost-products [] t = omega arith
+  cost-products (d ∷ ds) t = let h = cost-products ds t in omega (arith, h)
+
+  pub cost-abstractions : (ds : List Tree) (t : Tree) → cost [] (abstractions ds t) ≡ total ds + cost [] t
+  cost-abstractions [] t = omega arith
+  cost-abstractions (d ∷ ds) t = let h = cost-abstractions ds t in omega (arith, h)
+
+  lone-type : (args : List Tree) → spread args types ≡ 1
+  lone-type [] = refl
+  lone-type (u ∷ us) = refl
+
+  lone-sort : (args : List Tree) → spread args SortType ≡ 1
+  lone-sort [] = refl
+  lone-sort (u ∷ us) = refl
+
+  pub plain-cost : (args : List Tree) (t : Tree) → Plain t → cost args t ≤ 2
+  plain-cost args (Var n) variable = omega arith
+  plain-cost args t truth = let l = lone-type args in omega (arith, l)
+  plain-cost args t nothing = let l = lone-sort args in omega (arith, l)
+
+  -- a symbol of this type
+  pub symbol-cost : (s : ℕ) (args : List Tree) (A : Tree) → symbol_type m s ≡ Some A → cost args (Sym s) ≡ 1 + spread args A
+  symbol-cost s args A e = ap (λ o. 1 + option_map_or (spread args) o 0) e

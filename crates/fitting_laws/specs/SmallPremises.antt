@@ -1,0 +1,136 @@
+-- Costs of premises in a plain scope, and the parts of sequents that rows are made of.
+use Rattle.std.proofs.Common.{ℕ, ◌+◌, ◌*◌, ◌≤◌, List, [], ◌∷◌, map, refl, arith}
+use Rattle.std.specs.List.{AllByRecursion}
+use Rattle.hol_spec.specs.Types.{HolType, operator, more}
+use Rattle.hol_spec.specs.Limits.{type_size, term_size, greatest_size, SequentWithin}
+use Rattle.hol_spec.specs.Terms.{Term, bound, constant, app, Variable}
+use Rattle.hol_spec.specs.Sequents.{Sequent, terms_of, type_variables_of, free_variables_of}
+use Rattle.hol_laws.specs.Members.{All-weaker, All-left, All-right}
+use Rattle.lp_spec.specs.Trees.{size}
+use Rattle.lp_spec.specs.Modules.{Declaration}
+use Rattle.module_spec.specs.Scopes.{Symbols, type_tree, Scope, term_tree}
+use Rattle.module_spec.specs.ProofTrees.{premise_tree}
+use Rattle.module_spec.specs.Rows.{equated_type, left_side, right_side, argument_type, result_type}
+use Rattle.module_laws.specs.ScopeTyping.{TypeOver, TermOver}
+use Rattle.module_laws.specs.SequentScope.{SequentOver, IsPremise, terms-over, variables-over, SequentOver-instances}
+use Rattle.fitting_laws.specs.SymbolLimits.{sequent-sizes}
+use Rattle.fitting_laws.specs.TermSizes.{AreSmallTerms, free_variables-size, left_side-size, right_side-size, equated_type-size, argument_type-size, result_type-size}
+use Rattle.fitting_laws.specs.ShallowRows.{every}
+use Rattle.fitting_laws.specs.Costs.{cost, total, plain-cost}
+use Rattle.fitting_laws.specs.SmallScopes.{IsPlainScope, type_tree-cost, stands-cost, term_tree-cost}
+use Rattle.fitting_laws.specs.SmallTheorems.{part_cost, AreSmallArguments, total-map, theorem_tree-cost}
+
+-- what a premise in a plain scope costs at most, and the proof of a step
+abbrev pub premise_cost : ℕ
+premise_cost = 3074 * part_cost
+
+abbrev pub row_cost : ℕ
+row_cost = 9000 * part_cost
+
+module _ (m : List Declaration) (symbols : Symbols) where
+  -- a term, and a type, over the symbols and within the limits
+  pub record IsSmallTerm (t : Term) : Type 0 where
+    pub over : TermOver m symbols t
+    pub size : term_size t ≤ greatest_size
+
+  pub record IsSmallType (a : HolType) : Type 0 where
+    pub over : TypeOver m symbols a
+    pub size : type_size a ≤ 2 * greatest_size
+
+  -- a premise within the limits
+  pub record IsSmallPremise (j : ℕ) (s : Sequent) : Type 0 where
+    pub is : IsPremise m symbols j s
+    pub within : SequentWithin s
+
+  -- the terms of a sequent
+  terms-small : (s : Sequent) → SequentOver m symbols s → SequentWithin s → AllByRecursion IsSmallTerm (terms_of s)
+  terms-small s over within = both (terms_of s) (terms-over m symbols s over) (sequent-sizes s within)
+    where
+      both : (ts : List Term) → AllByRecursion (TermOver m symbols) ts → AreSmallTerms greatest_size ts → AllByRecursion IsSmallTerm ts
+      both [] h k = tt
+      both (t ∷ ts) h k = (record { over = h.0; size = k.0 }, both ts h.1 k.1)
+
+  pub conclusion-small : (s : Sequent) → SequentOver m symbols s → SequentWithin s → IsSmallTerm s.conclusion
+  conclusion-small s over within = (All-right IsSmallTerm s.hypotheses (s.conclusion ∷ []) (terms-small s over within)).0
+
+  pub hypotheses-small : (s : Sequent) → SequentOver m symbols s → SequentWithin s → AllByRecursion IsSmallTerm s.hypotheses
+  hypotheses-small s over within = All-left IsSmallTerm s.hypotheses (s.conclusion ∷ []) (terms-small s over within)
+
+  -- parts of terms and of types
+  bool-over : TypeOver m symbols (equated_type (bound 0))
+  bool-over = (refl, tt {0})
+
+  pub left_side-small : (t : Term) → IsSmallTerm t → IsSmallTerm (left_side t)
+  left_side-small t h = record { over = go t h.over; size = (let l = left_side-size t in let k = h.size in omega (arith, l, k)) }
+    where
+      go : (t : Term) → TermOver m symbols t → TermOver m symbols (left_side t)
+      go (app (app e x) y) o = o.0.1
+      go t o = o
+
+  pub right_side-small : (t : Term) → IsSmallTerm t → IsSmallTerm (right_side t)
+  right_side-small t h = record { over = go t h.over; size = (let l = right_side-size t in let k = h.size in omega (arith, l, k)) }
+    where
+      go : (t : Term) → TermOver m symbols t → TermOver m symbols (right_side t)
+      go (app (app e x) y) o = o.1
+      go t o = o
+
+  pub equated_type-small : (t : Term) → IsSmallTerm t → IsSmallType (equated_type t)
+  equated_type-small t h = record { over = go t h.over; size = (let l = equated_type-size t in let k = h.size in omega (arith, l, k)) }
+    where
+      go : (t : Term) → TermOver m symbols t → TypeOver m symbols (equated_type t)
+      go (app (app (constant n (operator f (more a ts))) x) y) o = o.0.0.ty.1.0
+      go t o = bool-over
+
+  pub argument_type-small : (a : HolType) → IsSmallType a → IsSmallType (argument_type a)
+  argument_type-small a h = record { over = go a h.over; size = (let l = argument_type-size a in let k = h.size in omega (arith, l, k)) }
+    where
+      go : (a : HolType) → TypeOver m symbols a → TypeOver m symbols (argument_type a)
+      go (operator n (more a ts)) o = o.1.0
+      go a o = o
+
+  pub result_type-small : (a : HolType) → IsSmallType a → IsSmallType (result_type a)
+  result_type-small a h = record { over = go a h.over; size = (let l = result_type-size a in let k = h.size in omega (arith, l, k)) }
+    where
+      go : (a : HolType) → TypeOver m symbols a → TypeOver m symbols (result_type a)
+      go (operator n (more a (more b ts))) o = o.1.1.0
+      go a o = o
+
+  -- in a plain scope
+  module _ (scope : Scope) (h : IsPlainScope symbols scope) where
+    pub ty-cost : (a : HolType) → IsSmallType a → cost m [] (type_tree symbols scope.types a) + 8 ≤ part_cost
+    ty-cost a o = let l = type_tree-cost m symbols scope.types h.types [] a o.over in let k = o.size in omega (arith, l, k)
+
+    pub tm-cost : (t : Term) → IsSmallTerm t → cost m [] (term_tree symbols scope t) + 8 ≤ part_cost
+    tm-cost t o = let l = term_tree-cost m symbols [] scope h t o.over in let k = o.size in omega (arith, l, k)
+
+    variables-small : (vs : List Variable) → AllByRecursion (λ v. TypeOver m symbols v.1) vs → AllByRecursion (λ (v : Variable). type_size v.1 + 1 ≤ greatest_size) vs
+        → AllByRecursion (λ v. cost m [] (scope.terms v) + 1 ≤ part_cost) vs × AllByRecursion (λ v. size (type_tree symbols scope.types v.1) ≤ part_cost) vs
+    variables-small [] o k = (tt {0}, tt {0})
+    variables-small (v ∷ vs) o k =
+        let rest = variables-small vs o.1 k.1 in
+        let one = stands-cost m symbols [] v (scope.terms v) o.0 (h.terms v) in
+        let two = type_tree-cost m symbols scope.types h.types [] v.1 o.0 in
+        ((omega (arith, one, k.0), rest.0), (omega (arith, two, k.0), rest.1))
+
+    pub own_arguments : (s : Sequent) → SequentOver m symbols s → SequentWithin s → AreSmallArguments m symbols scope s
+    own_arguments s over within =
+        let variables = variables-small (free_variables_of s) (variables-over m symbols s over) (free_variables-size s greatest_size (sequent-sizes s within)) in
+        record {
+          types = every _ (λ n. let l = plain-cost m [] (scope.types n) (h.types n) in omega (arith, l)) (type_variables_of s);
+          terms = variables.0;
+          variables = variables.1;
+          hypotheses = All-weaker IsSmallTerm (λ t. size (term_tree symbols scope t) ≤ part_cost) (λ t k. let l = tm-cost t k in omega (arith, l)) s.hypotheses (hypotheses-small s over within);
+          conclusion = (let l = tm-cost s.conclusion (conclusion-small s over within) in omega (arith, l));
+        }
+
+    pub plain-total : (s : Sequent) → SequentWithin s → (f : Term → Term) → total m (map (λ g. scope.proofs (f g)) s.hypotheses) ≤ 1024 * part_cost
+    plain-total s within f =
+        let l = total-map m part_cost (λ g. scope.proofs (f g)) s.hypotheses (every _ (λ g. let k = plain-cost m [] (scope.proofs (f g)) (h.proofs (f g)) in omega (arith, k)) s.hypotheses) in
+        let most = within.parameters in
+        omega (arith, l, most)
+
+    pub premise-cost : (j : ℕ) (s : Sequent) → IsSmallPremise j s → cost m [] (premise_tree scope (j, s)) ≤ premise_cost
+    premise-cost j s p =
+        let over = p.is.over in
+        let whole = theorem_tree-cost m symbols scope s j (1024 * part_cost) p.is.declared p.is.is (SequentOver-instances m symbols s over) p.within (own_arguments s over p.within) (plain-total s p.within (λ g. g)) in
+        omega (arith, whole)

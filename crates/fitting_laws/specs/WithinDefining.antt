@@ -1,0 +1,210 @@
+-- The words that define keep what was made within the limits: the term of each constant lies in a sequent within them.
+use Rattle.std.proofs.Common.{◌≡◌, ℕ, zero, suc, ◌≤◌, List, [], ◌∷◌, ◌++◌, map, length, Option, None, Some, Ok, inl, refl, sym, ap, subst, arith}
+use Rattle.std.specs.Prelude.{not, nat_eq, slice_index_or}
+use Rattle.std.specs.Option.{ok_or, option_map}
+use Rattle.std.specs.List.{AllByRecursion, filter_map, cons_option, list_all, list_any, flat_map}
+use Rattle.std.proofs.lemmas.List.{length-map}
+use Rattle.bridge_base.specs.declared.faults.Kind.TheVariants.{NameTaken, NotClosed, ExtraTypeVars, BadDefinitionList, NotTheSequent}
+use Rattle.hol_spec.specs.Names.{Name}
+use Rattle.hol_spec.specs.Lists.{is_in, IsIn}
+use Rattle.hol_spec.specs.Types.{HolType, variable, variable_places}
+use Rattle.hol_spec.specs.Terms.{Term, Variable, free, app, lam, constant, variable_eq, equation, type_variable_places}
+use Rattle.hol_spec.specs.TermSubstitution.{sub}
+use Rattle.hol_spec.specs.Limits.{greatest_depth, greatest_size, SequentWithin, type_depth, type_size}
+use Rattle.hol_spec.specs.Equations.{Equation, equation_parts}
+use Rattle.proof_laws.specs.EquationLaws.{equation_parts-is}
+use Rattle.hol_spec.specs.Sequents.{Sequent, terms_of}
+use Rattle.hol_spec.specs.Definitions.{Definition, TypeNames}
+use Rattle.hol_spec.specs.NewTypes.{new_type, abstraction_type, representation_type}
+use Rattle.hol_spec.specs.Defining.{is_closed, has_type_variables_of}
+use Rattle.hol_spec.specs.DefinitionLists.{ConstantPairs, names_of, variables_of, variable_side, of_equation, variable_equation, defining_equations, definiens, is_definition_list, definitions_in, constants_put}
+use Rattle.hol_spec.specs.Primitives.{function, equality_name, equality_type}
+use Rattle.hol_spec.specs.TypeDefinitions.{abstracted, represented, first_law, second_law}
+use Rattle.hol_spec.specs.Symbols.{defined, is_taken_constant}
+use Rattle.hol_spec.specs.Measures.{type_measure, sequent_measure}
+use Rattle.hol_spec.specs.Rules.{Parameters, constants, derived}
+use Rattle.hol_spec.specs.Proofs.{Made, symbols_of, sequents_of, sequent_at}
+use Rattle.hol_spec.specs.declared.StepKind.TheVariants as by_rule
+use Rattle.hol_laws.specs.ListLaws.{All-filter}
+use Rattle.hol_laws.specs.Members.{All-append, All-each, IsIn-left, IsIn-right}
+use Rattle.proof_laws.specs.RuleTaken.{lookup-All}
+use Rattle.article_spec.specs.State.{Object, State}
+use Rattle.article_spec.specs.State as object
+use Rattle.article_spec.specs.Operands.{as_name, as_names, as_term, as_theorem, as_constant_pairs, pop}
+use Rattle.article_spec.specs.Conditions.{demand, in_limits, typed}
+use Rattle.article_spec.specs.Changes.{with_stack, with_symbols, with_theorem}
+use Rattle.article_spec.specs.Inference.{step_by}
+use Rattle.article_spec.specs.DefiningWords.{define_const, constant_objects, define_const_list, application_parts, predicate_fits, are_new_names, make_type, define_type, define_type_op}
+use Rattle.article_laws.specs.SoundStates.{bound, passed, in_limits-All, sequent-within}
+use Rattle.fitting_laws.specs.SymbolLimits.{DefinitionWithin, GenericWithin, SymbolWithin, MadeWithin, AreWithin, IsPart, part-within, few-places}
+use Rattle.fitting_laws.specs.WithinStates.{answers, with_symbols-within, conclude-within, concluded}
+use Rattle.fitting_laws.specs.WithinBuilding.{arguments-few}
+use Rattle.std.proofs.lemmas.Option.{same_Some}
+
+-- the right side of an equation is a part of it
+right-part : (a : HolType) (x y h : Term) → h ≡ equation a x y → IsPart y h
+right-part a x y h e =
+    subst (IsPart y) (sym e) (record {
+      size = omega arith;
+      depth = omega arith;
+      places = All-each (IsIn (type_variable_places (equation a x y))) (type_variable_places y) (λ n k. IsIn-right (type_variable_places (app (constant equality_name (equality_type a)) x)) (type_variable_places y) n k);
+    })
+
+-- a term that is defined with its own equation
+equation-within : (a : HolType) (x y : Term) → SequentWithin (derived [] (equation a x y)) → DefinitionWithin y
+equation-within a x y h = part-within (derived [] (equation a x y)) h (equation a x y) (inl refl) y (right-part a x y (equation a x y) refl)
+
+-- defineConst
+pub define_const-within : (s t : State) → AreWithin s.made → define_const s ≡ Ok t → AreWithin t.made
+define_const-within s t g e =
+    let symbols = symbols_of s.made in
+    let u = bound (pop as_term s.stack) _ t e in
+    let n = bound (pop as_name u.0.1) _ t u.2 in
+    let new = passed (demand (not (is_taken_constant symbols n.0.0)) NameTaken) _ t n.2 in
+    let closed = passed (demand (is_closed u.0.0) NotClosed) _ t new.2 in
+    let a = bound (typed u.0.0) _ t closed.2 in
+    let variables = passed (demand (has_type_variables_of a.0 u.0.0) ExtraTypeVars) _ t a.2 in
+    let xs = defined (Definition.constant n.0.0 u.0.0) ∷ [] in
+    let stack = object.constant n.0.0 ∷ n.0.1 in
+    let says = equation a.0 (Term.constant n.0.0 a.0) u.0.0 in
+    let next = with_symbols (with_stack s stack) xs in
+    let x = step_by by_rule.DefineConst [] (Parameters.constant n.0.0 u.0.0) (derived [] says) in
+    let own = equation-within a.0 (Term.constant n.0.0 a.0) u.0.0 (conclude-within next t x variables.2) in
+    concluded next t x (with_symbols-within (with_stack s stack) xs g (own, tt {0})) variables.2
+
+-- the sequent of each step is within the limits
+sequents-within : (made : List Made) → AreWithin made → AllByRecursion SequentWithin (sequents_of made)
+sequents-within [] h = tt
+sequents-within (Made.symbol x ∷ made) h = sequents-within made h.1
+sequents-within (Made.step x ∷ made) h = (h.0, sequents-within made h.1)
+
+pub nothing-within : SequentWithin (record { hypotheses = []; conclusion = Term.bound 0 })
+nothing-within = record { size = omega arith; depth = omega arith; parameters = omega arith }
+
+pub at-within : (ss : List Sequent) (i : ℕ) → AllByRecursion SequentWithin ss → SequentWithin (slice_index_or ss i (record { hypotheses = []; conclusion = Term.bound 0 }))
+at-within [] i h = nothing-within
+at-within (s ∷ ss) zero h = h.0
+at-within (s ∷ ss) (suc i) h = at-within ss i h.1
+
+-- the terms of defining equations are parts of hypotheses
+module _ (one : Sequent) (within : SequentWithin one) where
+  abbrev Within : Variable × Term → Type 0
+  Within p = DefinitionWithin p.1
+
+  of_side : (q : Equation) (h : Term) → IsIn (terms_of one) h → equation_parts h ≡ Some q → (v : Variable) (t : Term) → (l : Term) → q.left ≡ l → variable_side l q.right ≡ Some (v, t) → DefinitionWithin t
+  of_side q h i is v t (free n b) e f =
+      let same : q.right ≡ t = ap (λ (p : Variable × Term). p.1) (same_Some _ _ f) in
+      subst DefinitionWithin same (part-within one within h i q.right (right-part q.ty q.left q.right h (equation_parts-is h q is)))
+  of_side q h i is v t l e f = absurd (cc)
+
+  of_parts : (h : Term) → IsIn (terms_of one) h → (o : Option Equation) → equation_parts h ≡ o → (v : Variable) (t : Term) → of_equation o ≡ Some (v, t) → DefinitionWithin t
+  of_parts h i None is v t e = absurd (cc)
+  of_parts h i (Some q) is v t e = of_side q h i is v t q.left refl e
+
+  equations-within : (hs : List Term) → AllByRecursion (IsIn (terms_of one)) hs → AllByRecursion Within (filter_map variable_equation hs)
+  equations-within [] k = tt
+  equations-within (h ∷ hs) k = go (variable_equation h) (of_parts h k.0 (equation_parts h) refl) (equations-within hs k.1)
+    where
+      go : (o : Option (Variable × Term)) → ((v : Variable) (t : Term) → o ≡ Some (v, t) → DefinitionWithin t) → AllByRecursion Within (filter_map variable_equation hs) → AllByRecursion Within (cons_option o (filter_map variable_equation hs))
+      go None f rest = rest
+      go (Some p) f rest = (f p.0 p.1 refl, rest)
+
+  definitions-within : (pairs qs : ConstantPairs) → AllByRecursion Within (defining_equations pairs one.hypotheses)
+      → AllByRecursion SymbolWithin (map defined (filter_map (λ p. option_map (Definition.constant p.0) (definiens pairs one.hypotheses p.1)) qs))
+  definitions-within pairs [] h = tt
+  definitions-within pairs (q ∷ qs) h =
+      go (definiens pairs one.hypotheses q.1) (λ t e. lookup-All Within (defining_equations pairs one.hypotheses) q.1 t h e) (definitions-within pairs qs h)
+    where
+      go : (o : Option Term) → ((t : Term) → o ≡ Some t → DefinitionWithin t) → AllByRecursion SymbolWithin (map defined (filter_map (λ p. option_map (Definition.constant p.0) (definiens pairs one.hypotheses p.1)) qs))
+          → AllByRecursion SymbolWithin (map defined (cons_option (option_map (Definition.constant q.0) o) (filter_map (λ p. option_map (Definition.constant p.0) (definiens pairs one.hypotheses p.1)) qs)))
+      go None f rest = rest
+      go (Some t) f rest = (f t refl, rest)
+
+  list-within : (pairs : ConstantPairs) → AllByRecursion SymbolWithin (map defined (definitions_in pairs one.hypotheses))
+  list-within pairs =
+      definitions-within pairs pairs (All-filter Within (λ e. is_in variable_eq e.0 (variables_of pairs)) (filter_map variable_equation one.hypotheses)
+      (equations-within one.hypotheses (All-each (IsIn (terms_of one)) one.hypotheses (λ h k. IsIn-left one.hypotheses (one.conclusion ∷ []) h k))))
+
+-- defineConstList
+pub define_const_list-within : (s t : State) → AreWithin s.made → define_const_list s ≡ Ok t → AreWithin t.made
+define_const_list-within s t g e =
+    let symbols = symbols_of s.made in
+    let i = bound (pop as_theorem s.stack) _ t e in
+    let p = bound (pop as_constant_pairs i.0.1) _ t i.2 in
+    let pairs = p.0.0 in
+    let one = sequent_at s.made i.0.0 in
+    let equations = defining_equations pairs one.hypotheses in
+    let new = passed (demand (not (list_any (is_taken_constant symbols) (names_of pairs))) NameTaken) _ t p.2 in
+    let closed = passed (demand (list_all (λ (e : Variable × Term). is_closed e.1) equations) NotClosed) _ t new.2 in
+    let variables = passed (demand (list_all (λ (e : Variable × Term). has_type_variables_of e.0.1 e.1) equations) ExtraTypeVars) _ t closed.2 in
+    let good = passed (demand (is_definition_list pairs one) BadDefinitionList) _ t variables.2 in
+    let xs = map defined (definitions_in pairs one.hypotheses) in
+    let stack = object.list (constant_objects (names_of pairs)) ∷ p.0.1 in
+    concluded (with_symbols (with_stack s stack) xs) t (step_by by_rule.DefineConstList (i.0.0 ∷ []) (constants pairs) (derived [] (sub [] (constants_put pairs) one.conclusion)))
+    (with_symbols-within (with_stack s stack) xs g (list-within one (at-within (sequents_of s.made) i.0.0 (sequents-within s.made g)) pairs)) good.2
+
+-- the types that a type definition makes
+generic-of_law : (s : Sequent) → SequentWithin s → (a : HolType) → type_size a ≤ greatest_size → type_depth a ≤ greatest_depth → AllByRecursion (IsIn (flat_map type_variable_places (terms_of s))) (variable_places a) → GenericWithin a
+generic-of_law s h a size depth places = record { size = omega (arith, size); depth = omega (arith, depth); variables = few-places s h (variable_places a) places }
+
+-- both constants stand in the first law
+law-places : (names : TypeNames) (c : HolType) (n : Name) → IsIn (variable_places (abstraction_type names c) ++ (variable_places (representation_type names c) ++ [])) n → IsIn (flat_map type_variable_places (terms_of (first_law names c))) n
+law-places names c n k =
+    let new = new_type names in
+    let body = abstracted names c (represented names c (Term.bound 0)) in
+    let equality = constant equality_name (equality_type (function new new)) in
+    IsIn-left (type_variable_places (first_law names c).conclusion) [] n
+    (IsIn-left (type_variable_places (app equality (lam new body))) (type_variable_places (lam new (Term.bound 0))) n
+    (IsIn-right (type_variable_places equality) (type_variable_places (lam new body)) n
+    (IsIn-right (variable_places new) (type_variable_places body) n k)))
+
+abstraction-within : (names : TypeNames) (c : HolType) → SequentWithin (first_law names c) → type_size (abstraction_type names c) ≤ greatest_size → type_depth (abstraction_type names c) ≤ greatest_depth → GenericWithin (abstraction_type names c)
+abstraction-within names c h size depth =
+    let a = abstraction_type names c in
+    let r = representation_type names c in
+    generic-of_law (first_law names c) h a size depth (All-each (IsIn (flat_map type_variable_places (terms_of (first_law names c)))) (variable_places a) (λ n k. law-places names c n (IsIn-left (variable_places a) (variable_places r ++ []) n k)))
+
+representation-within : (names : TypeNames) (c : HolType) → SequentWithin (first_law names c) → type_size (representation_type names c) ≤ greatest_size → type_depth (representation_type names c) ≤ greatest_depth → GenericWithin (representation_type names c)
+representation-within names c h size depth =
+    let a = abstraction_type names c in
+    let r = representation_type names c in
+    generic-of_law (first_law names c) h r size depth (All-each (IsIn (flat_map type_variable_places (terms_of (first_law names c)))) (variable_places r) (λ n k. law-places names c n (IsIn-right (variable_places a) (variable_places r ++ []) n (IsIn-left (variable_places r) [] n k))))
+
+-- defineTypeOp
+make_type-within : (s t : State) (names : TypeNames) (i : ℕ) (c : HolType) (f : Term) → AreWithin s.made → make_type s names i c f ≡ Ok t → AreWithin t.made
+make_type-within s t names i c f g e =
+    let measures = type_measure (new_type names) ∷ type_measure (abstraction_type names c) ∷ type_measure (representation_type names c) ∷ sequent_measure (first_law names c) ∷ sequent_measure (second_law names c f) ∷ [] in
+    let limits = passed (in_limits measures) _ t e in
+    let within = in_limits-All measures limits.0 limits.1 in
+    let stack = object.constant names.representation ∷ object.constant names.abstraction ∷ object.type_operator names.operator ∷ s.stack in
+    let xs = defined (Definition.type_operator names c f) ∷ [] in
+    let u = with_symbols (with_stack s stack) xs in
+    let first = step_by by_rule.FirstLaw (i ∷ []) (Parameters.type_operator names) (first_law names c) in
+    let second = step_by by_rule.SecondLaw (i ∷ []) (Parameters.type_operator names) (second_law names c f) in
+    let v = with_theorem u first in
+    let law = sequent-within (first_law names c) within.1.1.1.0 in
+    let long = length-map names.variables variable in
+    let arguments = arguments-few names.operator (map variable names.variables) within.0.depth in
+    let symbol : SymbolWithin (defined (Definition.type_operator names c f)) =
+    (omega (arith, long, arguments), abstraction-within names c law within.1.0.size within.1.0.depth, representation-within names c law within.1.1.0.size within.1.1.0.depth) in
+    let one = All-append MadeWithin u.made (Made.step first ∷ []) (with_symbols-within (with_stack s stack) xs g (symbol, tt {0})) (law, tt {0}) in
+    answers (with_theorem v second) t limits.2 (All-append MadeWithin v.made (Made.step second ∷ []) one (sequent-within (second_law names c f) within.1.1.1.1.0, tt {0}))
+
+define_type-within : (s t : State) (names : TypeNames) (i : ℕ) → AreWithin s.made → define_type s names i ≡ Ok t → AreWithin t.made
+define_type-within s t names i g e =
+    let one = sequent_at s.made i in
+    let new = passed (are_new_names (symbols_of s.made) names) _ t e in
+    let fits = passed (predicate_fits names.variables (application_parts one.conclusion)) _ t new.2 in
+    let alone = passed (demand (nat_eq (length one.hypotheses) 0) NotTheSequent) _ t fits.2 in
+    let parts = bound (ok_or (application_parts one.conclusion) NotTheSequent) _ t alone.2 in
+    let c = bound (typed parts.0.1) _ t parts.2 in
+    make_type-within s t names i c.0 parts.0.0 g c.2
+
+pub define_type_op-within : (s t : State) → AreWithin s.made → define_type_op s ≡ Ok t → AreWithin t.made
+define_type_op-within s t g e =
+    let i = bound (pop as_theorem s.stack) _ t e in
+    let v = bound (pop as_names i.0.1) _ t i.2 in
+    let r = bound (pop as_name v.0.1) _ t v.2 in
+    let a = bound (pop as_name r.0.1) _ t r.2 in
+    let o = bound (pop as_name a.0.1) _ t a.2 in
+    define_type-within (with_stack s o.0.1) t (record { operator = o.0.0; abstraction = a.0.0; representation = r.0.0; variables = v.0.0 }) i.0.0 g o.2

@@ -1,0 +1,97 @@
+-- A type definition: of |- (\r. r = r) g, for r and g of a -> b, the type two over b and a, its constants mk and dest, and its first law.
+use Rattle.std.proofs.Common.{◌≡◌, [], ◌∷◌, ◌++◌, refl, arith, codes}
+use Rattle.std.specs.Fmt.{digits}
+use Rattle.hol_spec.specs.Types.{HolType, variable}
+use Rattle.hol_spec.specs.Primitives.{function}
+use Rattle.hol_spec.specs.Terms.{Term, free, bound, app, lam, equation}
+use Rattle.hol_spec.specs.Sequents.{Sequent}
+use Rattle.hol_spec.specs.Definitions.{Definition, TypeNames}
+use Rattle.hol_spec.specs.TypeDefinitions.{IsTypeDefinition, first_law, second_law}
+use Rattle.hol_spec.specs.Symbols.{Symbol}
+use Rattle.hol_spec.specs.Taking.{Takes}
+use Rattle.hol_spec.specs.Rules.{Rule, Parameters, derived}
+use Rattle.hol_spec.specs.Proofs.{Made, IsProof, Each, Accepted}
+use Rattle.hol_spec.specs.declared.StepKind.TheVariants.{FirstLaw, SecondLaw}
+use Rattle.lp_spec.specs.Trees.{Tree, Var, Sym, App, Lam, Pi}
+use Rattle.lp_spec.specs.Modules.{symbol, applied, types, term_of, arr_of, eq_of, proof_of}
+use Rattle.lp_spec.specs.Lemmas.{lemmas}
+use Rattle.module_spec.specs.Image.{image}
+use Rattle.spec_examples.proofs.SmallRuns.{name, infers, assumes, exports, theorem, own_lines, next, assumed, exported, alone}
+
+abbrev names : TypeNames
+names = record { operator = name (codes "two"); abstraction = name (codes "mk"); representation = name (codes "dest"); variables = name (codes "b") ∷ name (codes "a") ∷ [] }
+
+abbrev functions : HolType
+functions = function (variable (name (codes "a"))) (variable (name (codes "b")))
+
+-- \r. r = r
+abbrev holds : Term
+holds = lam functions (equation functions (bound 0) (bound 0))
+
+abbrev one_holds : Sequent
+one_holds = derived [] (app holds (free (name (codes "g")) functions))
+
+abbrev first : Sequent
+first = first_law names functions
+
+abbrev second : Sequent
+second = second_law names functions holds
+
+abbrev defines : Made
+defines = Made.symbol (Symbol.defined (Definition.type_operator names functions holds))
+
+abbrev run : Accepted
+run = record {
+  made = assumes one_holds ∷ defines ∷ infers FirstLaw (0 ∷ []) (Parameters.type_operator names) first ∷ infers SecondLaw (0 ∷ []) (Parameters.type_operator names) second ∷ exports 1 first ∷ [];
+  assumptions = 0 ∷ [];
+  exports = 3 ∷ [];
+}
+
+-- `o_two` of two types, `c_mk` at the types a and b, and `c_dest` at b and a
+abbrev two_of : Tree → Tree → Tree
+two_of b a = applied (Sym 15) (b ∷ a ∷ [])
+
+abbrev mk_at : Tree → Tree → Tree
+mk_at a b = applied (Sym 16) (a ∷ b ∷ [])
+
+abbrev dest_at : Tree → Tree → Tree
+dest_at b a = applied (Sym 17) (b ∷ a ∷ [])
+
+-- under the binders of b and a: `mk (dest x) = x`, of functions of x
+abbrev first_type : Tree
+first_type =
+    Pi types (Pi types (proof_of (eq_of (arr_of (two_of (Var 1) (Var 0)) (two_of (Var 1) (Var 0)))
+    (Lam (term_of (two_of (Var 1) (Var 0))) (App (mk_at (Var 1) (Var 2)) (App (dest_at (Var 2) (Var 1)) (Var 0))))
+    (Lam (term_of (two_of (Var 1) (Var 0))) (Var 0)))))
+
+-- the assumption isn't needed
+its_module : image run ≡ lemmas
+    ++ symbol (codes "o_two") (Pi types (Pi types types))
+    ∷ symbol (codes "c_mk") (Pi types (Pi types (term_of (arr_of (arr_of (Var 1) (Var 0)) (two_of (Var 0) (Var 1))))))
+    ∷ symbol (codes "c_dest") (Pi types (Pi types (term_of (arr_of (two_of (Var 1) (Var 0)) (arr_of (Var 0) (Var 1))))))
+    ∷ symbol (codes "L1") first_type
+    ∷ theorem (codes "E0") first_type (Lam types (Lam types (applied (Sym 18) (Var 1 ∷ Var 0 ∷ [])))) ∷ []
+unfolding digits
+its_module = refl
+
+its_lines : own_lines run
+    ≡ codes "o_two : v0 : type -> v1 : type -> type"
+    ∷ codes "c_mk : v0 : type -> v1 : type -> term (arr (arr v0 v1) (o_two v1 v0))"
+    ∷ codes "c_dest : v0 : type -> v1 : type -> term (arr (o_two v0 v1) (arr v1 v0))"
+    ∷ codes "L1 : v0 : type -> v1 : type -> proof (eq (arr (o_two v0 v1) (o_two v0 v1)) (v2 : term (o_two v0 v1) => c_mk v1 v0 (c_dest v0 v1 v2)) (v2 : term (o_two v0 v1) => v2))"
+    ∷ codes "E0 : v0 : type -> v1 : type -> proof (eq (arr (o_two v0 v1) (o_two v0 v1)) (v2 : term (o_two v0 v1) => c_mk v1 v0 (c_dest v0 v1 v2)) (v2 : term (o_two v0 v1) => v2)) := v0 : type => v1 : type => L1 v0 v1" ∷ []
+unfolding digits
+its_lines = refl
+
+is_a_definition : IsTypeDefinition names functions holds one_holds
+is_a_definition = record { witness = free (name (codes "g")) functions; no_hypotheses = refl; holds = refl; typed = refl; closed = refl; variables = refl }
+
+is_a_proof : IsProof run.made
+is_a_proof =
+    let one = next (assumes one_holds) Each.empty (assumed _ one_holds (alone _ refl)) in
+    let two = next defines one (Takes.type_operator (record { operator = refl; abstraction = refl; representation = refl; apart = refl }) refl refl refl) in
+    let three = next (infers FirstLaw (0 ∷ []) (Parameters.type_operator names) first) two
+    (record { premises = one_holds ∷ []; earlier = (refl, tt); follows = record { rule = Rule.first_law is_a_definition refl; defined = ((0, (omega arith, refl)), tt) } }) in
+    let four = next (infers SecondLaw (0 ∷ []) (Parameters.type_operator names) second) three
+    (record { premises = one_holds ∷ []; earlier = (refl, tt); follows = record { rule = Rule.second_law is_a_definition refl; defined = ((0, (omega arith, refl)), tt) } }) in
+    next (exports 1 first) four (exported _ 1 first refl (alone _ refl) refl)
