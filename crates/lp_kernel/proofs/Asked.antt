@@ -1,0 +1,126 @@
+-- A turn that asks for the type of a tree.
+use Rattle.std.proofs.Common.{◌≡◌, refl, sym, ap, ◌∙◌, subst, ℕ, zero, suc, length, Option, ◌-◌, ◌<◌, ◌≤◌, arith, true, List, [], ◌∷◌, Some}
+use Rattle.lp_spec.specs.Trees.{Tree, Sym, App, Lam, Pi, lift}
+use Rattle.lp_spec.specs.Modules.{Declaration}
+use Rattle.lp_term.specs.declared.LpId.{LpId}
+use Rattle.lp_term.specs.Tables.{tree_at, trees_at, Holds, Stays, Keeps, AreKnown}
+use Rattle.lp_term.specs.TableLaws.{Holds-tree_at, tree_at-Stays}
+use Rattle.std.specs.Prelude.{slice_get, option_map, IfOk, Result, Ok, Err}
+use Rattle.holide_sig.specs.declared.module.Module.{Module}
+use Rattle.holide_sig.specs.Modules.{declarations_of}
+use Rattle.lp_shape.specs.Check.{Infer, Plan, Ask, infer, found_if}
+use Rattle.lp_shape.specs.PlanLaws.{and_then, Leaves, leaves_equal, leaves_then, leaves_fewer, leaves_ask}
+use Rattle.lp_conv.specs.GrowthLaws.{AreKnown-Keeps}
+use Rattle.lp_kernel.specs.declared.state.Frame.{Frame}
+use Rattle.lp_kernel.specs.declared.state.Frame.TheVariants as frame
+use Rattle.lp_kernel.specs.declared.state.Next.{Next}
+use Rattle.lp_kernel.specs.declared.state.Next.TheVariants as next
+use Rattle.lp_kernel.specs.declared.state.State.{State}
+use Rattle.lp_kernel.specs.Pending.{resume, IsTurned, variable_plan, variable_type, IsFoundIf, IsKnownFrame, AreKnownFrames, IsKnownState, outside}
+use Rattle.std.proofs.lemmas.Option.{same_Some}
+
+-- a turn that goes on as the plan for the tree does
+module _ (ds : List Declaration) (G : List Tree) (rest : Tree → Plan) where
+  pub asked-as : {t u : Tree} {p : Plan} {spent : ℕ} → t ≡ u → spent ≤ 1 → and_then (infer ds true G u) rest ≡ p → Leaves ds true (Ask (Infer G t) rest) spent p
+  asked-as {u = u} {p = p} {spent = spent} e le is =
+      subst (λ w. Leaves ds true (Ask (Infer G w) rest) spent p) (sym e)
+      (leaves_fewer ds true le (leaves_then ds true (leaves_ask ds true (Infer G u) rest) (leaves_equal ds true is)))
+
+module _ (ds : List Declaration) (ts : List Tree) (c : List LpId) (fs new : List Frame) (id : LpId) (spent : ℕ) where
+  pub asked-application : (f x : LpId) → Holds ts id.0 (App (tree_at ts f.0) (tree_at ts x.0)) → new ≡ frame.Function x ∷ fs → spent ≤ 1
+      → Leaves ds true (Ask (Infer (trees_at ts c) (tree_at ts id.0)) (resume ds ts c fs)) spent (Ask (Infer (trees_at ts c) (tree_at ts f.0)) (resume ds ts c new))
+  asked-application f x at e le =
+      subst (λ l. Leaves ds true (Ask (Infer (trees_at ts c) (tree_at ts id.0)) (resume ds ts c fs)) spent (Ask (Infer (trees_at ts c) (tree_at ts f.0)) (resume ds ts c l))) (sym e)
+      (asked-as ds (trees_at ts c) (resume ds ts c fs) (Holds-tree_at ts id.0 _ at) le refl)
+
+  pub asked-abstraction : (a b : LpId) → Holds ts id.0 (Lam (tree_at ts a.0) (tree_at ts b.0)) → new ≡ frame.Domain a b ∷ fs → spent ≤ 1
+      → Leaves ds true (Ask (Infer (trees_at ts c) (tree_at ts id.0)) (resume ds ts c fs)) spent (Ask (Infer (trees_at ts c) (tree_at ts a.0)) (resume ds ts c new))
+  asked-abstraction a b at e le =
+      subst (λ l. Leaves ds true (Ask (Infer (trees_at ts c) (tree_at ts id.0)) (resume ds ts c fs)) spent (Ask (Infer (trees_at ts c) (tree_at ts a.0)) (resume ds ts c l))) (sym e)
+      (asked-as ds (trees_at ts c) (resume ds ts c fs) (Holds-tree_at ts id.0 _ at) le refl)
+
+  pub asked-product : (a b : LpId) → Holds ts id.0 (Pi (tree_at ts a.0) (tree_at ts b.0)) → new ≡ frame.ProductDomain a b ∷ fs → spent ≤ 1
+      → Leaves ds true (Ask (Infer (trees_at ts c) (tree_at ts id.0)) (resume ds ts c fs)) spent (Ask (Infer (trees_at ts c) (tree_at ts a.0)) (resume ds ts c new))
+  asked-product a b at e le =
+      subst (λ l. Leaves ds true (Ask (Infer (trees_at ts c) (tree_at ts id.0)) (resume ds ts c fs)) spent (Ask (Infer (trees_at ts c) (tree_at ts a.0)) (resume ds ts c l))) (sym e)
+      (asked-as ds (trees_at ts c) (resume ds ts c fs) (Holds-tree_at ts id.0 _ at) le refl)
+
+pub asked-symbol : (m : Module) (s : State) (id : LpId) (k old new : ℕ) (n : Next) → Holds m.table id.0 (Sym k) → variable_plan m k n → old - new ≤ 1
+    → IsTurned m (Ask (Infer (trees_at m.table s.context) (tree_at m.table id.0)) (resume (declarations_of m) m.table s.context s.frames)) old new s n
+asked-symbol m s id k old new (next.Tell t) at h le =
+    asked-as (declarations_of m) (trees_at m.table s.context) (resume (declarations_of m) m.table s.context s.frames) (Holds-tree_at m.table id.0 _ at) le
+    (ap (λ o. and_then (found_if o) (resume (declarations_of m) m.table s.context s.frames)) h)
+asked-symbol m s id k old new next.No at h le =
+    asked-as (declarations_of m) (trees_at m.table s.context) (resume (declarations_of m) m.table s.context s.frames) (Holds-tree_at m.table id.0 _ at) le
+    (ap (λ o. and_then (found_if o) (resume (declarations_of m) m.table s.context s.frames)) h)
+asked-symbol m s id k old new (next.Ask t) at h le = absurd h
+asked-symbol m s id k old new next.Over at h le = absurd h
+
+-- the turns of the leaves: what is found, if anything, at once
+pub asked-found : (m : Module) (s : State) (id : LpId) (t : Tree) (o : Option Tree) (old new : ℕ) (n : Next) → tree_at m.table id.0 ≡ t → infer (declarations_of m) true (trees_at m.table s.context) t ≡ found_if o → IsFoundIf m.table o n → old - new ≤ 1
+    → IsTurned m (Ask (Infer (trees_at m.table s.context) (tree_at m.table id.0)) (resume (declarations_of m) m.table s.context s.frames)) old new s n
+asked-found m s id t o old new (next.Tell r) at is h le =
+    asked-as (declarations_of m) (trees_at m.table s.context) (resume (declarations_of m) m.table s.context s.frames) at le
+    (ap (λ p. and_then p (resume (declarations_of m) m.table s.context s.frames)) (is ∙ ap found_if h))
+asked-found m s id t o old new next.No at is h le =
+    asked-as (declarations_of m) (trees_at m.table s.context) (resume (declarations_of m) m.table s.context s.frames) at le
+    (ap (λ p. and_then p (resume (declarations_of m) m.table s.context s.frames)) (is ∙ ap found_if h))
+asked-found m s id t o old new (next.Ask r) at is h le = absurd h
+asked-found m s id t o old new next.Over at is h le = absurd h
+
+-- a variable's type
+pub entry-of : (ts : List Tree) (c : List LpId) (n : ℕ) (o : Option LpId) → o ≡ slice_get c n → option_map (λ id. tree_at ts id.0) o ≡ slice_get (trees_at ts c) n
+entry-of ts [] n o e = rw e refl
+entry-of ts (id ∷ ids) zero o e = rw e refl
+entry-of ts (id ∷ ids) (suc n) o e = entry-of ts ids n o e
+
+pub known-entry : (ts : List Tree) (c : List LpId) (n : ℕ) (id : LpId) → AreKnown ts c → Some id ≡ slice_get c n → id.0 < length ts
+known-entry ts [] n id h e = absurd (cc)
+known-entry ts (x ∷ xs) zero id h e = subst (λ (y : LpId). y.0 < length ts) (sym (same_Some _ _ e)) h.0
+known-entry ts (x ∷ xs) (suc n) id h e = known-entry ts xs n id h.1 e
+
+-- the type of a variable, lifted in a table that has grown
+pub lifted-entry : (ts us : List Tree) (c : List LpId) (n k : ℕ) (entry r : LpId) → Stays ts us → entry.0 < length ts → Some entry ≡ slice_get c n → Holds us r.0 (lift k (tree_at ts entry.0)) → k ≡ suc n → variable_type us c n ≡ Some (tree_at us r.0)
+lifted-entry ts us c n k entry r s known e h is =
+    ap (option_map (lift (suc n))) (sym (entry-of us c n (Some entry) e))
+    ∙ ap Some (ap (lift (suc n)) (sym (tree_at-Stays s entry.0 known)) ∙ ap (λ j. lift j (tree_at ts entry.0)) (sym is) ∙ sym (Holds-tree_at us r.0 _ h))
+
+known-frame : {ts us : List Tree} → Keeps ts us → (f : Frame) → IsKnownFrame ts f → IsKnownFrame us f
+known-frame k (frame.Function x) h = omega (arith, k.longer, h)
+known-frame k (frame.Reached p x) h = (omega (arith, k.longer, h.0), omega (arith, k.longer, h.1))
+known-frame k (frame.Argument a b x) h = (omega (arith, k.longer, h.0), omega (arith, k.longer, h.1), omega (arith, k.longer, h.2))
+known-frame k (frame.Expected a b x y) h = (omega (arith, k.longer, h.0), omega (arith, k.longer, h.1), omega (arith, k.longer, h.2), omega (arith, k.longer, h.3))
+known-frame k (frame.Domain a b) h = (omega (arith, k.longer, h.0), omega (arith, k.longer, h.1))
+known-frame k (frame.Body a) h = omega (arith, k.longer, h)
+known-frame k (frame.ProductDomain a b) h = (omega (arith, k.longer, h.0), omega (arith, k.longer, h.1))
+known-frame k frame.ProductBody h = tt
+
+known-frames : {ts us : List Tree} → Keeps ts us → (fs : List Frame) → AreKnownFrames ts fs → AreKnownFrames us fs
+known-frames k [] h = tt
+known-frames k (f ∷ fs) h = (known-frame k f h.0, known-frames k fs h.1)
+
+pub known-state : {ts us : List Tree} → Keeps ts us → (s : State) → IsKnownState ts s → IsKnownState us s
+known-state k s h = record { context = AreKnown-Keeps k s.context h.context; frames = known-frames k s.frames h.frames }
+
+-- a leaf's turn, in a table that may have grown
+pub asked-leaf : (m : Module) (ts : List Tree) (s : State) (id : LpId) (t : Tree) (o : Option Tree) (old new : ℕ) (n : Next) → Keeps ts m.table → Holds ts id.0 t
+    → infer (declarations_of m) true (trees_at m.table s.context) t ≡ found_if o → IsFoundIf m.table o n → old - new ≤ 1
+    → IsTurned m (Ask (Infer (trees_at m.table s.context) (tree_at m.table id.0)) (resume (declarations_of m) m.table s.context s.frames)) old new s n
+asked-leaf m ts s id t o old new n k at is h le = asked-found m s id t o old new n (Holds-tree_at m.table id.0 t (k.stays.each id.0 t at)) is h le
+
+-- what follows from what holds of a result
+pub IfOk-map : {X E : Type 0} {P Q : X → Type 0} (r : Result X E) → ((x : X) → P x → Q x) → IfOk r P → IfOk r Q
+IfOk-map (Ok x) f h = f x h
+IfOk-map (Err e) f h = tt
+
+-- the context outside the innermost variable is known
+pub known-outside : (ts : List Tree) (c d : List LpId) → d ≡ outside c → AreKnown ts c → AreKnown ts d
+known-outside ts c d e h = subst (AreKnown ts) (sym e) (go c h)
+  where
+    go : (c : List LpId) → AreKnown ts c → AreKnown ts (outside c)
+    go [] h = tt
+    go (id ∷ ids) h = h.1
+
+-- a frame more is known
+pub known-pushed : (ts : List Tree) (s : State) (f : Frame) (fs : List Frame) → IsKnownState ts s → IsKnownFrame ts f → fs ≡ f ∷ s.frames → IsKnownState ts (record { context = s.context; frames = fs })
+known-pushed ts s f fs h k e = record { context = h.context; frames = subst (AreKnownFrames ts) (sym e) (k, h.frames) }

@@ -1,0 +1,10 @@
+use Rattle.std.proofs.Common.{◌+◌, ◌*◌, length}
+use Rattle.lp_kernel.specs.Pending.{weight_of}
+use Rattle.lp_kernel.proofs.Looped.{IsLoop}
+use Rattle.lp_kernel.proofs.inference.infer.Given as goal
+
+abbrev pub invariant-loop-next : goal.invariant-loop-next
+invariant-loop-next l = IsLoop l.fn.base l.base l.fn.ctx l.fn.id l.fn.budget.left l.budget.left l.state l.next
+
+abbrev pub decreases-loop-next : goal.decreases-loop-next
+decreases-loop-next l = 2 * l.budget.left + length l.state.frames + weight_of l.next

@@ -1,0 +1,3 @@
+mod NotedLaws
+mod Turns
+mod SpreadLaws

@@ -1,0 +1,85 @@
+-- What a turn does to a walk.
+use Rattle.std.proofs.Common.{◌≡◌, ℕ, ◌+◌, ◌<◌, refl, sym, ap, ◌∙◌, subst, arith, List, [], ◌∷◌, length, Result, Ok, Err, ◌⊎◌, ⊎_elim}
+use Rattle.std.specs.Prelude.{OnOk}
+use Rattle.lp_spec.specs.Trees.{Tree, SortType, SortKind, Var, Sym, App, Lam, Pi, size}
+use Rattle.lp_weight.specs.declared.memo.Place.{Place}
+use Rattle.lp_weight.specs.declared.measure.Task.{Task}
+use Rattle.lp_weight.specs.declared.measure.Task.TheVariants.{Visit, Join}
+use Rattle.lp_weight.specs.Saturation.{saturated}
+use Rattle.lp_weight.specs.Noted.{IsNoted}
+use Rattle.lp_weight.specs.Measures.{IsPlace, tree_of, AreTwo, Makes, IsWalk, work}
+
+pub OnOk-map : {T E P Q : Type 0} (r : Result T E) → (P → Q) → OnOk r P → OnOk r Q
+OnOk-map (Ok v) f h = f h
+OnOk-map (Err e) f h = tt
+
+-- a sum of saturated numbers saturates as that of the numbers
+pub saturated-sum : (n a b : ℕ) → saturated (n + saturated a + saturated b) ≡ saturated (n + a + b)
+saturated-sum n a b = omega arith
+
+size_pos : (t : Tree) → 0 < size t
+size_pos SortType = omega arith
+size_pos SortKind = omega arith
+size_pos (Var n) = omega arith
+size_pos (Sym s) = omega arith
+size_pos (App f x) = omega arith
+size_pos (Lam a b) = omega arith
+size_pos (Pi a b) = omega arith
+
+module _ (amount : Place → ℕ) (trees : List Tree) (place : Place) (tasks : List Task) (amounts : List ℕ) (memo : List (Place × ℕ)) where
+  -- a visit that gives the amount
+  pub visit_given : (n : ℕ) → n ≡ saturated (amount place) → (goal : ℕ) → IsWalk amount trees goal (Visit place ∷ tasks) amounts memo → IsWalk amount trees goal tasks (n ∷ amounts) memo
+  visit_given n e goal w = record {
+    places = w.places.1;
+    noted = w.noted;
+    makes = subst (λ k. Makes amount tasks (k ∷ amounts) goal) (sym e) w.makes;
+  }
+
+  pub visit_less : work trees tasks < work trees (Visit place ∷ tasks)
+  visit_less = omega (arith, size_pos (tree_of trees place))
+
+  -- a visit that sets out the parts
+  module _ (own : ℕ) (first second : Place) (two : AreTwo amount trees place own first second) where
+    pub set_out_walk : (goal : ℕ) → IsWalk amount trees goal (Visit place ∷ tasks) amounts memo → IsWalk amount trees goal (Visit first ∷ Visit second ∷ Join place own ∷ tasks) amounts memo
+    set_out_walk goal w = record {
+      places = (two.first_place, (two.second_place, w.places.1));
+      noted = w.noted;
+      makes = (saturated-sum own (amount first) (amount second) ∙ two.sum, w.makes);
+    }
+
+    pub set_out_less : work trees (Visit first ∷ Visit second ∷ Join place own ∷ tasks) < work trees (Visit place ∷ tasks)
+    set_out_less = omega (arith, two.smaller)
+
+-- a join whose parts are summed
+pub join_walk : (place : Place) (own n first second : ℕ) (tasks : List Task) (amounts rest : List ℕ) (memo noted : List (Place × ℕ)) → amounts ≡ second ∷ first ∷ rest → n ≡ saturated (own + first + second)
+    → ((p : Place) (k : ℕ) → IsNoted noted p k → IsNoted memo p k ⊎ ((p ≡ place) × (k ≡ n)))
+    → (amount : Place → ℕ) (trees : List Tree) (goal : ℕ) → IsWalk amount trees goal (Join place own ∷ tasks) amounts memo → IsWalk amount trees goal tasks (n ∷ rest) noted
+join_walk place own n first second tasks amounts rest memo noted em en notes amount trees goal w =
+    let makes = subst (λ l. Makes amount (Join place own ∷ tasks) l goal) em w.makes in
+    let is : n ≡ saturated (amount place) = en ∙ makes.0 in
+    record {
+      places = w.places;
+      noted = λ p k h. ⊎_elim (λ old. w.noted p k old) (λ new. new.1 ∙ is ∙ ap (λ q. saturated (amount q)) (sym new.0)) (notes p k h);
+      makes = subst (λ k. Makes amount tasks (k ∷ rest) goal) (sym is) makes.1;
+    }
+
+-- a join has two amounts on top
+pub join_length : (amount : Place → ℕ) (trees : List Tree) (goal : ℕ) (place : Place) (own : ℕ) (tasks : List Task) (amounts : List ℕ) (memo : List (Place × ℕ)) → IsWalk amount trees goal (Join place own ∷ tasks) amounts memo → 1 < length amounts
+join_length amount trees goal place own tasks amounts memo w = go amounts w.makes
+  where
+    go : (l : List ℕ) → Makes amount (Join place own ∷ tasks) l goal → 1 < length l
+    go [] h = absurd h
+    go (x ∷ []) h = absurd h
+    go (x ∷ y ∷ l) h = omega arith
+
+-- a walk at its beginning
+pub walk_begins : (amount : Place → ℕ) (trees : List Tree) (place : Place) (memo : List (Place × ℕ)) → IsPlace trees place → ((p : Place) (n : ℕ) → IsNoted memo p n → ⊥) → IsWalk amount trees (amount place) (Visit place ∷ []) [] memo
+walk_begins amount trees place memo p none = record {
+  places = (p, tt);
+  noted = λ q n h. absurd (none q n h);
+  makes = refl;
+}
+
+-- where no task is left, the amount on top is the one that is wanted
+pub walk_done : (amount : Place → ℕ) (trees : List Tree) (goal : ℕ) (amounts : List ℕ) (memo : List (Place × ℕ)) → IsWalk amount trees goal [] amounts memo → amounts ≡ saturated goal ∷ []
+walk_done amount trees goal amounts memo w = w.makes

@@ -1,0 +1,55 @@
+//! What places amount to, so that each is looked at once.
+ghost use Rattle.std.specs.Prelude.{◌≡◌, ◌⊎◌, ℕ, IfSome, OnOk, OnErr};
+ghost use Rattle.lp_weight.specs.declared.memo.Place.{Place as APlace};
+ghost use Rattle.lp_weight.specs.Noted.{IsNoted};
+
+use bridge_base::Memory;
+use indexmap::IndexMap;
+use lp_term::LpId;
+use std::alloc::Global;
+use std::marker::Model;
+
+/// A tree as a part of another, under so many of its binders.
+#[derive(Clone, Copy, PartialEq, Eq, Hash)]
+pub(crate) struct Place {
+    pub(crate) id: LpId,
+    pub(crate) depth: u128,
+}
+
+/// The amounts that were summed, by their places.
+#[derive(Drop)]
+pub(crate) struct Memo {
+    amounts: IndexMap<Place, u128>,
+}
+
+impl Model for Memo {
+    ghost use Rattle.std.specs.Prelude.{List, ℕ};
+    ghost use Rattle.lp_weight.specs.declared.memo.Place.{Place as APlace};
+
+    ghost Value = { List (APlace × ℕ) };
+
+    ghost view = { λ m. m.amounts.entries };
+}
+
+impl Memo {
+    pub(crate) fn new(alloc: Global) -> Self
+        ensures empty { (p : APlace) (n : ℕ) → IsNoted result p n → ⊥ }
+    {
+        Memo {
+            amounts: IndexMap::new(alloc),
+        }
+    }
+
+    pub(crate) fn find(&self, place: Place) -> Option<u128>
+        ensures noted { IfSome result (λ n. IsNoted self.now place n) }
+    {
+        self.amounts.get(&place).copied()
+    }
+
+    pub(crate) fn note(&mut self, place: Place, amount: u128) -> Result<(), Memory>
+        ensures noted { OnOk result ((p : APlace) (n : ℕ) → IsNoted self.new p n → IsNoted self.old p n ⊎ ((p ≡ place) × (n ≡ amount))) }
+    {
+        self.amounts.insert(place, amount)?;
+        Ok(())
+    }
+}

@@ -1,0 +1,34 @@
+use Rattle.std.proofs.Common.{sym, ◌∙◌, subst, refl, arith, ◌++◌, map, IsFalse, None}
+use Rattle.lp_spec.specs.declared.form.Form.TheVariants.{Symbol}
+use Rattle.lp_spec.specs.Trees.{Sym, Var}
+use Rattle.lp_spec.specs.Modules.{signature}
+use Rattle.lp_spec.specs.ModuleOrder.{is_declared, MayFollow}
+use Rattle.lp_term.specs.Tables.{Keeps}
+use Rattle.lp_term.specs.TableLaws.{Keeps-trans}
+use Rattle.holide_sig.specs.Modules.{declaration_in}
+use Rattle.holide_sig.specs.ModuleLaws.{IsHeld-Keeps}
+use Rattle.lp_weight_tests.specs.Open.{IsOpen}
+use Rattle.lp_weight_tests.proofs.Declared.{open-Holds, open-Keeps, open-product, symbol-follows}
+use Rattle.lp_weight_tests.proofs.shared.shared_type.Goals as goal
+
+grown : (c : goal.After-into-2-1) → Keeps c.in_ok-into.into.table c.node-3.new.self
+grown c = Keeps-trans c.node.ensures.keeps (Keeps-trans c.node-2.ensures.keeps (Keeps-trans c.doubled.ensures.keeps c.node-3.ensures.keeps))
+
+result : (c : goal.After-into-2-1) → IsOpen 1 13 c.doubled.new.table c.in_ok-result.result
+result c = c.in_ok-result.ensures.«open» 1 13 (omega arith) (open-Holds 1 13 c.node-2.new.self c.in_ok-leaf.leaf (Var 0) c.in_ok-leaf.ensures.made (omega arith) refl (omega arith))
+
+simple : (c : goal.After-into-2-1) → IsOpen 0 13 c.doubled.new.table c.in_ok-simple.simple
+simple c = open-Keeps 0 13 c.in_ok-simple.simple (Keeps-trans c.node-2.ensures.keeps c.doubled.ensures.keeps) (open-Holds 0 13 c.node.new.self c.in_ok-simple.simple (Sym 0) c.in_ok-simple.ensures.made (omega arith) refl (omega arith))
+
+ty : (c : goal.After-into-2-1) → IsOpen 0 13 c.node-3.new.self c.in_ok-ty.ty
+ty c = open-product 0 13 c.doubled.new.table c.node-3.new.self c.in_ok-simple.simple c.in_ok-result.result c.in_ok-ty.ty c.in_ok-ty.ensures.made (simple c) (result c)
+
+pub push-requires-clause-held : goal.push-requires-clause-held
+push-requires-clause-held c = IsHeld-Keeps c.in_ok-into.into c.node-3.new.self (grown c) c.in_ok-into.ensures.held
+
+pub push-requires-clause-follows : goal.push-requires-clause-follows
+push-requires-clause-follows c =
+    let ts = c.node-3.new.self in
+    let new_name : IsFalse (is_declared signature c.new-2.result) = subst (λ n. IsFalse (is_declared signature n)) (sym (c.new-2.ensures ∙ c.in_ok-from_slice.ensures.items)) refl in
+    subst (λ ds. MayFollow (signature ++ map (declaration_in ts) ds) (declaration_in ts (record { name = c.new-2.result; form = Symbol; ty = c.in_ok-ty.ty; body = None }))) (sym c.in_ok-into.ensures.none)
+    (symbol-follows signature ts c.new-2.result c.in_ok-ty.ty new_name (ty c))

@@ -1,0 +1,9 @@
+//! Tests of weights and bounds, by public calls alone: declarations of known weight, and trees with more places than any computer counts.
+//!
+//! This crate has no code of its own. The clauses of `lp_weight` say what a weight is; the tests show numbers that were found by hand.
+#![tactic(auto)]
+
+#[cfg(test)]
+mod shared;
+#[cfg(test)]
+mod texts;
