@@ -1,21 +1,18 @@
 -- The types of equality and of choice, by their parts.
-use Rattle.std.proofs.Common.{◌≡◌, refl, ap, sym, ◌∙◌, List, [], ◌∷◌, Bool, true, false, Option, None, Some, length}
-use Rattle.hol_spec.specs.Names.{Name}
+use Rattle.std.proofs.Common.{◌≡◌, refl, ap, sym, ◌∙◌, Bool, true, false, Option, None, Some}
 use Rattle.hol_spec.specs.NameEquality.{name_eq}
 use Rattle.hol_laws.specs.NameEqualityLaws.{name_eq-Decides}
-use Rattle.hol_spec.specs.Types.{HolType, variable, operator, none, more, types_of}
-use Rattle.hol_spec.specs.Primitives.{arrow_name, function, function_parts, bool, equality_type, select_type}
-use Rattle.hol_type.specs.declared.table.TypeId.{TypeId}
-use Rattle.hol_type.specs.Tables.{types_at}
-use Rattle.hol_type.specs.TableLaws.{some_is}
+use Rattle.hol_spec.specs.Types.{HolType, variable, operator, none, more}
+use Rattle.hol_spec.specs.Primitives.{arrow_name, function, function_parts, bool}
 use Rattle.hol_defs.specs.Generics.{IsEqualityType, IsSelectType}
+use Rattle.std.proofs.lemmas.Option.{same_Some}
 
 -- the parts of equal pairs are equal
 first_is : {a b c d : HolType} → ◌≡◌ {A = Option (HolType × HolType)} (Some (a, b)) (Some (c, d)) → a ≡ c
-first_is e = ap (λ (p : HolType × HolType). p.0) (some_is e)
+first_is e = ap (λ (p : HolType × HolType). p.0) (same_Some _ _ e)
 
 second_is : {a b c d : HolType} → ◌≡◌ {A = Option (HolType × HolType)} (Some (a, b)) (Some (c, d)) → b ≡ d
-second_is e = ap (λ (p : HolType × HolType). p.1) (some_is e)
+second_is e = ap (λ (p : HolType × HolType). p.1) (same_Some _ _ e)
 
 -- a type with these parts is the type of functions from one to the other
 pub function_of_parts : (t a b : HolType) → Some (a, b) ≡ function_parts t → t ≡ function a b
@@ -63,8 +60,3 @@ select_made t l r s v p q h k =
     let f = function_of_parts t l r p in
     let g = function_of_parts l s v q in
     (r, cc)
-
--- an operator over arguments isn't the type of truth values
-pub arguments_not_bool : (trees : List HolType) (n : Name) (args : List TypeId) → (length args ≡ 0 → ⊥) → operator n (types_of (types_at trees args)) ≡ bool → ⊥
-arguments_not_bool trees n [] h e = h refl
-arguments_not_bool trees n (a ∷ args) h e = cc

@@ -5,7 +5,6 @@ use Rattle.hol_spec.specs.Types.{HolType}
 use Rattle.hol_spec.specs.Substitution.{is_instance}
 use Rattle.bridge_base.specs.declared.faults.Fault.{Fault}
 use Rattle.bridge_base.specs.declared.faults.Fault.TheVariants.{Refused, Memory}
-use Rattle.bridge_base.specs.declared.faults.Kind.{Kind}
 use Rattle.bridge_base.specs.declared.faults.Kind.TheVariants.{BadArity, BadConstType}
 
 -- a constant of this generic type, if it has one, may stand at the type

@@ -18,6 +18,7 @@ ghost use Rattle.hol_spec.specs.Names.{Name as AName};
 ghost use Rattle.hol_spec.specs.Symbols.{first_defined_type, first_defined_arity, generic_type, operator_arity, new_constant, new_operator};
 ghost use Rattle.hol_type.specs.Tables.{tree_at};
 ghost use Rattle.hol_term.specs.Tables.{type_at};
+ghost use Rattle.hol_defs.specs.declared.input.Input.TheVariants as the_input;
 ghost use Rattle.hol_defs.specs.Inputs.{newly};
 ghost use Rattle.hol_defs.specs.Generics.{TellsGeneric};
 ghost use Rattle.hol_defs.specs.Kinds.{constant_kind, operator_kind};
@@ -62,6 +63,9 @@ pub enum Generic {
 #[derive(Drop)]
 pub struct Symbols {
     inputs: IndexSet<Input>,
+    // The names of the inputs that are constants, and of those that are operators.
+    constants: IndexSet<Name>,
+    operators: IndexSet<Name>,
 }
 
 impl Model for Symbols {
@@ -76,6 +80,10 @@ impl Model for Symbols {
     ghost coded = { coded_list coded_symbol };
 
     ghost view = { λ s. map symbol_of s.inputs.keys };
+
+    ghost use Rattle.hol_defs.specs.Inputs.{IsIndexed};
+
+    ghost invariant = { λ s. IsIndexed s.inputs.keys s.constants.keys s.operators.keys };
 }
 
 impl Symbols {
@@ -85,6 +93,8 @@ impl Symbols {
     {
         Ok(Symbols {
             inputs: IndexSet::new(alloc),
+            constants: IndexSet::new(alloc),
+            operators: IndexSet::new(alloc),
         })
     }
 
@@ -120,7 +130,8 @@ impl Symbols {
                 }
             }
             None => {
-                self.take(Input::Operator(name.clone()?, arity))?;
+                self.has_inputs_alone();
+                self.take_operator(name, arity)?;
                 Ok(())
             }
         }
@@ -133,12 +144,11 @@ impl Symbols {
         if Primitive::named(name).is_some() {
             return Some(SymbolKind::Primitive);
         }
-        for input in self.inputs.as_slice() {
-            if input.is_constant(name) {
-                return Some(SymbolKind::Input);
-            }
+        if self.constants.contains(name) {
+            Some(SymbolKind::Input)
+        } else {
+            None
         }
-        None
     }
 
     /// How the name is taken as an operator, with any number of arguments: `None` exactly where it isn't.
@@ -148,12 +158,11 @@ impl Symbols {
         if arity_of(name).is_some() {
             return Some(SymbolKind::Primitive);
         }
-        for input in self.inputs.as_slice() {
-            if input.is_operator(name) {
-                return Some(SymbolKind::Input);
-            }
+        if self.operators.contains(name) {
+            Some(SymbolKind::Input)
+        } else {
+            None
         }
-        None
     }
 
     /// The generic type of a primitive or defined constant: `None` exactly where the name is neither.
@@ -192,22 +201,53 @@ impl Symbols {
                 }
             }
             None => {
-                self.take(Input::Constant(name.clone()?))?;
+                self.has_inputs_alone();
+                self.take_constant(name)?;
                 Ok(())
             }
         }
     }
 
-    // Takes an input, if it isn't taken. No symbol is defined.
-    fn take(&mut self, input: Input) -> Result<(), Memory>
-        ensures takes { OnOk result (self.new ≡ self.old ++ newly self.old input) }
-        ensures no_type { (n : AName) → first_defined_type n self.old ≡ None }
-        ensures no_arity { (n : AName) → first_defined_arity n self.old ≡ None }
+    // No symbol is defined: all that are kept are inputs.
+    fn has_inputs_alone(&self)
+        ensures no_type { (n : AName) → first_defined_type n self.now ≡ None }
+        ensures no_arity { (n : AName) → first_defined_arity n self.now ≡ None }
+    {
+        let _inputs = &self.inputs;
+    }
+
+    // Takes a constant, if it isn't taken.
+    fn take_constant(&mut self, name: &Name) -> Result<(), Memory>
+        ensures takes { OnOk result (self.new ≡ self.old ++ newly self.old (the_input.Constant name.now)) }
         ensures unchanged { OnErr result (self.new ≡ self.old) }
     {
-        match self.inputs.insert_full(input) {
+        let own = name.clone()?;
+        let count = self.inputs.len();
+        self.inputs.insert_full(Input::Constant(name.clone()?))?;
+        match self.constants.insert_full(own) {
             Ok(_) => Ok(()),
-            Err(_) => Err(Memory),
+            Err(_) => {
+                self.inputs.truncate(count);
+                Err(Memory)
+            }
+        }
+    }
+
+    // Takes an operator with so many arguments, if it isn't taken.
+    fn take_operator(&mut self, name: &Name, arity: usize) -> Result<(), Memory>
+        ensures takes { OnOk result (self.new ≡ self.old ++ newly self.old (the_input.Operator name.now arity)) }
+        ensures unchanged { OnErr result (self.new ≡ self.old) }
+    {
+        let own = name.clone()?;
+        let count = self.inputs.len();
+        self.inputs
+            .insert_full(Input::Operator(name.clone()?, arity))?;
+        match self.operators.insert_full(own) {
+            Ok(_) => Ok(()),
+            Err(_) => {
+                self.inputs.truncate(count);
+                Err(Memory)
+            }
         }
     }
 }

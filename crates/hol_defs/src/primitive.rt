@@ -2,13 +2,13 @@
 ghost use Rattle.std.specs.Prelude.{◌≡◌, ◌↔◌, ◌<◌, ◌∷◌, [], length, IsTrue};
 ghost use Rattle.std.specs.Option.{option_map};
 ghost use Rattle.hol_spec.specs.NameEquality.{name_eq};
-ghost use Rattle.hol_spec.specs.Primitives.{primitive_arity, primitive_type, bool as bool_type};
+ghost use Rattle.hol_spec.specs.Primitives.{primitive_arity, primitive_type};
 ghost use Rattle.hol_spec.specs.Substitution.{is_instance};
-ghost use Rattle.hol_type.specs.Tables.{tree_at, IsDistinct};
+ghost use Rattle.hol_type.specs.Tables.{tree_at};
 ghost use Rattle.hol_defs.specs.Generics.{generic_of, IsEqualityType, IsSelectType};
 
 use hol_name::Name;
-use hol_type::{TypeId, TypeTable, TypeView};
+use hol_type::{TypeId, TypeTable};
 
 /// A primitive constant.
 #[derive(Clone, Copy)]
@@ -79,7 +79,7 @@ fn is_equality_type(types: &TypeTable, ty: TypeId) -> bool
     let Some((right, truth)) = types.function_parts(rest) else {
         return false;
     };
-    is_bool(types, truth) && left == right
+    types.is_bool(truth) && left == right
 }
 
 // Whether the type is that of choice over some type.
@@ -93,17 +93,5 @@ fn is_select_type(types: &TypeTable, ty: TypeId) -> bool
     let Some((element, truth)) = types.function_parts(predicate) else {
         return false;
     };
-    is_bool(types, truth) && element == chosen
-}
-
-// Whether the type is that of truth values.
-fn is_bool(types: &TypeTable, ty: TypeId) -> bool
-    requires { ty.0 < length types.now }
-    ensures is { IsTrue result ↔ (tree_at types.now ty.0 ≡ bool_type) }
-    ensures distinct { IsDistinct types.now }
-{
-    match types.view(ty) {
-        TypeView::Op(name, args) => args.is_empty() && name.is_single(b"bool"),
-        TypeView::Var(_) => false,
-    }
+    types.is_bool(truth) && element == chosen
 }

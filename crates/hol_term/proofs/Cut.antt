@@ -1,7 +1,7 @@
 -- A table whose last terms and types are given up.
-use Rattle.std.proofs.Common.{◌≡◌, ℕ, zero, suc, ◌≤◌, refl, sym, ap, ◌∙◌, arith, List, [], ◌∷◌, ◌++◌, length, Some, append_assoc}
+use Rattle.std.proofs.Common.{◌≡◌, ℕ, ◌≤◌, refl, sym, ap, ◌∙◌, List, [], ◌∷◌, ◌++◌, length, Some, append_assoc}
 use Rattle.std.specs.Prelude.{slice_get, take, drop}
-use Rattle.std.proofs.lemmas.List.{take-append-drop}
+use Rattle.std.proofs.lemmas.List.{take-append-drop, append-nil, length-take-le}
 use Rattle.std.proofs.Math.Seq.{take-append_seam}
 use Rattle.hol_spec.specs.Types.{HolType}
 use Rattle.hol_spec.specs.Terms.{Term}
@@ -15,11 +15,7 @@ terms_from-two types ts [] b = refl
 terms_from-two types ts (n ∷ a) b = terms_from-two types (ts ++ tree_of_node (over types ts) n.node ∷ []) a b
 
 goes_on : (types : List HolType) (ts : List Term) (es : List Entry) → (l : List Term) × (ts ++ l ≡ terms_from types ts es)
-goes_on types ts [] = ([], append_nil ts)
-  where
-    append_nil : (l : List Term) → l ++ [] ≡ l
-    append_nil [] = refl
-    append_nil (x ∷ l) = ap (λ r. x ∷ r) (append_nil l)
+goes_on types ts [] = ([], append-nil ts)
 goes_on types ts (n ∷ es) = let h = goes_on types (ts ++ tree_of_node (over types ts) n.node ∷ []) es in (tree_of_node (over types ts) n.node ∷ h.0, sym (append_assoc ts (tree_of_node (over types ts) n.node ∷ []) h.0) ∙ h.1)
 
 split : (types : List HolType) (n : ℕ) (es : List Entry) → terms_of types es ≡ terms_from types (terms_of types (take n es)) (drop n es)
@@ -29,13 +25,8 @@ pub terms_of-take : (types : List HolType) (n : ℕ) (es : List Entry) → n ≤
 terms_of-take types n es h =
     let us = terms_of types (take n es) in
     let g = goes_on types us (drop n es) in
-    let len : length us ≡ n = length-terms_of types (take n es) ∙ length_take n es h in
+    let len : length us ≡ n = length-terms_of types (take n es) ∙ length-take-le n es h in
     sym (take-append_seam us g.0) ∙ ap (λ l. take (length us) l) (g.1 ∙ sym (split types n es)) ∙ ap (λ k. take k (terms_of types es)) len
-  where
-    length_take : (n : ℕ) (l : List Entry) → n ≤ length l → length (take n l) ≡ n
-    length_take zero l h = refl
-    length_take (suc n) [] h = absurd (omega arith)
-    length_take (suc n) (x ∷ l) h = ap suc (length_take n l (omega arith))
 
 pub IsTable-take : (types : List HolType) (n : ℕ) (es : List Entry) → IsTable types es → IsTable types (take n es)
 IsTable-take types n es t = record {

@@ -1,17 +1,16 @@
 -- The terms of a list of entries.
 use Rattle.std.proofs.Common.{◌≡◌, ℕ, zero, suc, ◌+◌, refl, sym, ap, ◌∙◌, subst, arith, List, [], ◌∷◌, ◌++◌, length, Some, length-append, ◌⊎◌, ⊎_elim, inl, inr, Bool, true, false}
 use Rattle.std.specs.Prelude.{slice_get, nat_eq, ◌&&◌}
-use Rattle.std.proofs.lemmas.Option.{slice_get_within}
+use Rattle.std.proofs.lemmas.Option.{slice_get_within, same_Some}
 use Rattle.std.proofs.lemmas.Bool.{eqb-true}
+use Rattle.std.proofs.Math.Path.{ap₂}
 use Rattle.hol_spec.specs.NameEquality.{name_eq}
 use Rattle.hol_laws.specs.NameEqualityLaws.{name_eq-Decides}
 use Rattle.hol_spec.specs.Types.{HolType, variable}
 use Rattle.hol_spec.specs.Terms.{Term, free, bound, constant, app, lam}
-use Rattle.hol_laws.specs.TermRenamings.{ap2}
 use Rattle.hol_type.specs.declared.table.TypeId.{TypeId}
 use Rattle.hol_type.specs.Tables as type
 use Rattle.hol_type.specs.TableLaws as type_law
-use Rattle.hol_type.specs.TableLaws.{some_is}
 use Rattle.hol_term.specs.declared.node.Node.{Node}
 use Rattle.hol_term.specs.declared.node.Node.TheVariants as node
 use Rattle.hol_term.specs.declared.node.Entry.{Entry}
@@ -46,7 +45,7 @@ slice_get-last (z ∷ xs) x = slice_get-last xs x
 
 -- an item of a longer list is an old one or the last
 pub slice_get-one_more : {X : Type 0} (xs : List X) (x y : X) (i : ℕ) → slice_get (xs ++ x ∷ []) i ≡ Some y → (slice_get xs i ≡ Some y) ⊎ ((i ≡ length xs) × (x ≡ y))
-slice_get-one_more [] x y zero e = inr (refl, some_is e)
+slice_get-one_more [] x y zero e = inr (refl, same_Some _ _ e)
 slice_get-one_more [] x y (suc i) e = inl e
 slice_get-one_more (z ∷ xs) x y zero e = inl e
 slice_get-one_more (z ∷ xs) x y (suc i) e = ⊎_elim (λ h. inl h) (λ h. inr (ap suc h.0, h.1)) (slice_get-one_more xs x y i e)
@@ -56,7 +55,7 @@ node_from : (types : List HolType) (ts : List Term) (es : List Entry) (j : ℕ) 
 node_from types ts [] j m e h = absurd (let h = slice_get_within [] j m e in omega arith)
 node_from types ts (n ∷ es) zero m e h =
     let z : length ts + 0 ≡ length ts = omega arith in
-    let same : n ≡ m = some_is e in
+    let same : n ≡ m = same_Some _ _ e in
     let us = ts ++ tree_of_node (over types ts) n.node ∷ [] in
     let hn = subst (λ w. PartsBelow w (length types) n.node) z (subst (λ w. PartsBelow (length ts + 0) (length types) w.node) (sym same) h) in
     ap (slice_get (terms_from types ts (n ∷ es))) z
@@ -98,9 +97,9 @@ same_type : (t u : TypeId) → nat_eq t.0 u.0 ≡ true → t ≡ u
 same_type t u e = let p = eqb-true t.0 u.0 e in λ i. record { 0 = p i }
 
 pub node_eq-true : (x y : Node) → node_eq.eq-value.it x y ≡ true → x ≡ y
-node_eq-true (node.Free m t) (node.Free n u) h = let p = both_true (name_eq m n) (nat_eq t.0 u.0) h in ap2 node.Free ((name_eq-Decides m n).0 p.0) (same_type t u p.1)
+node_eq-true (node.Free m t) (node.Free n u) h = let p = both_true (name_eq m n) (nat_eq t.0 u.0) h in ap₂ node.Free ((name_eq-Decides m n).0 p.0) (same_type t u p.1)
 node_eq-true (node.Bound n) (node.Bound m) h = grind arith
-node_eq-true (node.Const m t) (node.Const n u) h = let p = both_true (name_eq m n) (nat_eq t.0 u.0) h in ap2 node.Const ((name_eq-Decides m n).0 p.0) (same_type t u p.1)
+node_eq-true (node.Const m t) (node.Const n u) h = let p = both_true (name_eq m n) (nat_eq t.0 u.0) h in ap₂ node.Const ((name_eq-Decides m n).0 p.0) (same_type t u p.1)
 node_eq-true (node.App f x) (node.App g y) h = grind arith
 node_eq-true (node.Lam t x) (node.Lam u y) h = grind arith
 node_eq-true _ _ h = absurd (cc)
@@ -142,9 +141,9 @@ type_in _ = variable []
 
 pub tree_of_node-same : (trees : Trees) → type.IsDistinct trees.types → IsDistinct trees.terms → (m n : Node) → PartsBelow (length trees.terms) (length trees.types) m → PartsBelow (length trees.terms) (length trees.types) n → tree_of_node trees m ≡ tree_of_node trees n → m ≡ n
 unfolding left_of right_of type_in
-tree_of_node-same trees c d (node.Free a t) (node.Free b u) hm hn e = let f : a ≡ b = cc in ap2 node.Free f (type_law.tree_at-same c t u hm hn (ap type_in e))
+tree_of_node-same trees c d (node.Free a t) (node.Free b u) hm hn e = let f : a ≡ b = cc in ap₂ node.Free f (type_law.tree_at-same c t u hm hn (ap type_in e))
 tree_of_node-same trees c d (node.Bound a) (node.Bound b) hm hn e = cc
-tree_of_node-same trees c d (node.Const a t) (node.Const b u) hm hn e = let f : a ≡ b = cc in ap2 node.Const f (type_law.tree_at-same c t u hm hn (ap type_in e))
-tree_of_node-same trees c d (node.App f x) (node.App g y) hm hn e = ap2 node.App (term_in-same d f g hm.0 hn.0 (ap left_of e)) (term_in-same d x y hm.1 hn.1 (ap right_of e))
-tree_of_node-same trees c d (node.Lam t x) (node.Lam u y) hm hn e = ap2 node.Lam (type_law.tree_at-same c t u hm.0 hn.0 (ap type_in e)) (term_in-same d x y hm.1 hn.1 (ap right_of e))
+tree_of_node-same trees c d (node.Const a t) (node.Const b u) hm hn e = let f : a ≡ b = cc in ap₂ node.Const f (type_law.tree_at-same c t u hm hn (ap type_in e))
+tree_of_node-same trees c d (node.App f x) (node.App g y) hm hn e = ap₂ node.App (term_in-same d f g hm.0 hn.0 (ap left_of e)) (term_in-same d x y hm.1 hn.1 (ap right_of e))
+tree_of_node-same trees c d (node.Lam t x) (node.Lam u y) hm hn e = ap₂ node.Lam (type_law.tree_at-same c t u hm.0 hn.0 (ap type_in e)) (term_in-same d x y hm.1 hn.1 (ap right_of e))
 tree_of_node-same trees c d _ _ hm hn e = absurd (cc)

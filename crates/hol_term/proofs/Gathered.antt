@@ -2,6 +2,7 @@
 use Rattle.std.proofs.Common.{◌≡◌, refl, sym, ap, ◌∙◌, subst, List, [], ◌∷◌, ◌++◌, Bool, true, false, ◌||◌, ◌⊎◌, ⊎_elim, inl, inr, cond}
 use Rattle.std.specs.List.{list_any}
 use Rattle.std.proofs.lemmas.List.{append_assoc, append-nil}
+use Rattle.std.proofs.Math.Path.{ap₂}
 use Rattle.hol_spec.specs.Names.{Name}
 use Rattle.hol_spec.specs.NameEquality.{name_eq}
 use Rattle.hol_laws.specs.NameEqualityLaws.{name_eq-Decides}
@@ -10,7 +11,6 @@ use Rattle.hol_laws.specs.ListLaws.{union-append}
 use Rattle.hol_spec.specs.Types.{HolType, variable_places}
 use Rattle.hol_spec.specs.Terms.{Term, free, bound, constant, app, lam, variable_eq, term_eq, free_places, type_variable_places}
 use Rattle.hol_laws.specs.TermLaws.{term_eq-Decides}
-use Rattle.hol_laws.specs.TermRenamings.{ap2}
 use Rattle.hol_term.specs.Subterms.{subterms, free_head, type_head, gathered, AreIn}
 
 pub or_left : (a b : Bool) → a ≡ true → (a || b) ≡ true
@@ -96,14 +96,14 @@ free_of_parts : (t : Term) → gathered free_head (subterms t) ≡ free_places t
 free_of_parts (free n t) = refl
 free_of_parts (bound k) = refl
 free_of_parts (constant n t) = refl
-free_of_parts (app f x) = gathered-append free_head (subterms f) (subterms x) ∙ ap2 (λ a b. a ++ b) (free_of_parts f) (free_of_parts x)
+free_of_parts (app f x) = gathered-append free_head (subterms f) (subterms x) ∙ ap₂ (λ a b. a ++ b) (free_of_parts f) (free_of_parts x)
 free_of_parts (lam t b) = free_of_parts b
 
 types_of_parts : (t : Term) → gathered type_head (subterms t) ≡ type_variable_places t
 types_of_parts (free n t) = append-nil (variable_places t)
 types_of_parts (bound k) = refl
 types_of_parts (constant n t) = append-nil (variable_places t)
-types_of_parts (app f x) = gathered-append type_head (subterms f) (subterms x) ∙ ap2 (λ a b. a ++ b) (types_of_parts f) (types_of_parts x)
+types_of_parts (app f x) = gathered-append type_head (subterms f) (subterms x) ∙ ap₂ (λ a b. a ++ b) (types_of_parts f) (types_of_parts x)
 types_of_parts (lam t b) = ap (λ l. variable_places t ++ l) (types_of_parts b)
 
 -- a free variable is among those of some terms where it is one of them

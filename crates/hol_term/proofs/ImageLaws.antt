@@ -2,13 +2,13 @@
 use Rattle.std.proofs.Common.{◌≡◌, ◌<◌, ◌⊎◌, ⊎_elim, refl, sym, ap, ◌∙◌, subst, arith, List, [], ◌∷◌, length, Option, Some, None}
 use Rattle.std.specs.Prelude.{unwrap_or, IsSome}
 use Rattle.std.specs.Map.{lookup}
+use Rattle.std.proofs.Math.Path.{ap₂}
 use Rattle.hol_spec.specs.Names.{Name}
 use Rattle.bridge_base.specs.declared.faults.Fault.{Fault}
 use Rattle.bridge_base.specs.declared.faults.Fault.TheVariants.{Refused, Memory}
 use Rattle.bridge_base.specs.declared.faults.Kind.TheVariants.{TooLarge, TooDeep}
 use Rattle.hol_spec.specs.Types.{HolType}
 use Rattle.hol_spec.specs.Substitution.{TypePairs, substitute}
-use Rattle.hol_laws.specs.TermRenamings.{ap2}
 use Rattle.hol_spec.specs.Terms.{Term, free, app, lam, variable_eq, type_of, IsTerm}
 use Rattle.hol_spec.specs.TermSubstitution.{TermPairs, sub, AreFitting}
 use Rattle.hol_laws.specs.TermSubstitutionLaws.{type_of-sub}
@@ -43,7 +43,7 @@ module _ (a b : Trees) (k : Keeps a b) where
   term_pairs_at-Keeps : (ps : List (Variable × TermId)) → AreTermPairsKnown a ps → term_pairs_at a ps ≡ term_pairs_at b ps
   term_pairs_at-Keeps [] h = refl
   term_pairs_at-Keeps (p ∷ ps) h =
-      ap2 (λ q l. q ∷ l) (ap2 (λ t u. ((p.0.name, t), u)) (type_law.tree_at-Stays k.types.stays p.0.ty.0 h.0) (term_in-Stays k.stays p.1.0 h.1.0)) (term_pairs_at-Keeps ps h.1.1)
+      ap₂ (λ q l. q ∷ l) (ap₂ (λ t u. ((p.0.name, t), u)) (type_law.tree_at-Stays k.types.stays p.0.ty.0 h.0) (term_in-Stays k.stays p.1.0 h.1.0)) (term_pairs_at-Keeps ps h.1.1)
 
   module _ (types : List (Name × TypeId)) (terms : List (Variable × TermId)) (g : AreKnownPairs a types terms) where
     pub AreKnownPairs-Keeps : AreKnownPairs b types terms
@@ -51,7 +51,7 @@ module _ (a b : Trees) (k : Keeps a b) where
 
     -- and makes the same of a term
     pub image_of-Keeps : (t : Term) → image_of a types terms t ≡ image_of b types terms t
-    image_of-Keeps t = ap2 (λ ts us. sub ts us t) (type_law.pairs_at-Stays k.types.stays types g.known_types) (term_pairs_at-Keeps terms g.known_terms)
+    image_of-Keeps t = ap₂ (λ ts us. sub ts us t) (type_law.pairs_at-Stays k.types.stays types g.known_types) (term_pairs_at-Keeps terms g.known_terms)
 
     pub image_at-Keeps : (id : TermId) → id.0 < length a.terms → image_of a types terms (term_at a id.0) ≡ image_of b types terms (term_at b id.0)
     image_at-Keeps id lt = image_of-Keeps (term_at a id.0) ∙ ap (image_of b types terms) (term_in-Stays k.stays id.0 lt)
@@ -72,7 +72,7 @@ module _ (a b : Trees) (k : Keeps a b) where
 module _ (a b : Trees) (k : Keeps a b) (types : List (Name × TypeId)) (terms : List (Variable × TermId)) (g : AreKnownPairs a types terms) (n : Name) (ty put : TypeId) (is : type_at b put.0 ≡ substitute (type.pairs_at a.types types) (type_at a ty.0)) where
   image_is : (t : Term) → unwrap_or (lookup (variable_eq (n, type_at b put.0)) (term_pairs_at b terms)) (free n (type_at b put.0)) ≡ t → t ≡ image_of a types terms (free n (type_at a ty.0))
   image_is t e =
-      sym e ∙ ap2 (λ ps u. unwrap_or (lookup (variable_eq (n, u)) ps) (free n u)) (sym (term_pairs_at-Keeps a b k terms g.known_terms)) is
+      sym e ∙ ap₂ (λ ps u. unwrap_or (lookup (variable_eq (n, u)) ps) (free n u)) (sym (term_pairs_at-Keeps a b k terms g.known_terms)) is
 
   pub free_put : (id : TermId) → IsPutFor b terms (n, type_at b put.0) (Some id) → Holds b id.0 (image_of a types terms (free n (type_at a ty.0)))
   free_put id h = term_in-Some b.terms id.0 h.0 ∙ ap Some (image_is (term_at b id.0) (ap (λ o. unwrap_or o (free n (type_at b put.0))) h.1))
@@ -85,15 +85,15 @@ pub image_app : (a b d g : Trees) (types : List (Name × TypeId)) (terms : List 
 image_app a b d g types terms f x fn arg made id k l known lt e hf hx h =
     let left : term_at d fn.0 ≡ image_of a types terms (term_at a f.0) = Some-term_in d.terms fn.0 (image_of a types terms (term_at a f.0)) (l.stays.each fn.0 (image_of a types terms (term_at a f.0)) hf) in
     let right : term_at d arg.0 ≡ image_of a types terms (term_at a x.0) = Some-term_in d.terms arg.0 (image_of b types terms (term_at b x.0)) hx ∙ sym (image_at-Keeps a b k types terms known x lt) in
-    h ∙ ap Some (ap2 app left right ∙ ap (image_of a types terms) (sym (Some-term_in a.terms id.0 (app (term_at a f.0) (term_at a x.0)) e)))
+    h ∙ ap Some (ap₂ app left right ∙ ap (image_of a types terms) (sym (Some-term_in a.terms id.0 (app (term_at a f.0) (term_at a x.0)) e)))
 
 -- an abstraction whose body and whose variable's type are made
 pub image_lam : (a b d g : Trees) (types : List (Name × TypeId)) (terms : List (Variable × TermId)) (ty binder : TypeId) (x body made id : TermId) → Keeps a b → Keeps b d → AreKnownPairs a types terms → ty.0 < length a.types → Holds a id.0 (lam (type_at a ty.0) (term_at a x.0)) → Holds b body.0 (image_of a types terms (term_at a x.0)) → type_at d binder.0 ≡ substitute (type.pairs_at b.types types) (type_at b ty.0) → Holds g made.0 (lam (type_at d binder.0) (term_at d body.0)) → Holds g made.0 (image_of a types terms (term_at a id.0))
 image_lam a b d g types terms ty binder x body made id k l known lt e hb ht h =
     let outer : type_at d binder.0 ≡ substitute (type.pairs_at a.types types) (type_at a ty.0)
-    = ht ∙ sym (ap2 substitute (type_law.pairs_at-Stays k.types.stays types known.known_types) (type_law.tree_at-Stays k.types.stays ty.0 lt)) in
+    = ht ∙ sym (ap₂ substitute (type_law.pairs_at-Stays k.types.stays types known.known_types) (type_law.tree_at-Stays k.types.stays ty.0 lt)) in
     let inner : term_at d body.0 ≡ image_of a types terms (term_at a x.0) = Some-term_in d.terms body.0 (image_of a types terms (term_at a x.0)) (l.stays.each body.0 (image_of a types terms (term_at a x.0)) hb) in
-    h ∙ ap Some (ap2 lam outer inner ∙ ap (image_of a types terms) (sym (Some-term_in a.terms id.0 (lam (type_at a ty.0) (term_at a x.0)) e)))
+    h ∙ ap Some (ap₂ lam outer inner ∙ ap (image_of a types terms) (sym (Some-term_in a.terms id.0 (lam (type_at a ty.0) (term_at a x.0)) e)))
 
 -- fitting terms put into a term make a term
 pub sub_term : (types : TypePairs) (terms : TermPairs) (t : Term) → AreFitting terms → IsTerm t → IsTerm (sub types terms t)

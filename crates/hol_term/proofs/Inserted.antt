@@ -2,21 +2,18 @@
 use Rattle.std.proofs.Common.{◌≡◌, ℕ, zero, suc, ◌<◌, refl, sym, ap, ◌∙◌, subst, arith, List, [], ◌∷◌, ◌++◌, length, get_or, Some, ⊎_elim, inl, inr, ◌⊎◌, Bool, true, false, length-append}
 use Rattle.std.specs.Prelude.{slice_get, if◌then◌else◌, ◌||◌}
 use Rattle.std.specs.List.{list_any}
-use Rattle.std.proofs.lemmas.Option.{slice_get_within, slice_get-get_or}
+use Rattle.std.proofs.lemmas.Option.{slice_get_within, slice_get-get_or, same_Some}
+use Rattle.std.proofs.Math.Path.{subst₂}
 use Rattle.indexmap.specs.IndexSet.{insert_key}
 use Rattle.hol_spec.specs.Types.{HolType}
 use Rattle.hol_spec.specs.Terms.{Term}
 use Rattle.hol_type.specs.TableLaws as type_law
-use Rattle.hol_type.specs.TableLaws.{some_is}
 use Rattle.hol_term.specs.declared.node.Entry.{Entry}
 use Rattle.hol_term.specs.contracts.node.EntryPartialEq.TheImpl as entry_eq
 use Rattle.hol_term.specs.Tables.{Stays, Keeps}
 use Rattle.hol_term.specs.TableLaws.{Stays-refl, Stays-append, tree_of_node-Stays, PartsBelow-more}
 use Rattle.hol_term.specs.Nodes.{tree_of_node, PartsBelow, IsMeasured, terms_of, IsTable}
 use Rattle.hol_term.proofs.EntryLaws.{over, terms_from-append, length-terms_of, slice_get-one_more, terms_of-Some, entry_eq-true, entry_eq-same, tree_of_node-same}
-
-pub subst2 : {A B : Type 0} (P : A → B → Type 0) {a a' : A} {b b' : B} → a ≡ a' → b ≡ b' → P a b → P a' b'
-subst2 P {a' = a'} {b = b} p q h = subst (P a') q (subst (λ w. P w b) p h)
 
 -- the tree of an entry over a table's entries
 abbrev pub tree_over : List HolType → List Entry → Entry → Term
@@ -25,7 +22,7 @@ tree_over types es e = tree_of_node (over types (terms_of types es)) e.node
 -- an entry whose node the table lacks
 module _ (types : List HolType) (es : List Entry) (e : Entry) (t : IsTable types es) (p : PartsBelow (length (terms_of types es)) (length types) e.node) (m : IsMeasured types e (tree_over types es e)) (absent : (j : ℕ) (o : Entry) → slice_get es j ≡ Some o → o.node ≡ e.node → ⊥) where
   low : (i : ℕ) (o : Entry) → slice_get (es ++ e ∷ []) i ≡ Some o → PartsBelow i (length types) o.node
-  low i o at = ⊎_elim (λ h. t.lower i o h) (λ h. subst2 (λ n w. PartsBelow n (length types) w.node) (length-terms_of types es ∙ sym h.0) h.1 p) (slice_get-one_more es e o i at)
+  low i o at = ⊎_elim (λ h. t.lower i o h) (λ h. subst₂ (λ n w. PartsBelow n (length types) w.node) (length-terms_of types es ∙ sym h.0) h.1 p) (slice_get-one_more es e o i at)
 
   clash : (i : ℕ) → slice_get (terms_of types es) i ≡ Some (tree_over types es e) → ⊥
   clash i held =
@@ -33,7 +30,7 @@ module _ (types : List HolType) (es : List Entry) (e : Entry) (t : IsTable types
       let at = slice_get-get_or es i e lt in
       let o = get_or es i e in
       let below = t.lower i o at in
-      let same = tree_of_node-same (over types (terms_of types es)) t.one_each t.distinct o.node e.node (PartsBelow-more (omega (arith, length-terms_of types es)) (omega arith) o.node below) p (some_is (sym (terms_of-Some types es i o below at) ∙ held)) in
+      let same = tree_of_node-same (over types (terms_of types es)) t.one_each t.distinct o.node e.node (PartsBelow-more (omega (arith, length-terms_of types es)) (omega arith) o.node below) p (same_Some _ _ (sym (terms_of-Some types es i o below at) ∙ held)) in
       absent i o at same
 
   distinct : (i j : ℕ) (u : Term) → slice_get (terms_of types (es ++ e ∷ [])) i ≡ Some u → slice_get (terms_of types (es ++ e ∷ [])) j ≡ Some u → i ≡ j
@@ -52,7 +49,7 @@ module _ (types : List HolType) (es : List Entry) (e : Entry) (t : IsTable types
       let w = slice_get-one_more (terms_of types es) (tree_over types es e) u i (ap (λ w. slice_get w i) (sym g) ∙ held) in
       ⊎_elim
       (λ a. ⊎_elim (λ b. t.measured i o u a b) (λ b. absurd (let h = slice_get_within es i o a in omega (arith, h, b.0, length-terms_of types es))) w)
-      (λ a. ⊎_elim (λ b. absurd (let h = slice_get_within (terms_of types es) i u b in omega (arith, h, a.0, length-terms_of types es))) (λ b. subst2 (IsMeasured types) a.1 b.1 m) w)
+      (λ a. ⊎_elim (λ b. absurd (let h = slice_get_within (terms_of types es) i u b in omega (arith, h, a.0, length-terms_of types es))) (λ b. subst₂ (IsMeasured types) a.1 b.1 m) w)
       (slice_get-one_more es e o i at)
 
   pub grown_table : IsTable types (es ++ e ∷ [])
@@ -60,7 +57,7 @@ module _ (types : List HolType) (es : List Entry) (e : Entry) (t : IsTable types
 
 any_at : {X : Type 0} (p : X → Bool) (xs : List X) (j : ℕ) (x : X) → slice_get xs j ≡ Some x → p x ≡ true → list_any p xs ≡ true
 any_at p [] j x e h = absurd (cc)
-any_at p (y ∷ ys) zero x e h = let q = ap p (some_is e) ∙ h in ap (λ b. b || list_any p ys) q
+any_at p (y ∷ ys) zero x e h = let q = ap p (same_Some _ _ e) ∙ h in ap (λ b. b || list_any p ys) q
 any_at p (y ∷ ys) (suc j) x e h = go (p y) (any_at p ys j x e h)
   where
     go : (b : Bool) → list_any p ys ≡ true → (b || list_any p ys) ≡ true

@@ -3,6 +3,8 @@ use Rattle.std.proofs.Common.{◌≡◌, ℕ, zero, suc, refl, sym, ap, ◌∙�
 use Rattle.std.proofs.lemmas.Bool.{eqb-true}
 use Rattle.std.specs.Prelude.{slice_get, nat_eq, ◌&&◌, if◌then◌else◌, IfSome}
 use Rattle.std.specs.Map.{lookup}
+use Rattle.std.proofs.Math.Path.{ap₂}
+use Rattle.std.proofs.lemmas.Option.{same_Some}
 use Rattle.indexmap.specs.IndexMap.{insert_entry}
 use Rattle.hol_term.specs.declared.scopes.ScopeId.{ScopeId}
 use Rattle.hol_term.specs.declared.seats.Seat.{Seat}
@@ -13,8 +15,6 @@ use Rattle.hol_term.specs.contracts.memo.ChangePartialEq.TheImpl as change_eq
 use Rattle.hol_term.specs.contracts.memo.PlacePartialEq.TheImpl as place_eq
 use Rattle.hol_term.specs.contracts.seats.SeatPartialEq.TheImpl as seat_eq
 use Rattle.hol_term.specs.Noted.{IsNoted}
-use Rattle.hol_type.specs.TableLaws.{some_is}
-use Rattle.hol_laws.specs.TermRenamings.{ap2}
 
 pub and_both : (a b : Bool) → (a && b) ≡ true → (a ≡ true) × (b ≡ true)
 and_both true b e = (refl, e)
@@ -66,7 +66,7 @@ module _ {K V : Type 0} (eq : K → K → Bool) (same : (p q : K) → eq p q ≡
   found p (e ∷ es) r h = go (λ w. found p es r w) (eq p e.0) refl
     where
       go : (lookup (eq p) es ≡ Some r → IsNoted es p r) → (b : Bool) → eq p e.0 ≡ b → IsNoted (e ∷ es) p r
-      go on true q = (0, let v : e.1 ≡ r = some_is (sym (ap (λ b. if b then Some e.1 else lookup (eq p) es) q) ∙ h) in ap Some (ap2 (λ a b. (a, b)) (sym (same p e.0 q)) v))
+      go on true q = (0, let v : e.1 ≡ r = same_Some _ _ (sym (ap (λ b. if b then Some e.1 else lookup (eq p) es) q) ∙ h) in ap Some (ap₂ (λ a b. (a, b)) (sym (same p e.0 q)) v))
       go on false q = let w = on (sym (ap (λ b. if b then Some e.1 else lookup (eq p) es) q) ∙ h) in (suc w.0, w.1)
 
   pub noted : (k : K) (v : V) (es : List (K × V)) (p : K) (r : V) → IsNoted (insert_entry eq es k v) p r → IsNoted es p r ⊎ ((p ≡ k) × (r ≡ v))

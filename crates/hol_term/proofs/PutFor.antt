@@ -3,6 +3,7 @@ use Rattle.std.proofs.Common.{◌≡◌, ◌<◌, refl, sym, ap, ◌∙◌, List
 use Rattle.std.specs.Prelude.{◌↔◌}
 use Rattle.std.specs.Map.{lookup}
 use Rattle.std.proofs.lemmas.Bool.{eqb-true}
+use Rattle.std.proofs.lemmas.Option.{same_Some}
 use Rattle.hol_spec.specs.Names.{Name}
 use Rattle.hol_spec.specs.Types.{HolType, type_eq}
 use Rattle.hol_spec.specs.Terms.{HasType, variable_eq}
@@ -10,7 +11,6 @@ use Rattle.hol_laws.specs.TermLaws.{type_eq-refl}
 use Rattle.hol_type.specs.declared.table.TypeId.{TypeId}
 use Rattle.hol_type.specs.Tables.{tree_at}
 use Rattle.hol_type.specs.Tables as type
-use Rattle.hol_type.specs.TableLaws.{some_is}
 use Rattle.hol_term.specs.declared.TermId.{TermId}
 use Rattle.hol_term.specs.declared.Variable.{Variable}
 use Rattle.hol_term.specs.Tables.{Trees, term_at, type_at}
@@ -79,4 +79,4 @@ fitting_goes_on trees pairs rest p ty h e f = record {
 -- one whose types differ
 pub fitting_fails : (trees : Trees) (pairs rest : List (Variable × TermId)) (p : Variable × TermId) (ty : TypeId) → type.IsDistinct trees.types → ty.0 < length trees.types → HasType (term_at trees p.1.0) (type_at trees ty.0) → (ty.0 ≡ p.0.ty.0 → ⊥) → IsFitting trees pairs (p ∷ rest) → ArePairsFitting trees pairs → ⊥
 fitting_fails trees pairs rest p ty d lt h n f a =
-    types_apart trees.types d ty p.0.ty lt f.terms.0 n (some_is (sym h ∙ (f.fit.1 a).0))
+    types_apart trees.types d ty p.0.ty lt f.terms.0 n (same_Some _ _ (sym h ∙ (f.fit.1 a).0))

@@ -2,17 +2,17 @@
 use Rattle.std.proofs.Common.{◌≡◌, ℕ, zero, suc, ◌+◌, ◌-◌, ◌*◌, ◌<◌, ◌≤◌, ◌^◌, refl, sym, ap, ◌∙◌, subst, arith, List, [], ◌∷◌, ◌++◌, map, length, reverse, Some, Bool, true, false, cond, ◌⊎◌, ⊎_elim}
 use Rattle.std.specs.Prelude.{slice_get}
 use Rattle.std.specs.Option.{option_map, option_map_or}
-use Rattle.std.proofs.lemmas.Option.{slice_get-map}
+use Rattle.std.proofs.lemmas.Option.{slice_get-map, same_Some}
 use Rattle.std.proofs.lemmas.List.{length-map, map-append, reverse-append}
+use Rattle.std.proofs.Math.Path.{ap₂}
 use Rattle.hol_spec.specs.Terms.{Term, free, bound, constant, app, lam, Variable, variable_eq}
 use Rattle.hol_spec.specs.Types.{HolType}
 use Rattle.hol_laws.specs.TermLaws.{variable_eq-Decides}
 use Rattle.hol_spec.specs.TermBinding.{lift, close_at, loose, put_all_at}
-use Rattle.hol_laws.specs.TermRenamings.{ap2, put_all_bound-high}
+use Rattle.hol_laws.specs.TermRenamings.{put_all_bound-high}
 use Rattle.hol_laws.specs.TermClosed.{lift_at-closed, lift_at-zero, put_all_at-closed}
 use Rattle.hol_type.specs.declared.table.TypeId.{TypeId}
 use Rattle.hol_type.specs.TableLaws as type_law
-use Rattle.hol_type.specs.TableLaws.{some_is}
 use Rattle.hol_term.specs.declared.TermId.{TermId}
 use Rattle.hol_term.specs.declared.memo.Change.{Change}
 use Rattle.hol_term.specs.declared.memo.Change.TheVariants.{Raise, Replace, Close}
@@ -27,7 +27,7 @@ use Rattle.hol_term.specs.Walks.{changed, wanted, CanClose, IsPlace, IsLeftAlone
 -- a longer table wants the same
 module _ (a b : Trees) (k : Keeps a b) (ids : List TermId) (g : AreKnown a ids) where
   pub wanted-Keeps : (p : Place) → p.id.0 < length a.terms → wanted (terms_at a ids) a p ≡ wanted (terms_at b ids) b p
-  wanted-Keeps p h = ap2 (λ args t. changed args p.change p.depth t) (terms_at-Keeps k ids g) (term_in-Stays k.stays p.id.0 h)
+  wanted-Keeps p h = ap₂ (λ args t. changed args p.change p.depth t) (terms_at-Keeps k ids g) (term_in-Stays k.stays p.id.0 h)
 
   pub IsMemo-Keeps : (memo : List (Place × TermId)) → IsMemo a ids memo → IsMemo b ids memo
   IsMemo-Keeps memo h p r n = let w = h p r n in (omega (arith, k.longer, w.0), k.stays.each r.0 (wanted (terms_at a ids) a p) w.1 ∙ ap Some (wanted-Keeps p w.0))
@@ -78,7 +78,7 @@ made_app a b d g ids p first second f x fn arg id k l known lt e is_first is_sec
     = Some-term_in d.terms fn.0 (wanted args a first) (l.stays.each fn.0 (wanted args a first) hf) ∙ ap (λ w. wanted args a w) is_first in
     let right : term_at d arg.0 ≡ changed args p.change p.depth (term_at a x.0)
     = Some-term_in d.terms arg.0 (wanted (terms_at b ids) b second) hx ∙ ap (λ w. wanted (terms_at b ids) b w) is_second ∙ sym (wanted-Keeps a b k ids known (record p { id = x; depth = p.depth }) lt) in
-    h ∙ ap Some (ap2 app left right ∙ changed-app args p.change p.depth (term_at a f.0) (term_at a x.0) ∙ ap (changed args p.change p.depth) (sym e))
+    h ∙ ap Some (ap₂ app left right ∙ changed-app args p.change p.depth (term_at a f.0) (term_at a x.0) ∙ ap (changed args p.change p.depth) (sym e))
 
 -- an abstraction whose body is made
 pub made_lam : (a b g : Trees) (ids : List TermId) (p inner : Place) (ty : TypeId) (x body id : TermId) → Keeps a b → ty.0 < length a.types → term_at a p.id.0 ≡ lam (type_at a ty.0) (term_at a x.0) → inner ≡ record p { id = x; depth = p.depth + 1 } → Holds b body.0 (wanted (terms_at a ids) a inner) → Holds g id.0 (lam (type_at b ty.0) (term_at b body.0)) → Holds g id.0 (wanted (terms_at a ids) a p)
@@ -87,7 +87,7 @@ made_lam a b g ids p inner ty x body id k lt e is_inner hb h =
     let next : p.depth + 1 ≡ suc p.depth = omega arith in
     let made : term_at b body.0 ≡ changed args p.change (suc p.depth) (term_at a x.0)
     = Some-term_in b.terms body.0 (wanted args a inner) hb ∙ ap (λ w. wanted args a w) is_inner ∙ ap (λ d. changed args p.change d (term_at a x.0)) next in
-    h ∙ ap Some (ap2 lam (sym (type_law.tree_at-Stays k.types.stays ty.0 lt)) made ∙ changed-lam args p.change p.depth (type_at a ty.0) (term_at a x.0) ∙ ap (changed args p.change p.depth) (sym e))
+    h ∙ ap Some (ap₂ lam (sym (type_law.tree_at-Stays k.types.stays ty.0 lt)) made ∙ changed-lam args p.change p.depth (type_at a ty.0) (term_at a x.0) ∙ ap (changed args p.change p.depth) (sym e))
 
 -- a bound number that stands for one
 pub made_bound : (a g : Trees) (ids : List TermId) (p : Place) (n m : ℕ) (id : TermId) → term_at a p.id.0 ≡ bound n → IsReplaced ids p n (Renamed m) → Holds g id.0 (bound m) → Holds g id.0 (wanted (terms_at a ids) a p)
@@ -96,12 +96,12 @@ made_bound a g ids p n m id e r h =
 
 AreKnown-at : (a : Trees) (ids : List TermId) (i : ℕ) (id : TermId) → slice_get ids i ≡ Some id → AreKnown a ids → id.0 < length a.terms
 AreKnown-at a [] i id e h = absurd (cc)
-AreKnown-at a (x ∷ ids) zero id e h = subst (λ (y : TermId). y.0 < length a.terms) (some_is e) h.0
+AreKnown-at a (x ∷ ids) zero id e h = subst (λ (y : TermId). y.0 < length a.terms) (same_Some _ _ e) h.0
 AreKnown-at a (x ∷ ids) (suc i) id e h = AreKnown-at a ids i id e h.1
 
 total-at : (ids : List TermId) (i : ℕ) (id : TermId) → slice_get ids i ≡ Some id → id.0 ≤ total ids
 total-at [] i id e = absurd (cc)
-total-at (x ∷ ids) zero id e = omega (arith, ap (λ (y : TermId). y.0) (some_is e))
+total-at (x ∷ ids) zero id e = omega (arith, ap (λ (y : TermId). y.0) (same_Some _ _ e))
 total-at (x ∷ ids) (suc i) id e = omega (arith, total-at ids i id e)
 
 map-reverse : {X Y : Type 0} (f : X → Y) (xs : List X) → map f (reverse xs) ≡ reverse (map f xs)
@@ -176,14 +176,14 @@ leaf_alone a ids p d lt g l closing ne = term_in-Some a.terms p.id.0 lt ∙ ap S
         let v = closing e in
         let one = one_id a ids (free v.0.0 v.0.1) g v.1 in
         let apart : term_at a p.id.0 ≡ free v.0.0 v.0.1 → ⊥ = λ f. let same : one.0 ≡ p.id = term_in-same d one.0 p.id one.1.1.0 lt (one.1.1.1 ∙ sym f) in ne (e, one.1.0 ∙ ap (λ (w : TermId). w ∷ []) same) in
-        ap2 (λ c args. changed args c p.depth (term_at a p.id.0)) e v.1 ∙ close_leaf p.depth v.0 (term_at a p.id.0) l apart
+        ap₂ (λ c args. changed args c p.depth (term_at a p.id.0)) e v.1 ∙ close_leaf p.depth v.0 (term_at a p.id.0) l apart
 
 -- the free variable that is closed over
 pub leaf_closed : (a g : Trees) (ids : List TermId) (p : Place) (id : TermId) → CanClose (terms_at a ids) p.change → p.change ≡ Close → ids ≡ p.id ∷ [] → Holds g id.0 (bound p.depth) → Holds g id.0 (wanted (terms_at a ids) a p)
 leaf_closed a g ids p id closing e one h =
     let v = closing e in
     let is : term_at a p.id.0 ≡ free v.0.0 v.0.1 = let w = sym (ap (terms_at a) one) ∙ v.1 in first w in
-    h ∙ ap Some (sym (ap2 (λ c args. changed args c p.depth (term_at a p.id.0)) e v.1 ∙ ap (close_at p.depth v.0) is ∙ ap (λ b. cond b (bound p.depth) (free v.0.0 v.0.1)) ((variable_eq-Decides v.0 v.0).1 refl)))
+    h ∙ ap Some (sym (ap₂ (λ c args. changed args c p.depth (term_at a p.id.0)) e v.1 ∙ ap (close_at p.depth v.0) is ∙ ap (λ b. cond b (bound p.depth) (free v.0.0 v.0.1)) ((variable_eq-Decides v.0 v.0).1 refl)))
   where
     top : List Term → Term
     top [] = bound 0
@@ -215,5 +215,5 @@ module _ (a b : Trees) (k : Keeps a b) (ids : List TermId) (p place : Place) (x 
 
   pub part_down : 2 * way_down ids place.change place.id.0 + 1 < 2 * way_down ids p.change p.id.0
   part_down =
-      let e : way_down ids place.change place.id.0 ≡ way_down ids p.change x.0 = ap2 (way_down ids) change_is id_is in
+      let e : way_down ids place.change place.id.0 ≡ way_down ids p.change x.0 = ap₂ (way_down ids) change_is id_is in
       omega (arith, e, down p.change)

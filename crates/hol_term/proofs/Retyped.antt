@@ -1,14 +1,13 @@
 -- A table that gets more types, and one that gives up its last types and terms.
 use Rattle.std.proofs.Common.{◌≡◌, ℕ, zero, suc, ◌<◌, ◌≤◌, refl, sym, ap, ◌∙◌, subst, arith, List, [], ◌∷◌, length, Option, Some, None}
 use Rattle.std.specs.Prelude.{slice_get, take}
-use Rattle.std.proofs.lemmas.Option.{slice_get_within}
+use Rattle.std.proofs.lemmas.Option.{slice_get_within, same_Some}
 use Rattle.hol_spec.specs.Types.{HolType}
 use Rattle.hol_spec.specs.Terms.{Term, type_of}
 use Rattle.hol_type.specs.declared.table.TypeId.{TypeId}
 use Rattle.hol_type.specs.Tables.{tree_at}
 use Rattle.hol_type.specs.Tables as type
 use Rattle.hol_type.specs.TableLaws as type_law
-use Rattle.hol_type.specs.TableLaws.{some_is}
 use Rattle.hol_term.specs.declared.Mark.{Mark}
 use Rattle.hol_term.specs.declared.node.Node.{Node}
 use Rattle.hol_term.specs.declared.node.Node.TheVariants as node
@@ -60,7 +59,7 @@ numbered types (Some id) o a h e = (id.0, type_law.tree_at-Holds types id.0 h.0 
 -- a table has the types of its terms
 pub owned : (types : List HolType) (es : List Entry) → IsTable types es → HasItsTypes (over types (terms_of types es))
 owned types es t = record {
-  heads = λ i u held. let e = entry i u held in subst (HasHeadTypes types) (some_is (sym (terms_of-Some types es i e.0 (t.lower i e.0 e.1) e.1) ∙ held)) (head_types (over types (terms_of types es)) i e.0.node (t.lower i e.0 e.1));
+  heads = λ i u held. let e = entry i u held in subst (HasHeadTypes types) (same_Some _ _ (sym (terms_of-Some types es i e.0 (t.lower i e.0 e.1) e.1) ∙ held)) (head_types (over types (terms_of types es)) i e.0.node (t.lower i e.0 e.1));
   typed = λ i u a held typed. let e = entry i u held in numbered types e.0.ty (type_of u) a (t.measured i e.0 u e.1 held).typed typed;
 }
   where
@@ -101,7 +100,7 @@ module _ (types : List HolType) (es : List Entry) (t : IsTable types es) (before
       let all : slice_get es i ≡ Some e = whole mark.terms es i e at in
       let lt : i < length before.terms = omega (arith, h.terms, slice_get_within (take mark.terms es) i e at, length_take mark.terms es) in
       let u = item_at before.terms i lt in
-      let is = some_is (sym (h.keeps.stays.each i u.0 u.1) ∙ terms_of-Some types es i e (t.lower i e all) all) in
+      let is = same_Some _ _ (sym (h.keeps.stays.each i u.0 u.1) ∙ terms_of-Some types es i e (t.lower i e all) all) in
       lower_node i e.node (t.lower i e all) (subst (HasHeadTypes before.types) is (h.own.heads i u.0 u.1))
 
   front : take mark.types types ≡ before.types

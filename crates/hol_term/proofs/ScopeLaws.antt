@@ -2,11 +2,11 @@
 use Rattle.std.proofs.Common.{◌≡◌, ℕ, zero, suc, ◌+◌, ◌-◌, ◌<◌, get_or, Option, None, ◌≤◌, refl, sym, ap, ◌∙◌, subst, arith, List, [], ◌∷◌, ◌++◌, length, Some, length-append, ◌⊎◌, ⊎_elim, inl, inr, Bool, true, false}
 use Rattle.std.specs.Prelude.{slice_get, unwrap_or, nat_eq, if◌then◌else◌, IfSome, IfNone}
 use Rattle.std.specs.List.{list_any}
-use Rattle.std.proofs.lemmas.Option.{slice_get_within, slice_get-get_or, unwrap_or-slice_get}
+use Rattle.std.proofs.lemmas.Option.{slice_get_within, slice_get-get_or, unwrap_or-slice_get, same_Some}
 use Rattle.std.proofs.lemmas.Bool.{eqb-true}
 use Rattle.indexmap.specs.IndexSet.{insert_key}
 use Rattle.hol_type.specs.declared.table.TypeId.{TypeId}
-use Rattle.hol_type.specs.TableLaws.{some_is, slice_get-append}
+use Rattle.hol_type.specs.TableLaws.{slice_get-append}
 use Rattle.hol_term.specs.declared.scopes.Scope.{Scope}
 use Rattle.hol_term.specs.contracts.scopes.ScopePartialEq.TheImpl as scope_eq
 use Rattle.hol_term.specs.Scopes.{list_in, lists_from, lists_of, AreInner, KeepsLists, AddsList}
@@ -60,7 +60,7 @@ list_from : (ls : List (List TypeId)) (ss : List Scope) (j : ℕ) (s : Scope) �
 list_from ls [] j s e h = absurd (cc)
 list_from ls (r ∷ ss) zero s e h =
     let z : length ls + 0 ≡ length ls = omega arith in
-    let same : r ≡ s = some_is e in
+    let same : r ≡ s = same_Some _ _ e in
     let added = (r.ty ∷ list_in ls r.outer.0) ∷ [] in
     let lt : r.outer.0 < length ls = omega (arith, h, ap (λ (w : Scope). w.outer.0) same) in
     let k = KeepsLists-lists_from ls (r ∷ ss) in

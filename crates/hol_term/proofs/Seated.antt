@@ -1,6 +1,7 @@
 -- What is known of the types that a walk has found, from step to step.
 use Rattle.std.proofs.Common.{◌≡◌, ℕ, zero, suc, ◌<◌, sym, ap, ◌∙◌, subst, arith, List, [], ◌∷◌, length, Option, Some, ◌⊎◌, ⊎_elim}
 use Rattle.std.specs.Prelude.{slice_get}
+use Rattle.std.proofs.lemmas.Option.{same_Some}
 use Rattle.hol_type.specs.declared.table.TypeId.{TypeId}
 use Rattle.hol_type.specs.Tables as type
 use Rattle.hol_type.specs.TableLaws as type_law
@@ -69,5 +70,5 @@ AreTypings-none a ls f e none = subst (λ ms. AreTypings a ms f) (sym e) (record
 })
   where
     empty : (i : ℕ) (l : List TypeId) → slice_get {X = List TypeId} ([] ∷ []) i ≡ Some l → type.AreKnown a.types l
-    empty zero l at = subst (type.AreKnown a.types) (type_law.some_is at) tt
+    empty zero l at = subst (type.AreKnown a.types) (same_Some _ _ at) tt
     empty (suc i) l at = absurd (cc)

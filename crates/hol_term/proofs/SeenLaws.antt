@@ -3,8 +3,8 @@ use Rattle.std.proofs.Common.{◌≡◌, ℕ, zero, suc, refl, sym, ap, ◌∙�
 use Rattle.std.proofs.lemmas.Bool.{eqb-true}
 use Rattle.std.specs.Prelude.{slice_get, IsTrue, ◌↔◌}
 use Rattle.std.specs.List.{list_any}
+use Rattle.std.proofs.lemmas.Option.{same_Some}
 use Rattle.indexmap.specs.IndexSet.{insert_key}
-use Rattle.hol_type.specs.TableLaws.{some_is}
 use Rattle.hol_term.specs.declared.TermId.{TermId}
 use Rattle.hol_term.specs.contracts.TermIdPartialEq.TheImpl as id_eq
 use Rattle.hol_term.specs.Subterms.{IsAmong}
@@ -26,7 +26,7 @@ among_if p (q ∷ ids) h = ⊎_elim
 
 if_among : (p : TermId) (ids : List TermId) (i : ℕ) → slice_get ids i ≡ Some p → list_any (id_eq.eq-value.it p) ids ≡ true
 if_among p [] i h = absurd (cc)
-if_among p (q ∷ ids) zero h = or_left (id_eq.eq-value.it p q) _ (ap (id_eq.eq-value.it p) (some_is h) ∙ id_itself p)
+if_among p (q ∷ ids) zero h = or_left (id_eq.eq-value.it p q) _ (ap (id_eq.eq-value.it p) (same_Some _ _ h) ∙ id_itself p)
 if_among p (q ∷ ids) (suc i) h = or_right (id_eq.eq-value.it p q) _ (if_among p ids i h)
 
 -- the test finds the numbers that are there

@@ -2,13 +2,13 @@
 use Rattle.std.proofs.Common.{◌≡◌, ℕ, ◌<◌, ◌≤◌, refl, sym, ap, ◌∙◌, subst, arith, Option, Some, None, Result, Ok, Err, cond, length, List, [], ◌∷◌, get_or, ◌⊎◌, inl, inr}
 use Rattle.std.specs.Prelude.{IfErr, IsSome, slice_get, unwrap_or}
 use Rattle.std.proofs.lemmas.Option.{slice_get_cases}
+use Rattle.std.proofs.Math.Path.{ap₂}
 use Rattle.hol_spec.specs.Types.{HolType, type_eq}
 use Rattle.hol_spec.specs.Names.{Name}
 use Rattle.hol_spec.specs.Primitives.{bool}
 use Rattle.hol_spec.specs.Terms.{Term, free, bound, lam, IsTerm, HasType, type_of, equation}
 use Rattle.hol_laws.specs.TermLaws.{type_eq-refl, type_of-equation}
 use Rattle.hol_spec.specs.TermBinding.{close}
-use Rattle.hol_laws.specs.TermRenamings.{ap2}
 use Rattle.hol_spec.specs.Limits.{TermWithin, greatest_size, greatest_depth}
 use Rattle.bridge_base.specs.declared.faults.Fault.{Fault}
 use Rattle.bridge_base.specs.declared.faults.Fault.TheVariants.{Refused, Memory}
@@ -90,6 +90,6 @@ pub made_abs : (a b d g : Trees) (v ty body id r : ℕ) (name : Name) (t : HolTy
 made_abs a b d g v ty body id r name t k l lt lty is hv hb h =
     let vt = Some-term_in b.terms v (free name (type_at a ty)) hv in
     let inner : term_at d body ≡ close (name, type_at a ty) (term_at a id)
-    = Some-term_in d.terms body (changed (term_at b v ∷ []) Close 0 (term_at b id)) hb ∙ ap2 (λ w u. changed (w ∷ []) Close 0 u) vt (sym (term_in-Stays k.stays id lt)) in
+    = Some-term_in d.terms body (changed (term_at b v ∷ []) Close 0 (term_at b id)) hb ∙ ap₂ (λ w u. changed (w ∷ []) Close 0 u) vt (sym (term_in-Stays k.stays id lt)) in
     let outer : type_at d ty ≡ type_at a ty = sym (type_law.tree_at-Stays (type_law.Stays-trans k.types.stays l.types.stays) ty lty) in
-    h ∙ ap Some (ap2 lam outer inner ∙ ap (λ u. lam u (close (name, u) (term_at a id))) is)
+    h ∙ ap Some (ap₂ lam outer inner ∙ ap (λ u. lam u (close (name, u) (term_at a id))) is)

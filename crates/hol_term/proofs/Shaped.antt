@@ -1,12 +1,12 @@
 -- Equations and redexes, found by their parts.
 use Rattle.std.proofs.Common.{◌≡◌, ℕ, ◌<◌, refl, sym, ap, ◌∙◌, arith, length, Bool, true, false, cond, Option, Some, None, List, [], ◌∷◌}
 use Rattle.std.specs.Option.{option_map}
+use Rattle.std.proofs.Math.Path.{ap₂}
 use Rattle.hol_spec.specs.NameEquality.{name_eq}
 use Rattle.hol_laws.specs.NameEqualityLaws.{name_eq-Decides}
 use Rattle.hol_spec.specs.Names.{Name}
 use Rattle.hol_spec.specs.Types.{HolType, HolTypes, variable, operator, none, more, types_of}
 use Rattle.hol_spec.specs.Primitives.{bool, function, function_parts, arrow_name}
-use Rattle.hol_laws.specs.TermRenamings.{ap2}
 use Rattle.hol_type.specs.declared.table.TypeId.{TypeId}
 use Rattle.hol_type.specs.Tables.{tree_at, two_at, types_at}
 use Rattle.hol_term.specs.Shapes.{IsRelation}
@@ -29,7 +29,7 @@ function_parts-Some (operator n none) a b e = absurd (cc)
 function_parts-Some (operator n (more x none)) a b e = absurd (cc)
 function_parts-Some (operator n (more x (more y none))) a b e =
     let w = from_test (name_eq n arrow_name) n (x, y) (a, b) (name_eq-Decides n arrow_name).0 e in
-    ap2 (λ m (p : HolType × HolType). operator m (more p.0 (more p.1 none))) w.0 w.1
+    ap₂ (λ m (p : HolType × HolType). operator m (more p.0 (more p.1 none))) w.0 w.1
 function_parts-Some (operator n (more x (more y (more z ts)))) a b e = absurd (cc)
 
 first_of_pair : {p q : HolType × HolType} → Some p ≡ Some q → p ≡ q
@@ -67,17 +67,5 @@ module _ (types : List HolType) (ty : TypeId) where
       is_relation e b = (
         tree_at types d.0,
         function_parts-Some (tree_at types ty.0) (tree_at types d.0) (tree_at types p.0) (sym parts)
-            ∙ ap (function (tree_at types d.0)) (function_parts-Some (tree_at types p.0) (tree_at types s.0) (tree_at types t.0) (sym below) ∙ ap2 function (ap (tree_at types) (sym e)) b),
+            ∙ ap (function (tree_at types d.0)) (function_parts-Some (tree_at types p.0) (tree_at types s.0) (tree_at types t.0) (sym below) ∙ ap₂ function (ap (tree_at types) (sym e)) b),
       )
-
-some_arguments : (types : List HolType) (args : List TypeId) → 0 < length args → types_of (types_at types args) ≡ none → ⊥
-some_arguments types [] h e = absurd (omega arith)
-some_arguments types (a ∷ args) h e = cc
-
--- an operator with arguments is not the type of truth values
-pub not_bool : (types : List HolType) (id : ℕ) (n : Name) (args : List TypeId) → 0 < length args → tree_at types id ≡ operator n (types_of (types_at types args)) → tree_at types id ≡ bool → ⊥
-not_bool types id n args h e f = some_arguments types args h (ap arguments (sym e ∙ f))
-  where
-    arguments : HolType → HolTypes
-    arguments (variable m) = none
-    arguments (operator m ts) = ts

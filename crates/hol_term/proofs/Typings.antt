@@ -1,14 +1,15 @@
 -- The types of trees, as they are found.
-use Rattle.std.proofs.Common.{◌≡◌, ℕ, zero, suc, ◌<◌, ◌≤◌, refl, sym, ap, ◌∙◌, subst, arith, List, [], ◌∷◌, ◌++◌, length, Option, Some, None, Bool, true, false, cond, Result, Ok, Err}
-use Rattle.std.specs.Prelude.{slice_get, IfOk}
+use Rattle.std.proofs.Common.{◌≡◌, ℕ, zero, suc, ◌<◌, ◌≤◌, refl, sym, ap, ◌∙◌, subst, arith, List, [], ◌∷◌, length, Option, Some, None, Bool, true, false, cond}
+use Rattle.std.specs.Prelude.{slice_get}
 use Rattle.std.specs.Option.{option_map}
+use Rattle.std.proofs.Math.Path.{ap₂}
+use Rattle.std.proofs.lemmas.List.{append-nil}
 use Rattle.hol_spec.specs.Types.{HolType, type_eq}
 use Rattle.hol_laws.specs.TypeLaws.{type_eq-Decides}
 use Rattle.hol_spec.specs.Primitives.{function, function_parts}
 use Rattle.hol_spec.specs.Terms.{Term, free, bound, constant, app, lam, type_under, type_of, application_type, result_type}
 use Rattle.hol_laws.specs.TermLaws.{type_eq-refl}
 use Rattle.hol_spec.specs.TermBinding.{loose}
-use Rattle.hol_laws.specs.TermRenamings.{ap2}
 use Rattle.hol_laws.specs.TermClosed.{lift_at-closed}
 use Rattle.hol_laws.specs.TermTyping.{type_under-lift_at, loose-typed}
 use Rattle.hol_type.specs.declared.table.TypeId.{TypeId}
@@ -22,10 +23,6 @@ use Rattle.hol_term.specs.TableLaws.{term_in-Stays, tree_of_node-Stays, IsTypeNu
 use Rattle.hol_term.specs.Nodes.{tree_of_node, PartsBelow, AreMeasures, IsMeasured}
 use Rattle.hol_term.specs.Parts.{IsLeaf}
 use Rattle.hol_term.specs.Typing.{type_in}
-
-pub IfOk-map : {T E : Type 0} {P Q : T → Type 0} (r : Result T E) → ((v : T) → P v → Q v) → IfOk r P → IfOk r Q
-IfOk-map (Ok v) f h = f v h
-IfOk-map (Err e) f h = tt
 
 -- types that are not one fail their test
 pub not_equal : (t u : HolType) → (t ≡ u → ⊥) → type_eq t u ≡ false
@@ -44,7 +41,7 @@ module _ (types : List HolType) (function_id argument : Option TypeId) (f x d r 
   hx = subst (λ w. IsTypeNumber types w p) is_x hp
 
   on_types : application_type o p ≡ cond (type_eq (tree_at types d.0) (tree_at types x.0)) (Some (tree_at types r.0)) None
-  on_types = ap2 application_type hf.1 hx.1 ∙ ap (λ w. result_type w (tree_at types x.0)) (sym parts)
+  on_types = ap₂ application_type hf.1 hx.1 ∙ ap (λ w. result_type w (tree_at types x.0)) (sym parts)
 
   pub applied_alike : r.0 < f.0 → d.0 ≡ x.0 → (r.0 < length types) × (application_type o p ≡ Some (tree_at types r.0))
   applied_alike lt e = (
@@ -58,13 +55,9 @@ module _ (types : List HolType) (function_id argument : Option TypeId) (f x d r 
       on_types ∙ ap (λ b. cond b (Some (tree_at types r.0)) None) (not_equal (tree_at types d.0) (tree_at types x.0) (λ e. n (ap (λ (i : TypeId). i.0) (type_law.tree_at-same c d x w hx.0 e))))
 
 -- without loose numbers, a tree has under binders the type that it has under none
-append_nil : (l : List HolType) → l ++ [] ≡ l
-append_nil [] = refl
-append_nil (x ∷ l) = ap (λ r. x ∷ r) (append_nil l)
-
 pub type_under-closed : (binders : List HolType) (t : Term) → loose t ≤ 0 → type_under binders t ≡ type_of t
 type_under-closed binders t h =
-    ap2 (λ bs u. type_under bs u) (sym (append_nil binders)) (sym (lift_at-closed 0 (length binders) t h)) ∙ type_under-lift_at [] binders [] t
+    ap₂ (λ bs u. type_under bs u) (sym (append-nil binders)) (sym (lift_at-closed 0 (length binders) t h)) ∙ type_under-lift_at [] binders [] t
 
 pub type_under-leaf : (binders : List HolType) (t : Term) → IsLeaf t → type_under binders t ≡ type_of t
 type_under-leaf binders (free n a) h = refl
@@ -89,7 +82,7 @@ at_number types (b ∷ bs) (suc n) h = at_number types bs n h.1
 
 -- a longer table gives a tree the same type
 pub type_in-Keeps : (a b : Trees) (binders : List TypeId) (id : ℕ) → Keeps a b → type.AreKnown a.types binders → id < length a.terms → type_in a binders id ≡ type_in b binders id
-type_in-Keeps a b binders id k h lt = ap2 type_under (type_law.types_at-Stays k.types.stays binders h) (term_in-Stays k.stays id lt)
+type_in-Keeps a b binders id k h lt = ap₂ type_under (type_law.types_at-Stays k.types.stays binders h) (term_in-Stays k.stays id lt)
 
 pub in_closed : (a : Trees) (binders : List TypeId) (id : ℕ) (ty : Option TypeId) → loose (term_at a id) ≤ 0 → IsTypeNumber a.types ty (type_of (term_at a id)) → IsTypeNumber a.types ty (type_in a binders id)
 in_closed a binders id ty h n = subst (IsTypeNumber a.types ty) (sym (type_under-closed (types_at a.types binders) (term_at a id) h)) n

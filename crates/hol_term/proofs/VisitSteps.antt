@@ -1,6 +1,5 @@
 -- What a step does to a walk that comes to each part of a tree once.
 use Rattle.std.proofs.Common.{◌≡◌, ℕ, suc, ◌<◌, refl, sym, ap, ◌∙◌, subst, arith, List, [], ◌∷◌, ◌++◌, length, Bool, true, false, ◌⊎◌, ⊎_elim, inl, inr, true≢false}
-use Rattle.std.specs.Prelude.{Result, Ok, Err, OnOk, IfOk}
 use Rattle.std.specs.List.{list_any}
 use Rattle.hol_spec.specs.Lists.{is_in, union, distinct}
 use Rattle.hol_laws.specs.ListLaws.{union-append}
@@ -133,14 +132,6 @@ bound_alone t k e = ap subterms e ∙ ap (λ u. u ∷ []) (sym e)
 -- what is not found is not there
 pub not_among : (ids : List TermId) (id : TermId) (b : Bool) → b ≡ false → (IsAmong ids id → b ≡ true) → IsAmong ids id → ⊥
 not_among ids id b e h a = true≢false (sym (h a) ∙ e)
-
-pub OnOk-map : {A E : Type 0} {P Q : Type 0} (r : Result A E) → (P → Q) → OnOk r P → OnOk r Q
-OnOk-map (Ok x) f h = f h
-OnOk-map (Err e) f h = h
-
-pub IfOk-map : {A E : Type 0} {P Q : A → Type 0} (r : Result A E) → ((x : A) → P x → Q x) → IfOk r P → IfOk r Q
-IfOk-map (Ok x) f h = f x h
-IfOk-map (Err e) f h = h
 
 -- a walk that began with nothing has come to the parts of the tree, each once
 pub came : (trees : Trees) (id : TermId) (old ids : List TermId) → old ≡ [] → Comes trees id old ids → terms_at trees ids ≡ distinct term_eq (subterms (term_at trees id.0))

@@ -1,14 +1,14 @@
 -- What follows from the words for tables.
 use Rattle.std.proofs.Common.{◌≡◌, ℕ, suc, ◌<◌, ◌≤◌, refl, sym, ap, ◌∙◌, arith, List, [], ◌∷◌, ◌++◌, length, Option, Some, None}
 use Rattle.std.specs.Prelude.{slice_get, unwrap_or, take}
-use Rattle.std.proofs.lemmas.Option.{slice_get_within, slice_get-get_or, unwrap_or-slice_get}
+use Rattle.std.proofs.lemmas.Option.{slice_get_within, slice_get-get_or, unwrap_or-slice_get, same_Some}
+use Rattle.std.proofs.Math.Path.{ap₂}
 use Rattle.hol_spec.specs.Types.{HolType}
 use Rattle.hol_spec.specs.Terms.{Term, free, bound, constant, app, lam}
-use Rattle.hol_laws.specs.TermRenamings.{ap2}
 use Rattle.hol_type.specs.declared.table.TypeId.{TypeId}
 use Rattle.hol_type.specs.Tables as type
 use Rattle.hol_type.specs.TableLaws as type_law
-use Rattle.hol_type.specs.TableLaws.{some_is, slice_get-append}
+use Rattle.hol_type.specs.TableLaws.{slice_get-append}
 use Rattle.hol_term.specs.declared.TermId.{TermId}
 use Rattle.hol_term.specs.declared.node.Node.{Node}
 use Rattle.hol_term.specs.declared.node.Node.TheVariants as node
@@ -47,8 +47,8 @@ pub tree_of_node-Stays : (a b : Trees) → type.Stays a.types b.types → Stays 
 tree_of_node-Stays a b s k (node.Free m t) h = ap (free m) (type_law.tree_at-Stays s t.0 h)
 tree_of_node-Stays a b s k (node.Bound n) h = refl
 tree_of_node-Stays a b s k (node.Const m t) h = ap (constant m) (type_law.tree_at-Stays s t.0 h)
-tree_of_node-Stays a b s k (node.App f x) h = ap2 app (term_in-Stays k f.0 h.0) (term_in-Stays k x.0 h.1)
-tree_of_node-Stays a b s k (node.Lam t x) h = ap2 lam (type_law.tree_at-Stays s t.0 h.0) (term_in-Stays k x.0 h.1)
+tree_of_node-Stays a b s k (node.App f x) h = ap₂ app (term_in-Stays k f.0 h.0) (term_in-Stays k x.0 h.1)
+tree_of_node-Stays a b s k (node.Lam t x) h = ap₂ lam (type_law.tree_at-Stays s t.0 h.0) (term_in-Stays k x.0 h.1)
 
 -- parts below a number are below a greater one
 pub PartsBelow-more : {a b c d : ℕ} → a ≤ b → c ≤ d → (n : Node) → PartsBelow a c n → PartsBelow b d n
@@ -62,7 +62,7 @@ PartsBelow-more h k (node.Lam t x) p = (omega (arith, p.0), omega (arith, p.1))
 pub take-Stays : (ts us : List Term) → Stays ts us → take (length ts) us ≡ ts
 take-Stays [] us k = refl
 take-Stays (t ∷ ts) [] k = absurd (let h = slice_get_within [] 0 t (k.each 0 t refl) in omega arith)
-take-Stays (t ∷ ts) (u ∷ us) k = ap2 (λ x l. x ∷ l) (some_is (k.each 0 t refl)) (take-Stays ts us (record { each = λ i v e. k.each (suc i) v e }))
+take-Stays (t ∷ ts) (u ∷ us) k = ap₂ (λ x l. x ∷ l) (same_Some _ _ (k.each 0 t refl)) (take-Stays ts us (record { each = λ i v e. k.each (suc i) v e }))
 
 -- the numbers of a table are of a longer one, and have the same terms there
 pub AreKnown-Keeps : {a b : Trees} → Keeps a b → (ids : List TermId) → AreKnown a ids → AreKnown b ids
@@ -71,7 +71,7 @@ AreKnown-Keeps k (id ∷ ids) h = (omega (arith, k.longer, h.0), AreKnown-Keeps 
 
 pub terms_at-Keeps : {a b : Trees} → Keeps a b → (ids : List TermId) → AreKnown a ids → terms_at a ids ≡ terms_at b ids
 terms_at-Keeps k [] h = refl
-terms_at-Keeps k (id ∷ ids) h = ap2 (λ t l. t ∷ l) (term_in-Stays k.stays id.0 h.0) (terms_at-Keeps k ids h.1)
+terms_at-Keeps k (id ∷ ids) h = ap₂ (λ t l. t ∷ l) (term_in-Stays k.stays id.0 h.0) (terms_at-Keeps k ids h.1)
 
 -- where no term has two numbers, numbers with one term are one
 pub term_in-same : {ts : List Term} → IsDistinct ts → (f g : TermId) → f.0 < length ts → g.0 < length ts → term_in ts f.0 ≡ term_in ts g.0 → f ≡ g

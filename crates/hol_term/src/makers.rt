@@ -129,7 +129,7 @@ impl TermTable {
         let Some(_ty) = self.applied(self.ty(f), self.ty(x)) else {
             return Err(Fault::Refused(Kind::TypeMismatch));
         };
-        let made = self.add(Node::App(f, x));
+        let made = self.application(f, x);
         self.settle(mark, made)
     }
 
@@ -223,7 +223,19 @@ impl TermTable {
         self.add(Node::Const(name, ty))
     }
 
-    fn abstraction(&mut self, var: &Variable, id: TermId) -> Result<TermId, Memory>
+    /// The application of a tree to another, whatever its size and depth. Where the types do not fit it has none.
+    pub fn application(&mut self, f: TermId, x: TermId) -> Result<TermId, Memory>
+        requires function { f.0 < length self.old.terms }
+        requires argument { x.0 < length self.old.terms }
+        ensures known { IfOk result (λ id. id.0 < length self.new.terms) }
+        ensures made { IfOk result (λ id. Holds self.new id.0 (app_tree (term_at self.old f.0) (term_at self.old x.0))) }
+        ensures keeps { Keeps self.old self.new }
+    {
+        self.add(Node::App(f, x))
+    }
+
+    /// The abstraction of a tree over a free variable, whatever its size and depth.
+    pub fn abstraction(&mut self, var: &Variable, id: TermId) -> Result<TermId, Memory>
         requires variable { var.now.ty.0 < length self.old.types }
         requires body { id.0 < length self.old.terms }
         ensures known { IfOk result (λ r. r.0 < length self.new.terms) }
@@ -236,7 +248,8 @@ impl TermTable {
         Ok(made)
     }
 
-    pub(crate) fn instance(&mut self, body: TermId, arg: TermId) -> Result<TermId, Memory>
+    /// The body of a binder with `arg` put for its variable, whatever its size and depth.
+    pub fn instance(&mut self, body: TermId, arg: TermId) -> Result<TermId, Memory>
         requires body { body.0 < length self.old.terms }
         requires arg { arg.0 < length self.old.terms }
         ensures known { IfOk result (λ id. id.0 < length self.new.terms) }
@@ -247,7 +260,8 @@ impl TermTable {
         Ok(made)
     }
 
-    fn equation(&mut self, ty: TypeId, l: TermId, r: TermId) -> Result<TermId, Memory>
+    /// The equation of two trees at a type, whatever its size and depth.
+    pub fn equation(&mut self, ty: TypeId, l: TermId, r: TermId) -> Result<TermId, Memory>
         requires ty { ty.0 < length self.old.types }
         requires left { l.0 < length self.old.terms }
         requires right { r.0 < length self.old.terms }

@@ -1,7 +1,6 @@
 //! The calls that read terms.
 ghost use Rattle.std.specs.Prelude.{◌≡◌, ◌<◌, ◌-◌, ◌^◌, ◌↔◌, length, map, min, IsTrue, IfOk, IfSome, IfNone};
 ghost use Rattle.hol_spec.specs.Limits.{term_size, term_depth};
-ghost use Rattle.hol_spec.specs.Primitives.{bool as bool_type};
 ghost use Rattle.hol_spec.specs.Terms.{Term};
 ghost use Rattle.hol_term.specs.Shapes.{IsEquality, IsEquation, IsRedex, IsRelation};
 ghost use Rattle.hol_term.specs.Tables.{term_at, type_at, Holds, IsDistinct, IsTermAt};
@@ -9,7 +8,7 @@ ghost use Rattle.hol_term.specs.Views.{tree_of_view, ViewBelow};
 
 use crate::node::Node;
 use crate::{Parts, TermId, TermTable, TermView};
-use hol_type::{TypeId, TypeView};
+use hol_type::TypeId;
 
 impl TermTable {
     /// How large a tree is, types counted, or the greatest number of the type if it is larger.
@@ -109,22 +108,6 @@ impl TermTable {
         if domain != second {
             return false;
         }
-        self.is_bool(truth)
-    }
-
-    // Whether a type is that of truth values.
-    fn is_bool(&self, ty: TypeId) -> bool
-        requires { ty.0 < length self.now.types }
-        ensures { IsTrue result ↔ (type_at self.now ty.0 ≡ bool_type) }
-    {
-        match self.types.view(ty) {
-            TypeView::Op(name, args) => {
-                if args.len() > 0 {
-                    return false;
-                }
-                name.is_single(b"bool")
-            }
-            TypeView::Var(_) => false,
-        }
+        self.types.is_bool(truth)
     }
 }

@@ -90,8 +90,8 @@ impl TermTable {
         self.settle(mark, made)
     }
 
-    // Whether each pair's term has its variable's type.
-    fn fits(&self, pairs: &[(Variable, TermId)]) -> bool
+    /// Whether each pair's term has its variable's type.
+    pub fn fits(&self, pairs: &[(Variable, TermId)]) -> bool
         requires { AreTermPairs self.now pairs.now }
         ensures { IsTrue result ↔ ArePairsFitting self.now pairs.now }
     {
@@ -103,8 +103,8 @@ impl TermTable {
         true
     }
 
-    // What the pairs make of a term.
-    fn substituted(
+    /// What the pairs make of a tree, whatever its size and depth.
+    pub fn substituted(
         &mut self,
         type_pairs: &[(Name, TypeId)],
         term_pairs: &[(Variable, TermId)],

@@ -1,7 +1,7 @@
 -- A table whose last trees are given up.
-use Rattle.std.proofs.Common.{◌≡◌, ℕ, zero, suc, ◌≤◌, refl, sym, ap, ◌∙◌, arith, List, [], ◌∷◌, ◌++◌, length, Some, append_assoc}
+use Rattle.std.proofs.Common.{◌≡◌, ℕ, ◌≤◌, refl, sym, ap, ◌∙◌, List, [], ◌∷◌, ◌++◌, length, Some, append_assoc}
 use Rattle.std.specs.Prelude.{slice_get, take, drop}
-use Rattle.std.proofs.lemmas.List.{take-append-drop}
+use Rattle.std.proofs.lemmas.List.{take-append-drop, append-nil, length-take-le}
 use Rattle.std.proofs.Math.Seq.{take-append_seam}
 use Rattle.hol_spec.specs.Types.{HolType}
 use Rattle.hol_type.specs.declared.node.Entry.{Entry}
@@ -15,11 +15,7 @@ trees_from-two ts [] b = refl
 trees_from-two ts (n ∷ a) b = trees_from-two (ts ++ tree_of_node ts n.node ∷ []) a b
 
 goes_on : (ts : List HolType) (es : List Entry) → (l : List HolType) × (ts ++ l ≡ trees_from ts es)
-goes_on ts [] = ([], append_nil ts)
-  where
-    append_nil : (l : List HolType) → l ++ [] ≡ l
-    append_nil [] = refl
-    append_nil (x ∷ l) = ap (λ r. x ∷ r) (append_nil l)
+goes_on ts [] = ([], append-nil ts)
 goes_on ts (n ∷ es) = let h = goes_on (ts ++ tree_of_node ts n.node ∷ []) es in (tree_of_node ts n.node ∷ h.0, sym (append_assoc ts (tree_of_node ts n.node ∷ []) h.0) ∙ h.1)
 
 split : (n : ℕ) (es : List Entry) → trees_of es ≡ trees_from (trees_of (take n es)) (drop n es)
@@ -29,13 +25,8 @@ pub trees_of-take : (n : ℕ) (es : List Entry) → n ≤ length es → trees_of
 trees_of-take n es h =
     let us = trees_of (take n es) in
     let g = goes_on us (drop n es) in
-    let len : length us ≡ n = length-trees_of (take n es) ∙ length_take n es h in
+    let len : length us ≡ n = length-trees_of (take n es) ∙ length-take-le n es h in
     sym (take-append_seam us g.0) ∙ ap (λ l. take (length us) l) (g.1 ∙ sym (split n es)) ∙ ap (λ k. take k (trees_of es)) len
-  where
-    length_take : (n : ℕ) (l : List Entry) → n ≤ length l → length (take n l) ≡ n
-    length_take zero l h = refl
-    length_take (suc n) [] h = absurd (omega arith)
-    length_take (suc n) (x ∷ l) h = ap suc (length_take n l (omega arith))
 
 pub IsTable-take : (n : ℕ) (es : List Entry) → IsTable es → IsTable (take n es)
 IsTable-take n es t = record {

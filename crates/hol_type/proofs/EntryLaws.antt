@@ -1,8 +1,9 @@
 -- The types of a list of entries.
 use Rattle.std.proofs.Common.{◌≡◌, ℕ, zero, suc, ◌+◌, ◌≤◌, refl, sym, ap, ◌∙◌, subst, arith, List, [], ◌∷◌, ◌++◌, length, Some, length-append, ◌⊎◌, ⊎_elim, inl, inr, Bool, true, false, ◌&&◌}
 use Rattle.std.specs.Prelude.{slice_get}
-use Rattle.std.proofs.lemmas.Option.{slice_get_within}
+use Rattle.std.proofs.lemmas.Option.{slice_get_within, same_Some}
 use Rattle.std.proofs.lemmas.Bool.{eqb-true}
+use Rattle.std.proofs.Math.Path.{ap₂}
 use lib.Pointwise.{pointwise}
 use Rattle.hol_spec.specs.Names.{Name}
 use Rattle.hol_spec.specs.NameEquality.{name_eq}
@@ -17,7 +18,7 @@ use Rattle.hol_type.specs.contracts.node.NodePartialEq.TheImpl as node_eq
 use Rattle.hol_type.specs.contracts.table.TypeIdPartialEq.TheImpl as id_eq
 use Rattle.hol_type.specs.Tables.{types_at, Holds, IsDistinct, Stays}
 use Rattle.hol_type.specs.Views.{AreBelow}
-use Rattle.hol_type.specs.TableLaws.{ap2, some_is, Stays-refl, Stays-trans, Stays-append, types_at-Stays, types_at-same, types_of-same, AreBelow-known}
+use Rattle.hol_type.specs.TableLaws.{Stays-refl, Stays-trans, Stays-append, types_at-Stays, types_at-same, types_of-same, AreBelow-known}
 use Rattle.hol_type.specs.Entries.{tree_of_node, PartsBelow, trees_from, trees_of}
 
 and_both : (a b : Bool) → (a && b) ≡ true → (a ≡ true) × (b ≡ true)
@@ -63,7 +64,7 @@ slice_get-last (z ∷ xs) x = slice_get-last xs x
 
 -- an item of a longer list is an old one or the last
 pub slice_get-one_more : {X : Type 0} (xs : List X) (x y : X) (i : ℕ) → slice_get (xs ++ x ∷ []) i ≡ Some y → (slice_get xs i ≡ Some y) ⊎ ((i ≡ length xs) × (x ≡ y))
-slice_get-one_more [] x y zero e = inr (refl, some_is e)
+slice_get-one_more [] x y zero e = inr (refl, same_Some _ _ e)
 slice_get-one_more [] x y (suc i) e = inl e
 slice_get-one_more (z ∷ xs) x y zero e = inl e
 slice_get-one_more (z ∷ xs) x y (suc i) e = ⊎_elim (λ h. inl h) (λ h. inr (ap suc h.0, h.1)) (slice_get-one_more xs x y i e)
@@ -73,7 +74,7 @@ node_from : (ts : List HolType) (es : List Entry) (j : ℕ) (m : Entry) → slic
 node_from ts [] j m e h = absurd (let h = slice_get_within [] j m e in omega arith)
 node_from ts (n ∷ es) zero m e h =
     let z : length ts + 0 ≡ length ts = omega arith in
-    let same : n ≡ m = some_is e in
+    let same : n ≡ m = same_Some _ _ e in
     let us = ts ++ tree_of_node ts n.node ∷ [] in
     let hn = subst (λ w. PartsBelow w n.node) z (subst (λ w. PartsBelow (length ts + 0) w.node) (sym same) h) in
     ap (slice_get (trees_from ts (n ∷ es))) z
@@ -100,7 +101,7 @@ id_eq-refl x = grind arith
 
 ids_eq-true : (xs ys : List TypeId) → pointwise id_eq.eq-value.it xs ys ≡ true → xs ≡ ys
 ids_eq-true [] [] h = refl
-ids_eq-true (x ∷ xs) (y ∷ ys) h = let p = and_both (id_eq.eq-value.it x y) (pointwise id_eq.eq-value.it xs ys) h in ap2 (λ a l. a ∷ l) (id_eq-true x y p.0) (ids_eq-true xs ys p.1)
+ids_eq-true (x ∷ xs) (y ∷ ys) h = let p = and_both (id_eq.eq-value.it x y) (pointwise id_eq.eq-value.it xs ys) h in ap₂ (λ a l. a ∷ l) (id_eq-true x y p.0) (ids_eq-true xs ys p.1)
 ids_eq-true [] (y ∷ ys) h = absurd (cc)
 ids_eq-true (x ∷ xs) [] h = absurd (cc)
 
@@ -113,7 +114,7 @@ node_eq-true : (ts : List HolType) (x y : Node) → node_eq.eq-value.it x y ≡ 
 node_eq-true ts (node.Var m) (node.Var n) h = ap variable ((name_eq-Decides m n).0 h)
 node_eq-true ts (node.Op m is) (node.Op n js) h =
     let p = and_both (name_eq m n) (pointwise id_eq.eq-value.it is.items js.items) h in
-    ap2 operator ((name_eq-Decides m n).0 p.0) (ap (λ l. types_of (types_at ts l)) (ids_eq-true is.items js.items p.1))
+    ap₂ operator ((name_eq-Decides m n).0 p.0) (ap (λ l. types_of (types_at ts l)) (ids_eq-true is.items js.items p.1))
 node_eq-true ts (node.Var m) (node.Op n js) h = absurd (cc)
 node_eq-true ts (node.Op m is) (node.Var n) h = absurd (cc)
 

@@ -1,10 +1,10 @@
--- Types that are not of functions.
+-- Types that are not of functions, or not that of truth values.
 use Rattle.std.proofs.Common.{◌≡◌, refl, arith, List, [], ◌∷◌, length, Some, None, get_or, Bool, true, false}
 use Rattle.hol_spec.specs.Names.{Name}
 use Rattle.hol_spec.specs.NameEquality.{name_eq}
 use Rattle.hol_laws.specs.NameEqualityLaws.{name_eq-Decides}
 use Rattle.hol_spec.specs.Types.{HolType, operator, types_of}
-use Rattle.hol_spec.specs.Primitives.{arrow_name, function_parts}
+use Rattle.hol_spec.specs.Primitives.{arrow_name, bool, function_parts}
 use Rattle.hol_type.specs.declared.table.TypeId.{TypeId}
 use Rattle.hol_type.specs.Tables.{types_at, two_at}
 
@@ -32,3 +32,8 @@ function_parts-two trees n [] d e h k = absurd (omega (arith, k))
 function_parts-two trees n (a ∷ []) d e h k = absurd (omega (arith, k))
 function_parts-two trees n (a ∷ b ∷ []) d e h k = rw ((name_eq-Decides n arrow_name).1 h) refl
 function_parts-two trees n (a ∷ b ∷ c ∷ args) d e h k = absurd (omega (arith, k))
+
+-- an operator over arguments isn't the type of truth values
+pub arguments-not_bool : (trees : List HolType) (n : Name) (args : List TypeId) → (length args ≡ 0 → ⊥) → operator n (types_of (types_at trees args)) ≡ bool → ⊥
+arguments-not_bool trees n [] h e = h refl
+arguments-not_bool trees n (a ∷ args) h e = cc

@@ -2,24 +2,22 @@
 use Rattle.std.proofs.Common.{◌≡◌, ℕ, zero, suc, ◌<◌, refl, sym, ap, ◌∙◌, subst, arith, List, [], ◌∷◌, ◌++◌, length, get_or, Some, ⊎_elim, inl, inr, Bool, true, false}
 use Rattle.std.specs.Prelude.{slice_get, if◌then◌else◌, ◌||◌}
 use Rattle.std.specs.List.{list_any}
-use Rattle.std.proofs.lemmas.Option.{slice_get_within, slice_get-get_or}
+use Rattle.std.proofs.lemmas.Option.{slice_get_within, slice_get-get_or, same_Some}
+use Rattle.std.proofs.Math.Path.{subst₂}
 use Rattle.indexmap.specs.IndexSet.{insert_key}
 use Rattle.hol_spec.specs.Types.{HolType}
 use Rattle.hol_type.specs.declared.node.Entry.{Entry}
 use Rattle.hol_type.specs.contracts.node.EntryPartialEq.TheImpl as entry_eq
 use Rattle.hol_type.specs.Tables.{Holds, Keeps, Adds}
-use Rattle.hol_type.specs.TableLaws.{some_is, Holds-within, Adds-Keeps}
+use Rattle.hol_type.specs.TableLaws.{Holds-within, Adds-Keeps}
 use Rattle.hol_type.specs.Measured.{IsMeasured}
 use Rattle.hol_type.specs.Entries.{tree_of_node, PartsBelow, trees_of, IsTable}
 use Rattle.hol_type.proofs.EntryLaws.{trees_from-append, length-trees_of, slice_get-one_more, trees_of-Holds, tree_of_node-Stays, PartsBelow-more, entry_eq-true, tree_of_node-same}
 
-pub subst2 : {A B : Type 0} (P : A → B → Type 0) {a a' : A} {b b' : B} → a ≡ a' → b ≡ b' → P a b → P a' b'
-subst2 P {a' = a'} {b = b} p q h = subst (P a') q (subst (λ w. P w b) p h)
-
 -- an entry whose node the table lacks
 module _ (es : List Entry) (e : Entry) (t : IsTable es) (p : PartsBelow (length (trees_of es)) e.node) (m : IsMeasured e.measures (tree_of_node (trees_of es) e.node)) (absent : (j : ℕ) (o : Entry) → slice_get es j ≡ Some o → entry_eq.eq-value.it e o ≡ true → ⊥) where
   low : (i : ℕ) (o : Entry) → slice_get (es ++ e ∷ []) i ≡ Some o → PartsBelow i o.node
-  low i o at = ⊎_elim (λ h. t.lower i o h) (λ h. subst2 (λ n w. PartsBelow n w.node) (length-trees_of es ∙ sym h.0) h.1 p) (slice_get-one_more es e o i at)
+  low i o at = ⊎_elim (λ h. t.lower i o h) (λ h. subst₂ (λ n w. PartsBelow n w.node) (length-trees_of es ∙ sym h.0) h.1 p) (slice_get-one_more es e o i at)
 
   clash : (i : ℕ) → Holds (trees_of es) i (tree_of_node (trees_of es) e.node) → ⊥
   clash i held =
@@ -27,7 +25,7 @@ module _ (es : List Entry) (e : Entry) (t : IsTable es) (p : PartsBelow (length 
       let at = slice_get-get_or es i e lt in
       let o = get_or es i e in
       let below = t.lower i o at in
-      let same = tree_of_node-same t.distinct e o p (PartsBelow-more (omega (arith, length-trees_of es)) o.node below) (some_is (sym held ∙ trees_of-Holds es i o below at)) in
+      let same = tree_of_node-same t.distinct e o p (PartsBelow-more (omega (arith, length-trees_of es)) o.node below) (same_Some _ _ (sym held ∙ trees_of-Holds es i o below at)) in
       absent i o at same
 
   distinct : (i j : ℕ) (u : HolType) → Holds (trees_of (es ++ e ∷ [])) i u → Holds (trees_of (es ++ e ∷ [])) j u → i ≡ j
@@ -46,7 +44,7 @@ module _ (es : List Entry) (e : Entry) (t : IsTable es) (p : PartsBelow (length 
       let w = slice_get-one_more (trees_of es) (tree_of_node (trees_of es) e.node) u i (ap (λ w. slice_get w i) (sym g) ∙ held) in
       ⊎_elim
       (λ a. ⊎_elim (λ b. t.measured i o u a b) (λ b. absurd (let h = slice_get_within es i o a in omega (arith, h, b.0, length-trees_of es))) w)
-      (λ a. ⊎_elim (λ b. absurd (let h = Holds-within (trees_of es) i u b in omega (arith, h, a.0, length-trees_of es))) (λ b. subst2 (λ w v. IsMeasured w.measures v) a.1 b.1 m) w)
+      (λ a. ⊎_elim (λ b. absurd (let h = Holds-within (trees_of es) i u b in omega (arith, h, a.0, length-trees_of es))) (λ b. subst₂ (λ w v. IsMeasured w.measures v) a.1 b.1 m) w)
       (slice_get-one_more es e o i at)
 
   pub grown_table : IsTable (es ++ e ∷ [])
@@ -54,7 +52,7 @@ module _ (es : List Entry) (e : Entry) (t : IsTable es) (p : PartsBelow (length 
 
 any_at : {X : Type 0} (p : X → Bool) (xs : List X) (j : ℕ) (x : X) → slice_get xs j ≡ Some x → p x ≡ true → list_any p xs ≡ true
 any_at p [] j x e h = absurd (cc)
-any_at p (y ∷ ys) zero x e h = let q = ap p (some_is e) ∙ h in ap (λ b. b || list_any p ys) q
+any_at p (y ∷ ys) zero x e h = let q = ap p (same_Some _ _ e) ∙ h in ap (λ b. b || list_any p ys) q
 any_at p (y ∷ ys) (suc j) x e h = go (p y) (any_at p ys j x e h)
   where
     go : (b : Bool) → list_any p ys ≡ true → (b || list_any p ys) ≡ true

@@ -1,8 +1,9 @@
 -- Numbers that are gathered one after another.
-use Rattle.std.proofs.Common.{◌≡◌, ap, sym, subst, List, [], ◌∷◌, ◌++◌, append_assoc, refl, Option, Some, None}
+use Rattle.std.proofs.Common.{◌≡◌, sym, subst, List, [], ◌∷◌, ◌++◌, append_assoc, refl, Option, Some, None}
 use Rattle.std.specs.Prelude.{IfSome, IfNone, IsSome}
+use Rattle.std.proofs.lemmas.Option.{same_Some}
+use Rattle.std.proofs.lemmas.List.{append-nil}
 use Rattle.hol_type.specs.declared.table.TypeId.{TypeId}
-use Rattle.hol_type.specs.TableLaws.{some_is}
 use Rattle.hol_type.specs.Walks.{IsNoted, AreDone, AreMade}
 
 -- the items are what was made of the types before the rest
@@ -16,12 +17,8 @@ gathering_begins made ids h = record { done = h; on = λ rs m. m }
 pub gathering_goes_on : (made : List (TypeId × TypeId)) (ids rest items : List TypeId) (id r : TypeId) → IsNoted made id r → IsGathering made ids (id ∷ rest) items → IsGathering made ids rest (items ++ r ∷ [])
 gathering_goes_on made ids rest items id r n g = record { done = g.done.1; on = λ rs m. subst (AreMade made ids) (sym (append_assoc items (r ∷ []) rs)) (g.on (r ∷ rs) (n, m)) }
 
-append_nil : (l : List TypeId) → l ++ [] ≡ l
-append_nil [] = refl
-append_nil (x ∷ l) = ap (λ r. x ∷ r) (append_nil l)
-
 pub gathering_ends : (made : List (TypeId × TypeId)) (ids items : List TypeId) → IsGathering made ids [] items → AreMade made ids items
-gathering_ends made ids items g = subst (AreMade made ids) (append_nil items) (g.on [] tt)
+gathering_ends made ids items g = subst (AreMade made ids) (append-nil items) (g.on [] tt)
 
 pub is_some : {X : Type 0} {Q : Type 0} (o : Option X) → IfNone o Q → (Q → ⊥) → IsSome o
 is_some None q f = absurd (f q)
@@ -29,4 +26,4 @@ is_some (Some x) q f = refl
 
 pub if_some : {X : Type 0} (P : X → Type 0) (o : Option X) (x : X) → o ≡ Some x → IfSome o P → P x
 if_some P None x e h = absurd (cc)
-if_some P (Some y) x e h = subst P (some_is e) h
+if_some P (Some y) x e h = subst P (same_Some _ _ e) h

@@ -2,6 +2,8 @@
 use Rattle.std.proofs.Common.{◌≡◌, ℕ, zero, suc, ◌+◌, ◌<◌, ◌≤◌, refl, sym, ap, ◌∙◌, subst, arith, List, [], ◌∷◌, ◌++◌, length, Option, Some, None, Bool, true, false, not, ◌⊎◌, ⊎_elim, inl, inr}
 use Rattle.std.specs.Prelude.{slice_get, if◌then◌else◌, unwrap_or}
 use Rattle.std.specs.Map.{lookup}
+use Rattle.std.proofs.Math.Path.{ap₂}
+use Rattle.std.proofs.lemmas.Option.{same_Some}
 use Rattle.hol_spec.specs.Names.{Name}
 use Rattle.hol_spec.specs.NameEquality.{name_eq}
 use Rattle.hol_laws.specs.NameEqualityLaws.{name_eq-Decides}
@@ -10,7 +12,7 @@ use Rattle.hol_spec.specs.Limits.{type_size, types_size}
 use Rattle.hol_spec.specs.Substitution.{TypePairs, substitute, substitute_all}
 use Rattle.hol_type.specs.declared.table.TypeId.{TypeId}
 use Rattle.hol_type.specs.Tables.{tree_at, types_at, pairs_at, ArePairsKnown, Holds, IsDistinct}
-use Rattle.hol_type.specs.TableLaws.{ap2, some_is, tree_at-same, Holds-tree_at}
+use Rattle.hol_type.specs.TableLaws.{tree_at-same, Holds-tree_at}
 use Rattle.hol_type.specs.Views.{AreBelow}
 use Rattle.hol_type.specs.Walks.{IsNoted}
 use Rattle.hol_type.specs.Matchings.{Meets, with_pairs, ArePaired, IsFound, IsOpened, IsMatching, GoesOn, total}
@@ -146,7 +148,7 @@ module _ (ts : List HolType) (part img : TypeId) (tasks : List (TypeId × TypeId
       lookup-either m [] i e = go (name_eq m n) refl e
         where
           go : (b : Bool) → name_eq m n ≡ b → (if b then Some img else None) ≡ Some i → (lookup (name_eq m) [] ≡ Some i) ⊎ ((m ≡ n) × (img ≡ i))
-          go true q k = inr ((name_eq-Decides m n).0 q, some_is k)
+          go true q k = inr ((name_eq-Decides m n).0 q, same_Some _ _ k)
           go false q k = absurd (cc)
       lookup-either m (f ∷ fs) i e = go (λ k. lookup-either m fs i k) (name_eq m f.0) e
         where
@@ -252,7 +254,7 @@ module _ (general instance : TypeId) (ts : List HolType) (found : List (Name × 
   lookup-pairs_at m (f ∷ fs) i e = go (λ k. lookup-pairs_at m fs i k) (name_eq m f.0) e
     where
       go : (lookup (name_eq m) fs ≡ Some i → lookup (name_eq m) (pairs_at ts fs) ≡ Some (tree_at ts i.0)) → (b : Bool) → (if b then Some f.1 else lookup (name_eq m) fs) ≡ Some i → (if b then Some (tree_at ts f.1.0) else lookup (name_eq m) (pairs_at ts fs)) ≡ Some (tree_at ts i.0)
-      go on true k = ap (λ j. Some (tree_at ts j.0)) (some_is k)
+      go on true k = ap (λ j. Some (tree_at ts j.0)) (same_Some _ _ k)
       go on false k = on k
 
   found_meets : (p i : TypeId) → IsFound ts found p i → Meets (pairs_at ts found) ts p i
@@ -260,7 +262,7 @@ module _ (general instance : TypeId) (ts : List HolType) (found : List (Name × 
 
   paired_meet : (n : ℕ) (parts images : List TypeId) → ((p i : TypeId) → p.0 < n → IsNoted met p i → Meets (pairs_at ts found) ts p i) → AreBelow n parts → ArePaired [] met parts images → substitute_all (pairs_at ts found) (types_of (types_at ts parts)) ≡ types_of (types_at ts images)
   paired_meet n [] [] on low h = refl
-  paired_meet n (p ∷ parts) (i ∷ images) on low h = ap2 more (⊎_elim (λ m. on p i low.0 m) (λ t. absurd (nothing_left p i t.0 t.1)) h.0) (paired_meet n parts images on low.1 h.1)
+  paired_meet n (p ∷ parts) (i ∷ images) on low h = ap₂ more (⊎_elim (λ m. on p i low.0 m) (λ t. absurd (nothing_left p i t.0 t.1)) h.0) (paired_meet n parts images on low.1 h.1)
   paired_meet n [] (i ∷ images) on low h = absurd h
   paired_meet n (p ∷ parts) [] on low h = absurd h
 

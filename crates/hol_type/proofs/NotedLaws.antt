@@ -2,11 +2,12 @@
 use Rattle.std.proofs.Common.{◌≡◌, ℕ, zero, suc, refl, sym, ap, ◌∙◌, List, [], ◌∷◌, Option, Some, None, Bool, true, false, inl, inr, ◌⊎◌, ⊎_elim}
 use Rattle.std.specs.Prelude.{slice_get, if◌then◌else◌, IfSome, IfNone}
 use Rattle.std.specs.Map.{lookup}
+use Rattle.std.proofs.Math.Path.{ap₂}
+use Rattle.std.proofs.lemmas.Option.{same_Some}
 use Rattle.indexmap.specs.IndexMap.{insert_entry}
 use Rattle.hol_type.specs.declared.table.TypeId.{TypeId}
 use Rattle.hol_type.specs.contracts.table.TypeIdPartialEq.TheImpl as id_eq
 use Rattle.hol_type.specs.Walks.{IsNoted}
-use Rattle.hol_type.specs.TableLaws.{some_is, ap2}
 use Rattle.hol_type.proofs.EntryLaws.{id_eq-true, id_eq-refl}
 
 key_of : Option (TypeId × TypeId) → TypeId → TypeId
@@ -37,7 +38,7 @@ found p [] r h = absurd (cc)
 found p (e ∷ es) r h = go (λ w. found p es r w) (id_eq.eq-value.it p e.0) refl
   where
     go : (lookup (id_eq.eq-value.it p) es ≡ Some r → IsNoted es p r) → (b : Bool) → id_eq.eq-value.it p e.0 ≡ b → IsNoted (e ∷ es) p r
-    go on true q = (0, let v : e.1 ≡ r = some_is (sym (ap (λ b. if b then Some e.1 else lookup (id_eq.eq-value.it p) es) q) ∙ h) in ap Some (ap2 (λ a b. (a, b)) (sym (id_eq-true p e.0 q)) v))
+    go on true q = (0, let v : e.1 ≡ r = same_Some _ _ (sym (ap (λ b. if b then Some e.1 else lookup (id_eq.eq-value.it p) es) q) ∙ h) in ap Some (ap₂ (λ a b. (a, b)) (sym (id_eq-true p e.0 q)) v))
     go on false q = let w = on (sym (ap (λ b. if b then Some e.1 else lookup (id_eq.eq-value.it p) es) q) ∙ h) in (suc w.0, w.1)
 
 pub found_if : (p : TypeId) (es : List (TypeId × TypeId)) (o : Option TypeId) → o ≡ lookup (id_eq.eq-value.it p) es → IfSome o (λ r. IsNoted es p r)
@@ -68,7 +69,7 @@ module _ (k v : TypeId) where
       go : (IsNoted (insert_entry id_eq.eq-value.it es k v) p r → IsNoted es p r ⊎ ((p ≡ k) × (r ≡ v))) → (b : Bool) → id_eq.eq-value.it k e.0 ≡ b → IsNoted (if b then (e.0, v) ∷ es else e ∷ insert_entry id_eq.eq-value.it es k v) p r → IsNoted (e ∷ es) p r ⊎ ((p ≡ k) × (r ≡ v))
       go on true q w = ⊎_elim (λ a. inr (sym (id_eq-true k e.0 q ∙ a.0), sym a.1)) (λ a. inl (IsNoted-behind e es p r a)) (IsNoted-cons (e.0, v) es p r w)
       go on false q w = ⊎_elim
-          (λ a. inl (0, ap Some (ap2 (λ x y. (x, y)) a.0 a.1)))
+          (λ a. inl (0, ap Some (ap₂ (λ x y. (x, y)) a.0 a.1)))
           (λ a. ⊎_elim (λ b. inl (IsNoted-behind e es p r b)) (λ b. inr b) (on a))
           (IsNoted-cons e (insert_entry id_eq.eq-value.it es k v) p r w)
 
@@ -87,5 +88,5 @@ module _ (k v : TypeId) where
       go : (IsNoted es p r → (p ≡ k) ⊎ IsNoted (insert_entry id_eq.eq-value.it es k v) p r) → (b : Bool) → id_eq.eq-value.it k e.0 ≡ b → ((e.0 ≡ p) × (e.1 ≡ r)) ⊎ IsNoted es p r → (p ≡ k) ⊎ IsNoted (if b then (e.0, v) ∷ es else e ∷ insert_entry id_eq.eq-value.it es k v) p r
       go on true q (inl a) = inl (sym (id_eq-true k e.0 q ∙ a.0))
       go on true q (inr a) = inr (IsNoted-behind (e.0, v) es p r a)
-      go on false q (inl a) = inr (0, ap Some (ap2 (λ x y. (x, y)) a.0 a.1))
+      go on false q (inl a) = inr (0, ap Some (ap₂ (λ x y. (x, y)) a.0 a.1))
       go on false q (inr a) = ⊎_elim (λ b. inl b) (λ b. inr (IsNoted-behind e (insert_entry id_eq.eq-value.it es k v) p r b)) (on a)

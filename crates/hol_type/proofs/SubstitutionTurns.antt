@@ -1,5 +1,6 @@
 -- What a turn does to a walk that substitutes.
 use Rattle.std.proofs.Common.{◌≡◌, ◌<◌, refl, sym, ap, ◌∙◌, subst, arith, List, [], ◌∷◌, length, Some, ◌⊎◌, ⊎_elim, inr}
+use Rattle.std.proofs.Math.Path.{ap₂}
 use Rattle.hol_spec.specs.Names.{Name}
 use Rattle.hol_spec.specs.Types.{HolType, variable, operator, types_of, more}
 use Rattle.hol_spec.specs.Substitution.{TypePairs, substitute, substitute_all, image}
@@ -7,7 +8,7 @@ use Rattle.hol_type.specs.declared.table.TypeId.{TypeId}
 use Rattle.hol_type.specs.declared.visits.Task.{Task}
 use Rattle.hol_type.specs.declared.visits.Task.TheVariants.{Visit, Join}
 use Rattle.hol_type.specs.Tables.{tree_at, types_at, pairs_at, Holds, Keeps, AreKnown, ArePairsKnown}
-use Rattle.hol_type.specs.TableLaws.{ap2, tree_at-Stays, Holds-tree_at, Holds-within, ArePairsKnown-Keeps, pairs_at-Stays}
+use Rattle.hol_type.specs.TableLaws.{tree_at-Stays, Holds-tree_at, Holds-within, ArePairsKnown-Keeps, pairs_at-Stays}
 use Rattle.hol_type.specs.Walks.{IsNoted, IsDone, AreMade, HasParts, OrIs, visits, IsWalk}
 use Rattle.hol_type.proofs.WalkLaws.{Ends-done, Ends-noted, Ends-set_out, Ends-Keeps, no_parts}
 
@@ -60,7 +61,7 @@ module _ (ts : List HolType) (pairs : List (Name × TypeId)) (id : TypeId) (task
 
   made_types : (given : TypePairs) (args parts : List TypeId) → ((i r : TypeId) → IsNoted made i r → (i.0 < length ts) × Holds ts r.0 (substitute given (tree_at ts i.0))) → AreMade made args parts → types_of (types_at ts parts) ≡ substitute_all given (types_of (types_at ts args))
   made_types given [] [] s m = refl
-  made_types given (a ∷ args) (p ∷ parts) s m = ap2 more (Holds-tree_at ts p.0 _ (s a p m.0).1) (made_types given args parts s m.1)
+  made_types given (a ∷ args) (p ∷ parts) s m = ap₂ more (Holds-tree_at ts p.0 _ (s a p m.0).1) (made_types given args parts s m.1)
   made_types given [] (p ∷ parts) s m = absurd m
   made_types given (a ∷ args) [] s m = absurd m
 

@@ -1,6 +1,8 @@
 -- What a turn does to the tasks of a walk.
 use Rattle.std.proofs.Common.{◌≡◌, ◌+◌, ◌*◌, ◌<◌, refl, sym, ap, ◌∙◌, subst, arith, List, [], ◌∷◌, length, Some, Result, Ok, Err, ◌⊎◌, ⊎_elim, inl, inr}
 use Rattle.std.specs.Prelude.{OnOk}
+use Rattle.std.proofs.Math.Path.{ap₂}
+use Rattle.std.proofs.lemmas.Option.{same_Some}
 use Rattle.hol_spec.specs.Names.{Name}
 use Rattle.hol_spec.specs.Types.{HolType, HolTypes, variable, operator, none, types_of}
 use Rattle.hol_spec.specs.Limits.{type_size, types_size}
@@ -8,13 +10,9 @@ use Rattle.hol_type.specs.declared.table.TypeId.{TypeId}
 use Rattle.hol_type.specs.declared.visits.Task.{Task}
 use Rattle.hol_type.specs.declared.visits.Task.TheVariants.{Visit, Join}
 use Rattle.hol_type.specs.Tables.{tree_at, types_at, Holds, Keeps, AreKnown, IsDistinct}
-use Rattle.hol_type.specs.TableLaws.{ap2, some_is, tree_at-Stays, Holds-tree_at, types_at-Stays, types_at-same, types_of-same, AreBelow-known}
+use Rattle.hol_type.specs.TableLaws.{tree_at-Stays, Holds-tree_at, types_at-Stays, types_at-same, types_of-same, AreBelow-known}
 use Rattle.hol_type.specs.Views.{AreBelow}
 use Rattle.hol_type.specs.Walks.{IsNoted, IsDone, AreAll, OrIs, HasParts, PartsAre, Ends, visits, work}
-
-pub OnOk-map : {T E P Q : Type 0} (r : Result T E) → (P → Q) → OnOk r P → OnOk r Q
-OnOk-map (Ok v) f h = f h
-OnOk-map (Err e) f h = tt
 
 pub OnOk-map3 : {T E P Q R S : Type 0} (r : Result T E) → (P → Q → R → S) → OnOk r P → OnOk r Q → OnOk r R → OnOk r S
 OnOk-map3 (Ok v) f p q r = f p q r
@@ -88,12 +86,12 @@ arguments_of (operator n ts) = ts
 pub parts_all : (ts : List HolType) (id : TypeId) (n : Name) (args : List TypeId) (P : TypeId → Type 0) → IsDistinct ts → id.0 < length ts → Holds ts id.0 (operator n (types_of (types_at ts args))) → AreBelow id.0 args → PartsAre P ts id → AreAll P args
 unfolding arguments_of
 parts_all ts id n args P d k h low p =
-    let e = types_of-same _ _ (ap arguments_of (some_is (sym p.of.is ∙ h))) in
+    let e = types_of-same _ _ (ap arguments_of (same_Some _ _ (sym p.of.is ∙ h))) in
     subst (AreAll P) (types_at-same d p.parts args (AreBelow-known ts id.0 p.parts (omega (arith, k)) p.of.lower) (AreBelow-known ts id.0 args (omega (arith, k)) low) e) p.all
 
 -- a variable has no parts
 pub no_parts : (ts : List HolType) (id : TypeId) (n : Name) (P : TypeId → Type 0) → Holds ts id.0 (variable n) → PartsAre P ts id → ⊥
-no_parts ts id n P h p = let e : variable n ≡ operator p.of.name (types_of (types_at ts p.parts)) = some_is (sym h ∙ p.of.is) in cc
+no_parts ts id n P h p = let e : variable n ≡ operator p.of.name (types_of (types_at ts p.parts)) = same_Some _ _ (sym h ∙ p.of.is) in cc
 
 -- a longer table does the same
 module _ {ts us : List HolType} (keeps : Keeps ts us) where
@@ -115,7 +113,7 @@ module _ {ts us : List HolType} (keeps : Keeps ts us) where
 
   pub work-Keeps : (root : TypeId) (tasks : List Task) (P : TypeId → Type 0) → Ends root ts tasks P → work ts tasks ≡ work us tasks
   work-Keeps root [] P h = refl
-  work-Keeps root (Visit id ∷ rest) P h = ap2 (λ t n. 2 * type_size t + n) (tree_at-Stays keeps.stays id.0 h.0) (work-Keeps root rest (OrIs P id) h.1)
+  work-Keeps root (Visit id ∷ rest) P h = ap₂ (λ t n. 2 * type_size t + n) (tree_at-Stays keeps.stays id.0 h.0) (work-Keeps root rest (OrIs P id) h.1)
   work-Keeps root (Join id ∷ rest) P h = ap (λ n. 1 + n) (work-Keeps root rest (OrIs P id) h.2)
 
 work-visits : (ts : List HolType) (ids : List TypeId) (tasks : List Task) → work ts (visits ids tasks) ≡ 2 * types_size (types_of (types_at ts ids)) + work ts tasks

@@ -1,25 +1,17 @@
 -- What follows from the words for tables.
 use Rattle.std.proofs.Common.{◌≡◌, ℕ, zero, suc, ◌<◌, ◌≤◌, refl, sym, ap, ◌∙◌, subst, arith, List, [], ◌∷◌, ◌++◌, length, Option, Some, None, ⊎_elim, length-append}
 use Rattle.std.specs.Prelude.{slice_get, unwrap_or, take}
-use Rattle.std.proofs.lemmas.Option.{slice_get_within, slice_get-get_or, unwrap_or-slice_get}
+use Rattle.std.proofs.lemmas.Option.{slice_get_within, slice_get-get_or, unwrap_or-slice_get, same_Some}
+use Rattle.std.proofs.Math.Path.{ap₂}
 use Rattle.hol_spec.specs.Names.{Name}
 use Rattle.hol_spec.specs.Types.{HolType, variable, types_of, listed}
 use Rattle.hol_type.specs.declared.table.TypeId.{TypeId}
 use Rattle.hol_type.specs.Tables.{tree_at, Holds, types_at, pairs_at, AreKnown, ArePairsKnown, IsDistinct, Stays, Keeps, Adds}
 use Rattle.hol_type.specs.Views.{AreBelow}
 
--- equal arguments have equal values
-pub ap2 : {A B C : Type 0} (f : A → B → C) {a a' : A} {b b' : B} → a ≡ a' → b ≡ b' → f a b ≡ f a' b'
-ap2 f {a' = a'} {b = b} p q = ap (λ x. f x b) p ∙ ap (f a') q
-
 some_or : {X : Type 0} → X → Option X → X
 some_or d None = d
 some_or d (Some x) = x
-
--- equal options have equal values
-pub some_is : {X : Type 0} {x y : X} → Some x ≡ Some y → x ≡ y
-unfolding some_or
-some_is {x = x} e = ap (some_or x) e
 
 -- a number that the table has, has its tree
 pub tree_at-Holds : (ts : List HolType) (i : ℕ) → i < length ts → Holds ts i (tree_at ts i)
@@ -66,7 +58,7 @@ AreKnown-Keeps k (id ∷ ids) h = (omega (arith, k.longer, h.0), AreKnown-Keeps 
 -- their types stay
 pub types_at-Stays : {ts us : List HolType} → Stays ts us → (ids : List TypeId) → AreKnown ts ids → types_at ts ids ≡ types_at us ids
 types_at-Stays k [] h = refl
-types_at-Stays k (id ∷ ids) h = ap2 (λ t l. t ∷ l) (tree_at-Stays k id.0 h.0) (types_at-Stays k ids h.1)
+types_at-Stays k (id ∷ ids) h = ap₂ (λ t l. t ∷ l) (tree_at-Stays k id.0 h.0) (types_at-Stays k ids h.1)
 
 pub ArePairsKnown-Keeps : {ts us : List HolType} → Keeps ts us → (ps : List (Name × TypeId)) → ArePairsKnown ts ps → ArePairsKnown us ps
 ArePairsKnown-Keeps k [] h = tt
@@ -74,7 +66,7 @@ ArePairsKnown-Keeps k (p ∷ ps) h = (omega (arith, k.longer, h.0), ArePairsKnow
 
 pub pairs_at-Stays : {ts us : List HolType} → Stays ts us → (ps : List (Name × TypeId)) → ArePairsKnown ts ps → pairs_at ts ps ≡ pairs_at us ps
 pairs_at-Stays k [] h = refl
-pairs_at-Stays k (p ∷ ps) h = ap2 (λ t l. (p.0, t) ∷ l) (tree_at-Stays k p.1.0 h.0) (pairs_at-Stays k ps h.1)
+pairs_at-Stays k (p ∷ ps) h = ap₂ (λ t l. (p.0, t) ∷ l) (tree_at-Stays k p.1.0 h.0) (pairs_at-Stays k ps h.1)
 
 -- numbers below one that the table has, or its length, are the table's
 pub AreBelow-known : (ts : List HolType) (n : ℕ) (ids : List TypeId) → n ≤ length ts → AreBelow n ids → AreKnown ts ids
@@ -103,7 +95,7 @@ types_at-same d [] [] a b e = refl
 types_at-same {ts = ts} d (i ∷ is) (j ∷ js) a b e =
     let f : tree_at ts i.0 ≡ tree_at ts j.0 = cc in
     let g : types_at ts is ≡ types_at ts js = cc in
-    ap2 (λ x l. x ∷ l) (tree_at-same d i j a.0 b.0 f) (types_at-same d is js a.1 b.1 g)
+    ap₂ (λ x l. x ∷ l) (tree_at-same d i j a.0 b.0 f) (types_at-same d is js a.1 b.1 g)
 types_at-same d [] (j ∷ js) a b e = cc
 types_at-same d (i ∷ is) [] a b e = cc
 
@@ -122,4 +114,4 @@ Adds-Keeps old new t a d = ⊎_elim
 pub take-Stays : (ts us : List HolType) → Stays ts us → take (length ts) us ≡ ts
 take-Stays [] us k = refl
 take-Stays (t ∷ ts) [] k = absurd (let h = slice_get_within [] 0 t (k.each 0 t refl) in omega arith)
-take-Stays (t ∷ ts) (u ∷ us) k = ap2 (λ x l. x ∷ l) (some_is (k.each 0 t refl)) (take-Stays ts us (record { each = λ i v e. k.each (suc i) v e }))
+take-Stays (t ∷ ts) (u ∷ us) k = ap₂ (λ x l. x ∷ l) (same_Some _ _ (k.each 0 t refl)) (take-Stays ts us (record { each = λ i v e. k.each (suc i) v e }))

@@ -1,5 +1,5 @@
 //! The table of types.
-ghost use Rattle.std.specs.Prelude.{◌≡◌, ◌<◌, ◌≤◌, ◌^◌, ◌-◌, [], ◌∷◌, length, min, take, IfOk, IfErr, IfSome, OnErr, MatchOption};
+ghost use Rattle.std.specs.Prelude.{◌≡◌, ◌↔◌, ◌<◌, ◌≤◌, ◌^◌, ◌-◌, [], ◌∷◌, length, min, take, IfOk, IfErr, IfSome, IsTrue, OnErr, MatchOption};
 ghost use Rattle.std.specs.Option.{option_map};
 ghost use Rattle.hol_spec.specs.Names.{Name as AName};
 ghost use Rattle.hol_spec.specs.Types.{variable, operator, types_of, type_variables};
@@ -223,6 +223,18 @@ impl TypeTable {
                 }
             }
             TypeView::Var(_) => None,
+        }
+    }
+
+    /// Whether the type is that of truth values.
+    pub fn is_bool(&self, id: TypeId) -> bool
+        requires { id.0 < length self.now }
+        ensures is { IsTrue result ↔ (tree_at self.now id.0 ≡ bool_type) }
+        ensures distinct { IsDistinct self.now }
+    {
+        match self.view(id) {
+            TypeView::Op(name, args) => args.is_empty() && name.is_single(b"bool"),
+            TypeView::Var(_) => false,
         }
     }
 

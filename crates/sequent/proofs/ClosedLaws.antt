@@ -3,11 +3,11 @@ use Rattle.std.proofs.Common.{rules, ◌≡◌, ℕ, zero, suc, ◌+◌, ◌<◌
 use Rattle.std.specs.Prelude.{map, take, not}
 use Rattle.std.specs.List.{position_or_len}
 use Rattle.std.proofs.lemmas.List.{map_push, map_more, take_all}
+use Rattle.std.proofs.Math.Path.{ap₂}
 use Rattle.hol_spec.specs.ClosedForm as form
-use Rattle.hol_spec.specs.ClosedForm.{ClosedSequent, close_type, close_types, close_term, closed_form}
+use Rattle.hol_spec.specs.ClosedForm.{close_type, close_types, close_term, closed_form, ClosedSequent}
 use Rattle.hol_spec.specs.Names.{Name}
 use Rattle.hol_spec.specs.Sequents.{Sequent, type_variables_of, free_variables_of}
-use Rattle.hol_laws.specs.TermRenamings.{ap2}
 use Rattle.hol_spec.specs.Terms.{Variable as ATreeVariable, variable_eq, free}
 use Rattle.hol_spec.specs.Types.{HolType, operator, types_of}
 use Rattle.hol_type.specs.declared.table.TypeId.{TypeId}
@@ -64,7 +64,7 @@ module _ (names : List Name) (trees : List HolType) where
   pub closed_operator : (id i : ℕ) (m n : Name) (ids : List TypeId) (ts : Vec ClosedType Global) → m ≡ n → type.Holds trees id (operator n (types_of (types_at trees ids))) → length ids ≤ i → map closed_type_view ts.items ≡ map (λ (id : TypeId). close_type names (tree_at trees id.0)) (take i ids) → closed_type_view (types.Operator m ts) ≡ close_type names (tree_at trees id)
   closed_operator id i m n ids ts e f h g =
       closed_type_view-Operator m ts
-      ∙ ap2 form.ClosedType.operator e (ap closed_types_of (g ∙ ap (map (λ (id : TypeId). close_type names (tree_at trees id.0))) (take_all i ids h)) ∙ sym (close_types-at ids))
+      ∙ ap₂ form.ClosedType.operator e (ap closed_types_of (g ∙ ap (map (λ (id : TypeId). close_type names (tree_at trees id.0))) (take_all i ids h)) ∙ sym (close_types-at ids))
       ∙ ap (close_type names) (sym (Holds-tree_at trees id (operator n (types_of (types_at trees ids))) f))
 
 -- the next of some variables is closed
@@ -73,10 +73,10 @@ closes_next names trees vs i v old new t is h e f g =
     let close : ATreeVariable → form.ClosedType = λ w. close_type names w.1 in
     ap (map closed_type_view) e
     ∙ map_push closed_type_view old t
-    ∙ ap2 (λ l x. l ++ x ∷ []) g f
+    ∙ ap₂ (λ l x. l ++ x ∷ []) g f
     ∙ sym (map_push close (variables_of trees (take i vs)) (at trees v))
     ∙ ap (map close) (
-    ap2 (λ l w. l ++ at trees w ∷ []) (variables_of-map trees (take i vs)) is
+    ap₂ (λ l w. l ++ at trees w ∷ []) (variables_of-map trees (take i vs)) is
     ∙ sym (map_more (at trees) vs i v h)
     ∙ sym (variables_of-map trees (take (i + 1) vs))
     )
@@ -86,7 +86,7 @@ module _ (trees : Trees) (d : type.IsDistinct trees.types) (n : Name) (ty : Type
   place_of_variable-at : (vs : List Variable) → HaveTypes trees vs → position_or_len (is_variable n ty) vs ≡ position_or_len (variable_eq (n, type_at trees ty.0)) (variables_of trees vs)
   place_of_variable-at [] h = refl
   place_of_variable-at (v ∷ vs) h =
-      ap2 (λ b m. cond (not b) (1 + m) 0) (sym (variable_eq-at trees d (record { name = n; ty = ty }) v k h.0)) (place_of_variable-at vs h.1)
+      ap₂ (λ b m. cond (not b) (1 + m) 0) (sym (variable_eq-at trees d (record { name = n; ty = ty }) v k h.0)) (place_of_variable-at vs h.1)
 
   -- the place of a free variable is its closed form
   pub closed_free : (names : List Name) (vs found : List Variable) (id : ℕ) (place : ℕ) → HaveTypes trees vs → found ≡ vs → Holds trees id (free n (type_at trees ty.0)) → place ≡ position_or_len (is_variable n ty) found → closed_term_view (terms.Parameter place) ≡ close_term names (variables_of trees vs) (term_at trees id)
@@ -99,7 +99,7 @@ module _ (trees : Trees) (d : type.IsDistinct trees.types) (n : Name) (ty : Type
 pub closed_is : (s : Sequent) (names : List Name) (variables : List ATreeVariable) (closed : Closed) → names ≡ type_variables_of s → variables ≡ free_variables_of s → closed.type_vars ≡ length names → map closed_type_view closed.free_vars.items ≡ map (λ (v : ATreeVariable). close_type names v.1) variables → map closed_term_view closed.hyps.items ≡ map (close_term names variables) s.hypotheses → closed_term_view closed.concl ≡ close_term names variables s.conclusion → closed_view closed ≡ closed_form s
 closed_is s names variables closed e f a b c d =
     let count = a ∙ ap length e in
-    let vars = b ∙ ap2 (λ (ns : List Name) (vs : List ATreeVariable). map (λ (v : ATreeVariable). close_type ns v.1) vs) e f in
-    let hyps = c ∙ ap2 (λ (ns : List Name) (vs : List ATreeVariable). map (close_term ns vs) s.hypotheses) e f in
-    let concl = d ∙ ap2 (λ (ns : List Name) (vs : List ATreeVariable). close_term ns vs s.conclusion) e f in
+    let vars = b ∙ ap₂ (λ (ns : List Name) (vs : List ATreeVariable). map (λ (v : ATreeVariable). close_type ns v.1) vs) e f in
+    let hyps = c ∙ ap₂ (λ (ns : List Name) (vs : List ATreeVariable). map (close_term ns vs) s.hypotheses) e f in
+    let concl = d ∙ ap₂ (λ (ns : List Name) (vs : List ATreeVariable). close_term ns vs s.conclusion) e f in
     λ i. record { type_variable_count = count i; free_variable_types = vars i; hypotheses = hyps i; conclusion = concl i }

@@ -5,10 +5,10 @@ use Rattle.std.specs.Bool.{Decides}
 use Rattle.std.specs.List.{list_all, AllByRecursion, IsDistinct as HasNoRepeats}
 use Rattle.std.proofs.lemmas.Bool.Decides.{Decides-eqb, Decides-like, same_from_decides}
 use Rattle.std.proofs.lemmas.List.{drop_all}
+use Rattle.std.proofs.Math.Path.{ap₂}
 use Rattle.hol_spec.specs.Lists.{is_in, union, distinct, without}
 use Rattle.hol_laws.specs.ListLaws.{All-filter, IsDistinct-filter, distinct-itself, is_in-map, union-All, union-map, without-map}
 use Rattle.hol_spec.specs.Sequents.{within}
-use Rattle.hol_laws.specs.TermRenamings.{ap2}
 use Rattle.hol_spec.specs.Terms.{term_eq}
 use Rattle.hol_laws.specs.TermLaws.{term_eq-Decides}
 use Rattle.hol_term.specs.declared.TermId.{TermId}
@@ -29,7 +29,7 @@ distinct-ids ids h = distinct-itself same_id (λ p q e. same_id-sym q p ∙ e) i
 
 -- hypotheses that are taken one after the other
 pub united_in_turn : (a b fst snd found more : List TermId) → HasNoRepeats same_id a → fst ≡ a → snd ≡ b → found ≡ distinct same_id fst → more ≡ union same_id found snd → more ≡ union same_id a b
-united_in_turn a b fst snd found more n p q e f = f ∙ ap2 (λ l m. union same_id l m) (e ∙ ap (distinct same_id) p ∙ distinct-ids a n) q
+united_in_turn a b fst snd found more n p q e f = f ∙ ap₂ (λ l m. union same_id l m) (e ∙ ap (distinct same_id) p ∙ distinct-ids a n) q
 
 -- what was kept of hypotheses, when none is left
 pub kept_all : (ids items found : List TermId) (i : ℕ) (p : TermId) → length items ≤ i → HasNoRepeats same_id ids → union same_id found (without same_id (drop i items) p) ≡ distinct same_id (without same_id ids p) → found ≡ without same_id ids p
@@ -74,11 +74,11 @@ module _ (trees : Trees) (d : IsDistinct trees.terms) where
   -- some trees are among others exactly where their numbers are
   all_in-at : (xs ys : List TermId) → AreKnown trees xs → AreKnown trees ys → list_all (λ t. is_in term_eq t (terms_at trees ys)) (terms_at trees xs) ≡ list_all (λ id. is_in same_id id ys) xs
   all_in-at [] ys k l = refl
-  all_in-at (x ∷ xs) ys k l = ap2 (λ a b. a && b) (is_in-map (λ id. term_at trees id.0) same_id term_eq (IsOf trees) term_eq-at x ys k.0 (each_known trees ys l)) (all_in-at xs ys k.1 l)
+  all_in-at (x ∷ xs) ys k l = ap₂ (λ a b. a && b) (is_in-map (λ id. term_at trees id.0) same_id term_eq (IsOf trees) term_eq-at x ys k.0 (each_known trees ys l)) (all_in-at xs ys k.1 l)
 
   -- a sequent is within another where its hypotheses and its conclusion are
   pub within-at : (a b : Sequent) → IsKnown trees a → IsKnown trees b → within (sequent_at trees a) (sequent_at trees b) ≡ (list_all (λ id. is_in same_id id b.hyps) a.hyps && same_id a.concl b.concl)
-  within-at a b k l = ap2 (λ x y. x && y) (all_in-at a.hyps b.hyps k.0 l.0) (term_eq-at a.concl b.concl k.1 l.1)
+  within-at a b k l = ap₂ (λ x y. x && y) (all_in-at a.hyps b.hyps k.0 l.0) (term_eq-at a.concl b.concl k.1 l.1)
 
 pub and_then : (a b c : Bool) → a ≡ true → b ≡ c → b ≡ (a && c)
 and_then true b c e f = f

@@ -2,8 +2,9 @@
 ghost use Rattle.std.specs.Prelude.{◌≡◌, [], ◌∷◌, IfOk, OnOk};
 ghost use Rattle.std.specs.List.{list_all, IsDistinct};
 ghost use Rattle.hol_spec.specs.Lists.{distinct, is_in, union, without as all_but};
-ghost use Rattle.hol_term.specs.Tables.{Trees, AreKnown};
-ghost use Rattle.sequent.specs.Sequents.{same_id};
+ghost use Rattle.hol_spec.specs.Terms.{term_eq};
+ghost use Rattle.hol_term.specs.Tables.{Trees, AreKnown, IsDistinct as HasOneOfEach};
+ghost use Rattle.sequent.specs.Sequents.{hyps_at, same_id};
 
 use bridge_base::Memory;
 use hol_term::TermId;
@@ -39,6 +40,7 @@ impl Hyps {
     /// These numbers, each where it occurs first.
     pub fn of(alloc: Global, ids: &[TermId]) -> Result<Hyps, Memory>
         ensures numbers { IfOk result (λ hyps. hyps ≡ distinct same_id ids.now) }
+        ensures terms { IfOk result (λ hyps. (trees : Trees) → HasOneOfEach trees.terms → AreKnown trees ids.now → hyps_at trees hyps ≡ distinct term_eq (hyps_at trees ids.now)) }
         ensures known { IfOk result (λ hyps. (trees : Trees) → AreKnown trees ids.now → AreKnown trees hyps) }
     {
         let mut hyps = Hyps::new(alloc);

@@ -1,6 +1,7 @@
 use Rattle.std.proofs.Common.{sym, ap, ◌∙◌, Some}
+use Rattle.std.proofs.lemmas.Result.{IfOk-weaker}
 use Rattle.hol_term.specs.TableLaws.{tree_of_node-Stays}
-use Rattle.hol_term.proofs.Typings.{IfOk-map, made_entry}
+use Rattle.hol_term.proofs.Typings.{made_entry}
 use Rattle.hol_term.proofs.TermTable.add.Goals as goal
 
 pub insert-requires-clause-measured : goal.insert-requires-clause-measured
@@ -8,6 +9,6 @@ insert-requires-clause-measured c = made_entry _ _ c.args.node _ _ c.type_of_nod
 
 pub returns-clause-made : goal.returns-clause-made
 returns-clause-made c =
-    IfOk-map c.insert.result
+    IfOk-weaker c.insert.result _ _
     (λ id h. h ∙ ap Some (sym (tree_of_node-Stays _ _ c.type_of_node.ensures.keeps.types.stays c.type_of_node.ensures.keeps.stays c.args.node c.requires)))
     c.insert.ensures.made

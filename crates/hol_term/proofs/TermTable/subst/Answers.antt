@@ -1,7 +1,7 @@
+use Rattle.std.proofs.lemmas.Result.{IfOk-weaker}
 use Rattle.hol_term.specs.Substitutions.{term_pairs_at, ArePairsFitting, image_of}
 use Rattle.hol_term.specs.Tables.{term_at}
 use Rattle.hol_term.proofs.Settled.{IfErr-map, known_term}
-use Rattle.hol_term.proofs.Typings.{IfOk-map}
 use Rattle.hol_term.proofs.ImageLaws.{AreTermPairs-known, ArePairsFitting-at, sub_term, subst_refusal}
 use Rattle.hol_type.specs.Tables as type
 use Rattle.hol_term.proofs.TermTable.subst.Goals as goal
@@ -16,7 +16,7 @@ pub returns-clause-typed : goal.returns-clause-typed
 returns-clause-typed c =
     let fits = c.fits.ensures.0 c.if-not-fits.false in
     let it = sub_term (type.pairs_at c.args.self.now.types c.args.type_pairs.now) (term_pairs_at c.args.self.now c.args.term_pairs.now) (term_at c.args.self.now c.args.id.0) (ArePairsFitting-at c.args.self.now c.args.term_pairs.now fits) c.requires.id in
-    IfOk-map c.settle.result (λ id k. it) c.settle.ensures.known
+    IfOk-weaker c.settle.result _ _ (λ id k. it) c.settle.ensures.known
 
 pub returns-clause-refusal : goal.returns-clause-refusal
 returns-clause-refusal c =

@@ -1,6 +1,7 @@
 use Rattle.std.proofs.Common.{arith}
+use Rattle.std.proofs.lemmas.Result.{on_ok_weaker}
 use Rattle.hol_type.specs.TableLaws.{AreKnown-below}
-use Rattle.hol_type.proofs.WalkLaws.{OnOk-map, OnOk-map3, parts_all, work-Keeps}
+use Rattle.hol_type.proofs.WalkLaws.{OnOk-map3, parts_all, work-Keeps}
 use Rattle.hol_type.proofs.SubstitutionTurns.{made_known, walk_join}
 use Rattle.hol_type.proofs.substitution.join.Goals as goal
 
@@ -26,4 +27,4 @@ returns-clause-walk c =
 pub returns-clause-less : goal.returns-clause-less
 returns-clause-less c =
     let w = c.requires.2 in
-    OnOk-map c.note.result (λ n. omega (arith, work-Keeps c.add.ensures.keeps c.requires.1 c.args.walk.now.tasks _ w.ends.2)) c.note.ensures.new
+    on_ok_weaker c.note.result (λ n. omega (arith, work-Keeps c.add.ensures.keeps c.requires.1 c.args.walk.now.tasks _ w.ends.2)) c.note.ensures.new

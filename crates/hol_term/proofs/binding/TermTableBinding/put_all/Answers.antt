@@ -1,12 +1,7 @@
-use Rattle.std.proofs.Common.{Result, Ok, Err}
-use Rattle.std.specs.Prelude.{IfOk}
 use Rattle.std.proofs.lemmas.Option.{slice_get_within}
+use Rattle.std.proofs.lemmas.Result.{IfOk-weaker}
 use Rattle.hol_term.specs.BindingLaws.{Pairwise-known, Holds-put_all}
 use Rattle.hol_term.proofs.binding.TermTableBinding.put_all.Goals as goal
-
-IfOk-map : {T E : Type 0} {P Q : T → Type 0} (r : Result T E) → ((v : T) → P v → Q v) → IfOk r P → IfOk r Q
-IfOk-map (Ok v) f h = f v h
-IfOk-map (Err e) f h = tt
 
 pub put_all-requires-clause-args : goal.put_all-requires-clause-args
 put_all-requires-clause-args c = Pairwise-known c.args.self.now c.args.args.now c.requires.args.0 c.requires.args.1
@@ -15,4 +10,4 @@ pub put_all-requires-clause-body : goal.put_all-requires-clause-body
 put_all-requires-clause-body c = slice_get_within _ _ c.requires.body.0 c.requires.body.1
 
 pub returns-clause-made : goal.returns-clause-made
-returns-clause-made c = IfOk-map c.put_all.result (λ r. Holds-put_all c.args.self.now c.put_all.new.self c.args.args.now c.args.body r) c.put_all.ensures.made
+returns-clause-made c = IfOk-weaker c.put_all.result _ _ (λ r. Holds-put_all c.args.self.now c.put_all.new.self c.args.args.now c.args.body r) c.put_all.ensures.made

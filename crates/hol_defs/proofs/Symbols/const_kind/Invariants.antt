@@ -1,9 +1,0 @@
-use Rattle.std.proofs.Common.{◌≡◌, map}
-use Rattle.std.specs.Prelude.{drop}
-use Rattle.std.specs.List.{list_any}
-use Rattle.hol_spec.specs.Symbols.{is_input_constant}
-use Rattle.hol_defs.specs.Inputs.{symbol_of}
-use Rattle.hol_defs.proofs.Symbols.const_kind.Given as goal
-
-abbrev pub invariant-loop-input : goal.invariant-loop-input
-invariant-loop-input l = list_any (is_input_constant l.name) (map symbol_of (drop l.input-index l.input-items)) ≡ list_any (is_input_constant l.name) l.self

@@ -1,0 +1,70 @@
+-- Where types and terms come, what was made stays.
+use Rattle.std.proofs.Common.{◌≡◌, ◌<◌, refl, sym, ap, subst, ◌∙◌, arith, List, [], ◌∷◌, length, map}
+use Rattle.std.specs.List.{AllByRecursion}
+use Rattle.hol_spec.specs.Symbols.{Symbol}
+use Rattle.hol_spec.specs.Rules as rule
+use Rattle.hol_spec.specs.Proofs.{steps_of, symbols_of, IsProof}
+use Rattle.hol_type.specs.TableLaws as type_law
+use Rattle.hol_term.specs.declared.Variable.{Variable}
+use Rattle.hol_term.specs.Tables.{Trees, Keeps}
+use Rattle.hol_term.specs.TableLaws as table_law
+use Rattle.sequent.specs.declared.Sequent.{Sequent}
+use Rattle.sequent.specs.Sequents.{sequent_at, IsKnown}
+use Rattle.hol_rules.specs.declared.made.Parameters.{Parameters}
+use Rattle.hol_rules.specs.declared.made.Parameters.TheVariants as parameters
+use Rattle.hol_rules.specs.declared.made.Made.{Made as OneMade}
+use Rattle.hol_rules.specs.declared.made.Step.{Step}
+use Rattle.hol_rules.specs.Kept.{Grows}
+use Rattle.hol_rules.specs.Views.{variable_view, parameters_view, step_view, steps_view, made_view, one_view, AreParametersKnown, IsStepKnown, IsKept}
+use Rattle.std.proofs.Math.Path.{ap₂}
+
+module _ {a b : Trees} (k : Keeps a b) where
+  pub IsKnown-Keeps : (s : Sequent) → IsKnown a s → IsKnown b s
+  IsKnown-Keeps s h = (table_law.AreKnown-Keeps k s.hyps h.0, omega (arith, k.longer, h.1))
+
+  pub sequent_at-Keeps : (s : Sequent) → IsKnown a s → sequent_at a s ≡ sequent_at b s
+  sequent_at-Keeps s h = ap₂ (λ hypotheses conclusion. record { hypotheses = hypotheses; conclusion = conclusion }) (table_law.terms_at-Keeps k s.hyps h.0) (table_law.term_in-Stays k.stays s.concl.0 h.1)
+
+  variable_view-Keeps : (v : Variable) → v.ty.0 < length a.types → variable_view a v ≡ variable_view b v
+  variable_view-Keeps v h = ap (λ t. (v.name, t)) (type_law.tree_at-Stays k.types.stays v.ty.0 h)
+
+  AreParametersKnown-Keeps : (p : Parameters) → AreParametersKnown a p → AreParametersKnown b p
+  AreParametersKnown-Keeps parameters.Nothing h = tt
+  AreParametersKnown-Keeps (parameters.Term t) h = omega (arith, k.longer, h)
+  AreParametersKnown-Keeps (parameters.Variable v) h = omega (arith, k.types.longer, h)
+  AreParametersKnown-Keeps (parameters.Sequent s) h = IsKnown-Keeps s h
+
+  pub parameters_view-Keeps : (p : Parameters) → AreParametersKnown a p → parameters_view a p ≡ parameters_view b p
+  parameters_view-Keeps parameters.Nothing h = refl
+  parameters_view-Keeps (parameters.Term t) h = ap rule.Parameters.term (table_law.term_in-Stays k.stays t.0 h)
+  parameters_view-Keeps (parameters.Variable v) h = ap rule.Parameters.variable (variable_view-Keeps v h)
+  parameters_view-Keeps (parameters.Sequent s) h = ap rule.Parameters.sequent (sequent_at-Keeps s h)
+
+  step_view-Keeps : (x : Step) → IsStepKnown a x → step_view a x ≡ step_view b x
+  step_view-Keeps x h = ap₂ (λ p s. record { kind = x.kind; premises = x.premises.items; parameters = p; sequent = s }) (parameters_view-Keeps x.parameters h.parameters) (sequent_at-Keeps x.sequent h.sequent)
+
+  steps_view-Keeps : (xs : List Step) → AllByRecursion (IsStepKnown a) xs → steps_view a xs ≡ steps_view b xs
+  steps_view-Keeps [] h = refl
+  steps_view-Keeps (x ∷ xs) h = ap₂ (λ y l. y ∷ l) (step_view-Keeps x h.0) (steps_view-Keeps xs h.1)
+
+  AreStepsKnown-Keeps : (xs : List Step) → AllByRecursion (IsStepKnown a) xs → AllByRecursion (IsStepKnown b) xs
+  AreStepsKnown-Keeps [] h = tt
+  AreStepsKnown-Keeps (x ∷ xs) h = (record { parameters = AreParametersKnown-Keeps x.parameters h.0.parameters; sequent = IsKnown-Keeps x.sequent h.0.sequent }, AreStepsKnown-Keeps xs h.1)
+
+  pub made_view-Keeps : (xs : List Step) (ms : List OneMade) → AllByRecursion (IsStepKnown a) xs → made_view a xs ms ≡ made_view b xs ms
+  made_view-Keeps xs ms h = ap (λ steps. map (one_view steps) ms) (steps_view-Keeps xs h)
+
+  pub IsKept-Keeps : (symbols : List Symbol) (xs : List Step) (ms : List OneMade) → IsKept a symbols xs ms → IsKept b symbols xs ms
+  IsKept-Keeps symbols xs ms h =
+      let m = made_view-Keeps xs ms h.known in
+      record {
+        distinct = k.distinct h.distinct;
+        known = AreStepsKnown-Keeps xs h.known;
+        numbered = h.numbered;
+        steps = subst (λ made. steps_of made ≡ steps_view b xs) m (h.steps ∙ steps_view-Keeps xs h.known);
+        symbols_taken = subst (λ made. symbols_of made ≡ symbols) m h.symbols_taken;
+        proof = subst IsProof m h.proof;
+      }
+
+  pub Grows-Keeps : (symbols : List Symbol) (xs : List Step) (ms : List OneMade) → IsKept a symbols xs ms → Grows (record { trees = a; made = made_view a xs ms }) (record { trees = b; made = made_view b xs ms })
+  Grows-Keeps symbols xs ms h = record { trees = k; made = sym (made_view-Keeps xs ms h.known) }

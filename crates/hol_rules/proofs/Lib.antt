@@ -1,0 +1,14 @@
+mod Measuring
+mod Growth
+mod Pushed
+mod Concluded
+mod RuleSteps
+mod SideLaws
+mod MoreSteps
+mod Ends
+mod HypothesisEnds
+mod Truths
+mod FreeIn
+mod FunctionEnds
+mod Taken
+mod BetaEnds

@@ -1,0 +1,87 @@
+-- One step more.
+use Rattle.std.proofs.Common.{◌≡◌, ℕ, zero, suc, ◌<◌, ◌+◌, refl, sym, ap, subst, ◌∙◌, arith, List, [], ◌∷◌, ◌++◌, length, map}
+use Rattle.std.specs.Prelude.{take}
+use Rattle.std.specs.List.{AllByRecursion}
+use Rattle.std.proofs.lemmas.List.{map-append, length-append, length-map}
+use Rattle.hol_spec.specs.Symbols.{Symbol}
+use Rattle.hol_spec.specs.Proofs.{Made, steps_of, symbols_of, IsStep, IsProof}
+use Rattle.hol_spec.specs.Proofs as proof
+use Rattle.hol_laws.specs.Members.{All-append}
+use Rattle.proof_laws.specs.ProofLaws.{steps_of-push, symbols_of-push}
+use Rattle.hol_term.specs.Tables.{Trees}
+use Rattle.hol_rules.specs.declared.made.Made.{Made as OneMade}
+use Rattle.hol_rules.specs.declared.made.Made.TheVariants as one
+use Rattle.hol_rules.specs.declared.made.Step.{Step}
+use Rattle.hol_rules.specs.Views.{step_view, steps_view, step_in, made_view, one_view, IsNumbered, IsStepKnown, IsKept}
+
+-- a list without what came last
+pub take-pushed : {A : Type 0} (xs : List A) (x : A) → take (length xs) (xs ++ x ∷ []) ≡ xs
+take-pushed [] x = refl
+take-pushed (y ∷ xs) x = ap (λ l. y ∷ l) (take-pushed xs x)
+
+-- a step keeps its number when more come
+step_in-front : (xs ys : List proof.Step) (i : ℕ) → i < length xs → step_in (xs ++ ys) i ≡ step_in xs i
+step_in-front [] ys i l = absurd (omega arith)
+step_in-front (x ∷ xs) ys zero l = refl
+step_in-front (x ∷ xs) ys (suc i) l = step_in-front xs ys i (omega arith)
+
+-- the step that came last has the last number
+step_in-last : (xs : List proof.Step) (y : proof.Step) → step_in (xs ++ y ∷ []) (length xs) ≡ y
+step_in-last [] y = refl
+step_in-last (x ∷ xs) y = step_in-last xs y
+
+made-front : (xs ys : List proof.Step) (ms : List OneMade) → AllByRecursion (IsNumbered (length xs)) ms → map (one_view (xs ++ ys)) ms ≡ map (one_view xs) ms
+made-front xs ys [] h = refl
+made-front xs ys (one.InputConst n ∷ ms) h = ap (λ l. Made.symbol (Symbol.input_constant n) ∷ l) (made-front xs ys ms h.1)
+made-front xs ys (one.InputOp n k ∷ ms) h = ap (λ l. Made.symbol (Symbol.input_operator n k) ∷ l) (made-front xs ys ms h.1)
+made-front xs ys (one.Step i ∷ ms) h = (λ t. Made.step (step_in-front xs ys i h.0 t) ∷ made-front xs ys ms h.1 t)
+
+numbered-more : (n k : ℕ) → n < k → (ms : List OneMade) → AllByRecursion (IsNumbered n) ms → AllByRecursion (IsNumbered k) ms
+numbered-more n k l [] h = tt
+numbered-more n k l (one.InputConst m ∷ ms) h = (tt {0}, numbered-more n k l ms h.1)
+numbered-more n k l (one.InputOp m j ∷ ms) h = (tt {0}, numbered-more n k l ms h.1)
+numbered-more n k l (one.Step i ∷ ms) h = (omega (arith, l, h.0), numbered-more n k l ms h.1)
+
+module _ (trees : Trees) (symbols : List Symbol) (xs : List Step) (ms : List OneMade) (h : IsKept trees symbols xs ms) (x : Step) where
+  steps-pushed : steps_view trees (xs ++ x ∷ []) ≡ steps_view trees xs ++ step_view trees x ∷ []
+  steps-pushed = map-append (step_view trees) xs (x ∷ [])
+
+  many : length (steps_view trees xs) ≡ length xs
+  many = length-map xs (step_view trees)
+
+  -- what was made, and then the step
+  pub made_view-pushed : made_view trees (xs ++ x ∷ []) (ms ++ one.Step (length xs) ∷ []) ≡ made_view trees xs ms ++ Made.step (step_view trees x) ∷ []
+  made_view-pushed =
+      ap (λ steps. map (one_view steps) (ms ++ one.Step (length xs) ∷ [])) steps-pushed
+      ∙ map-append (one_view (steps_view trees xs ++ step_view trees x ∷ [])) ms (one.Step (length xs) ∷ [])
+      ∙ (λ t. made-front (steps_view trees xs) (step_view trees x ∷ []) ms (subst (λ n. AllByRecursion (IsNumbered n) ms) (sym many) h.numbered) t ++ Made.step (last t) ∷ [])
+    where
+      last : step_in (steps_view trees xs ++ step_view trees x ∷ []) (length xs) ≡ step_view trees x
+      last = ap (step_in (steps_view trees xs ++ step_view trees x ∷ [])) (sym many) ∙ step_in-last (steps_view trees xs) (step_view trees x)
+
+  pub IsKept-pushed : IsStepKnown trees x → IsStep (made_view trees xs ms) (step_view trees x) → IsKept trees symbols (xs ++ x ∷ []) (ms ++ one.Step (length xs) ∷ [])
+  IsKept-pushed known follows =
+      let more : length (xs ++ x ∷ []) ≡ length xs + 1 = length-append xs (x ∷ []) in
+      record {
+        distinct = h.distinct;
+        known = All-append (IsStepKnown trees) xs (x ∷ []) h.known (known, tt {0});
+        numbered = All-append (IsNumbered (length (xs ++ x ∷ []))) ms (one.Step (length xs) ∷ []) (numbered-more (length xs) (length (xs ++ x ∷ [])) (omega (arith, more)) ms h.numbered) (omega (arith, more), tt {0});
+        steps = ap steps_of made_view-pushed ∙ steps_of-push (made_view trees xs ms) (step_view trees x) ∙ ap (λ l. l ++ step_view trees x ∷ []) h.steps ∙ sym steps-pushed;
+        symbols_taken = ap symbols_of made_view-pushed ∙ symbols_of-push (made_view trees xs ms) (step_view trees x) ∙ h.symbols_taken;
+        proof = proof.Each.more (Made.step (step_view trees x)) h.proof follows made_view-pushed;
+      }
+
+  -- how many steps were made
+  pub step_count-kept : length (steps_of (made_view trees xs ms)) ≡ length xs
+  step_count-kept = ap length h.steps ∙ many
+
+-- nothing is made of nothing
+pub IsKept-none : IsKept (record { types = []; terms = [] }) [] [] []
+IsKept-none = record {
+  distinct = record { each = λ i j t e f. absurd (cc) };
+  known = tt;
+  numbered = tt;
+  steps = refl;
+  symbols_taken = refl;
+  proof = proof.Each.empty;
+}

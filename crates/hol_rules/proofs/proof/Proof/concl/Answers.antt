@@ -1,0 +1,5 @@
+use Rattle.hol_rules.proofs.RuleSteps.{said}
+use Rattle.hol_rules.proofs.proof.Proof.concl.Goals as goal
+
+pub returns-clause-typed : goal.returns-clause-typed
+returns-clause-typed c = (said c.args.self.now.made c.is_proof.ensures c.args.id c.requires).conclusion

@@ -1,0 +1,5 @@
+pub mod Kept
+pub mod Views
+pub mod Conclusions
+pub mod Steps
+pub mod Premises

@@ -1,0 +1,107 @@
+-- The step that each rule makes of its premises and of what else it is given, or the first of its conditions that fails.
+-- Source: HOL Light's kernel; the OpenTheory article file format, version 6, "Commands".
+use Rattle.std.specs.Prelude.{ℕ, List, [], ◌∷◌, not, Some, Result, Ok}
+use Rattle.std.specs.Option.{ok_or}
+use Rattle.bridge_base.specs.declared.faults.Kind.{Kind}
+use Rattle.bridge_base.specs.declared.faults.Kind.TheVariants.{NotBool, TypeMismatch, NotAlike, VarInHyps, NotRedex}
+use Rattle.hol_spec.specs.Primitives.{bool, function}
+use Rattle.hol_spec.specs.Terms.{Term, Variable, app, term_eq, equation, application_type}
+use Rattle.hol_spec.specs.Rules.{Parameters, nothing, derived, joined, removed, abstraction, is_free_in}
+use Rattle.hol_spec.specs.Proofs.{Made, Step, sequent_at}
+use Rattle.hol_spec.specs.declared.StepKind.TheVariants as by_rule
+use Rattle.article_spec.specs.Results.{◌>>=◌, ◌>>◌}
+use Rattle.article_spec.specs.Conditions.{demand, typed, is_of_type, equation_of, all_bool, follows}
+use Rattle.article_spec.specs.Inference.{step_by, contracted}
+use Rattle.article_spec.specs.Stating.{stated, restatement}
+
+-- |- t = t
+abbrev pub refl_step : Term → Result Step Kind
+refl_step t = do
+  a ← typed t
+  Ok (step_by by_rule.Refl [] (Parameters.term t) (derived [] (equation a t t)))
+
+-- {p} |- p
+abbrev pub assume_step : Term → Result Step Kind
+assume_step p = do
+  demand (is_of_type bool p) NotBool
+  Ok (step_by by_rule.Assume [] (Parameters.term p) (derived (p ∷ []) p))
+
+-- from G |- p = q and D |- p: G u D |- q
+abbrev pub eq_mp_step : List Made → ℕ → ℕ → Result Step Kind
+eq_mp_step made i j = do
+  let one = sequent_at made i
+  let two = sequent_at made j
+  e ← equation_of one
+  demand (term_eq two.conclusion e.left) NotAlike
+  Ok (step_by by_rule.EqMp (i ∷ j ∷ []) nothing (derived (joined one.hypotheses two.hypotheses) e.right))
+
+-- from G |- t = u, where v is not free in G: G |- (\v. t) = (\v. u)
+abbrev pub abs_thm_step : List Made → Variable → ℕ → Result Step Kind
+abs_thm_step made v i = do
+  let one = sequent_at made i
+  e ← equation_of one
+  demand (not (is_free_in v one.hypotheses)) VarInHyps
+  Ok (step_by by_rule.AbsThm (i ∷ []) (Parameters.variable v)
+      (derived one.hypotheses (equation (function v.1 e.ty) (abstraction v e.left) (abstraction v e.right))))
+
+-- from G |- f = g and D |- x = y: G u D |- f x = g y. The types are judged only where both are equations.
+abbrev pub app_thm_step : List Made → ℕ → ℕ → Result Step Kind
+app_thm_step made i j = do
+  let one = sequent_at made i
+  let two = sequent_at made j
+  f ← equation_of one
+  x ← equation_of two
+  b ← ok_or (application_type (Some f.ty) (Some x.ty)) TypeMismatch
+  Ok (step_by by_rule.AppThm (i ∷ j ∷ []) nothing (derived (joined one.hypotheses two.hypotheses) (equation b (app f.left x.left) (app f.right x.right))))
+
+-- from G |- p and D |- q: (G - {q}) u (D - {p}) |- p = q
+abbrev pub deduct_antisym_step : List Made → ℕ → ℕ → Result Step Kind
+deduct_antisym_step made i j = do
+  let one = sequent_at made i
+  let two = sequent_at made j
+  Ok (step_by by_rule.DeductAntisym (i ∷ j ∷ []) nothing
+      (derived (joined (removed one.hypotheses two.conclusion) (removed two.hypotheses one.conclusion)) (equation bool one.conclusion two.conclusion)))
+
+-- |- (\v. t) u = t[u/v]
+abbrev pub beta_conv_step : Term → Result Step Kind
+beta_conv_step t = do
+  u ← ok_or (contracted t) NotRedex
+  a ← typed t
+  Ok (step_by by_rule.BetaConv [] (Parameters.term t) (derived [] (equation a t u)))
+
+-- from G |- x = y: G |- y = x
+abbrev pub sym_step : List Made → ℕ → Result Step Kind
+sym_step made i = do
+  let one = sequent_at made i
+  e ← equation_of one
+  Ok (step_by by_rule.Sym (i ∷ []) nothing (derived one.hypotheses (equation e.ty e.right e.left)))
+
+-- from G |- x = y and D |- y = z: G u D |- x = z
+abbrev pub trans_step : List Made → ℕ → ℕ → Result Step Kind
+trans_step made i j = do
+  let one = sequent_at made i
+  let two = sequent_at made j
+  e ← equation_of one
+  f ← equation_of two
+  demand (term_eq f.left e.right) NotAlike
+  Ok (step_by by_rule.Trans (i ∷ j ∷ []) nothing (derived (joined one.hypotheses two.hypotheses) (equation e.ty e.left f.right)))
+
+-- from G |- p and D |- q: G u (D - {p}) |- q
+abbrev pub prove_hyp_step : List Made → ℕ → ℕ → Result Step Kind
+prove_hyp_step made i j = do
+  let one = sequent_at made i
+  let two = sequent_at made j
+  Ok (step_by by_rule.ProveHyp (i ∷ j ∷ []) nothing (derived (joined one.hypotheses (removed two.hypotheses one.conclusion)) two.conclusion))
+
+-- what an article assumes; repeats among the hypotheses are dropped
+abbrev pub axiom_step : List Term → Term → Result Step Kind
+axiom_step hypotheses conclusion = do
+  all_bool (conclusion ∷ hypotheses)
+  Ok (step_by by_rule.Axiom [] (Parameters.sequent (stated hypotheses conclusion)) (stated hypotheses conclusion))
+
+-- the premise's conclusion, under its hypotheses and perhaps more; repeats among the hypotheses are dropped
+abbrev pub restate_step : List Made → ℕ → List Term → Term → Result Step Kind
+restate_step made i hypotheses conclusion = do
+  all_bool (conclusion ∷ hypotheses)
+  follows (sequent_at made i) (stated hypotheses conclusion)
+  Ok (restatement i (stated hypotheses conclusion))

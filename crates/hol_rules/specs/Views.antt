@@ -1,0 +1,80 @@
+-- What a proof's numbers stand for.
+use Rattle.std.specs.Prelude.{◌≡◌, ℕ, ◌<◌, List, [], length, map, slice_index_or}
+use Rattle.std.specs.List.{AllByRecursion}
+use Rattle.hol_spec.specs.Terms.{Variable as AVariable, bound}
+use Rattle.hol_spec.specs.Symbols.{Symbol}
+use Rattle.hol_spec.specs.Rules as rule
+use Rattle.hol_spec.specs.Proofs.{Made, steps_of, symbols_of, IsProof}
+use Rattle.hol_spec.specs.Proofs as proof
+use Rattle.hol_spec.specs.declared.StepKind.{StepKind}
+use Rattle.hol_spec.specs.declared.StepKind.TheVariants.{Refl}
+use Rattle.hol_term.specs.declared.Variable.{Variable}
+use Rattle.hol_term.specs.Tables.{Trees, term_at, type_at, IsDistinct}
+use Rattle.sequent.specs.declared.Sequent.{Sequent}
+use Rattle.sequent.specs.Sequents.{sequent_at, IsKnown}
+use Rattle.hol_rules.specs.declared.made.Parameters.{Parameters}
+use Rattle.hol_rules.specs.declared.made.Parameters.TheVariants as parameters
+use Rattle.hol_rules.specs.declared.made.Made.{Made as OneMade}
+use Rattle.hol_rules.specs.declared.made.Made.TheVariants as one
+use Rattle.hol_rules.specs.declared.made.Step.{Step}
+
+abbrev pub variable_view : Trees → Variable → AVariable
+variable_view trees v = (v.name, type_at trees v.ty.0)
+
+abbrev pub parameters_view : Trees → Parameters → rule.Parameters
+parameters_view trees parameters.Nothing = rule.Parameters.nothing
+parameters_view trees (parameters.Term t) = rule.Parameters.term (term_at trees t.0)
+parameters_view trees (parameters.Variable v) = rule.Parameters.variable (variable_view trees v)
+parameters_view trees (parameters.Sequent s) = rule.Parameters.sequent (sequent_at trees s)
+
+abbrev pub step_view : Trees → Step → proof.Step
+step_view trees x = record { kind = x.kind; premises = x.premises.items; parameters = parameters_view trees x.parameters; sequent = sequent_at trees x.sequent }
+
+-- the step by a rule, of a sequent of numbers
+abbrev pub new_step : Trees → StepKind → List ℕ → Parameters → Sequent → proof.Step
+new_step trees kind premises parameters sequent = record { kind = kind; premises = premises; parameters = parameters_view trees parameters; sequent = sequent_at trees sequent }
+
+abbrev pub steps_view : Trees → List Step → List proof.Step
+steps_view trees xs = map (step_view trees) xs
+
+-- the step with a number; past the last there is none, and what stands here is none
+abbrev pub step_in : List proof.Step → ℕ → proof.Step
+step_in steps i = slice_index_or steps i (record { kind = Refl; premises = []; parameters = rule.Parameters.nothing; sequent = record { hypotheses = []; conclusion = bound 0 } })
+
+abbrev pub step_at : List Made → ℕ → proof.Step
+step_at made i = step_in (steps_of made) i
+
+-- one thing that was made, the step with its number among these
+abbrev pub one_view : List proof.Step → OneMade → Made
+one_view steps (one.InputConst n) = Made.symbol (Symbol.input_constant n)
+one_view steps (one.InputOp n k) = Made.symbol (Symbol.input_operator n k)
+one_view steps (one.Step i) = Made.step (step_in steps i)
+
+abbrev pub made_view : Trees → List Step → List OneMade → List Made
+made_view trees xs ms = map (one_view (steps_view trees xs)) ms
+
+-- the numbers of a step are of the table
+abbrev pub AreParametersKnown : Trees → Parameters → Type 0
+AreParametersKnown trees parameters.Nothing = Unit {0}
+AreParametersKnown trees (parameters.Term t) = t.0 < length trees.terms
+AreParametersKnown trees (parameters.Variable v) = v.ty.0 < length trees.types
+AreParametersKnown trees (parameters.Sequent s) = IsKnown trees s
+
+pub record IsStepKnown (trees : Trees) (x : Step) : Type 0 where
+  pub parameters : AreParametersKnown trees x.parameters
+  pub sequent : IsKnown trees x.sequent
+
+-- a step that was made is one of so many
+abbrev pub IsNumbered : ℕ → OneMade → Type 0
+IsNumbered n (one.InputConst m) = Unit {0}
+IsNumbered n (one.InputOp m k) = Unit {0}
+IsNumbered n (one.Step i) = i < n
+
+-- what is kept is a proof: its steps in order are those that were made, and its symbols those that are taken
+pub record IsKept (trees : Trees) (symbols : List Symbol) (xs : List Step) (ms : List OneMade) : Type 0 where
+  pub distinct : IsDistinct trees.terms
+  pub known : AllByRecursion (IsStepKnown trees) xs
+  pub numbered : AllByRecursion (IsNumbered (length xs)) ms
+  pub steps : steps_of (made_view trees xs ms) ≡ steps_view trees xs
+  pub symbols_taken : symbols_of (made_view trees xs ms) ≡ symbols
+  pub proof : IsProof (made_view trees xs ms)

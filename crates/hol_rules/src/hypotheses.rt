@@ -1,0 +1,50 @@
+//! The rules that change hypotheses, and those that state a sequent.
+ghost use Rattle.std.specs.Prelude.{◌<◌};
+ghost use Rattle.hol_rules.specs.Conclusions.{Concludes};
+ghost use Rattle.hol_rules.specs.Kept.{step_count};
+ghost use Rattle.hol_rules.specs.Steps.{deduct_antisym_step, prove_hyp_step};
+
+use crate::made::{Parameters, StepId};
+use crate::proof::Proof;
+use bridge_base::Fault;
+use hol_spec::StepKind;
+use sequent::Sequent;
+
+impl Proof {
+    /// Two truth values, each derived from the other, are equal.
+    pub fn deduct_antisym(&mut self, one: StepId, two: StepId) -> Result<StepId, Fault>
+        requires one { one < step_count self.old }
+        requires two { two < step_count self.old }
+        ensures { Concludes self.old (deduct_antisym_step self.old.made one two) self.new result }
+    {
+        let p = self.concl(one);
+        let q = self.concl(two);
+        let concl = self.equation(p, q)?;
+        let first = self.removed(one, two)?;
+        let second = self.removed(two, one)?;
+        let hyps = self.united(&first, &second)?;
+        self.conclude(
+            StepKind::DeductAntisym,
+            &[one, two],
+            Parameters::Nothing,
+            Sequent { hyps, concl },
+        )
+    }
+
+    /// A theorem without the hypothesis that another one proves: `two` has it, `one` proves it.
+    pub fn prove_hyp(&mut self, one: StepId, two: StepId) -> Result<StepId, Fault>
+        requires one { one < step_count self.old }
+        requires two { two < step_count self.old }
+        ensures { Concludes self.old (prove_hyp_step self.old.made one two) self.new result }
+    {
+        let rest = self.removed(two, one)?;
+        let hyps = self.united(&self.sequent(one).hyps, &rest)?;
+        let concl = self.concl(two);
+        self.conclude(
+            StepKind::ProveHyp,
+            &[one, two],
+            Parameters::Nothing,
+            Sequent { hyps, concl },
+        )
+    }
+}

@@ -1,0 +1,41 @@
+//! What a proof made, as numbers of its table.
+use hol_name::Name;
+use hol_spec::StepKind;
+use hol_term::{TermId, Variable};
+use sequent::Sequent;
+
+/// The number of a step in its proof: steps are numbered from 0 in order of making.
+pub type StepId = usize;
+
+/// What a rule was given beside its premises.
+#[derive(Drop)]
+pub enum Parameters {
+    /// Nothing.
+    Nothing,
+    /// A term.
+    Term(TermId),
+    /// A free variable.
+    Variable(Variable),
+    /// A sequent that was stated.
+    Sequent(Sequent),
+}
+
+/// One thing that a proof made.
+#[derive(Drop)]
+pub enum Made {
+    /// An input constant was taken.
+    InputConst(Name),
+    /// An input operator with so many arguments was taken.
+    InputOp(Name, usize),
+    /// The step of this number.
+    Step(StepId),
+}
+
+/// A step.
+#[derive(Drop)]
+pub(crate) struct Step {
+    pub(crate) kind: StepKind,
+    pub(crate) premises: Vec<StepId>,
+    pub(crate) parameters: Parameters,
+    pub(crate) sequent: Sequent,
+}

@@ -1,0 +1,139 @@
+//! A proof: its table, the symbols that it took and the steps that it made.
+ghost use Rattle.std.specs.Prelude.{◌≡◌, ◌<◌, [], length, map, IfOk};
+ghost use Rattle.std.specs.List.{AllByRecursion};
+ghost use Rattle.hol_spec.specs.Derivations.{Derives};
+ghost use Rattle.hol_spec.specs.Proofs.{assumptions_of, definitions_of, sequent_at, sequents_of, steps_of, symbols_of, IsProof};
+ghost use Rattle.sequent.specs.Sequents as numbers;
+ghost use Rattle.hol_rules.specs.Kept.{step_count};
+ghost use Rattle.hol_rules.specs.Views.{one_view, parameters_view, step_at, step_view, IsStepKnown};
+
+use crate::made::{Made, Parameters, Step, StepId};
+use bridge_base::Memory;
+use hol_defs::Symbols;
+use hol_spec::StepKind;
+use hol_term::TermTable;
+use sequent::Sequent;
+use std::alloc::Global;
+use std::marker::Model;
+
+/// A proof over a table of terms.
+#[derive(Drop)]
+pub struct Proof {
+    pub(crate) alloc: Global,
+    pub(crate) terms: TermTable,
+    pub(crate) symbols: Symbols,
+    pub(crate) steps: Vec<Step>,
+    pub(crate) made: Vec<Made>,
+}
+
+impl Model for Proof {
+    ghost use Rattle.hol_rules.specs.Kept.{Kept, coded_kept};
+    ghost use Rattle.hol_rules.specs.Views.{made_view, IsKept};
+
+    ghost Value = { Kept };
+
+    ghost coded = { coded_kept };
+
+    ghost view = { λ p. record { trees = p.terms; made = made_view p.terms p.steps.items p.made.items } };
+
+    ghost invariant = { λ p. IsKept p.terms p.symbols p.steps.items p.made.items };
+}
+
+impl Proof {
+    /// A proof without symbols and steps, over an empty table.
+    pub fn new(alloc: Global) -> Result<Proof, Memory>
+        ensures empty { IfOk result (λ proof. proof ≡ record { trees = record { types = []; terms = [] }; made = [] }) }
+    {
+        Ok(Proof {
+            alloc,
+            terms: TermTable::new(alloc),
+            symbols: Symbols::new(alloc)?,
+            steps: Vec::new(alloc),
+            made: Vec::new(alloc),
+        })
+    }
+
+    /// The table of terms, for reading.
+    pub fn terms(&self) -> &TermTable
+        ensures { result.now ≡ self.now.trees }
+    {
+        &self.terms
+    }
+
+    /// The symbols that are taken, for reading.
+    pub fn symbols(&self) -> &Symbols
+        ensures { result.now ≡ symbols_of self.now.made }
+    {
+        &self.symbols
+    }
+
+    /// How many steps there are.
+    pub fn len(&self) -> usize
+        ensures { result ≡ step_count self.now }
+    {
+        self.steps.len()
+    }
+
+    /// What was made, in order: a step stands with its number.
+    pub fn made(&self) -> &[Made]
+        ensures { map (one_view (steps_of self.now.made)) result.now ≡ self.now.made }
+    {
+        &self.made
+    }
+
+    /// The sequent of a step.
+    pub fn sequent(&self, id: StepId) -> &Sequent
+        requires { id < step_count self.now }
+        ensures is { numbers.sequent_at self.now.trees result.now ≡ sequent_at self.now.made id }
+        ensures known { numbers.IsKnown self.now.trees result.now }
+    {
+        &self.step(id).sequent
+    }
+
+    /// The rule by which a step was made.
+    pub fn kind(&self, id: StepId) -> StepKind
+        requires { id < step_count self.now }
+        ensures { result ≡ (step_at self.now.made id).kind }
+    {
+        self.step(id).kind
+    }
+
+    /// The numbers of the steps that were a step's premises.
+    pub fn premises(&self, id: StepId) -> &[StepId]
+        requires { id < step_count self.now }
+        ensures { result.now ≡ (step_at self.now.made id).premises }
+    {
+        &self.step(id).premises
+    }
+
+    /// What a step's rule was given beside its premises.
+    pub fn params(&self, id: StepId) -> &Parameters
+        requires { id < step_count self.now }
+        ensures { parameters_view self.now.trees result.now ≡ (step_at self.now.made id).parameters }
+    {
+        &self.step(id).parameters
+    }
+
+    // A step.
+    fn step(&self, id: StepId) -> &Step
+        requires { id < step_count self.now }
+        ensures is { step_view self.now.trees result.now ≡ step_at self.now.made id }
+        ensures known { IsStepKnown self.now.trees result.now }
+    {
+        &self.steps[id]
+    }
+
+    /// What was made is a proof: each step follows by its rule from steps before it.
+    pub fn is_proof(&self)
+        ensures { IsProof self.now.made }
+    {
+        let _made = &self.made;
+    }
+
+    /// What each step says derives from the proof's definitions and assumptions.
+    pub fn derives(&self)
+        ensures { AllByRecursion (Derives (definitions_of self.now.made) (assumptions_of self.now.made)) (sequents_of self.now.made) }
+    {
+        self.is_proof();
+    }
+}
