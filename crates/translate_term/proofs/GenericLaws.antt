@@ -1,0 +1,117 @@
+-- The generic type of a symbol, read back from its declared type.
+use Rattle.std.proofs.Common.{◌≡◌, ℕ, zero, suc, ◌+◌, ◌<◌, refl, sym, ap, subst, ◌∙◌, arith, List, [], ◌∷◌, ◌++◌, length, map, append_assoc, Some, Bool, true, false}
+use Rattle.std.specs.Prelude.{replicate}
+use Rattle.hol_spec.specs.Types.{HolType, type_variables}
+use Rattle.hol_spec.specs.Substitution.{type_arguments}
+use Rattle.hol_type.specs.declared.table.TypeId.{TypeId}
+use Rattle.hol_type.specs.Tables as type
+use Rattle.lp_spec.specs.Trees.{Tree, Sym, App, Pi}
+use Rattle.lp_spec.specs.Modules.{Declaration, symbol_type, products, types, term_of}
+use Rattle.lp_term.specs.declared.LpId.{LpId}
+use Rattle.lp_term.specs.Tables.{tree_at, Holds}
+use Rattle.lp_term.specs.TableLaws.{Holds-tree_at}
+use Rattle.module_spec.specs.Scopes.{Symbols, type_tree, under_types, unfilled}
+use Rattle.module_laws.specs.SequentEncoding.{types-are}
+use Rattle.translate_term.specs.Patterns.{IsGeneric, Fits, Mentions}
+use Rattle.translate_term.proofs.PatternLaws.{below, wants, pattern_of, generic-fits, generic-mentions, wants-arguments}
+
+-- a tree under so many of so many products over types, before the terms of a pattern
+pub record IsUnder (trees : List Tree) (id count k : ℕ) (pattern : Tree) : Type 0 where
+  pub left : ℕ
+  pub sum : k ≡ count + left
+  pub is : tree_at trees id ≡ products (replicate left types) (term_of pattern)
+
+body_of : Tree → Tree
+body_of (Pi a b) = b
+body_of t = t
+
+argument_of : Tree → Tree
+argument_of (App f x) = x
+argument_of t = t
+
+same-body : (a b c d : Tree) → Pi a b ≡ Pi c d → b ≡ d
+unfolding body_of
+same-body a b c d e = ap body_of e
+
+same-argument : (a b c d : Tree) → App a b ≡ App c d → b ≡ d
+unfolding argument_of
+same-argument a b c d e = ap argument_of e
+
+pub under_begins : (trees : List Tree) (id k : ℕ) (pattern : Tree) → tree_at trees id ≡ products (replicate k types) (term_of pattern) → IsUnder trees id 0 k pattern
+under_begins trees id k pattern e = record { left = k; sum = omega arith; is = e }
+
+-- under one product more
+pub under_product : (trees : List Tree) (id count k : ℕ) (pattern : Tree) (a b : LpId) → Holds trees id (Pi (tree_at trees a.0) (tree_at trees b.0)) → IsUnder trees id count k pattern → IsUnder trees b.0 (count + 1) k pattern
+under_product trees id count k pattern a b h u = go u.left u.sum u.is
+  where
+    go : (left : ℕ) → k ≡ count + left → tree_at trees id ≡ products (replicate left types) (term_of pattern) → IsUnder trees b.0 (count + 1) k pattern
+    go zero s e = absurd (let no : Pi (tree_at trees a.0) (tree_at trees b.0) ≡ term_of pattern = sym (Holds-tree_at trees id _ h) ∙ e in cc)
+    go (suc left) s e = record { left = left; sum = omega (arith, s); is = same-body (tree_at trees a.0) (tree_at trees b.0) types (products (replicate left types) (term_of pattern)) (sym (Holds-tree_at trees id _ h) ∙ e) }
+
+-- at the end
+pub under_application : (trees : List Tree) (id count k : ℕ) (pattern : Tree) (f x : LpId) → Holds trees id (App (tree_at trees f.0) (tree_at trees x.0)) → IsUnder trees id count k pattern → (count ≡ k) × (tree_at trees x.0 ≡ pattern)
+under_application trees id count k pattern f x h u = go u.left u.sum u.is
+  where
+    go : (left : ℕ) → k ≡ count + left → tree_at trees id ≡ products (replicate left types) (term_of pattern) → (count ≡ k) × (tree_at trees x.0 ≡ pattern)
+    go zero s e = (omega (arith, s), same-argument (tree_at trees f.0) (tree_at trees x.0) (Sym 4) pattern (sym (Holds-tree_at trees id _ h) ∙ e))
+    go (suc left) s e = absurd (let no : App (tree_at trees f.0) (tree_at trees x.0) ≡ Pi types (products (replicate left types) (term_of pattern)) = sym (Holds-tree_at trees id _ h) ∙ e in cc)
+
+-- what is neither a product nor an application
+abbrev pub is_other : Tree → Bool
+is_other (Pi a b) = false
+is_other (App f x) = false
+is_other t = true
+
+pub under_other : (trees : List Tree) (id count k : ℕ) (pattern t : Tree) → Holds trees id t → is_other t ≡ true → IsUnder trees id count k pattern → ⊥
+under_other trees id count k pattern t h o u = go u.left u.is
+  where
+    other : (u : Tree) → t ≡ u → is_other u ≡ true
+    other u e = ap is_other (sym e) ∙ o
+
+    go : (left : ℕ) → tree_at trees id ≡ products (replicate left types) (term_of pattern) → ⊥
+    go zero e = let no = other (term_of pattern) (sym (Holds-tree_at trees id t h) ∙ e) in cc
+    go (suc left) e = let no = other (Pi types (products (replicate left types) (term_of pattern))) (sym (Holds-tree_at trees id t h) ∙ e) in cc
+
+module _ (m : List Declaration) (symbol : ℕ) (symbols : Symbols) (generic : HolType) (table : List HolType) (ty : TypeId) (h : IsGeneric m symbol symbols generic table ty) (trees : List Tree) (count : ℕ) (pattern : LpId)
+    (is : (k : ℕ) (p : Tree) → symbol_type m symbol ≡ Some (products (replicate k types) (term_of p)) → (count ≡ k) × (tree_at trees pattern.0 ≡ p)) where
+  abbrev pub wanted_in : ℕ → HolType
+  wanted_in = wants symbols generic (type.tree_at table ty.0) h.instance
+
+  here : (count ≡ length (type_variables generic)) × (tree_at trees pattern.0 ≡ pattern_of symbols generic (type.tree_at table ty.0) h.instance)
+  here =
+      is (length (type_variables generic)) (pattern_of symbols generic (type.tree_at table ty.0) h.instance)
+      (h.declared ∙ ap (λ ds. Some (products ds (term_of (type_tree symbols (under_types (type_variables generic) unfilled) generic)))) (types-are (type_variables generic)))
+
+  pub pattern-fits : Fits wanted_in 0 (tree_at trees pattern.0) (type.tree_at table ty.0)
+  pattern-fits = subst (λ t. Fits wanted_in 0 t (type.tree_at table ty.0)) (sym here.1) (generic-fits symbols generic (type.tree_at table ty.0) h.instance)
+
+  pub pattern-mentions : (k : ℕ) → k < count → Mentions k (tree_at trees pattern.0)
+  pattern-mentions k l = subst (λ t. Mentions k t) (sym here.1) (generic-mentions symbols generic (type.tree_at table ty.0) h.instance k (omega (arith, l, here.0)))
+
+  pub arguments-are : map wanted_in (below count) ≡ type_arguments generic (type.tree_at table ty.0)
+  arguments-are = ap (λ k. map wanted_in (below k)) here.0 ∙ wants-arguments symbols generic (type.tree_at table ty.0) h.instance
+
+types_at-append : (table : List HolType) (ids js : List TypeId) → type.types_at table (ids ++ js) ≡ type.types_at table ids ++ type.types_at table js
+types_at-append table [] js = refl
+types_at-append table (id ∷ ids) js = ap (λ l. type.tree_at table id.0 ∷ l) (types_at-append table ids js)
+
+-- one argument more
+pub arguments_step : (table : List HolType) (want : ℕ → HolType) (items : List TypeId) (id : TypeId) (left after : ℕ) (goal : List HolType) → type.tree_at table id.0 ≡ want after → left ≡ suc after
+    → type.types_at table items ++ map want (below left) ≡ goal → type.types_at table (items ++ id ∷ []) ++ map want (below after) ≡ goal
+arguments_step table want items id left after goal is e h =
+    ap (λ l. l ++ map want (below after)) (types_at-append table items (id ∷ []))
+    ∙ append_assoc (type.types_at table items) (type.tree_at table id.0 ∷ []) (map want (below after))
+    ∙ ap (λ x. type.types_at table items ++ x ∷ map want (below after)) is
+    ∙ ap (λ k. type.types_at table items ++ map want (below k)) (sym e)
+    ∙ h
+
+pub AreKnown-more : (table : List HolType) (items : List TypeId) (id : TypeId) → type.AreKnown table items → id.0 < length table → type.AreKnown table (items ++ id ∷ [])
+AreKnown-more table [] id h k = (k, tt {0})
+AreKnown-more table (x ∷ items) id h k = (h.0, AreKnown-more table items id h.1 k)
+
+append-none : (l : List HolType) → l ++ [] ≡ l
+append-none [] = refl
+append-none (x ∷ l) = ap (λ r. x ∷ r) (append-none l)
+
+pub arguments_end : (table : List HolType) (want : ℕ → HolType) (items : List TypeId) (left : ℕ) (goal : List HolType) → left ≡ 0 → type.types_at table items ++ map want (below left) ≡ goal → type.types_at table items ≡ goal
+arguments_end table want items left goal e h = sym (append-none (type.types_at table items)) ∙ ap (λ k. type.types_at table items ++ map want (below k)) (sym e) ∙ h

@@ -1,0 +1,220 @@
+-- What a turn does to a walk over terms.
+use Rattle.std.proofs.Common.{◌≡◌, ℕ, suc, ◌+◌, ◌-◌, ◌<◌, ◌≤◌, Bool, true, false, cond, refl, sym, ap, ◌∙◌, subst, arith, List, [], ◌∷◌, length, ◌⊎◌, ⊎_elim, inl, inr}
+use Rattle.std.specs.Prelude.{nat_lt}
+use Rattle.std.proofs.Math.Path.{fun_ext, ap₂}
+use Rattle.hol_spec.specs.Names.{Name}
+use Rattle.hol_spec.specs.Types.{HolType}
+use Rattle.hol_spec.specs.Terms.{Term, free, bound, constant, app, lam}
+use Rattle.hol_spec.specs.Limits.{term_size}
+use Rattle.hol_type.specs.declared.table.TypeId.{TypeId}
+use Rattle.hol_term.specs.declared.TermId.{TermId}
+use Rattle.hol_term.specs.declared.Variable.{Variable as AVariable}
+use Rattle.hol_term.specs.Tables.{Trees, term_at, type_at, Holds, IsDistinct}
+use Rattle.hol_term.specs.TableLaws.{term_in-same, Some-term_in}
+use Rattle.lp_spec.specs.Trees.{Tree, Var, Lam, lift}
+use Rattle.lp_spec.specs.Modules.{term_of}
+use Rattle.lp_binding.specs.Composition.{lift_zero, lift_is, ren_is_sub}
+use Rattle.lp_term.specs.declared.LpId.{LpId}
+use Rattle.lp_term.specs.Tables as lp
+use Rattle.holide_sig.specs.declared.module.Module.{Module}
+use Rattle.module_spec.specs.Scopes.{Symbols, constant_tree, type_tree, term_tree}
+use Rattle.module_laws.specs.DeepScopes.{deep, deep-suc}
+use Rattle.module_laws.specs.ListedScopes.{told_types, told}
+use Rattle.module_laws.specs.ScopeLaws.{type_tree-sub, term_tree-sub}
+use Rattle.lp_spec.specs.Substitution.{sub}
+use Rattle.translate_term.specs.declared.memo.Place.{Place}
+use Rattle.translate_term.specs.declared.tasks.Task.{Task}
+use Rattle.translate_term.specs.declared.tasks.Task.TheVariants.{Visit, Join}
+use Rattle.translate_term.specs.Tasks.{IsNoted, IsDone, AreAll, visits, PartsAre}
+use Rattle.translate_term.specs.Told.{TellsType, TellsTerm}
+use Rattle.translate_term.specs.Walks.{Grows, Given, IsGiven, IsTypeMemo, IsTypeStart, IsTermKnown, IsTermMemo, IsTermStart, IsTermWalk, IsApplication, IsAbstraction, HasParts, type_wanted, term_wanted, place_size}
+use Rattle.translate_term.proofs.EndsLaws.{Ends-done, Ends-noted, Ends-set_out, noted-sound}
+use Rattle.translate_term.proofs.GrowLaws.{IsGiven-Grows, AreGiven-Grows, IsTermMemo-Keeps}
+use Rattle.std.proofs.lemmas.Option.{same_Some}
+
+-- To lift is to substitute.
+lift-sub : (d : ℕ) (t : Tree) → lift d t ≡ sub (λ n. Var (n + d)) t
+lift-sub d t = lift_is d t ∙ ren_is_sub (λ n. n + d) t
+
+pub type-lift : (symbols : Symbols) (scope : Name → Tree) (d : ℕ) (t : HolType) → lift d (type_tree symbols scope t) ≡ type_tree symbols (λ n. lift d (scope n)) t
+type-lift symbols scope d t = lift-sub d (type_tree symbols scope t) ∙ type_tree-sub symbols (λ n. Var (n + d)) scope t ∙ ap (λ w. type_tree symbols w t) (fun_ext (λ n. sym (lift-sub d (scope n))))
+
+-- a constant and a free variable under binders are lifted from under none
+pub constant-lift : (given : Given) (d : ℕ) (n : Name) (t : HolType) → lift d (term_wanted given 0 (constant n t)) ≡ term_wanted given d (constant n t)
+constant-lift given d n t =
+    lift-sub d (term_wanted given 0 (constant n t))
+    ∙ term_tree-sub given.symbols (λ k. Var (k + d)) (deep 0 (told given.symbols given.types given.terms)) (constant n t)
+    ∙ ap (λ w. constant_tree given.symbols w n t) (fun_ext (λ m. sym (lift-sub d (lift 0 (told_types given.types m))) ∙ ap (lift d) (lift_zero (told_types given.types m))))
+
+pub free-lift : (given : Given) (d : ℕ) (n : Name) (t : HolType) → lift d (term_wanted given 0 (free n t)) ≡ term_wanted given d (free n t)
+free-lift given d n t = ap (lift d) (lift_zero ((told given.symbols given.types given.terms).terms (n, t)))
+
+-- a number is its binder's
+pub bound-wanted : (given : Given) (d k : ℕ) → term_wanted given d (bound k) ≡ Var k
+bound-wanted given d k = go (nat_lt k d) refl
+  where
+    back : nat_lt k d ≡ false → k - d + d ≡ k
+    back e = let l : d ≤ k = grind (arith, e) in omega (arith, l)
+
+    go : (b : Bool) → nat_lt k d ≡ b → cond b (Var k) (lift d (Var (k - d))) ≡ Var k
+    go true e = refl
+    go false e = lift_is d (Var (k - d)) ∙ ap Var (back e)
+
+-- an abstraction's domain and body
+pub lam-wanted : (given : Given) (d : ℕ) (t : HolType) (b : Term) → term_wanted given d (lam t b) ≡ Lam (term_of (lift d (type_wanted given t))) (term_wanted given (d + 1) b)
+lam-wanted given d t b =
+    ap₂ (λ a c. Lam (term_of a) c) (sym (type-lift given.symbols (told_types given.types) d t))
+    (ap (λ w. term_tree given.symbols w b) (deep-suc d (told given.symbols given.types given.terms)) ∙ ap (λ j. term_wanted given j b) (let e : suc d ≡ d + 1 = omega arith in e))
+
+-- a walk at its beginning
+pub term_begins : (given : Given) (root : Place) (m : Module) (trees : Trees) (names : List (Name × LpId)) (variables : List (AVariable × LpId)) (made : List (Place × LpId)) (types : List (TypeId × LpId))
+    → ((k : Place) (r : LpId) → IsNoted made k r → ⊥) → ((k : TypeId) (r : LpId) → IsNoted types k r → ⊥) → IsTermStart given root m trees names variables → IsTermWalk given root m trees names variables (Visit root ∷ []) made types
+term_begins given root m trees names variables made types a b s = record {
+  reads = s.reads;
+  variables_told = s.variables_told;
+  types_noted = λ id r n. absurd (b id r n);
+  noted = λ place r n. absurd (a place r n);
+  ends = (s.known, inr refl);
+}
+
+module _ (given : Given) (root : Place) (m : Module) (trees : Trees) (names : List (Name × LpId)) (variables : List (AVariable × LpId)) (place : Place) (tasks : List (Task Place)) (made : List (Place × LpId)) (types : List (TypeId × LpId)) where
+  -- a term that was made already
+  pub term_done : (r : LpId) → IsNoted made place r → IsTermWalk given root m trees names variables (Visit place ∷ tasks) made types → IsTermWalk given root m trees names variables tasks made types
+  term_done r n w = record {
+    reads = w.reads;
+    variables_told = w.variables_told;
+    types_noted = w.types_noted;
+    noted = w.noted;
+    ends = Ends-done (IsTermKnown given trees) (HasParts trees) root tasks (IsDone made) place (r, n) w.ends.1;
+  }
+
+  -- a term with parts
+  term_set_out : (parts : List Place) → AreAll (IsTermKnown given trees) parts → HasParts trees place parts → IsTermWalk given root m trees names variables (Visit place ∷ tasks) made types
+      → IsTermWalk given root m trees names variables (visits parts (Join place ∷ tasks)) made types
+  term_set_out parts k h w = record {
+    reads = w.reads;
+    variables_told = w.variables_told;
+    types_noted = w.types_noted;
+    noted = w.noted;
+    ends = Ends-set_out (IsTermKnown given trees) (HasParts trees) root place parts tasks (IsDone made) k h w.ends;
+  }
+
+  told-as : (t : Term) → Holds trees place.id.0 t → IsTermKnown given trees place → TellsTerm given.declarations given.symbols t
+  told-as t h k = subst (TellsTerm given.declarations given.symbols) (Some-term_in trees.terms place.id.0 t h) k.told
+
+  pub term_application : (f x : TermId) → f.0 < place.id.0 → x.0 < place.id.0 → Holds trees place.id.0 (app (term_at trees f.0) (term_at trees x.0)) → IsTermWalk given root m trees names variables (Visit place ∷ tasks) made types
+      → IsTermWalk given root m trees names variables (Visit (record { id = f; depth = place.depth }) ∷ Visit (record { id = x; depth = place.depth }) ∷ Join place ∷ tasks) made types
+  term_application f x lf lx h w =
+      let k = w.ends.0 in
+      let t = told-as _ h k in
+      let kf : f.0 < length trees.terms = omega (arith, lf, k.known) in
+      let kx : x.0 < length trees.terms = omega (arith, lx, k.known) in
+      term_set_out (record { id = f; depth = place.depth } ∷ record { id = x; depth = place.depth } ∷ []) (
+        record { known = kf; countable = omega (arith, lf, k.countable); told = t.0 },
+        (record { known = kx; countable = omega (arith, lx, k.countable); told = t.1 }, tt {0}),
+      ) (inl (record { function = f; argument = x; function_known = kf; argument_known = kx; is = h; parts_are = refl })) w
+
+  pub term_abstraction : (ty : TypeId) (b : TermId) → b.0 < place.id.0 → Holds trees place.id.0 (lam (type_at trees ty.0) (term_at trees b.0)) → IsTermWalk given root m trees names variables (Visit place ∷ tasks) made types
+      → IsTermWalk given root m trees names variables (Visit (record { id = b; depth = place.depth + 1 }) ∷ Join place ∷ tasks) made types
+  term_abstraction ty b lb h w =
+      let k = w.ends.0 in
+      let t = told-as _ h k in
+      let kb : b.0 < length trees.terms = omega (arith, lb, k.known) in
+      term_set_out (record { id = b; depth = place.depth + 1 } ∷ []) (record { known = kb; countable = omega (arith, lb, k.countable); told = t.1 }, tt {0})
+      (inr (record { ty = ty; body = b; body_known = kb; is = h; parts_are = refl })) w
+
+  -- what a walk is given for the type in a term's head
+  pub start-of : (k : IsTermKnown given trees place) (t : Term) → Holds trees place.id.0 t → (ty : TypeId) → ty.0 < length trees.types → (TellsTerm given.declarations given.symbols t → TellsType given.declarations given.symbols (type_at trees ty.0))
+      → IsGiven given m names → IsTypeMemo given trees.types m.table types → IsTypeStart given ty m trees.types names types
+  start-of k t h ty l tells reads noted = record { reads = reads; noted = noted; known = record { known = l; told = tells (told-as t h k) } }
+
+  pub told-in : (t : Term) → Holds trees place.id.0 t → IsTermKnown given trees place → TellsTerm given.declarations given.symbols t
+  told-in t h k = told-as t h k
+
+  module _ (now : Module) (grows : Grows m now) (noted : List (Place × LpId)) (mark : LpId) (after : List (TypeId × LpId)) (only : (i : Place) (r : LpId) → IsNoted noted i r → IsNoted made i r ⊎ ((i ≡ place) × (r ≡ mark)))
+      (new : IsNoted noted place mark) (kept : (i : Place) (r : LpId) → IsNoted made i r → (i ≡ place) ⊎ IsNoted noted i r) (t : Term) (h : Holds trees place.id.0 t) (is : lp.Holds now.table mark.0 (term_wanted given place.depth t))
+      (types_noted : IsTypeMemo given trees.types now.table after) where
+    term_noted : IsTermMemo given trees m.table made → IsTermMemo given trees now.table noted
+    term_noted old =
+        noted-sound (λ i r. lp.Holds now.table r.0 (term_wanted given i.depth (term_at trees i.id.0))) made noted place mark only
+        (subst (λ u. lp.Holds now.table mark.0 (term_wanted given place.depth u)) (sym (Some-term_in trees.terms place.id.0 t h)) is) (IsTermMemo-Keeps grows.table given trees made old)
+
+    -- a term without parts
+    pub term_leaf : IsTermWalk given root m trees names variables (Visit place ∷ tasks) made types → IsTermWalk given root now trees names variables tasks noted after
+    term_leaf w = record {
+      reads = IsGiven-Grows grows given names w.reads;
+      variables_told = AreGiven-Grows grows given trees.types variables w.variables_told;
+      types_noted = types_noted;
+      noted = term_noted w.noted;
+      ends = Ends-noted (IsTermKnown given trees) (HasParts trees) root tasks made noted place mark new kept w.ends.1;
+    }
+
+    -- a term whose parts were made
+    pub term_joined : IsTermWalk given root m trees names variables (Join place ∷ tasks) made types → IsTermWalk given root now trees names variables tasks noted after
+    term_joined w = record {
+      reads = IsGiven-Grows grows given names w.reads;
+      variables_told = AreGiven-Grows grows given trees.types variables w.variables_told;
+      types_noted = types_noted;
+      noted = term_noted w.noted;
+      ends = Ends-noted (IsTermKnown given trees) (HasParts trees) root tasks made noted place mark new kept w.ends.2;
+    }
+
+-- the parts of a term are those of its head
+function_of : Term → Term
+function_of (app f x) = f
+function_of t = t
+
+argument_of : Term → Term
+argument_of (app f x) = x
+argument_of t = t
+
+body_of : Term → Term
+body_of (lam t b) = b
+body_of t = t
+
+same-function : (f g x y : Term) → app f x ≡ app g y → f ≡ g
+unfolding function_of
+same-function f g x y e = ap function_of e
+
+same-argument : (f g x y : Term) → app f x ≡ app g y → x ≡ y
+unfolding argument_of
+same-argument f g x y e = ap argument_of e
+
+same-body : (t u : HolType) (b c : Term) → lam t b ≡ lam u c → b ≡ c
+unfolding body_of
+same-body t u b c e = ap body_of e
+
+module _ (trees : Trees) (place : Place) (P : Place → Type 0) (distinct : IsDistinct trees.terms) where
+  pub application-done : (f x : TermId) → f.0 < length trees.terms → x.0 < length trees.terms → Holds trees place.id.0 (app (term_at trees f.0) (term_at trees x.0)) → PartsAre (HasParts trees) P place
+      → P (record { id = f; depth = place.depth }) × P (record { id = x; depth = place.depth })
+  application-done f x kf kx h p = ⊎_elim (λ a. own a (subst (AreAll P) a.parts_are p.all)) (λ a. absurd (let e : app (term_at trees f.0) (term_at trees x.0) ≡ lam (type_at trees a.ty.0) (term_at trees a.body.0) = same_Some _ _ (sym h ∙ a.is) in cc)) p.of
+    where
+      own : (a : IsApplication trees place p.parts) → AreAll P (record { id = a.function; depth = place.depth } ∷ record { id = a.argument; depth = place.depth } ∷ []) → P (record { id = f; depth = place.depth }) × P (record { id = x; depth = place.depth })
+      own a all =
+          let e = same_Some _ _ (sym a.is ∙ h) in
+          let ef = term_in-same distinct a.function f a.function_known kf (same-function _ _ _ _ e) in
+          let ex = term_in-same distinct a.argument x a.argument_known kx (same-argument _ _ _ _ e) in
+          (subst (λ i. P (record { id = i; depth = place.depth })) ef all.0, subst (λ i. P (record { id = i; depth = place.depth })) ex all.1.0)
+
+  pub abstraction-done : (ty : TypeId) (b : TermId) → b.0 < length trees.terms → Holds trees place.id.0 (lam (type_at trees ty.0) (term_at trees b.0)) → PartsAre (HasParts trees) P place → P (record { id = b; depth = place.depth + 1 })
+  abstraction-done ty b kb h p = ⊎_elim (λ a. absurd (let e : lam (type_at trees ty.0) (term_at trees b.0) ≡ app (term_at trees a.function.0) (term_at trees a.argument.0) = same_Some _ _ (sym h ∙ a.is) in cc)) (λ a. own a (subst (AreAll P) a.parts_are p.all)) p.of
+    where
+      own : (a : IsAbstraction trees place p.parts) → AreAll P (record { id = a.body; depth = place.depth + 1 } ∷ []) → P (record { id = b; depth = place.depth + 1 })
+      own a all =
+          let e = same_Some _ _ (sym a.is ∙ h) in
+          let eb = term_in-same distinct a.body b a.body_known kb (same-body _ _ _ _ e) in
+          subst (λ i. P (record { id = i; depth = place.depth + 1 })) eb all.0
+
+  -- no walk comes back to a term without parts
+  pub no-parts : (t : Term) → Holds trees place.id.0 t → ((f x : Term) → t ≡ app f x → ⊥) → ((a : HolType) (b : Term) → t ≡ lam a b → ⊥) → PartsAre (HasParts trees) P place → ⊥
+  no-parts t h a b p = ⊎_elim (λ c. a _ _ (same_Some _ _ (sym h ∙ c.is))) (λ c. b _ _ (same_Some _ _ (sym h ∙ c.is))) p.of
+
+size-positive : (t : Term) → 0 < term_size t
+size-positive (free n t) = omega arith
+size-positive (bound k) = omega arith
+size-positive (constant n t) = omega arith
+size-positive (app f x) = omega arith
+size-positive (lam t b) = omega arith
+
+pub place_size-positive : (trees : Trees) (place : Place) → 0 < place_size trees place
+place_size-positive trees place = size-positive (term_at trees place.id.0)

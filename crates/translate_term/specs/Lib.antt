@@ -1,0 +1,4 @@
+pub mod Told
+pub mod Tasks
+pub mod Walks
+pub mod Patterns

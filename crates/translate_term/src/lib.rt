@@ -1,0 +1,110 @@
+//! Types and terms of higher-order logic as trees of the lambda-Pi calculus, made in the table of a module (Assaf and
+//! Burel, "Translating HOL to Dedukti").
+//!
+//! A module tells the symbol of an operator or of a constant by its name, and a scope tells what stands for type variables and for
+//! free variables: the tree of a type or a term is the translation in that scope. Where a scope tells nothing, `bool` stands for a
+//! type variable and some term of its type for a free variable. Walks keep a stack of their own and come once to each part, or
+//! where binders matter once to each part under as many binders.
+//!
+//! A constant is its symbol at what the variables of its generic type have in its type. The generic type is read back from the
+//! declared type of the symbol, of primitive, input and defined constants alike. That what is made in a shaped scope is shaped is
+//! a law of the clauses `made`: `terms_shaped` of `module_laws`.
+//!
+//! ```
+//! let mut scope = Scope::new(alloc);
+//! scope.types.set(name, variable)?;
+//! let tree = ty(alloc, &mut module, &types, &scope, id)?;
+//! ```
+#![tactic(auto)]
+
+ghost use Rattle.std.specs.Prelude.{◌≡◌, ◌<◌, length, IfOk};
+ghost use Rattle.hol_type.specs.Tables as type;
+ghost use Rattle.hol_term.specs.Tables.{term_at};
+ghost use Rattle.holide_sig.specs.Modules.{declarations_of, IsHeld};
+ghost use Rattle.lp_term.specs.Tables.{tree_at, Holds, Keeps};
+ghost use Rattle.module_spec.specs.Scopes.{Symbols, filler as filler_of, term_tree as tree_of_term, type_tree as tree_of_type};
+ghost use Rattle.module_laws.specs.ListedScopes.{told, told_types};
+ghost use Rattle.translate_term.specs.Told.{AreTermsKnown, AreTypesKnown, TellsTerm, TellsType, terms_in, types_in};
+
+mod generic;
+mod memo;
+mod nodes;
+mod scope;
+mod symbols;
+mod tasks;
+mod terms;
+mod types;
+
+use crate::memo::TypeMemo;
+use crate::nodes::filling;
+use crate::terms::term_tree;
+use crate::types::type_of;
+use bridge_base::Memory;
+use hol_term::{TermId, TermTable};
+use hol_type::{TypeId, TypeTable};
+use holide_sig::Module;
+use lp_term::LpId;
+pub use scope::{Scope, ScopeTerms, ScopeTypes};
+use std::alloc::Global;
+
+/// The tree of a type.
+pub fn ty(
+    alloc: Global,
+    target: &mut Module,
+    table: &TypeTable,
+    scope: &Scope,
+    id: TypeId,
+) -> Result<LpId, Memory>
+    requires held { IsHeld target.old }
+    requires id { id.0 < length table.now }
+    requires types { AreTypesKnown target.old.table scope.now.types }
+    requires told { (symbols : Symbols) × TellsType (declarations_of target.old) symbols (type.tree_at table.now id.0) }
+    ensures made { IfOk result (λ r. (symbols : Symbols) → TellsType (declarations_of target.old) symbols (type.tree_at table.now id.0) → Holds target.new.table r.0 (tree_of_type symbols (told_types (types_in target.old.table scope.now.types)) (type.tree_at table.now id.0))) }
+    ensures known { IfOk result (λ r. r.0 < length target.new.table) }
+    ensures keeps { Keeps target.old.table target.new.table }
+    ensures decls { target.new.decls ≡ target.old.decls }
+    ensures held { IsHeld target.new }
+    ensures declared { declarations_of target.new ≡ declarations_of target.old }
+{
+    let mut memo = TypeMemo::new(alloc);
+    type_of(alloc, target, table, &scope.types, &mut memo, id)
+}
+
+/// The tree of a term.
+pub fn tm(
+    alloc: Global,
+    target: &mut Module,
+    table: &TermTable,
+    scope: &Scope,
+    id: TermId,
+) -> Result<LpId, Memory>
+    requires held { IsHeld target.old }
+    requires id { id.0 < length table.now.terms }
+    requires types { AreTypesKnown target.old.table scope.now.types }
+    requires terms { AreTermsKnown table.now.types target.old.table scope.now.terms }
+    requires told { (symbols : Symbols) × TellsTerm (declarations_of target.old) symbols (term_at table.now id.0) }
+    ensures made { IfOk result (λ r. (symbols : Symbols) → TellsTerm (declarations_of target.old) symbols (term_at table.now id.0) → Holds target.new.table r.0 (tree_of_term symbols (told symbols (types_in target.old.table scope.now.types) (terms_in table.now.types target.old.table scope.now.terms)) (term_at table.now id.0))) }
+    ensures known { IfOk result (λ r. r.0 < length target.new.table) }
+    ensures keeps { Keeps target.old.table target.new.table }
+    ensures decls { target.new.decls ≡ target.old.decls }
+    ensures held { IsHeld target.new }
+    ensures declared { declarations_of target.new ≡ declarations_of target.old }
+{
+    // As many terms as the table has can be counted.
+    let _count = table.count();
+    term_tree(alloc, target, table, scope, id)
+}
+
+/// Some term of a type: the choice of one that is itself, `select A (x : term A => eq A x x)`.
+pub fn filler(target: &mut Module, ty: LpId) -> Result<LpId, Memory>
+    requires held { IsHeld target.old }
+    requires ty { ty.0 < length target.old.table }
+    ensures made { IfOk result (λ r. Holds target.new.table r.0 (filler_of (tree_at target.old.table ty.0))) }
+    ensures known { IfOk result (λ r. r.0 < length target.new.table) }
+    ensures keeps { Keeps target.old.table target.new.table }
+    ensures decls { target.new.decls ≡ target.old.decls }
+    ensures held { IsHeld target.new }
+    ensures declared { declarations_of target.new ≡ declarations_of target.old }
+{
+    filling(&mut target.table, ty)
+}
