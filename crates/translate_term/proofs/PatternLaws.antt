@@ -19,7 +19,7 @@ use Rattle.lp_spec.specs.Modules.{applied}
 use Rattle.lp_binding.specs.Composition.{lift_zero}
 use Rattle.lp_binding.specs.Binding.{lift-lift}
 use Rattle.module_spec.specs.Scopes.{Symbols, operator_symbol, TypeScope, type_tree, type_trees, under_type, under_types, unfilled}
-use Rattle.module_laws.specs.SameSequents.{symmetric}
+use Rattle.proof_laws.specs.SymbolGrowth.{symmetric}
 use Rattle.translate_term.specs.Patterns.{Fits, Mentions}
 use Rattle.std.proofs.Math.Path.{ap₂}
 
