@@ -5,13 +5,14 @@ use Rattle.hol_spec.specs.ClosedForm as closed
 use Rattle.hol_spec.specs.ClosedForm.{ClosedType, ClosedTypes, ClosedTerm, ClosedSequent}
 use Rattle.lp_spec.specs.Trees.{Tree, SortType, SortKind, Var, Sym, App, Lam, Pi}
 use Rattle.lp_spec.specs.Modules.{Declaration, applied, products, types, term_of, proof_of, symbol_name, symbol_type}
+use Rattle.module_spec.specs.Numerals.{numeral}
 use Rattle.module_spec.specs.OperatorMeaning.{NamesOperator, MeansOperator}
 use Rattle.module_spec.specs.OperatorMeaning as operators
 use Rattle.module_spec.specs.ConstantMeaning.{NamesConstant, HasGenericType, MeansConstant, instance_of}
 use Rattle.module_spec.specs.ConstantMeaning as constants
 use Rattle.hol_spec.specs.Mangling.{mangled}
 use Rattle.hol_laws.specs.ManglingLaws.{mangled-injective, first-is}
-use Rattle.std.specs.Prelude.{Some, Option, codes, decimal, replicate}
+use Rattle.std.specs.Prelude.{Some, Option, codes, replicate}
 use Rattle.std.proofs.lemmas.List.{append_cancel_left}
 use Rattle.module_spec.specs.TypeEnc.{parameter, Place, place, depth_of, inside, StandsForType, StandForTypes}
 use Rattle.module_spec.specs.Enc.{StandsForConstant, StandsForTerm, StandForVariables, StandForHypotheses, domains, OneEncoding}
@@ -30,13 +31,13 @@ same_arity zero (suc j) e = absurd (cc)
 same_arity (suc k) zero e = absurd (cc)
 same_arity (suc k) (suc j) e = let f : products (replicate k types) types ≡ products (replicate j types) types = cc in ap suc (same_arity k j f)
 
-same_input : (d : List Declaration) (s : ℕ) (n m : Name) (k j : ℕ) → NamesOperator d s (codes "t" ++ decimal k ++ codes "_") n k
-    → NamesOperator d s (codes "t" ++ decimal j ++ codes "_") m j → n ≡ m
+same_input : (d : List Declaration) (s : ℕ) (n m : Name) (k j : ℕ) → NamesOperator d s (codes "t" ++ numeral k ++ codes "_") n k
+    → NamesOperator d s (codes "t" ++ numeral j ++ codes "_") m j → n ≡ m
 same_input d s n m k j p q =
     let e : j ≡ k = same_arity j k (one_type d s (products (replicate j types) types) (products (replicate k types) types) q.ty p.ty) in
-    let text : symbol_name d s ≡ (codes "t" ++ decimal k ++ codes "_") ++ mangled m =
-    subst (λ i. symbol_name d s ≡ (codes "t" ++ decimal i ++ codes "_") ++ mangled m) e q.text in
-    mangled-injective n m p.is_name q.is_name (append_cancel_left (codes "t" ++ decimal k ++ codes "_") (mangled n) (mangled m) (sym p.text ∙ text))
+    let text : symbol_name d s ≡ (codes "t" ++ numeral k ++ codes "_") ++ mangled m =
+    subst (λ i. symbol_name d s ≡ (codes "t" ++ numeral i ++ codes "_") ++ mangled m) e q.text in
+    mangled-injective n m p.is_name q.is_name (append_cancel_left (codes "t" ++ numeral k ++ codes "_") (mangled n) (mangled m) (sym p.text ∙ text))
 
 same_defined : (d : List Declaration) (s : ℕ) (n m : Name) (k j : ℕ) → NamesOperator d s (codes "o_") n k → NamesOperator d s (codes "o_") m j → n ≡ m
 same_defined d s n m k j p q = mangled-injective n m p.is_name q.is_name (append_cancel_left (codes "o_") (mangled n) (mangled m) (sym p.text ∙ q.text))
@@ -46,27 +47,27 @@ same_operator : (d : List Declaration) (s : ℕ) (n m : Name) (k j : ℕ) → Me
 same_operator d s n m k j (operators.MeansOperator.arrow e) (operators.MeansOperator.arrow f) = refl
 same_operator d s n m k j (operators.MeansOperator.arrow e) (operators.MeansOperator.truth_values f) = absurd (omega (arith, e, f))
 same_operator d s n m k j (operators.MeansOperator.arrow e) (operators.MeansOperator.individuals f) = absurd (omega (arith, e, f))
-same_operator d s n m k j (operators.MeansOperator.arrow e) (operators.MeansOperator.input f) = let z : 97 ≡ 116 = text_clash d s 97 116 (114 ∷ 114 ∷ []) ((decimal j ++ codes "_") ++ mangled m) (ap (symbol_name d) e) (f.text) in absurd (omega (arith, z))
+same_operator d s n m k j (operators.MeansOperator.arrow e) (operators.MeansOperator.input f) = let z : 97 ≡ 116 = text_clash d s 97 116 (114 ∷ 114 ∷ []) ((numeral j ++ codes "_") ++ mangled m) (ap (symbol_name d) e) (f.text) in absurd (omega (arith, z))
 same_operator d s n m k j (operators.MeansOperator.arrow e) (operators.MeansOperator.defined f) = let z : 97 ≡ 111 = text_clash d s 97 111 (114 ∷ 114 ∷ []) (95 ∷ mangled m) (ap (symbol_name d) e) (f.text) in absurd (omega (arith, z))
 same_operator d s n m k j (operators.MeansOperator.truth_values e) (operators.MeansOperator.arrow f) = absurd (omega (arith, e, f))
 same_operator d s n m k j (operators.MeansOperator.truth_values e) (operators.MeansOperator.truth_values f) = refl
 same_operator d s n m k j (operators.MeansOperator.truth_values e) (operators.MeansOperator.individuals f) = absurd (omega (arith, e, f))
-same_operator d s n m k j (operators.MeansOperator.truth_values e) (operators.MeansOperator.input f) = let z : 98 ≡ 116 = text_clash d s 98 116 (111 ∷ 111 ∷ 108 ∷ []) ((decimal j ++ codes "_") ++ mangled m) (ap (symbol_name d) e) (f.text) in absurd (omega (arith, z))
+same_operator d s n m k j (operators.MeansOperator.truth_values e) (operators.MeansOperator.input f) = let z : 98 ≡ 116 = text_clash d s 98 116 (111 ∷ 111 ∷ 108 ∷ []) ((numeral j ++ codes "_") ++ mangled m) (ap (symbol_name d) e) (f.text) in absurd (omega (arith, z))
 same_operator d s n m k j (operators.MeansOperator.truth_values e) (operators.MeansOperator.defined f) = let z : 98 ≡ 111 = text_clash d s 98 111 (111 ∷ 111 ∷ 108 ∷ []) (95 ∷ mangled m) (ap (symbol_name d) e) (f.text) in absurd (omega (arith, z))
 same_operator d s n m k j (operators.MeansOperator.individuals e) (operators.MeansOperator.arrow f) = absurd (omega (arith, e, f))
 same_operator d s n m k j (operators.MeansOperator.individuals e) (operators.MeansOperator.truth_values f) = absurd (omega (arith, e, f))
 same_operator d s n m k j (operators.MeansOperator.individuals e) (operators.MeansOperator.individuals f) = refl
-same_operator d s n m k j (operators.MeansOperator.individuals e) (operators.MeansOperator.input f) = let z : 105 ≡ 116 = text_clash d s 105 116 (110 ∷ 100 ∷ []) ((decimal j ++ codes "_") ++ mangled m) (ap (symbol_name d) e) (f.text) in absurd (omega (arith, z))
+same_operator d s n m k j (operators.MeansOperator.individuals e) (operators.MeansOperator.input f) = let z : 105 ≡ 116 = text_clash d s 105 116 (110 ∷ 100 ∷ []) ((numeral j ++ codes "_") ++ mangled m) (ap (symbol_name d) e) (f.text) in absurd (omega (arith, z))
 same_operator d s n m k j (operators.MeansOperator.individuals e) (operators.MeansOperator.defined f) = let z : 105 ≡ 111 = text_clash d s 105 111 (110 ∷ 100 ∷ []) (95 ∷ mangled m) (ap (symbol_name d) e) (f.text) in absurd (omega (arith, z))
-same_operator d s n m k j (operators.MeansOperator.input e) (operators.MeansOperator.arrow f) = let z : 116 ≡ 97 = text_clash d s 116 97 ((decimal k ++ codes "_") ++ mangled n) (114 ∷ 114 ∷ []) (e.text) (ap (symbol_name d) f) in absurd (omega (arith, z))
-same_operator d s n m k j (operators.MeansOperator.input e) (operators.MeansOperator.truth_values f) = let z : 116 ≡ 98 = text_clash d s 116 98 ((decimal k ++ codes "_") ++ mangled n) (111 ∷ 111 ∷ 108 ∷ []) (e.text) (ap (symbol_name d) f) in absurd (omega (arith, z))
-same_operator d s n m k j (operators.MeansOperator.input e) (operators.MeansOperator.individuals f) = let z : 116 ≡ 105 = text_clash d s 116 105 ((decimal k ++ codes "_") ++ mangled n) (110 ∷ 100 ∷ []) (e.text) (ap (symbol_name d) f) in absurd (omega (arith, z))
+same_operator d s n m k j (operators.MeansOperator.input e) (operators.MeansOperator.arrow f) = let z : 116 ≡ 97 = text_clash d s 116 97 ((numeral k ++ codes "_") ++ mangled n) (114 ∷ 114 ∷ []) (e.text) (ap (symbol_name d) f) in absurd (omega (arith, z))
+same_operator d s n m k j (operators.MeansOperator.input e) (operators.MeansOperator.truth_values f) = let z : 116 ≡ 98 = text_clash d s 116 98 ((numeral k ++ codes "_") ++ mangled n) (111 ∷ 111 ∷ 108 ∷ []) (e.text) (ap (symbol_name d) f) in absurd (omega (arith, z))
+same_operator d s n m k j (operators.MeansOperator.input e) (operators.MeansOperator.individuals f) = let z : 116 ≡ 105 = text_clash d s 116 105 ((numeral k ++ codes "_") ++ mangled n) (110 ∷ 100 ∷ []) (e.text) (ap (symbol_name d) f) in absurd (omega (arith, z))
 same_operator d s n m k j (operators.MeansOperator.input e) (operators.MeansOperator.input f) = same_input d s n m k j e f
-same_operator d s n m k j (operators.MeansOperator.input e) (operators.MeansOperator.defined f) = let z : 116 ≡ 111 = text_clash d s 116 111 ((decimal k ++ codes "_") ++ mangled n) (95 ∷ mangled m) (e.text) (f.text) in absurd (omega (arith, z))
+same_operator d s n m k j (operators.MeansOperator.input e) (operators.MeansOperator.defined f) = let z : 116 ≡ 111 = text_clash d s 116 111 ((numeral k ++ codes "_") ++ mangled n) (95 ∷ mangled m) (e.text) (f.text) in absurd (omega (arith, z))
 same_operator d s n m k j (operators.MeansOperator.defined e) (operators.MeansOperator.arrow f) = let z : 111 ≡ 97 = text_clash d s 111 97 (95 ∷ mangled n) (114 ∷ 114 ∷ []) (e.text) (ap (symbol_name d) f) in absurd (omega (arith, z))
 same_operator d s n m k j (operators.MeansOperator.defined e) (operators.MeansOperator.truth_values f) = let z : 111 ≡ 98 = text_clash d s 111 98 (95 ∷ mangled n) (111 ∷ 111 ∷ 108 ∷ []) (e.text) (ap (symbol_name d) f) in absurd (omega (arith, z))
 same_operator d s n m k j (operators.MeansOperator.defined e) (operators.MeansOperator.individuals f) = let z : 111 ≡ 105 = text_clash d s 111 105 (95 ∷ mangled n) (110 ∷ 100 ∷ []) (e.text) (ap (symbol_name d) f) in absurd (omega (arith, z))
-same_operator d s n m k j (operators.MeansOperator.defined e) (operators.MeansOperator.input f) = let z : 111 ≡ 116 = text_clash d s 111 116 (95 ∷ mangled n) ((decimal j ++ codes "_") ++ mangled m) (e.text) (f.text) in absurd (omega (arith, z))
+same_operator d s n m k j (operators.MeansOperator.defined e) (operators.MeansOperator.input f) = let z : 111 ≡ 116 = text_clash d s 111 116 (95 ∷ mangled n) ((numeral j ++ codes "_") ++ mangled m) (e.text) (f.text) in absurd (omega (arith, z))
 same_operator d s n m k j (operators.MeansOperator.defined e) (operators.MeansOperator.defined f) = same_defined d s n m k j e f
 
 -- the head of a tree, the list of its arguments before others, and how many they are

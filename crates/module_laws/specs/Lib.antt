@@ -8,6 +8,7 @@ pub mod ComputingRows
 pub mod DeepScopes
 pub mod DefinitionsHeld
 pub mod EncLaws
+pub mod ExportNames
 pub mod ItemConditions
 pub mod ItemShapes
 pub mod KeptModules
@@ -17,7 +18,9 @@ pub mod ListedTranslation
 pub mod MadeModules
 pub mod MeaningLaws
 pub mod ModuleTyping
+pub mod NameStatements
 pub mod NeededSteps
+pub mod NumeralLaws
 pub mod OrderedModules
 pub mod PricedModules
 pub mod PuttingLaws

@@ -14,10 +14,12 @@
 //! | `ItemConditions`, `MadeModules`, `KeptModules`, `WantedItems`, `ModuleTyping`, `ItemShapes` | what each item asks of those before it; what is reached is kept and renumbered; each declaration is shaped |
 //! | `ShapesTyped`, `OrderedModules`, `PricedModules`, `LawSpreads` | what is shaped is typed, over what stands before it, and checked at its price |
 //! | `SymbolsHeld`, `DefinitionsHeld`, `AcceptedItems` | what a proof made is, as items, made in order |
-//! | `TranslationStatements`, `TranslationShown`, `ShapeStatements` | the statements of the functions below |
+//! | `NumeralLaws`, `ExportNames` | how names write numbers: differently, and so that a test tells the names of exports |
+//! | `TranslationStatements`, `TranslationShown`, `ShapeStatements`, `NameStatements` | the statements of the functions below |
 #![tactic(auto)]
 
 ghost use Rattle.module_spec.specs.Enc.{OneEncoding};
+ghost use Rattle.module_laws.specs.NameStatements.{ExportNamesTold, NumeralsDiffer};
 ghost use Rattle.module_laws.specs.TranslationStatements.{SameSoFar, SequentSubstitutionTranslated, SequentsEncoded, TermSubstitutionTranslated, TypeSubstitutionTranslated};
 ghost use Rattle.module_laws.specs.ShapeStatements.{ModulesPriced, ModulesShaped, ModulesTyped, RulesShaped, SequentsShaped, TermsShaped, TheoremsShaped};
 
@@ -45,6 +47,16 @@ pub fn sequents_encoded()
 /// A type of a module stands for at most one closed sequent.
 pub fn one_encoding()
     ensures { OneEncoding }
+{}
+
+/// Numbers are written differently in names, however large they are.
+pub fn numerals_differ()
+    ensures { NumeralsDiffer }
+{}
+
+/// The test of the names of exports tells them exactly: `E` and a number without leading zeros.
+pub fn export_names_told()
+    ensures { ExportNamesTold }
 {}
 
 /// Over the primitive symbols the tree of a sequent is that of the translation over lists, which the first path computes.

@@ -2,7 +2,6 @@
 -- for no sequent.
 use Rattle.std.proofs.Common.{◌≡◌, [], ◌∷◌, refl, arith, List}
 use Rattle.std.specs.Prelude.{Some, codes}
-use Rattle.std.specs.Fmt.{digits}
 use Rattle.std.specs.List.{IsDistinct, filter}
 use Rattle.hol_spec.specs.Terms.{term_eq}
 use Rattle.hol_spec.specs.ClosedForm.{ClosedSequent, ClosedType, ClosedTypes, closed_form}
@@ -15,6 +14,7 @@ use Rattle.module_spec.specs.ConstantMeaning.{MeansConstant, closed_bool, equali
 use Rattle.module_spec.specs.TypeEnc.{Place, place, StandsForType}
 use Rattle.module_spec.specs.Enc.{domains, IsClosedForm, Enc}
 use Rattle.module_spec.specs.Image.{image}
+use Rattle.module_spec.specs.Numerals.{numeral}
 use Rattle.module_spec.specs.Stands.{is_export_name, AreExports, none, more}
 use Rattle.module_spec.proofs.Examples.{p_is_p, run}
 
@@ -27,7 +27,7 @@ constant_means = constants.MeansConstant.input {name = codes "M" ∷ codes "c_" 
     (record { is_name = ((omega arith, tt), ((omega arith, (omega arith, tt)), tt)); not_primitive = refl; text = refl }) refl
 
 operator_means : MeansOperator inputs 14 (codes "pair" ∷ []) 2
-unfolding digits
+unfolding numeral
 operator_means = operators.MeansOperator.input {name = codes "pair" ∷ []} {arity = 2}
     (record { is_name = ((omega arith, (omega arith, (omega arith, (omega arith, tt)))), tt); not_primitive = refl; text = refl; ty = refl })
 
@@ -90,7 +90,7 @@ p_is_p_stands = record {
 
 -- the exports of that module are the run's
 one_export : AreExports (image run) run 0 run.exports (filter (λ d. is_export_name d.name) (image run))
-unfolding digits
+unfolding numeral
 one_export = more refl refl p_is_p_stands none
 
 -- no sequent is meant by `type`, which is neither a product nor the proofs of anything

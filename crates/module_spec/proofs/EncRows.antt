@@ -1,13 +1,12 @@
 -- More of what types stand for: an abstraction over a parameter with an input; an operator and a constant of two type variables, which the
 -- operator takes in an order of its own.
-use Rattle.std.proofs.Common.{◌≡◌, [], ◌∷◌, refl, arith, List, ℕ}
-use Rattle.std.specs.Prelude.{Some, codes}
-use Rattle.std.specs.Fmt.{digits}
+use Rattle.std.proofs.Common.{[], ◌∷◌, refl, arith, List}
+use Rattle.std.specs.Prelude.{codes}
 use Rattle.std.specs.List.{IsDistinct}
 use Rattle.hol_spec.specs.Primitives.{bool, function}
-use Rattle.hol_spec.specs.Terms.{Term, free, constant, app, lam, term_eq}
+use Rattle.hol_spec.specs.Terms.{free, constant, app, lam, term_eq}
 use Rattle.hol_spec.specs.Sequents.{Sequent}
-use Rattle.hol_spec.specs.ClosedForm.{ClosedSequent, ClosedType, ClosedTypes, closed_form}
+use Rattle.hol_spec.specs.ClosedForm.{ClosedType, ClosedTypes, closed_form}
 use Rattle.lp_spec.specs.Trees.{Tree, Var, Sym, App, Lam, Pi}
 use Rattle.lp_spec.specs.Modules.{Declaration, symbol, types, bools, term_of, arr_of, proof_of, arr_symbol, bool_symbol}
 use Rattle.module_spec.specs.OperatorMeaning as operators
@@ -15,7 +14,7 @@ use Rattle.module_spec.specs.OperatorMeaning.{arrow, truth_values}
 use Rattle.module_spec.specs.ConstantMeaning as constants
 use Rattle.module_spec.specs.ConstantMeaning.{MeansConstant, closed_bool, closed_function}
 use Rattle.module_spec.specs.TypeEnc.{Place, place, StandsForType}
-use Rattle.module_spec.specs.Enc.{domains, IsClosedForm, Enc}
+use Rattle.module_spec.specs.Enc.{Enc}
 
 abbrev m : List Declaration
 m = symbol (codes "i_u") (Pi types (term_of (Var 0))) ∷ []

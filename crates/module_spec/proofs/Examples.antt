@@ -1,7 +1,6 @@
 -- The image of the run that proves and exports p = p: two theorems after the lemmas, of which the second is its export; of a run
 -- that weakens; and of one that assumes.
 use Rattle.std.proofs.Common.{◌≡◌, [], ◌∷◌, ◌++◌, codes, refl}
-use Rattle.std.specs.Prelude.{decimal}
 use Rattle.hol_spec.specs.Primitives.{bool, function}
 use Rattle.hol_spec.specs.Types.{HolType}
 use Rattle.hol_spec.specs.Mangling.{mangled}
@@ -15,6 +14,7 @@ use Rattle.lp_spec.specs.Trees.{Tree, Var, Sym, App, Lam, Pi}
 use Rattle.lp_spec.specs.Modules.{symbol, types, bools, term_of, arr_of, eq_of, proof_of, refl_of}
 use Rattle.lp_spec.specs.Lemmas.{lemmas, theorem}
 use Rattle.module_spec.specs.Image.{image}
+use Rattle.module_spec.specs.Numerals.{numeral}
 
 abbrev p : Term
 p = free (codes "p" ∷ []) bool
@@ -31,8 +31,9 @@ run = record {
 }
 
 smallest : image run ≡ lemmas
-    ++ theorem (codes "T" ++ decimal 0) (term_of bools ∷ []) (proof_of (eq_of bools (Var 0) (Var 0))) (refl_of bools (Var 0))
-    ∷ theorem (codes "E" ++ decimal 0) (term_of bools ∷ []) (proof_of (eq_of bools (Var 0) (Var 0))) (App (Sym 15) (Var 0)) ∷ []
+    ++ theorem (codes "T0") (term_of bools ∷ []) (proof_of (eq_of bools (Var 0) (Var 0))) (refl_of bools (Var 0))
+    ∷ theorem (codes "E0") (term_of bools ∷ []) (proof_of (eq_of bools (Var 0) (Var 0))) (App (Sym 15) (Var 0)) ∷ []
+unfolding numeral
 smallest = refl
 
 -- the run that exports q |- p = p: the theorem takes a proof of q
@@ -52,8 +53,9 @@ weakened = record {
 }
 
 with_hypothesis : image weakened ≡ lemmas
-    ++ theorem (codes "T" ++ decimal 1) (term_of bools ∷ []) (proof_of (eq_of bools (Var 0) (Var 0))) (refl_of bools (Var 0))
-    ∷ theorem (codes "E" ++ decimal 0) (term_of bools ∷ term_of bools ∷ proof_of (Var 1) ∷ []) (proof_of (eq_of bools (Var 1) (Var 1))) (App (Sym 15) (Var 1)) ∷ []
+    ++ theorem (codes "T1") (term_of bools ∷ []) (proof_of (eq_of bools (Var 0) (Var 0))) (refl_of bools (Var 0))
+    ∷ theorem (codes "E0") (term_of bools ∷ term_of bools ∷ proof_of (Var 1) ∷ []) (proof_of (eq_of bools (Var 1) (Var 1))) (App (Sym 15) (Var 1)) ∷ []
+unfolding numeral
 with_hypothesis = refl
 
 -- the run that assumes |- u (\x. x), with an input u, and exports it: the input is declared before what it assumes, and a proof without a
@@ -78,8 +80,9 @@ assumed_tree = proof_of (App (App (Sym 15) (arr_of (arr_of bools bools) bools)) 
 
 with_assumption : image assuming ≡ lemmas
     ++ symbol (codes "i_" ++ mangled (codes "u" ∷ [])) (Pi types (term_of (Var 0)))
-    ∷ symbol (codes "A" ++ decimal 0) assumed_tree
-    ∷ theorem (codes "E" ++ decimal 0) [] assumed_tree (Sym 16) ∷ []
+    ∷ symbol (codes "A0") assumed_tree
+    ∷ theorem (codes "E0") [] assumed_tree (Sym 16) ∷ []
+unfolding numeral
 with_assumption = refl
 
 -- the run that assumes |- q, and proves by it a hypothesis that |- p = p doesn't have: the assumption isn't needed, so the module lacks it
@@ -97,7 +100,8 @@ needless = record {
 }
 
 without_assumption : image needless ≡ lemmas
-    ++ theorem (codes "T" ++ decimal 1) (term_of bools ∷ []) (proof_of (eq_of bools (Var 0) (Var 0))) (refl_of bools (Var 0))
-    ∷ theorem (codes "T" ++ decimal 2) (term_of bools ∷ []) (proof_of (eq_of bools (Var 0) (Var 0))) (App (Sym 15) (Var 0))
-    ∷ theorem (codes "E" ++ decimal 0) (term_of bools ∷ []) (proof_of (eq_of bools (Var 0) (Var 0))) (App (Sym 16) (Var 0)) ∷ []
+    ++ theorem (codes "T1") (term_of bools ∷ []) (proof_of (eq_of bools (Var 0) (Var 0))) (refl_of bools (Var 0))
+    ∷ theorem (codes "T2") (term_of bools ∷ []) (proof_of (eq_of bools (Var 0) (Var 0))) (App (Sym 15) (Var 0))
+    ∷ theorem (codes "E0") (term_of bools ∷ []) (proof_of (eq_of bools (Var 0) (Var 0))) (App (Sym 16) (Var 0)) ∷ []
+unfolding numeral
 without_assumption = refl

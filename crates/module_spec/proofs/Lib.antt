@@ -2,4 +2,5 @@ mod EncExamples
 mod EncRows
 pub mod Examples
 mod ItemsExample
+mod NumeralExamples
 mod RowExamples

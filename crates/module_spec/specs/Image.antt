@@ -1,6 +1,6 @@
 -- The module of an accepted run: the two lemmas, and then what its exports reach, in order of making (Assaf and Burel,
 -- "Translating HOL to Dedukti", 3: each theorem is a declaration, whose body is its proof).
-use Rattle.std.specs.Prelude.{ℕ, Bool, List, ◌++◌, nat_eq, if◌then◌else◌, codes, decimal}
+use Rattle.std.specs.Prelude.{ℕ, Bool, List, ◌++◌, nat_eq, if◌then◌else◌, codes}
 use Rattle.std.specs.List.{list_any, position_or_len}
 use Rattle.hol_spec.specs.Names.{Name}
 use Rattle.hol_spec.specs.Mangling.{mangled}
@@ -13,21 +13,22 @@ use Rattle.lp_spec.specs.Modules.{Declaration}
 use Rattle.module_spec.specs.Items.{Content, operator}
 use Rattle.module_spec.specs.Reach.{reached}
 use Rattle.module_spec.specs.MadeItems.{items_of, roots_of}
+use Rattle.module_spec.specs.Numerals.{numeral}
 
 -- whether a number is among others
 abbrev pub is_one_of : ℕ → List ℕ → Bool
 is_one_of i numbers = list_any (nat_eq i) numbers
 
--- the place of a number among others, in decimal digits
+-- the place of a number among others, as a numeral
 abbrev pub place_among : ℕ → List ℕ → List ℕ
-place_among i numbers = decimal (position_or_len (nat_eq i) numbers)
+place_among i numbers = numeral (position_or_len (nat_eq i) numbers)
 
 -- the name of a step that is no export, by its kind: `A` and its place among the assumptions, `L` or `T` and its number
 abbrev pub unexported_name : List ℕ → ℕ → StepKind → List ℕ
 unexported_name assumptions i Axiom = codes "A" ++ place_among i assumptions
-unexported_name assumptions i FirstLaw = codes "L" ++ decimal i
-unexported_name assumptions i SecondLaw = codes "L" ++ decimal i
-unexported_name assumptions i kind = codes "T" ++ decimal i
+unexported_name assumptions i FirstLaw = codes "L" ++ numeral i
+unexported_name assumptions i SecondLaw = codes "L" ++ numeral i
+unexported_name assumptions i kind = codes "T" ++ numeral i
 
 -- the name of a step: `E` and its place among the exports, if it is one
 abbrev pub step_name : Accepted → ℕ → StepKind → List ℕ
@@ -38,7 +39,7 @@ abbrev pub input_constant_name : Name → List ℕ
 input_constant_name n = codes "i_" ++ mangled n
 
 abbrev pub input_operator_name : ℕ → Name → List ℕ
-input_operator_name k n = codes "t" ++ (decimal k ++ (codes "_" ++ mangled n))
+input_operator_name k n = codes "t" ++ (numeral k ++ (codes "_" ++ mangled n))
 
 abbrev pub constant_name : Name → List ℕ
 constant_name n = codes "c_" ++ mangled n

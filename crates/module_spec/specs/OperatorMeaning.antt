@@ -1,10 +1,11 @@
 -- Which symbols of a module stand for which type operators: those of the signature for the primitive ones, and the others by
 -- their names and types (Assaf and Burel, "Translating HOL to Dedukti", 3).
-use Rattle.std.specs.Prelude.{ℕ, ◌≡◌, List, ◌++◌, replicate, Some, None, codes, decimal}
+use Rattle.std.specs.Prelude.{ℕ, ◌≡◌, List, ◌++◌, replicate, Some, None, codes}
 use Rattle.hol_spec.specs.Names.{Name}
 use Rattle.hol_spec.specs.Primitives.{arrow_name, bool_name, ind_name, primitive_arity}
 use Rattle.lp_spec.specs.Modules.{Declaration, arr_symbol, bool_symbol, ind_symbol, symbol_name, symbol_type, products, types}
 use Rattle.hol_spec.specs.Mangling.{mangled, IsName}
+use Rattle.module_spec.specs.Numerals.{numeral}
 
 -- A symbol is named by this text and the mangled name of an operator that isn't primitive, and its type is
 -- `type -> .. -> type` with so many arguments.
@@ -20,5 +21,5 @@ pub data MeansOperator (declarations : List Declaration) (s : ℕ) : Name → �
   arrow : s ≡ arr_symbol → MeansOperator declarations s arrow_name 2
   truth_values : s ≡ bool_symbol → MeansOperator declarations s bool_name 0
   individuals : s ≡ ind_symbol → MeansOperator declarations s ind_name 0
-  input : {name : Name} {arity : ℕ} → NamesOperator declarations s (codes "t" ++ decimal arity ++ codes "_") name arity → MeansOperator declarations s name arity
+  input : {name : Name} {arity : ℕ} → NamesOperator declarations s (codes "t" ++ numeral arity ++ codes "_") name arity → MeansOperator declarations s name arity
   defined : {name : Name} {arity : ℕ} → NamesOperator declarations s (codes "o_") name arity → MeansOperator declarations s name arity

@@ -1,7 +1,7 @@
 -- What a module says for its run: it is a well-typed module, it leaves unproved only what the run gave, it defines only what the run
 -- defined, and its exports are the run's.
-use Rattle.std.specs.Prelude.{ℕ, suc, ◌≡◌, ◌+◌, ◌&&◌, ◌||◌, Bool, true, false, List, [], ◌∷◌, ◌++◌, length, nat_eq, nat_le, replicate, slice_get, Some, None, codes, decimal}
-use Rattle.std.specs.List.{filter, list_all, IsAmong}
+use Rattle.std.specs.Prelude.{ℕ, suc, ◌≡◌, ◌+◌, ◌&&◌, ◌||◌, Bool, true, false, List, [], ◌∷◌, ◌++◌, length, nat_eq, replicate, slice_get, Some, None, codes}
+use Rattle.std.specs.List.{filter, IsAmong}
 use Rattle.std.specs.Option.{option_map_or}
 use Rattle.hol_spec.specs.Names.{Name}
 use Rattle.hol_spec.specs.Types.{HolType, type_variables}
@@ -18,18 +18,20 @@ use Rattle.lp_spec.specs.Trees.{Tree, SortType, SortKind, Var, Sym, App, Lam, Pi
 use Rattle.lp_spec.specs.Modules.{Declaration, signature, symbol, products, abstractions, types, term_of}
 use Rattle.lp_spec.specs.ModuleOrder.{IsModule}
 use Rattle.lp_spec.specs.Typing.{WellTyped}
+use Rattle.module_spec.specs.Numerals.{numeral, is_numeral}
 use Rattle.module_spec.specs.TypeEnc.{place, StandsForType}
 use Rattle.module_spec.specs.Enc.{Enc, StandsForTerm}
 use Rattle.module_spec.specs.Image.{input_constant_name, input_operator_name, constant_name, operator_name}
 
--- `E` and a number; 69 is `E`, and 48 to 57 are the digits
-abbrev pub is_decimal_digit : ℕ → Bool
-is_decimal_digit b = nat_le 48 b && nat_le b 57
+-- the name of an export: `E` and a number
+pub record IsExportName (name : List ℕ) : Type 0 where
+  pub number : ℕ
+  pub is : name ≡ codes "E" ++ numeral number
 
+-- Whether a name is that of an export; 69 is `E`. That it decides it is `is_export_name-Decides`.
 abbrev pub is_export_name : List ℕ → Bool
 is_export_name [] = false
-is_export_name (b ∷ []) = false
-is_export_name (b ∷ digit ∷ digits) = nat_eq b 69 && list_all is_decimal_digit (digit ∷ digits)
+is_export_name (b ∷ text) = nat_eq b 69 && is_numeral text
 
 -- a symbol stands in a tree
 abbrev pub occurs : ℕ → Tree → Bool
@@ -72,14 +74,14 @@ pub record IsLaw (run : Accepted) (i : ℕ) : Type 0 where
 pub data IsGiven (m : List Declaration) (run : Accepted) : Declaration → Type 0 where
   input_constant : (n : Name) → IsAmong (symbols_of run.made) (Symbol.input_constant n) → IsGiven m run (symbol (input_constant_name n) (Pi types (term_of (Var 0))))
   input_operator : (n : Name) (k : ℕ) → IsAmong (symbols_of run.made) (Symbol.input_operator n k) → IsGiven m run (symbol (input_operator_name k n) (products (replicate k types) types))
-  assumption : (k i : ℕ) (A : Tree) → slice_get run.assumptions k ≡ Some i → Enc m (closed_form (sequent_at run.made i)) A → IsGiven m run (symbol (codes "A" ++ decimal k) A)
+  assumption : (k i : ℕ) (A : Tree) → slice_get run.assumptions k ≡ Some i → Enc m (closed_form (sequent_at run.made i)) A → IsGiven m run (symbol (codes "A" ++ numeral k) A)
   type_operator : (names : TypeNames) (c : HolType) (f : Term) → IsAmong (symbols_of run.made) (Symbol.defined (Definition.type_operator names c f))
       → IsGiven m run (symbol (operator_name names.operator) (products (replicate (length names.variables) types) types))
   abstraction : (names : TypeNames) (c : HolType) (f : Term) (A : Tree) → IsAmong (symbols_of run.made) (Symbol.defined (Definition.type_operator names c f))
       → IsConstantType m (abstraction_type names c) A → IsGiven m run (symbol (constant_name names.abstraction) A)
   representation : (names : TypeNames) (c : HolType) (f : Term) (A : Tree) → IsAmong (symbols_of run.made) (Symbol.defined (Definition.type_operator names c f))
       → IsConstantType m (representation_type names c) A → IsGiven m run (symbol (constant_name names.representation) A)
-  law : (i : ℕ) (A : Tree) → IsLaw run i → Enc m (closed_form (sequent_at run.made i)) A → IsGiven m run (symbol (codes "L" ++ decimal i) A)
+  law : (i : ℕ) (A : Tree) → IsLaw run i → Enc m (closed_form (sequent_at run.made i)) A → IsGiven m run (symbol (codes "L" ++ numeral i) A)
 
 -- a declaration defines a constant of a run by its term, over the type variables of its type
 pub record IsDefined (m : List Declaration) (run : Accepted) (d : Declaration) : Type 0 where
@@ -97,7 +99,7 @@ pub record IsDefined (m : List Declaration) (run : Accepted) (d : Declaration) :
 -- the declarations are E and the places from k on, each the theorem of the export at its place
 pub data AreExports (m : List Declaration) (run : Accepted) : ℕ → List ℕ → List Declaration → Type 0 where
   none : {k : ℕ} → AreExports m run k [] []
-  more : {k i : ℕ} {is : List ℕ} {d : Declaration} {ds : List Declaration} → d.name ≡ codes "E" ++ decimal k → d.form ≡ Thm → Enc m (closed_form (sequent_at run.made i)) d.ty
+  more : {k i : ℕ} {is : List ℕ} {d : Declaration} {ds : List Declaration} → d.name ≡ codes "E" ++ numeral k → d.form ≡ Thm → Enc m (closed_form (sequent_at run.made i)) d.ty
       → AreExports m run (suc k) is ds → AreExports m run k (i ∷ is) (d ∷ ds)
 
 -- a declaration without a body is given, and an export reaches it

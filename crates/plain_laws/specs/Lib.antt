@@ -1,4 +1,3 @@
-pub mod FewSteps
 pub mod FirstPathLaws
 pub mod PlainImage
 pub mod PlainItems

@@ -1,6 +1,6 @@
 -- The module of a run of the first path, as its code makes it: primitive symbols alone, and steps by reflexivity and restating.
 -- It is the module of the run (`PlainModules`), and goes with the first path.
-use Rattle.std.specs.Prelude.{ℕ, ◌+◌, suc, Bool, List, [], ◌∷◌, ◌++◌, map, length, take, reverse, nat_eq, count_by, if◌then◌else◌, unwrap_or, codes, decimal}
+use Rattle.std.specs.Prelude.{ℕ, ◌+◌, suc, Bool, List, [], ◌∷◌, ◌++◌, map, length, take, reverse, nat_eq, count_by, if◌then◌else◌, unwrap_or, codes}
 use Rattle.std.specs.List.{position_or_len}
 use Rattle.hol_spec.specs.Primitives.{bool}
 use Rattle.hol_spec.specs.Terms.{free, type_of}
@@ -15,6 +15,7 @@ use Rattle.lp_spec.specs.Modules.{Declaration, signature, applied, refl_of}
 use Rattle.lp_spec.specs.Lemmas.{lemmas, theorem}
 use Rattle.module_laws.specs.ListedTranslation.{Context, context_of, type_tree, term_tree, inner_scope, domains_of, conclusion_tree, hypothesis_tree}
 use Rattle.module_spec.specs.Image.{is_one_of}
+use Rattle.module_spec.specs.Numerals.{numeral}
 
 -- for each step whether the wanted ones reach it through their premises; the steps stand with the latest first
 abbrev pub reached_among : List Step → List ℕ → List Bool
@@ -30,7 +31,7 @@ reached run = reached_among (reverse (steps_of run.made)) run.exports
 -- the name of a step: `E` and its place among the exports, or `T` and its number
 abbrev pub step_name : List ℕ → ℕ → List ℕ
 step_name exports i =
-    if is_one_of i exports then codes "E" ++ decimal (position_or_len (nat_eq i) exports) else codes "T" ++ decimal i
+    if is_one_of i exports then codes "E" ++ numeral (position_or_len (nat_eq i) exports) else codes "T" ++ numeral i
 
 -- the symbol of a reached step: the reached ones are numbered after the signature and the lemmas
 abbrev pub step_symbol : List Bool → ℕ → ℕ

@@ -1,6 +1,6 @@
 -- The declarations of a run's module that are named as exports are its exports, in order.
-use Rattle.std.proofs.Common.{◌≡◌, ℕ, zero, suc, ◌+◌, ◌<◌, ◌≤◌, ◌⊎◌, inl, inr, List, [], ◌∷◌, ◌++◌, map, length, Bool, true, false, ◌||◌, cond, Option, Some, None, slice_get, refl, sym, ap, subst, ◌∙◌, append_assoc, arith}
-use Rattle.std.specs.Prelude.{nat_eq, slice_index_or, codes, decimal}
+use Rattle.std.proofs.Common.{◌≡◌, ℕ, zero, suc, ◌+◌, ◌<◌, ◌≤◌, ◌⊎◌, inl, inr, List, [], ◌∷◌, ◌++◌, map, length, Bool, true, false, ◌&&◌, ◌||◌, cond, Option, Some, None, slice_get, refl, sym, ap, subst, ◌∙◌, append_assoc, arith}
+use Rattle.std.specs.Prelude.{nat_eq, slice_index_or, codes}
 use Rattle.std.specs.Bool.{Decides}
 use Rattle.std.specs.Cmp.{unsigned_Decides}
 use Rattle.std.specs.Option.{option_map}
@@ -33,8 +33,9 @@ use Rattle.module_spec.specs.MadeItems.{said_of, said_by, content_by, premise_at
 use Rattle.module_spec.specs.Reach.{Key, number_key, gives, kept, renumbered, renumbered_content, keep_of, symbol_of, image_items}
 use Rattle.module_spec.specs.Enc.{Enc}
 use Rattle.module_spec.specs.Image.{is_one_of, name_in, image}
+use Rattle.module_spec.specs.Numerals.{numeral, is_numeral}
 use Rattle.module_spec.specs.Stands.{is_export_name, AreExports}
-use Rattle.run_laws.specs.NameLaws.{export-named}
+use Rattle.module_laws.specs.ExportNames.{export-named}
 use Rattle.run_laws.specs.ExportsKept.{numbered-from, gives-number}
 use Rattle.run_laws.specs.Named.{IsStepName, self-one}
 use Rattle.run_laws.specs.NewNames.{constant_named, IsSymbolName}
@@ -42,15 +43,14 @@ use Rattle.run_laws.specs.RunModules.{content-says, IsItemName, HaveNames, decla
 
 -- only `E` begins the name of an export
 no_front : (b : ℕ) (ds : List ℕ) → nat_eq b 69 ≡ false → is_export_name (b ∷ ds) ≡ false
-no_front b [] e = refl
-no_front b (d ∷ ds) e = rw e refl
+no_front b ds e = ap (λ is_e. is_e && is_numeral ds) e
 
 pub other_first : (b : ℕ) (ds name : List ℕ) → nat_eq b 69 ≡ false → name ≡ b ∷ ds → is_export_name name ≡ false
 other_first b ds name e w = ap is_export_name w ∙ no_front b ds e
 
 pub symbol-unexported : (symbols : List Symbol) (c : Content) (name : List ℕ) → IsSymbolName symbols c name → is_export_name name ≡ false
 symbol-unexported symbols c name (IsSymbolName.an_input n is e w) = other_first 105 _ name refl w
-symbol-unexported symbols c name (IsSymbolName.an_input_operator n k is l e w) = other_first 116 _ name refl w
+symbol-unexported symbols c name (IsSymbolName.an_input_operator n k is e w) = other_first 116 _ name refl w
 symbol-unexported symbols c name (IsSymbolName.a_constant n is e w) = other_first 99 _ name refl w
 symbol-unexported symbols c name (IsSymbolName.an_operator names a f is among e w) = other_first 111 _ name refl w
 
@@ -64,7 +64,7 @@ constant-silent n (step kind js ss g s) e = absurd (cc)
 -- the items of symbols say nothing
 pub symbol-silent : (symbols : List Symbol) (c : Content) (name : List ℕ) → IsSymbolName symbols c name → says c ≡ None
 symbol-silent symbols c name (IsSymbolName.an_input n is e w) = ap says e
-symbol-silent symbols c name (IsSymbolName.an_input_operator n k is l e w) = ap says e
+symbol-silent symbols c name (IsSymbolName.an_input_operator n k is e w) = ap says e
 symbol-silent symbols c name (IsSymbolName.a_constant n is e w) = constant-silent n c e
 symbol-silent symbols c name (IsSymbolName.an_operator names a f is among e w) = ap says e
 
@@ -252,7 +252,7 @@ module _ (run : Accepted) (sound : IsSoundRun run) (rows : HaveRows run) where
                   let stays : keep z.symbol ≡ true = export-kept order before zs z x.sequent whole (content-says x z.content told) one in
                   let there : IsIn items z = subst (λ l. IsIn l z) (sym whole) (IsIn-right before (z ∷ zs) z (inl refl)) in
                   let row : has_row x.kind ≡ true = rows n x one (ap (slice_get (steps_of run.made)) (sym p) ∙ got) in
-                  let text : z.name ≡ codes "E" ++ decimal (length done) = named-export name one ∙ ap (λ k. codes "E" ++ decimal k) (ap (λ k. position_or_len (nat_eq k) run.exports) p ∙ place) in
+                  let text : z.name ≡ codes "E" ++ numeral (length done) = named-export name one ∙ ap (λ k. codes "E" ++ numeral k) (ap (λ k. position_or_len (nat_eq k) run.exports) p ∙ place) in
                   let said : sequent_at run.made n ≡ x.sequent = sequent-step (steps_of run.made) n x (record { hypotheses = []; conclusion = bound 0 }) (ap (slice_get (steps_of run.made)) (sym p) ∙ got) in
                   subst (λ l. AreExports (image run) run (length done) l (exports_among (z ∷ zs))) (sym is)
                   (subst (AreExports (image run) run (length done) (n ∷ rest2)) (sym (exported z zs (ap is_export_name text ∙ export-named (length done)) stays))
@@ -280,7 +280,7 @@ module _ (run : Accepted) (sound : IsSoundRun run) (rows : HaveRows run) where
             at_n : (b : Bool) → is_one_of n run.exports ≡ b → is_one_of i run.exports ≡ b
             at_n b e = ap (λ k. is_one_of k run.exports) p ∙ e
 
-            named-export : IsStepName run i x.kind z.name → is_one_of n run.exports ≡ true → z.name ≡ codes "E" ++ decimal (position_or_len (nat_eq i) run.exports)
+            named-export : IsStepName run i x.kind z.name → is_one_of n run.exports ≡ true → z.name ≡ codes "E" ++ numeral (position_or_len (nat_eq i) run.exports)
             named-export (IsStepName.an_export e w) one = w
             named-export (IsStepName.an_assumption e f k w) one = differ (at_n true one) e
             named-export (IsStepName.a_law e k w) one = differ (at_n true one) e

@@ -5,7 +5,6 @@ pub mod ExportsKept
 pub mod FaithfulRuns
 pub mod Givens
 pub mod Meanings
-pub mod NameLaws
 pub mod Named
 pub mod NewNames
 pub mod Origins

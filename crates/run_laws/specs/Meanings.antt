@@ -1,6 +1,6 @@
 -- Each symbol of a run's module means what it stands for, and each theorem stands for what it says.
 use Rattle.std.proofs.Common.{◌≡◌, ℕ, zero, suc, List, [], ◌∷◌, ◌++◌, length, Bool, true, false, Some, None, slice_get, refl, sym, ap, subst, ◌∙◌, append_assoc}
-use Rattle.std.specs.Prelude.{codes, decimal, option_map, unwrap_or}
+use Rattle.std.specs.Prelude.{codes, option_map, unwrap_or}
 use Rattle.std.specs.Option.{option_map_or}
 use Rattle.std.specs.List.{AllByRecursion}
 use Rattle.std.proofs.lemmas.Option.{same_Some}
@@ -20,6 +20,7 @@ use Rattle.hol_spec.specs.Mangling.{mangled, IsName}
 use Rattle.hol_spec.specs.ClosedForm.{close_type}
 use Rattle.hol_laws.specs.Members.{All-at, All-append, All-weaker}
 use Rattle.lp_spec.specs.Modules.{Declaration, symbol_declaration, symbol_name, symbol_type, arr_symbol, bool_symbol, ind_symbol, eq_symbol, select_symbol}
+use Rattle.module_spec.specs.Numerals.{numeral}
 use Rattle.module_spec.specs.OperatorMeaning.{MeansOperator}
 use Rattle.module_spec.specs.OperatorMeaning as means_operator
 use Rattle.module_spec.specs.ConstantMeaning.{MeansConstant}
@@ -186,13 +187,13 @@ module _ (m : List Declaration) (symbols : Symbols) where
               (ap (symbol_type m) t.0 ∙ ty (constant n generic) (subst Declares e d));
           is = t.1;
         })
-    symbol-meant before c (IsSymbolName.an_input_operator n j is l e w) new tells meant d =
+    symbol-meant before c (IsSymbolName.an_input_operator n j is e w) new tells meant d =
         let t = subst (Tells symbols i) e tells in
         let k = subst (IsNew before) e new in
         subst ItemMeant (sym e) (means_operator.MeansOperator.input (record {
           is_name = is;
           not_primitive = k.0;
-          text = ap (symbol_name m) t ∙ text c d ∙ w ∙ ap (λ l. codes "t" ++ l) (sym (append_assoc (decimal j) (codes "_") (mangled n)));
+          text = ap (symbol_name m) t ∙ text c d ∙ w ∙ ap (λ l. codes "t" ++ l) (sym (append_assoc (numeral j) (codes "_") (mangled n)));
           ty = ap (symbol_type m) t ∙ ty (operator n j) (subst Declares e d);
         }))
     symbol-meant before c (IsSymbolName.an_operator names a f is among e w) new tells meant d =

@@ -1,9 +1,8 @@
 -- The names of a run's items: what they are, that no two are one, and that none is a name of the signature or of the lemmas.
-use Rattle.std.proofs.Common.{◌≡◌, ℕ, zero, suc, ◌+◌, ◌<◌, ◌≤◌, ◌^◌, ◌⊎◌, inl, inr, List, [], ◌∷◌, ◌++◌, length, Bool, true, false, ◌&&◌, ◌||◌, cond, Some, slice_get, refl, sym, ap, subst, ◌∙◌, arith}
-use Rattle.std.specs.Prelude.{nat_eq, nat_le, codes, decimal}
+use Rattle.std.proofs.Common.{◌≡◌, ℕ, zero, suc, ◌+◌, ◌≤◌, ◌⊎◌, inl, inr, List, [], ◌∷◌, ◌++◌, Bool, true, false, ◌&&◌, ◌||◌, cond, Some, slice_get, refl, sym, ap, subst, ◌∙◌, arith}
+use Rattle.std.specs.Prelude.{nat_eq, nat_le, codes}
 use Rattle.std.specs.Cmp.{unsigned_Decides}
 use Rattle.std.specs.List.{AllByRecursion, list_all, position_or_len}
-use Rattle.article_spec.specs.Ascending.{Ascend}
 use Rattle.article_spec.specs.SoundRuns.{assumed_from}
 use Rattle.hol_spec.specs.Mangling.{IsName}
 use Rattle.hol_spec.specs.Definitions.{Definition}
@@ -11,24 +10,23 @@ use Rattle.hol_spec.specs.Derivations.{infers}
 use Rattle.hol_spec.specs.Symbols.{Symbol}
 use Rattle.hol_spec.specs.declared.StepKind.{StepKind}
 use Rattle.hol_spec.specs.declared.StepKind.TheVariants as kinds
-use Rattle.hol_spec.specs.Proofs.{Step, symbols_of, steps_of, Accepted}
+use Rattle.hol_spec.specs.Proofs.{Step, symbols_of, Accepted}
 use Rattle.module_spec.specs.Rows.{has_row}
 use Rattle.module_spec.specs.Image.{is_one_of, place_among, unexported_name, step_name}
-use Rattle.module_spec.specs.Stands.{is_decimal_digit}
-use Rattle.run_laws.specs.NameLaws.{decimal-same, decimal-all}
+use Rattle.module_spec.specs.Numerals.{numeral, is_decimal_digit}
+use Rattle.module_laws.specs.NumeralLaws.{numeral-injective, numeral-digits}
 use Rattle.std.proofs.lemmas.Option.{same_Some}
 
--- the bytes of a name, and a number that decimal digits tell from others
+-- the names of a symbol are of bytes
 abbrev pub SymbolHasName : Symbol → Type 0
 SymbolHasName (Symbol.input_constant n) = IsName n
-SymbolHasName (Symbol.input_operator n k) = IsName n × (k < 2 ^ 64)
+SymbolHasName (Symbol.input_operator n k) = IsName n
 SymbolHasName (Symbol.defined (Definition.constant n t)) = IsName n
 SymbolHasName (Symbol.defined (Definition.type_operator names c f)) = IsName names.operator × IsName names.abstraction × IsName names.representation
 
--- a run whose names are bytes and whose steps are so few that their numbers are all written differently
+-- a run whose names are of bytes
 pub record HasNames (run : Accepted) : Type 0 where
   pub symbols : AllByRecursion SymbolHasName (symbols_of run.made)
-  pub steps : length (steps_of run.made) < 10 ^ 64
 
 -- the first two bytes of a name
 abbrev pub first_byte : List ℕ → ℕ
@@ -53,30 +51,9 @@ at-place i (j ∷ is) e = go (nat_eq i j) refl (unsigned_Decides i j).0 e (at-pl
     go true is_it f e rest = ap (slice_get (j ∷ is)) (position-self i j is true is_it) ∙ ap Some (sym (f is_it))
     go false is_it f e rest = ap (slice_get (j ∷ is)) (position-self i j is false is_it) ∙ rest e
 
-place-within : (i : ℕ) (is : List ℕ) → position_or_len (nat_eq i) is ≤ length is
-place-within i [] = omega arith
-place-within i (j ∷ is) = go (nat_eq i j) refl (place-within i is)
-  where
-    go : (b : Bool) → nat_eq i j ≡ b → position_or_len (nat_eq i) is ≤ length is → position_or_len (nat_eq i) (j ∷ is) ≤ suc (length is)
-    go true e l = let p = position-self i j is true e in omega (arith, p)
-    go false e l = let p = position-self i j is false e in omega (arith, p, l)
-
 -- members at one place are one
 same-place : (i j : ℕ) (is : List ℕ) → is_one_of i is ≡ true → is_one_of j is ≡ true → position_or_len (nat_eq i) is ≡ position_or_len (nat_eq j) is → i ≡ j
 same-place i j is e f p = same_Some _ _ (sym (at-place i is e) ∙ ap (slice_get is) p ∙ at-place j is f)
-
--- exports and assumptions are no more than the steps
-pub ascend-long : (low high : ℕ) (is : List ℕ) → Ascend low high is → low + length is ≤ high
-ascend-long low high [] h = omega (arith, h)
-ascend-long low high (i ∷ is) h = let rest = ascend-long (suc i) high is h.1 in omega (arith, h.0, rest)
-
-pub assumed-long : (k : ℕ) (xs : List Step) → length (assumed_from k xs) ≤ length xs
-assumed-long k [] = omega arith
-assumed-long k (x ∷ xs) = go (infers x.kind) (assumed-long (k + 1) xs)
-  where
-    go : (b : Bool) → length (assumed_from (k + 1) xs) ≤ length xs → length (cond b (assumed_from (k + 1) xs) (k ∷ assumed_from (k + 1) xs)) ≤ suc (length xs)
-    go true l = omega (arith, l)
-    go false l = omega (arith, l)
 
 pub self-one : (k : ℕ) (is : List ℕ) → is_one_of k (k ∷ is) ≡ true
 self-one k is = ap (λ b. b || is_one_of k is) ((unsigned_Decides k k).1 refl)
@@ -106,10 +83,10 @@ is-assumed k (y ∷ xs) (suc i) x at idle =
 
 -- THE NAME OF A STEP: `E` and its place among the exports, `A` and its place among the assumptions, or `L` or `T` and its number
 pub data IsStepName (run : Accepted) (i : ℕ) (kind : StepKind) (name : List ℕ) : Type 0 where
-  an_export : is_one_of i run.exports ≡ true → name ≡ codes "E" ++ decimal (position_or_len (nat_eq i) run.exports) → IsStepName run i kind name
-  an_assumption : is_one_of i run.exports ≡ false → is_one_of i run.assumptions ≡ true → kind ≡ kinds.Axiom → name ≡ codes "A" ++ decimal (position_or_len (nat_eq i) run.assumptions) → IsStepName run i kind name
-  a_law : is_one_of i run.exports ≡ false → (kind ≡ kinds.FirstLaw) ⊎ (kind ≡ kinds.SecondLaw) → name ≡ codes "L" ++ decimal i → IsStepName run i kind name
-  a_theorem : is_one_of i run.exports ≡ false → has_row kind ≡ true → name ≡ codes "T" ++ decimal i → IsStepName run i kind name
+  an_export : is_one_of i run.exports ≡ true → name ≡ codes "E" ++ numeral (position_or_len (nat_eq i) run.exports) → IsStepName run i kind name
+  an_assumption : is_one_of i run.exports ≡ false → is_one_of i run.assumptions ≡ true → kind ≡ kinds.Axiom → name ≡ codes "A" ++ numeral (position_or_len (nat_eq i) run.assumptions) → IsStepName run i kind name
+  a_law : is_one_of i run.exports ≡ false → (kind ≡ kinds.FirstLaw) ⊎ (kind ≡ kinds.SecondLaw) → name ≡ codes "L" ++ numeral i → IsStepName run i kind name
+  a_theorem : is_one_of i run.exports ≡ false → has_row kind ≡ true → name ≡ codes "T" ++ numeral i → IsStepName run i kind name
 
 module _ (run : Accepted) (i : ℕ) where
   unexported : (kind : StepKind) → (infers kind ≡ false → is_one_of i run.assumptions ≡ true) → is_one_of i run.exports ≡ false → IsStepName run i kind (unexported_name run.assumptions i kind)
@@ -138,12 +115,6 @@ module _ (run : Accepted) (i : ℕ) where
       go true e = IsStepName.an_export e refl
       go false e = unexported kind f e
 
--- the numbers of a run are small
-pub record AreSmall (run : Accepted) : Type 0 where
-  pub steps : length (steps_of run.made) < 10 ^ 64
-  pub exports : length run.exports < 10 ^ 64
-  pub assumptions : length run.assumptions < 10 ^ 64
-
 other_byte : (a b : ℕ) (r s name : List ℕ) → (nat_eq a b ≡ false) → name ≡ a ∷ r → name ≡ b ∷ s → ⊥
 other_byte a b r s name h e f =
     let same : a ≡ b = sym (ap first_byte e) ∙ ap first_byte f in
@@ -153,31 +124,28 @@ other_byte a b r s name h e f =
 pub one_byte : (a : ℕ) (r s name : List ℕ) → name ≡ a ∷ r → name ≡ a ∷ s → r ≡ s
 one_byte a r s name e f = let g : a ∷ r ≡ a ∷ s = sym e ∙ f in cc
 
-place-small : (i : ℕ) (is : List ℕ) → length is < 10 ^ 64 → position_or_len (nat_eq i) is < 10 ^ 64
-place-small i is l = let p = place-within i is in omega (arith, l, p)
-
 -- NO TWO STEPS HAVE ONE NAME
-pub same-step : (run : Accepted) → AreSmall run → (i j : ℕ) (k l : StepKind) (name : List ℕ) → i < length (steps_of run.made) → j < length (steps_of run.made) → IsStepName run i k name → IsStepName run j l name → i ≡ j
-same-step run small i j k l name hi hj (IsStepName.an_export e n) (IsStepName.an_export f m) =
-    same-place i j run.exports e f (decimal-same _ _ (place-small i run.exports small.exports) (place-small j run.exports small.exports) (one_byte 69 _ _ name n m))
-same-step run small i j k l name hi hj (IsStepName.an_export e n) (IsStepName.an_assumption f g x m) = absurd (other_byte 69 65 _ _ name refl n m)
-same-step run small i j k l name hi hj (IsStepName.an_export e n) (IsStepName.a_law f x m) = absurd (other_byte 69 76 _ _ name refl n m)
-same-step run small i j k l name hi hj (IsStepName.an_export e n) (IsStepName.a_theorem f x m) = absurd (other_byte 69 84 _ _ name refl n m)
-same-step run small i j k l name hi hj (IsStepName.an_assumption d e y n) (IsStepName.an_assumption f g x m) =
-    same-place i j run.assumptions e g (decimal-same _ _ (place-small i run.assumptions small.assumptions) (place-small j run.assumptions small.assumptions) (one_byte 65 _ _ name n m))
-same-step run small i j k l name hi hj (IsStepName.an_assumption d e y n) (IsStepName.an_export f m) = absurd (other_byte 65 69 _ _ name refl n m)
-same-step run small i j k l name hi hj (IsStepName.an_assumption d e y n) (IsStepName.a_law f x m) = absurd (other_byte 65 76 _ _ name refl n m)
-same-step run small i j k l name hi hj (IsStepName.an_assumption d e y n) (IsStepName.a_theorem f x m) = absurd (other_byte 65 84 _ _ name refl n m)
-same-step run small i j k l name hi hj (IsStepName.a_law e y n) (IsStepName.a_law f x m) = decimal-same i j (omega (arith, hi, small.steps)) (omega (arith, hj, small.steps)) (one_byte 76 _ _ name n m)
-same-step run small i j k l name hi hj (IsStepName.a_law e y n) (IsStepName.an_export f m) = absurd (other_byte 76 69 _ _ name refl n m)
-same-step run small i j k l name hi hj (IsStepName.a_law e y n) (IsStepName.an_assumption f g x m) = absurd (other_byte 76 65 _ _ name refl n m)
-same-step run small i j k l name hi hj (IsStepName.a_law e y n) (IsStepName.a_theorem f x m) = absurd (other_byte 76 84 _ _ name refl n m)
-same-step run small i j k l name hi hj (IsStepName.a_theorem e y n) (IsStepName.a_theorem f x m) = decimal-same i j (omega (arith, hi, small.steps)) (omega (arith, hj, small.steps)) (one_byte 84 _ _ name n m)
-same-step run small i j k l name hi hj (IsStepName.a_theorem e y n) (IsStepName.an_export f m) = absurd (other_byte 84 69 _ _ name refl n m)
-same-step run small i j k l name hi hj (IsStepName.a_theorem e y n) (IsStepName.an_assumption f g x m) = absurd (other_byte 84 65 _ _ name refl n m)
-same-step run small i j k l name hi hj (IsStepName.a_theorem e y n) (IsStepName.a_law f x m) = absurd (other_byte 84 76 _ _ name refl n m)
+pub same-step : (run : Accepted) (i j : ℕ) (k l : StepKind) (name : List ℕ) → IsStepName run i k name → IsStepName run j l name → i ≡ j
+same-step run i j k l name (IsStepName.an_export e n) (IsStepName.an_export f m) =
+    same-place i j run.exports e f (numeral-injective _ _ (one_byte 69 _ _ name n m))
+same-step run i j k l name (IsStepName.an_export e n) (IsStepName.an_assumption f g x m) = absurd (other_byte 69 65 _ _ name refl n m)
+same-step run i j k l name (IsStepName.an_export e n) (IsStepName.a_law f x m) = absurd (other_byte 69 76 _ _ name refl n m)
+same-step run i j k l name (IsStepName.an_export e n) (IsStepName.a_theorem f x m) = absurd (other_byte 69 84 _ _ name refl n m)
+same-step run i j k l name (IsStepName.an_assumption d e y n) (IsStepName.an_assumption f g x m) =
+    same-place i j run.assumptions e g (numeral-injective _ _ (one_byte 65 _ _ name n m))
+same-step run i j k l name (IsStepName.an_assumption d e y n) (IsStepName.an_export f m) = absurd (other_byte 65 69 _ _ name refl n m)
+same-step run i j k l name (IsStepName.an_assumption d e y n) (IsStepName.a_law f x m) = absurd (other_byte 65 76 _ _ name refl n m)
+same-step run i j k l name (IsStepName.an_assumption d e y n) (IsStepName.a_theorem f x m) = absurd (other_byte 65 84 _ _ name refl n m)
+same-step run i j k l name (IsStepName.a_law e y n) (IsStepName.a_law f x m) = numeral-injective i j (one_byte 76 _ _ name n m)
+same-step run i j k l name (IsStepName.a_law e y n) (IsStepName.an_export f m) = absurd (other_byte 76 69 _ _ name refl n m)
+same-step run i j k l name (IsStepName.a_law e y n) (IsStepName.an_assumption f g x m) = absurd (other_byte 76 65 _ _ name refl n m)
+same-step run i j k l name (IsStepName.a_law e y n) (IsStepName.a_theorem f x m) = absurd (other_byte 76 84 _ _ name refl n m)
+same-step run i j k l name (IsStepName.a_theorem e y n) (IsStepName.a_theorem f x m) = numeral-injective i j (one_byte 84 _ _ name n m)
+same-step run i j k l name (IsStepName.a_theorem e y n) (IsStepName.an_export f m) = absurd (other_byte 84 69 _ _ name refl n m)
+same-step run i j k l name (IsStepName.a_theorem e y n) (IsStepName.an_assumption f g x m) = absurd (other_byte 84 65 _ _ name refl n m)
+same-step run i j k l name (IsStepName.a_theorem e y n) (IsStepName.a_law f x m) = absurd (other_byte 84 76 _ _ name refl n m)
 
--- decimal digits begin with one
+-- digits begin with one
 pub first_digit-low : (ds : List ℕ) → list_all is_decimal_digit ds ≡ true → first_byte ds ≤ 57
 first_digit-low [] h = omega arith
 first_digit-low (d ∷ ds) h = go (nat_le 48 d) (nat_le d 57) refl (list_all is_decimal_digit ds) h
@@ -187,12 +155,12 @@ first_digit-low (d ∷ ds) h = go (nat_le 48 d) (nat_le d 57) refl (list_all is_
     go true false e c h = absurd (cc)
     go false false e c h = absurd (cc)
 
-decimal-low : (n : ℕ) → first_byte (decimal n) ≤ 57
-decimal-low n = first_digit-low (decimal n) (decimal-all n)
+numeral-low : (n : ℕ) → first_byte (numeral n) ≤ 57
+numeral-low n = first_digit-low (numeral n) (numeral-digits n)
 
 -- the second byte of a step's name is a digit; of the first only `E` begins the name of an export
 pub step_name-low : (run : Accepted) (i : ℕ) (k : StepKind) (name : List ℕ) → IsStepName run i k name → (first_byte name ≤ 84) × (second_byte name ≤ 57)
-step_name-low run i k name (IsStepName.an_export e n) = let p = ap first_byte n in let q = ap second_byte n in let r = decimal-low (position_or_len (nat_eq i) run.exports) in (omega (arith, p), omega (arith, q, r))
-step_name-low run i k name (IsStepName.an_assumption d e y n) = let p = ap first_byte n in let q = ap second_byte n in let r = decimal-low (position_or_len (nat_eq i) run.assumptions) in (omega (arith, p), omega (arith, q, r))
-step_name-low run i k name (IsStepName.a_law e y n) = let p = ap first_byte n in let q = ap second_byte n in let r = decimal-low i in (omega (arith, p), omega (arith, q, r))
-step_name-low run i k name (IsStepName.a_theorem e y n) = let p = ap first_byte n in let q = ap second_byte n in let r = decimal-low i in (omega (arith, p), omega (arith, q, r))
+step_name-low run i k name (IsStepName.an_export e n) = let p = ap first_byte n in let q = ap second_byte n in let r = numeral-low (position_or_len (nat_eq i) run.exports) in (omega (arith, p), omega (arith, q, r))
+step_name-low run i k name (IsStepName.an_assumption d e y n) = let p = ap first_byte n in let q = ap second_byte n in let r = numeral-low (position_or_len (nat_eq i) run.assumptions) in (omega (arith, p), omega (arith, q, r))
+step_name-low run i k name (IsStepName.a_law e y n) = let p = ap first_byte n in let q = ap second_byte n in let r = numeral-low i in (omega (arith, p), omega (arith, q, r))
+step_name-low run i k name (IsStepName.a_theorem e y n) = let p = ap first_byte n in let q = ap second_byte n in let r = numeral-low i in (omega (arith, p), omega (arith, q, r))

@@ -1,10 +1,9 @@
 -- The names of the declarations of an accepted run's module are new, each after those before it: so it is a module.
-use Rattle.std.proofs.Common.{◌≡◌, ℕ, ◌<◌, ◌≤◌, ◌^◌, inl, inr, List, [], ◌∷◌, ◌++◌, length, Bool, true, false, ◌&&◌, cond, Option, Some, None, refl, sym, ap, subst, ◌∙◌, arith}
-use Rattle.std.specs.Prelude.{◌==◌, nat_eq, codes, decimal, is_some}
+use Rattle.std.proofs.Common.{◌≡◌, ℕ, ◌<◌, ◌≤◌, inl, inr, List, [], ◌∷◌, ◌++◌, length, Bool, true, false, ◌&&◌, cond, Option, Some, None, refl, sym, ap, subst, ◌∙◌, arith}
+use Rattle.std.specs.Prelude.{◌==◌, nat_eq, codes, is_some}
 use Rattle.std.specs.Cmp.{unsigned_Decides}
 use Rattle.std.specs.Option.{option_or}
 use Rattle.std.specs.List.{list_all}
-use Rattle.std.proofs.lemmas.Fmt.{decimal_injective}
 use Rattle.std.proofs.lemmas.List.{append-nil}
 use Rattle.std.proofs.lemmas.Option.{same_Some}
 use Rattle.hol_spec.specs.Names.{Name}
@@ -29,8 +28,8 @@ use Rattle.module_laws.specs.MadeModules.{any_content, IsNew}
 use Rattle.module_spec.specs.Items.{Content, operator, constant, defined_constant, unproved, step, Item, is_constant, is_operator}
 use Rattle.module_spec.specs.MadeItems.{contents_of}
 use Rattle.module_spec.specs.Image.{symbol_name, type_definition_name}
-use Rattle.module_spec.specs.Stands.{is_decimal_digit}
-use Rattle.run_laws.specs.NameLaws.{decimal-all, decimal-some}
+use Rattle.module_spec.specs.Numerals.{numeral, is_decimal_digit}
+use Rattle.module_laws.specs.NumeralLaws.{numeral-injective, numeral-digits, numeral-some}
 use Rattle.run_laws.specs.Named.{SymbolHasName, first_byte, second_byte, first_digit-low, one_byte}
 
 -- the constant that an item names
@@ -42,7 +41,7 @@ constant_named c = None
 -- THE NAME OF A SYMBOL'S ITEM
 pub data IsSymbolName (symbols : List Symbol) (c : Content) (name : List ℕ) : Type 0 where
   an_input : (n : Name) → IsName n → c ≡ constant n generic → name ≡ codes "i_" ++ mangled n → IsSymbolName symbols c name
-  an_input_operator : (n : Name) (k : ℕ) → IsName n → k < 2 ^ 64 → c ≡ operator n k → name ≡ codes "t" ++ (decimal k ++ (codes "_" ++ mangled n)) → IsSymbolName symbols c name
+  an_input_operator : (n : Name) (k : ℕ) → IsName n → c ≡ operator n k → name ≡ codes "t" ++ (numeral k ++ (codes "_" ++ mangled n)) → IsSymbolName symbols c name
   a_constant : (n : Name) → IsName n → constant_named c ≡ Some n → name ≡ codes "c_" ++ mangled n → IsSymbolName symbols c name
   an_operator : (names : TypeNames) (a : HolType) (f : Term) → IsName names.operator → IsIn symbols (Symbol.defined (Definition.type_operator names a f)) → c ≡ operator names.operator (length names.variables)
       → name ≡ codes "o_" ++ mangled names.operator → IsSymbolName symbols c name
@@ -50,7 +49,7 @@ pub data IsSymbolName (symbols : List Symbol) (c : Content) (name : List ℕ) : 
 pub symbol_name-is : (symbols : List Symbol) (x : Symbol) → IsIn symbols x → SymbolHasName x → (c : Content) → IsIn (contents_of x) c → IsSymbolName symbols c (symbol_name x c)
 symbol_name-is symbols (Symbol.input_constant n) among h c (inl e) = IsSymbolName.an_input n h e refl
 symbol_name-is symbols (Symbol.input_constant n) among h c (inr k) = absurd k
-symbol_name-is symbols (Symbol.input_operator n j) among h c (inl e) = IsSymbolName.an_input_operator n j h.0 h.1 e refl
+symbol_name-is symbols (Symbol.input_operator n j) among h c (inl e) = IsSymbolName.an_input_operator n j h e refl
 symbol_name-is symbols (Symbol.input_operator n j) among h c (inr k) = absurd k
 symbol_name-is symbols (Symbol.defined (Definition.constant n t)) among h c (inl e) = IsSymbolName.a_constant n h (ap constant_named e) refl
 symbol_name-is symbols (Symbol.defined (Definition.constant n t)) among h c (inr k) = absurd k
@@ -179,22 +178,22 @@ two_fronts a b r s name e f = let g : a ∷ b ∷ r ≡ a ∷ b ∷ s = sym e �
 pub symbols-apart : (made : List Made) → IsProof made → (before : List Item) (y : Item) (c : Content) (name : List ℕ) → IsNew before c → IsIn before y → IsSymbolName (symbols_of made) y.content name → IsSymbolName (symbols_of made) c name → ⊥
 symbols-apart made p before y c name new i (IsSymbolName.an_input n is e w) (IsSymbolName.an_input m js f v) =
     one-constant m n c y.content before y new i refl (ap constant_named e) (ap constant_named f) (mangled-injective n m is js (two_fronts 105 95 _ _ name w v))
-symbols-apart made p before y c name new i (IsSymbolName.an_input n is e w) (IsSymbolName.an_input_operator m k js l f v) = other_front 105 116 _ _ name refl w v
+symbols-apart made p before y c name new i (IsSymbolName.an_input n is e w) (IsSymbolName.an_input_operator m k js f v) = other_front 105 116 _ _ name refl w v
 symbols-apart made p before y c name new i (IsSymbolName.an_input n is e w) (IsSymbolName.a_constant m js f v) = other_front 105 99 _ _ name refl w v
 symbols-apart made p before y c name new i (IsSymbolName.an_input n is e w) (IsSymbolName.an_operator names a g js among f v) = other_front 105 111 _ _ name refl w v
 symbols-apart made p before y c name new i (IsSymbolName.a_constant n is e w) (IsSymbolName.a_constant m js f v) =
     one-constant m n c y.content before y new i refl e f (mangled-injective n m is js (two_fronts 99 95 _ _ name w v))
-symbols-apart made p before y c name new i (IsSymbolName.a_constant n is e w) (IsSymbolName.an_input_operator m k js l f v) = other_front 99 116 _ _ name refl w v
+symbols-apart made p before y c name new i (IsSymbolName.a_constant n is e w) (IsSymbolName.an_input_operator m k js f v) = other_front 99 116 _ _ name refl w v
 symbols-apart made p before y c name new i (IsSymbolName.a_constant n is e w) (IsSymbolName.an_input m js f v) = other_front 99 105 _ _ name refl w v
 symbols-apart made p before y c name new i (IsSymbolName.a_constant n is e w) (IsSymbolName.an_operator names a g js among f v) = other_front 99 111 _ _ name refl w v
-symbols-apart made p before y c name new i (IsSymbolName.an_input_operator n k is l e w) (IsSymbolName.an_input_operator m j js lj f v) =
-    let both = after_digits (decimal k) (decimal j) (mangled n) (mangled m) (decimal-all k) (decimal-all j) (one_byte 116 _ _ name w v) in
+symbols-apart made p before y c name new i (IsSymbolName.an_input_operator n k is e w) (IsSymbolName.an_input_operator m j js f v) =
+    let both = after_digits (numeral k) (numeral j) (mangled n) (mangled m) (numeral-digits k) (numeral-digits j) (one_byte 116 _ _ name w v) in
     let same : n ≡ m = mangled-injective n m is js both.1 in
-    let count : k ≡ j = decimal_injective k j l lj both.0 in
+    let count : k ≡ j = numeral-injective k j both.0 in
     one-operator m j c before y new i (e ∙ (λ t. operator (same t) (count t))) f
-symbols-apart made p before y c name new i (IsSymbolName.an_input_operator n k is l e w) (IsSymbolName.an_input m js f v) = other_front 116 105 _ _ name refl w v
-symbols-apart made p before y c name new i (IsSymbolName.an_input_operator n k is l e w) (IsSymbolName.a_constant m js f v) = other_front 116 99 _ _ name refl w v
-symbols-apart made p before y c name new i (IsSymbolName.an_input_operator n k is l e w) (IsSymbolName.an_operator names a g js among f v) = other_front 116 111 _ _ name refl w v
+symbols-apart made p before y c name new i (IsSymbolName.an_input_operator n k is e w) (IsSymbolName.an_input m js f v) = other_front 116 105 _ _ name refl w v
+symbols-apart made p before y c name new i (IsSymbolName.an_input_operator n k is e w) (IsSymbolName.a_constant m js f v) = other_front 116 99 _ _ name refl w v
+symbols-apart made p before y c name new i (IsSymbolName.an_input_operator n k is e w) (IsSymbolName.an_operator names a g js among f v) = other_front 116 111 _ _ name refl w v
 symbols-apart made p before y c name new i (IsSymbolName.an_operator names a f is among e w) (IsSymbolName.an_operator others b g js there k v) =
     let same : names.operator ≡ others.operator = mangled-injective names.operator others.operator is js (two_fronts 111 95 _ _ name w v) in
     let first = arity-known made p (Symbol.defined (Definition.type_operator names a f)) among names.operator (length names.variables) (defined_arity-own names a f names.operator refl) in
@@ -203,16 +202,16 @@ symbols-apart made p before y c name new i (IsSymbolName.an_operator names a f i
     one-operator others.operator (length others.variables) c before y new i (e ∙ (λ t. operator (same t) (count t))) k
 symbols-apart made p before y c name new i (IsSymbolName.an_operator names a f is among e w) (IsSymbolName.an_input m js k v) = other_front 111 105 _ _ name refl w v
 symbols-apart made p before y c name new i (IsSymbolName.an_operator names a f is among e w) (IsSymbolName.a_constant m js k v) = other_front 111 99 _ _ name refl w v
-symbols-apart made p before y c name new i (IsSymbolName.an_operator names a f is among e w) (IsSymbolName.an_input_operator m j js l k v) = other_front 111 116 _ _ name refl w v
+symbols-apart made p before y c name new i (IsSymbolName.an_operator names a f is among e w) (IsSymbolName.an_input_operator m j js k v) = other_front 111 116 _ _ name refl w v
 
 pub symbol_name-high : (symbols : List Symbol) (c : Content) (name : List ℕ) → IsSymbolName symbols c name → (97 ≤ first_byte name) × (second_byte name ≤ 95)
 symbol_name-high symbols c name (IsSymbolName.an_input n is e w) = let p = ap first_byte w in let q = ap second_byte w in (omega (arith, p), omega (arith, q))
 symbol_name-high symbols c name (IsSymbolName.a_constant n is e w) = let p = ap first_byte w in let q = ap second_byte w in (omega (arith, p), omega (arith, q))
 symbol_name-high symbols c name (IsSymbolName.an_operator names a f is among e w) = let p = ap first_byte w in let q = ap second_byte w in (omega (arith, p), omega (arith, q))
-symbol_name-high symbols c name (IsSymbolName.an_input_operator n k is l e w) =
+symbol_name-high symbols c name (IsSymbolName.an_input_operator n k is e w) =
     let p = ap first_byte w in
     let q = ap second_byte w in
-    let r = front (decimal k) (codes "_" ++ mangled n) (decimal-some k) (first_digit-low (decimal k) (decimal-all k)) in
+    let r = front (numeral k) (codes "_" ++ mangled n) (numeral-some k) (first_digit-low (numeral k) (numeral-digits k)) in
     (omega (arith, p), omega (arith, q, r))
   where
     front : (ds rest : List ℕ) → 0 < length ds → first_byte ds ≤ 57 → first_byte (ds ++ rest) ≤ 57

@@ -1,5 +1,5 @@
 -- The modules of runs that take no symbols and whose steps all have proofs: they stand for their runs.
-use Rattle.std.proofs.Common.{◌≡◌, ℕ, ◌<◌, ◌^◌, List, [], ◌∷◌, length, Bool, true, false, Some, None, slice_get, refl, sym, ap, subst, ◌∙◌, arith}
+use Rattle.std.proofs.Common.{◌≡◌, ℕ, List, [], ◌∷◌, Bool, true, false, Some, None, slice_get, refl, sym, ap, subst, ◌∙◌}
 use Rattle.std.specs.List.{AllByRecursion}
 use Rattle.hol_spec.specs.Sequents.{Sequent}
 use Rattle.hol_spec.specs.Rules.{Parameters}
@@ -26,11 +26,10 @@ use Rattle.run_laws.specs.ExportOrder.{exports-are}
 use Rattle.run_laws.specs.Standing.{Always, origins-all, symbols, number, declared, item-stands, each-declaration}
 use Rattle.run_laws.specs.AcceptedRuns.{IsCarried, runs_are_carried}
 
--- a run that takes no symbols, whose steps all have proofs and are counted in a machine's word
+-- a run that takes no symbols, whose steps all have proofs
 pub record IsPrimitiveRun (run : Accepted) : Type 0 where
   pub symbols : symbols_of run.made ≡ []
   pub rows : AllByRecursion (λ (x : Step). has_row x.kind ≡ true) (steps_of run.made)
-  pub steps : length (steps_of run.made) < 2 ^ 64
 
 abbrev pub PrimitiveRunsStand : Type 0
 PrimitiveRunsStand = (articles : List (List ℕ)) (run : Accepted) → Run articles (accepted run) → IsPrimitiveRun run → Stands (image run) run
@@ -48,7 +47,7 @@ no_definition symbols number name false kind js ss g s f = absurd (cc)
 
 module _ (run : Accepted) (plain : IsPrimitiveRun run) where
   primitive-names : HasNames run
-  primitive-names = record { symbols = subst (AllByRecursion SymbolHasName) (sym plain.symbols) (tt {0}); steps = let few = plain.steps in omega (arith, few) }
+  primitive-names = record { symbols = subst (AllByRecursion SymbolHasName) (sym plain.symbols) (tt {0}) }
 
   row-at : (i : ℕ) (x : Step) → slice_get (steps_of run.made) i ≡ Some x → has_row x.kind ≡ true
   row-at i x at = All-get (λ (x : Step). has_row x.kind ≡ true) (steps_of run.made) i x plain.rows at
@@ -102,5 +101,5 @@ all-rows (Made.symbol x ∷ made) h = absurd h.0
 all-rows (Made.step x ∷ made) h = (h.0, all-rows made h.1)
 
 -- a run that makes steps with proofs alone is one of primitive symbols
-pub made-primitive : (run : Accepted) → AllByRecursion IsProvedStep run.made → length (steps_of run.made) < 2 ^ 64 → IsPrimitiveRun run
-made-primitive run h l = record { symbols = no-symbols run.made h; rows = all-rows run.made h; steps = l }
+pub made-primitive : (run : Accepted) → AllByRecursion IsProvedStep run.made → IsPrimitiveRun run
+made-primitive run h = record { symbols = no-symbols run.made h; rows = all-rows run.made h }

@@ -5,7 +5,6 @@ use Rattle.std.specs.Option.{option_map}
 use Rattle.std.specs.List.{AllByRecursion, cons_option}
 use Rattle.std.proofs.lemmas.List.{append-nil, length-append}
 use Rattle.std.proofs.lemmas.List.Elements.{filter_map-append}
-use Rattle.std.proofs.lemmas.Option.{slice_get_within}
 use Rattle.std.proofs.lemmas.Slice.Eq.{bytes_eq-Decides}
 use Rattle.hol_spec.specs.Sequents.{Sequent}
 use Rattle.hol_spec.specs.Rules.{Parameters}
@@ -37,7 +36,7 @@ use Rattle.module_spec.specs.MadeItems.{said_of, said_by, content_by, items_of, 
 use Rattle.module_spec.specs.Reach.{kept, renumbered_content, renumbered, keep_of, symbol_of, image_items}
 use Rattle.module_spec.specs.Image.{is_one_of, name_in, image}
 use Rattle.run_laws.specs.Origins.{Origin, HaveOrigins, made-origins}
-use Rattle.run_laws.specs.Named.{SymbolHasName, HasNames, AreSmall, first_byte, second_byte, IsStepName, step_name-is, step_name-low, same-step, is-assumed, ascend-long, assumed-long}
+use Rattle.run_laws.specs.Named.{SymbolHasName, HasNames, first_byte, second_byte, IsStepName, step_name-is, step_name-low, same-step, is-assumed}
 use Rattle.run_laws.specs.NewNames.{IsSymbolName, symbol_name-is, symbols-apart, symbol_name-high}
 use Rattle.run_laws.specs.AcceptedRuns.{IsCarried, runs_are_carried}
 use Rattle.module_laws.specs.AcceptedItems.{says-step}
@@ -104,7 +103,7 @@ module _ (run : Accepted) where
   high-low : (a : ℕ) → 97 ≤ a → a ≤ 84 → ⊥
   high-low a h l = omega (arith, h, l)
 
-  module _ (small : AreSmall run) (proof : IsProof run.made) where
+  module _ (proof : IsProof run.made) where
     item-apart : (before : List Item) (y z : Item) → IsNew before z.content → IsIn before y → Passed before y → Next before z → y.name ≡ z.name → ⊥
     item-apart before y z new i (IsItemName.by_symbol h) (IsItemName.by_symbol k) e =
         symbols-apart run.made proof before y z.content z.name new i (subst (IsSymbolName (symbols_of run.made) y.content) e h) k
@@ -113,7 +112,7 @@ module _ (run : Accepted) where
     item-apart before y z new i (IsItemName.by_step j x p at told k) (IsItemName.by_symbol h) e =
         high-low (first_byte z.name) (symbol_name-high (symbols_of run.made) z.content z.name h).0 (step_name-low run j x.kind z.name (subst (IsStepName run j x.kind) e k)).0
     item-apart before y z new i (IsItemName.by_step j x p at told k) (IsItemName.by_step l w q there told_other r) e =
-        let same = same-step run small j l x.kind w.kind z.name (slice_get_within (steps_of run.made) j x at) (slice_get_within (steps_of run.made) l w there) (subst (IsStepName run j x.kind) e k) r in
+        let same = same-step run j l x.kind w.kind z.name (subst (IsStepName run j x.kind) e k) r in
         omega (arith, p, q, same)
 
     items-apart : (before xs : List Item) → AllByRecursion (Passed before) before → AreMadeInOrder before xs → HaveNames run before xs → AreApart before xs
@@ -230,13 +229,6 @@ shaped-module m (d ∷ ds) sound h k =
     )
 
 module _ (run : Accepted) (named : HasNames run) (sound : IsSoundRun run) where
-  pub small-numbers : AreSmall run
-  small-numbers = record {
-    steps = named.steps;
-    exports = let l = ascend-long 0 (length (steps_of run.made)) run.exports sound.ascend in omega (arith, l, named.steps);
-    assumptions = let e = ap length sound.assumptions in let l = assumed-long 0 (steps_of run.made) in omega (arith, l, e, named.steps);
-  }
-
   pub items-named : (before xs : List Item) → HaveOrigins run run.made before xs → HaveNames run before xs
   items-named before [] h = tt
   items-named before (z ∷ zs) h = (item_name-is run named sound.assumptions (λ i. i ≡ length (said_by before)) z h.0, items-named (before ++ z ∷ []) zs h.1)
@@ -257,7 +249,7 @@ module _ (run : Accepted) (named : HasNames run) (sound : IsSoundRun run) where
       let symbols = item.symbols_of (image_items keep items) in
       let ds = map (declaration symbols) (image_items keep items) in
       let names = items-named [] items (made-origins run run.made) in
-      let distinct = apart-distinct [] items (items-apart run small-numbers sound.proof [] items (tt {0}) carried.in_order names) in
+      let distinct = apart-distinct [] items (items-apart run sound.proof [] items (tt {0}) carried.in_order names) in
       let other : HaveOtherNames ds = declared-other symbols (symbol_of keep) (kept keep items) (kept-distinct keep items distinct) in
       let low : AllByRecursion (λ (d : Declaration). second_byte d.name ≤ 95) ds =
       All-declared symbols (symbol_of keep) (λ n. second_byte n ≤ 95) (kept keep items) (All-kept keep (λ (z : Item). second_byte z.name ≤ 95) items (items-low [] items names)) in
@@ -265,7 +257,7 @@ module _ (run : Accepted) (named : HasNames run) (sound : IsSoundRun run) where
       (names-append signature lemmas ds (refl, (refl, tt {0}))
       (new-names (signature ++ lemmas) ds (All-weaker (λ (d : Declaration). second_byte d.name ≤ 95) _ (λ d l. reserved-other d.name l) ds low) other))
 
--- THE LAW: of a run whose names are bytes and whose steps are written differently
+-- THE LAW: of a run whose names are of bytes
 abbrev pub RunsAreModules : Type 0
 RunsAreModules = (articles : List (List ℕ)) (run : Accepted) → Run articles (accepted run) → HasNames run → IsModule (image run)
 

@@ -81,7 +81,7 @@ module _ (number : ℕ → ℕ) where
 
   name-renumbered : (ss : List Symbol) (c : Content) (name : List ℕ) → IsSymbolName ss c name → IsSymbolName ss (renumbered_content number c) name
   name-renumbered ss c name (IsSymbolName.an_input n is e w) = IsSymbolName.an_input n is (ap (renumbered_content number) e) w
-  name-renumbered ss c name (IsSymbolName.an_input_operator n k is l e w) = IsSymbolName.an_input_operator n k is l (ap (renumbered_content number) e) w
+  name-renumbered ss c name (IsSymbolName.an_input_operator n k is e w) = IsSymbolName.an_input_operator n k is (ap (renumbered_content number) e) w
   name-renumbered ss c name (IsSymbolName.a_constant n is e w) = IsSymbolName.a_constant n is (constant_named-renumbered c ∙ e) w
   name-renumbered ss c name (IsSymbolName.an_operator names a f is among e w) = IsSymbolName.an_operator names a f is among (ap (renumbered_content number) e) w
 
@@ -229,7 +229,7 @@ module _ (run : Accepted) (named : HasNames run) (sound : IsSoundRun run) where
 
         silent : (ss : List Symbol) (c : Content) (name : List ℕ) → IsSymbolName ss c name → (s : Sequent) → says c ≡ Some s → ⊥
         silent ss c name (IsSymbolName.an_input n is e w) s f = let g : None ≡ Some s = sym (ap says e) ∙ f in absurd (cc)
-        silent ss c name (IsSymbolName.an_input_operator n k is l e w) s f = let g : None ≡ Some s = sym (ap says e) ∙ f in absurd (cc)
+        silent ss c name (IsSymbolName.an_input_operator n k is e w) s f = let g : None ≡ Some s = sym (ap says e) ∙ f in absurd (cc)
         silent ss c name (IsSymbolName.a_constant n is e w) s f = silent-constant n c e s f
         silent ss c name (IsSymbolName.an_operator names a g is among e w) s f = let g : None ≡ Some s = sym (ap says e) ∙ f in absurd (cc)
     stand z meant (IsKind.saying i x at e) s f =

@@ -5,7 +5,7 @@
 //! | File | Laws of |
 //! |---|---|
 //! | `AcceptedRuns`, `ExportsKept` | the items of a run: made in order, so shaped, well typed and priced; each export is kept |
-//! | `Origins`, `NameLaws`, `Named`, `NewNames` | where each item comes from, what its name is, and that no two have one name |
+//! | `Origins`, `Named`, `NewNames` | where each item comes from, what its name is, and that no two have one name |
 //! | `RunModules` | the module of a run is a module |
 //! | `ExportOrder`, `ExportSteps` | its exports are the run's in order, and each restates a theorem |
 //! | `Meanings`, `Standing` | its symbols mean what they stand for, and its theorems stand for what they say |

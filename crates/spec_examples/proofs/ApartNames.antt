@@ -12,6 +12,7 @@ use Rattle.lp_spec.specs.Trees.{Tree, Var, Sym, App, Pi}
 use Rattle.lp_spec.specs.Modules.{symbol, types, bools, term_of, eq_of, proof_of}
 use Rattle.lp_spec.specs.Lemmas.{lemmas}
 use Rattle.module_spec.specs.Image.{image}
+use Rattle.module_spec.specs.Numerals.{numeral}
 use Rattle.spec_examples.proofs.SmallRuns.{takes, assumes, exports, theorem, own_lines, next, assumed, exported, alone}
 
 abbrev c : Name
@@ -38,7 +39,7 @@ its_module : image run ≡ lemmas
     ∷ symbol (codes "i_a__b__c") (Pi types (term_of (Var 0)))
     ∷ symbol (codes "A0") equal
     ∷ theorem (codes "E0") equal (Sym 17) ∷ []
-unfolding digits
+unfolding numeral
 its_module = refl
 
 its_lines : own_lines run
@@ -46,7 +47,7 @@ its_lines : own_lines run
     ∷ codes "i_a__b__c : v0 : type -> term v0"
     ∷ codes "A0 : proof (eq bool (i_a_2eb__c bool) (i_a__b__c bool))"
     ∷ codes "E0 : proof (eq bool (i_a_2eb__c bool) (i_a__b__c bool)) := A0" ∷ []
-unfolding digits
+unfolding digits numeral
 its_lines = refl
 
 is_a_proof : IsProof run.made

@@ -1,7 +1,6 @@
 -- A run that defines a constant, c as the identity of the truth values, and exports |- c = \x. x: the definition is the run's.
 use Rattle.std.proofs.Common.{◌≡◌, [], ◌∷◌, refl, arith, List}
 use Rattle.std.specs.Prelude.{Some, codes, map, slice_get}
-use Rattle.std.specs.Fmt.{digits}
 use Rattle.hol_spec.specs.Names.{Name}
 use Rattle.hol_spec.specs.Types.{HolType}
 use Rattle.hol_spec.specs.Primitives.{bool, function}
@@ -18,6 +17,7 @@ use Rattle.lp_spec.specs.Modules.{Declaration, bools, term_of, arr_of, arr_symbo
 use Rattle.module_spec.specs.Image.{image}
 use Rattle.module_spec.specs.OperatorMeaning.{truth_values, arrow}
 use Rattle.module_spec.specs.ConstantMeaning.{closed_bool, closed_function}
+use Rattle.module_spec.specs.Numerals.{numeral}
 use Rattle.module_spec.specs.TypeEnc.{Place, place, StandsForType}
 use Rattle.module_spec.specs.Stands.{IsDefined}
 use Rattle.article_spec.proofs.SmallArticles.{named}
@@ -51,11 +51,11 @@ abbrev definition : Declaration
 definition = record { name = codes "c_c"; form = Def; ty = term_of (arr_of bools bools); body = Some (Lam (term_of bools) (Var 0)) }
 
 its_declarations : map (λ d. d.name) m ≡ codes "sym" ∷ codes "trans" ∷ codes "c_c" ∷ codes "T0" ∷ codes "E0" ∷ []
-unfolding digits
+unfolding numeral
 its_declarations = refl
 
 the_definition : slice_get m 2 ≡ Some definition
-unfolding digits
+unfolding numeral
 the_definition = refl
 
 bool_stands : (at : Place) → StandsForType m closed_bool at bools

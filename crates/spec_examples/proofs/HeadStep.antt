@@ -11,6 +11,7 @@ use Rattle.lp_spec.specs.Trees.{Tree, Var, Sym, App, Lam, Pi}
 use Rattle.lp_spec.specs.Modules.{bools, eq_of, proof_of, refl_of}
 use Rattle.lp_spec.specs.Lemmas.{lemmas}
 use Rattle.module_spec.specs.Image.{image}
+use Rattle.module_spec.specs.Numerals.{numeral}
 use Rattle.spec_examples.proofs.SmallRuns.{p, I, TB, infers, exports, theorem, own_lines, next, exported, alone}
 
 abbrev redex : Term
@@ -35,13 +36,13 @@ stepped_type = Pi TB (proof_of (eq_of bools (App (Lam TB (App identity (Var 0)))
 its_module : image run ≡ lemmas
     ++ theorem (codes "T0") stepped_type (Lam TB (refl_of bools (App identity (Var 0))))
     ∷ theorem (codes "E0") stepped_type (Lam TB (App (Sym 15) (Var 0))) ∷ []
-unfolding digits
+unfolding numeral
 its_module = refl
 
 its_lines : own_lines run
     ≡ codes "T0 : v0 : term bool -> proof (eq bool ((v1 : term bool => (v2 : term bool => v2) v1) v0) ((v1 : term bool => v1) v0)) := v0 : term bool => refl bool ((v1 : term bool => v1) v0)"
     ∷ codes "E0 : v0 : term bool -> proof (eq bool ((v1 : term bool => (v2 : term bool => v2) v1) v0) ((v1 : term bool => v1) v0)) := v0 : term bool => T0 v0" ∷ []
-unfolding digits
+unfolding digits numeral
 its_lines = refl
 
 is_a_proof : IsProof run.made

@@ -16,3 +16,4 @@ pub mod TypesFirst
 pub mod VanishedVariable
 pub mod WeakenedRun
 pub mod WhatWasRead
+pub mod WordForms

@@ -15,6 +15,7 @@ use Rattle.lp_spec.specs.Trees.{Tree, Var, Sym, Lam, Pi}
 use Rattle.lp_spec.specs.Modules.{symbol, applied, bools, term_of, arr_of, eq_of, proof_of, refl_of}
 use Rattle.lp_spec.specs.Lemmas.{lemmas}
 use Rattle.module_spec.specs.Image.{image}
+use Rattle.module_spec.specs.Numerals.{numeral}
 use Rattle.spec_examples.proofs.SmallRuns.{name, truths, I, TB, infers, assumes, exports, theorem, definition, own_lines, next, assumed, exported, alone}
 
 abbrev v : Term
@@ -67,7 +68,7 @@ its_module : image run ≡ lemmas
     ∷ definition (codes "c_d") (term_of truth_functions) identity
     ∷ theorem (codes "T1") (is_identity (Sym 16)) (applied (Sym 15) (Sym 16 ∷ Sym 17 ∷ R ∷ R ∷ []))
     ∷ theorem (codes "E0") (is_identity (Sym 16)) (Sym 18) ∷ []
-unfolding digits
+unfolding numeral
 its_module = refl
 
 its_lines : own_lines run
@@ -76,7 +77,7 @@ its_lines : own_lines run
     ∷ codes "c_d : term (arr bool bool) := v0 : term bool => v0"
     ∷ codes "T1 : proof (eq (arr bool bool) c_c (v0 : term bool => v0)) := A0 c_c c_d (refl (arr bool bool) (v0 : term bool => v0)) (refl (arr bool bool) (v0 : term bool => v0))"
     ∷ codes "E0 : proof (eq (arr bool bool) c_c (v0 : term bool => v0)) := T1" ∷ []
-unfolding digits
+unfolding digits numeral
 its_lines = refl
 
 two_hypotheses : IsDistinct term_eq (equation truths v I ∷ equation truths w I ∷ [])

@@ -12,6 +12,7 @@ use Rattle.lp_spec.specs.Trees.{Tree, Var, Sym, Lam, Pi}
 use Rattle.lp_spec.specs.Modules.{symbol, applied, proof_of}
 use Rattle.lp_spec.specs.Lemmas.{lemmas}
 use Rattle.module_spec.specs.Image.{image}
+use Rattle.module_spec.specs.Numerals.{numeral}
 use Rattle.spec_examples.proofs.SmallRuns.{name, p, q, r, TB, infers, assumes, exports, theorem, own_lines, next, assumed, exported}
 
 abbrev apart : Sequent
@@ -41,14 +42,14 @@ its_module : image run ≡ lemmas
     ++ symbol (codes "A0") (Pi TB (Pi TB (Pi TB (Pi (proof_of (Var 2)) (Pi (proof_of (Var 2)) (proof_of (Var 2)))))))
     ∷ theorem (codes "T1") merged_type (merged_body (applied (Sym 15) (Var 2 ∷ Var 2 ∷ Var 1 ∷ Var 0 ∷ Var 0 ∷ [])))
     ∷ theorem (codes "E0") merged_type (merged_body (applied (Sym 16) (Var 2 ∷ Var 1 ∷ Var 0 ∷ []))) ∷ []
-unfolding digits
+unfolding numeral
 its_module = refl
 
 its_lines : own_lines run
     ≡ codes "A0 : v0 : term bool -> v1 : term bool -> v2 : term bool -> v3 : proof v0 -> v4 : proof v1 -> proof v2"
     ∷ codes "T1 : v0 : term bool -> v1 : term bool -> v2 : proof v0 -> proof v1 := v0 : term bool => v1 : term bool => v2 : proof v0 => A0 v0 v0 v1 v2 v2"
     ∷ codes "E0 : v0 : term bool -> v1 : term bool -> v2 : proof v0 -> proof v1 := v0 : term bool => v1 : term bool => v2 : proof v0 => T1 v0 v1 v2" ∷ []
-unfolding digits
+unfolding digits numeral
 its_lines = refl
 
 two_hypotheses : IsDistinct term_eq (p ∷ q ∷ [])

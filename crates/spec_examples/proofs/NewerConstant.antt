@@ -14,6 +14,7 @@ use Rattle.lp_spec.specs.Trees.{Tree, Var, Sym, Lam}
 use Rattle.lp_spec.specs.Modules.{bools, term_of, arr_of, eq_of, proof_of, refl_of}
 use Rattle.lp_spec.specs.Lemmas.{lemmas}
 use Rattle.module_spec.specs.Image.{image}
+use Rattle.module_spec.specs.Numerals.{numeral}
 use Rattle.spec_examples.proofs.SmallRuns.{name, truths, I, TB, infers, exports, theorem, definition, own_lines, next, exported, alone}
 
 abbrev c : Name
@@ -54,7 +55,7 @@ its_module : image run ≡ lemmas
     ∷ definition (codes "c_d") (term_of truth_functions) (Sym 15)
     ∷ theorem (codes "T1") (proof_of (eq_of truth_functions (Sym 16) (Sym 15))) (refl_of truth_functions (Sym 15))
     ∷ theorem (codes "E0") (proof_of (eq_of truth_functions (Sym 16) (Sym 15))) (Sym 17) ∷ []
-unfolding digits
+unfolding numeral
 its_module = refl
 
 its_lines : own_lines run
@@ -62,7 +63,7 @@ its_lines : own_lines run
     ∷ codes "c_d : term (arr bool bool) := c_c"
     ∷ codes "T1 : proof (eq (arr bool bool) c_d c_c) := refl (arr bool bool) c_c"
     ∷ codes "E0 : proof (eq (arr bool bool) c_d c_c) := T1" ∷ []
-unfolding digits
+unfolding digits numeral
 its_lines = refl
 
 I_defines : IsDefining truths I

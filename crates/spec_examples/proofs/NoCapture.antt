@@ -12,6 +12,7 @@ use Rattle.lp_spec.specs.Trees.{Tree, Var, Sym, App, Lam, Pi}
 use Rattle.lp_spec.specs.Modules.{symbol, types, bools, term_of, arr_of, proof_of}
 use Rattle.lp_spec.specs.Lemmas.{lemmas}
 use Rattle.module_spec.specs.Image.{image}
+use Rattle.module_spec.specs.Numerals.{numeral}
 use Rattle.spec_examples.proofs.SmallRuns.{name, boolean, truths, TB, takes, infers, assumes, exports, theorem, own_lines, next, assumed, exported, alone}
 
 -- u (\y. t)
@@ -43,7 +44,7 @@ its_module : image run ≡ lemmas
     ∷ symbol (codes "A0") of_free
     ∷ theorem (codes "T1") of_free (Lam TB (App (Sym 16) (Var 0)))
     ∷ theorem (codes "E0") of_free (Lam TB (App (Sym 17) (Var 0))) ∷ []
-unfolding digits
+unfolding numeral
 its_module = refl
 
 its_lines : own_lines run
@@ -51,7 +52,7 @@ its_lines : own_lines run
     ∷ codes "A0 : v0 : term bool -> proof (i_u (arr (arr bool bool) bool) (v1 : term bool => v0))"
     ∷ codes "T1 : v0 : term bool -> proof (i_u (arr (arr bool bool) bool) (v1 : term bool => v0)) := v0 : term bool => A0 v0"
     ∷ codes "E0 : v0 : term bool -> proof (i_u (arr (arr bool bool) bool) (v1 : term bool => v0)) := v0 : term bool => T1 v0" ∷ []
-unfolding digits
+unfolding digits numeral
 its_lines = refl
 
 is_a_proof : IsProof run.made

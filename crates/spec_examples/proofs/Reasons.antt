@@ -1,7 +1,6 @@
 -- Why a declaration may have no body: a run that takes an input constant and an input operator, and makes the type t of the truth values.
 use Rattle.std.proofs.Common.{[], ◌∷◌, refl, arith, List}
 use Rattle.std.specs.Prelude.{codes}
-use Rattle.std.specs.Fmt.{digits}
 use Rattle.hol_spec.specs.Primitives.{bool}
 use Rattle.hol_spec.specs.Terms.{Term}
 use Rattle.hol_spec.specs.Definitions.{Definition, TypeNames}
@@ -13,6 +12,7 @@ use Rattle.lp_spec.specs.Modules.{Declaration, symbol, types, bools, term_of, ar
 use Rattle.module_spec.specs.OperatorMeaning as operators
 use Rattle.module_spec.specs.OperatorMeaning.{MeansOperator, truth_values, arrow}
 use Rattle.module_spec.specs.ConstantMeaning.{closed_bool}
+use Rattle.module_spec.specs.Numerals.{numeral}
 use Rattle.module_spec.specs.TypeEnc.{Place, place, StandsForType}
 use Rattle.module_spec.specs.Stands.{IsGiven}
 use Rattle.article_spec.proofs.SmallArticles.{named}
@@ -45,7 +45,7 @@ an_input_constant : IsGiven m run (symbol (codes "i_n") (Pi types (term_of (Var 
 an_input_constant = IsGiven.input_constant (named (codes "n")) (0, (omega arith, refl))
 
 an_input_operator : IsGiven m run (symbol (codes "t1_list") (Pi types types))
-unfolding digits
+unfolding numeral
 an_input_operator = IsGiven.input_operator (named (codes "list")) 1 (1, (omega arith, refl))
 
 a_type_operator : IsGiven m run (symbol (codes "o_t") types)

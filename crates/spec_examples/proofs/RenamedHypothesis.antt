@@ -13,6 +13,7 @@ use Rattle.lp_spec.specs.Trees.{Tree, Var, Sym, App, Lam, Pi}
 use Rattle.lp_spec.specs.Modules.{symbol, applied, types, bools, term_of, arr_of, eq_of, proof_of, prop_ext_symbol}
 use Rattle.lp_spec.specs.Lemmas.{lemmas}
 use Rattle.module_spec.specs.Image.{image}
+use Rattle.module_spec.specs.Numerals.{numeral}
 use Rattle.spec_examples.proofs.SmallRuns.{name, boolean, p, truths, TB, takes, infers, assumes, exports, theorem, own_lines, next, assumed, exported, alone}
 
 -- u of the identity, whose variable has this name
@@ -48,7 +49,7 @@ its_module : image run ≡ lemmas
     ∷ theorem (codes "T2") removed_type
     (Lam TB (applied (Sym prop_ext_symbol) (Var 0 ∷ U ∷ Lam (proof_of (Var 0)) (Sym 17) ∷ Lam (proof_of U) (applied (Sym 16) (Var 1 ∷ Var 0 ∷ [])) ∷ [])))
     ∷ theorem (codes "E0") removed_type (Lam TB (App (Sym 18) (Var 0))) ∷ []
-unfolding digits
+unfolding numeral
 its_module = refl
 
 its_lines : own_lines run
@@ -57,7 +58,7 @@ its_lines : own_lines run
     ∷ codes "A1 : proof (i_u (arr (arr bool bool) bool) (v0 : term bool => v0))"
     ∷ codes "T2 : v0 : term bool -> proof (eq bool v0 (i_u (arr (arr bool bool) bool) (v1 : term bool => v1))) := v0 : term bool => prop_ext v0 (i_u (arr (arr bool bool) bool) (v1 : term bool => v1)) (v1 : proof v0 => A1) (v1 : proof (i_u (arr (arr bool bool) bool) (v1 : term bool => v1)) => A0 v0 v1)"
     ∷ codes "E0 : v0 : term bool -> proof (eq bool v0 (i_u (arr (arr bool bool) bool) (v1 : term bool => v1))) := v0 : term bool => T2 v0" ∷ []
-unfolding digits
+unfolding digits numeral
 its_lines = refl
 
 one_hypothesis : IsDistinct term_eq (u_of (codes "y") ∷ [])

@@ -16,6 +16,7 @@ use Rattle.lp_spec.specs.Trees.{Tree, Var, Sym, App, Lam, Pi}
 use Rattle.lp_spec.specs.Modules.{symbol, applied, types, term_of, arr_of, eq_of, proof_of}
 use Rattle.lp_spec.specs.Lemmas.{lemmas}
 use Rattle.module_spec.specs.Image.{image}
+use Rattle.module_spec.specs.Numerals.{numeral}
 use Rattle.spec_examples.proofs.SmallRuns.{name, infers, assumes, exports, theorem, own_lines, next, assumed, exported, alone}
 
 abbrev names : TypeNames
@@ -71,7 +72,7 @@ its_module : image run ≡ lemmas
     ∷ symbol (codes "c_dest") (Pi types (Pi types (term_of (arr_of (two_of (Var 1) (Var 0)) (arr_of (Var 0) (Var 1))))))
     ∷ symbol (codes "L1") first_type
     ∷ theorem (codes "E0") first_type (Lam types (Lam types (applied (Sym 18) (Var 1 ∷ Var 0 ∷ [])))) ∷ []
-unfolding digits
+unfolding numeral
 its_module = refl
 
 its_lines : own_lines run
@@ -80,7 +81,7 @@ its_lines : own_lines run
     ∷ codes "c_dest : v0 : type -> v1 : type -> term (arr (o_two v0 v1) (arr v1 v0))"
     ∷ codes "L1 : v0 : type -> v1 : type -> proof (eq (arr (o_two v0 v1) (o_two v0 v1)) (v2 : term (o_two v0 v1) => c_mk v1 v0 (c_dest v0 v1 v2)) (v2 : term (o_two v0 v1) => v2))"
     ∷ codes "E0 : v0 : type -> v1 : type -> proof (eq (arr (o_two v0 v1) (o_two v0 v1)) (v2 : term (o_two v0 v1) => c_mk v1 v0 (c_dest v0 v1 v2)) (v2 : term (o_two v0 v1) => v2)) := v0 : type => v1 : type => L1 v0 v1" ∷ []
-unfolding digits
+unfolding digits numeral
 its_lines = refl
 
 is_a_definition : IsTypeDefinition names functions holds one_holds

@@ -13,6 +13,7 @@ use Rattle.lp_spec.specs.Trees.{Tree, Var, Sym, App, Lam, Pi}
 use Rattle.lp_spec.specs.Modules.{symbol, applied, types, bools, term_of, arr_of, proof_of}
 use Rattle.lp_spec.specs.Lemmas.{lemmas}
 use Rattle.module_spec.specs.Image.{image}
+use Rattle.module_spec.specs.Numerals.{numeral}
 use Rattle.spec_examples.proofs.SmallRuns.{name, boolean, q, TB, takes, infers, assumes, exports, theorem, own_lines, next, assumed, exported, alone}
 
 abbrev a : HolType
@@ -49,7 +50,7 @@ its_module : image run ≡ lemmas
     ∷ symbol (codes "A0") (Pi types (Pi (term_of (Var 0)) (Pi TB (proof_of (k_tree (Var 2) (Var 1) (Var 0))))))
     ∷ theorem (codes "T1") special_type (Lam TB (applied (Sym 16) (bools ∷ Var 0 ∷ Var 0 ∷ [])))
     ∷ theorem (codes "E0") special_type (Lam TB (App (Sym 17) (Var 0))) ∷ []
-unfolding digits
+unfolding numeral
 its_module = refl
 
 its_lines : own_lines run
@@ -57,7 +58,7 @@ its_lines : own_lines run
     ∷ codes "A0 : v0 : type -> v1 : term v0 -> v2 : term bool -> proof (i_k (arr v0 (arr bool bool)) v1 v2)"
     ∷ codes "T1 : v0 : term bool -> proof (i_k (arr bool (arr bool bool)) v0 v0) := v0 : term bool => A0 bool v0 v0"
     ∷ codes "E0 : v0 : term bool -> proof (i_k (arr bool (arr bool bool)) v0 v0) := v0 : term bool => T1 v0" ∷ []
-unfolding digits
+unfolding digits numeral
 its_lines = refl
 
 is_a_proof : IsProof run.made

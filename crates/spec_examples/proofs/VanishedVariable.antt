@@ -13,6 +13,7 @@ use Rattle.lp_spec.specs.Trees.{Tree, Var, Sym, App, Lam, Pi}
 use Rattle.lp_spec.specs.Modules.{symbol, applied, types, bools, term_of, arr_of, eq_of, proof_of, select_symbol}
 use Rattle.lp_spec.specs.Lemmas.{lemmas}
 use Rattle.module_spec.specs.Image.{image}
+use Rattle.module_spec.specs.Numerals.{numeral}
 use Rattle.spec_examples.proofs.SmallRuns.{name, p, r, TB, takes, infers, assumes, exports, theorem, own_lines, next, assumed, exported, alone}
 
 abbrev a : HolType
@@ -56,7 +57,7 @@ its_module : image run ≡ lemmas
     (Lam TB (Lam TB (applied (Sym 14)
     (bools ∷ Var 1 ∷ App (n_at bools) S ∷ Var 0 ∷ applied (Sym 16) (bools ∷ Var 1 ∷ S ∷ []) ∷ applied (Sym 17) (bools ∷ S ∷ Var 0 ∷ []) ∷ []))))
     ∷ theorem (codes "E0") joined_type (Lam TB (Lam TB (applied (Sym 18) (Var 1 ∷ Var 0 ∷ [])))) ∷ []
-unfolding digits
+unfolding numeral
 its_module = refl
 
 its_lines : own_lines run
@@ -65,7 +66,7 @@ its_lines : own_lines run
     ∷ codes "A1 : v0 : type -> v1 : term v0 -> v2 : term bool -> proof (eq bool (i_n (arr v0 bool) v1) v2)"
     ∷ codes "T2 : v0 : term bool -> v1 : term bool -> proof (eq bool v0 v1) := v0 : term bool => v1 : term bool => trans bool v0 (i_n (arr bool bool) (select bool (v2 : term bool => eq bool v2 v2))) v1 (A0 bool v0 (select bool (v2 : term bool => eq bool v2 v2))) (A1 bool (select bool (v2 : term bool => eq bool v2 v2)) v1)"
     ∷ codes "E0 : v0 : term bool -> v1 : term bool -> proof (eq bool v0 v1) := v0 : term bool => v1 : term bool => T2 v0 v1" ∷ []
-unfolding digits
+unfolding digits numeral
 its_lines = refl
 
 is_a_proof : IsProof run.made

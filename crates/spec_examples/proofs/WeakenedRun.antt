@@ -17,6 +17,7 @@ use Rattle.module_spec.specs.OperatorMeaning.{truth_values}
 use Rattle.module_spec.specs.ConstantMeaning.{closed_bool}
 use Rattle.module_spec.specs.TypeEnc.{Place, place, StandsForType}
 use Rattle.module_spec.specs.Enc.{Enc}
+use Rattle.module_spec.specs.Numerals.{numeral}
 use Rattle.module_spec.specs.Stands.{uses, IsGiven, IsReached, IsUnproved}
 use Rattle.article_spec.proofs.SmallArticles.{boolean}
 use Rattle.spec_examples.proofs.SmallRuns.{own_lines}
@@ -68,21 +69,21 @@ m = image run
 
 -- after the two lemmas
 its_declarations : map (λ d. d.name) m ≡ codes "sym" ∷ codes "trans" ∷ codes "A0" ∷ codes "E0" ∷ []
-unfolding digits
+unfolding numeral
 its_declarations = refl
 
 the_assumption : slice_get m 2 ≡ Some assumption
-unfolding digits
+unfolding numeral
 the_assumption = refl
 
 the_export : slice_get m 3 ≡ Some export
-unfolding digits
+unfolding numeral
 the_export = refl
 
 its_lines : own_lines run
     ≡ codes "A0 : v0 : term bool -> v1 : term bool -> v2 : proof v0 -> proof v1"
     ∷ codes "E0 : v0 : term bool -> v1 : term bool -> v2 : term bool -> v3 : proof v0 -> v4 : proof v1 -> proof v2 := v0 : term bool => v1 : term bool => v2 : term bool => v3 : proof v0 => v4 : proof v1 => A0 v0 v2 v3" ∷ []
-unfolding digits
+unfolding digits numeral
 its_lines = refl
 
 -- what the types stand for
@@ -115,7 +116,7 @@ its_body : uses export (length signature + 2) ≡ true
 its_body = refl
 
 unproved : IsUnproved m run 2 assumption
-unfolding digits
+unfolding numeral
 unproved = record {
   given = IsGiven.assumption 0 0 assumed_type refl assumed_encoded;
   reached = IsReached.used 3 export (IsReached.export export the_export refl) the_export its_body;

@@ -16,8 +16,7 @@ use Rattle.article_spec.specs.declared.commands.Item.TheVariants as item
 use Rattle.article_spec.specs.Numbers.{number_of, is_in_range}
 use Rattle.article_spec.specs.Words.{word_of}
 use Rattle.article_spec.specs.Contents.{Content, skipped, command, faulty, is_blank, drop_blanks, trimmed, number_sign, number_content, as_name, as_word, item_content, said, content}
-use Rattle.article_spec.specs.Lines.{newline, command_at, EndedLine, Opens, open_line, skips, gives, End, Lines, last_skipped, last_gives, last_faults, stops}
-use Rattle.standing_laws.specs.FewCommands.{IsEnded}
+use Rattle.article_spec.specs.Lines.{newline, command_at, EndedLine, Opens, open_line, skips, gives, End, ended, refused, Lines, last_skipped, last_gives, last_faults, stops}
 
 -- the components that a text of bytes writes
 component-bytes : {text bytes : List ℕ} → IsComponent text bytes → AreBytes text → AreBytes bytes
@@ -122,6 +121,11 @@ opens-named n o text commands m p rest (gives {line = line} {more = more} {i = i
     let b = line-bytes l h in
     let later = opens-named (n + 1) (o + length line + 1) more cs m p rest r b.1 in
     ((content-named line i b.0 l.means, later.0), later.1)
+
+-- the end of a text without a line at fault
+abbrev pub IsEnded : End → Type 0
+IsEnded (ended n) = Unit {0}
+IsEnded (refused n k) = ⊥
 
 -- THE COMMANDS OF A TEXT OF BYTES
 pub lines-named : (text : List ℕ) (commands : List Command) (end : End) → Lines text commands end → IsEnded end → AreBytes text → AreNamedCommands commands

@@ -1,7 +1,6 @@
 pub mod ByteNames
 pub mod CountedModules
 pub mod CountedRows
-pub mod FewCommands
 pub mod ItemUses
 pub mod Keys
 pub mod LackingTrees

@@ -1,5 +1,5 @@
 -- The words that define keep the names of a state: what they define is named by name objects.
-use Rattle.std.proofs.Common.{◌≡◌, ℕ, List, [], ◌∷◌, map, length, Option, None, Some, Ok, arith}
+use Rattle.std.proofs.Common.{◌≡◌, ℕ, List, [], ◌∷◌, map, length, Option, None, Some, Ok}
 use Rattle.std.specs.Prelude.{not, nat_eq}
 use Rattle.std.specs.Option.{ok_or, option_map}
 use Rattle.std.specs.List.{AllByRecursion, filter_map, cons_option, list_all, list_any}
@@ -22,19 +22,19 @@ use Rattle.article_spec.specs.State.{Object, State}
 use Rattle.article_spec.specs.State as object
 use Rattle.article_spec.specs.Operands.{as_name, as_names, as_term, as_theorem, as_constant_pairs, pop}
 use Rattle.article_spec.specs.Conditions.{demand, in_limits, typed}
-use Rattle.article_spec.specs.Changes.{with_stack, with_symbols, with_theorem, next_step}
+use Rattle.article_spec.specs.Changes.{with_stack, with_symbols, with_theorem}
 use Rattle.article_spec.specs.Inference.{step_by}
 use Rattle.article_spec.specs.DefiningWords.{define_const, constant_objects, define_const_list, application_parts, predicate_fits, are_new_names, make_type, define_type, define_type_op}
 use Rattle.article_laws.specs.SoundStates.{bound, passed}
 use Rattle.run_laws.specs.Named.{SymbolHasName}
-use Rattle.standing_laws.specs.NamedStates.{AreNamed, AreNamedStacked, IsNamedState, Follows, IsNamedPair, name-gives, constant_pairs-gives, pop-gives, popped, answers, with_symbols-count, with_symbols-named, with_step-count, with_step-named, concluded}
+use Rattle.standing_laws.specs.NamedStates.{AreNamed, AreNamedStacked, IsNamedState, IsNamedPair, name-gives, constant_pairs-gives, pop-gives, popped, answers, with_symbols-named, with_step-named, concluded}
 
 -- the state with another stack, and with symbols that are taken
 defining : (s : State) (xs : List Symbol) (stack : List Object) → IsNamedState s → AreNamedStacked stack → AllByRecursion SymbolHasName xs → IsNamedState (with_symbols (with_stack s stack) xs)
 defining s xs stack g h k = with_symbols-named (with_stack s stack) xs (record { stack = h; dictionary = g.dictionary; made = g.made }) k
 
 -- defineConst: the constant has the name that was popped
-pub define_const-named : (s t : State) → IsNamedState s → define_const s ≡ Ok t → Follows s t
+pub define_const-named : (s t : State) → IsNamedState s → define_const s ≡ Ok t → IsNamedState t
 define_const-named s t g e =
     let symbols = symbols_of s.made in
     let u = bound (pop as_term s.stack) _ t e in
@@ -46,8 +46,8 @@ define_const-named s t g e =
     let k = pop-gives as_name IsName name-gives u.0.1 n.0 (popped as_term s.stack u.0 g.stack u.1) n.1 in
     let xs = defined (Definition.constant n.0.0 u.0.0) ∷ [] in
     let stack = object.constant n.0.0 ∷ n.0.1 in
-    concluded s (with_symbols (with_stack s stack) xs) t (step_by by_rule.DefineConst [] (Parameters.constant n.0.0 u.0.0) (derived [] (equation a.0 (Term.constant n.0.0 a.0) u.0.0)))
-    (with_symbols-count (with_stack s stack) xs) (defining s xs stack g k (k.0, tt {0})) variables.2
+    concluded (with_symbols (with_stack s stack) xs) t (step_by by_rule.DefineConst [] (Parameters.constant n.0.0 u.0.0) (derived [] (equation a.0 (Term.constant n.0.0 a.0) u.0.0)))
+    (defining s xs stack g k (k.0, tt {0})) variables.2
 
 -- the definitions of named pairs, and their constants
 definitions-named : (d : Variable → Option Term) (pairs : ConstantPairs) → AllByRecursion IsNamedPair pairs → AllByRecursion SymbolHasName (map defined (filter_map (λ p. option_map (Definition.constant p.0) (d p.1)) pairs))
@@ -64,7 +64,7 @@ constant_objects-named [] h = tt
 constant_objects-named (p ∷ ps) h = (h.0.0, constant_objects-named ps h.1)
 
 -- defineConstList: each constant has the name of its pair
-pub define_const_list-named : (s t : State) → IsNamedState s → define_const_list s ≡ Ok t → Follows s t
+pub define_const_list-named : (s t : State) → IsNamedState s → define_const_list s ≡ Ok t → IsNamedState t
 define_const_list-named s t g e =
     let symbols = symbols_of s.made in
     let i = bound (pop as_theorem s.stack) _ t e in
@@ -79,15 +79,15 @@ define_const_list-named s t g e =
     let k = pop-gives as_constant_pairs (AllByRecursion IsNamedPair) constant_pairs-gives i.0.1 p.0 (popped as_theorem s.stack i.0 g.stack i.1) p.1 in
     let xs = map defined (definitions_in pairs one.hypotheses) in
     let stack = object.list (constant_objects (names_of pairs)) ∷ p.0.1 in
-    concluded s (with_symbols (with_stack s stack) xs) t (step_by by_rule.DefineConstList (i.0.0 ∷ []) (constants pairs) (derived [] (sub [] (constants_put pairs) one.conclusion)))
-    (with_symbols-count (with_stack s stack) xs) (defining s xs stack g (constant_objects-named pairs k.0, k.1) (definitions-named (definiens pairs one.hypotheses) pairs k.0)) good.2
+    concluded (with_symbols (with_stack s stack) xs) t (step_by by_rule.DefineConstList (i.0.0 ∷ []) (constants pairs) (derived [] (sub [] (constants_put pairs) one.conclusion)))
+    (defining s xs stack g (constant_objects-named pairs k.0, k.1) (definitions-named (definiens pairs one.hypotheses) pairs k.0)) good.2
 
 -- the three names of a type operator that is defined
 abbrev AreTypeNames : TypeNames → Type 0
 AreTypeNames names = IsName names.operator × IsName names.abstraction × IsName names.representation
 
 -- defineTypeOp: the operator and its two constants have the names that were popped, and two steps are made
-make_type-named : (s t : State) (names : TypeNames) (i : ℕ) (c : HolType) (f : Term) → IsNamedState s → AreTypeNames names → make_type s names i c f ≡ Ok t → Follows s t
+make_type-named : (s t : State) (names : TypeNames) (i : ℕ) (c : HolType) (f : Term) → IsNamedState s → AreTypeNames names → make_type s names i c f ≡ Ok t → IsNamedState t
 make_type-named s t names i c f g h e =
     let measures = type_measure (new_type names) ∷ type_measure (abstraction_type names c) ∷ type_measure (representation_type names c) ∷ sequent_measure (first_law names c) ∷ sequent_measure (second_law names c f) ∷ [] in
     let limits = passed (in_limits measures) _ t e in
@@ -99,16 +99,9 @@ make_type-named s t names i c f g h e =
     let v = with_theorem u first in
     let named = defining s xs stack g (h.2, (h.1, (h.0, g.stack))) (h, tt {0}) in
     let two = with_step-named v second (record { stack = (tt {0}, named.stack); dictionary = named.dictionary; made = (with_step-named u first named).made }) in
-    answers s (with_theorem v second) t limits.2 (record {
-      named = record { stack = (tt {0}, (tt {0}, named.stack)); dictionary = two.dictionary; made = two.made };
-      few =
-          let zero = with_symbols-count (with_stack s stack) xs in
-          let one = with_step-count (with_stack u (object.theorem (next_step u) ∷ u.stack)) first in
-          let more = with_step-count (with_stack v (object.theorem (next_step v) ∷ v.stack)) second in
-          omega (arith, zero, one, more);
-    })
+    answers (with_theorem v second) t limits.2 (record { stack = (tt {0}, (tt {0}, named.stack)); dictionary = two.dictionary; made = two.made })
 
-define_type-named : (s t : State) (names : TypeNames) (i : ℕ) → IsNamedState s → AreTypeNames names → define_type s names i ≡ Ok t → Follows s t
+define_type-named : (s t : State) (names : TypeNames) (i : ℕ) → IsNamedState s → AreTypeNames names → define_type s names i ≡ Ok t → IsNamedState t
 define_type-named s t names i g h e =
     let one = sequent_at s.made i in
     let new = passed (are_new_names (symbols_of s.made) names) _ t e in
@@ -118,7 +111,7 @@ define_type-named s t names i g h e =
     let c = bound (typed parts.0.1) _ t parts.2 in
     make_type-named s t names i c.0 parts.0.0 g h c.2
 
-pub define_type_op-named : (s t : State) → IsNamedState s → define_type_op s ≡ Ok t → Follows s t
+pub define_type_op-named : (s t : State) → IsNamedState s → define_type_op s ≡ Ok t → IsNamedState t
 define_type_op-named s t g e =
     let i = bound (pop as_theorem s.stack) _ t e in
     let v = bound (pop as_names i.0.1) _ t i.2 in
@@ -128,6 +121,5 @@ define_type_op-named s t g e =
     let h = pop-gives as_name IsName name-gives v.0.1 r.0 (popped as_names i.0.1 v.0 (popped as_theorem s.stack i.0 g.stack i.1) v.1) r.1 in
     let k = pop-gives as_name IsName name-gives r.0.1 a.0 h.1 a.1 in
     let l = pop-gives as_name IsName name-gives a.0.1 o.0 k.1 o.1 in
-    let next = define_type-named (with_stack s o.0.1) t (record { operator = o.0.0; abstraction = a.0.0; representation = r.0.0; variables = v.0.0 }) i.0.0
-    (record { stack = l.1; dictionary = g.dictionary; made = g.made }) (l.0, k.0, h.0) o.2 in
-    record { named = next.named; few = next.few }
+    define_type-named (with_stack s o.0.1) t (record { operator = o.0.0; abstraction = a.0.0; representation = r.0.0; variables = v.0.0 }) i.0.0
+    (record { stack = l.1; dictionary = g.dictionary; made = g.made }) (l.0, k.0, h.0) o.2

@@ -1,5 +1,5 @@
--- Every accepted run over so few articles of bytes has names, so its module stands for it.
-use Rattle.std.proofs.Common.{◌≡◌, ℕ, ◌+◌, ◌*◌, ◌<◌, ◌≤◌, ◌^◌, ℤ, List, [], ◌∷◌, length, Result, Ok, None, Some, refl, sym, ap, subst, ◌∙◌, arith}
+-- Every accepted run over articles of bytes has names, so its module stands for it.
+use Rattle.std.proofs.Common.{◌≡◌, ℕ, ◌+◌, ℤ, List, [], ◌∷◌, Result, Ok, None, Some, refl, sym, ap, subst, ◌∙◌}
 use Rattle.std.specs.Prelude.{pos, drop}
 use Rattle.std.specs.List.{AllByRecursion}
 use Rattle.std.specs.Ordering.{int_eq, int_cmp}
@@ -7,13 +7,13 @@ use Rattle.std.specs.FinMap as entries
 use Rattle.bridge_base.specs.declared.faults.Kind.{Kind}
 use Rattle.bridge_base.specs.declared.faults.Kind.TheVariants.{VersionPlace}
 use Rattle.hol_spec.specs.Mangling.{AreBytes}
-use Rattle.hol_spec.specs.Proofs.{Made, symbols_of, steps_of, Accepted}
+use Rattle.hol_spec.specs.Proofs.{Made, symbols_of, Accepted}
 use Rattle.article_spec.specs.declared.commands.Command.{Command}
 use Rattle.article_spec.specs.declared.commands.Item.{Item}
 use Rattle.article_spec.specs.declared.commands.Item.TheVariants as item
 use Rattle.article_spec.specs.declared.commands.Word.{Word}
 use Rattle.article_spec.specs.declared.commands.Word.TheVariants as word
-use Rattle.article_spec.specs.Lines.{max_article, End, ended, refused, Lines}
+use Rattle.article_spec.specs.Lines.{End, ended, refused, Lines}
 use Rattle.article_spec.specs.State.{Object, State, Place, start, version, body, initial}
 use Rattle.article_spec.specs.Conditions.{demand}
 use Rattle.article_spec.specs.Step.{obey, step_at, step, is_version, is_body, finish}
@@ -23,9 +23,8 @@ use Rattle.article_laws.specs.SoundStates as sound
 use Rattle.module_spec.specs.Image.{image}
 use Rattle.module_spec.specs.Stands.{Stands}
 use Rattle.run_laws.specs.Named.{SymbolHasName, HasNames}
-use Rattle.standing_laws.specs.ByteNames.{IsNamedItem, AreNamedCommands, lines-named}
-use Rattle.standing_laws.specs.FewCommands.{IsEnded, lines-few}
-use Rattle.standing_laws.specs.NamedStates.{IsNamed, AreNamedStacked, AreNamedMade, IsNamedState, step_count, Follows, answers}
+use Rattle.standing_laws.specs.ByteNames.{IsNamedItem, AreNamedCommands, IsEnded, lines-named}
+use Rattle.standing_laws.specs.NamedStates.{IsNamed, AreNamedStacked, AreNamedMade, IsNamedState, answers}
 use Rattle.standing_laws.specs.NamedBuilding.{nil-named, cons-named, hd_tl-named, type_op-named, var_type-named, op_type-named, const-named, const_term-named, var-named, var_term-named, app_term-named, abs_term-named, def-named, ref-named, remove-named, drop_object-named}
 use Rattle.standing_laws.specs.NamedInference.{refl-named, assume-named, eq_mp-named, abs_thm-named, app_thm-named, deduct_antisym-named, beta_conv-named, sym-named, trans-named, prove_hyp-named, subst-named, axiom-named, thm-named}
 use Rattle.standing_laws.specs.NamedDefining.{define_const-named, define_const_list-named, define_type_op-named}
@@ -33,7 +32,7 @@ use Rattle.standing_laws.specs.StandingRuns.{runs_stand}
 use Rattle.article_laws.specs.SoundSteps.{on_line}
 
 -- WORDS
-obey-named : (s t : State) (w : Word) → IsNamedState s → obey s w ≡ Ok t → Follows s t
+obey-named : (s t : State) (w : Word) → IsNamedState s → obey s w ≡ Ok t → IsNamedState t
 obey-named s t word.Version g e = absurd (cc)
 obey-named s t word.Nil g e = nil-named s t g e
 obey-named s t word.Cons g e = cons-named s t g e
@@ -70,14 +69,11 @@ obey-named s t word.Axiom g e = axiom-named s t g e
 obey-named s t word.Thm g e = thm-named s t g e
 
 -- the same made and the same dictionary, another stack and another place
-placed : (s u t : State) → ◌≡◌ {A = Result State Kind} (Ok u) (Ok t) → IsNamedState s → u.made ≡ s.made → u.dictionary ≡ s.dictionary → AreNamedStacked u.stack → Follows s t
-placed s u t e g same dictionary stack = answers s u t e (record {
-  named = record {
-    stack = stack;
-    dictionary = λ k x f. g.dictionary k x (ap (λ d. entries.get d k) (sym dictionary) ∙ f);
-    made = subst AreNamedMade (sym same) g.made;
-  };
-  few = let count = ap (λ m. length (steps_of m)) same in omega (arith, count);
+placed : (s u t : State) → ◌≡◌ {A = Result State Kind} (Ok u) (Ok t) → IsNamedState s → u.made ≡ s.made → u.dictionary ≡ s.dictionary → AreNamedStacked u.stack → IsNamedState t
+placed s u t e g same dictionary stack = answers u t e (record {
+  stack = stack;
+  dictionary = λ k x f. g.dictionary k x (ap (λ d. entries.get d k) (sym dictionary) ∙ f);
+  made = subst AreNamedMade (sym same) g.made;
 })
 
 -- the stack without its top
@@ -86,7 +82,7 @@ dropped [] h = tt
 dropped (x ∷ xs) h = h.1
 
 -- COMMANDS
-step_at-named : (s t : State) (p : Place) (i : Item) → IsNamedState s → IsNamedItem i → step_at p s i ≡ Ok t → Follows s t
+step_at-named : (s t : State) (p : Place) (i : Item) → IsNamedState s → IsNamedItem i → step_at p s i ≡ Ok t → IsNamedState t
 step_at-named s t start (item.Number z) g h e = let six = sound.passed (demand (int_eq z (pos 6)) VersionPlace) _ t e in placed s _ t six.2 g refl refl (tt {0}, g.stack)
 step_at-named s t start (item.Name n) g h e = absurd (cc)
 step_at-named s t start (item.Word w) g h e = absurd (cc)
@@ -101,67 +97,48 @@ step_at-named s t body (item.Word w) g h e = obey-named s t w g e
 nothing-kept : (k : ℤ) (x : Object) → entries.get {K = ℤ} {X = Object} {R = int_cmp} entries.empty k ≡ Some x → IsNamed x
 nothing-kept k x e = let f : entries.get {K = ℤ} {X = Object} {R = int_cmp} entries.empty k ≡ None = simp entries.gets in absurd (cc)
 
-finish-named : (s t : State) → IsNamedState s → finish s ≡ Ok t → Follows s t
+finish-named : (s t : State) → IsNamedState s → finish s ≡ Ok t → IsNamedState t
 finish-named s t g e =
     let ends = sound.passed (demand (is_body s.place) VersionPlace) _ t e in
-    answers s _ t ends.2 (record { named = record { stack = tt {0}; dictionary = nothing-kept; made = g.made }; few = omega arith })
+    answers _ t ends.2 (record { stack = tt {0}; dictionary = nothing-kept; made = g.made })
 
 initial-named : IsNamedState initial
 initial-named = record { stack = tt {0}; dictionary = nothing-kept; made = tt {0} }
 
--- what commands make: names are kept, and steps are few
-record Makes (s t : State) (steps : ℕ) : Type 0 where
-  named : IsNamedState t
-  few : step_count t ≤ step_count s + steps
-
 -- the commands of an article, one after another
-obey_all-named : (commands : List Command) (s t : State) → IsNamedState s → AreNamedCommands commands → obey_all machine s commands ≡ Ok t → Makes s t (2 * length commands)
-obey_all-named [] s t g h e = let f : s ≡ t = cc in subst (λ u. Makes s u 0) f (record { named = g; few = omega arith })
+obey_all-named : (commands : List Command) (s t : State) → IsNamedState s → AreNamedCommands commands → obey_all machine s commands ≡ Ok t → IsNamedState t
+obey_all-named [] s t g h e = let f : s ≡ t = cc in subst IsNamedState f g
 obey_all-named (c ∷ cs) s t g h e =
     let next = bound (at_line c.line (step s c)) _ t e in
     let one = step_at-named s next.0 s.place c.item g h.0 (on_line c.line (step s c) next.0 next.1) in
-    let rest = obey_all-named cs next.0 t one.named h.1 next.2 in
-    record { named = rest.named; few = let a = one.few in let b = rest.few in omega (arith, a, b) }
+    obey_all-named cs next.0 t one h.1 next.2
 
 -- an article that is accepted is ended, and its end keeps the names
 end_article-ended : (end : End) (s t : State) → end_article machine s end ≡ Ok t → IsEnded end
 end_article-ended (ended line) s t e = tt
 end_article-ended (refused line kind) s t e = absurd (cc)
 
-end_article-named : (end : End) (s t : State) → IsNamedState s → end_article machine s end ≡ Ok t → Follows s t
+end_article-named : (end : End) (s t : State) → IsNamedState s → end_article machine s end ≡ Ok t → IsNamedState t
 end_article-named (ended line) s t g e = finish-named s t g (on_line line (finish s) t e)
 end_article-named (refused line kind) s t g e = absurd (cc)
 
 -- an article of bytes
-article-named : (bytes : List ℕ) (commands : List Command) (end : End) (s t : State) → AreBytes bytes → Lines bytes commands end → IsNamedState s → obey_article machine s commands end ≡ Ok t → Makes s t (2 * max_article + 4)
+article-named : (bytes : List ℕ) (commands : List Command) (end : End) (s t : State) → AreBytes bytes → Lines bytes commands end → IsNamedState s → obey_article machine s commands end ≡ Ok t → IsNamedState t
 article-named bytes commands end s t h l g e =
     let last = bound (obey_all machine s commands) _ t e in
     let over = end_article-ended end last.0 t last.2 in
-    let all = obey_all-named commands s last.0 g (lines-named bytes commands end l over h) last.1 in
-    let closing = end_article-named end last.0 t all.named last.2 in
-    let few = lines-few bytes commands end l over in
-    record { named = closing.named; few = let a = all.few in let b = closing.few in omega (arith, a, b, few) }
+    end_article-named end last.0 t (obey_all-named commands s last.0 g (lines-named bytes commands end l over h) last.1) last.2
 
 -- RUNS
 the_accepted : Accepted → Outcome → Accepted
 the_accepted a (accepted b) = b
 the_accepted a (refused_at k line kind) = a
 
--- what was made in an accepted run
-record MakesRun (s : State) (a : Accepted) (steps : ℕ) : Type 0 where
-  named : AreNamedMade a.made
-  few : length (steps_of a.made) ≤ step_count s + steps
-
--- each article makes few steps and keeps the names
-run-named : (k : ℕ) (s : State) (articles : List (List ℕ)) (o : Outcome) (a : Accepted) → IsNamedState s → AllByRecursion AreBytes articles → o ≡ accepted a → RunsFrom machine k s articles o
-    → MakesRun s a (length articles * (2 * max_article + 4))
+-- each article keeps the names
+run-named : (k : ℕ) (s : State) (articles : List (List ℕ)) (o : Outcome) (a : Accepted) → IsNamedState s → AllByRecursion AreBytes articles → o ≡ accepted a → RunsFrom machine k s articles o → AreNamedMade a.made
 unfolding the_accepted
-run-named k s [] o a g h e (finished f) =
-    subst (λ b. MakesRun s b 0) (ap (the_accepted a) (sym f ∙ e)) (record { named = g.made; few = omega arith })
-run-named k s (bytes ∷ rest) o a g h e (passed {next = t} {commands = cs} {end = x} l p r) =
-    let one = article-named bytes cs x s t h.0 l g p in
-    let later = run-named (k + 1) t rest o a one.named h.1 e r in
-    record { named = later.named; few = let a = one.few in let b = later.few in omega (arith, a, b) }
+run-named k s [] o a g h e (finished f) = subst (λ (b : Accepted). AreNamedMade b.made) (ap (the_accepted a) (sym f ∙ e)) g.made
+run-named k s (bytes ∷ rest) o a g h e (passed {next = t} {commands = cs} {end = x} l p r) = run-named (k + 1) t rest o a (article-named bytes cs x s t h.0 l g p) h.1 e r
 run-named k s (bytes ∷ rest) o a g h e (stopped {line = n} {kind = m} l p f) = let q : accepted a ≡ refused_at k n m = sym e ∙ f in absurd (cc)
 
 -- the symbols of what was made
@@ -170,15 +147,13 @@ symbols-named [] h = tt
 symbols-named (Made.symbol x ∷ made) h = (h.0, symbols-named made h.1)
 symbols-named (Made.step x ∷ made) h = symbols-named made h.1
 
--- EVERY ACCEPTED RUN OVER SO FEW ARTICLES OF BYTES HAS NAMES
-pub run-has_names : (articles : List (List ℕ)) (run : Accepted) → AllByRecursion AreBytes articles → length articles < 10 ^ 54 → Run articles (accepted run) → HasNames run
-run-has_names articles run bytes few r =
-    let m = run-named 1 initial articles (accepted run) run initial-named bytes refl r in
-    record { symbols = symbols-named run.made m.named; steps = let l = m.few in omega (arith, l, few) }
+-- EVERY ACCEPTED RUN OVER ARTICLES OF BYTES HAS NAMES
+pub run-has_names : (articles : List (List ℕ)) (run : Accepted) → AllByRecursion AreBytes articles → Run articles (accepted run) → HasNames run
+run-has_names articles run bytes r = record { symbols = symbols-named run.made (run-named 1 initial articles (accepted run) run initial-named bytes refl r) }
 
 -- THE LAW: THE MODULE OF AN ACCEPTED RUN OVER ARTICLES OF BYTES STANDS FOR IT
 abbrev pub RunsOfBytesStand : Type 0
-RunsOfBytesStand = (articles : List (List ℕ)) (run : Accepted) → AllByRecursion AreBytes articles → length articles < 10 ^ 54 → Run articles (accepted run) → Stands (image run) run
+RunsOfBytesStand = (articles : List (List ℕ)) (run : Accepted) → AllByRecursion AreBytes articles → Run articles (accepted run) → Stands (image run) run
 
 pub runs_of_bytes_stand : RunsOfBytesStand
-runs_of_bytes_stand articles run bytes few r = runs_stand articles run r (run-has_names articles run bytes few r)
+runs_of_bytes_stand articles run bytes r = runs_stand articles run r (run-has_names articles run bytes r)

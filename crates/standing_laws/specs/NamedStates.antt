@@ -1,19 +1,16 @@
 -- What is true of every state of a run over bytes: the names of its objects and of the symbols that are taken have components of bytes.
--- What a command adds: two steps at most.
-use Rattle.std.proofs.Common.{◌≡◌, ℕ, ◌+◌, ◌≤◌, ℤ, List, [], ◌∷◌, map, length, Bool, true, false, cond, None, Some, Result, Ok, refl, sym, ap, subst, ◌∙◌, arith}
+use Rattle.std.proofs.Common.{◌≡◌, ℤ, List, [], ◌∷◌, map, Bool, true, false, cond, None, Some, Result, Ok, sym, subst, ◌∙◌}
 use Rattle.std.specs.List.{AllByRecursion}
 use Rattle.std.specs.Ordering.{int_cmp, eq_by_cmp}
 use Rattle.std.specs.Cmp.{int_cmp_total}
 use Rattle.std.specs.FinMap as entries
-use Rattle.std.proofs.lemmas.List.{length-append}
 use Rattle.bridge_base.specs.declared.faults.Kind.{Kind}
 use Rattle.hol_spec.specs.Mangling.{IsName}
 use Rattle.hol_spec.specs.Names.{Name}
 use Rattle.hol_spec.specs.Terms.{Variable}
 use Rattle.hol_spec.specs.Symbols.{Symbol}
-use Rattle.hol_spec.specs.Proofs.{Made, Step, steps_of}
+use Rattle.hol_spec.specs.Proofs.{Made, Step}
 use Rattle.hol_laws.specs.Members.{All-append, All-mapped}
-use Rattle.proof_laws.specs.ProofGrowth.{steps_of-append}
 use Rattle.article_spec.specs.State.{Object, Objects, number, name, list, type_operator, type, constant, variable, term, theorem, none, more, State}
 use Rattle.article_spec.specs.Operands.{as_list, as_name, as_type_operator, as_constant, as_variable, any_object, each, list_of, pair_of, as_constant_pairs, pop, head_and_tail}
 use Rattle.article_spec.specs.Conditions.{sequent_in_limits}
@@ -53,15 +50,6 @@ pub record IsNamedState (s : State) : Type 0 where
   pub stack : AreNamedStacked s.stack
   pub dictionary : (k : ℤ) (x : Object) → entries.get s.dictionary k ≡ Some x → IsNamed x
   pub made : AreNamedMade s.made
-
--- how many steps were made
-abbrev pub step_count : State → ℕ
-step_count s = length (steps_of s.made)
-
--- a state with names, and with two steps more at most
-pub record Follows (s t : State) : Type 0 where
-  pub named : IsNamedState t
-  pub few : step_count t ≤ step_count s + 2
 
 -- an operand of a kind has a property
 abbrev pub Gives : {A : Type 0} → (Object → Result A Kind) → (A → Type 0) → Type 0
@@ -148,56 +136,36 @@ head_and_tail-gives (more x xs) r h e = let same : (x, xs) ≡ r = the (x, xs) r
     the q p e = cc
 
 -- what an answered state has
-pub answers : (s u t : State) → ◌≡◌ {A = Result State Kind} (Ok u) (Ok t) → Follows s u → Follows s t
-answers s u t e h = let f : u ≡ t = cc in subst (Follows s) f h
+pub answers : (u t : State) → ◌≡◌ {A = Result State Kind} (Ok u) (Ok t) → IsNamedState u → IsNamedState t
+answers u t e h = let f : u ≡ t = cc in subst IsNamedState f h
 
 -- another stack
-pub stacked : (s t : State) (stack : List Object) → ◌≡◌ {A = Result State Kind} (Ok (with_stack s stack)) (Ok t) → IsNamedState s → AreNamedStacked stack → Follows s t
-stacked s t stack e g h = answers s (with_stack s stack) t e (record { named = record { stack = h; dictionary = g.dictionary; made = g.made }; few = omega arith })
+pub stacked : (s t : State) (stack : List Object) → ◌≡◌ {A = Result State Kind} (Ok (with_stack s stack)) (Ok t) → IsNamedState s → AreNamedStacked stack → IsNamedState t
+stacked s t stack e g h = answers (with_stack s stack) t e (record { stack = h; dictionary = g.dictionary; made = g.made })
 
 -- symbols that are taken
 symbols-made : (xs : List Symbol) → AllByRecursion SymbolHasName xs → AreNamedMade (map Made.symbol xs)
 symbols-made xs h = All-mapped MadeHasName Made.symbol xs h
 
-symbols-steps : (xs : List Symbol) → length (steps_of (map Made.symbol xs)) ≡ 0
-symbols-steps [] = refl
-symbols-steps (x ∷ xs) = symbols-steps xs
-
-pub with_symbols-count : (s : State) (xs : List Symbol) → step_count (with_symbols s xs) ≡ step_count s
-with_symbols-count s xs =
-    let long : step_count (with_symbols s xs) ≡ step_count s + length (steps_of (map Made.symbol xs)) =
-    ap length (steps_of-append s.made (map Made.symbol xs)) ∙ length-append (steps_of s.made) (steps_of (map Made.symbol xs)) in
-    omega (arith, long, symbols-steps xs)
-
 pub with_symbols-named : (s : State) (xs : List Symbol) → IsNamedState s → AllByRecursion SymbolHasName xs → IsNamedState (with_symbols s xs)
 with_symbols-named s xs g h = record { stack = g.stack; dictionary = g.dictionary; made = All-append MadeHasName s.made (map Made.symbol xs) g.made (symbols-made xs h) }
 
-pub taking : (s t : State) (xs : List Symbol) (stack : List Object) → ◌≡◌ {A = Result State Kind} (Ok (with_symbols (with_stack s stack) xs)) (Ok t) → IsNamedState s → AreNamedStacked stack → AllByRecursion SymbolHasName xs → Follows s t
+pub taking : (s t : State) (xs : List Symbol) (stack : List Object) → ◌≡◌ {A = Result State Kind} (Ok (with_symbols (with_stack s stack) xs)) (Ok t) → IsNamedState s → AreNamedStacked stack → AllByRecursion SymbolHasName xs → IsNamedState t
 taking s t xs stack e g h k =
-    answers s (with_symbols (with_stack s stack) xs) t e
-    (record {
-      named = with_symbols-named (with_stack s stack) xs (record { stack = h; dictionary = g.dictionary; made = g.made }) k;
-      few = let same = with_symbols-count (with_stack s stack) xs in omega (arith, same);
-    })
+    answers (with_symbols (with_stack s stack) xs) t e (with_symbols-named (with_stack s stack) xs (record { stack = h; dictionary = g.dictionary; made = g.made }) k)
 
 -- a step more
-pub with_step-count : (s : State) (x : Step) → step_count (with_step s x) ≡ step_count s + 1
-with_step-count s x = ap length (steps_of-append s.made (Made.step x ∷ [])) ∙ length-append (steps_of s.made) (x ∷ [])
-
 pub with_step-named : (s : State) (x : Step) → IsNamedState s → IsNamedState (with_step s x)
 with_step-named s x g = record { stack = g.stack; dictionary = g.dictionary; made = All-append MadeHasName s.made (Made.step x ∷ []) g.made (tt {0}, tt {0}) }
 
 -- a step that concludes, after symbols that are taken or none
-pub concluded : (s u t : State) (x : Step) → step_count u ≡ step_count s → IsNamedState u → conclude u x ≡ Ok t → Follows s t
-concluded s u t x same g e =
+pub concluded : (u t : State) (x : Step) → IsNamedState u → conclude u x ≡ Ok t → IsNamedState t
+concluded u t x g e =
     let limits = passed (sequent_in_limits x.sequent) _ t e in
-    answers s _ t limits.2 (record {
-      named = record { stack = (tt {0}, g.stack); dictionary = g.dictionary; made = (with_step-named u x g).made };
-      few = let long = with_step-count u x in omega (arith, long, same);
-    })
+    answers _ t limits.2 (record { stack = (tt {0}, g.stack); dictionary = g.dictionary; made = (with_step-named u x g).made })
 
-pub concluding : (s t : State) (stack : List Object) (x : Step) → IsNamedState s → AreNamedStacked stack → conclude (with_stack s stack) x ≡ Ok t → Follows s t
-concluding s t stack x g h e = concluded s (with_stack s stack) t x refl (record { stack = h; dictionary = g.dictionary; made = g.made }) e
+pub concluding : (s t : State) (stack : List Object) (x : Step) → IsNamedState s → AreNamedStacked stack → conclude (with_stack s stack) x ≡ Ok t → IsNamedState t
+concluding s t stack x g h e = concluded (with_stack s stack) t x (record { stack = h; dictionary = g.dictionary; made = g.made }) e
 
 -- a dictionary with one entry more, and one less
 pub inserted : (s : State) (k : ℤ) (x : Object) → IsNamed x → ((j : ℤ) (y : Object) → entries.get s.dictionary j ≡ Some y → IsNamed y)

@@ -20,7 +20,7 @@ use Rattle.module_spec.specs.Image.{is_one_of, name_in}
 use Rattle.module_spec.specs.Stands.{is_export_name}
 use Rattle.module_laws.specs.AcceptedItems.{made-joined}
 use Rattle.module_laws.specs.WantedItems.{NumberedFrom, AreMadeInOrder, at-least}
-use Rattle.run_laws.specs.NameLaws.{export-named}
+use Rattle.module_laws.specs.ExportNames.{export-named}
 use Rattle.run_laws.specs.Named.{HasNames, IsStepName}
 use Rattle.run_laws.specs.Origins.{made-origins}
 use Rattle.run_laws.specs.ExportsKept.{numbered-from}

@@ -1,7 +1,7 @@
 -- Each body of a run's module is typed at its declared type over the declarations before it, and each theorem after the two lemmas is that
 -- of a step: it is named by the step, and its type stands for what the step says.
 use Rattle.std.proofs.Common.{◌≡◌, ℕ, zero, suc, ◌≤◌, List, [], ◌∷◌, ◌++◌, length, take, Bool, true, false, Option, Some, None, inl, inr, slice_get, refl, sym, ap, subst, ◌∙◌, append_assoc, arith}
-use Rattle.std.specs.Prelude.{nat_eq, codes, decimal}
+use Rattle.std.specs.Prelude.{nat_eq, codes}
 use Rattle.std.specs.List.{AllByRecursion, position_or_len}
 use Rattle.std.proofs.lemmas.List.{append-nil}
 use Rattle.hol_spec.specs.Sequents.{Sequent}
@@ -27,6 +27,7 @@ use Rattle.module_spec.specs.Items.{Content, operator, constant, defined_constan
 use Rattle.module_spec.specs.MadeItems.{content_by}
 use Rattle.module_spec.specs.Reach.{renumbered_content}
 use Rattle.module_spec.specs.Image.{is_one_of, name_in, image}
+use Rattle.module_spec.specs.Numerals.{numeral}
 use Rattle.run_laws.specs.AcceptedRuns.{IsCarried, runs_are_carried}
 use Rattle.run_laws.specs.ExportOrder.{symbol-silent}
 use Rattle.run_laws.specs.Named.{HasNames, IsStepName, at-place}
@@ -36,8 +37,8 @@ use Rattle.run_laws.specs.Standing.{Always, origins-all, symbols, number, declar
 
 -- the name of the theorem of a step: `E` and its place among the exports, or `T` and its number
 pub data IsTheoremName (run : Accepted) (i : ℕ) (name : List ℕ) : Type 0 where
-  an_export : (k : ℕ) → slice_get run.exports k ≡ Some i → name ≡ codes "E" ++ decimal k → IsTheoremName run i name
-  a_theorem : is_one_of i run.exports ≡ false → name ≡ codes "T" ++ decimal i → IsTheoremName run i name
+  an_export : (k : ℕ) → slice_get run.exports k ≡ Some i → name ≡ codes "E" ++ numeral k → IsTheoremName run i name
+  a_theorem : is_one_of i run.exports ≡ false → name ≡ codes "T" ++ numeral i → IsTheoremName run i name
 
 -- a declaration is the theorem of a step: its name, and that its type stands for the closed form of what the step says
 pub record IsStepTheorem (run : Accepted) (d : Declaration) : Type 0 where

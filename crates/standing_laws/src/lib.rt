@@ -11,14 +11,13 @@
 //! | `NeededItems` | each step needs its premises, and a kept item needs what it needed |
 //! | `RootItems` | what gives a root is named as an export |
 //! | `StandingRuns` | what is kept is reached, so the module of an accepted run with names stands for it |
-//! | `FewCommands` | a text within its limits gives few commands |
 //! | `ByteNames` | a line of bytes writes a name of bytes, and so do the name items of a text of bytes |
-//! | `NamedStates` | a state whose objects and symbols have names of bytes, and what a command adds to it |
-//! | `NamedBuilding`, `NamedInference`, `NamedDefining` | each word keeps the names of a state, takes inputs of few arguments, and makes two steps at most |
+//! | `NamedStates` | a state whose objects and symbols have names of bytes, and what keeps it so |
+//! | `NamedBuilding`, `NamedInference`, `NamedDefining` | each word keeps the names of a state |
 //! | `TypedBodies` | the bodies of a run's module are typed over what is declared before, and its theorems are those of steps |
 //! | `PlaceCounts`, `LackingTrees`, `ParameterCounts` | to how many arguments a tree applies a symbol, what lacks the symbols of theorems, and how many domains the type of a theorem has |
 //! | `CountedRows`, `CountedModules` | each proof applies its premises, and so each body a theorem, to as many arguments as the theorem has parameters |
-//! | `NamedRuns` | every accepted run over fewer than 10^54 articles of bytes has names, so its module stands for it |
+//! | `NamedRuns` | every accepted run over articles of bytes has names, so its module stands for it |
 #![tactic(auto)]
 
 ghost use Rattle.standing_laws.specs.NamedRuns.{RunsOfBytesStand};
@@ -31,7 +30,7 @@ pub fn runs_stand()
     ensures { RunsStand }
 {}
 
-/// The module of an accepted run over fewer than 10^54 articles of bytes stands for it.
+/// The module of every accepted run over articles of bytes stands for it.
 pub fn runs_of_bytes_stand()
     ensures { RunsOfBytesStand }
 {}
