@@ -1,12 +1,1 @@
-pub mod AnswerTexts
-pub mod Contexts
-pub mod Halts
-pub mod MachineViews
-pub mod ObjectViews
-pub mod PrimitiveSymbols
-pub mod Refusals
-pub mod Runs
-pub mod Sizes
-pub mod TermViews
-pub mod Trees
-pub mod TypeViews
+pub mod Asked

@@ -1,17 +1,50 @@
 //! The words of a command line.
-ghost use Rattle.std.specs.Prelude.{◌≡◌, Some, None, MatchOption, length};
-ghost use Rattle.bridge_spec.specs.Forms.{translate, is_file};
+ghost use Rattle.std.specs.Prelude.{◌≡◌, min};
+ghost use Rattle.std.specs.Option.{option_map};
+ghost use Rattle.article_spec.specs.Numbers.{digits_value};
+ghost use Rattle.bridge_spec.specs.Forms as forms;
 ghost use Rattle.bridge_spec.specs.Calls.{form_in, names_in};
+ghost use Rattle.bridge_run.specs.Asked.{asked, HasOneFile};
 
-/// The file that is to be translated, where the words ask for that: `translate` and one file after the
-/// program's name.
-pub fn file_to_translate(words: &[String]) -> Option<&[String]>
-    ensures { MatchOption result (form_in words.now ≡ None) (λ files. (length files.now ≡ 1) × (form_in words.now ≡ Some (translate (names_in files.now)))) }
+/// What the words ask for.
+#[derive(Clone, Copy)]
+pub enum Form<'a> {
+    /// The module of the article in the one file.
+    Translate(&'a [String]),
+    /// A check of the module in the file, with this budget for each declaration.
+    Check(&'a str, u64),
+}
+
+/// The budget of a declaration where the words give none.
+const DEFAULT_BUDGET: u64 = 100000000;
+
+/// Above each budget.
+const ABOVE: u128 = 18446744073709551616;
+
+/// The form of the words, of which the first is the program's name.
+pub fn form_of(words: &[String]) -> Option<Form<'_>>
+    ensures form { option_map asked result ≡ form_in words.now }
+    ensures one { HasOneFile result }
 {
     match words {
-        [_, word, file] => {
-            if word.as_str() == "translate" && is_file_name(file.as_str()) {
-                Some(&words[2..])
+        [_, word, rest @ ..] => match word.as_str() {
+            "translate" => translate_form(rest),
+            "check" => check_form(rest),
+            _ => None,
+        },
+        [] | [_] => None,
+    }
+}
+
+/// The form of the words after `translate`.
+fn translate_form(words: &[String]) -> Option<Form<'_>>
+    ensures form { option_map asked result ≡ forms.translate_form (names_in words.now) }
+    ensures one { HasOneFile result }
+{
+    match words {
+        [file] => {
+            if is_file(file.as_str()) {
+                Some(Form::Translate(words))
             } else {
                 None
             }
@@ -20,12 +53,107 @@ pub fn file_to_translate(words: &[String]) -> Option<&[String]>
     }
 }
 
+/// The form of the words after `check`: a file, and at most one budget, before it or behind it.
+fn check_form(words: &[String]) -> Option<Form<'_>>
+    ensures form { option_map asked result ≡ forms.check_form (names_in words.now) }
+    ensures one { HasOneFile result }
+{
+    match words {
+        [] => None,
+        [file] => check_with(file.as_str(), Some(DEFAULT_BUDGET)),
+        [one, two] => {
+            if is_file(one.as_str()) {
+                check_with(one.as_str(), named_budget(two.as_str()))
+            } else {
+                check_with(two.as_str(), named_budget(one.as_str()))
+            }
+        }
+        [one, two, three] => {
+            if is_file(one.as_str()) {
+                check_with(one.as_str(), budget_after(two.as_str(), three.as_str()))
+            } else {
+                check_with(three.as_str(), budget_after(one.as_str(), two.as_str()))
+            }
+        }
+        [_, _, _, _, ..] => None,
+    }
+}
+
+/// The check of a file with a budget, where they are both there.
+fn check_with(file: &str, budget: Option<u64>) -> Option<Form<'_>>
+    ensures form { option_map asked result ≡ forms.check_with file.now budget }
+    ensures one { HasOneFile result }
+{
+    match budget {
+        Some(budget) => {
+            if is_file(file) {
+                Some(Form::Check(file, budget))
+            } else {
+                None
+            }
+        }
+        None => None,
+    }
+}
+
 /// Whether a word can name a file: it isn't empty and doesn't begin with `-`.
-fn is_file_name(word: &str) -> bool
-    ensures { result ≡ is_file word.now }
+fn is_file(word: &str) -> bool
+    ensures { result ≡ forms.is_file word.now }
 {
     match word.as_bytes() {
         [] => false,
         [first, ..] => *first != b'-',
     }
+}
+
+/// The budget of the word `--budget=N`.
+fn named_budget(word: &str) -> Option<u64>
+    ensures { result ≡ forms.named_budget word.now }
+{
+    match word.as_bytes().strip_prefix(b"--budget=") {
+        Some(number) => budget_of(number),
+        None => None,
+    }
+}
+
+/// The budget of the words `--budget N`.
+fn budget_after(name: &str, word: &str) -> Option<u64>
+    ensures { result ≡ forms.budget_after name.now word.now }
+{
+    if name == "--budget" {
+        budget_of(word.as_bytes())
+    } else {
+        None
+    }
+}
+
+/// The budget that a word says: the digits of a number from 1 up, without a zero before them.
+fn budget_of(word: &[u8]) -> Option<u64>
+    ensures { result ≡ forms.budget_of word.now }
+{
+    match word {
+        [] => None,
+        [b'0', ..] => None,
+        _ => match capped_value(word) {
+            Some(value) => u64::try_from(value).ok(),
+            None => None,
+        },
+    }
+}
+
+/// The value of a text of one or more digits, or `ABOVE` where that is less.
+fn capped_value(text: &[u8]) -> Option<u128>
+    ensures { result ≡ option_map (λ value. min value ABOVE) (digits_value text.now) }
+{
+    if text.is_empty() {
+        return None;
+    }
+    let mut value = 0;
+    for byte in text {
+        if !byte.is_ascii_digit() {
+            return None;
+        }
+        value = (value * 10 + u128::from(*byte - b'0')).min(ABOVE);
+    }
+    Some(value)
 }

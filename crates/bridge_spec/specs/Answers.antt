@@ -1,14 +1,17 @@
 -- When the program gives an answer, and the two texts that belong to it.
 use Rattle.std.specs.Prelude.{ℕ, ◌≡◌, List, [], map, length, Option, None, Some}
+use Rattle.lp_spec.specs.Modules.{Declaration}
+use Rattle.dk_read.specs.States.{fault_of}
 use Rattle.bridge_base.specs.Outside.{Files, file, Rose}
 use Rattle.hol_spec.specs.Proofs.{Accepted}
 use Rattle.article_spec.specs.Run.{Obeys, Outcome, accepted, refused_at, RunsBy}
-use Rattle.bridge_spec.specs.Forms.{Form, translate}
+use Rattle.bridge_spec.specs.Forms.{Form, translate, check}
 use Rattle.bridge_spec.specs.FirstPath.{first_path}
 use Rattle.bridge_spec.specs.Calls.{Shelved, Call}
-use Rattle.bridge_spec.specs.Texts.{module_text, counts_of, five_lines, refusal_line, usage_line, read_fault_line, memory_line}
+use Rattle.bridge_spec.specs.FileChecks.{IsRefusedAt, IsAccepted, IsIllTyped, IsOverBudget, PassesWithin, FailsWithin}
+use Rattle.bridge_spec.specs.Texts.{module_text, counts_of, five_lines, refusal_line, usage_line, read_fault_line, memory_line, checked_of, accepted_line, dk_refusal_line, ill_typed_line, over_budget_line}
 use Rattle.bridge_spec.specs.declared.status.Status.{Status}
-use Rattle.bridge_spec.specs.declared.status.Status.TheVariants.{Done, Refused, Usage, ReadFault, WriteFault, Memory}
+use Rattle.bridge_spec.specs.declared.status.Status.TheVariants.{Done, Refused, Usage, ReadFault, WriteFault, Memory, DkRefused, IllTyped, OverBudget}
 
 -- the bytes of the articles of these names
 abbrev pub articles : Files → List (List ℕ) → List (List ℕ)
@@ -29,6 +32,7 @@ pub record RunsTo (by : Obeys) (told : Option Files) (names : List (List ℕ)) (
 abbrev pub FormRunsTo : Option Form → Option Files → Outcome → Type 0
 FormRunsTo None told outcome = ⊥
 FormRunsTo (Some (translate names)) told outcome = RunsTo first_path told names outcome
+FormRunsTo (Some (check name budget)) told outcome = ⊥
 
 abbrev pub HasOutcome : Call → Outcome → Type 0
 HasOutcome call outcome = FormRunsTo call.form call.shelf.told_before outcome
@@ -37,6 +41,25 @@ HasOutcome call outcome = FormRunsTo call.form call.shelf.told_before outcome
 abbrev pub answer_of : Outcome → Status
 answer_of (accepted run) = Done
 answer_of (refused_at article line kind) = Refused article line kind
+
+-- a run of this outcome is answered so
+pub record IsAnswerOfRun (told : Option Files) (names : List (List ℕ)) (status : Status) : Type 0 where
+  pub outcome : Outcome
+  pub runs : RunsTo first_path told names outcome
+  pub is : status ≡ answer_of outcome
+
+-- A check must be answered so: the file passes within the budget, is refused, or has a first declaration that fails within the budget.
+abbrev pub IsDueOfCheck : Option Files → List ℕ → ℕ → Status → Type 0
+IsDueOfCheck told name budget Done = PassesWithin told name budget
+IsDueOfCheck told name budget (DkRefused place kind) = IsRefusedAt told name place kind
+IsDueOfCheck told name budget (IllTyped i) = FailsWithin told name budget i
+IsDueOfCheck told name budget _ = ⊥
+
+-- The files of the form must be answered so, where they are read without a fault.
+abbrev pub IsDue : Option Form → Option Files → Status → Type 0
+IsDue None told status = status ≡ Usage
+IsDue (Some (translate names)) told status = IsAnswerOfRun told names status
+IsDue (Some (check name budget)) told status = IsDueOfCheck told name budget status
 
 -- the shelf failed
 abbrev pub ReadFailed : Shelved → Type 0
@@ -54,6 +77,9 @@ AnswersNoForm Usage out note = NoteAlone usage_line out note
 AnswersNoForm ReadFault out note = ⊥
 AnswersNoForm WriteFault out note = ⊥
 AnswersNoForm Memory out note = ⊥
+AnswersNoForm (DkRefused place kind) out note = ⊥
+AnswersNoForm (IllTyped i) out note = ⊥
+AnswersNoForm (OverBudget i) out note = ⊥
 
 -- `translate`: the module of an accepted run of the articles, and its counts; or where the run is refused; or what failed.
 abbrev pub AnswersTranslate : List (List ℕ) → Shelved → Status → List ℕ → List ℕ → Type 0
@@ -65,11 +91,31 @@ AnswersTranslate names shelf Usage out note = ⊥
 AnswersTranslate names shelf ReadFault out note = ReadFailed shelf × NoteAlone read_fault_line out note
 AnswersTranslate names shelf WriteFault out note = ⊥
 AnswersTranslate names shelf Memory out note = NoteAlone memory_line out note
+AnswersTranslate names shelf (DkRefused place kind) out note = ⊥
+AnswersTranslate names shelf (IllTyped i) out note = ⊥
+AnswersTranslate names shelf (OverBudget i) out note = ⊥
+
+-- `check`: the counts of a module that the file reads as and that is accepted; or where the file is refused, or the first declaration that
+-- does not pass; or what failed.
+abbrev pub AnswersCheck : List ℕ → ℕ → Shelved → Status → List ℕ → List ℕ → Type 0
+AnswersCheck name budget shelf Done out note =
+    (m : List Declaration) × IsAccepted shelf.told_before name m × (out ≡ accepted_line (checked_of m)) × (note ≡ [])
+AnswersCheck name budget shelf (Refused article line kind) out note = ⊥
+AnswersCheck name budget shelf Usage out note = ⊥
+AnswersCheck name budget shelf ReadFault out note = ReadFailed shelf × NoteAlone read_fault_line out note
+AnswersCheck name budget shelf WriteFault out note = ⊥
+AnswersCheck name budget shelf Memory out note = NoteAlone memory_line out note
+AnswersCheck name budget shelf (DkRefused place kind) out note =
+    IsRefusedAt shelf.told_before name place kind × NoteAlone (dk_refusal_line place (fault_of kind)) out note
+AnswersCheck name budget shelf (IllTyped i) out note = IsIllTyped shelf.told_before name i × NoteAlone (ill_typed_line i) out note
+AnswersCheck name budget shelf (OverBudget i) out note =
+    IsOverBudget shelf.told_before name budget i × NoteAlone (over_budget_line i) out note
 
 -- The answers of each form, before anything is written.
 abbrev pub FormAnswers : Option Form → Shelved → Status → List ℕ → List ℕ → Type 0
 FormAnswers None shelf status out note = AnswersNoForm status out note
 FormAnswers (Some (translate names)) shelf status out note = AnswersTranslate names shelf status out note
+FormAnswers (Some (check name budget)) shelf status out note = AnswersCheck name budget shelf status out note
 
 -- The answer comes by its cause, with these texts on standard output and on standard error.
 abbrev pub Answers : Call → Status → List ℕ → List ℕ → Type 0

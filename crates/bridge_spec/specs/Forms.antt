@@ -1,22 +1,72 @@
 -- The forms of the command line.
-use Rattle.std.specs.Prelude.{ℕ, ◌&&◌, ◌==◌, not, Bool, false, List, [], ◌∷◌, Option, None, Some, codes, if◌then◌else◌}
+use Rattle.std.specs.Prelude.{ℕ, ◌==◌, not, nat_le, Bool, false, List, [], ◌∷◌, take, drop, Option, None, Some, codes, if◌then◌else◌}
 use Rattle.std.specs.Str.{bytes_eq}
+use Rattle.article_spec.specs.Numbers.{digits_value}
 
--- what the words ask for: the module of the articles in these files
+-- what the words ask for: the module of the articles in these files; a check of the module in this file, with this budget for each
+-- declaration
 pub data Form : Type 0 where
   translate : List (List ℕ) → Form
+  check : List ℕ → ℕ → Form
 
 -- a file is named by a word that isn't empty and doesn't begin with `-`
 abbrev pub is_file : List ℕ → Bool
 is_file [] = false
 is_file (b ∷ bs) = not (b == 45)
 
+-- the budget that is meant where none is given
+abbrev pub default_budget : ℕ
+default_budget = 100000000
+
+abbrev pub greatest_budget : ℕ
+greatest_budget = 18446744073709551615
+
+-- a number as a budget
+abbrev pub as_budget : Option ℕ → Option ℕ
+as_budget None = None
+as_budget (Some n) = if nat_le n greatest_budget then Some n else None
+
+-- the budget that a word says: the decimal digits of a number from 1 up, without a zero before them
+abbrev pub budget_of : List ℕ → Option ℕ
+budget_of [] = None
+budget_of (b ∷ bs) = if b == 48 then None else as_budget (digits_value (b ∷ bs))
+
+-- the budget that a word says with its name: `--budget=N`
+abbrev pub named_budget : List ℕ → Option ℕ
+named_budget word = if bytes_eq (take 9 word) (codes "--budget=") then budget_of (drop 9 word) else None
+
+-- the budget that two words say: `--budget N`
+abbrev pub budget_after : List ℕ → List ℕ → Option ℕ
+budget_after name word = if bytes_eq name (codes "--budget") then budget_of word else None
+
+-- the check of the file of this name with this budget, where they are a file and a budget
+abbrev pub check_with : List ℕ → Option ℕ → Option Form
+check_with name None = None
+check_with name (Some budget) = if is_file name then Some (check name budget) else None
+
+-- the form of the words after `check`: a file, and at most one budget, before it or behind it
+abbrev pub check_form : List (List ℕ) → Option Form
+check_form (name ∷ []) = check_with name (Some default_budget)
+check_form (one ∷ two ∷ []) = if is_file one then check_with one (named_budget two) else check_with two (named_budget one)
+check_form (one ∷ two ∷ three ∷ []) = if is_file one then check_with one (budget_after two three) else check_with three (budget_after one two)
+check_form words = None
+
+-- the form of the words after `translate`: a file
+abbrev pub translate_form : List (List ℕ) → Option Form
+translate_form (name ∷ []) = if is_file name then Some (translate (name ∷ [])) else None
+translate_form words = None
+
+-- the form of a word and those after it
+abbrev pub form_by : List ℕ → List (List ℕ) → Option Form
+form_by word words =
+    if bytes_eq word (codes "translate") then translate_form words
+    else if bytes_eq word (codes "check") then check_form words
+    else None
+
 -- the form of the words after the program's name, if they have one
 abbrev pub form_after : List (List ℕ) → Option Form
 form_after [] = None
-form_after (word ∷ []) = None
-form_after (word ∷ file ∷ []) = if bytes_eq word (codes "translate") && is_file file then Some (translate (file ∷ [])) else None
-form_after (word ∷ file ∷ other ∷ more) = None
+form_after (word ∷ words) = form_by word words
 
 -- the form of all words, of which the first is the program's name
 abbrev pub form_of : List (List ℕ) → Option Form

@@ -1,5 +1,6 @@
 pub mod Answers
 pub mod Calls
+pub mod FileChecks
 pub mod FirstPath
 pub mod Forms
 pub mod Outputs

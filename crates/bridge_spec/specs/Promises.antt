@@ -1,14 +1,17 @@
 -- What the one call of the program promises.
-use Rattle.std.specs.Prelude.{◌≡◌, ◌≤◌, ◌⊎◌, IsTrue, None, is_some}
+use Rattle.std.specs.Prelude.{ℕ, ◌≡◌, ◌≤◌, ◌⊎◌, List, IsTrue, None, Some, is_some}
+use Rattle.bridge_base.specs.Outside.{Files, file}
 use Rattle.hol_spec.specs.Proofs.{Accepted}
-use Rattle.article_spec.specs.Run.{Outcome, accepted}
+use Rattle.article_spec.specs.Run.{accepted}
+use Rattle.bridge_spec.specs.Forms.{check}
 use Rattle.bridge_spec.specs.Calls.{Shelved, Sunk, Call}
-use Rattle.bridge_spec.specs.Answers.{HasOutcome, answer_of, ReadFailed}
+use Rattle.bridge_spec.specs.FileChecks.{ReadsWellTyped}
+use Rattle.bridge_spec.specs.Answers.{HasOutcome, IsDue, ReadFailed}
 use Rattle.bridge_spec.specs.Outputs.{Failed, Outputs}
 use Rattle.module_spec.specs.Image.{image}
 use Rattle.module_spec.specs.Stands.{Stands}
 use Rattle.bridge_spec.specs.declared.status.Status.{Status}
-use Rattle.bridge_spec.specs.declared.status.Status.TheVariants.{Done, Refused, Usage, ReadFault, WriteFault, Memory}
+use Rattle.bridge_spec.specs.declared.status.Status.TheVariants.{Done, Refused, Usage, ReadFault, WriteFault, Memory, DkRefused, IllTyped, OverBudget}
 
 -- the shelf tells its files, and didn't fail
 pub record ReadWell (shelf : Shelved) : Type 0 where
@@ -23,6 +26,9 @@ Aside Usage fact = fact
 Aside ReadFault fact = fact
 Aside WriteFault fact = Unit {0}
 Aside Memory fact = Unit {0}
+Aside (DkRefused place kind) fact = fact
+Aside (IllTyped i) fact = fact
+Aside (OverBudget i) fact = fact
 
 -- standard output is as before at every answer but Done and a write fault
 abbrev pub KeepsOut : Status → Sunk → Type 0
@@ -32,16 +38,21 @@ KeepsOut Usage out = out.got ≡ out.got_before
 KeepsOut ReadFault out = out.got ≡ out.got_before
 KeepsOut WriteFault out = Unit {0}
 KeepsOut Memory out = out.got ≡ out.got_before
+KeepsOut (DkRefused place kind) out = out.got ≡ out.got_before
+KeepsOut (IllTyped i) out = out.got ≡ out.got_before
+KeepsOut (OverBudget i) out = out.got ≡ out.got_before
 
 pub record Promise (call : Call) (result : Status) : Type 0 where
-  -- Each answer comes only by its cause, and the sinks gain its texts, at Done the module of an accepted run of the files and its
-  -- counts; or a failing write replaced it.
+  -- Each answer comes only by its cause, and the sinks gain its texts; or a failing write replaced it.
   pub outputs : Outputs call result
-  -- Where the shelf tells its files and didn't fail, the answer is that of their run.
-  pub exact : ReadWell call.shelf → (outcome : Outcome) → HasOutcome call outcome → Aside result (result ≡ answer_of outcome)
+  -- Where the shelf tells its files and didn't fail, the answer is the one that is due: that of the run of the articles; or of the check of
+  -- a file that is refused, or whose declarations pass, or fail at the first that doesn't pass, within the budget.
+  pub exact : ReadWell call.shelf → (status : Status) → IsDue call.form call.shelf.told_before status → Aside result (result ≡ status)
   -- The module of an accepted run of the files is well typed, leaves unproved only what is allowed, and its exports are those of
   -- the run, in order.
   pub stands : (run : Accepted) → HasOutcome call (accepted run) → Stands (image run) run
+  -- The checker's law: a file that is told and accepted reads as one module, and that module is well typed.
+  pub checked : (name : List ℕ) (budget : ℕ) (files : Files) → call.form ≡ Some (check name budget) → call.shelf.told_before ≡ Some files → result ≡ Done → ReadsWellTyped (file files name)
   -- Words that are no form are answered with Usage ..
   pub usage : call.form ≡ None → Aside result (result ≡ Usage)
   -- .. and no others.

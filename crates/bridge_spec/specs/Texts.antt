@@ -1,13 +1,15 @@
 -- What the program writes for an answer.
-use Rattle.std.specs.Prelude.{ℕ, ◌++◌, List, map, length, min, sum, codes, decimal}
+use Rattle.std.specs.Prelude.{ℕ, ◌++◌, List, [], map, length, min, sum, count_by, is_none, codes, decimal}
 use Rattle.bridge_base.specs.declared.faults.Kind.{Kind}
 use Rattle.bridge_base.specs.Kinds.{kind_name, kind_number}
 use Rattle.hol_spec.specs.Proofs.{Accepted}
+use Rattle.lp_spec.specs.Modules.{Declaration}
+use Rattle.lp_spec.specs.ReadingFaults.{Fault, NoPrelude, BadText, UnknownName, NameTwice, DkTooDeep, DkTooLong}
 use Rattle.lp_spec.specs.Text.{written}
 use Rattle.lp_spec.specs.Weight.{bound, greatest}
 use Rattle.module_spec.specs.Image.{image}
 use Rattle.bridge_spec.specs.declared.status.Status.{Status}
-use Rattle.bridge_spec.specs.declared.status.Status.TheVariants.{Done, Refused, Usage, ReadFault, WriteFault, Memory}
+use Rattle.bridge_spec.specs.declared.status.Status.TheVariants.{Done, Refused, Usage, ReadFault, WriteFault, Memory, DkRefused, IllTyped, OverBudget}
 
 -- the number with which the program ends
 abbrev pub status_number : Status → ℕ
@@ -17,6 +19,9 @@ status_number Usage = 2
 status_number ReadFault = 3
 status_number WriteFault = 4
 status_number Memory = 5
+status_number (DkRefused place kind) = 6
+status_number (IllTyped i) = 7
+status_number (OverBudget i) = 8
 
 -- the bound of each declaration of a run's module
 abbrev pub module_bounds : Accepted → List ℕ
@@ -63,3 +68,54 @@ write_fault_line = codes "write fault\n"
 
 abbrev pub memory_line : List ℕ
 memory_line = codes "out of memory\n"
+
+-- what a check counts of a module: its declarations, and those without a body
+pub record Checked : Type 0 where
+  pub declarations : ℕ
+  pub unproved : ℕ
+
+abbrev pub checked_of : List Declaration → Checked
+checked_of m = record { declarations = length m; unproved = count_by (λ d. is_none d.body) m }
+
+-- the line for a module that was accepted
+abbrev pub accepted_line : Checked → List ℕ
+accepted_line counts = codes "accepted " ++ (decimal counts.declarations ++ (codes ", unproved " ++ (decimal counts.unproved ++ codes "\n")))
+
+-- the name of a text's fault
+abbrev pub fault_name : Fault → List ℕ
+fault_name NoPrelude = codes "NoPrelude"
+fault_name BadText = codes "BadText"
+fault_name (UnknownName name) = codes "UnknownName"
+fault_name (NameTwice name) = codes "NameTwice"
+fault_name DkTooDeep = codes "DkTooDeep"
+fault_name DkTooLong = codes "DkTooLong"
+
+-- the identifier of a fault, where it has one, and the blank before it
+abbrev pub fault_identifier : Fault → List ℕ
+fault_identifier (UnknownName name) = name
+fault_identifier (NameTwice name) = name
+fault_identifier _ = []
+
+abbrev pub fault_blank : Fault → List ℕ
+fault_blank (UnknownName name) = codes " "
+fault_blank (NameTwice name) = codes " "
+fault_blank _ = []
+
+-- the line for a byte at which there is this fault: its name, a blank and an identifier
+abbrev pub byte_line : ℕ → List ℕ → List ℕ → List ℕ → List ℕ
+byte_line place name blank identifier =
+    codes "byte " ++ (decimal place ++ (codes ": " ++ (name ++ (blank ++ (identifier ++ codes "\n")))))
+
+-- the line for a text that is refused at this byte
+abbrev pub dk_refusal_line : ℕ → Fault → List ℕ
+dk_refusal_line place fault = byte_line place (fault_name fault) (fault_blank fault) (fault_identifier fault)
+
+-- the line for a declaration of which this is said
+abbrev pub declaration_line : ℕ → List ℕ → List ℕ
+declaration_line i said = codes "declaration " ++ (decimal i ++ said)
+
+abbrev pub ill_typed_line : ℕ → List ℕ
+ill_typed_line i = declaration_line i (codes ": ill typed\n")
+
+abbrev pub over_budget_line : ℕ → List ℕ
+over_budget_line i = declaration_line i (codes ": over budget\n")

@@ -3,9 +3,10 @@ ghost use Rattle.std.specs.Prelude.{◌≡◌};
 ghost use Rattle.bridge_spec.specs.Texts.{status_number};
 
 use bridge_base::Kind;
+use dk_read::DkKind;
 
 /// The answer of the program.
-#[derive(Clone, Copy, Debug, PartialEq, Eq)]
+#[derive(Debug, Drop, PartialEq, Eq)]
 pub enum Status {
     /// The run was accepted, and the outputs stand whole.
     Done,
@@ -19,6 +20,12 @@ pub enum Status {
     WriteFault,
     /// There was no memory left.
     Memory,
+    /// The file of a module is refused at this byte, counted from 0.
+    DkRefused { place: u64, kind: DkKind },
+    /// The check of this declaration, counted from 0, says no, and those before it pass.
+    IllTyped(u64),
+    /// The check of this declaration, counted from 0, does not end within its budget, and those before it pass.
+    OverBudget(u64),
 }
 
 impl Status {
@@ -33,6 +40,9 @@ impl Status {
             Status::ReadFault => 3,
             Status::WriteFault => 4,
             Status::Memory => 5,
+            Status::DkRefused { .. } => 6,
+            Status::IllTyped(_) => 7,
+            Status::OverBudget(_) => 8,
         }
     }
 }

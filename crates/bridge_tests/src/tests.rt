@@ -11,7 +11,7 @@ const REFLEXIVITY: &[u8] =
     b"6\nversion\n\"p\"\n\"bool\"\ntypeOp\nnil\nopType\n0\ndef\nvar\nvarTerm\n1\ndef\nrefl\nnil\n\"=\"\nconst\n\"->\"\ntypeOp\n0\nref\n\"->\"\ntypeOp\n0\nref\n0\nref\nnil\ncons\ncons\nopType\nnil\ncons\ncons\nopType\nconstTerm\n1\nref\nappTerm\n1\nref\nappTerm\nthm\n";
 
 /// The prelude and the two lemmas, with which each module begins.
-const BEGINNING: &[u8] = b"type : Type.
+pub const BEGINNING: &[u8] = b"type : Type.
 bool : type.
 ind : type.
 arr : type -> type -> type.
@@ -32,7 +32,7 @@ thm trans : v0 : type -> v1 : term v0 -> v2 : term v0 -> v3 : term v0 -> v4 : pr
 ";
 
 /// What follows in the module of reflexivity.
-const THEOREMS: &[u8] = b"(; bound 13144256 ;)
+pub const THEOREMS: &[u8] = b"(; bound 13144256 ;)
 thm T0 : v0 : term bool -> proof (eq bool v0 v0) := v0 : term bool => refl bool v0.
 (; bound 10648000 ;)
 thm E0 : v0 : term bool -> proof (eq bool v0 v0) := v0 : term bool => T0 v0.
@@ -44,7 +44,7 @@ const USAGE: &[u8] =
     b"usage: bridge verify FILE.. | translate FILE.. | check FILE [--budget N] | decode FILE | show FILE.. | trial N\n";
 
 /// Words in memory.
-fn texts(alloc: Global, words: &[&str]) -> Result<Vec<String>, AllocError> {
+pub fn texts(alloc: Global, words: &[&str]) -> Result<Vec<String>, AllocError> {
     let mut texts = Vec::new(alloc);
     for word in words {
         texts.push(String::from_str(alloc, word)?)?;
@@ -53,7 +53,7 @@ fn texts(alloc: Global, words: &[&str]) -> Result<Vec<String>, AllocError> {
 }
 
 /// A shelf with one file `a`, which gives so many bytes a read and fails at these calls.
-fn shelf(
+pub fn shelf(
     alloc: Global,
     article: &[u8],
     most: usize,
@@ -66,7 +66,7 @@ fn shelf(
     Ok(MemShelf::new(files, most, failing.to_vec(alloc)?))
 }
 
-fn sink(alloc: Global, failing: &[u64]) -> Result<MemSink, AllocError> {
+pub fn sink(alloc: Global, failing: &[u64]) -> Result<MemSink, AllocError> {
     Ok(MemSink::new(Vec::new(alloc), failing.to_vec(alloc)?))
 }
 
@@ -143,7 +143,7 @@ fn answers_for_each_article(rt: HostRuntime) -> Result<(), Fail> {
 
 #[test]
 fn answers_words_that_are_no_form(rt: HostRuntime) -> Result<(), Fail> {
-    let cases: [&[&str]; 8] = [
+    let cases: [&[&str]; 17] = [
         &["bridge"],
         &["bridge", "verify"],
         &["bridge", "check", "a", "b"],
@@ -151,6 +151,15 @@ fn answers_words_that_are_no_form(rt: HostRuntime) -> Result<(), Fail> {
         &["bridge", "trial", "0"],
         &["bridge", "help"],
         &["bridge", "translate", "-a"],
+        &["bridge", "check"],
+        &["bridge", "check", ""],
+        &["bridge", "check", "--", "a"],
+        &["bridge", "check", "a", "--budget"],
+        &["bridge", "check", "a", "--budget="],
+        &["bridge", "check", "a", "--budget=01"],
+        &["bridge", "check", "a", "--budget", "+5"],
+        &["bridge", "check", "--budget", "18446744073709551616", "a"],
+        &["bridge", "check", "--budget=5", "a", "--budget=5"],
         &[],
     ];
     for words in cases {

@@ -1,0 +1,43 @@
+-- The texts of an answer.
+use Rattle.std.specs.Prelude.{ℕ, List, []}
+use Rattle.dk_read.specs.States.{fault_of}
+use Rattle.bridge_spec.specs.Texts.{Counts, five_lines, refusal_line, usage_line, read_fault_line, memory_line, dk_refusal_line, ill_typed_line, over_budget_line}
+use Rattle.bridge_spec.specs.declared.status.Status.{Status}
+use Rattle.bridge_spec.specs.declared.status.Status.TheVariants as status
+use Rattle.bridge_answer.specs.declared.answer.Translation.{Translation}
+use Rattle.bridge_answer.specs.declared.answer.Answer.{Answer}
+use Rattle.bridge_answer.specs.declared.answer.Answer.TheVariants.{Translated, Told, Refused, Usage, ReadFault, Memory, DkRefused, IllTyped, OverBudget}
+
+-- the status of an answer
+abbrev pub status_of : Answer → Status
+status_of (Translated translation) = status.Done
+status_of (Told text) = status.Done
+status_of (Refused line kind) = status.Refused 1 line kind
+status_of Usage = status.Usage
+status_of ReadFault = status.ReadFault
+status_of Memory = status.Memory
+status_of (DkRefused place kind) = status.DkRefused place kind
+status_of (IllTyped i) = status.IllTyped i
+status_of (OverBudget i) = status.OverBudget i
+
+-- its text on standard output
+abbrev pub text_of : Answer → List ℕ
+text_of (Translated translation) = translation.text.items
+text_of (Told text) = text.items
+text_of _ = []
+
+-- what is counted in a translation
+abbrev pub counts_in : Translation → Counts
+counts_in translation = record { exports = translation.exports; declarations = translation.declarations; bounds = translation.bounds }
+
+-- its text on standard error
+abbrev pub note_of : Answer → List ℕ
+note_of (Translated translation) = five_lines (counts_in translation)
+note_of (Told text) = []
+note_of (Refused line kind) = refusal_line 1 line kind
+note_of Usage = usage_line
+note_of ReadFault = read_fault_line
+note_of Memory = memory_line
+note_of (DkRefused place kind) = dk_refusal_line place (fault_of kind)
+note_of (IllTyped i) = ill_typed_line i
+note_of (OverBudget i) = over_budget_line i

@@ -1,0 +1,3 @@
+pub mod AnswerTexts
+pub mod OneDue
+pub mod Promised

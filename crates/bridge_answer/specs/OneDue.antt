@@ -1,0 +1,177 @@
+-- A check of a file that is told has at most one answer that is due, and what comes by another cause is not due.
+use Rattle.std.proofs.Common.{◌≡◌, ◌<◌, ◌≤◌, ℕ, List, [], ◌∷◌, length, take, Option, None, Some, IsTrue, Bool, true, false, refl, sym, ap, subst, ◌∙◌, arith, ⊎_elim, min}
+use Rattle.std.specs.Prelude.{is_some, slice_get, nat_le, if◌then◌else◌}
+use Rattle.std.proofs.lemmas.Bool.{cases_lt}
+use Rattle.std.proofs.lemmas.Grind.{common_steps}
+use Rattle.std.proofs.lemmas.Option.{slice_get_within, same_Some}
+use Rattle.bridge_base.specs.Outside.{Files, file}
+use Rattle.lp_spec.specs.Trees.{Tree}
+use Rattle.lp_spec.specs.Modules.{Declaration}
+use Rattle.lp_spec.specs.Reading.{Reads}
+use Rattle.lp_spec.specs.ReadingFaults.{Fault, NoPrelude, BadText, UnknownName, NameTwice, DkTooDeep, DkTooLong, Refusal, refusal, Answer, reads, refused, answer, answer_within, cut_at, read_bytes, unread}
+use Rattle.lp_shape.specs.Check.{Reply, Found, No, Ends, declaration_plan, Check}
+use Rattle.lp_shape.specs.CheckLaws.{one_reply, Found-No}
+use Rattle.lp_shape.specs.CheckerLaw.{PassesAt}
+use Rattle.text_laws.specs.ReadingLaws.{Reads-answer}
+use Rattle.dk_read.specs.States.{fault_of}
+use Rattle.dk_read.specs.Texts.{Refuses}
+use Rattle.dk_read.specs.declared.faults.DkKind.{DkKind}
+use Rattle.dk_read.specs.declared.faults.DkKind.TheVariants as kind
+use Rattle.bridge_spec.specs.FileChecks.{max_file, IsReadOf, ReadsAs, IsRefusedAt, IsAccepted, IsIllTyped, IsOverBudget, EndsWithin, PassWithin, PassesWithin, FailsWithin}
+use Rattle.bridge_spec.specs.Answers.{IsDueOfCheck}
+use Rattle.bridge_spec.specs.declared.status.Status.{Status}
+use Rattle.bridge_spec.specs.declared.status.Status.TheVariants.{Done, Refused, Usage, ReadFault, WriteFault, Memory, DkRefused, IllTyped, OverBudget}
+
+-- A check has one reply.
+one_check : (m : List Declaration) (i : ℕ) {a b : Reply} {n k : ℕ} → Check m i a n → Check m i b k → a ≡ b
+one_check m i {b = b} {k = k} c d =
+    let is : d.declaration ≡ c.declaration = same_Some _ _ (sym d.at ∙ c.at) in
+    (one_reply (take i m) true c.ends (subst (λ e. Ends (take i m) true (declaration_plan e) b k) is d.ends)).0
+
+-- So a declaration that passes doesn't fail.
+not-both : (m : List Declaration) (i : ℕ) {t : Tree} {n k : ℕ} {X : Type 0} → Check m i (Found t) n → Check m i No k → X
+not-both m i c d = absurd (Found-No (one_check m i c d))
+
+-- Two numbers are equal where neither is below the other.
+neither-below : (i j : ℕ) → (i < j → ⊥) → (j < i → ⊥) → i ≡ j
+neither-below i j f g = ⊎_elim (λ less. absurd (f less)) (λ no. ⊎_elim (λ less. absurd (g less)) (λ other. omega (arith, no, other)) (cases_lt j i)) (cases_lt i j)
+
+-- A text within the limit of files that reads as a module has it for its answer.
+within-answer : (text : List ℕ) (m : List Declaration) (b : Bool) → nat_le (length text) max_file ≡ b → length text ≤ max_file → Reads text m
+    → (if b then answer text else cut_at max_file (read_bytes unread (take max_file text))) ≡ reads m
+within-answer text m true e within h = Reads-answer text m h
+within-answer text m false e within h = absurd (grind (arith, common_steps, e, within))
+
+Reads-within : (text : List ℕ) (m : List Declaration) → length text ≤ max_file → Reads text m → answer_within (Some max_file) text ≡ reads m
+Reads-within text m within h = within-answer text m (nat_le (length text) max_file) refl within h
+
+-- The kind of a fault.
+kind_of : Fault → DkKind
+kind_of NoPrelude = kind.NoPrelude
+kind_of BadText = kind.BadText
+kind_of (UnknownName name) = kind.UnknownName name
+kind_of (NameTwice name) = kind.NameTwice name
+kind_of DkTooDeep = kind.DkTooDeep
+kind_of DkTooLong = kind.DkTooLong
+
+kind_of-fault_of : (k : DkKind) → kind_of (fault_of k) ≡ k
+unfolding kind_of
+kind_of-fault_of kind.NoPrelude = refl
+kind_of-fault_of kind.BadText = refl
+kind_of-fault_of (kind.UnknownName name) = refl
+kind_of-fault_of (kind.NameTwice name) = refl
+kind_of-fault_of kind.DkTooDeep = refl
+kind_of-fault_of kind.DkTooLong = refl
+
+-- A text has one refusal.
+one_refusal : (a : Answer) (p q : ℕ) (k l : DkKind) → Refuses a p k → Refuses a q l → DkRefused p k ≡ DkRefused q l
+one_refusal a p q k l h g =
+    let two : refused h.r ≡ refused g.r = sym h.is ∙ g.is in
+    let same : h.r ≡ g.r = cc in
+    let places : p ≡ q = h.place ∙ ap (λ r. min r.place 18446744073709551615) same ∙ sym g.place in
+    let kinds : k ≡ l = sym (kind_of-fault_of k) ∙ ap kind_of (h.fault ∙ ap (λ r. r.fault) same ∙ sym g.fault) ∙ kind_of-fault_of l in
+    ap (λ place. DkRefused place k) places ∙ ap (DkRefused q) kinds
+
+-- A text is not both read and refused.
+reads-or-refused : (text : List ℕ) (m : List Declaration) (p : ℕ) (k : DkKind) {X : Type 0} → length text ≤ max_file → Reads text m → Refuses (answer_within (Some max_file) text) p k → X
+reads-or-refused text m p k within h g = let two : reads m ≡ refused g.r = sym (Reads-within text m within h) ∙ g.is in absurd (cc)
+
+module _ (files : Files) (name : List ℕ) where
+  -- A file that is told reads as one module, and is not refused.
+  one_module : (m n : List Declaration) → ReadsAs (Some files) name m → ReadsAs (Some files) name n → m ≡ n
+  one_module m n h g = sym (h.only n (subst (λ text. Reads text n) (g.read ∙ sym h.read) g.reads))
+
+  read_or_refused : (m : List Declaration) (p : ℕ) (k : DkKind) {X : Type 0} → ReadsAs (Some files) name m → IsRefusedAt (Some files) name p k → X
+  read_or_refused m p k h g = reads-or-refused h.text m p k h.within h.reads (subst (λ text. Refuses (answer_within (Some max_file) text) p k) (g.read ∙ sym h.read) g.refused)
+
+  module _ (budget : ℕ) where
+    accepted_due : (m : List Declaration) → IsAccepted (Some files) name m → (due : Status) → IsDueOfCheck (Some files) name budget due → Done ≡ due
+    accepted_due m h Done d = refl
+    accepted_due m h (DkRefused p k) d = read_or_refused m p k h.file d
+    accepted_due m h (IllTyped i) d =
+        let no = subst (λ n. Check n i No d.no.price) (one_module d.m m d.file h.file) d.no.by in
+        let passes = h.pass i (slice_get_within m i no.declaration no.at) in
+        not-both m i passes.by no
+    accepted_due m h (Refused article line kind) d = absurd d
+    accepted_due m h Usage d = absurd d
+    accepted_due m h ReadFault d = absurd d
+    accepted_due m h WriteFault d = absurd d
+    accepted_due m h Memory d = absurd d
+    accepted_due m h (OverBudget i) d = absurd d
+
+    refused_due : (p : ℕ) (k : DkKind) → IsRefusedAt (Some files) name p k → (due : Status) → IsDueOfCheck (Some files) name budget due → DkRefused p k ≡ due
+    refused_due p k h Done d = read_or_refused d.m p k d.file h
+    refused_due p k h (DkRefused q l) d = one_refusal (answer_within (Some max_file) h.text) p q k l h.refused (subst (λ text. Refuses (answer_within (Some max_file) text) q l) (d.read ∙ sym h.read) d.refused)
+    refused_due p k h (IllTyped i) d = read_or_refused d.m p k d.file h
+    refused_due p k h (Refused article line kind) d = absurd d
+    refused_due p k h Usage d = absurd d
+    refused_due p k h ReadFault d = absurd d
+    refused_due p k h WriteFault d = absurd d
+    refused_due p k h Memory d = absurd d
+    refused_due p k h (OverBudget i) d = absurd d
+
+    ill_typed_due : (i : ℕ) → IsIllTyped (Some files) name i → (due : Status) → IsDueOfCheck (Some files) name budget due → IllTyped i ≡ due
+    ill_typed_due i h Done d =
+        let no = subst (λ n. Check n i No h.price) (one_module h.m d.m h.file d.file) h.no in
+        not-both d.m i (d.pass i (slice_get_within d.m i no.declaration no.at)).1.by no
+    ill_typed_due i h (DkRefused p k) d = read_or_refused h.m p k h.file d
+    ill_typed_due i h (IllTyped j) d =
+        let same = one_module d.m h.m d.file h.file in
+        ap IllTyped (neither-below i j
+        (λ less. not-both d.m i (d.before i less).1.by (subst (λ n. Check n i No h.price) (sym same) h.no))
+        (λ less. not-both h.m j (h.before j less).by (subst (λ n. Check n j No d.no.price) same d.no.by)))
+    ill_typed_due i h (Refused article line kind) d = absurd d
+    ill_typed_due i h Usage d = absurd d
+    ill_typed_due i h ReadFault d = absurd d
+    ill_typed_due i h WriteFault d = absurd d
+    ill_typed_due i h Memory d = absurd d
+    ill_typed_due i h (OverBudget j) d = absurd d
+
+    over_budget_due : (i : ℕ) → IsOverBudget (Some files) name budget i → (due : Status) → IsDueOfCheck (Some files) name budget due → ⊥
+    over_budget_due i h Done d =
+        let same = one_module d.m h.m d.file h.file in
+        let passes = d.pass i (subst (λ n. i < length n) (sym same) h.is) in
+        absurd (omega (arith, passes.1.within, h.over (Found passes.0) passes.1.price (subst (λ n. Check n i (Found passes.0) passes.1.price) same passes.1.by)))
+    over_budget_due i h (DkRefused p k) d = read_or_refused h.m p k h.file d
+    over_budget_due i h (IllTyped j) d =
+        let same = one_module d.m h.m d.file h.file in
+        let equal : i ≡ j = neither-below i j
+        (λ less. let passes = d.before i less in absurd (omega (arith, passes.1.within, h.over (Found passes.0) passes.1.price (subst (λ n. Check n i (Found passes.0) passes.1.price) same passes.1.by))))
+        (λ less. not-both h.m j (h.before j less).by (subst (λ n. Check n j No d.no.price) same d.no.by)) in
+        absurd (omega (arith, d.no.within, h.over No d.no.price (subst (λ k. Check h.m k No d.no.price) (sym equal) (subst (λ n. Check n j No d.no.price) same d.no.by))))
+    over_budget_due i h (Refused article line kind) d = absurd d
+    over_budget_due i h Usage d = absurd d
+    over_budget_due i h ReadFault d = absurd d
+    over_budget_due i h WriteFault d = absurd d
+    over_budget_due i h Memory d = absurd d
+    over_budget_due i h (OverBudget j) d = absurd d
+
+-- Over a shelf that tells its files.
+module _ (told : Option Files) (name : List ℕ) (budget : ℕ) (tells : IsTrue (is_some told)) where
+  pub accepted-due : (m : List Declaration) → IsAccepted told name m → (due : Status) → IsDueOfCheck told name budget due → Done ≡ due
+  accepted-due = by told tells
+    where
+      by : (o : Option Files) → IsTrue (is_some o) → (m : List Declaration) → IsAccepted o name m → (due : Status) → IsDueOfCheck o name budget due → Done ≡ due
+      by None t = absurd (cc)
+      by (Some files) t = accepted_due files name budget
+
+  pub refused-due : (p : ℕ) (k : DkKind) → IsRefusedAt told name p k → (due : Status) → IsDueOfCheck told name budget due → DkRefused p k ≡ due
+  refused-due = by told tells
+    where
+      by : (o : Option Files) → IsTrue (is_some o) → (p : ℕ) (k : DkKind) → IsRefusedAt o name p k → (due : Status) → IsDueOfCheck o name budget due → DkRefused p k ≡ due
+      by None t = absurd (cc)
+      by (Some files) t = refused_due files name budget
+
+  pub ill_typed-due : (i : ℕ) → IsIllTyped told name i → (due : Status) → IsDueOfCheck told name budget due → IllTyped i ≡ due
+  ill_typed-due = by told tells
+    where
+      by : (o : Option Files) → IsTrue (is_some o) → (i : ℕ) → IsIllTyped o name i → (due : Status) → IsDueOfCheck o name budget due → IllTyped i ≡ due
+      by None t = absurd (cc)
+      by (Some files) t = ill_typed_due files name budget
+
+  pub over_budget-due : (i : ℕ) → IsOverBudget told name budget i → (due : Status) → IsDueOfCheck told name budget due → ⊥
+  over_budget-due = by told tells
+    where
+      by : (o : Option Files) → IsTrue (is_some o) → (i : ℕ) → IsOverBudget o name budget i → (due : Status) → IsDueOfCheck o name budget due → ⊥
+      by None t = absurd (cc)
+      by (Some files) t = over_budget_due files name budget

@@ -1,0 +1,273 @@
+-- What a call promises comes of its outputs, and of what the outside keeps. Each form has the facts on its answers that this rests on.
+use Rattle.std.proofs.Common.{◌≡◌, ◌≤◌, ◌<◌, ◌⊎◌, inl, inr, ℕ, List, [], ◌∷◌, length, Option, None, Some, IsTrue, true, refl, sym, ap, subst, ◌∙◌, arith}
+use Rattle.std.specs.Prelude.{is_some}
+use Rattle.std.proofs.lemmas.List.{append-nil}
+use Rattle.bridge_base.specs.Outside.{Files, Gains, file}
+use Rattle.hol_spec.specs.Proofs.{Accepted}
+use Rattle.lp_spec.specs.Modules.{Declaration}
+use Rattle.article_spec.specs.Run.{Outcome, accepted, refused_at, RunsBy}
+use Rattle.article_laws.specs.RunLaws.{one_outcome}
+use Rattle.module_spec.specs.Image.{image}
+use Rattle.module_spec.specs.Stands.{Stands}
+use Rattle.bridge_spec.specs.FirstPath.{first_path}
+use Rattle.bridge_spec.specs.Forms.{Form, translate, check}
+use Rattle.bridge_spec.specs.Texts.{usage_line}
+use Rattle.bridge_spec.specs.Calls.{Shelved, Sunk, Call}
+use Rattle.bridge_spec.specs.FileChecks.{IsAccepted, ReadsWellTyped}
+use Rattle.bridge_spec.specs.Answers.{RunsTo, FormRunsTo, HasOutcome, answer_of, IsDue, ReadFailed, FormAnswers, articles}
+use Rattle.bridge_spec.specs.Outputs.{Gained, Failed, Delivers, Outputs}
+use Rattle.bridge_spec.specs.Promises.{ReadWell, Aside, KeepsOut, Promise}
+use Rattle.bridge_spec.specs.declared.status.Status.{Status}
+use Rattle.bridge_spec.specs.declared.status.Status.TheVariants.{Done, Refused, Usage, ReadFault, WriteFault, Memory, DkRefused, IllTyped, OverBudget}
+use Rattle.bridge_answer.specs.OneDue.{accepted-due, refused-due, ill_typed-due, over_budget-due}
+
+-- What is asked of the answers of a form, before anything is written.
+pub record AreAnswers (form : Option Form) (shelf : Shelved) : Type 0 where
+  -- the answer is the one that is due
+  pub exact : ReadWell shelf → (answer due : Status) (out note : List ℕ) → FormAnswers form shelf answer out note → IsDue form shelf.told_before due → Aside answer (answer ≡ due)
+  -- only words that are no form are answered with Usage
+  pub usage : (out note : List ℕ) → FormAnswers form shelf Usage out note → form ≡ None
+  -- a read fault has its cause
+  pub read_fault : (out note : List ℕ) → FormAnswers form shelf ReadFault out note → ReadFailed shelf
+  -- a write fault is no answer before anything is written
+  pub write_fault : (out note : List ℕ) → FormAnswers form shelf WriteFault out note → ⊥
+  -- any answer but Done writes nothing to standard output
+  pub quiet : (answer : Status) (out note : List ℕ) → FormAnswers form shelf answer out note → (answer ≡ Done → ⊥) → out ≡ []
+
+-- What holds of every answer holds of each, want of memory and a failing write aside.
+aside : (status : Status) (fact : Type 0) → fact → Aside status fact
+aside Done fact h = h
+aside (Refused article line kind) fact h = h
+aside Usage fact h = h
+aside ReadFault fact h = h
+aside WriteFault fact h = tt
+aside Memory fact h = tt
+aside (DkRefused place kind) fact h = h
+aside (IllTyped i) fact h = h
+aside (OverBudget i) fact h = h
+
+-- No form: one answer.
+no_form-usage : (shelf : Shelved) (answer : Status) (out note : List ℕ) → FormAnswers None shelf answer out note → answer ≡ Usage
+no_form-usage shelf Done out note h = absurd h
+no_form-usage shelf (Refused article line kind) out note h = absurd h
+no_form-usage shelf Usage out note h = refl
+no_form-usage shelf ReadFault out note h = absurd h
+no_form-usage shelf WriteFault out note h = absurd h
+no_form-usage shelf Memory out note h = absurd h
+no_form-usage shelf (DkRefused place kind) out note h = absurd h
+no_form-usage shelf (IllTyped i) out note h = absurd h
+no_form-usage shelf (OverBudget i) out note h = absurd h
+
+no_form-quiet : (shelf : Shelved) (answer : Status) (out note : List ℕ) → FormAnswers None shelf answer out note → out ≡ []
+no_form-quiet shelf Done out note h = absurd h
+no_form-quiet shelf (Refused article line kind) out note h = absurd h
+no_form-quiet shelf Usage out note h = h.0
+no_form-quiet shelf ReadFault out note h = absurd h
+no_form-quiet shelf WriteFault out note h = absurd h
+no_form-quiet shelf Memory out note h = absurd h
+no_form-quiet shelf (DkRefused place kind) out note h = absurd h
+no_form-quiet shelf (IllTyped i) out note h = absurd h
+no_form-quiet shelf (OverBudget i) out note h = absurd h
+
+no_form-answers : (shelf : Shelved) → AreAnswers None shelf
+no_form-answers shelf = record {
+  exact = λ well answer due out note h d. aside answer (answer ≡ due) (no_form-usage shelf answer out note h ∙ sym d);
+  usage = λ out note h. refl;
+  read_fault = λ out note h. absurd h;
+  write_fault = λ out note h. h;
+  quiet = λ answer out note h differs. no_form-quiet shelf answer out note h;
+}
+
+-- `translate`: files that are told have one outcome.
+RunsTo-unique : (told : Option Files) (names : List (List ℕ)) (a b : Outcome) → IsTrue (is_some told) → RunsTo first_path told names a → RunsTo first_path told names b → a ≡ b
+RunsTo-unique None names a b h p q = absurd (cc)
+RunsTo-unique (Some files) names a b h p q =
+    let one = one_outcome first_path (articles files names) in
+    one.only a (subst (λ texts. RunsBy first_path texts a) p.read p.runs) ∙ sym (one.only b (subst (λ texts. RunsBy first_path texts b) q.read q.runs))
+
+translate-exact : (names : List (List ℕ)) (shelf : Shelved) → ReadWell shelf → (answer due : Status) (out note : List ℕ) → FormAnswers (Some (translate names)) shelf answer out note
+    → IsDue (Some (translate names)) shelf.told_before due → Aside answer (answer ≡ due)
+translate-exact names shelf well Done due out note h d = ap answer_of (RunsTo-unique shelf.told_before names (accepted h.0) d.outcome well.tells h.1 d.runs) ∙ sym d.is
+translate-exact names shelf well (Refused article line kind) due out note h d = ap answer_of (RunsTo-unique shelf.told_before names (refused_at article line kind) d.outcome well.tells h.0 d.runs) ∙ sym d.is
+translate-exact names shelf well Usage due out note h d = absurd h
+translate-exact names shelf well ReadFault due out note h d = absurd (well.no_fault h.0)
+translate-exact names shelf well WriteFault due out note h d = tt
+translate-exact names shelf well Memory due out note h d = tt
+translate-exact names shelf well (DkRefused place kind) due out note h d = absurd h
+translate-exact names shelf well (IllTyped i) due out note h d = absurd h
+translate-exact names shelf well (OverBudget i) due out note h d = absurd h
+
+translate-quiet : (names : List (List ℕ)) (shelf : Shelved) (answer : Status) (out note : List ℕ) → FormAnswers (Some (translate names)) shelf answer out note → (answer ≡ Done → ⊥) → out ≡ []
+translate-quiet names shelf Done out note h differs = absurd (differs refl)
+translate-quiet names shelf (Refused article line kind) out note h differs = h.1.0
+translate-quiet names shelf Usage out note h differs = absurd h
+translate-quiet names shelf ReadFault out note h differs = h.1.0
+translate-quiet names shelf WriteFault out note h differs = absurd h
+translate-quiet names shelf Memory out note h differs = h.0
+translate-quiet names shelf (DkRefused place kind) out note h differs = absurd h
+translate-quiet names shelf (IllTyped i) out note h differs = absurd h
+translate-quiet names shelf (OverBudget i) out note h differs = absurd h
+
+translate-answers : (names : List (List ℕ)) (shelf : Shelved) → AreAnswers (Some (translate names)) shelf
+translate-answers names shelf = record {
+  exact = translate-exact names shelf;
+  usage = λ out note h. absurd h;
+  read_fault = λ out note h. h.0;
+  write_fault = λ out note h. h;
+  quiet = translate-quiet names shelf;
+}
+
+-- `check`: a file that is told has at most one answer that is due, and one of another cause is not due.
+check-exact : (name : List ℕ) (budget : ℕ) (shelf : Shelved) → ReadWell shelf → (answer due : Status) (out note : List ℕ) → FormAnswers (Some (check name budget)) shelf answer out note
+    → IsDue (Some (check name budget)) shelf.told_before due → Aside answer (answer ≡ due)
+check-exact name budget shelf well Done due out note h d = accepted-due shelf.told_before name budget well.tells h.0 h.1 due d
+check-exact name budget shelf well (Refused article line kind) due out note h d = absurd h
+check-exact name budget shelf well Usage due out note h d = absurd h
+check-exact name budget shelf well ReadFault due out note h d = absurd (well.no_fault h.0)
+check-exact name budget shelf well WriteFault due out note h d = tt
+check-exact name budget shelf well Memory due out note h d = tt
+check-exact name budget shelf well (DkRefused place kind) due out note h d = refused-due shelf.told_before name budget well.tells place kind h.0 due d
+check-exact name budget shelf well (IllTyped i) due out note h d = ill_typed-due shelf.told_before name budget well.tells i h.0 due d
+check-exact name budget shelf well (OverBudget i) due out note h d = absurd (over_budget-due shelf.told_before name budget well.tells i h.0 due d)
+
+check-quiet : (name : List ℕ) (budget : ℕ) (shelf : Shelved) (answer : Status) (out note : List ℕ) → FormAnswers (Some (check name budget)) shelf answer out note → (answer ≡ Done → ⊥) → out ≡ []
+check-quiet name budget shelf Done out note h differs = absurd (differs refl)
+check-quiet name budget shelf (Refused article line kind) out note h differs = absurd h
+check-quiet name budget shelf Usage out note h differs = absurd h
+check-quiet name budget shelf ReadFault out note h differs = h.1.0
+check-quiet name budget shelf WriteFault out note h differs = absurd h
+check-quiet name budget shelf Memory out note h differs = h.0
+check-quiet name budget shelf (DkRefused place kind) out note h differs = h.1.0
+check-quiet name budget shelf (IllTyped i) out note h differs = h.1.0
+check-quiet name budget shelf (OverBudget i) out note h differs = h.1.0
+
+check-answers : (name : List ℕ) (budget : ℕ) (shelf : Shelved) → AreAnswers (Some (check name budget)) shelf
+check-answers name budget shelf = record {
+  exact = check-exact name budget shelf;
+  usage = λ out note h. absurd h;
+  read_fault = λ out note h. h.0;
+  write_fault = λ out note h. h;
+  quiet = check-quiet name budget shelf;
+}
+
+-- the answers of every form
+each-answers : (form : Option Form) (shelf : Shelved) → AreAnswers form shelf
+each-answers None shelf = no_form-answers shelf
+each-answers (Some (translate names)) shelf = translate-answers names shelf
+each-answers (Some (check name budget)) shelf = check-answers name budget shelf
+
+-- The checker's law: what is accepted is well typed.
+accepted-well_typed : (told : Option Files) (name : List ℕ) (files : Files) (m : List Declaration) → told ≡ Some files → IsAccepted told name m → ReadsWellTyped (file files name)
+accepted-well_typed None name files m e h = absurd (cc)
+accepted-well_typed (Some others) name files m e h =
+    let same : others ≡ files = cc in
+    subst (λ fs. ReadsWellTyped (file fs name)) same
+    (subst ReadsWellTyped h.file.read (record { m = m; reads = h.file.reads; only = h.file.only; typed = h.typed }))
+
+-- What holds of the answer holds of the result, a failing write aside.
+delivered-Aside : (fact : Status → Type 0) (answer : Status) (out_text note_text : List ℕ) (out note : Sunk) (result : Status) → Delivers answer out_text note_text out note result
+    → Aside answer (fact answer) → Aside result (fact result)
+delivered-Aside fact answer out_text note_text out note result d h = elim d [
+  | inl f ↦ subst (λ status. Aside status (fact status)) (sym f.0) h
+  | inr f ↦ subst (λ status. Aside status (fact status)) (sym f.0) tt
+]
+
+-- A result that no failing write gives is the answer.
+delivered-answer : (answer : Status) (out_text note_text : List ℕ) (out note : Sunk) (result : Status) → Delivers answer out_text note_text out note result
+    → (result ≡ WriteFault → ⊥) → answer ≡ result
+delivered-answer answer out_text note_text out note result d differs = elim d [
+  | inl f ↦ sym f.0
+  | inr f ↦ absurd (differs f.0)
+]
+
+-- A write fault has its cause.
+delivered-Failed : (answer : Status) (out_text note_text : List ℕ) (out note : Sunk) (result : Status) → Delivers answer out_text note_text out note result
+    → (answer ≡ WriteFault → ⊥) → result ≡ WriteFault → Failed out ⊎ Failed note
+delivered-Failed answer out_text note_text out note result d differs e = elim d [
+  | inl f ↦ absurd (differs (sym f.0 ∙ e))
+  | inr f ↦ elim f.1 [
+    | inl g ↦ inl g.0
+    | inr g ↦ inr g.0
+  ]
+]
+
+-- What gains nothing stays as it was.
+gained-none : (a b : Option (List ℕ)) → Gains a [] b → b ≡ a
+gained-none None None h = refl
+gained-none (Some a) (Some b) h = ap Some (h ∙ append-nil a)
+gained-none None (Some b) h = absurd h
+gained-none (Some a) None h = absurd h
+
+outputs-KeepsOut : (call : Call) (result : Status) → Outputs call result → KeepsOut result call.out
+outputs-KeepsOut call result h = by_cases result h
+  where
+    same : (result : Status) → Outputs call result → (result ≡ Done → ⊥) → (result ≡ WriteFault → ⊥) → call.out.got ≡ call.out.got_before
+    same result h no_text no_fault =
+        let e = delivered-answer h.answer h.out_text h.note_text call.out call.note result h.delivered no_fault in
+        let empty = (each-answers call.form call.shelf).quiet h.answer h.out_text h.note_text h.answers (λ d. no_text (sym e ∙ d)) in
+        elim h.delivered [
+          | inl f ↦ gained-none call.out.got_before call.out.got (subst (Gained call.out) empty f.1)
+          | inr f ↦ absurd (no_fault f.0)
+        ]
+
+    by_cases : (result : Status) → Outputs call result → KeepsOut result call.out
+    by_cases Done h = tt
+    by_cases (Refused article line kind) h = same (Refused article line kind) h (λ e. cc) (λ e. cc)
+    by_cases Usage h = same Usage h (λ e. cc) (λ e. cc)
+    by_cases ReadFault h = same ReadFault h (λ e. cc) (λ e. cc)
+    by_cases WriteFault h = tt
+    by_cases Memory h = same Memory h (λ e. cc) (λ e. cc)
+    by_cases (DkRefused place kind) h = same (DkRefused place kind) h (λ e. cc) (λ e. cc)
+    by_cases (IllTyped i) h = same (IllTyped i) h (λ e. cc) (λ e. cc)
+    by_cases (OverBudget i) h = same (OverBudget i) h (λ e. cc) (λ e. cc)
+
+-- All that a call promises comes of its outputs, of what the outside keeps, and of what the module of an accepted run stands for.
+pub outputs-Promise : (call : Call) (result : Status) → ((run : Accepted) → HasOutcome call (accepted run) → Stands (image run) run) → Outputs call result → call.shelf.told ≡ call.shelf.told_before
+    → call.shelf.faults_before ≤ call.shelf.faults → call.out.faults_before ≤ call.out.faults → call.note.faults_before ≤ call.note.faults → Promise call result
+outputs-Promise call result stands h told shelf_count out_count note_count = record {
+  outputs = h;
+  exact = λ well due d. delivered-Aside (λ status. status ≡ due) h.answer h.out_text h.note_text call.out call.note result h.delivered (facts.exact well h.answer due h.out_text h.note_text h.answers d);
+  stands = stands;
+  checked = λ name budget files form told_files done. of_check name budget files form told_files (subst (λ status. FormAnswers call.form call.shelf status h.out_text h.note_text) (is done (λ f. cc)) h.answers);
+  usage = λ e. delivered-Aside (λ status. status ≡ Usage) h.answer h.out_text h.note_text call.out call.note result h.delivered
+      (aside h.answer (h.answer ≡ Usage) (no_form-usage call.shelf h.answer h.out_text h.note_text (subst (λ form. FormAnswers form call.shelf h.answer h.out_text h.note_text) e h.answers)));
+  usage_alone = λ e. facts.usage h.out_text h.note_text (subst (λ status. FormAnswers call.form call.shelf status h.out_text h.note_text) (is e (λ f. cc)) h.answers);
+  read_fault = λ e. facts.read_fault h.out_text h.note_text (subst (λ status. FormAnswers call.form call.shelf status h.out_text h.note_text) (is e (λ f. cc)) h.answers);
+  write_fault = delivered-Failed h.answer h.out_text h.note_text call.out call.note result h.delivered
+      (λ e. facts.write_fault h.out_text h.note_text (subst (λ status. FormAnswers call.form call.shelf status h.out_text h.note_text) e h.answers));
+  out_kept = outputs-KeepsOut call result h;
+  told_kept = told;
+  shelf_count = shelf_count;
+  out_count = out_count;
+  note_count = note_count;
+}
+  where
+    facts : AreAnswers call.form call.shelf
+    facts = each-answers call.form call.shelf
+
+    is : {status : Status} → result ≡ status → (status ≡ WriteFault → ⊥) → h.answer ≡ status
+    is e differs = delivered-answer h.answer h.out_text h.note_text call.out call.note result h.delivered (λ f. differs (sym e ∙ f)) ∙ e
+
+    of_check : (name : List ℕ) (budget : ℕ) (files : Files) → call.form ≡ Some (check name budget) → call.shelf.told_before ≡ Some files
+        → FormAnswers call.form call.shelf Done h.out_text h.note_text → ReadsWellTyped (file files name)
+    of_check name budget files form told_files a =
+        let b = subst (λ f. FormAnswers f call.shelf Done h.out_text h.note_text) form a in
+        accepted-well_typed call.shelf.told_before name files b.0 told_files b.1
+
+-- Words that are no form: the usage line is delivered, and nothing else is done.
+pub usage-Promise : (call : Call) (result : Status) → call.form ≡ None → Delivers Usage [] usage_line call.out call.note result → call.shelf.told ≡ call.shelf.told_before
+    → call.shelf.faults_before ≤ call.shelf.faults → call.out.faults_before ≤ call.out.faults → call.note.faults_before ≤ call.note.faults → Promise call result
+usage-Promise call result none d =
+    outputs-Promise call result (λ run has. absurd (subst (λ form. FormRunsTo form call.shelf.told_before (accepted run)) none has)) (record {
+      answer = Usage;
+      out_text = [];
+      note_text = usage_line;
+      answers = subst (λ form. FormAnswers form call.shelf Usage [] usage_line) (sym none) (refl, refl);
+      delivered = d;
+    })
+
+-- What a check answers by its cause, delivered.
+pub check-Promise : (call : Call) (result : Status) (name : List ℕ) (budget : ℕ) → call.form ≡ Some (check name budget) → Outputs call result → call.shelf.told ≡ call.shelf.told_before
+    → call.shelf.faults_before ≤ call.shelf.faults → call.out.faults_before ≤ call.out.faults → call.note.faults_before ≤ call.note.faults → Promise call result
+check-Promise call result name budget form h =
+    outputs-Promise call result (λ run has. absurd (subst (λ f. FormRunsTo f call.shelf.told_before (accepted run)) form has)) h

@@ -1,0 +1,72 @@
+//! What is to be answered.
+ghost use Rattle.std.specs.Prelude.{◌≡◌};
+ghost use Rattle.bridge_answer.specs.AnswerTexts.{status_of, text_of};
+
+use bridge_base::Kind;
+use bridge_spec::Status;
+use dk_read::DkKind;
+
+/// The module of an accepted run, and what is counted of it.
+#[derive(Drop)]
+pub struct Translation {
+    /// The text of the module.
+    pub text: Vec<u8>,
+    /// How many exports the run has.
+    pub exports: u64,
+    /// How many declarations follow the prelude.
+    pub declarations: u64,
+    /// The sum of all bounds, or the greatest number.
+    pub bounds: u128,
+}
+
+/// What is to be answered, before anything is written.
+#[derive(Drop)]
+pub enum Answer {
+    Translated(Translation),
+    /// A text for standard output, and nothing to say beside it.
+    Told(Vec<u8>),
+    /// The first article is refused at this line.
+    Refused(u64, Kind),
+    Usage,
+    ReadFault,
+    Memory,
+    /// The file of a module is refused at this byte.
+    DkRefused(u64, DkKind),
+    /// This declaration is ill typed.
+    IllTyped(u64),
+    /// The check of this declaration does not end within its budget.
+    OverBudget(u64),
+}
+
+impl Answer {
+    /// The answer as a status.
+    pub fn into_status(self) -> Status
+        ensures { result ≡ status_of self }
+    {
+        match self {
+            Answer::Translated(_) | Answer::Told(_) => Status::Done,
+            Answer::Refused(line, kind) => Status::Refused {
+                article: 1,
+                line,
+                kind,
+            },
+            Answer::Usage => Status::Usage,
+            Answer::ReadFault => Status::ReadFault,
+            Answer::Memory => Status::Memory,
+            Answer::DkRefused(place, kind) => Status::DkRefused { place, kind },
+            Answer::IllTyped(i) => Status::IllTyped(i),
+            Answer::OverBudget(i) => Status::OverBudget(i),
+        }
+    }
+
+    /// What the answer writes to standard output.
+    pub fn text(&self) -> &[u8]
+        ensures { result.now ≡ text_of self.now }
+    {
+        match self {
+            Answer::Translated(translation) => &translation.text,
+            Answer::Told(text) => text,
+            _ => &[],
+        }
+    }
+}

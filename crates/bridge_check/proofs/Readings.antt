@@ -1,0 +1,117 @@
+-- What the reader has of a file, piece by piece, and what comes of it at its end.
+use Rattle.std.proofs.Common.{◌≡◌, ◌+◌, ◌-◌, ◌<◌, ◌≤◌, ℕ, List, [], ◌++◌, length, Option, None, Some, Result, Ok, Err, false, OnOk, IfOk, IfErr, refl, sym, ap, subst, ◌∙◌, arith}
+use Rattle.std.specs.Prelude.{IfSome}
+use Rattle.std.specs.Result.{is_err}
+use Rattle.std.proofs.lemmas.List.{append-nil, length-append}
+use Rattle.bridge_base.specs.Outside.{Files, file, Gives}
+use Rattle.bridge_base.specs.Gaining.{gives_none, gives_both, given_whole}
+use Rattle.lp_spec.specs.Modules.{Declaration}
+use Rattle.lp_spec.specs.ReadingFaults.{answer_within}
+use Rattle.dk_read.specs.declared.faults.DkFault.{DkFault}
+use Rattle.dk_read.specs.declared.faults.DkFault.TheVariants as fault
+use Rattle.dk_read.specs.Readers.{Reading, IsFed, fed_with, IsWithin, IsRead, IsJudged, Judges, Feeds, Answers}
+use Rattle.dk_read.specs.Texts.{Refuses, Ends}
+use Rattle.bridge_spec.specs.FileChecks.{max_file, ReadsAs, IsRefusedAt}
+use Rattle.bridge_check.specs.declared.reading.Stop.{Stop}
+use Rattle.bridge_check.specs.declared.reading.Stop.TheVariants.{Refused, ReadFault, Memory}
+use Rattle.bridge_check.specs.Stops.{stop_of, bytes_told, IsModuleOf, IsRefusedText, StopsText, StopsFile}
+
+-- of the whole this is left, and the reader was fed what came before it
+pub record IsReading (whole left : Option (List ℕ)) (r : Reading) : Type 0 where
+  pub text : List ℕ
+  pub limit : r.limit ≡ Some max_file
+  pub fed : IsFed r text
+  pub within : length text ≤ max_file
+  pub given : Gives whole text left
+
+-- how many bytes the reader still takes, at most
+abbrev room_by : Option DkFault → List ℕ → ℕ
+room_by None text = max_file - length text
+room_by (Some f) text = max_file + 1
+
+abbrev pub room : Reading → ℕ
+room r = room_by r.fault r.text
+
+-- a reader that was fed nothing
+pub none_read : (whole : Option (List ℕ)) (r : Reading) → r.limit ≡ Some max_file → IsFed r [] → IsReading whole whole r
+none_read whole r limit fed = record { text = []; limit = limit; fed = fed; within = omega arith; given = gives_none whole }
+
+-- a reader that took a piece goes on
+pub piece_read : (whole old left : Option (List ℕ)) (r s : Reading) (piece : List ℕ) (h : IsReading whole old r) → Gives old piece left → s.limit ≡ r.limit → Feeds r piece s
+    → IsWithin r.limit (h.text ++ piece) → IsReading whole left s
+piece_read whole old left r s piece h gives limit feeds within = record {
+  text = h.text ++ piece;
+  limit = limit ∙ h.limit;
+  fed = feeds h.text h.fed;
+  within = subst (λ n. IsWithin n (h.text ++ piece)) h.limit within;
+  given = gives_both whole old left h.text piece h.given gives;
+}
+
+-- a reader that answers well has not stopped
+pub not_stopped : (f : Option DkFault) (u : Unit {0}) → Answers f (Ok u) → f ≡ None
+not_stopped None u h = refl
+not_stopped (Some f) u h = absurd h
+
+-- and has less room
+pub room_less : (r s : Reading) (text piece : List ℕ) → IsFed r text → IsFed s (text ++ piece) → s.fault ≡ None → length (text ++ piece) ≤ max_file → 0 < length piece → room s < room r
+room_less r s text piece old new going within some =
+    let fed = subst (λ f. fed_with f s (text ++ piece)) going new in
+    let now : room s ≡ max_file - (length text + length piece) = ap (λ f. room_by f s.text) going ∙ ap (λ t. max_file - length t) fed.0 ∙ ap (λ n. max_file - n) (length-append text piece) in
+    before r.fault old now
+  where
+    before : (f : Option DkFault) → fed_with f r text → room s ≡ max_file - (length text + length piece) → room s < room_by f r.text
+    before None h now = omega (arith, now, some, ap length h.0, length-append text piece, within)
+    before (Some f) h now = omega (arith, now)
+
+-- a text that goes on is refused, whatever follows
+pub piece_refused : (whole left : Option (List ℕ)) (text : List ℕ) (f : DkFault) → Gives whole text left → IsJudged (Some max_file) text (Err f) → StopsText whole (stop_of f)
+piece_refused None None text (fault.Refused p k) gives h = record { text = text ++ []; is = tt; refused = h.refuses [] }
+piece_refused (Some whole) (Some left) text (fault.Refused p k) gives h = record { text = text ++ left; is = sym gives; refused = h.refuses left }
+piece_refused None (Some left) text (fault.Refused p k) gives h = absurd gives
+piece_refused (Some whole) None text (fault.Refused p k) gives h = absurd gives
+piece_refused whole left text fault.Memory gives h = tt
+
+-- so it is where it was fed to the reader
+pub feed_refused : (whole old left : Option (List ℕ)) (r : Reading) (piece : List ℕ) (h : IsReading whole old r) (f : DkFault) → Gives old piece left → Judges r piece (Err f) → StopsText whole (stop_of f)
+feed_refused whole old left r piece h f gives judges =
+    piece_refused whole left (h.text ++ piece) f (gives_both whole old left h.text piece h.given gives) (subst (λ n. IsJudged n (h.text ++ piece) (Err f)) h.limit (judges h.text h.fed))
+
+-- the whole was read
+whole_read : (whole left : Option (List ℕ)) (text : List ℕ) → Gives whole text left → IfSome left (λ rest. rest ≡ []) → IfSome whole (λ bytes. text ≡ bytes)
+whole_read None left text gives end = tt
+whole_read (Some whole) left text gives end = sym (given_whole (Some whole) left text gives end)
+
+-- at the end of a file: the module of its text
+pub ended_well : (whole left : Option (List ℕ)) (r : Reading) (h : IsReading whole left r) (m : List Declaration) → IfSome left (λ rest. rest ≡ []) → IsRead r.limit h.text m → IsModuleOf whole m
+ended_well whole left r h m end is = record { text = h.text; is = whole_read whole left h.text h.given end; within = h.within; reads = is.reads; only = is.only }
+
+-- or its refusal
+pub ended_badly : (whole left : Option (List ℕ)) (r : Reading) (h : IsReading whole left r) (f : DkFault) → IfSome left (λ rest. rest ≡ []) → Ends (answer_within r.limit h.text) (Err f) → StopsText whole (stop_of f)
+ended_badly whole left r h (fault.Refused p k) end is = record { text = h.text; is = whole_read whole left h.text h.given end; refused = subst (λ n. Refuses (answer_within n h.text) p k) h.limit is }
+ended_badly whole left r h fault.Memory end is = tt
+
+-- the module of the bytes that are told of a file is that of the file
+pub file_module : (told : Option Files) (name : List ℕ) (m : List Declaration) → IsModuleOf (bytes_told told name) m → ReadsAs told name m
+file_module None name m h = record { text = h.text; read = tt; within = h.within; reads = h.reads; only = h.only }
+file_module (Some files) name m h = record { text = h.text; read = h.is; within = h.within; reads = h.reads; only = h.only }
+
+pub file_stop : (told : Option Files) (name : List ℕ) (stop : Stop) → StopsText (bytes_told told name) stop → StopsFile told name stop
+file_stop None name (Refused p k) h = record { text = h.text; read = tt; refused = h.refused }
+file_stop (Some files) name (Refused p k) h = record { text = h.text; read = h.is; refused = h.refused }
+file_stop told name ReadFault h = tt
+file_stop told name Memory h = tt
+
+-- what holds on success holds where there is no error
+pub without_error : {T E P : Type 0} (r : Result T E) → false ≡ is_err r → OnOk r P → P
+without_error (Ok x) e p = p
+without_error (Err e) f p = absurd (cc)
+
+-- what holds of a success holds of it as what follows
+pub on_success : {T E : Type 0} {P Q : T → Type 0} (r : Result T E) → IfOk r P → ((x : T) → P x → Q x) → IfOk r Q
+on_success (Ok x) h f = f x h
+on_success (Err e) h f = tt
+
+-- what holds of an error holds of it as what follows
+pub on_error : {T E : Type 0} {P Q : E → Type 0} (r : Result T E) → IfErr r P → ((e : E) → P e → Q e) → IfErr r Q
+on_error (Ok x) h f = tt
+on_error (Err e) h f = f e h

@@ -1,0 +1,78 @@
+//! The check of the module in a file, as an answer.
+ghost use Rattle.std.specs.Prelude.{◌≡◌, ◌<◌, ◌≤◌, IfOk, length, count_by, is_none};
+ghost use Rattle.lp_spec.specs.ModuleOrder.{IsModule};
+ghost use Rattle.holide_sig.specs.Modules.{declarations_of, IsHeld};
+ghost use Rattle.bridge_spec.specs.Calls.{shelved};
+ghost use Rattle.bridge_spec.specs.Answers.{AnswersCheck};
+ghost use Rattle.bridge_spec.specs.Texts.{checked_of, accepted_line};
+ghost use Rattle.bridge_answer.specs.AnswerTexts.{status_of, text_of, note_of};
+ghost use Rattle.bridge_check.specs.Verdicts.{IsJudged};
+
+use crate::reading::{Stop, read_module};
+use bridge_answer::Answer;
+use bridge_base::{Memory, Shelf};
+use holide_sig::Module;
+use itoa::Buffer;
+use lp_kernel::{Verdict, check_module};
+use std::alloc::Global;
+
+/// What is to be answered for the module in a file, each declaration of which has the budget.
+pub fn checked<H: Shelf>(alloc: Global, file: &str, budget: u64, shelf: &mut H) -> Answer
+    ensures answers { AnswersCheck file.now budget (shelved H.told H.faults shelf.old shelf.new) (status_of result) (text_of result) (note_of result) }
+    ensures told_kept { H.told shelf.new ≡ H.told shelf.old }
+    ensures count { H.faults shelf.old ≤ H.faults shelf.new }
+{
+    match read_module(alloc, file, shelf) {
+        Ok(mut module) => match judged(alloc, &mut module, budget) {
+            Ok(Verdict::Accepted) => match counts(alloc, &module) {
+                Ok(text) => Answer::Told(text),
+                Err(Memory) => Answer::Memory,
+            },
+            Ok(Verdict::IllTyped(i)) => Answer::IllTyped(i as u64),
+            Ok(Verdict::OverBudget(i)) => Answer::OverBudget(i as u64),
+            Err(Memory) => Answer::Memory,
+        },
+        Err(Stop::Refused(place, kind)) => Answer::DkRefused(place, kind),
+        Err(Stop::ReadFault) => Answer::ReadFault,
+        Err(Stop::Memory) => Answer::Memory,
+    }
+}
+
+/// The verdict on a module under one budget for each declaration.
+fn judged(alloc: Global, module: &mut Module, budget: u64) -> Result<Verdict, Memory>
+    requires held { IsHeld module.old }
+    requires is_module { IsModule (declarations_of module.old) }
+    ensures same { declarations_of module.new ≡ declarations_of module.old }
+    ensures judged { IfOk result (IsJudged (declarations_of module.old) budget) }
+{
+    let budgets = vec![in alloc; u128::from(budget); module.decls.len()]?;
+    check_module(alloc, module, &budgets)
+}
+
+/// The line that counts the declarations of a module, and those without a body.
+fn counts(alloc: Global, module: &Module) -> Result<Vec<u8>, Memory>
+    ensures { IfOk result (λ text. text.items ≡ accepted_line (checked_of (declarations_of module.now))) }
+{
+    let mut declarations = Buffer::new();
+    let mut unproved = Buffer::new();
+    let mut text = Vec::new(alloc);
+    text.extend_from_slice(b"accepted ")?;
+    text.extend_from_slice(declarations.format(module.decls.len()).as_bytes())?;
+    text.extend_from_slice(b", unproved ")?;
+    text.extend_from_slice(unproved.format(unproved_count(module)).as_bytes())?;
+    text.extend_from_slice(b"\n")?;
+    Ok(text)
+}
+
+/// How many declarations have no body.
+fn unproved_count(module: &Module) -> usize
+    ensures { result ≡ count_by (λ d. is_none d.body) (declarations_of module.now) }
+{
+    let mut count = 0;
+    for i in 0..module.decls.len() {
+        if module.decls.get(i).body.is_none() {
+            count += 1;
+        }
+    }
+    count
+}

@@ -1,0 +1,81 @@
+//! A module read from the file of a shelf, to its end.
+ghost use Rattle.std.specs.Prelude.{◌≡◌, ◌≢◌, ◌≤◌, [], None, Some, IfOk, IfErr, OnOk};
+ghost use Rattle.bridge_base.specs.Outside.{Rose};
+ghost use Rattle.lp_spec.specs.ModuleOrder.{IsModule};
+ghost use Rattle.holide_sig.specs.Modules.{declarations_of, IsHeld};
+ghost use Rattle.bridge_spec.specs.FileChecks.{max_file, ReadsAs};
+ghost use Rattle.bridge_check.specs.Stops.{bytes_told, IsModuleOf, StopsText, StopsFile, stop_of};
+
+use bridge_base::{Failed, Shelf};
+use dk_read::{DkFault, DkKind, Limit, Reader};
+use holide_sig::Module;
+use std::alloc::Global;
+
+/// The greatest number of bytes of a file.
+const MAX_FILE: u64 = 4294967296;
+
+/// Why no module came of a file.
+#[derive(Drop)]
+pub enum Stop {
+    /// The file is refused at this byte.
+    Refused(u64, DkKind),
+    ReadFault,
+    Memory,
+}
+
+/// The module that a file reads as.
+pub fn read_module<H: Shelf>(alloc: Global, file: &str, shelf: &mut H) -> Result<Module, Stop>
+    ensures reads { IfOk result (λ m. ReadsAs (H.told shelf.old) file.now (declarations_of m)) }
+    ensures held { IfOk result IsHeld }
+    ensures is_module { IfOk result (λ m. IsModule (declarations_of m)) }
+    ensures refused { IfErr result (StopsFile (H.told shelf.old) file.now) }
+    ensures read_fault { IfErr result (λ stop. stop ≡ Stop.ReadFault → Rose (H.faults shelf.old) (H.faults shelf.new)) }
+    ensures told_kept { H.told shelf.new ≡ H.told shelf.old }
+    ensures count { H.faults shelf.old ≤ H.faults shelf.new }
+{
+    if shelf.begin(file).is_err() {
+        return Err(Stop::ReadFault);
+    }
+    read_text(alloc, shelf)
+}
+
+/// The module that the file begun reads as.
+fn read_text<H: Shelf>(alloc: Global, shelf: &mut H) -> Result<Module, Stop>
+    ensures reads { IfOk result (λ m. IsModuleOf (H.left shelf.old) (declarations_of m)) }
+    ensures held { IfOk result IsHeld }
+    ensures is_module { IfOk result (λ m. IsModule (declarations_of m)) }
+    ensures refused { IfErr result (StopsText (H.left shelf.old)) }
+    ensures read_fault { IfErr result (λ stop. stop ≡ Stop.ReadFault → Rose (H.faults shelf.old) (H.faults shelf.new)) }
+    ensures told_kept { H.told shelf.new ≡ H.told shelf.old }
+    ensures count { H.faults shelf.old ≤ H.faults shelf.new }
+{
+    let mut reader = Reader::new(alloc, Limit::Bytes(MAX_FILE));
+    let mut buffer = [0u8; 4096];
+    loop {
+        let count = match shelf.read(&mut buffer) {
+            Ok(count) => count,
+            Err(Failed) => return Err(Stop::ReadFault),
+        };
+        if count == 0 {
+            break;
+        }
+        if let Err(fault) = reader.feed(&buffer[..count]) {
+            return Err(stop_of(fault));
+        }
+    }
+    match reader.finish() {
+        Ok(module) => Ok(module),
+        Err(fault) => Err(stop_of(fault)),
+    }
+}
+
+/// The stop for a fault of the reader.
+fn stop_of(fault: DkFault) -> Stop
+    ensures stop { result ≡ stop_of fault }
+    ensures own { result ≢ Stop.ReadFault }
+{
+    match fault {
+        DkFault::Refused { place, kind } => Stop::Refused(place, kind),
+        DkFault::Memory => Stop::Memory,
+    }
+}

@@ -1,0 +1,16 @@
+-- The form that was read of the words.
+use Rattle.std.specs.Prelude.{◌≡◌, length, Option, None, Some}
+use Rattle.bridge_spec.specs.Forms as forms
+use Rattle.bridge_spec.specs.Calls.{names_in}
+use Rattle.bridge_run.specs.declared.words.Form.{Form}
+use Rattle.bridge_run.specs.declared.words.Form.TheVariants.{Translate, Check}
+
+abbrev pub asked : Form → forms.Form
+asked (Translate files) = forms.translate (names_in files.now)
+asked (Check file budget) = forms.check file.now budget
+
+-- a translation is of one file
+abbrev pub HasOneFile : Option Form → Type 0
+HasOneFile None = Unit {0}
+HasOneFile (Some (Translate files)) = length files.now ≡ 1
+HasOneFile (Some (Check file budget)) = Unit {0}

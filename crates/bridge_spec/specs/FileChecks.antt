@@ -1,0 +1,93 @@
+-- What a check says of the module in a file.
+use Rattle.std.specs.Prelude.{◌≡◌, ℕ, ◌<◌, ◌≤◌, List, length, Option, None, Some}
+use Rattle.bridge_base.specs.Outside.{Files, file}
+use Rattle.lp_spec.specs.Trees.{Tree}
+use Rattle.lp_spec.specs.Modules.{Declaration}
+use Rattle.lp_spec.specs.Reading.{Reads}
+use Rattle.lp_spec.specs.ReadingFaults.{answer_within}
+use Rattle.lp_spec.specs.Typing.{WellTyped}
+use Rattle.lp_shape.specs.Check.{Reply, Found, No, Check}
+use Rattle.lp_shape.specs.CheckerLaw.{PassesAt}
+use Rattle.dk_read.specs.Texts.{Refuses}
+use Rattle.dk_read.specs.declared.faults.DkKind.{DkKind}
+
+-- the file of a module has at most this many bytes
+abbrev pub max_file : ℕ
+max_file = 4294967296
+
+-- these bytes were read of the file of that name: those that it has, where the shelf tells its files, and else some bytes
+abbrev pub IsReadOf : Option Files → List ℕ → List ℕ → Type 0
+IsReadOf (Some files) name text = text ≡ file files name
+IsReadOf None name text = Unit {0}
+
+-- the file of that name is within the limit, and reads as this module and as no other
+pub record ReadsAs (told : Option Files) (name : List ℕ) (m : List Declaration) : Type 0 where
+  pub text : List ℕ
+  pub read : IsReadOf told name text
+  pub within : length text ≤ max_file
+  pub reads : Reads text m
+  pub only : (other : List Declaration) → Reads text other → other ≡ m
+
+-- the file of that name is refused at this byte, for this fault
+pub record IsRefusedAt (told : Option Files) (name : List ℕ) (place : ℕ) (kind : DkKind) : Type 0 where
+  pub text : List ℕ
+  pub read : IsReadOf told name text
+  pub refused : Refuses (answer_within (Some max_file) text) place kind
+
+-- the check of each of the first declarations says yes
+abbrev pub PassFirst : List Declaration → ℕ → Type 0
+PassFirst m count = (k : ℕ) → k < count → PassesAt m k
+
+-- the file of that name reads as this module; the check of each declaration says yes, and the module is well typed
+pub record IsAccepted (told : Option Files) (name : List ℕ) (m : List Declaration) : Type 0 where
+  pub file : ReadsAs told name m
+  pub pass : PassFirst m (length m)
+  pub typed : WellTyped m
+
+-- the file of that name reads as a module; the checks of the declarations before this one say yes, and its own says no
+pub record IsIllTyped (told : Option Files) (name : List ℕ) (i : ℕ) : Type 0 where
+  pub m : List Declaration
+  pub file : ReadsAs told name m
+  pub before : PassFirst m i
+  pub price : ℕ
+  pub no : Check m i No price
+
+-- the file of that name reads as a module; the checks of the declarations before this one say yes, and its own does not end at a price
+-- within the budget
+pub record IsOverBudget (told : Option Files) (name : List ℕ) (budget i : ℕ) : Type 0 where
+  pub m : List Declaration
+  pub file : ReadsAs told name m
+  pub is : i < length m
+  pub before : PassFirst m i
+  pub over : (reply : Reply) (price : ℕ) → Check m i reply price → budget < price
+
+-- the check of the declaration ends in this reply at a price within the budget
+pub record EndsWithin (m : List Declaration) (budget i : ℕ) (reply : Reply) : Type 0 where
+  pub price : ℕ
+  pub by : Check m i reply price
+  pub within : price ≤ budget
+
+-- the check of each of the first declarations says yes, each at a price within the budget
+abbrev pub PassWithin : List Declaration → ℕ → ℕ → Type 0
+PassWithin m budget count = (k : ℕ) → k < count → (found : Tree) × EndsWithin m budget k (Found found)
+
+-- the file of that name reads as a module whose declarations all pass within the budget
+pub record PassesWithin (told : Option Files) (name : List ℕ) (budget : ℕ) : Type 0 where
+  pub m : List Declaration
+  pub file : ReadsAs told name m
+  pub pass : PassWithin m budget (length m)
+
+-- the file of that name reads as a module of which the declarations before this one pass within the budget, and the check of this one
+-- says no within it
+pub record FailsWithin (told : Option Files) (name : List ℕ) (budget i : ℕ) : Type 0 where
+  pub m : List Declaration
+  pub file : ReadsAs told name m
+  pub before : PassWithin m budget i
+  pub no : EndsWithin m budget i No
+
+-- the text reads as one module, and that module is well typed
+pub record ReadsWellTyped (text : List ℕ) : Type 0 where
+  pub m : List Declaration
+  pub reads : Reads text m
+  pub only : (other : List Declaration) → Reads text other → other ≡ m
+  pub typed : WellTyped m

@@ -1,0 +1,11 @@
+pub mod Contexts
+pub mod Halts
+pub mod MachineViews
+pub mod ObjectViews
+pub mod PrimitiveSymbols
+pub mod Refusals
+pub mod Runs
+pub mod Sizes
+pub mod TermViews
+pub mod Trees
+pub mod TypeViews

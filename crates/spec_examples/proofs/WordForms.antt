@@ -1,0 +1,68 @@
+-- Which words are a form, and the lines of a check.
+use Rattle.std.proofs.Common.{◌≡◌, [], ◌∷◌, refl}
+use Rattle.std.specs.Prelude.{None, Some, codes}
+use Rattle.std.specs.Fmt.{digits}
+use Rattle.lp_spec.specs.Modules.{types, bools, symbol}
+use Rattle.lp_spec.specs.declared.form.Form.TheVariants.{Def}
+use Rattle.lp_spec.specs.ReadingFaults.{NoPrelude, UnknownName}
+use Rattle.bridge_spec.specs.Forms.{translate, check, form_of}
+use Rattle.bridge_spec.specs.Texts.{checked_of, accepted_line, dk_refusal_line, ill_typed_line, over_budget_line}
+
+-- a file alone, and with a budget before it or behind it
+translated : form_of (codes "bridge" ∷ codes "translate" ∷ codes "a" ∷ []) ≡ Some (translate (codes "a" ∷ []))
+translated = refl
+
+checked : form_of (codes "bridge" ∷ codes "check" ∷ codes "a" ∷ []) ≡ Some (check (codes "a") 100000000)
+checked = refl
+
+checked_before : form_of (codes "bridge" ∷ codes "check" ∷ codes "--budget" ∷ codes "4" ∷ codes "a" ∷ []) ≡ Some (check (codes "a") 4)
+checked_before = refl
+
+checked_behind : form_of (codes "bridge" ∷ codes "check" ∷ codes "a" ∷ codes "--budget=4" ∷ []) ≡ Some (check (codes "a") 4)
+checked_behind = refl
+
+greatest : form_of (codes "bridge" ∷ codes "check" ∷ codes "a" ∷ codes "--budget" ∷ codes "18446744073709551615" ∷ []) ≡ Some (check (codes "a") 18446744073709551615)
+greatest = refl
+
+-- words that are no form: a budget that is too great, nothing, zero, with a zero before it or with a sign; two files; no file
+too_great : form_of (codes "bridge" ∷ codes "check" ∷ codes "a" ∷ codes "--budget" ∷ codes "18446744073709551616" ∷ []) ≡ None
+too_great = refl
+
+no_number : form_of (codes "bridge" ∷ codes "check" ∷ codes "a" ∷ codes "--budget=" ∷ []) ≡ None
+no_number = refl
+
+zero : form_of (codes "bridge" ∷ codes "check" ∷ codes "a" ∷ codes "--budget" ∷ codes "0" ∷ []) ≡ None
+zero = refl
+
+leading_zero : form_of (codes "bridge" ∷ codes "check" ∷ codes "a" ∷ codes "--budget=01" ∷ []) ≡ None
+leading_zero = refl
+
+signed : form_of (codes "bridge" ∷ codes "check" ∷ codes "a" ∷ codes "--budget=+1" ∷ []) ≡ None
+signed = refl
+
+two_files : form_of (codes "bridge" ∷ codes "check" ∷ codes "a" ∷ codes "b" ∷ []) ≡ None
+two_files = refl
+
+no_file : form_of (codes "bridge" ∷ codes "check" ∷ codes "--" ∷ codes "a" ∷ []) ≡ None
+no_file = refl
+
+-- a symbol has no body, and a definition has one
+counted : accepted_line (checked_of (symbol (codes "x") types ∷ record { name = codes "y"; form = Def; ty = types; body = Some bools } ∷ [])) ≡ codes "accepted 2, unproved 1\n"
+unfolding digits
+counted = refl
+
+refused : dk_refusal_line 0 NoPrelude ≡ codes "byte 0: NoPrelude\n"
+unfolding digits
+refused = refl
+
+unknown : dk_refusal_line 846 (UnknownName (codes "e")) ≡ codes "byte 846: UnknownName e\n"
+unfolding digits
+unknown = refl
+
+ill_typed : ill_typed_line 1 ≡ codes "declaration 1: ill typed\n"
+unfolding digits
+ill_typed = refl
+
+over_budget : over_budget_line 0 ≡ codes "declaration 0: over budget\n"
+unfolding digits
+over_budget = refl
