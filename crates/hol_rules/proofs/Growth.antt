@@ -16,6 +16,7 @@ use Rattle.hol_rules.specs.declared.made.Made.{Made as OneMade}
 use Rattle.hol_rules.specs.declared.made.Step.{Step}
 use Rattle.hol_rules.specs.Kept.{Grows}
 use Rattle.hol_rules.specs.Views.{variable_view, parameters_view, step_view, steps_view, made_view, one_view, AreParametersKnown, IsStepKnown, IsKept}
+use Rattle.hol_rules.proofs.PairLaws.{AreKnownPairs-Keeps, type_pairs-Keeps, term_pairs-Keeps}
 use Rattle.std.proofs.Math.Path.{ap₂}
 
 module _ {a b : Trees} (k : Keeps a b) where
@@ -32,12 +33,14 @@ module _ {a b : Trees} (k : Keeps a b) where
   AreParametersKnown-Keeps parameters.Nothing h = tt
   AreParametersKnown-Keeps (parameters.Term t) h = omega (arith, k.longer, h)
   AreParametersKnown-Keeps (parameters.Variable v) h = omega (arith, k.types.longer, h)
+  AreParametersKnown-Keeps (parameters.Subst s) h = AreKnownPairs-Keeps k s.types.items s.terms.items h
   AreParametersKnown-Keeps (parameters.Sequent s) h = IsKnown-Keeps s h
 
   pub parameters_view-Keeps : (p : Parameters) → AreParametersKnown a p → parameters_view a p ≡ parameters_view b p
   parameters_view-Keeps parameters.Nothing h = refl
   parameters_view-Keeps (parameters.Term t) h = ap rule.Parameters.term (table_law.term_in-Stays k.stays t.0 h)
   parameters_view-Keeps (parameters.Variable v) h = ap rule.Parameters.variable (variable_view-Keeps v h)
+  parameters_view-Keeps (parameters.Subst s) h = ap₂ rule.Parameters.substitution (type_pairs-Keeps k s.types.items s.terms.items h) (term_pairs-Keeps k s.types.items s.terms.items h)
   parameters_view-Keeps (parameters.Sequent s) h = ap rule.Parameters.sequent (sequent_at-Keeps s h)
 
   step_view-Keeps : (x : Step) → IsStepKnown a x → step_view a x ≡ step_view b x

@@ -1,4 +1,5 @@
 mod Measuring
+mod PairLaws
 mod Growth
 mod Pushed
 mod Concluded
@@ -12,3 +13,6 @@ mod FreeIn
 mod FunctionEnds
 mod Taken
 mod BetaEnds
+mod Chaining
+mod ImageOf
+mod SubstitutionEnds

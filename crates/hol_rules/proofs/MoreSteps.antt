@@ -1,7 +1,7 @@
 -- The same of the rules over binders, of applications, and of those that state a sequent.
 use Rattle.std.proofs.Common.{◌≡◌, ℕ, ◌<◌, refl, ap, ◌∙◌, List, [], ◌∷◌, length, Bool, true, false, not, Some, Ok}
 use Rattle.std.specs.List.{AllByRecursion, list_all}
-use Rattle.bridge_base.specs.declared.faults.Kind.TheVariants.{VarInHyps, NotBool, NotTheSequent}
+use Rattle.bridge_base.specs.declared.faults.Kind.TheVariants.{VarInHyps, NotBool, NotTheSequent, BadSubst}
 use Rattle.hol_spec.specs.Types.{HolType}
 use Rattle.hol_laws.specs.ListLaws.{union-All, distinct-IsDistinct}
 use Rattle.hol_spec.specs.Primitives.{bool, function}
@@ -9,6 +9,8 @@ use Rattle.hol_spec.specs.Terms.{Term, Variable, app, lam, term_eq, HasType, equ
 use Rattle.hol_laws.specs.TermLaws.{term_eq-Decides}
 use Rattle.hol_laws.specs.TermSubstitutionLaws.{application_type-is}
 use Rattle.hol_spec.specs.TermBinding.{put}
+use Rattle.hol_spec.specs.Substitution.{TypePairs}
+use Rattle.hol_spec.specs.TermSubstitution.{TermPairs, AreFitting}
 use Rattle.hol_spec.specs.Equations.{Equation}
 use Rattle.hol_spec.specs.Sequents.{IsSequent, within}
 use Rattle.hol_spec.specs.Rules.{Parameters, Rule, nothing, derived, joined, removed, abstraction, is_free_in}
@@ -19,7 +21,7 @@ use Rattle.proof_laws.specs.SymbolGrowth.{symmetric}
 use Rattle.article_spec.specs.Conditions.{equation_of, is_of_type}
 use Rattle.article_spec.specs.Inference.{step_by}
 use Rattle.article_spec.specs.Stating.{stated, restatement}
-use Rattle.hol_rules.specs.Steps.{abs_thm_step, app_thm_step, deduct_antisym_step, beta_conv_step, prove_hyp_step, axiom_step, restate_step}
+use Rattle.hol_rules.specs.Steps.{abs_thm_step, app_thm_step, deduct_antisym_step, beta_conv_step, prove_hyp_step, subst_step, substituted, axiom_step, restate_step}
 use Rattle.hol_rules.proofs.RuleSteps.{Makes, met, equation_is, on_none, on_one, on_two}
 use Rattle.std.proofs.lemmas.Option.{same_Some}
 
@@ -57,6 +59,10 @@ module _ (m : List Made) (i j : ℕ) (l : i < length (steps_of m)) (k : j < leng
 pub beta_conv-makes : (m : List Made) (a b : HolType) (t u : Term) → HasType (app (lam a t) u) b
     → Makes m (beta_conv_step (app (lam a t) u)) (step_by by_rule.BetaConv [] (Parameters.term (app (lam a t) u)) (derived [] (equation b (app (lam a t) u) (put u t))))
 beta_conv-makes m a b t u h = record { is = rw h refl; follows = on_none m _ refl (rule.Rule.beta_conv h refl) refl }
+
+pub subst-makes : (m : List Made) (types : TypePairs) (terms : TermPairs) (i : ℕ) → i < length (steps_of m) → AreFitting terms → list_all (λ p. is_of_type p.0.1 p.1) terms ≡ true
+    → Makes m (subst_step m types terms i) (step_by by_rule.Subst (i ∷ []) (Parameters.substitution types terms) (substituted types terms (sequent_at m i)))
+subst-makes m types terms i l fit e = record { is = met (list_all (λ p. is_of_type p.0.1 p.1) terms) BadSubst _ e; follows = on_one m _ i l refl (rule.Rule.subst fit refl) refl }
 
 -- what is stated of truth values is a sequent
 module _ (hs : List Term) (c : Term) (truths : AllByRecursion (λ h. HasType h bool) hs) (truth : HasType c bool) where

@@ -1,14 +1,17 @@
 -- One step more.
-use Rattle.std.proofs.Common.{◌≡◌, ℕ, zero, suc, ◌<◌, ◌+◌, refl, sym, ap, subst, ◌∙◌, arith, List, [], ◌∷◌, ◌++◌, length, map}
-use Rattle.std.specs.Prelude.{take}
+use Rattle.std.proofs.Common.{◌≡◌, ℕ, zero, suc, ◌<◌, ◌+◌, refl, sym, ap, subst, ◌∙◌, arith, List, [], ◌∷◌, ◌++◌, length, map, get_or}
+use Rattle.std.specs.Prelude.{take, slice_index_or}
 use Rattle.std.specs.List.{AllByRecursion}
 use Rattle.std.proofs.lemmas.List.{map-append, length-append, length-map}
+use Rattle.hol_spec.specs.Terms.{bound}
+use Rattle.hol_spec.specs.Sequents.{Sequent as ASequent}
 use Rattle.hol_spec.specs.Symbols.{Symbol}
-use Rattle.hol_spec.specs.Proofs.{Made, steps_of, symbols_of, IsStep, IsProof}
+use Rattle.hol_spec.specs.Proofs.{Made, steps_of, symbols_of, sequent_at, IsStep, IsProof}
 use Rattle.hol_spec.specs.Proofs as proof
 use Rattle.hol_laws.specs.Members.{All-append}
 use Rattle.proof_laws.specs.ProofLaws.{steps_of-push, symbols_of-push}
 use Rattle.hol_term.specs.Tables.{Trees}
+use Rattle.sequent.specs.Sequents as numbers
 use Rattle.hol_rules.specs.declared.made.Made.{Made as OneMade}
 use Rattle.hol_rules.specs.declared.made.Made.TheVariants as one
 use Rattle.hol_rules.specs.declared.made.Step.{Step}
@@ -74,6 +77,22 @@ module _ (trees : Trees) (symbols : List Symbol) (xs : List Step) (ms : List One
   -- how many steps were made
   pub step_count-kept : length (steps_of (made_view trees xs ms)) ≡ length xs
   step_count-kept = ap length h.steps ∙ many
+
+-- the sequent of a step, among steps
+abbrev sequent_in : List proof.Step → ℕ → ASequent
+sequent_in steps i = slice_index_or (map (λ (y : proof.Step). y.sequent) steps) i (record { hypotheses = []; conclusion = bound 0 })
+
+sequent_in-view : (trees : Trees) (xs : List Step) (i : ℕ) (x : Step) → i < length xs → x ≡ get_or xs i x → sequent_in (steps_view trees xs) i ≡ numbers.sequent_at trees x.sequent
+sequent_in-view trees [] i x l e = absurd (omega arith)
+sequent_in-view trees (y ∷ xs) zero x l e = ap (λ (z : Step). numbers.sequent_at trees z.sequent) (sym e)
+sequent_in-view trees (y ∷ xs) (suc i) x l e = sequent_in-view trees xs i x (omega arith) e
+
+-- the sequent of a step that was made is that of its numbers
+pub sequent_at-kept : (trees : Trees) (symbols : List Symbol) (xs : List Step) (ms : List OneMade) → IsKept trees symbols xs ms → (i : ℕ) (x : Step) → i < length (steps_of (made_view trees xs ms)) → x ≡ get_or xs i x
+    → sequent_at (made_view trees xs ms) i ≡ numbers.sequent_at trees x.sequent
+sequent_at-kept trees symbols xs ms h i x l e =
+    let count : length (steps_of (made_view trees xs ms)) ≡ length xs = ap length h.steps ∙ length-map xs (step_view trees) in
+    ap (λ steps. sequent_in steps i) h.steps ∙ sequent_in-view trees xs i x (omega (arith, l, count)) e
 
 -- nothing is made of nothing
 pub IsKept-none : IsKept (record { types = []; terms = [] }) [] [] []

@@ -3,3 +3,4 @@ pub mod Views
 pub mod Conclusions
 pub mod Steps
 pub mod Premises
+pub mod Chains

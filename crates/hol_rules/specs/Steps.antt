@@ -1,11 +1,16 @@
 -- The step that each rule makes of its premises and of what else it is given, or the first of its conditions that fails.
 -- Source: HOL Light's kernel; the OpenTheory article file format, version 6, "Commands".
-use Rattle.std.specs.Prelude.{ℕ, List, [], ◌∷◌, not, Some, Result, Ok}
+use Rattle.std.specs.Prelude.{ℕ, List, [], ◌∷◌, map, not, Some, Result, Ok}
+use Rattle.std.specs.List.{list_all}
 use Rattle.std.specs.Option.{ok_or}
 use Rattle.bridge_base.specs.declared.faults.Kind.{Kind}
-use Rattle.bridge_base.specs.declared.faults.Kind.TheVariants.{NotBool, TypeMismatch, NotAlike, VarInHyps, NotRedex}
+use Rattle.bridge_base.specs.declared.faults.Kind.TheVariants.{NotBool, TypeMismatch, NotAlike, VarInHyps, NotRedex, BadSubst}
+use Rattle.hol_spec.specs.Lists.{distinct}
 use Rattle.hol_spec.specs.Primitives.{bool, function}
+use Rattle.hol_spec.specs.Sequents.{Sequent}
+use Rattle.hol_spec.specs.Substitution.{TypePairs}
 use Rattle.hol_spec.specs.Terms.{Term, Variable, app, term_eq, equation, application_type}
+use Rattle.hol_spec.specs.TermSubstitution.{TermPairs, sub}
 use Rattle.hol_spec.specs.Rules.{Parameters, nothing, derived, joined, removed, abstraction, is_free_in}
 use Rattle.hol_spec.specs.Proofs.{Made, Step, sequent_at}
 use Rattle.hol_spec.specs.declared.StepKind.TheVariants as by_rule
@@ -92,6 +97,16 @@ prove_hyp_step made i j = do
   let one = sequent_at made i
   let two = sequent_at made j
   Ok (step_by by_rule.ProveHyp (i ∷ j ∷ []) nothing (derived (joined one.hypotheses (removed two.hypotheses one.conclusion)) two.conclusion))
+
+-- a sequent with types put, then terms; hypotheses that become equal are one, the first
+abbrev pub substituted : TypePairs → TermPairs → Sequent → Sequent
+substituted types terms s = derived (distinct term_eq (map (sub types terms) s.hypotheses)) (sub types terms s.conclusion)
+
+-- the premise with types put, then terms. Each term has the type of the variable for which it is put, whether the pair counts or not.
+abbrev pub subst_step : List Made → TypePairs → TermPairs → ℕ → Result Step Kind
+subst_step made types terms i = do
+  demand (list_all (λ p. is_of_type p.0.1 p.1) terms) BadSubst
+  Ok (step_by by_rule.Subst (i ∷ []) (Parameters.substitution types terms) (substituted types terms (sequent_at made i)))
 
 -- what an article assumes; repeats among the hypotheses are dropped
 abbrev pub axiom_step : List Term → Term → Result Step Kind

@@ -8,7 +8,9 @@ use Rattle.hol_spec.specs.Proofs.{Made, steps_of, symbols_of, IsProof}
 use Rattle.hol_spec.specs.Proofs as proof
 use Rattle.hol_spec.specs.declared.StepKind.{StepKind}
 use Rattle.hol_spec.specs.declared.StepKind.TheVariants.{Refl}
+use Rattle.hol_type.specs.Tables as type
 use Rattle.hol_term.specs.declared.Variable.{Variable}
+use Rattle.hol_term.specs.Substitutions.{term_pairs_at, AreKnownPairs}
 use Rattle.hol_term.specs.Tables.{Trees, term_at, type_at, IsDistinct}
 use Rattle.sequent.specs.declared.Sequent.{Sequent}
 use Rattle.sequent.specs.Sequents.{sequent_at, IsKnown}
@@ -25,6 +27,7 @@ abbrev pub parameters_view : Trees → Parameters → rule.Parameters
 parameters_view trees parameters.Nothing = rule.Parameters.nothing
 parameters_view trees (parameters.Term t) = rule.Parameters.term (term_at trees t.0)
 parameters_view trees (parameters.Variable v) = rule.Parameters.variable (variable_view trees v)
+parameters_view trees (parameters.Subst s) = rule.Parameters.substitution (type.pairs_at trees.types s.types.items) (term_pairs_at trees s.terms.items)
 parameters_view trees (parameters.Sequent s) = rule.Parameters.sequent (sequent_at trees s)
 
 abbrev pub step_view : Trees → Step → proof.Step
@@ -58,6 +61,7 @@ abbrev pub AreParametersKnown : Trees → Parameters → Type 0
 AreParametersKnown trees parameters.Nothing = Unit {0}
 AreParametersKnown trees (parameters.Term t) = t.0 < length trees.terms
 AreParametersKnown trees (parameters.Variable v) = v.ty.0 < length trees.types
+AreParametersKnown trees (parameters.Subst s) = AreKnownPairs trees s.types.items s.terms.items
 AreParametersKnown trees (parameters.Sequent s) = IsKnown trees s
 
 pub record IsStepKnown (trees : Trees) (x : Step) : Type 0 where

@@ -7,6 +7,20 @@
 //! parameters come last and in this order. After a refusal or want of memory nothing is made, and what had a number keeps
 //! it.
 //!
+//! What a rule costs, beside the trees that it makes and the step that it keeps (its premises, its sequent and what it was
+//! given): terms are compared by their numbers, whatever their size, and a walk comes once to each part of a term, with a
+//! note of each part while it lasts.
+//!
+//! | Rule | Steps | Memory |
+//! |---|---|---|
+//! | each | a look-up for each hypothesis of its premises and of its sequent; to count the parameters, two walks over each hypothesis and over the conclusion | the walks' notes, and the list of the parameters |
+//! | `abs_thm` | a walk over each hypothesis, and one over each side of the equation | the walks' notes |
+//! | `beta_conv` | a walk over the body | the walk's notes |
+//! | `subst` | one walk over the hypotheses and the conclusion together; at each variable as many comparisons as there are pairs, and at each variable, constant and binder a walk over its type | the walk's notes; a copy of the pairs, which the step keeps; at most two more trees for each hypothesis, which the table keeps |
+//!
+//! A walk under binders comes to a part once for each number of binders that it stands under. Trees that were made before
+//! a refusal stay in the table.
+//!
 //! ```
 //! let mut proof = Proof::new(alloc)?;
 //! let p = proof.free(&Name::single(alloc, b"p")?, truth)?;
@@ -24,7 +38,8 @@ mod premises;
 mod proof;
 mod rules;
 mod stating;
+mod substitution;
 mod terms;
 
-pub use made::{Made, Parameters, StepId};
+pub use made::{Made, Parameters, StepId, Substitution};
 pub use proof::Proof;

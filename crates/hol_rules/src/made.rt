@@ -2,10 +2,20 @@
 use hol_name::Name;
 use hol_spec::StepKind;
 use hol_term::{TermId, Variable};
+use hol_type::TypeId;
 use sequent::Sequent;
 
 /// The number of a step in its proof: steps are numbered from 0 in order of making.
 pub type StepId = usize;
+
+/// Types for type variables and terms for free variables, each list all at once.
+#[derive(Drop)]
+pub struct Substitution {
+    /// Type variables by their names, each with the type that is put for it.
+    pub types: Vec<(Name, TypeId)>,
+    /// Free variables, each with the term that is put for it.
+    pub terms: Vec<(Variable, TermId)>,
+}
 
 /// What a rule was given beside its premises.
 #[derive(Drop)]
@@ -16,6 +26,8 @@ pub enum Parameters {
     Term(TermId),
     /// A free variable.
     Variable(Variable),
+    /// What is put for variables.
+    Subst(Substitution),
     /// A sequent that was stated.
     Sequent(Sequent),
 }

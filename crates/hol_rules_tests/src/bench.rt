@@ -4,8 +4,9 @@ ghost use Rattle.hol_term.specs.Tables.{IsTermAt};
 ghost use Rattle.hol_rules.specs.Kept.{step_count};
 
 use bridge_base::{Fault, Kind, Memory};
+use hol_defs::SymbolKind;
 use hol_name::Name;
-use hol_rules::{Parameters, Proof, StepId};
+use hol_rules::{Made, Parameters, Proof, StepId};
 use hol_spec::StepKind;
 use hol_term::{TermId, Variable};
 use hol_type::TypeId;
@@ -13,6 +14,9 @@ use std::alloc::Global;
 
 /// What the bench answers where a number is of no term and of no step. No rule answers so.
 const UNKNOWN: Fault = Fault::Refused(Kind::WrongKind);
+
+/// How a name is taken, as an operator and as a constant.
+pub(crate) type Kinds = (Option<SymbolKind>, Option<SymbolKind>);
 
 /// A proof.
 #[derive(Drop)]
@@ -100,6 +104,18 @@ impl Bench {
         self.proof.free(&name, ty)
     }
 
+    // The variable of a name, a truth value.
+    fn named(&mut self, text: &[u8]) -> Result<TermId, Fault> {
+        let name = self.name(text)?;
+        let ty = self.boolean()?;
+        self.proof.free(&name, ty)
+    }
+
+    /// The variable of this number, a truth value.
+    pub(crate) fn numbered(&mut self, number: u32) -> Result<TermId, Fault> {
+        self.named(&number.to_le_bytes())
+    }
+
     // Equality of truth values.
     fn equality(&mut self) -> Result<TermId, Fault> {
         let name = self.name(b"=")?;
@@ -107,6 +123,115 @@ impl Bench {
         let predicate = self.function(truth, truth)?;
         let relation = self.function(truth, predicate)?;
         self.proof.constant(&name, relation)
+    }
+
+    // The input constant u, of predicates of truth values.
+    fn u(&mut self) -> Result<TermId, Fault> {
+        let name = self.name(b"u")?;
+        let truth = self.boolean()?;
+        let predicate = self.function(truth, truth)?;
+        let ty = self.function(predicate, truth)?;
+        self.proof.use_const(&name, ty)?;
+        self.proof.constant(&name, ty)
+    }
+
+    /// u of a predicate.
+    pub(crate) fn u_of(&mut self, predicate: TermId) -> Result<TermId, Fault> {
+        let u = self.u()?;
+        self.app(u, predicate)
+    }
+
+    /// f so many times over a truth value.
+    pub(crate) fn iterated(&mut self, count: u32, start: TermId) -> Result<TermId, Fault> {
+        let f = self.f()?;
+        let mut term = start;
+        for _ in 0..count {
+            term = self.app(f, term)?;
+        }
+        Ok(term)
+    }
+
+    /// A truth value equated with itself, and that again, so many times.
+    pub(crate) fn doubled(&mut self, count: u32, start: TermId) -> Result<TermId, Fault> {
+        let mut term = start;
+        for _ in 0..count {
+            term = self.equation(term, term)?;
+        }
+        Ok(term)
+    }
+
+    // The equation of 32 variables, from this number on.
+    fn row(&mut self, first: u32) -> Result<TermId, Fault> {
+        let mut term = self.numbered(first)?;
+        for more in 1..32u32 {
+            let variable = self.numbered(first.saturating_add(more))?;
+            term = self.equation(variable, term)?;
+        }
+        Ok(term)
+    }
+
+    /// The equation of so many rows of 32 variables, from this row on.
+    pub(crate) fn rows(&mut self, first: u32, count: u32) -> Result<TermId, Fault> {
+        let mut term = self.row(first.saturating_mul(32))?;
+        for more in 1..count {
+            let row = self.row(first.saturating_add(more).saturating_mul(32))?;
+            term = self.equation(row, term)?;
+        }
+        Ok(term)
+    }
+
+    /// Takes an operator, then a constant, a truth value.
+    pub(crate) fn take(&mut self, operator: &[u8], constant: &[u8]) -> Result<(), Fault> {
+        let op = self.name(operator)?;
+        self.proof.use_op(&op, 1)?;
+        let name = self.name(constant)?;
+        let ty = self.boolean()?;
+        self.proof.use_const(&name, ty)
+    }
+
+    /// The use of an operator with so many arguments.
+    pub(crate) fn use_op(&mut self, text: &[u8], arity: usize) -> Result<(), Fault> {
+        let name = self.name(text)?;
+        self.proof.use_op(&name, arity)
+    }
+
+    /// The use of a constant as a truth value.
+    pub(crate) fn use_const(&mut self, text: &[u8]) -> Result<(), Fault> {
+        let name = self.name(text)?;
+        let ty = self.boolean()?;
+        self.proof.use_const(&name, ty)
+    }
+
+    /// How a name is taken: as an operator, and as a constant.
+    pub(crate) fn kinds(&self, text: &[u8]) -> Result<Kinds, Fault> {
+        let name = self.name(text)?;
+        let symbols = self.proof.symbols();
+        Ok((symbols.op_kind(&name), symbols.const_kind(&name)))
+    }
+
+    /// Whether the thing of this number that was made is an operator of so many arguments.
+    pub(crate) fn is_operator(
+        &self,
+        index: usize,
+        text: &[u8],
+        arity: usize,
+    ) -> Result<bool, Fault> {
+        let name = self.name(text)?;
+        let made = self.proof.made().get(index);
+        Ok(matches!(made, Some(Made::InputOp(own, count)) if *own == name && *count == arity))
+    }
+
+    /// Whether it is a constant.
+    pub(crate) fn is_constant(&self, index: usize, text: &[u8]) -> Result<bool, Fault> {
+        let name = self.name(text)?;
+        let made = self.proof.made().get(index);
+        Ok(matches!(made, Some(Made::InputConst(own)) if *own == name))
+    }
+
+    /// Whether it is this step.
+    pub(crate) fn is_step_at(&self, index: usize, id: StepId) -> bool {
+        let made = self.proof.made().get(index);
+        matches!(made, Some(Made::Step(own)) if *own == id)
     }
 
     /// The application of a term to another.
@@ -164,16 +289,39 @@ impl Bench {
             && self.proof.terms().dest_eq(sequent.concl) == Some((left, right))
     }
 
-    /// Whether a step was made by reflexivity of this term.
-    pub(crate) fn is_by_refl(&self, id: StepId, term: TermId) -> bool {
+    /// Whether a step was made by this rule of these steps.
+    pub(crate) fn is_by(&self, id: StepId, kind: StepKind, premises: &[StepId]) -> bool {
+        self.is_step(id) && self.proof.kind(id) == kind && self.proof.premises(id) == premises
+    }
+
+    /// Whether its rule was given nothing beside its premises.
+    pub(crate) fn has_nothing(&self, id: StepId) -> bool {
+        self.is_step(id) && matches!(self.proof.params(id), Parameters::Nothing)
+    }
+
+    /// Whether its rule was given this term.
+    pub(crate) fn has_term(&self, id: StepId, term: TermId) -> bool {
+        self.is_step(id) && matches!(self.proof.params(id), Parameters::Term(own) if *own == term)
+    }
+
+    /// Whether its rule was given the variable of this letter.
+    pub(crate) fn has_variable(&self, id: StepId, letter: u8) -> Result<bool, Fault> {
+        let name = self.name(&[letter])?;
+        Ok(
+            self.is_step(id)
+                && matches!(self.proof.params(id), Parameters::Variable(own) if own.name == name),
+        )
+    }
+
+    /// Whether its rule was given a sequent of these hypotheses and this conclusion.
+    pub(crate) fn has_sequent(&self, id: StepId, hyps: &[TermId], concl: TermId) -> bool {
         if !self.is_step(id) {
             return false;
         }
-        let of_term = match self.proof.params(id) {
-            Parameters::Term(t) => *t == term,
-            Parameters::Nothing | Parameters::Variable(_) | Parameters::Sequent(_) => false,
-        };
-        self.proof.kind(id) == StepKind::Refl && self.proof.premises(id).is_empty() && of_term
+        match self.proof.params(id) {
+            Parameters::Sequent(own) => own.hyps.ids() == hyps && own.concl == concl,
+            _ => false,
+        }
     }
 
     pub(crate) fn refl(&mut self, t: TermId) -> Result<StepId, Fault> {
@@ -187,6 +335,74 @@ impl Bench {
     pub(crate) fn assume(&mut self, p: TermId) -> Result<StepId, Fault> {
         if self.is_term(p) {
             self.proof.assume(p)
+        } else {
+            Err(UNKNOWN)
+        }
+    }
+
+    /// The variable of this letter, of type a.
+    pub(crate) fn of_type_a(&mut self, letter: u8) -> Result<TermId, Fault> {
+        let name = self.name(b"a")?;
+        let ty = self.proof.ty_var(&name)?;
+        let own = self.name(&[letter])?;
+        self.proof.free(&own, ty)
+    }
+
+    /// The input constant k, a relation, of two terms.
+    pub(crate) fn k_of(&mut self, x: TermId, y: TermId) -> Result<TermId, Fault> {
+        let name = self.name(b"k")?;
+        let predicate = self.predicate()?;
+        if !self.is_term(x) {
+            return Err(UNKNOWN);
+        }
+        let domain = self.proof.terms().type_of(x);
+        let ty = self.function(domain, predicate)?;
+        self.proof.use_const(&name, ty)?;
+        let k = self.proof.constant(&name, ty)?;
+        let half = self.app(k, x)?;
+        self.app(half, y)
+    }
+
+    /// A step with a term for the truth value of this letter.
+    pub(crate) fn subst(&mut self, letter: u8, t: TermId, one: StepId) -> Result<StepId, Fault> {
+        let var = self.variable(letter)?;
+        if self.is_step(one) && self.is_term(t) {
+            self.proof.subst(&[], &[(var, t)], one)
+        } else {
+            Err(UNKNOWN)
+        }
+    }
+
+    /// A step with terms for the truth values of two letters.
+    pub(crate) fn subst_two(
+        &mut self,
+        first: (u8, TermId),
+        second: (u8, TermId),
+        one: StepId,
+    ) -> Result<StepId, Fault> {
+        let front = self.variable(first.0)?;
+        let back = self.variable(second.0)?;
+        let known = self.is_type(front.ty) && self.is_term(first.1) && self.is_term(second.1);
+        if known && self.is_step(one) {
+            let pairs = [(front, first.1), (back, second.1)];
+            self.proof.subst(&[], &pairs, one)
+        } else {
+            Err(UNKNOWN)
+        }
+    }
+
+    /// A step with truth values for the type variable a, and then a term for the truth value of this letter.
+    pub(crate) fn subst_after_types(
+        &mut self,
+        letter: u8,
+        t: TermId,
+        one: StepId,
+    ) -> Result<StepId, Fault> {
+        let name = self.name(b"a")?;
+        let var = self.variable(letter)?;
+        let ty = var.ty;
+        if self.is_step(one) && self.is_term(t) {
+            self.proof.subst(&[(name, ty)], &[(var, t)], one)
         } else {
             Err(UNKNOWN)
         }
@@ -258,6 +474,21 @@ impl Bench {
         }
     }
 
+    /// An axiom without hypotheses.
+    pub(crate) fn given(&mut self, concl: TermId) -> Result<StepId, Fault> {
+        if self.is_term(concl) {
+            self.proof.axiom(&[], concl)
+        } else {
+            Err(UNKNOWN)
+        }
+    }
+
+    /// An axiom that two truth values are equal.
+    pub(crate) fn given_equation(&mut self, left: TermId, right: TermId) -> Result<StepId, Fault> {
+        let equation = self.equation(left, right)?;
+        self.given(equation)
+    }
+
     /// An axiom of two hypotheses.
     pub(crate) fn axiom(
         &mut self,
@@ -291,8 +522,5 @@ impl Bench {
 
 /// Whether a rule was refused for this reason.
 pub(crate) fn is_refused(answer: Result<StepId, Fault>, kind: Kind) -> bool {
-    match answer {
-        Ok(_) | Err(Fault::Memory) => false,
-        Err(Fault::Refused(own)) => own == kind,
-    }
+    answer == Err(Fault::Refused(kind))
 }

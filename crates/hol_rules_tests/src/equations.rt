@@ -34,6 +34,13 @@ pub(crate) fn sym(bench: &mut Bench) -> Result<bool, Fault> {
     Ok(bench.equates(step, &[equation], q, p))
 }
 
+pub(crate) fn sym_refused(bench: &mut Bench) -> Result<bool, Fault> {
+    let p = bench.truth(b'p')?;
+    let one = bench.assume(p)?;
+    let refused = is_refused(bench.sym(one), Kind::NotEquation);
+    Ok(refused && bench.proof.len() == 1)
+}
+
 /// From p = q and q = p, p = p.
 pub(crate) fn trans(bench: &mut Bench) -> Result<bool, Fault> {
     let p = bench.truth(b'p')?;
@@ -42,6 +49,17 @@ pub(crate) fn trans(bench: &mut Bench) -> Result<bool, Fault> {
     let one = bench.assume(equation)?;
     let two = bench.sym(one)?;
     let step = bench.trans(one, two)?;
-    let refused = is_refused(bench.trans(one, one), Kind::NotAlike);
-    Ok(refused && bench.equates(step, &[equation], p, p))
+    Ok(bench.equates(step, &[equation], p, p))
+}
+
+/// p = q twice, and what is no equation on either side.
+pub(crate) fn trans_refused(bench: &mut Bench) -> Result<bool, Fault> {
+    let p = bench.truth(b'p')?;
+    let q = bench.truth(b'q')?;
+    let one = bench.given_equation(p, q)?;
+    let two = bench.assume(p)?;
+    let not_alike = is_refused(bench.trans(one, one), Kind::NotAlike);
+    let first = is_refused(bench.trans(two, one), Kind::NotEquation);
+    let second = is_refused(bench.trans(one, two), Kind::NotEquation);
+    Ok(not_alike && first && second && bench.proof.len() == 2)
 }

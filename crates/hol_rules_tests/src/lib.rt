@@ -1,5 +1,5 @@
-//! Tests of the inference rules by the public calls of a proof: the sequent that each rule makes of its premises, and
-//! what it refuses.
+//! Tests of the inference rules by the public calls of a proof: the sequent that each rule makes of its premises, what
+//! it refuses and in which order, and what a proof keeps.
 #![tactic(auto)]
 
 #[cfg(test)]
@@ -13,6 +13,10 @@ mod functions;
 #[cfg(test)]
 mod hypotheses;
 #[cfg(test)]
+mod limits;
+#[cfg(test)]
 mod stating;
 #[cfg(test)]
 mod steps;
+#[cfg(test)]
+mod substitution;

@@ -1,0 +1,42 @@
+use Rattle.bridge_base.specs.declared.faults.Fault.TheVariants.{Refused}
+use Rattle.bridge_base.specs.declared.faults.Kind.TheVariants.{BadSubst}
+use Rattle.hol_term.specs.Substitutions.{AreKnownPairs}
+use Rattle.hol_rules.proofs.PairLaws.{AreTermPairs-known}
+use Rattle.hol_rules.proofs.SubstitutionEnds.{subst-unfit, subst-ends, given_known}
+use Rattle.hol_rules.proofs.Concluded.{Grows-refl, refuses, stopped}
+use Rattle.hol_rules.proofs.Ends.{ended}
+use Rattle.hol_rules.proofs.proof.Proof.subst.Goals as goal
+
+pub returns-then-not-fits : goal.returns-then-not-fits
+returns-then-not-fits c =
+    let d = rw c.terms.ensures at c.fits.ensures in
+    refuses (Grows-refl c.args.self.now) _ (Refused BadSubst) (subst-unfit c.args.self.now c.args.type_pairs.now c.args.term_pairs.now c.args.one c.fits.result d c.if-not-fits.true)
+
+pub image-requires-clause-pairs : goal.image-requires-clause-pairs
+image-requires-clause-pairs c = record { known_types = c.requires.type_pairs; known_terms = AreTermPairs-known c.args.self.now.trees c.args.term_pairs.now c.requires.term_pairs }
+
+pub conclude-requires-clause-parameters : goal.conclude-requires-clause-parameters
+conclude-requires-clause-parameters c =
+    let pairs : AreKnownPairs c.args.self.now.trees c.args.type_pairs.now c.args.term_pairs.now = record { known_types = c.requires.type_pairs; known_terms = AreTermPairs-known c.args.self.now.trees c.args.term_pairs.now c.requires.term_pairs } in
+    given_known c.args.self.now c.args.type_pairs.now c.args.term_pairs.now c.args.one pairs c.image.new.self c.image.ensures.grows (record { types = c.in_ok-types.types; terms = c.in_ok-terms.terms }) c.in_ok-types.ensures c.in_ok-terms.ensures
+
+pub conclude-requires-clause-follows : goal.conclude-requires-clause-follows
+conclude-requires-clause-follows c =
+    let pairs : AreKnownPairs c.args.self.now.trees c.args.type_pairs.now c.args.term_pairs.now = record { known_types = c.requires.type_pairs; known_terms = AreTermPairs-known c.args.self.now.trees c.args.term_pairs.now c.requires.term_pairs } in
+    let d = rw c.terms.ensures at c.fits.ensures in
+    (subst-ends c.args.self.now c.args.type_pairs.now c.args.term_pairs.now c.args.one pairs c.image.new.self c.image.ensures.grows (record { types = c.in_ok-types.types; terms = c.in_ok-terms.terms }) c.in_ok-types.ensures c.in_ok-terms.ensures
+    c.fits.result d c.if-not-fits.false c.requires.one c.in_ok-sequent.sequent c.in_ok-sequent.ensures.made).follows
+
+pub returns : goal.returns
+returns c =
+    let pairs : AreKnownPairs c.args.self.now.trees c.args.type_pairs.now c.args.term_pairs.now = record { known_types = c.requires.type_pairs; known_terms = AreTermPairs-known c.args.self.now.trees c.args.term_pairs.now c.requires.term_pairs } in
+    let d = rw c.terms.ensures at c.fits.ensures in
+    ended (subst-ends c.args.self.now c.args.type_pairs.now c.args.term_pairs.now c.args.one pairs c.image.new.self c.image.ensures.grows (record { types = c.in_ok-types.types; terms = c.in_ok-terms.terms }) c.in_ok-types.ensures c.in_ok-terms.ensures
+    c.fits.result d c.if-not-fits.false c.requires.one c.in_ok-sequent.sequent c.in_ok-sequent.ensures.made)
+    c.conclude.new.self c.conclude.result c.conclude.ensures
+
+pub returns-in_err-types : goal.returns-in_err-types
+returns-in_err-types c = stopped c.image.ensures.grows _ c.from_residual-in_err-types.result c.from_residual-in_err-types.ensures.1
+
+pub returns-in_err-terms : goal.returns-in_err-terms
+returns-in_err-terms c = stopped c.image.ensures.grows _ c.from_residual-in_err-terms.result c.from_residual-in_err-terms.ensures.1

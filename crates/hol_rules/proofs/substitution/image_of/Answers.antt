@@ -1,0 +1,24 @@
+use Rattle.std.proofs.Common.{ap, ◌∙◌, length}
+use Rattle.hol_spec.specs.Lists.{distinct}
+use Rattle.hol_spec.specs.Terms.{term_eq}
+use Rattle.hol_term.specs.Tables.{terms_at, AreKnown}
+use Rattle.hol_term.specs.TableLaws.{Keeps-trans}
+use Rattle.hol_rules.proofs.ImageOf.{image_stated}
+use Rattle.hol_rules.proofs.PairLaws.{AreKnownPairs-Keeps}
+use Rattle.hol_rules.proofs.substitution.image_of.Goals as goal
+
+pub substituted-requires-clause-pairs : goal.substituted-requires-clause-pairs
+substituted-requires-clause-pairs c = AreKnownPairs-Keeps c.linked.ensures.keeps c.args.type_pairs.now c.args.term_pairs.now c.requires.pairs
+
+pub returns-clause-made : goal.returns-clause-made
+returns-clause-made c =
+    let trees = c.substituted.new.self in
+    let known : AreKnown trees c.deref.result.now = rw c.deref.ensures.value c.in_ok-links.ensures.known in
+    let one_each = c.substituted.ensures.keeps.distinct (c.linked.ensures.keeps.distinct c.requires.distinct) in
+    image_stated c.args.terms.now c.linked.new.terms trees c.linked.ensures.keeps c.args.type_pairs.now c.args.term_pairs.now c.requires.pairs c.args.sequent.now
+    c.in_ok-whole.whole c.in_ok-image.image (rw c.ids-ids.ensures.numbers at c.in_ok-whole.ensures.made) c.in_ok-image.ensures.made
+    (length c.ids-ids.result.now) c.in_ok-links.links c.in_ok-links.ensures (ap length c.ids-ids.ensures.numbers)
+    c.in_ok-hyps.hyps (c.in_ok-hyps.ensures.known trees known) (c.in_ok-hyps.ensures.terms trees one_each known ∙ ap (λ l. distinct term_eq (terms_at trees l)) c.deref.ensures.value)
+
+pub returns-clause-keeps : goal.returns-clause-keeps
+returns-clause-keeps c = Keeps-trans c.linked.ensures.keeps c.substituted.ensures.keeps

@@ -1,0 +1,166 @@
+//! The rule of substitution.
+ghost use Rattle.std.specs.Prelude.{◌≡◌, ◌<◌, length, IfOk};
+ghost use Rattle.hol_spec.specs.Proofs.{sequent_at};
+ghost use Rattle.hol_type.specs.Tables as type;
+ghost use Rattle.hol_term.specs.Substitutions.{term_pairs_at, AreKnownPairs, AreTermPairs};
+ghost use Rattle.hol_term.specs.Tables.{term_at, terms_at, AreKnown, IsDistinct, Keeps};
+ghost use Rattle.sequent.specs.Sequents as numbers;
+ghost use Rattle.hol_rules.specs.Chains.{chain, AreLinks};
+ghost use Rattle.hol_rules.specs.Conclusions.{Concludes};
+ghost use Rattle.hol_rules.specs.Kept.{step_count, Grows};
+ghost use Rattle.hol_rules.specs.Premises.{IsNumberOf, IsStated};
+ghost use Rattle.hol_rules.specs.Steps.{subst_step, substituted};
+
+use crate::made::{Parameters, StepId, Substitution};
+use crate::proof::Proof;
+use bridge_base::{Fault, Kind, Memory};
+use hol_name::Name;
+use hol_spec::StepKind;
+use hol_term::{TermId, TermTable, TermView, Variable};
+use hol_type::TypeId;
+use sequent::{Hyps, Sequent};
+use std::alloc::Global;
+
+/// Terms that stood in one tree, and what is left of it.
+#[derive(Drop)]
+pub(crate) struct Links {
+    pub(crate) terms: Vec<TermId>,
+    pub(crate) rest: TermId,
+}
+
+impl Proof {
+    /// A theorem under a substitution: types are put for type variables, and then terms for free variables, each list
+    /// all at once; of pairs with one key the first counts. A variable of `term_pairs` is looked up by its name and its
+    /// type after the types are put. Hypotheses that become equal are one, the first. It is refused with `BadSubst`
+    /// where some pair's variable and term differ in type, whether or not the pair counts. (Source: HOL Light's kernel,
+    /// INST_TYPE and INST; the OpenTheory article format, `subst`.)
+    pub fn subst(
+        &mut self,
+        type_pairs: &[(Name, TypeId)],
+        term_pairs: &[(Variable, TermId)],
+        one: StepId,
+    ) -> Result<StepId, Fault>
+        requires type_pairs { type.ArePairsKnown self.old.trees.types type_pairs.now }
+        requires term_pairs { AreTermPairs self.old.trees term_pairs.now }
+        requires one { one < step_count self.old }
+        ensures { Concludes self.old (subst_step self.old.made (type.pairs_at self.old.trees.types type_pairs.now) (term_pairs_at self.old.trees term_pairs.now) one) self.new result }
+    {
+        if !self.terms().fits(term_pairs) {
+            return Err(Fault::Refused(Kind::BadSubst));
+        }
+        let sequent = self.image(type_pairs, term_pairs, one)?;
+        let types = copied_types(self.alloc, type_pairs)?;
+        let terms = copied_terms(self.alloc, term_pairs)?;
+        self.conclude(
+            StepKind::Subst,
+            &[one],
+            Parameters::Subst(Substitution { types, terms }),
+            sequent,
+        )
+    }
+
+    // What the pairs make of a step's sequent.
+    fn image(
+        &mut self,
+        type_pairs: &[(Name, TypeId)],
+        term_pairs: &[(Variable, TermId)],
+        one: StepId,
+    ) -> Result<Sequent, Memory>
+        requires pairs { AreKnownPairs self.old.trees type_pairs.now term_pairs.now }
+        requires one { one < step_count self.old }
+        ensures made { IfOk result (λ image. IsStated self.new.trees image (substituted (type.pairs_at self.old.trees.types type_pairs.now) (term_pairs_at self.old.trees term_pairs.now) (sequent_at self.old.made one))) }
+        ensures grows { Grows self.old self.new }
+    {
+        let sequent = &self.steps[one].sequent;
+        image_of(self.alloc, &mut self.terms, type_pairs, term_pairs, sequent)
+    }
+}
+
+// What the pairs make of a sequent. On the way its terms are one tree, so that the walk comes once to each part that
+// they share.
+fn image_of(
+    alloc: Global,
+    terms: &mut TermTable,
+    type_pairs: &[(Name, TypeId)],
+    term_pairs: &[(Variable, TermId)],
+    sequent: &Sequent,
+) -> Result<Sequent, Memory>
+    requires pairs { AreKnownPairs terms.old type_pairs.now term_pairs.now }
+    requires sequent { numbers.IsKnown terms.old sequent.now }
+    requires distinct { IsDistinct terms.old.terms }
+    ensures made { IfOk result (λ image. IsStated terms.new image (substituted (type.pairs_at terms.old.types type_pairs.now) (term_pairs_at terms.old term_pairs.now) (numbers.sequent_at terms.old sequent.now))) }
+    ensures keeps { Keeps terms.old terms.new }
+{
+    let ids = sequent.hyps.ids();
+    let whole = linked(terms, ids, sequent.concl)?;
+    let image = terms.substituted(type_pairs, term_pairs, whole)?;
+    let links = unlinked(alloc, terms, image, ids.len())?;
+    let hyps = Hyps::of(alloc, &links.terms)?;
+    Ok(Sequent {
+        hyps,
+        concl: links.rest,
+    })
+}
+
+// The chain of some terms before a last one.
+fn linked(terms: &mut TermTable, ids: &[TermId], last: TermId) -> Result<TermId, Memory>
+    requires ids { AreKnown terms.old ids.now }
+    requires last { last.0 < length terms.old.terms }
+    ensures made { IfOk result (λ id. IsNumberOf terms.new id (chain (terms_at terms.old ids.now) (term_at terms.old last.0))) }
+    ensures keeps { Keeps terms.old terms.new }
+{
+    let mut whole = last;
+    let mut rest = ids;
+    while let [front @ .., id] = rest {
+        whole = terms.application(*id, whole)?;
+        rest = front;
+    }
+    Ok(whole)
+}
+
+// The first terms of a chain, as many as `count`, and what is left of it.
+fn unlinked(alloc: Global, terms: &TermTable, whole: TermId, count: usize) -> Result<Links, Memory>
+    requires { whole.0 < length terms.now.terms }
+    ensures { IfOk result (λ links. AreLinks terms.now count (term_at terms.now whole.0) links) }
+{
+    let mut links = Vec::new(alloc);
+    let mut rest = whole;
+    for _place in 0..count {
+        let TermView::App(link, next) = terms.view(rest) else {
+            return Ok(Links { terms: links, rest });
+        };
+        links.push(link)?;
+        rest = next;
+    }
+    Ok(Links { terms: links, rest })
+}
+
+// The types that are put, each copied with its variable.
+fn copied_types(alloc: Global, pairs: &[(Name, TypeId)]) -> Result<Vec<(Name, TypeId)>, Memory>
+    ensures { IfOk result (λ copy. copy.items ≡ pairs.now) }
+{
+    let mut copy = Vec::new(alloc);
+    for (name, ty) in pairs {
+        copy.push((name.clone()?, *ty))?;
+    }
+    Ok(copy)
+}
+
+// The terms that are put, each copied with its variable.
+fn copied_terms(
+    alloc: Global,
+    pairs: &[(Variable, TermId)],
+) -> Result<Vec<(Variable, TermId)>, Memory>
+    ensures { IfOk result (λ copy. copy.items ≡ pairs.now) }
+{
+    let mut copy = Vec::new(alloc);
+    for (variable, id) in pairs {
+        let name = variable.name.clone()?;
+        let own = Variable {
+            name,
+            ty: variable.ty,
+        };
+        copy.push((own, *id))?;
+    }
+    Ok(copy)
+}
