@@ -1,15 +1,17 @@
 -- A module that tells the symbols of a term: the conditions can be met, and the tree is the one meant.
-use Rattle.std.specs.Prelude.{◌≡◌, ℕ, List, [], ◌∷◌, Some, codes, refl}
-use Rattle.hol_spec.specs.Names.{Name}
-use Rattle.hol_spec.specs.Types.{HolType, variable, operator, none}
-use Rattle.hol_spec.specs.Primitives.{bool, function, ind_name}
-use Rattle.hol_spec.specs.Terms.{Term, free, bound, constant, app, lam}
-use Rattle.lp_spec.specs.Trees.{Tree, Var, Sym, App, Lam, Pi}
-use Rattle.lp_spec.specs.Modules.{Declaration, symbol, types, bools, arr_of, term_of}
+use Rattle.std.specs.Prelude.{◌≡◌, List, [], ◌∷◌, Some, codes, refl}
+use Rattle.std.specs.List.{IsDistinct}
+use Rattle.hol_spec.specs.Types.{variable}
+use Rattle.hol_spec.specs.Primitives.{bool, function}
+use Rattle.hol_spec.specs.Terms.{Term, free, constant, app, lam}
+use Rattle.hol_spec.specs.Sequents.{Sequent, IsSequent}
+use Rattle.hol_spec.specs.ClosedForm.{closed_form}
+use Rattle.lp_spec.specs.Trees.{Var, Sym, App, Lam, Pi}
+use Rattle.lp_spec.specs.Modules.{Declaration, symbol, types, bools, arr_of, term_of, proof_of}
 use Rattle.module_spec.specs.Image.{input_constant_name}
-use Rattle.module_spec.specs.Scopes.{Symbols, term_tree}
+use Rattle.module_spec.specs.Scopes.{Symbols, sequent_tree, term_tree}
 use Rattle.module_laws.specs.ListedScopes.{told}
-use Rattle.translate_term.specs.Told.{TellsType, TellsTerm, TellsConstant, told_constant, told_operator}
+use Rattle.translate_term.specs.Told.{TellsType, TellsTerm, TellsConstant, TellsClosed, told_constant}
 
 -- i_u : v0 : type -> term v0
 abbrev module_of_u : List Declaration
@@ -40,3 +42,18 @@ tells = (tells-u, (tells-bool, tells-bool))
 -- i_u (arr (arr bool bool) bool) (v1 : term bool => v0), under the binder of x
 tree : term_tree symbols_of_u (told symbols_of_u [] (((codes "x" ∷ [], bool), Var 0) ∷ [])) term_of_u ≡ App (App (Sym 13) (arr_of (arr_of bools bools) bools)) (Lam (term_of bools) (Var 1))
 tree = refl
+
+-- |- u (\y. x)
+abbrev sequent_of_u : Sequent
+sequent_of_u = record { hypotheses = []; conclusion = term_of_u }
+
+sequent-u : IsSequent sequent_of_u
+unfolding IsDistinct
+sequent-u = record { no_repeats = tt; hypotheses = tt; conclusion = refl }
+
+tells-closed : TellsClosed module_of_u symbols_of_u sequent_of_u (closed_form sequent_of_u)
+tells-closed = record { is_sequent = sequent-u; hypotheses = tt; conclusion = tells; closed = refl }
+
+-- v0 : term bool -> proof (i_u (arr (arr bool bool) bool) (v1 : term bool => v0))
+product : sequent_tree symbols_of_u sequent_of_u ≡ Pi (term_of bools) (proof_of (App (App (Sym 13) (arr_of (arr_of bools bools) bools)) (Lam (term_of bools) (Var 1))))
+product = refl

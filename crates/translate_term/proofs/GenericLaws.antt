@@ -1,19 +1,20 @@
 -- The generic type of a symbol, read back from its declared type.
-use Rattle.std.proofs.Common.{◌≡◌, ℕ, zero, suc, ◌+◌, ◌<◌, refl, sym, ap, subst, ◌∙◌, arith, List, [], ◌∷◌, ◌++◌, length, map, append_assoc, Some, Bool, true, false}
+use Rattle.std.proofs.Common.{◌≡◌, ℕ, zero, suc, ◌+◌, ◌<◌, sym, ap, subst, ◌∙◌, arith, List, [], ◌∷◌, ◌++◌, length, map, append_assoc, Some, Bool, true, false}
 use Rattle.std.specs.Prelude.{replicate}
 use Rattle.hol_spec.specs.Types.{HolType, type_variables}
 use Rattle.hol_spec.specs.Substitution.{type_arguments}
-use Rattle.hol_type.specs.declared.table.TypeId.{TypeId}
-use Rattle.hol_type.specs.Tables as type
+use Rattle.hol_laws.specs.Members.{map-twice}
 use Rattle.lp_spec.specs.Trees.{Tree, Sym, App, Pi}
+use Rattle.lp_spec.specs.Substitution.{sub}
 use Rattle.lp_spec.specs.Modules.{Declaration, symbol_type, products, types, term_of}
 use Rattle.lp_term.specs.declared.LpId.{LpId}
-use Rattle.lp_term.specs.Tables.{tree_at, Holds}
+use Rattle.lp_term.specs.Tables.{tree_at, trees_at, Holds}
 use Rattle.lp_term.specs.TableLaws.{Holds-tree_at}
-use Rattle.module_spec.specs.Scopes.{Symbols, type_tree, under_types, unfilled}
+use Rattle.module_spec.specs.Scopes.{Symbols, TypeScope, type_tree, under_types, unfilled}
 use Rattle.module_laws.specs.SequentEncoding.{types-are}
-use Rattle.translate_term.specs.Patterns.{IsGeneric, Fits, Mentions}
-use Rattle.translate_term.proofs.PatternLaws.{below, wants, pattern_of, generic-fits, generic-mentions, wants-arguments}
+use Rattle.translate_term.specs.Patterns.{IsGeneric, Mentions}
+use Rattle.translate_term.proofs.PatternLaws.{below, wants, pattern_of, pattern-becomes, generic-mentions, wants-arguments}
+use Rattle.translate_term.proofs.TreeLists.{trees_at-append, append-none}
 
 -- a tree under so many of so many products over types, before the terms of a pattern
 pub record IsUnder (trees : List Tree) (id count k : ℕ) (pattern : Tree) : Type 0 where
@@ -72,46 +73,37 @@ under_other trees id count k pattern t h o u = go u.left u.is
     go zero e = let no = other (term_of pattern) (sym (Holds-tree_at trees id t h) ∙ e) in cc
     go (suc left) e = let no = other (Pi types (products (replicate left types) (term_of pattern))) (sym (Holds-tree_at trees id t h) ∙ e) in cc
 
-module _ (m : List Declaration) (symbol : ℕ) (symbols : Symbols) (generic : HolType) (table : List HolType) (ty : TypeId) (h : IsGeneric m symbol symbols generic table ty) (trees : List Tree) (count : ℕ) (pattern : LpId)
+module _ (m : List Declaration) (symbol : ℕ) (symbols : Symbols) (scope : TypeScope) (generic t : HolType) (trees : List Tree) (ty : LpId) (h : IsGeneric m symbol symbols scope generic t trees ty) (count : ℕ) (pattern : LpId)
     (is : (k : ℕ) (p : Tree) → symbol_type m symbol ≡ Some (products (replicate k types) (term_of p)) → (count ≡ k) × (tree_at trees pattern.0 ≡ p)) where
-  abbrev pub wanted_in : ℕ → HolType
-  wanted_in = wants symbols generic (type.tree_at table ty.0) h.instance
+  abbrev pub wanted_in : ℕ → Tree
+  wanted_in k = type_tree symbols scope (wants symbols generic t h.instance k)
 
-  here : (count ≡ length (type_variables generic)) × (tree_at trees pattern.0 ≡ pattern_of symbols generic (type.tree_at table ty.0) h.instance)
+  here : (count ≡ length (type_variables generic)) × (tree_at trees pattern.0 ≡ pattern_of symbols generic t h.instance)
   here =
-      is (length (type_variables generic)) (pattern_of symbols generic (type.tree_at table ty.0) h.instance)
+      is (length (type_variables generic)) (pattern_of symbols generic t h.instance)
       (h.declared ∙ ap (λ ds. Some (products ds (term_of (type_tree symbols (under_types (type_variables generic) unfilled) generic)))) (types-are (type_variables generic)))
 
-  pub pattern-fits : Fits wanted_in 0 (tree_at trees pattern.0) (type.tree_at table ty.0)
-  pattern-fits = subst (λ t. Fits wanted_in 0 t (type.tree_at table ty.0)) (sym here.1) (generic-fits symbols generic (type.tree_at table ty.0) h.instance)
+  pub pattern-fits : tree_at trees ty.0 ≡ sub wanted_in (tree_at trees pattern.0)
+  pattern-fits = h.is ∙ pattern-becomes symbols generic t h.instance scope ∙ ap (sub wanted_in) (sym here.1)
 
   pub pattern-mentions : (k : ℕ) → k < count → Mentions k (tree_at trees pattern.0)
-  pattern-mentions k l = subst (λ t. Mentions k t) (sym here.1) (generic-mentions symbols generic (type.tree_at table ty.0) h.instance k (omega (arith, l, here.0)))
+  pattern-mentions k l = subst (λ p. Mentions k p) (sym here.1) (generic-mentions symbols generic t h.instance k (omega (arith, l, here.0)))
 
-  pub arguments-are : map wanted_in (below count) ≡ type_arguments generic (type.tree_at table ty.0)
-  arguments-are = ap (λ k. map wanted_in (below k)) here.0 ∙ wants-arguments symbols generic (type.tree_at table ty.0) h.instance
-
-types_at-append : (table : List HolType) (ids js : List TypeId) → type.types_at table (ids ++ js) ≡ type.types_at table ids ++ type.types_at table js
-types_at-append table [] js = refl
-types_at-append table (id ∷ ids) js = ap (λ l. type.tree_at table id.0 ∷ l) (types_at-append table ids js)
+  pub arguments-are : map wanted_in (below count) ≡ map (type_tree symbols scope) (type_arguments generic t)
+  arguments-are =
+      ap (λ k. map wanted_in (below k)) here.0
+      ∙ sym (map-twice (type_tree symbols scope) (wants symbols generic t h.instance) (below (length (type_variables generic))))
+      ∙ ap (map (type_tree symbols scope)) (wants-arguments symbols generic t h.instance)
 
 -- one argument more
-pub arguments_step : (table : List HolType) (want : ℕ → HolType) (items : List TypeId) (id : TypeId) (left after : ℕ) (goal : List HolType) → type.tree_at table id.0 ≡ want after → left ≡ suc after
-    → type.types_at table items ++ map want (below left) ≡ goal → type.types_at table (items ++ id ∷ []) ++ map want (below after) ≡ goal
-arguments_step table want items id left after goal is e h =
-    ap (λ l. l ++ map want (below after)) (types_at-append table items (id ∷ []))
-    ∙ append_assoc (type.types_at table items) (type.tree_at table id.0 ∷ []) (map want (below after))
-    ∙ ap (λ x. type.types_at table items ++ x ∷ map want (below after)) is
-    ∙ ap (λ k. type.types_at table items ++ map want (below k)) (sym e)
+pub arguments_step : (trees : List Tree) (want : ℕ → Tree) (items : List LpId) (id : LpId) (left after : ℕ) (goal : List Tree) → tree_at trees id.0 ≡ want after → left ≡ suc after
+    → trees_at trees items ++ map want (below left) ≡ goal → trees_at trees (items ++ id ∷ []) ++ map want (below after) ≡ goal
+arguments_step trees want items id left after goal is e h =
+    ap (λ l. l ++ map want (below after)) (trees_at-append trees items (id ∷ []))
+    ∙ append_assoc (trees_at trees items) (tree_at trees id.0 ∷ []) (map want (below after))
+    ∙ ap (λ x. trees_at trees items ++ x ∷ map want (below after)) is
+    ∙ ap (λ k. trees_at trees items ++ map want (below k)) (sym e)
     ∙ h
 
-pub AreKnown-more : (table : List HolType) (items : List TypeId) (id : TypeId) → type.AreKnown table items → id.0 < length table → type.AreKnown table (items ++ id ∷ [])
-AreKnown-more table [] id h k = (k, tt {0})
-AreKnown-more table (x ∷ items) id h k = (h.0, AreKnown-more table items id h.1 k)
-
-append-none : (l : List HolType) → l ++ [] ≡ l
-append-none [] = refl
-append-none (x ∷ l) = ap (λ r. x ∷ r) (append-none l)
-
-pub arguments_end : (table : List HolType) (want : ℕ → HolType) (items : List TypeId) (left : ℕ) (goal : List HolType) → left ≡ 0 → type.types_at table items ++ map want (below left) ≡ goal → type.types_at table items ≡ goal
-arguments_end table want items left goal e h = sym (append-none (type.types_at table items)) ∙ ap (λ k. type.types_at table items ++ map want (below k)) (sym e) ∙ h
+pub arguments_end : (trees : List Tree) (want : ℕ → Tree) (items : List LpId) (left : ℕ) (goal : List Tree) → left ≡ 0 → trees_at trees items ++ map want (below left) ≡ goal → trees_at trees items ≡ goal
+arguments_end trees want items left goal e h = sym (append-none (trees_at trees items)) ∙ ap (λ k. trees_at trees items ++ map want (below k)) (sym e) ∙ h

@@ -1,37 +1,31 @@
 -- Free variables and constants under no binder.
-use Rattle.std.proofs.Common.{◌≡◌, ℕ, ◌<◌, sym, ap, ◌∙◌, subst, List, [], ◌∷◌, length, map, Option, Some, None, Result, Ok, Err, ⊎_elim, inl, inr}
+use Rattle.std.proofs.Common.{◌≡◌, ℕ, ◌<◌, sym, ap, ◌∙◌, subst, List, length, map, Option, Some, None, Result, Ok, Err}
 use Rattle.std.specs.Prelude.{OnOk, IsSome, is_some}
 use Rattle.std.specs.Option.{unwrap_or}
 use Rattle.std.specs.Map.{lookup}
-use Rattle.std.specs.List.{AllByRecursion}
 use Rattle.std.proofs.Math.Path.{fun_ext, ap₂}
 use Rattle.hol_spec.specs.Names.{Name}
-use Rattle.hol_spec.specs.NameEquality.{name_eq}
-use Rattle.hol_laws.specs.NameEqualityLaws.{name_eq-Decides}
-use Rattle.hol_spec.specs.Lists.{IsIn}
-use Rattle.hol_spec.specs.Types.{HolType, HolTypes, variable, operator, none, more, variable_places, variable_places_of_all, type_variables}
+use Rattle.hol_spec.specs.Types.{HolType}
 use Rattle.hol_spec.specs.Terms.{free, constant, variable_eq}
-use Rattle.hol_spec.specs.Substitution.{Instance, type_arguments}
-use Rattle.hol_laws.specs.Members.{IsIn-either, IsIn-distinct_of, All-each, All-mapped}
-use Rattle.hol_laws.specs.GenericInstances.{filled_in, filled_in_all, type_arguments-filled_in, Instance-filled_in}
+use Rattle.hol_spec.specs.Substitution.{type_arguments}
 use Rattle.hol_type.specs.declared.table.TypeId.{TypeId}
 use Rattle.hol_type.specs.Tables as type
 use Rattle.hol_term.specs.declared.Variable.{Variable}
 use Rattle.lp_spec.specs.Trees.{Tree, Sym}
-use Rattle.lp_spec.specs.Modules.{Declaration, applied}
+use Rattle.lp_spec.specs.Modules.{applied}
 use Rattle.lp_binding.specs.Composition.{lift_zero}
 use Rattle.lp_term.specs.declared.LpId.{LpId}
 use Rattle.lp_term.specs.Tables as lp
 use Rattle.lp_term.specs.TableLaws as lp_laws
 use Rattle.holide_sig.specs.declared.module.Module.{Module}
 use Rattle.holide_sig.specs.Modules.{declarations_of}
-use Rattle.module_spec.specs.Scopes.{Symbols, constant_symbol, constant_tree, generic_type, type_tree, filler}
+use Rattle.module_spec.specs.Scopes.{Symbols, TypeScope, constant_symbol, constant_tree, generic_type, type_tree, filler}
 use Rattle.module_laws.specs.ListedScopes.{told_types, told}
 use Rattle.sequent.specs.Params.{same_variable}
-use Rattle.translate_term.specs.Tasks.{AreAll}
-use Rattle.translate_term.specs.Told.{TellsType, TellsTypes, TellsConstant, told_constant}
-use Rattle.translate_term.specs.Patterns.{IsGeneric}
-use Rattle.translate_term.specs.Walks.{Given, AreGiven, IsTypeKnown, IsTypeStart, AreTypeStarts, type_wanted, term_wanted}
+use Rattle.translate_term.specs.Told.{TellsConstant, told_constant}
+use Rattle.translate_term.specs.Patterns.{IsGeneric, IsTypeTree}
+use Rattle.translate_term.specs.Walks.{Given, Grows, AreGiven, IsTypeStart, type_wanted, term_wanted}
+use Rattle.translate_term.proofs.GrowLaws.{IsHeld-Grows, declarations_of-Grows}
 use Rattle.translate_term.proofs.ScopeLists.{term-found, term-absent}
 use Rattle.std.proofs.lemmas.Option.{same_Some}
 
@@ -61,60 +55,32 @@ module _ (given : Given) (m : Module) (types : List HolType) (distinct : type.Is
       ∙ ap (λ l. Some (unwrap_or (lookup (variable_eq (n, type.tree_at types ty.0)) l) filling)) told_here.told
       ∙ ap Some (sym (lift_zero (unwrap_or (lookup (variable_eq (n, type.tree_at types ty.0)) given.terms) filling)))
 
-module _ (declarations : List Declaration) (symbols : Symbols) where
-  mutual
-    TellsType-filled_in : (f : Name → HolType) (t : HolType) (n : Name) → IsIn (variable_places t) n → TellsType declarations symbols (filled_in f t) → TellsType declarations symbols (f n)
-    TellsType-filled_in f (variable k) n (inl e) h = subst (λ k. TellsType declarations symbols (f k)) (sym e) h
-    TellsType-filled_in f (variable k) n (inr i) h = absurd i
-    TellsType-filled_in f (operator k ts) n i h = TellsTypes-filled_in f ts n i h.1
-
-    TellsTypes-filled_in : (f : Name → HolType) (ts : HolTypes) (n : Name) → IsIn (variable_places_of_all ts) n → TellsTypes declarations symbols (filled_in_all f ts) → TellsType declarations symbols (f n)
-    TellsTypes-filled_in f none n i h = absurd i
-    TellsTypes-filled_in f (more t ts) n i h =
-        ⊎_elim (λ l. TellsType-filled_in f t n l h.0) (λ r. TellsTypes-filled_in f ts n r h.1) (IsIn-either (variable_places t) (variable_places_of_all ts) n i)
-
-  -- the symbols of a type's arguments are told
-  arguments-told : (generic t : HolType) → Instance generic t → TellsType declarations symbols t → AllByRecursion (TellsType declarations symbols) (type_arguments generic t)
-  arguments-told generic t h told =
-      let w = Instance-filled_in generic t h in
-      let own : TellsType declarations symbols (filled_in w.0 generic) = subst (TellsType declarations symbols) (sym w.1) told in
-      subst (λ u. AllByRecursion (TellsType declarations symbols) (type_arguments generic u)) w.1
-      (subst (AllByRecursion (TellsType declarations symbols)) (sym (type_arguments-filled_in w.0 generic))
-      (All-mapped (TellsType declarations symbols) w.0 (type_variables generic)
-      (All-each _ (type_variables generic) (λ n k. TellsType-filled_in w.0 generic n (IsIn-distinct_of name_eq name_eq-Decides (variable_places generic) n k) own))))
-
-are-known : (given : Given) (types : List HolType) (ids : List TypeId) → type.AreKnown types ids → AllByRecursion (TellsType given.declarations given.symbols) (type.types_at types ids) → AreAll (IsTypeKnown given types) ids
-are-known given types [] k h = tt
-are-known given types (id ∷ ids) k h = (record { known = k.0; told = h.0 }, are-known given types ids k.1 h.1)
-
-module _ (given : Given) (m : Module) (types : List HolType) (names : List (Name × LpId)) (made : List (TypeId × LpId)) (n : Name) (ty : TypeId) (start : IsTypeStart given ty m types names made)
-    (told_here : TellsConstant given.declarations given.symbols n (type.tree_at types ty.0)) where
-  -- the symbol of a constant
-  constant-named : (o : Option ℕ) → o ≡ told_constant (declarations_of m) n → o ≡ Some (constant_symbol given.symbols n)
-  constant-named o e = e ∙ ap (λ d. told_constant d n) start.reads.declared ∙ told_here.named
-
+-- a constant by the tree of its type
+module _ (symbols : Symbols) (scope : TypeScope) (t : HolType) (m : Module) (n : Name) (ty : LpId) (h : IsTypeTree symbols scope t m n ty) where
   pub constant-found : (o : Option ℕ) → o ≡ told_constant (declarations_of m) n → IsSome o
-  constant-found o e = ap is_some (constant-named o e)
+  constant-found o e = ap is_some (e ∙ h.told.named)
 
-  pub constant-symbol : (s : ℕ) → Some s ≡ told_constant (declarations_of m) n → s ≡ constant_symbol given.symbols n
-  constant-symbol s e = same_Some _ _ (constant-named (Some s) e)
+  constant-symbol : (s : ℕ) → Some s ≡ told_constant (declarations_of m) n → s ≡ constant_symbol symbols n
+  constant-symbol s e = same_Some _ _ (e ∙ h.told.named)
 
-  pub constant-generic : (s : ℕ) → Some s ≡ told_constant (declarations_of m) n → IsGeneric (declarations_of m) s given.symbols (generic_type given.symbols n) types ty
+  pub constant-generic : (s : ℕ) → Some s ≡ told_constant (declarations_of m) n → IsGeneric (declarations_of m) s symbols scope (generic_type symbols n) t m.table ty
   constant-generic s e =
-      subst (λ k. IsGeneric (declarations_of m) k given.symbols (generic_type given.symbols n) types ty) (sym (constant-symbol s e))
-      (subst (λ d. IsGeneric d (constant_symbol given.symbols n) given.symbols (generic_type given.symbols n) types ty) (sym start.reads.declared)
-      (record { declared = told_here.declared; instance = told_here.instance; known = start.known.known }))
+      subst (λ k. IsGeneric (declarations_of m) k symbols scope (generic_type symbols n) t m.table ty) (sym (constant-symbol s e))
+      (record { declared = h.told.declared; instance = h.told.instance; known = h.known; is = h.is })
 
-  module _ (args : List TypeId) (known : type.AreKnown types args) (are : type.types_at types args ≡ type_arguments (generic_type given.symbols n) (type.tree_at types ty.0)) where
-    pub constant-starts : AreTypeStarts given args m types names made
-    constant-starts = record {
-      reads = start.reads;
-      noted = start.noted;
-      known = are-known given types args known
-          (subst (AllByRecursion (TellsType given.declarations given.symbols)) (sym are) (arguments-told given.declarations given.symbols (generic_type given.symbols n) (type.tree_at types ty.0) told_here.instance told_here.ty));
-    }
+  pub constant-made : (s : ℕ) (trees : List Tree) → Some s ≡ told_constant (declarations_of m) n → trees ≡ map (type_tree symbols scope) (type_arguments (generic_type symbols n) t) → applied (Sym s) trees ≡ constant_tree symbols scope n t
+  constant-made s trees e are = ap₂ (λ k l. applied (Sym k) l) (constant-symbol s e) are
 
-    pub constant-made : (s : ℕ) (trees : List Tree) → Some s ≡ told_constant (declarations_of m) n → trees ≡ map (type_wanted given) (type.types_at types args) → applied (Sym s) trees ≡ term_wanted given 0 (constant n (type.tree_at types ty.0))
-    constant-made s trees e h =
-        ap₂ (λ k l. applied (Sym k) l) (constant-symbol s e) (h ∙ ap (map (type_wanted given)) are)
-        ∙ ap (λ w. constant_tree given.symbols w n (type.tree_at types ty.0)) (fun_ext (λ k. sym (lift_zero (told_types given.types k))))
+-- the tree of its type, once it is made
+pub constant-typed : (given : Given) (m now : Module) (types : List HolType) (names : List (Name × LpId)) (made : List (TypeId × LpId)) (n : Name) (ty : TypeId) → IsTypeStart given ty m types names made
+    → TellsConstant given.declarations given.symbols n (type.tree_at types ty.0) → Grows m now → (tree : LpId) → lp.Holds now.table tree.0 (type_wanted given (type.tree_at types ty.0))
+    → IsTypeTree given.symbols (told_types given.types) (type.tree_at types ty.0) now n tree
+constant-typed given m now types names made n ty start told grows tree h = record {
+  held = IsHeld-Grows m now grows start.reads.held;
+  known = lp_laws.Holds-within now.table tree.0 _ h;
+  is = lp_laws.Holds-tree_at now.table tree.0 _ h;
+  told = subst (λ d. TellsConstant d given.symbols n (type.tree_at types ty.0)) (sym (declarations_of-Grows m now grows start.reads.held ∙ start.reads.declared)) told;
+}
+
+pub constant-unlifted : (given : Given) (n : Name) (t : HolType) → constant_tree given.symbols (told_types given.types) n t ≡ term_wanted given 0 (constant n t)
+constant-unlifted given n t = ap (λ w. constant_tree given.symbols w n t) (fun_ext (λ k. sym (lift_zero (told_types given.types k))))

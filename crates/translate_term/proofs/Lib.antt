@@ -12,9 +12,14 @@ mod FillingLaws
 mod GenericLaws
 mod ScopeLists
 mod ToldLaws
-mod TypesLaws
+mod TreeLists
 mod TermTurns
 mod LeafLaws
 mod Public
 mod Example
 mod MadeLaws
+mod ParameterScopes
+mod ClosedTurns
+mod ClosedParts
+mod ClosedProduct
+mod ClosedViews

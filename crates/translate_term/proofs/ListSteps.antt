@@ -19,3 +19,18 @@ pub front-last : {X : Type 0} (xs : List X) (d : X) → 1 ≤ length xs → take
 front-last xs d h =
     ap (λ l. take (length xs - 1) xs ++ l) (sym (drop_more xs (length xs - 1) d (omega arith) ∙ ap (λ l. get_or xs (length xs - 1) d ∷ l) (drop-all xs (length xs - 1 + 1) (omega arith))))
     ∙ take-append-drop (length xs - 1) xs
+
+pub front-item : {X : Type 0} (xs : List X) (x : X) → x ≡ get_or xs (length xs - 1) x → 1 ≤ length xs → take (length xs - 1) xs ++ x ∷ [] ≡ xs
+front-item xs x e h = ap (λ y. take (length xs - 1) xs ++ y ∷ []) e ∙ front-last xs x h
+
+-- a list of no item
+pub no-item : {X : Type 0} (xs : List X) → length xs < 1 → xs ≡ []
+no-item [] h = refl
+no-item (x ∷ xs) h = absurd (omega (arith, h))
+
+-- a list on which items were put
+pub put-two : {X : Type 0} (a b : X) (l m n : List X) → m ≡ a ∷ l → n ≡ b ∷ m → n ≡ b ∷ a ∷ l
+put-two a b l m n d e = e ∙ ap (λ k. b ∷ k) d
+
+pub put-three : {X : Type 0} (a b c : X) (k l m n : List X) → l ≡ a ∷ k → m ≡ b ∷ l → n ≡ c ∷ m → n ≡ c ∷ b ∷ a ∷ k
+put-three a b c k l m n d e f = f ∙ ap (λ j. c ∷ j) (put-two a b k l m d e)

@@ -1,5 +1,5 @@
--- How the tree of a generic type meets a type that is an instance of it: what is wanted for each variable, and which variables stand in the tree.
-use Rattle.std.proofs.Common.{◌≡◌, ◌⊎◌, ℕ, zero, suc, ◌+◌, ◌<◌, Bool, true, false, cond, inl, inr, ⊎_elim, refl, sym, ap, subst, ◌∙◌, arith, List, [], ◌∷◌, ◌++◌, length, map, append_assoc}
+-- How the tree of a generic type becomes that of an instance: what is wanted for each variable, and which variables stand in the tree.
+use Rattle.std.proofs.Common.{◌≡◌, ◌⊎◌, ℕ, zero, suc, ◌+◌, ◌<◌, Bool, true, false, cond, inl, inr, ⊎_elim, refl, sym, ap, subst, ◌∙◌, arith, List, [], ◌∷◌, length, map}
 use Rattle.std.specs.Prelude.{nat_eq}
 use Rattle.std.specs.Bool.{Decides}
 use Rattle.std.specs.List.{AllByRecursion, IsDistinct}
@@ -7,20 +7,23 @@ use Rattle.std.proofs.lemmas.Map.Keys.{IsDistinct-tail, IsDistinct-head}
 use Rattle.hol_spec.specs.Names.{Name}
 use Rattle.hol_spec.specs.NameEquality.{name_eq}
 use Rattle.hol_laws.specs.NameEqualityLaws.{name_eq-Decides}
-use Rattle.hol_spec.specs.Types.{HolType, HolTypes, variable, operator, none, more, count, listed, types_of, variable_places, variable_places_of_all, type_variables}
+use Rattle.hol_spec.specs.Types.{HolType, HolTypes, variable, operator, none, more, count, variable_places, variable_places_of_all, type_variables}
 use Rattle.hol_spec.specs.Lists.{IsIn}
 use Rattle.hol_spec.specs.Primitives.{bool}
-use Rattle.hol_spec.specs.Substitution.{Instance, type_arguments}
-use Rattle.hol_laws.specs.Members.{IsIn-left, IsIn-right, IsIn-either, IsIn-distinct, IsIn-distinct_of, All-at}
+use Rattle.hol_spec.specs.Substitution.{image, Instance, type_arguments}
+use Rattle.hol_laws.specs.Members.{IsIn-either, IsIn-distinct, IsIn-distinct_of, All-at, All-each}
 use Rattle.hol_laws.specs.ListLaws.{distinct-IsDistinct}
-use Rattle.hol_laws.specs.GenericInstances.{filled_in, filled_in_all, type_arguments-filled_in, Instance-filled_in}
+use Rattle.hol_laws.specs.GenericInstances.{type_arguments-filled_in, substitute-is}
 use Rattle.lp_spec.specs.Trees.{Tree, Var, Sym, App, lift}
+use Rattle.lp_spec.specs.Substitution.{sub}
 use Rattle.lp_spec.specs.Modules.{applied}
 use Rattle.lp_binding.specs.Composition.{lift_zero}
 use Rattle.lp_binding.specs.Binding.{lift-lift}
 use Rattle.module_spec.specs.Scopes.{Symbols, operator_symbol, TypeScope, type_tree, type_trees, under_type, under_types, unfilled}
+use Rattle.module_laws.specs.ScopeLaws.{through_types, type_tree-sub, type_tree-substitute}
+use Rattle.module_laws.specs.TermScopeLaws.{type_tree-agrees}
 use Rattle.proof_laws.specs.SymbolGrowth.{symmetric}
-use Rattle.translate_term.specs.Patterns.{Fits, Mentions}
+use Rattle.translate_term.specs.Patterns.{Mentions}
 use Rattle.std.proofs.Math.Path.{ap₂}
 
 -- what is wanted for the binder with a number, where these are the variables and this stands for each
@@ -131,52 +134,6 @@ variable-of (m ∷ ns) scope k d h = ⊎_elim own (λ l. later (variable-of ns (
     later : HasVariable ns (under_type m scope) k → HasVariable (m ∷ ns) scope k
     later v = record { name = v.name; among = inr v.among; stands = v.stands }
 
--- an application's arguments fit, if its head does and each of them
-module _ (want : ℕ → HolType) where
-  abbrev AllFit : List Tree → List HolType → Type 0
-  AllFit [] ts = Unit {0}
-  AllFit (x ∷ xs) [] = ⊥
-  AllFit (x ∷ xs) (t ∷ ts) = Fits want 0 x t × AllFit xs ts
-
-  fits-applied : (n : Name) (front ts : List HolType) (h : Tree) (xs : List Tree) → length xs ≡ length ts → Fits want (length xs) h (operator n (types_of (front ++ ts))) → AllFit xs ts → Fits want 0 (applied h xs) (operator n (types_of (front ++ ts)))
-  fits-applied n front [] h [] e k a = k
-  fits-applied n front (t ∷ ts) h [] e k a = absurd (omega (arith, e))
-  fits-applied n front [] h (x ∷ xs) e k a = absurd a
-  fits-applied n front (t ∷ ts) h (x ∷ xs) e k a =
-      let more = suc-same (length xs) (length ts) e in
-      let regrouped : (front ++ t ∷ []) ++ ts ≡ front ++ t ∷ ts = append_assoc front (t ∷ []) ts in
-      subst (λ l. Fits want 0 (applied (App h x) xs) (operator n (types_of l))) regrouped
-      (fits-applied n (front ++ t ∷ []) ts (App h x) xs more
-      (subst (λ l. Fits want (length xs) (App h x) (operator n (types_of l))) (sym regrouped) (k, (t, record { name = n; front = front; back = ts; is = refl; place = sym more }, a.0))) a.1)
-    where
-      suc-same : (j k : ℕ) → suc j ≡ suc k → j ≡ k
-      suc-same j k e = omega (arith, e)
-
-  module _ (symbols : Symbols) (scope : TypeScope) (f : Name → HolType) where
-    -- a variable's binder and what is wanted for it
-    abbrev pub IsBound : Name → Type 0
-    IsBound n = (k : ℕ) × (scope n ≡ Var k) × (want k ≡ f n)
-
-    length-same : (ts : HolTypes) → length (type_trees symbols scope ts) ≡ length (listed (filled_in_all f ts))
-    length-same none = refl
-    length-same (more t ts) = ap suc (length-same ts)
-
-    types_of-listed : (ts : HolTypes) → types_of (listed ts) ≡ ts
-    types_of-listed none = refl
-    types_of-listed (more t ts) = ap (more t) (types_of-listed ts)
-
-    mutual
-      pub type-fits : (t : HolType) → ((n : Name) → IsIn (variable_places t) n → IsBound n) → Fits want 0 (type_tree symbols scope t) (filled_in f t)
-      type-fits (variable n) h = let b = h n (inl refl) in subst (λ x. Fits want 0 x (f n)) (sym b.1) (sym b.2)
-      type-fits (operator n ts) h =
-          subst (λ l. Fits want 0 (applied (Sym (operator_symbol symbols n (count ts))) (type_trees symbols scope ts)) (operator n l)) (types_of-listed (filled_in_all f ts))
-          (fits-applied n [] (listed (filled_in_all f ts)) (Sym (operator_symbol symbols n (count ts))) (type_trees symbols scope ts) (length-same ts) tt (types-fit ts h))
-
-      types-fit : (ts : HolTypes) → ((n : Name) → IsIn (variable_places_of_all ts) n → IsBound n) → AllFit (type_trees symbols scope ts) (listed (filled_in_all f ts))
-      types-fit none h = tt
-      types-fit (more t ts) h =
-          (type-fits t (λ n i. h n (IsIn-left (variable_places t) (variable_places_of_all ts) n i)), types-fit ts (λ n i. h n (IsIn-right (variable_places t) (variable_places_of_all ts) n i)))
-
 -- what stands in the head or an argument stands in the application
 mentions-head : (k : ℕ) (h : Tree) (xs : List Tree) → Mentions k h → Mentions k (applied h xs)
 mentions-head k h [] m = m
@@ -202,10 +159,10 @@ module _ (symbols : Symbols) (scope : TypeScope) (n : Name) (k : ℕ) (stands : 
     types-mention none i = absurd i
     types-mention (more t ts) i = ⊎_elim (λ l. inl (type-mentions t l)) (λ r. inr (types-mention ts r)) (IsIn-either (variable_places t) (variable_places_of_all ts) n i)
 
--- a generic type's tree fits an instance, and has every variable
+-- a generic type's tree becomes that of an instance, and has every variable
 module _ (symbols : Symbols) (generic t : HolType) (h : Instance generic t) where
   abbrev pub filling_of : Name → HolType
-  filling_of = (Instance-filled_in generic t h).0
+  filling_of = image h.0
 
   abbrev pub wants : ℕ → HolType
   wants = wanted_for (type_variables generic) filling_of
@@ -213,11 +170,18 @@ module _ (symbols : Symbols) (generic t : HolType) (h : Instance generic t) wher
   abbrev pub pattern_of : Tree
   pattern_of = type_tree symbols (under_types (type_variables generic) unfilled) generic
 
-  pub generic-fits : Fits wants 0 pattern_of t
-  generic-fits = subst (Fits wants 0 pattern_of) (Instance-filled_in generic t h).1 (type-fits wants symbols (under_types (type_variables generic) unfilled) filling_of generic bounds)
+  pub pattern-becomes : (scope : TypeScope) → type_tree symbols scope t ≡ sub (λ k. type_tree symbols scope (wants k)) pattern_of
+  pattern-becomes scope =
+      let want : ℕ → Tree = λ k. type_tree symbols scope (wants k) in
+      let inner = under_types (type_variables generic) unfilled in
+      ap (type_tree symbols scope) (sym h.1)
+      ∙ type_tree-substitute symbols h.0 scope generic
+      ∙ sym (type_tree-agrees symbols (IsIn (type_variables generic)) (through_types want inner) (λ n. type_tree symbols scope (filling_of n)) stands generic
+      (All-each _ (variable_places generic) (λ n i. IsIn-distinct name_eq name_eq-Decides (variable_places generic) n i)))
+      ∙ sym (type_tree-sub symbols want inner generic)
     where
-      bounds : (n : Name) → IsIn (variable_places generic) n → IsBound wants symbols (under_types (type_variables generic) unfilled) filling_of n
-      bounds n i = let b = binder-of (type_variables generic) filling_of unfilled n (IsIn-distinct name_eq name_eq-Decides (variable_places generic) n i) in (b.number, b.stands, b.wanted)
+      stands : (n : Name) → IsIn (type_variables generic) n → sub (λ k. type_tree symbols scope (wants k)) (under_types (type_variables generic) unfilled n) ≡ type_tree symbols scope (filling_of n)
+      stands n i = let b = binder-of (type_variables generic) filling_of unfilled n i in ap (sub (λ k. type_tree symbols scope (wants k))) b.stands ∙ ap (type_tree symbols scope) b.wanted
 
   pub generic-mentions : (k : ℕ) → k < length (type_variables generic) → Mentions k pattern_of
   generic-mentions k l =
@@ -228,4 +192,4 @@ module _ (symbols : Symbols) (generic t : HolType) (h : Instance generic t) wher
   pub wants-arguments : map wants (below (length (type_variables generic))) ≡ type_arguments generic t
   wants-arguments =
       map-wanted_for (type_variables generic) filling_of
-      ∙ sym (type_arguments-filled_in filling_of generic) ∙ ap (type_arguments generic) (Instance-filled_in generic t h).1
+      ∙ sym (type_arguments-filled_in filling_of generic) ∙ ap (type_arguments generic) (sym (substitute-is h.0 generic) ∙ h.1)

@@ -2,3 +2,4 @@ pub mod Told
 pub mod Tasks
 pub mod Walks
 pub mod Patterns
+pub mod Closed

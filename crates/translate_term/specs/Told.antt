@@ -1,12 +1,15 @@
 -- What the calls of this crate are given: which symbols a module tells for the operators and constants of a type or a term, and what stands for
 -- type variables and free variables.
 use Rattle.std.specs.Prelude.{◌≡◌, ℕ, ◌<◌, List, [], ◌∷◌, length, Option, None, Some, if◌then◌else◌}
+use Rattle.std.specs.List.{AllByRecursion}
 use Rattle.hol_spec.specs.Names.{Name}
 use Rattle.hol_spec.specs.NameEquality.{name_eq}
 use Rattle.hol_spec.specs.Types.{HolType, HolTypes, variable, operator, none, more, count}
 use Rattle.hol_spec.specs.Primitives.{arrow_name, bool_name, ind_name, equality_name, select_name}
 use Rattle.hol_spec.specs.Substitution.{Instance}
 use Rattle.hol_spec.specs.Terms.{Term, free, bound, constant, app, lam, Variable}
+use Rattle.hol_spec.specs.Sequents.{Sequent, IsSequent}
+use Rattle.hol_spec.specs.ClosedForm.{ClosedSequent, closed_form}
 use Rattle.hol_term.specs.declared.Variable.{Variable as AVariable}
 use Rattle.lp_spec.specs.Trees.{Tree}
 use Rattle.lp_spec.specs.Modules.{Declaration, arr_symbol, bool_symbol, ind_symbol, eq_symbol, select_symbol}
@@ -63,6 +66,13 @@ TellsTerm declarations symbols (bound k) = Unit {0}
 TellsTerm declarations symbols (constant n t) = TellsConstant declarations symbols n t
 TellsTerm declarations symbols (app f x) = TellsTerm declarations symbols f × TellsTerm declarations symbols x
 TellsTerm declarations symbols (lam t b) = TellsType declarations symbols t × TellsTerm declarations symbols b
+
+-- this is the closed form of a sequent, and the module tells the symbol of each operator and each constant in it
+pub record TellsClosed (declarations : List Declaration) (symbols : Symbols) (s : Sequent) (form : ClosedSequent) : Type 0 where
+  pub is_sequent : IsSequent s
+  pub hypotheses : AllByRecursion (TellsTerm declarations symbols) s.hypotheses
+  pub conclusion : TellsTerm declarations symbols s.conclusion
+  pub closed : closed_form s ≡ form
 
 -- what stands for each of some type variables, and for each of some free variables of a table
 abbrev pub types_in : List Tree → List (Name × LpId) → List (Name × Tree)

@@ -21,7 +21,7 @@ use Rattle.module_laws.specs.DeepScopes.{deep}
 use Rattle.module_laws.specs.ListedScopes.{told_types, told}
 use Rattle.translate_term.specs.declared.memo.Place.{Place}
 use Rattle.translate_term.specs.declared.tasks.Task.{Task}
-use Rattle.translate_term.specs.Tasks.{IsNoted, IsDone, AreAll, Ends}
+use Rattle.translate_term.specs.Tasks.{IsNoted, IsDone, Ends}
 use Rattle.translate_term.specs.Told.{TellsType, TellsTerm, types_in, terms_in, AreTypesKnown, AreTermsKnown}
 
 -- the table of a module grew, and its declarations are as before
@@ -92,12 +92,6 @@ pub record IsTypeStart (given : Given) (root : TypeId) (m : Module) (types : Lis
   pub reads : IsGiven given m names
   pub noted : IsTypeMemo given types m.table made
   pub known : IsTypeKnown given types root
-
--- what walks from these types begin with
-pub record AreTypeStarts (given : Given) (ids : List TypeId) (m : Module) (types : List HolType) (names : List (Name × LpId)) (made : List (TypeId × LpId)) : Type 0 where
-  pub reads : IsGiven given m names
-  pub noted : IsTypeMemo given types m.table made
-  pub known : AreAll (IsTypeKnown given types) ids
 
 -- the term of a place is of the table, the binders round its parts can be counted, and its symbols are told
 pub record IsTermKnown (given : Given) (trees : Trees) (place : Place) : Type 0 where

@@ -1,92 +1,107 @@
-//! What the variables of a constant's generic type have in its type. The generic type is read back from the declared type of the
-//! constant's symbol, which is a product over its variables.
-ghost use Rattle.std.specs.Prelude.{◌≡◌, ◌⊎◌, ◌<◌, ◌∷◌, ℕ, List, length, replicate, Some, IfOk, IfSome, IfNone, OnOk};
+//! A constant of the tree of its type: its symbol at what the variables of its generic type have there. The generic type is read
+//! back from the declared type of the symbol, which is a product over its variables.
+ghost use Rattle.std.specs.Prelude.{◌≡◌, ◌⊎◌, ◌<◌, ◌∷◌, ◌++◌, ℕ, List, length, map, replicate, Some, IfOk, IfSome, IfNone, OnOk};
 ghost use Rattle.hol_spec.specs.Substitution.{type_arguments as arguments_of};
 ghost use Rattle.hol_spec.specs.Types.{HolType};
-ghost use Rattle.hol_type.specs.declared.table.TypeId.{TypeId as ATypeId};
-ghost use Rattle.hol_type.specs.Tables as type;
-ghost use Rattle.lp_spec.specs.Trees.{Tree, size as size_of};
-ghost use Rattle.lp_spec.specs.Modules.{products, symbol_type, types, term_of};
-ghost use Rattle.lp_term.specs.Tables.{tree_at};
+ghost use Rattle.lp_spec.specs.Trees.{Tree};
+ghost use Rattle.lp_spec.specs.Substitution.{sub};
+ghost use Rattle.lp_spec.specs.Modules.{products, signature, symbol_type, term_of, types};
+ghost use Rattle.lp_term.specs.declared.LpId.{LpId as AnId};
+ghost use Rattle.lp_term.specs.Tables.{tree_at, trees_at, AreKnown, Holds};
 ghost use Rattle.holide_sig.specs.Modules.{declarations_of, IsHeld};
-ghost use Rattle.lp_spec.specs.Modules.{signature};
-ghost use Rattle.std.specs.Prelude.{◌++◌};
-ghost use Rattle.module_spec.specs.Scopes.{Symbols};
-ghost use Rattle.translate_term.specs.Patterns.{Fits, IsGeneric, IsMatching, Mentions, work};
+ghost use Rattle.module_spec.specs.Scopes.{Symbols, TypeScope, constant_tree, type_tree};
+ghost use Rattle.translate_term.specs.Patterns.{IsGeneric, IsMatching, IsTypeTree, Mentions, work};
 ghost use Rattle.translate_term.specs.Tasks.{IsDone, IsNoted};
+ghost use Rattle.translate_term.specs.Walks.{Grows};
 
+use crate::nodes::call;
+use crate::symbols;
 use bridge_base::{Memory, Stack};
-use hol_type::{TypeId, TypeTable, TypeView};
+use hol_name::Name;
 use holide_sig::Module;
 use indexmap::IndexMap;
 use lp_term::{LpId, LpNode, LpTable};
 use std::alloc::Global;
 use std::marker::Model;
 
-/// A part of a generic type's tree, without so many of its last arguments, and the type that it is to be.
+/// A part of a generic type's tree, and the tree that it is to become.
 #[derive(Clone, Copy)]
 pub(crate) struct Meeting {
     pub(crate) pattern: LpId,
-    pub(crate) dropped: usize,
-    pub(crate) instance: TypeId,
+    pub(crate) instance: LpId,
 }
 
-/// The type for each number of a variable that was met.
+/// The tree for each number of a variable that was met.
 #[derive(Drop)]
 pub(crate) struct Found {
-    types: IndexMap<u128, TypeId>,
+    trees: IndexMap<u128, LpId>,
 }
 
 impl Model for Found {
     ghost use Rattle.std.specs.Prelude.{ℕ, List};
-    ghost use Rattle.hol_type.specs.declared.table.TypeId.{TypeId as ATypeId};
+    ghost use Rattle.lp_term.specs.declared.LpId.{LpId as AnId};
 
-    ghost Value = { List (ℕ × ATypeId) };
+    ghost Value = { List (ℕ × AnId) };
 
-    ghost view = { λ f. f.types.entries };
+    ghost view = { λ f. f.trees.entries };
 }
 
 impl Found {
     fn new(alloc: Global) -> Self
-        ensures empty { (k : ℕ) (id : ATypeId) → IsNoted result k id → ⊥ }
+        ensures empty { (k : ℕ) (id : AnId) → IsNoted result k id → ⊥ }
     {
         Found {
-            types: IndexMap::new(alloc),
+            trees: IndexMap::new(alloc),
         }
     }
 
-    fn find(&self, number: u128) -> Option<TypeId>
+    fn find(&self, number: u128) -> Option<LpId>
         ensures noted { IfSome result (λ id. IsNoted self.now number id) }
-        ensures absent { IfNone result ((id : ATypeId) → IsNoted self.now number id → ⊥) }
+        ensures absent { IfNone result ((id : AnId) → IsNoted self.now number id → ⊥) }
     {
-        self.types.get(&number).copied()
+        self.trees.get(&number).copied()
     }
 
-    fn note(&mut self, number: u128, ty: TypeId) -> Result<(), Memory>
-        ensures noted { OnOk result ((k : ℕ) (id : ATypeId) → IsNoted self.new k id → IsNoted self.old k id ⊎ ((k ≡ number) × (id ≡ ty))) }
-        ensures new { OnOk result (IsNoted self.new number ty) }
-        ensures kept { OnOk result ((k : ℕ) (id : ATypeId) → IsNoted self.old k id → (k ≡ number) ⊎ IsNoted self.new k id) }
+    fn note(&mut self, number: u128, tree: LpId) -> Result<(), Memory>
+        ensures noted { OnOk result ((k : ℕ) (id : AnId) → IsNoted self.new k id → IsNoted self.old k id ⊎ ((k ≡ number) × (id ≡ tree))) }
+        ensures new { OnOk result (IsNoted self.new number tree) }
+        ensures kept { OnOk result ((k : ℕ) (id : AnId) → IsNoted self.old k id → (k ≡ number) ⊎ IsNoted self.new k id) }
     {
-        self.types.insert(number, ty)?;
+        self.trees.insert(number, tree)?;
         Ok(())
     }
 }
 
-// The types that the variables of the generic type of a symbol have in a type, in order of first occurrence.
-pub(crate) fn type_arguments(
+// A constant of the tree of its type.
+pub(crate) fn constant_of(
+    alloc: Global,
+    target: &mut Module,
+    name: &Name,
+    ty: LpId,
+) -> Result<LpId, Memory>
+    requires { (symbols : Symbols) × (scope : TypeScope) × (t : HolType) × IsTypeTree symbols scope t target.old name.now ty }
+    ensures made { IfOk result (λ r. (symbols : Symbols) (scope : TypeScope) (t : HolType) → IsTypeTree symbols scope t target.old name.now ty → Holds target.new.table r.0 (constant_tree symbols scope name.now t)) }
+    ensures grows { Grows target.old target.new }
+{
+    let symbol = symbols::constant(alloc, target, name)?.unwrap();
+    let args = type_arguments(alloc, target, symbol, ty)?;
+    call(&mut target.table, symbol, &args)
+}
+
+// The trees that the variables of the generic type of a symbol have in the tree of an instance, in order of first occurrence.
+fn type_arguments(
     alloc: Global,
     source: &Module,
-    table: &TypeTable,
     symbol: usize,
-    ty: TypeId,
-) -> Result<Vec<TypeId>, Memory>
+    ty: LpId,
+) -> Result<Vec<LpId>, Memory>
     requires held { IsHeld source.now }
-    requires instance { (symbols : Symbols) × (generic : HolType) × IsGeneric (declarations_of source.now) symbol symbols generic table.now ty }
-    ensures arguments { IfOk result (λ args. (symbols : Symbols) (generic : HolType) → IsGeneric (declarations_of source.now) symbol symbols generic table.now ty → type.types_at table.now args.items ≡ arguments_of generic (type.tree_at table.now ty.0)) }
-    ensures known { IfOk result (λ args. type.AreKnown table.now args.items) }
+    requires instance { (symbols : Symbols) × (scope : TypeScope) × (generic : HolType) × (t : HolType) × IsGeneric (declarations_of source.now) symbol symbols scope generic t source.now.table ty }
+    ensures arguments { IfOk result (λ args. (symbols : Symbols) (scope : TypeScope) (generic t : HolType) → IsGeneric (declarations_of source.now) symbol symbols scope generic t source.now.table ty → trees_at source.now.table args.items ≡ map (type_tree symbols scope) (arguments_of generic t)) }
+    ensures known { IfOk result (λ args. AreKnown source.now.table args.items) }
 {
     let (count, pattern) = generic_type(source, symbol);
-    let found = matched(alloc, &source.table, table, pattern, ty)?;
+    let found = matched(alloc, &source.table, pattern, ty)?;
     let mut args = Vec::new(alloc);
     let mut left = count;
     while left > 0 {
@@ -121,37 +136,27 @@ fn generic_type(source: &Module, symbol: usize) -> (u128, LpId)
     }
 }
 
-// The types that the variables of a generic type's tree have in a type.
-fn matched(
-    alloc: Global,
-    trees: &LpTable,
-    table: &TypeTable,
-    pattern: LpId,
-    ty: TypeId,
-) -> Result<Found, Memory>
+// The trees that the variables of a generic type's tree have in the tree of an instance.
+fn matched(alloc: Global, trees: &LpTable, pattern: LpId, instance: LpId) -> Result<Found, Memory>
     requires pattern { pattern.0 < length trees.now }
-    requires ty { ty.0 < length table.now }
-    requires fits { (want : ℕ → HolType) × Fits want 0 (tree_at trees.now pattern.0) (type.tree_at table.now ty.0) }
-    ensures noted { IfOk result (λ found. (want : ℕ → HolType) → Fits want 0 (tree_at trees.now pattern.0) (type.tree_at table.now ty.0) → (k : ℕ) (id : ATypeId) → IsNoted found k id → (id.0 < length table.now) × (type.tree_at table.now id.0 ≡ want k)) }
+    requires instance { instance.0 < length trees.now }
+    requires fits { (want : ℕ → Tree) × (tree_at trees.now instance.0 ≡ sub want (tree_at trees.now pattern.0)) }
+    ensures noted { IfOk result (λ found. (want : ℕ → Tree) → tree_at trees.now instance.0 ≡ sub want (tree_at trees.now pattern.0) → (k : ℕ) (id : AnId) → IsNoted found k id → (id.0 < length trees.now) × (tree_at trees.now id.0 ≡ want k)) }
     ensures all { IfOk result (λ found. (k : ℕ) → Mentions k (tree_at trees.now pattern.0) → IsDone found k) }
 {
     let mut tasks = Stack::new(alloc);
     let mut found = Found::new(alloc);
-    tasks.push(meet(pattern, 0, ty))?;
+    tasks.push(meet(pattern, instance))?;
     while let Some(task) = tasks.pop() {
-        turn(trees, table, task, &mut tasks, &mut found)?;
+        turn(trees, task, &mut tasks, &mut found)?;
     }
     Ok(found)
 }
 
-fn meet(pattern: LpId, dropped: usize, instance: TypeId) -> Meeting
-    ensures { result ≡ record { pattern = pattern; dropped = dropped; instance = instance } }
+fn meet(pattern: LpId, instance: LpId) -> Meeting
+    ensures { result ≡ record { pattern = pattern; instance = instance } }
 {
-    Meeting {
-        pattern,
-        dropped,
-        instance,
-    }
+    Meeting { pattern, instance }
 }
 
 // Puts two tasks on those that are left.
@@ -163,27 +168,24 @@ fn set_out(tasks: &mut Stack<Meeting>, first: Meeting, second: Meeting) -> Resul
     Ok(())
 }
 
-// Notes the type of a variable, or sets out to meet the last argument of an operator and the rest of it.
+// Notes the tree of a variable, or sets out to meet the two parts of an application.
 fn turn(
     trees: &LpTable,
-    table: &TypeTable,
     task: Meeting,
     tasks: &mut Stack<Meeting>,
     found: &mut Found,
 ) -> Result<(), Memory>
-    requires { (want : ℕ → HolType) × (root : Tree) × IsMatching want root trees.now table.now (task ∷ tasks.old) found.old }
-    ensures matching { OnOk result ((want : ℕ → HolType) (root : Tree) → IsMatching want root trees.now table.now (task ∷ tasks.old) found.old → IsMatching want root trees.now table.now tasks.new found.new) }
+    requires { (want : ℕ → Tree) × (root : Tree) × IsMatching want root trees.now (task ∷ tasks.old) found.old }
+    ensures matching { OnOk result ((want : ℕ → Tree) (root : Tree) → IsMatching want root trees.now (task ∷ tasks.old) found.old → IsMatching want root trees.now tasks.new found.new) }
     ensures less { OnOk result (work trees.now tasks.new < work trees.now (task ∷ tasks.old)) }
 {
     match trees.view(task.pattern) {
         LpNode::Var(number) => found.note(number, task.instance),
         LpNode::App(head, argument) => {
-            let TypeView::Op(_, args) = table.view(task.instance) else {
+            let LpNode::App(function, part) = trees.view(task.instance) else {
                 return Ok(());
             };
-            let place = args.len() - 1 - task.dropped;
-            let rest = meet(head, args.len() - place, task.instance);
-            set_out(tasks, meet(argument, 0, args[place]), rest)
+            set_out(tasks, meet(argument, part), meet(head, function))
         }
         LpNode::SortType | LpNode::SortKind | LpNode::Sym(_) | LpNode::Lam(..) | LpNode::Pi(..) =>
             Ok(()),

@@ -10,6 +10,10 @@
 //! declared type of the symbol, of primitive, input and defined constants alike. That what is made in a shaped scope is shaped is
 //! a law of the clauses `made`: `terms_shaped` of `module_laws`.
 //!
+//! A closed sequent needs no table and no scope: its tree is the product over its parameters, whose places are their numbers. It is
+//! the tree of each sequent of which this is the closed form, and it stands for the closed sequent, where the module's symbols mean
+//! what they are used for.
+//!
 //! ```
 //! let mut scope = Scope::new(alloc);
 //! scope.types.set(name, variable)?;
@@ -18,14 +22,21 @@
 #![tactic(auto)]
 
 ghost use Rattle.std.specs.Prelude.{◌≡◌, ◌<◌, length, IfOk};
+ghost use Rattle.std.specs.List.{AllByRecursion};
+ghost use Rattle.hol_spec.specs.Limits.{SequentWithin};
+ghost use Rattle.hol_spec.specs.Sequents.{Sequent, terms_of};
 ghost use Rattle.hol_type.specs.Tables as type;
 ghost use Rattle.hol_term.specs.Tables.{term_at};
 ghost use Rattle.holide_sig.specs.Modules.{declarations_of, IsHeld};
 ghost use Rattle.lp_term.specs.Tables.{tree_at, Holds, Keeps};
-ghost use Rattle.module_spec.specs.Scopes.{Symbols, filler as filler_of, term_tree as tree_of_term, type_tree as tree_of_type};
+ghost use Rattle.module_spec.specs.Enc.{Enc};
+ghost use Rattle.module_spec.specs.Scopes.{Symbols, filler as filler_of, sequent_tree, term_tree as tree_of_term, type_tree as tree_of_type};
 ghost use Rattle.module_laws.specs.ListedScopes.{told, told_types};
-ghost use Rattle.translate_term.specs.Told.{AreTermsKnown, AreTypesKnown, TellsTerm, TellsType, terms_in, types_in};
+ghost use Rattle.module_laws.specs.SequentEncoding.{TermMeant};
+ghost use Rattle.sequent.specs.Closed.{closed_view};
+ghost use Rattle.translate_term.specs.Told.{AreTermsKnown, AreTypesKnown, TellsClosed, TellsTerm, TellsType, terms_in, types_in};
 
+mod closed;
 mod generic;
 mod memo;
 mod nodes;
@@ -35,6 +46,7 @@ mod tasks;
 mod terms;
 mod types;
 
+use crate::closed::closed_type;
 use crate::memo::TypeMemo;
 use crate::nodes::filling;
 use crate::terms::term_tree;
@@ -45,6 +57,7 @@ use hol_type::{TypeId, TypeTable};
 use holide_sig::Module;
 use lp_term::LpId;
 pub use scope::{Scope, ScopeTerms, ScopeTypes};
+use sequent::Closed;
 use std::alloc::Global;
 
 /// The tree of a type.
@@ -93,6 +106,22 @@ pub fn tm(
     // As many terms as the table has can be counted.
     let _count = table.count();
     term_tree(alloc, target, table, scope, id)
+}
+
+/// The type that a theorem of this closed sequent is declared at: the product over its type variables, its free variables and
+/// its hypotheses, which ends in the proofs of its conclusion. It stands for the closed sequent.
+pub fn closed_ty(alloc: Global, target: &mut Module, closed: &Closed) -> Result<LpId, Memory>
+    requires held { IsHeld target.old }
+    requires told { (symbols : Symbols) × (s : Sequent) × TellsClosed (declarations_of target.old) symbols s (closed_view closed.now) }
+    ensures made { IfOk result (λ r. (symbols : Symbols) (s : Sequent) → TellsClosed (declarations_of target.old) symbols s (closed_view closed.now) → Holds target.new.table r.0 (sequent_tree symbols s)) }
+    ensures encoded { IfOk result (λ r. (symbols : Symbols) (s : Sequent) → TellsClosed (declarations_of target.old) symbols s (closed_view closed.now) → SequentWithin s → AllByRecursion (TermMeant (declarations_of target.old) symbols) (terms_of s) → Enc (declarations_of target.old) (closed_view closed.now) (tree_at target.new.table r.0)) }
+    ensures known { IfOk result (λ r. r.0 < length target.new.table) }
+    ensures keeps { Keeps target.old.table target.new.table }
+    ensures decls { target.new.decls ≡ target.old.decls }
+    ensures held { IsHeld target.new }
+    ensures declared { declarations_of target.new ≡ declarations_of target.old }
+{
+    closed_type(alloc, target, closed)
 }
 
 /// Some term of a type: the choice of one that is itself, `select A (x : term A => eq A x x)`.

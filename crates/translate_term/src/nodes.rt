@@ -9,6 +9,8 @@ use bridge_base::Memory;
 use lp_term::{LpId, LpNode, LpTable};
 
 // The numbers of the signature's symbols.
+pub(crate) const TYPE: usize = 0;
+
 pub(crate) const BOOL: usize = 1;
 
 pub(crate) const IND: usize = 2;
@@ -20,6 +22,8 @@ pub(crate) const TERM: usize = 4;
 pub(crate) const EQ: usize = 5;
 
 pub(crate) const SELECT: usize = 6;
+
+pub(crate) const PROOF: usize = 7;
 
 // A tree applied to arguments, the first innermost.
 pub(crate) fn apply(table: &mut LpTable, head: LpId, args: &[LpId]) -> Result<LpId, Memory>

@@ -1,9 +1,9 @@
 //! Which symbols of a module stand for operators and constants: they are found by their names.
-ghost use Rattle.std.specs.Prelude.{◌≡◌, IfOk};
+ghost use Rattle.std.specs.Prelude.{◌≡◌, ◌++◌, decimal, IfOk, OnOk};
+ghost use Rattle.hol_spec.specs.Mangling.{mangled};
 ghost use Rattle.holide_sig.specs.Modules.{declarations_of};
 ghost use Rattle.module_spec.specs.Image.{input_operator_name};
-ghost use Rattle.std.specs.Prelude.{◌++◌};
-ghost use Rattle.hol_spec.specs.Mangling.{mangled};
+ghost use Rattle.module_spec.specs.Numerals.{numeral};
 ghost use Rattle.translate_term.specs.Told.{told_constant, told_operator};
 
 use crate::nodes::{ARR, BOOL, EQ, IND, SELECT};
@@ -61,11 +61,26 @@ pub(crate) fn constant(alloc: Global, source: &Module, name: &Name) -> Result<Op
 fn input_operator(alloc: Global, name: &Name, arity: usize) -> Result<Vec<u8>, Memory>
     ensures { IfOk result (λ text. text.items ≡ input_operator_name arity name.now) }
 {
-    let mut buffer = Buffer::new();
     let mut front = Vec::from_slice(alloc, b"t")?;
-    front.extend_from_slice(buffer.format(arity).as_bytes())?;
+    push_numeral(&mut front, arity)?;
     front.extend_from_slice(b"_")?;
     text(alloc, &front, name)
+}
+
+// Adds a number as names write it.
+fn push_numeral(text: &mut Vec<u8>, number: usize) -> Result<(), Memory>
+    ensures { OnOk result (text.new.items ≡ text.old.items ++ numeral number) }
+{
+    push_digits(text, number)
+}
+
+// Adds the digits of a number.
+fn push_digits(text: &mut Vec<u8>, number: usize) -> Result<(), Memory>
+    ensures { OnOk result (text.new.items ≡ text.old.items ++ decimal number) }
+{
+    let mut buffer = Buffer::new();
+    text.extend_from_slice(buffer.format(number).as_bytes())?;
+    Ok(())
 }
 
 // The mangled text of a name after some bytes.

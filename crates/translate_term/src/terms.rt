@@ -17,13 +17,12 @@ ghost use Rattle.translate_term.specs.Tasks.{work};
 ghost use Rattle.translate_term.specs.Told.{TellsConstant, TellsType};
 ghost use Rattle.translate_term.specs.Walks.{AreGiven, Given, Grows, IsGiven, IsTermKnown, IsTermStart, IsTermWalk, IsTypeMemo, IsTypeStart, place_size, term_wanted, type_wanted};
 
-use crate::generic::type_arguments;
+use crate::generic::constant_of;
 use crate::memo::{Place, TermMemo, TypeMemo};
 use crate::nodes::{TERM, call, filling};
 use crate::scope::Scope;
-use crate::symbols;
 use crate::tasks::Task;
-use crate::types::{type_of, types_of};
+use crate::types::type_of;
 use bridge_base::{Memory, Stack};
 use hol_name::Name;
 use hol_term::{TermId, TermTable, TermView, Variable};
@@ -176,8 +175,8 @@ fn variable(
     match scope.terms.find(&wanted) {
         Some(tree) => Ok(tree),
         None => {
-            let tree = type_of(alloc, target, table.types(), &scope.types, memo, ty)?;
-            filling(&mut target.table, tree)
+            let filled = type_of(alloc, target, table.types(), &scope.types, memo, ty)?;
+            filling(&mut target.table, filled)
         }
     }
 }
@@ -197,11 +196,8 @@ fn constant(
     ensures noted { OnOk result ((given : Given) → IsTypeStart given ty target.old table.now.types scope.now.types memo.old → TellsConstant given.declarations given.symbols name.now (hol.type_at table.now ty.0) → IsTypeMemo given table.now.types target.new.table memo.new) }
     ensures grows { Grows target.old target.new }
 {
-    let types = table.types();
-    let symbol = symbols::constant(alloc, target, name)?.unwrap();
-    let args = type_arguments(alloc, target, types, symbol, ty)?;
-    let trees = types_of(alloc, target, types, &scope.types, memo, &args)?;
-    call(&mut target.table, symbol, &trees)
+    let tree = type_of(alloc, target, table.types(), &scope.types, memo, ty)?;
+    constant_of(alloc, target, name, tree)
 }
 
 // Makes a term of what was made of its parts.

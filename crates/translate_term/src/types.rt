@@ -1,9 +1,9 @@
 //! The walk that makes the tree of a type.
-ghost use Rattle.std.specs.Prelude.{◌≡◌, ◌<◌, ◌∷◌, List, length, map, IfOk, OnOk};
+ghost use Rattle.std.specs.Prelude.{◌≡◌, ◌<◌, ◌∷◌, List, length, IfOk, OnOk};
 ghost use Rattle.hol_spec.specs.Limits.{type_size};
 ghost use Rattle.hol_spec.specs.Names.{Name as AName};
 ghost use Rattle.hol_type.specs.declared.table.TypeId.{TypeId as ATypeId};
-ghost use Rattle.hol_type.specs.Tables.{tree_at, types_at};
+ghost use Rattle.hol_type.specs.Tables.{tree_at};
 ghost use Rattle.lp_term.specs.declared.LpId.{LpId as AnId};
 ghost use Rattle.lp_term.specs.Tables as lp;
 ghost use Rattle.module_laws.specs.ListedScopes.{told_types};
@@ -11,7 +11,7 @@ ghost use Rattle.translate_term.specs.declared.tasks.Task.{Task as ATask};
 ghost use Rattle.translate_term.specs.declared.tasks.Task.TheVariants as task;
 ghost use Rattle.translate_term.specs.Tasks.{AreAll, IsDone, IsNoted, work};
 ghost use Rattle.translate_term.specs.Told.{types_in};
-ghost use Rattle.translate_term.specs.Walks.{AreNoted, AreTypeStarts, Given, Grows, IsGiven, IsTypeMemo, IsTypeStart, IsTypeWalk, size_at, type_wanted};
+ghost use Rattle.translate_term.specs.Walks.{AreNoted, Given, Grows, IsGiven, IsTypeMemo, IsTypeStart, IsTypeWalk, size_at, type_wanted};
 
 use crate::memo::TypeMemo;
 use crate::nodes::{BOOL, call};
@@ -45,28 +45,6 @@ pub(crate) fn type_of(
         turn(alloc, target, table, scope, task, &mut tasks, memo)?;
     }
     Ok(memo.find(root).unwrap())
-}
-
-// The trees of some types.
-pub(crate) fn types_of(
-    alloc: Global,
-    target: &mut Module,
-    table: &TypeTable,
-    scope: &ScopeTypes,
-    memo: &mut TypeMemo,
-    ids: &[TypeId],
-) -> Result<Vec<LpId>, Memory>
-    requires { (given : Given) × AreTypeStarts given ids.now target.old table.now scope.now memo.old }
-    ensures made { IfOk result (λ trees. (given : Given) → AreTypeStarts given ids.now target.old table.now scope.now memo.old → lp.trees_at target.new.table trees.items ≡ map (type_wanted given) (types_at table.now ids.now)) }
-    ensures known { IfOk result (λ trees. lp.AreKnown target.new.table trees.items) }
-    ensures noted { OnOk result ((given : Given) → AreTypeStarts given ids.now target.old table.now scope.now memo.old → IsTypeMemo given table.now target.new.table memo.new) }
-    ensures grows { Grows target.old target.new }
-{
-    let mut trees = Vec::new(alloc);
-    for id in ids {
-        trees.push(type_of(alloc, target, table, scope, memo, *id)?)?;
-    }
-    Ok(trees)
 }
 
 // One turn of the walk.

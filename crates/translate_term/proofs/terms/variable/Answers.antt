@@ -12,16 +12,16 @@ returns-in-Some-clause-made c =
     λ given s a. free-told given _ _ distinct _ c.args.name.now c.args.ty s.known.known a c.in-Some.tree found
 
 pub filling-requires : goal.filling-requires
-filling-requires c = lp_laws.Holds-within _ c.in_ok-tree-in-None.tree.0 _ (rw c.types-in-None.ensures.types at c.in_ok-tree-in-None.ensures.made c.requires.0 c.requires.1)
+filling-requires c = lp_laws.Holds-within _ c.in_ok-filled-in-None.filled.0 _ (rw c.types-in-None.ensures.types at c.in_ok-filled-in-None.ensures.made c.requires.0 c.requires.1)
 
 pub returns-clause-made : goal.returns-clause-made
 returns-clause-made c =
     let distinct = rw c.types.ensures.types at c.count-count.ensures.distinct in
-    let made = rw c.types-in-None.ensures.types at c.in_ok-tree-in-None.ensures.made in
+    let made = rw c.types-in-None.ensures.types at c.in_ok-filled-in-None.ensures.made in
     let absent = rw c.in_ok-clone.ensures.cases at (sym c.find.ensures ∙ c.in-None.is) in
     IfOk-weaker c.filling.result _ _
-    (λ r h given s a. free-filled given _ _ distinct _ c.args.name.now c.args.ty s.known.known a _ _ c.in_ok-tree-in-None.tree r absent (made given s) h)
+    (λ r h given s a. free-filled given _ _ distinct _ c.args.name.now c.args.ty s.known.known a _ _ c.in_ok-filled-in-None.filled r absent (made given s) h)
     c.filling.ensures.made
 
 pub returns-clause-noted : goal.returns-clause-noted
-returns-clause-noted c = OnOk-always c.filling.result (λ given s. IsTypeMemo-Keeps c.filling.ensures.keeps given _ _ (rw c.types-in-None.ensures.types at c.in_ok-tree-in-None.ensures.noted given s))
+returns-clause-noted c = OnOk-always c.filling.result (λ given s. IsTypeMemo-Keeps c.filling.ensures.keeps given _ _ (rw c.types-in-None.ensures.types at c.in_ok-filled-in-None.ensures.noted given s))
