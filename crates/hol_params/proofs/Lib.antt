@@ -1,0 +1,7 @@
+mod Unions
+mod Names
+mod Gathered
+mod Owned
+mod Measured
+mod Found
+mod Walked

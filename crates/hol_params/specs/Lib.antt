@@ -1,0 +1,4 @@
+pub mod Lists
+pub mod Noted
+pub mod NotedLaws
+pub mod Variables
