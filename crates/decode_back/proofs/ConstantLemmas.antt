@@ -1,0 +1,56 @@
+-- Lemmas on the symbols of constants.
+use Rattle.std.proofs.Common.{◌≡◌, ◌&&◌, ℕ, List, Bool, true, false, cond, Option, Some, None, refl, sym, ap, ◌∙◌}
+use Rattle.std.specs.Prelude.{not, codes}
+use Rattle.std.specs.Bool.{Decides}
+use Rattle.std.proofs.lemmas.Bool.Decides.{same_from_decides}
+use Rattle.hol_spec.specs.Names.{Name}
+use Rattle.hol_spec.specs.NameEquality.{name_eq}
+use Rattle.hol_laws.specs.NameEqualityLaws.{name_eq-Decides}
+use Rattle.hol_spec.specs.Primitives.{equality_name, select_name, equality_type, select_type, generic, primitive_type}
+use Rattle.hol_spec.specs.Types.{HolType}
+use Rattle.hol_spec.specs.ClosedForm.{ClosedType}
+use Rattle.lp_spec.specs.Trees.{Tree, Pi, Var, tree_eq}
+use Rattle.lp_spec.specs.Modules.{Declaration, symbol_type, types, term_of}
+use Rattle.decode_spec.specs.Options.{bind, provided}
+use Rattle.decode_laws.specs.OptionLaws.{bind-is, provided-is, some-injective, provided-true}
+use Rattle.decode_spec.specs.Decode.{name_behind, has_type, is_lacking, Constant, constant_with, input_constant}
+use Rattle.decode_laws.specs.SymbolLaws.{and-true}
+
+-- a name that isn't that of equality
+told_by : (a b : Bool) → Option HolType
+told_by a b = cond a (Some (equality_type generic)) (cond b (Some (select_type generic)) None)
+
+told : (b : Bool) → b ≡ not (is_lacking (told_by false b))
+unfolding told_by
+told true = refl
+told false = refl
+
+told-by : (n : Name) → primitive_type n ≡ told_by (name_eq n equality_name) (name_eq n select_name)
+unfolding told_by
+told-by n = refl
+
+pub primitive-second : (n : Name) (a b : Bool) → Decides a (n ≡ equality_name) → a ≡ false → Decides b (n ≡ select_name) → b ≡ not (is_lacking (primitive_type n))
+primitive-second n a b p e q =
+    let f : name_eq n equality_name ≡ false = same_from_decides (name_eq n equality_name) a (name_eq-Decides n equality_name) p ∙ e in
+    let g : name_eq n select_name ≡ b = same_from_decides (name_eq n select_name) b (name_eq-Decides n select_name) q in
+    told b ∙ sym (ap (λ o. not (is_lacking o)) (told-by n ∙ (λ i. told_by (f i) (g i))))
+
+-- an input constant
+module _ (d : List Declaration) (s : ℕ) where
+  abbrev input_type : Tree
+  input_type = Pi types (term_of (Var 0))
+
+  abbrev made : Name → Constant
+  made n = constant_with n 1 (ClosedType.parameter 0)
+
+  abbrev named : Option Name
+  named = bind (name_behind d s (codes "i_")) (λ n. provided (is_lacking (primitive_type n)) (Some n))
+
+  pub input-found : (name : Name) (A : Tree) (told : Bool) → Some name ≡ named → symbol_type d s ≡ Some A → told ≡ tree_eq A input_type → told ≡ true → input_constant d s ≡ Some (made name)
+  input-found name A told e f g h =
+      let p = bind-is (name_behind d s (codes "i_")) (λ n. provided (is_lacking (primitive_type n)) (Some n)) name (sym e) in
+      let q = provided-is (is_lacking (primitive_type p.0)) (Some p.0) name p.2 in
+      let typed : has_type (symbol_type d s) input_type ≡ true = ap (λ o. has_type o input_type) f ∙ sym g ∙ h in
+      ap (λ o. bind o (λ n. provided (is_lacking (primitive_type n) && has_type (symbol_type d s) input_type) (Some (made n)))) p.1
+      ∙ provided-true (is_lacking (primitive_type p.0) && has_type (symbol_type d s) input_type) (Some (made p.0)) (and-true (is_lacking (primitive_type p.0)) (has_type (symbol_type d s) input_type) q.0 typed)
+      ∙ ap (λ n. Some (made n)) (some-injective q.1)

@@ -1,0 +1,15 @@
+pub mod ClosedFormTestLaws
+pub mod ConstantLaws
+pub mod DecodingLaws
+pub mod DemangledLaws
+pub mod ExportLaws
+pub mod GenericLaws
+pub mod OpenedLaws
+pub mod OptionLaws
+pub mod SizeBound
+pub mod SizeLaws
+pub mod SymbolLaws
+pub mod TermLaws
+pub mod TermWalkLaws
+pub mod TypeLaws
+pub mod WalkLaws
