@@ -2,6 +2,7 @@
 # Time and peak memory of making a proof of one million steps and one of two million, in chains of 102 steps by
 # substitution, reflexivity, `appThm`, `trans` and `eqMp`, whose terms share their parts; and the ratios of two million
 # to one, each of which is to be at most 2.5. Run `rt run` in crates/proof_bench first, which builds the program.
+# On a busy machine with four processors one run gave 5.27 and 11.09 seconds, ratio 2.10; 1,052 and 2,103 MiB, ratio 2.00.
 cd "$(dirname "$0")/../crates/proof_bench" || exit 1
 # Processor time in seconds and peak memory in KiB, of the quickest of five runs.
 quickest() {

@@ -8,6 +8,8 @@ use Rattle.hol_type.specs.TableLaws as type_law
 use Rattle.hol_term.specs.declared.Variable.{Variable}
 use Rattle.hol_term.specs.Tables.{Trees, Keeps}
 use Rattle.hol_term.specs.TableLaws as table_law
+use Rattle.hol_params.specs.declared.ParamMemo.{ParamMemo}
+use Rattle.hol_params.specs.NotedLaws.{AreNoted-keeps}
 use Rattle.sequent.specs.declared.Sequent.{Sequent}
 use Rattle.sequent.specs.Sequents.{sequent_at, IsKnown}
 use Rattle.hol_rules.specs.declared.made.Parameters.{Parameters}
@@ -57,8 +59,8 @@ module _ {a b : Trees} (k : Keeps a b) where
   pub made_view-Keeps : (xs : List Step) (ms : List OneMade) → AllByRecursion (IsStepKnown a) xs → made_view a xs ms ≡ made_view b xs ms
   made_view-Keeps xs ms h = ap (λ steps. map (one_view steps) ms) (steps_view-Keeps xs h)
 
-  pub IsKept-Keeps : (symbols : List Symbol) (xs : List Step) (ms : List OneMade) → IsKept a symbols xs ms → IsKept b symbols xs ms
-  IsKept-Keeps symbols xs ms h =
+  pub IsKept-Keeps : (symbols : List Symbol) (xs : List Step) (ms : List OneMade) {memo : ParamMemo} → IsKept a symbols xs ms memo → IsKept b symbols xs ms memo
+  IsKept-Keeps symbols xs ms {memo = memo} h =
       let m = made_view-Keeps xs ms h.known in
       record {
         distinct = k.distinct h.distinct;
@@ -67,7 +69,8 @@ module _ {a b : Trees} (k : Keeps a b) where
         steps = subst (λ made. steps_of made ≡ steps_view b xs) m (h.steps ∙ steps_view-Keeps xs h.known);
         symbols_taken = subst (λ made. symbols_of made ≡ symbols) m h.symbols_taken;
         proof = subst IsProof m h.proof;
+        noted = AreNoted-keeps k memo h.noted;
       }
 
-  pub Grows-Keeps : (symbols : List Symbol) (xs : List Step) (ms : List OneMade) → IsKept a symbols xs ms → Grows (record { trees = a; made = made_view a xs ms }) (record { trees = b; made = made_view b xs ms })
+  pub Grows-Keeps : (symbols : List Symbol) (xs : List Step) (ms : List OneMade) {memo : ParamMemo} → IsKept a symbols xs ms memo → Grows (record { trees = a; made = made_view a xs ms }) (record { trees = b; made = made_view b xs ms })
   Grows-Keeps symbols xs ms h = record { trees = k; made = sym (made_view-Keeps xs ms h.known) }

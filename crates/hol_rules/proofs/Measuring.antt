@@ -1,18 +1,11 @@
 -- The measures of a sequent, term by term.
-use Rattle.std.proofs.Common.{◌≡◌, ℕ, suc, ◌+◌, ◌-◌, ◌≤◌, ◌^◌, refl, sym, ap, ◌∙◌, arith, List, [], ◌∷◌, ◌++◌, length}
+use Rattle.std.proofs.Common.{◌≡◌, ℕ, ◌+◌, ◌-◌, ◌≤◌, ◌^◌, sym, ap, ◌∙◌, arith, List, [], ◌∷◌, ◌++◌}
 use Rattle.std.specs.Prelude.{min, max}
 use Rattle.std.specs.List.{sum_by}
 use Rattle.std.proofs.lemmas.List.Sums.{sum_by-cons, sum_by_push}
 use Rattle.hol_spec.specs.Terms.{Term}
 use Rattle.hol_spec.specs.Limits.{term_size, term_depth, greatest_by}
-use Rattle.std.proofs.lemmas.List.{length-map}
-use Rattle.hol_spec.specs.Names.{Name}
-use Rattle.hol_spec.specs.Sequents.{type_variables_of, free_variables_of, parameter_count}
 use Rattle.hol_term.specs.declared.TermId.{TermId}
-use Rattle.hol_term.specs.declared.Variable.{Variable}
-use Rattle.hol_term.specs.Subterms.{variables_of}
-use Rattle.sequent.specs.declared.Sequent.{Sequent}
-use Rattle.sequent.specs.Sequents.{sequent_at}
 use Rattle.hol_term.specs.Tables.{Trees, term_at, terms_at, AreKnown}
 
 -- what is last counts first
@@ -82,20 +75,3 @@ module _ (trees : Trees) (ids : List TermId) (concl : TermId) where
 
   pub deepening_ends : (depth : ℕ) → IsDeepening trees ids [] concl depth → depth ≡ min (greatest_by term_depth (terms_at trees ids ++ term_at trees concl.0 ∷ [])) (2 ^ 64 - 1)
   deepening_ends depth w = omega (arith, w.fits, w.depths)
-
--- the conclusion's and the hypotheses' parameters, where each count is cut at the greatest number
-pub counted : (a b c k n : ℕ) → k ≡ min (a + b) (2 ^ 64 - 1) → n ≡ min (k + c) (2 ^ 64 - 1) → n ≡ min (a + b + c) (2 ^ 64 - 1)
-counted a b c k n e f = omega (arith, e, f)
-
-length-variables_of : (trees : Trees) (vs : List Variable) → length (variables_of trees vs) ≡ length vs
-length-variables_of trees [] = refl
-length-variables_of trees (v ∷ vs) = ap suc (length-variables_of trees vs)
-
--- the parameters of a sequent, by their numbers
-pub counts : (trees : Trees) (s : Sequent) (names : List Name) (vs : List Variable) (ids : List TermId) → names ≡ type_variables_of (sequent_at trees s) → variables_of trees vs ≡ free_variables_of (sequent_at trees s) → ids ≡ s.hyps
-    → min (length names + length vs + length ids) (2 ^ 64 - 1) ≡ min (parameter_count (sequent_at trees s)) (2 ^ 64 - 1)
-counts trees s names vs ids e f g =
-    let n = ap length e in
-    let v = sym (length-variables_of trees vs) ∙ ap length f in
-    let h = ap length g ∙ sym (length-map s.hyps (λ (id : TermId). term_at trees id.0)) in
-    λ i. min (n i + v i + h i) (2 ^ 64 - 1)

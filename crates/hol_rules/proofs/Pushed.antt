@@ -11,6 +11,8 @@ use Rattle.hol_spec.specs.Proofs as proof
 use Rattle.hol_laws.specs.Members.{All-append}
 use Rattle.proof_laws.specs.ProofLaws.{steps_of-push, symbols_of-push}
 use Rattle.hol_term.specs.Tables.{Trees}
+use Rattle.hol_params.specs.declared.ParamMemo.{ParamMemo}
+use Rattle.hol_params.specs.Noted.{AreNoted}
 use Rattle.sequent.specs.Sequents as numbers
 use Rattle.hol_rules.specs.declared.made.Made.{Made as OneMade}
 use Rattle.hol_rules.specs.declared.made.Made.TheVariants as one
@@ -45,7 +47,7 @@ numbered-more n k l (one.InputConst m ∷ ms) h = (tt {0}, numbered-more n k l m
 numbered-more n k l (one.InputOp m j ∷ ms) h = (tt {0}, numbered-more n k l ms h.1)
 numbered-more n k l (one.Step i ∷ ms) h = (omega (arith, l, h.0), numbered-more n k l ms h.1)
 
-module _ (trees : Trees) (symbols : List Symbol) (xs : List Step) (ms : List OneMade) (h : IsKept trees symbols xs ms) (x : Step) where
+module _ (trees : Trees) (symbols : List Symbol) (xs : List Step) (ms : List OneMade) {memo : ParamMemo} (h : IsKept trees symbols xs ms memo) (x : Step) where
   steps-pushed : steps_view trees (xs ++ x ∷ []) ≡ steps_view trees xs ++ step_view trees x ∷ []
   steps-pushed = map-append (step_view trees) xs (x ∷ [])
 
@@ -62,7 +64,7 @@ module _ (trees : Trees) (symbols : List Symbol) (xs : List Step) (ms : List One
       last : step_in (steps_view trees xs ++ step_view trees x ∷ []) (length xs) ≡ step_view trees x
       last = ap (step_in (steps_view trees xs ++ step_view trees x ∷ [])) (sym many) ∙ step_in-last (steps_view trees xs) (step_view trees x)
 
-  pub IsKept-pushed : IsStepKnown trees x → IsStep (made_view trees xs ms) (step_view trees x) → IsKept trees symbols (xs ++ x ∷ []) (ms ++ one.Step (length xs) ∷ [])
+  pub IsKept-pushed : IsStepKnown trees x → IsStep (made_view trees xs ms) (step_view trees x) → IsKept trees symbols (xs ++ x ∷ []) (ms ++ one.Step (length xs) ∷ []) memo
   IsKept-pushed known follows =
       let more : length (xs ++ x ∷ []) ≡ length xs + 1 = length-append xs (x ∷ []) in
       record {
@@ -72,6 +74,7 @@ module _ (trees : Trees) (symbols : List Symbol) (xs : List Step) (ms : List One
         steps = ap steps_of made_view-pushed ∙ steps_of-push (made_view trees xs ms) (step_view trees x) ∙ ap (λ l. l ++ step_view trees x ∷ []) h.steps ∙ sym steps-pushed;
         symbols_taken = ap symbols_of made_view-pushed ∙ symbols_of-push (made_view trees xs ms) (step_view trees x) ∙ h.symbols_taken;
         proof = proof.Each.more (Made.step (step_view trees x)) h.proof follows made_view-pushed;
+        noted = h.noted;
       }
 
   -- how many steps were made
@@ -88,19 +91,20 @@ sequent_in-view trees (y ∷ xs) zero x l e = ap (λ (z : Step). numbers.sequent
 sequent_in-view trees (y ∷ xs) (suc i) x l e = sequent_in-view trees xs i x (omega arith) e
 
 -- the sequent of a step that was made is that of its numbers
-pub sequent_at-kept : (trees : Trees) (symbols : List Symbol) (xs : List Step) (ms : List OneMade) → IsKept trees symbols xs ms → (i : ℕ) (x : Step) → i < length (steps_of (made_view trees xs ms)) → x ≡ get_or xs i x
+pub sequent_at-kept : (trees : Trees) (symbols : List Symbol) (xs : List Step) (ms : List OneMade) {memo : ParamMemo} → IsKept trees symbols xs ms memo → (i : ℕ) (x : Step) → i < length (steps_of (made_view trees xs ms)) → x ≡ get_or xs i x
     → sequent_at (made_view trees xs ms) i ≡ numbers.sequent_at trees x.sequent
 sequent_at-kept trees symbols xs ms h i x l e =
     let count : length (steps_of (made_view trees xs ms)) ≡ length xs = ap length h.steps ∙ length-map xs (step_view trees) in
     ap (λ steps. sequent_in steps i) h.steps ∙ sequent_in-view trees xs i x (omega (arith, l, count)) e
 
 -- nothing is made of nothing
-pub IsKept-none : IsKept (record { types = []; terms = [] }) [] [] []
-IsKept-none = record {
+pub IsKept-none : {memo : ParamMemo} → AreNoted (record { types = []; terms = [] }) memo → IsKept (record { types = []; terms = [] }) [] [] [] memo
+IsKept-none noted = record {
   distinct = record { each = λ i j t e f. absurd (cc) };
   known = tt;
   numbered = tt;
   steps = refl;
   symbols_taken = refl;
   proof = proof.Each.empty;
+  noted = noted;
 }

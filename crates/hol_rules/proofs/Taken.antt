@@ -13,6 +13,7 @@ use Rattle.hol_laws.specs.Members.{All-append}
 use Rattle.proof_laws.specs.ProofLaws.{steps_of-symbols, symbols_of-symbols}
 use Rattle.proof_laws.specs.SymbolGrowth.{or-neither}
 use Rattle.hol_term.specs.Tables.{Trees}
+use Rattle.hol_params.specs.declared.ParamMemo.{ParamMemo}
 use Rattle.hol_rules.specs.declared.made.Made.{Made as OneMade}
 use Rattle.hol_rules.specs.declared.made.Made.TheVariants as one
 use Rattle.hol_rules.specs.declared.made.Step.{Step}
@@ -39,12 +40,12 @@ new_operator-grows symbols n k h = one_or_none symbols (is_some (operator_arity 
 pub new_operator-stays : (symbols : List Symbol) (n : Name) (k : ℕ) → length (symbols ++ new_operator symbols n k) ≤ length symbols → new_operator symbols n k ≡ []
 new_operator-stays symbols n k h = none_taken symbols (is_some (operator_arity symbols n) || list_any (is_input_operator n k) symbols) (Symbol.input_operator n k) h
 
-module _ (trees : Trees) (symbols : List Symbol) (xs : List Step) (ms : List OneMade) (h : IsKept trees symbols xs ms) where
+module _ (trees : Trees) (symbols : List Symbol) (xs : List Step) (ms : List OneMade) {memo : ParamMemo} (h : IsKept trees symbols xs ms memo) where
   module _ (y : OneMade) (x : Symbol) (e : one_view (steps_view trees xs) y ≡ Made.symbol x) where
     made_view-symbol : made_view trees xs (ms ++ y ∷ []) ≡ made_view trees xs ms ++ Made.symbol x ∷ []
     made_view-symbol = map-append (one_view (steps_view trees xs)) ms (y ∷ []) ∙ ap (λ m. made_view trees xs ms ++ m ∷ []) e
 
-    IsKept-symbol : IsNumbered (length xs) y → Takes symbols x → IsKept trees (symbols ++ x ∷ []) xs (ms ++ y ∷ [])
+    IsKept-symbol : IsNumbered (length xs) y → Takes symbols x → IsKept trees (symbols ++ x ∷ []) xs (ms ++ y ∷ []) memo
     IsKept-symbol n takes = record {
       distinct = h.distinct;
       known = h.known;
@@ -52,17 +53,18 @@ module _ (trees : Trees) (symbols : List Symbol) (xs : List Step) (ms : List One
       steps = ap steps_of made_view-symbol ∙ steps_of-symbols (made_view trees xs ms) (x ∷ []) ∙ h.steps;
       symbols_taken = ap symbols_of made_view-symbol ∙ symbols_of-symbols (made_view trees xs ms) (x ∷ []) ∙ ap (λ l. l ++ x ∷ []) h.symbols_taken;
       proof = proof.Each.more (Made.symbol x) h.proof (subst (λ ss. Takes ss x) (sym h.symbols_taken) takes) made_view-symbol;
+      noted = h.noted;
     }
 
   module _ (n : Name) (new : is_taken_constant symbols n ≡ false) where
-    pub IsKept-constant : IsKept trees (symbols ++ new_constant symbols n) xs (ms ++ one.InputConst n ∷ [])
+    pub IsKept-constant : IsKept trees (symbols ++ new_constant symbols n) xs (ms ++ one.InputConst n ∷ []) memo
     IsKept-constant = rw new (IsKept-symbol (one.InputConst n) (Symbol.input_constant n) refl (tt {0}) (taking.Takes.input_constant new))
 
     pub made_view-constant : made_view trees xs (ms ++ one.InputConst n ∷ []) ≡ made_view trees xs ms ++ map Made.symbol (new_constant symbols n)
     made_view-constant = rw new (made_view-symbol (one.InputConst n) (Symbol.input_constant n) refl)
 
   module _ (n : Name) (k : ℕ) (new : (is_some (operator_arity symbols n) || list_any (is_input_operator n k) symbols) ≡ false) where
-    pub IsKept-operator : IsKept trees (symbols ++ new_operator symbols n k) xs (ms ++ one.InputOp n k ∷ [])
+    pub IsKept-operator : IsKept trees (symbols ++ new_operator symbols n k) xs (ms ++ one.InputOp n k ∷ []) memo
     IsKept-operator =
         let parts = or-neither (is_some (operator_arity symbols n)) (list_any (is_input_operator n k) symbols) new in
         rw new (IsKept-symbol (one.InputOp n k) (Symbol.input_operator n k) refl (tt {0}) (taking.Takes.input_operator parts.0 parts.1))

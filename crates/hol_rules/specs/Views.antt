@@ -12,6 +12,8 @@ use Rattle.hol_type.specs.Tables as type
 use Rattle.hol_term.specs.declared.Variable.{Variable}
 use Rattle.hol_term.specs.Substitutions.{term_pairs_at, AreKnownPairs}
 use Rattle.hol_term.specs.Tables.{Trees, term_at, type_at, IsDistinct}
+use Rattle.hol_params.specs.declared.ParamMemo.{ParamMemo}
+use Rattle.hol_params.specs.Noted.{AreNoted}
 use Rattle.sequent.specs.declared.Sequent.{Sequent}
 use Rattle.sequent.specs.Sequents.{sequent_at, IsKnown}
 use Rattle.hol_rules.specs.declared.made.Parameters.{Parameters}
@@ -74,11 +76,13 @@ IsNumbered n (one.InputConst m) = Unit {0}
 IsNumbered n (one.InputOp m k) = Unit {0}
 IsNumbered n (one.Step i) = i < n
 
--- what is kept is a proof: its steps in order are those that were made, and its symbols those that are taken
-pub record IsKept (trees : Trees) (symbols : List Symbol) (xs : List Step) (ms : List OneMade) : Type 0 where
+-- what is kept is a proof: its steps in order are those that were made, its symbols those that are taken, and what is
+-- noted of the table is right
+pub record IsKept (trees : Trees) (symbols : List Symbol) (xs : List Step) (ms : List OneMade) (memo : ParamMemo) : Type 0 where
   pub distinct : IsDistinct trees.terms
   pub known : AllByRecursion (IsStepKnown trees) xs
   pub numbered : AllByRecursion (IsNumbered (length xs)) ms
   pub steps : steps_of (made_view trees xs ms) ≡ steps_view trees xs
   pub symbols_taken : symbols_of (made_view trees xs ms) ≡ symbols
   pub proof : IsProof (made_view trees xs ms)
+  pub noted : AreNoted trees memo

@@ -28,7 +28,7 @@ impl Proof {
         requires follows { IsStep self.old.made (new_step self.old.trees kind premises.now parameters sequent) }
         ensures { Concludes self.old (Ok (new_step self.old.trees kind premises.now parameters sequent)) self.new result }
     {
-        judge(self.alloc, &self.terms, &sequent)?;
+        judge(&self.terms, &mut self.params, &sequent)?;
         let premises = Vec::from_slice(self.alloc, premises)?;
         let step = Step {
             kind,

@@ -1,12 +1,11 @@
 //! The rules of functions: abstraction, application and beta steps.
 ghost use Rattle.std.specs.Prelude.{◌≡◌, ◌<◌, is_some, length, IfOk};
-ghost use Rattle.hol_spec.specs.Lists.{is_in};
 ghost use Rattle.hol_spec.specs.Proofs.{sequent_at};
 ghost use Rattle.hol_spec.specs.Rules.{abstraction as abstraction_tree, is_free_in};
 ghost use Rattle.hol_spec.specs.TermBinding.{put as put_term};
-ghost use Rattle.hol_spec.specs.Terms.{type_of, app as app_tree, free_places, variable_eq};
-ghost use Rattle.hol_type.specs.Tables as type;
-ghost use Rattle.hol_term.specs.Tables.{Trees, term_at, IsTermAt};
+ghost use Rattle.hol_spec.specs.Terms.{type_of, app as app_tree};
+ghost use Rattle.hol_params.specs.Noted.{AreNoted};
+ghost use Rattle.hol_term.specs.Tables.{term_at, terms_at, AreKnown, IsTermAt};
 ghost use Rattle.hol_rules.specs.Conclusions.{Concludes};
 ghost use Rattle.hol_rules.specs.Kept.{step_count, Grows};
 ghost use Rattle.hol_rules.specs.Premises.{IsNumberOf};
@@ -16,8 +15,9 @@ ghost use Rattle.hol_rules.specs.Views.{variable_view};
 use crate::made::{Parameters, StepId};
 use crate::proof::Proof;
 use bridge_base::{Fault, Kind, Memory};
+use hol_params::ParamMemo;
 use hol_spec::StepKind;
-use hol_term::{TermId, TermView, Variable};
+use hol_term::{TermId, TermTable, Variable};
 use sequent::Sequent;
 
 impl Proof {
@@ -27,9 +27,19 @@ impl Proof {
         requires one { one < step_count self.old }
         ensures { Concludes self.old (abs_thm_step self.old.made (variable_view self.old.trees var.now) one) self.new result }
     {
+        let free = self.is_free_in_hyps(var, one)?;
+        self.abs_thm_where(free, var, one)
+    }
+
+    // Both sides of an equation under an abstraction, where it is known whether the variable is free in its hypotheses.
+    fn abs_thm_where(&mut self, free: bool, var: &Variable, one: StepId) -> Result<StepId, Fault>
+        requires free { free ≡ is_free_in (variable_view self.old.trees var.now) (sequent_at self.old.made one).hypotheses }
+        requires variable { var.now.ty.0 < length self.old.trees.types }
+        requires one { one < step_count self.old }
+        ensures { Concludes self.old (abs_thm_step self.old.made (variable_view self.old.trees var.now) one) self.new result }
+    {
         self.is_proof();
         let sides = self.sides(one)?;
-        let free = self.is_free_in_hyps(var, one)?;
         if free {
             return Err(Fault::Refused(Kind::VarInHyps));
         }
@@ -100,39 +110,34 @@ impl Proof {
     }
 
     // Whether a variable is free in a step's hypotheses.
-    fn is_free_in_hyps(&self, var: &Variable, one: StepId) -> Result<bool, Memory>
-        requires variable { var.now.ty.0 < length self.now.trees.types }
-        requires one { one < step_count self.now }
-        ensures { IfOk result (λ free. free ≡ is_free_in (variable_view self.now.trees var.now) (sequent_at self.now.made one).hypotheses) }
+    fn is_free_in_hyps(&mut self, var: &Variable, one: StepId) -> Result<bool, Memory>
+        requires variable { var.now.ty.0 < length self.old.trees.types }
+        requires one { one < step_count self.old }
+        ensures free { IfOk result (λ free. free ≡ is_free_in (variable_view self.old.trees var.now) (sequent_at self.old.made one).hypotheses) }
+        ensures unchanged { self.new ≡ self.old }
     {
-        for id in self.sequent(one).hyps.ids() {
-            let found = self.occurs(var, *id)?;
-            if found {
-                return Ok(true);
-            }
-        }
-        Ok(false)
-    }
-
-    // Whether a variable is free in a tree.
-    fn occurs(&self, var: &Variable, id: TermId) -> Result<bool, Memory>
-        requires variable { var.now.ty.0 < length self.now.trees.types }
-        requires id { id.0 < length self.now.trees.terms }
-        ensures { IfOk result (λ free. free ≡ is_in variable_eq (variable_view self.now.trees var.now) (free_places (term_at self.now.trees id.0))) }
-    {
-        let variables = self.terms().free_vars(id)?;
-        for own in &variables {
-            if is_same(var, own) {
-                return Ok(true);
-            }
-        }
-        Ok(false)
+        let sequent = &self.steps[one].sequent;
+        is_free_in_any(&self.terms, &mut self.params, var, sequent.hyps.ids())
     }
 }
 
-// Whether two variables are one, in the table of their types.
-fn is_same(var: &Variable, own: &Variable) -> bool
-    ensures { (trees : Trees) → type.IsDistinct trees.types → var.now.ty.0 < length trees.types → own.now.ty.0 < length trees.types → result ≡ variable_eq (variable_view trees var.now) (variable_view trees own.now) }
+// Whether a variable is free in some of the terms.
+fn is_free_in_any(
+    terms: &TermTable,
+    params: &mut ParamMemo,
+    var: &Variable,
+    ids: &[TermId],
+) -> Result<bool, Memory>
+    requires variable { var.now.ty.0 < length terms.now.types }
+    requires ids { AreKnown terms.now ids.now }
+    requires noted { AreNoted terms.now params.old }
+    ensures free { IfOk result (λ free. free ≡ is_free_in (variable_view terms.now var.now) (terms_at terms.now ids.now)) }
+    ensures noted { AreNoted terms.now params.new }
 {
-    var.name == own.name && var.ty == own.ty
+    for id in ids {
+        if params.has_free(terms, var, *id)? {
+            return Ok(true);
+        }
+    }
+    Ok(false)
 }

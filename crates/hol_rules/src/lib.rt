@@ -13,10 +13,14 @@
 //!
 //! | Rule | Steps | Memory |
 //! |---|---|---|
-//! | each | a look-up for each hypothesis of its premises and of its sequent; to count the parameters, two walks over each hypothesis and over the conclusion | the walks' notes, and the list of the parameters |
-//! | `abs_thm` | a walk over each hypothesis, and one over each side of the equation | the walks' notes |
+//! | each | a look-up for each hypothesis of its premises and of its sequent; a note of each type and each term that is new in the table, at a look-up for each variable of its parts; to count the parameters, a look-up for each variable of each hypothesis and of the conclusion | what is noted of each type and each term, which the proof keeps; while it counts, the variables of the sequent |
+//! | `abs_thm` | a look-up of the variable among those of each hypothesis, and a walk over each side of the equation | the walks' notes |
 //! | `beta_conv` | a walk over the body | the walk's notes |
 //! | `subst` | one walk over the hypotheses and the conclusion together; at each variable as many comparisons as there are pairs, and at each variable, constant and binder a walk over its type | the walk's notes; a copy of the pairs, which the step keeps; at most two more trees for each hypothesis, which the table keeps |
+//!
+//! The parameters of a term are found once, from those of its parts, and noted (`hol_params`): so a step over terms that share
+//! their parts costs its new nodes, and no walk over the old ones. More than 1,024 type variables or free variables of one
+//! term are not noted: a sequent with such a term is counted by two walks over each hypothesis and over the conclusion.
 //!
 //! A walk under binders comes to a part once for each number of binders that it stands under. Trees that were made before
 //! a refusal stay in the table.

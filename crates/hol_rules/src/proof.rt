@@ -10,6 +10,7 @@ ghost use Rattle.hol_rules.specs.Views.{one_view, parameters_view, step_at, step
 use crate::made::{Made, Parameters, Step, StepId};
 use bridge_base::Memory;
 use hol_defs::Symbols;
+use hol_params::ParamMemo;
 use hol_spec::StepKind;
 use hol_term::TermTable;
 use sequent::Sequent;
@@ -24,6 +25,7 @@ pub struct Proof {
     pub(crate) symbols: Symbols,
     pub(crate) steps: Vec<Step>,
     pub(crate) made: Vec<Made>,
+    pub(crate) params: ParamMemo,
 }
 
 impl Model for Proof {
@@ -36,7 +38,7 @@ impl Model for Proof {
 
     ghost view = { λ p. record { trees = p.terms; made = made_view p.terms p.steps.items p.made.items } };
 
-    ghost invariant = { λ p. IsKept p.terms p.symbols p.steps.items p.made.items };
+    ghost invariant = { λ p. IsKept p.terms p.symbols p.steps.items p.made.items p.params };
 }
 
 impl Proof {
@@ -50,6 +52,7 @@ impl Proof {
             symbols: Symbols::new(alloc)?,
             steps: Vec::new(alloc),
             made: Vec::new(alloc),
+            params: ParamMemo::new(alloc),
         })
     }
 
