@@ -1,8 +1,10 @@
 //! Tests of the symbols of a run by its public calls: how a name is taken, at which types a primitive constant stands,
-//! and how many arguments an operator takes.
+//! how many arguments an operator takes, and how many are found among many.
 #![tactic(auto)]
 
 #[cfg(test)]
 mod constants;
+#[cfg(test)]
+mod many;
 #[cfg(test)]
 mod operators;

@@ -1,0 +1,89 @@
+//! Many symbols: each is found, however many are taken.
+ghost use Rattle.std.specs.Prelude.{◌≡◌, ◌<◌, length};
+
+use bridge_base::Fault;
+use hol_defs::{SymbolKind, Symbols};
+use hol_name::Name;
+use hol_term::TermTable;
+use hol_type::TypeId;
+use std::alloc::Global;
+use std::test::Fail;
+
+/// How many names are taken, each as an operator and as a constant.
+const COUNT: u32 = 50_000;
+
+// The name of one component that is this number's bytes.
+fn numbered(alloc: Global, number: u32) -> Result<Name, Fault> {
+    match Name::single(alloc, &number.to_le_bytes()) {
+        Ok(name) => Ok(name),
+        Err(_) => Err(Fault::Memory),
+    }
+}
+
+// Uses the name of a number as an operator and as a constant.
+fn take(
+    symbols: &mut Symbols,
+    table: &mut TermTable,
+    alloc: Global,
+    ty: TypeId,
+    number: u32,
+) -> Result<(), Fault>
+    requires { ty.0 < length table.old.types }
+    ensures { table.new ≡ table.old }
+{
+    let name = numbered(alloc, number)?;
+    symbols.use_op(&name, 1)?;
+    symbols.use_const(table, &name, ty)
+}
+
+// Uses the name of each number.
+fn take_all(
+    symbols: &mut Symbols,
+    table: &mut TermTable,
+    alloc: Global,
+    ty: TypeId,
+) -> Result<(), Fault>
+    requires { ty.0 < length table.old.types }
+{
+    for number in 0..COUNT {
+        take(symbols, table, alloc, ty, number)?;
+    }
+    Ok(())
+}
+
+// Whether the name of a number is taken, as an operator and as a constant.
+fn is_taken(symbols: &Symbols, alloc: Global, number: u32) -> Result<bool, Fault> {
+    let name = numbered(alloc, number)?;
+    let operator = symbols.op_kind(&name) == Some(SymbolKind::Input);
+    let constant = symbols.const_kind(&name) == Some(SymbolKind::Input);
+    Ok(operator && constant)
+}
+
+// The first number whose name is not taken.
+fn first_free(symbols: &Symbols, alloc: Global) -> Result<u32, Fault> {
+    for number in 0..u32::MAX {
+        let taken = is_taken(symbols, alloc, number)?;
+        if !taken {
+            return Ok(number);
+        }
+    }
+    Ok(u32::MAX)
+}
+
+// Uses all the names, and gives the first number whose name is not taken then.
+fn taken(symbols: &mut Symbols, alloc: Global) -> Result<u32, Fault> {
+    let mut table = TermTable::new(alloc);
+    let name = numbered(alloc, 0)?;
+    let ty = table.ty_var(&name)?;
+    take_all(symbols, &mut table, alloc, ty)?;
+    first_free(symbols, alloc)
+}
+
+#[test]
+fn many_symbols_are_found(rt: HostRuntime) -> Result<(), Fail> {
+    let mut symbols = Symbols::new(rt.alloc())?;
+    let free = taken(&mut symbols, rt.alloc())?;
+    assert_eq!(rt; free, 50_000);
+    assert_eq!(rt; symbols.count(), 100_000);
+    Ok(())
+}
