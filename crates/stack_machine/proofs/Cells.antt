@@ -7,7 +7,7 @@ use Rattle.hol_spec.specs.Names.{Name}
 use Rattle.hol_term.specs.Tables.{Trees}
 use Rattle.hol_term.specs.Tables as table
 use Rattle.article_spec.specs.State as state
-use Rattle.stack_machine.specs.Making.{Run}
+use Rattle.stack_machine.specs.Making.{Run, step_count}
 use Rattle.stack_machine.specs.declared.object.List.{List as AList}
 use Rattle.stack_machine.specs.declared.object.List.TheVariants.{Empty, Cell as CellOf}
 use Rattle.stack_machine.specs.declared.object.Cell.{Cell}
@@ -20,12 +20,12 @@ at-last d [] x = refl
 at-last d (y ∷ xs) x = at-last d xs x
 
 -- types, terms, names and what was made come, and the cells stay
-module _ (t u : Trees) (ns ms : List Name) (ss rs : Run) (cs : List Cell) (k : table.Keeps t u) (f : IsFront ns ms) where
+module _ (t u : Trees) (ns ms : List Name) (ss rs : Run) (cs : List Cell) (k : table.Keeps t u) (f : IsFront ns ms) (l : step_count ss ≤ step_count rs) where
   base : Grows (without_lists t ns ss) (without_lists u ms rs)
-  base = record { trees = k; names = f; lists = IsFront-refl [] }
+  base = record { trees = k; names = f; lists = IsFront-refl []; steps = l }
 
   pub stored-Grows : AreCells (without_lists t ns ss) cs → Grows (stored t ns ss cs) (stored u ms rs cs)
-  stored-Grows h = record { trees = k; names = f; lists = record { more = []; is = sym (lists_from-Grows _ _ base refl cs h) ∙ sym (append-nil _) } }
+  stored-Grows h = record { trees = k; names = f; lists = record { more = []; is = sym (lists_from-Grows _ _ base refl cs h) ∙ sym (append-nil _) }; steps = l }
 
   pub stored-AreCells : AreCells (without_lists t ns ss) cs → AreCells (without_lists u ms rs) cs
   stored-AreCells h = AreCells-Grows _ _ base refl cs h
@@ -33,7 +33,7 @@ module _ (t u : Trees) (ns ms : List Name) (ss rs : Run) (cs : List Cell) (k : t
 -- a cell comes
 module _ (t : Trees) (ns : List Name) (ss : Run) (cs : List Cell) (c : Cell) where
   pub pushed-Grows : Grows (stored t ns ss cs) (stored t ns ss (cs ++ c ∷ []))
-  pushed-Grows = record { trees = (Grows-refl (stored t ns ss cs)).trees; names = IsFront-refl ns; lists = record { more = cell_view (stored t ns ss cs) c ∷ []; is = lists_from-push (without_lists t ns ss) cs c } }
+  pushed-Grows = record { trees = (Grows-refl (stored t ns ss cs)).trees; names = IsFront-refl ns; lists = record { more = cell_view (stored t ns ss cs) c ∷ []; is = lists_from-push (without_lists t ns ss) cs c }; steps = omega arith }
 
   pub pushed-AreCells : AreCells (without_lists t ns ss) cs → IsKnown (stored t ns ss cs) c.head → IsListKnown (stored t ns ss cs) c.tail → AreCells (without_lists t ns ss) (cs ++ c ∷ [])
   pushed-AreCells k h l = AreCells-push (without_lists t ns ss) cs c k h l
@@ -65,7 +65,7 @@ abbrev with_one : Stored → Cell → Stored
 with_one a d = record a { lists = a.lists ++ cell_view a d ∷ [] }
 
 all-Grow : (a : Stored) (d : Cell) (cs : List Cell) → Grows a (record a { lists = lists_from (with_one a d) cs })
-all-Grow a d cs = record { trees = (Grows-refl a).trees; names = IsFront-refl a.names; lists = IsFront-trans (record { more = cell_view a d ∷ []; is = refl }) (lists_from-front (with_one a d) cs) }
+all-Grow a d cs = record { trees = (Grows-refl a).trees; names = IsFront-refl a.names; lists = IsFront-trans (record { more = cell_view a d ∷ []; is = refl }) (lists_from-front (with_one a d) cs); steps = omega arith }
 
 first_cell : (a : Stored) (d : Cell) (cs : List Cell) → IsKnown a d.head → IsListKnown a d.tail → CellAt (record a { lists = lists_from (with_one a d) cs }) d (length a.lists + 0)
 first_cell a d cs h t =

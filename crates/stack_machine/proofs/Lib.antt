@@ -6,5 +6,10 @@ mod Turned
 mod Read
 mod Placed
 mod Obeyed
+mod Stores
+mod Inferred
+mod RuleWords
+mod Stated
+mod TwoObjects
 mod Dictionaries
 mod Frames

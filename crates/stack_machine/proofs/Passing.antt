@@ -23,6 +23,10 @@ pub IfErr-map : {T E : Type 0} (r : Result T E) (P Q : E → Type 0) → IfErr r
 IfErr-map (Ok x) P Q h f = tt
 IfErr-map (Err e) P Q h f = f e h
 
+pub OnErr-map : {T E : Type 0} (r : Result T E) (P Q : Type 0) → OnErr r P → (P → Q) → OnErr r Q
+OnErr-map (Ok x) P Q h f = tt
+OnErr-map (Err e) P Q h f = f h
+
 pub OnErr-map2 : {T E : Type 0} (r : Result T E) (P Q R : Type 0) → OnErr r P → OnErr r Q → (P → Q → R) → OnErr r R
 OnErr-map2 (Ok x) P Q R h k f = tt
 OnErr-map2 (Err e) P Q R h k f = f h k

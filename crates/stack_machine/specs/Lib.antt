@@ -6,3 +6,4 @@ pub mod Refusals
 pub mod Shown
 pub mod Reading
 pub mod Obeying
+pub mod Inferring

@@ -1,5 +1,5 @@
 -- What a call reads of an object, and of the stack.
-use Rattle.std.specs.Prelude.{◌≡◌, ℕ, suc, ◌<◌, List, drop, length, Result, Ok, IfOk, IfErr}
+use Rattle.std.specs.Prelude.{◌≡◌, ℕ, suc, ◌<◌, List, drop, length, Option, None, Some, Result, Ok, IfOk, IfErr}
 use Rattle.bridge_base.specs.declared.faults.Fault.{Fault}
 use Rattle.bridge_base.specs.declared.faults.Kind.{Kind}
 use Rattle.article_spec.specs.State as state
@@ -20,3 +20,20 @@ pub record Operand {A B : Type 0} (m : Stored) (as_one : state.Object → Result
   pub there : IfOk result (λ y. depth < length stack)
   pub known : IfOk result (λ y. AreKnown m stack → IsOne y)
   pub refused : IfErr result (λ fault. Fails fault (pop as_one (objects_view m (drop depth stack))))
+
+-- the one object of a list of one, and the two of a list of two
+abbrev pub one_object : state.Objects → Option state.Object
+one_object (state.Objects.more x state.Objects.none) = Some x
+one_object xs = None
+
+abbrev pub with_first : state.Object → Option state.Object → Option (state.Object × state.Object)
+with_first x None = None
+with_first x (Some y) = Some (x, y)
+
+abbrev pub two_of : state.Objects → Option (state.Object × state.Object)
+two_of state.Objects.none = None
+two_of (state.Objects.more x xs) = with_first x (one_object xs)
+
+abbrev pub two_objects : state.Object → Option (state.Object × state.Object)
+two_objects (state.Object.list xs) = two_of xs
+two_objects x = None

@@ -41,32 +41,34 @@ IsOnStack word.Pop = Unit {0}
 IsOnStack word.Pragma = Unit {0}
 IsOnStack w = ⊥
 
--- the word neither makes nor takes a theorem
-abbrev pub IsBuildingWord : Word → Type 0
-IsBuildingWord word.Version = Unit {0}
-IsBuildingWord word.Nil = Unit {0}
-IsBuildingWord word.Cons = Unit {0}
-IsBuildingWord word.HdTl = Unit {0}
-IsBuildingWord word.TypeOp = Unit {0}
-IsBuildingWord word.VarType = Unit {0}
-IsBuildingWord word.OpType = Unit {0}
-IsBuildingWord word.Const = Unit {0}
-IsBuildingWord word.ConstTerm = Unit {0}
-IsBuildingWord word.Var = Unit {0}
-IsBuildingWord word.VarTerm = Unit {0}
-IsBuildingWord word.AppTerm = Unit {0}
-IsBuildingWord word.AbsTerm = Unit {0}
-IsBuildingWord word.Def = Unit {0}
-IsBuildingWord word.Ref = Unit {0}
-IsBuildingWord word.Remove = Unit {0}
-IsBuildingWord word.Pop = Unit {0}
-IsBuildingWord word.Pragma = Unit {0}
-IsBuildingWord w = ⊥
+-- the word infers, assumes or exports
+abbrev pub IsInference : Word → Type 0
+IsInference word.Refl = Unit {0}
+IsInference word.Assume = Unit {0}
+IsInference word.EqMp = Unit {0}
+IsInference word.AbsThm = Unit {0}
+IsInference word.AppThm = Unit {0}
+IsInference word.DeductAntisym = Unit {0}
+IsInference word.BetaConv = Unit {0}
+IsInference word.Sym = Unit {0}
+IsInference word.Trans = Unit {0}
+IsInference word.ProveHyp = Unit {0}
+IsInference word.Subst = Unit {0}
+IsInference word.Axiom = Unit {0}
+IsInference word.Thm = Unit {0}
+IsInference w = ⊥
 
-abbrev pub IsBuilding : Item → Type 0
-IsBuilding (item.Number z) = Unit {0}
-IsBuilding (item.Name n) = Unit {0}
-IsBuilding (item.Word w) = IsBuildingWord w
+-- the word defines nothing
+abbrev pub IsTakenWord : Word → Type 0
+IsTakenWord word.DefineConst = ⊥
+IsTakenWord word.DefineConstList = ⊥
+IsTakenWord word.DefineTypeOp = ⊥
+IsTakenWord w = Unit {0}
+
+abbrev pub IsTaken : Item → Type 0
+IsTaken (item.Number z) = Unit {0}
+IsTaken (item.Name n) = Unit {0}
+IsTaken (item.Word w) = IsTakenWord w
 
 -- the dictionary's entries
 abbrev pub dictionary_view : Stored → List (ℤ × Object) → FinMap int_cmp state.Object

@@ -1,5 +1,5 @@
 -- What the machine keeps, and which objects its numbers stand for.
-use Rattle.std.specs.Prelude.{◌≡◌, ℕ, ◌<◌, ◌+◌, List, [], ◌∷◌, ◌++◌, length, map, slice_get, unwrap_or, refl}
+use Rattle.std.specs.Prelude.{◌≡◌, ℕ, ◌<◌, ◌≤◌, ◌+◌, List, [], ◌∷◌, ◌++◌, length, map, slice_get, unwrap_or, refl}
 use Rattle.std.specs.Coded.{Coded, code_by, coded×, coded_list}
 use Rattle.std.specs.List.{AllByRecursion}
 use Rattle.hol_spec.specs.Names.{Name}
@@ -10,7 +10,8 @@ use Rattle.hol_term.specs.Tables.{Trees, coded_trees, term_at, type_at, IsTermAt
 use Rattle.hol_term.specs.Tables as table
 use Rattle.article_spec.specs.State as state
 use Rattle.article_laws.specs.StateLaws.{objects_code, objects_inj}
-use Rattle.stack_machine.specs.Making.{Run, coded_run}
+use Rattle.hol_rules.specs.Kept.{Kept}
+use Rattle.stack_machine.specs.Making.{Run, coded_run, step_count, run_view, IsRunKnown}
 use Rattle.stack_machine.specs.declared.object.List.{List as AList}
 use Rattle.stack_machine.specs.declared.object.List.TheVariants.{Empty, Cell as CellOf}
 use Rattle.stack_machine.specs.declared.object.Object.{Object}
@@ -57,6 +58,7 @@ object_view m (object.Type t) = state.Object.type (type_at m.trees t.0)
 object_view m (object.Constant n) = state.Object.constant (name_at m n.0)
 object_view m (object.Variable n t) = state.Object.variable (name_at m n.0, type_at m.trees t.0)
 object_view m (object.Term t) = state.Object.term (term_at m.trees t.0)
+object_view m (object.Theorem i) = state.Object.theorem i
 
 -- the objects of a stack, from the top
 abbrev pub objects_view : Stored → List Object → List state.Object
@@ -97,6 +99,10 @@ pub record IsTerm (m : Stored) (t : ℕ) : Type 0 where
   pub known : t < length m.trees.terms
   pub typed : IsTermAt m.trees t
 
+-- a step of the run
+abbrev pub IsStep : Stored → ℕ → Type 0
+IsStep m i = i < step_count m.run
+
 abbrev pub IsKnown : Stored → Object → Type 0
 IsKnown m (object.Number z) = Unit {0}
 IsKnown m (object.Name n) = IsName m n.0
@@ -106,6 +112,7 @@ IsKnown m (object.Type t) = IsType m t.0
 IsKnown m (object.Constant n) = IsName m n.0
 IsKnown m (object.Variable n t) = IsName m n.0 × IsType m t.0
 IsKnown m (object.Term t) = IsTerm m t.0
+IsKnown m (object.Theorem i) = IsStep m i
 
 abbrev pub AreKnown : Stored → List Object → Type 0
 AreKnown m xs = AllByRecursion (IsKnown m) xs
@@ -114,6 +121,14 @@ AreKnown m xs = AllByRecursion (IsKnown m) xs
 abbrev pub AreCells : Stored → List Cell → Type 0
 AreCells m [] = Unit {0}
 AreCells m (c ∷ cs) = IsKnown m c.head × IsListKnown m c.tail × AreCells (record m { lists = m.lists ++ cell_view m c ∷ [] }) cs
+
+-- what is kept over a proof, with the steps that are assumptions and exports
+abbrev pub store_view : Kept → List Name → List Cell → List ℕ → List ℕ → ℕ → Stored
+store_view proof names cells assumptions exports pool = stored proof.trees names (run_view proof.made assumptions exports pool) cells
+
+pub record IsStore (proof : Kept) (names : List Name) (cells : List Cell) (assumptions exports : List ℕ) (pool : ℕ) : Type 0 where
+  pub cells_known : AreCells (without_lists proof.trees names (run_view proof.made assumptions exports pool)) cells
+  pub run_known : IsRunKnown proof.made assumptions exports pool
 
 -- one list is a front of another
 pub record IsFront {A : Type 0} (xs ys : List A) : Type 0 where
@@ -125,3 +140,4 @@ pub record Grows (a b : Stored) : Type 0 where
   pub trees : table.Keeps a.trees b.trees
   pub names : IsFront a.names b.names
   pub lists : IsFront a.lists b.lists
+  pub steps : step_count a.run ≤ step_count b.run

@@ -33,10 +33,10 @@ pub at-front : {A : Type 0} (d : A) (xs ys : List A) → IsFront xs ys → (i : 
 at-front d xs ys h i l = rw h.is (at-append d xs h.more i l)
 
 pub Grows-refl : (a : Stored) → Grows a a
-Grows-refl a = record { trees = table_law.Keeps-refl a.trees; names = IsFront-refl a.names; lists = IsFront-refl a.lists }
+Grows-refl a = record { trees = table_law.Keeps-refl a.trees; names = IsFront-refl a.names; lists = IsFront-refl a.lists; steps = omega arith }
 
 pub Grows-trans : {a b c : Stored} → Grows a b → Grows b c → Grows a c
-Grows-trans h k = record { trees = table_law.Keeps-trans h.trees k.trees; names = IsFront-trans h.names k.names; lists = IsFront-trans h.lists k.lists }
+Grows-trans h k = record { trees = table_law.Keeps-trans h.trees k.trees; names = IsFront-trans h.names k.names; lists = IsFront-trans h.lists k.lists; steps = omega (arith, h.steps, k.steps) }
 
 -- an object stays
 pub list_view-Grows : {a b : Stored} → Grows a b → (xs : AList) → IsListKnown a xs → list_view a xs ≡ list_view b xs
@@ -55,6 +55,7 @@ object_view-Grows h (object.Type t) k = ap state.Object.type (type_law.tree_at-S
 object_view-Grows h (object.Constant n) k = ap state.Object.constant (name_at-Grows h n.0 k)
 object_view-Grows h (object.Variable n t) k = ap state.Object.variable (ap₂ (λ m a. (m, a)) (name_at-Grows h n.0 k.0) (type_law.tree_at-Stays h.trees.types.stays t.0 k.1))
 object_view-Grows h (object.Term t) k = ap state.Object.term (table_law.term_in-Stays h.trees.stays t.0 k.known)
+object_view-Grows h (object.Theorem i) k = refl
 
 -- what is known stays known
 pub IsListKnown-Grows : {a b : Stored} → Grows a b → (xs : AList) → IsListKnown a xs → IsListKnown b xs
@@ -73,6 +74,7 @@ IsKnown-Grows h (object.Type t) k = omega (arith, k, h.trees.types.longer)
 IsKnown-Grows h (object.Constant n) k = longer h.names n.0 k
 IsKnown-Grows h (object.Variable n t) k = (longer h.names n.0 k.0, omega (arith, k.1, h.trees.types.longer))
 IsKnown-Grows h (object.Term t) k = IsTerm-Grows h t.0 k
+IsKnown-Grows h (object.Theorem i) k = omega (arith, k, h.steps)
 
 pub AreKnown-Grows : {a b : Stored} → Grows a b → (xs : List Object) → AreKnown a xs → AreKnown b xs
 AreKnown-Grows h [] k = tt
@@ -87,7 +89,7 @@ with_cell : {a b : Stored} → Grows a b → a.lists ≡ b.lists → (c : Cell) 
 with_cell {b = b} h e c k l = ap₂ (λ xs x. xs ++ x ∷ []) e (cells-Grows h c k l)
 
 alike : {a b : Stored} (xs ys : List state.Objects) → Grows a b → xs ≡ ys → Grows (record a { lists = xs }) (record b { lists = ys })
-alike xs ys h e = record { trees = h.trees; names = h.names; lists = record { more = []; is = sym e ∙ sym (append-nil xs) } }
+alike xs ys h e = record { trees = h.trees; names = h.names; lists = record { more = []; is = sym e ∙ sym (append-nil xs) }; steps = h.steps }
 
 pub lists_from-Grows : (a b : Stored) → Grows a b → a.lists ≡ b.lists → (cs : List Cell) → AreCells a cs → lists_from a cs ≡ lists_from b cs
 lists_from-Grows a b h e [] k = e

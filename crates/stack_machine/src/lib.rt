@@ -1,32 +1,37 @@
-//! The stack machine of articles (OpenTheory article format, version 6), over the commands that build types, terms and
-//! lists.
+//! The stack machine of articles (OpenTheory article format, version 6), over all commands but the definitions.
 //!
 //! [`Machine`] obeys the commands of one article after another. Contracts see its state, the `State` of `article_spec`:
 //! the objects on the stack from the top, the dictionary as a finite map from numbers to objects, how far the article
 //! is, and what the run made: symbols and steps in order, and which steps are assumptions and exports. A call answers
 //! exactly as that crate's `step` and `finish` do: the next state, or the first kind of refusal in the order of the
 //! definition. After a refusal or want of memory the state is as before. Constants and operators that are neither
-//! primitive nor defined become inputs where they are first used. No command of this machine makes a step yet.
+//! primitive nor defined become inputs where they are first used. What an article assumes is met by what an earlier one
+//! exports, or by an earlier assumption.
 //!
-//! What stands on the stack are numbers of what the machine keeps once: types and terms in a table of `hol_term`,
-//! names, and lists by their cells. So to keep an object, or to give it back, copies one number, however large it is,
-//! and lists may nest without limit.
+//! The machine owns a `Proof` of `hol_rules`, which has the types and terms, the symbols and the steps. What stands on
+//! the stack are numbers of what the machine keeps once: types, terms and steps of the proof, names, and lists by their
+//! cells. So to keep an object, or to give it back, copies one number, however large it is, and lists may nest without
+//! limit.
 //!
 //! ```text
 //! let mut machine = Machine::new(alloc)?;
 //! machine.step(&Command { line: 1, item: Item::Number(6) })?;
 //! machine.step(&Command { line: 2, item: Item::Word(Word::Version) })?;
 //! machine.finish()?;
+//! let theorems = machine.exports();
 //! ```
 #![tactic(auto)]
 
 mod commands;
+mod inference;
 mod machine;
 mod making;
 mod object;
 mod operands;
+mod pairs;
+mod rules;
 mod stack;
-mod step;
+mod stating;
 mod store;
 
 pub use machine::Machine;

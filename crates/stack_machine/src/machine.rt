@@ -1,13 +1,19 @@
 //! The stack machine.
 ghost use Rattle.std.specs.Prelude.{◌≡◌, ◌↔◌, IsTrue, Ok, OnOk, OnErr, IfOk, IfErr};
-ghost use Rattle.hol_spec.specs.Proofs.{symbols_of};
+ghost use Rattle.std.specs.List.{AllByRecursion};
+ghost use Rattle.hol_spec.specs.Derivations.{Derives};
+ghost use Rattle.hol_spec.specs.Proofs.{assumptions_of, definitions_of, sequents_of, symbols_of};
+ghost use Rattle.bridge_base.specs.declared.faults.Fault.TheVariants as the_fault;
+ghost use Rattle.bridge_base.specs.declared.faults.Kind.TheVariants as the_kind;
 ghost use Rattle.article_spec.specs.declared.commands.Word.TheVariants as word;
 ghost use Rattle.article_spec.specs.Results.{Fails};
 ghost use Rattle.article_spec.specs.State.{Place, initial};
 ghost use Rattle.article_spec.specs.Step.{finish, obey, step, step_at};
-ghost use Rattle.stack_machine.specs.Shown.{IsBuilding, IsBuildingWord, IsOnStack};
+ghost use Rattle.stack_machine.specs.Making.{AreSteps};
+ghost use Rattle.stack_machine.specs.Shown.{IsInference, IsOnStack, IsTaken, IsTakenWord};
 
 use crate::commands::obey_on_stack;
+use crate::inference::obey_by_inference;
 use crate::object::Object;
 use crate::operands::{number_on, object_on};
 use crate::stack::Stack;
@@ -15,6 +21,7 @@ use crate::store::Store;
 use article_spec::{Command, Item, Word};
 use bridge_base::{Fault, Kind, Memory};
 use hol_defs::Symbols;
+use hol_rules::{Proof, StepId};
 use std::alloc::Global;
 use std::collections::BTreeMap;
 use std::marker::Model;
@@ -70,22 +77,23 @@ impl Machine {
         })
     }
 
-    /// Whether the machine takes a command that says this: it does unless the command makes or takes a theorem.
+    /// Whether the machine takes a command that says this: it does unless the command defines a constant or an
+    /// operator.
     pub fn takes(item: &Item) -> bool
-        ensures { IsTrue result ↔ IsBuilding item.now }
+        ensures { IsTrue result ↔ IsTaken item.now }
     {
         match item {
             Item::Number(_) | Item::Name(_) => true,
-            Item::Word(word) => is_building_word(*word),
+            Item::Word(word) => is_taken_word(*word),
         }
     }
 
     /// Obeys a command (OpenTheory article format, version 6, "Commands"). It is refused for the first condition that
     /// fails: the place of `version`; the stack, each operand from the top first there and then of its kind; the
-    /// dictionary; the command's own conditions; the limits of size and of depth. After a refusal or want of memory
-    /// the machine is as before. The words that make or take a theorem are no commands of this machine yet.
+    /// dictionary; the command's own conditions; the limits of size, of depth and of the number of parameters. After a
+    /// refusal or want of memory the machine is as before. The words that define are no commands of this machine yet.
     pub fn step(&mut self, command: &Command) -> Result<(), Fault>
-        requires building { IsBuilding command.now.item }
+        requires takes { IsTaken command.now.item }
         ensures taken { OnOk result (step self.old command.now ≡ Ok self.new) }
         ensures refused { IfErr result (λ fault. Fails fault (step self.old command.now)) }
         ensures unchanged { OnErr result (self.new ≡ self.old) }
@@ -98,10 +106,11 @@ impl Machine {
     }
 
     /// Ends an article, and begins the next with an empty stack and an empty dictionary. It is refused exactly where
-    /// the article lacks its first two commands, and then nothing changes.
+    /// the article lacks its first two commands, and then nothing changes. It takes no memory.
     pub fn finish(&mut self) -> Result<(), Fault>
         ensures ended { OnOk result (finish self.old ≡ Ok self.new) }
         ensures refused { IfErr result (λ fault. Fails fault (finish self.old)) }
+        ensures place { IfErr result (λ fault. fault ≡ the_fault.Refused the_kind.VersionPlace) }
         ensures unchanged { OnErr result (self.new ≡ self.old) }
     {
         match self.progress {
@@ -116,11 +125,41 @@ impl Machine {
         }
     }
 
+    /// The proof that the articles made: its table, its symbols and its steps.
+    pub fn proof(&self) -> &Proof
+        ensures { result.now.made ≡ self.now.made }
+    {
+        self.store.proof()
+    }
+
     /// The symbols that are taken, in order of taking.
     pub fn symbols(&self) -> &Symbols
         ensures { result.now ≡ symbols_of self.now.made }
     {
-        self.store.symbols()
+        self.proof().symbols()
+    }
+
+    /// The steps that are assumptions, in order of making. Each is a step of the proof.
+    pub fn assumptions(&self) -> &[StepId]
+        ensures numbers { result.now ≡ self.now.assumptions }
+        ensures steps { AreSteps self.now.made result.now }
+    {
+        self.store.assumptions()
+    }
+
+    /// The steps that are exports, in order of making. Each is a step of the proof.
+    pub fn exports(&self) -> &[StepId]
+        ensures numbers { result.now ≡ self.now.exports }
+        ensures steps { AreSteps self.now.made result.now }
+    {
+        self.store.exports()
+    }
+
+    /// What each step says derives from what was defined and assumed.
+    pub fn derives(&self)
+        ensures { AllByRecursion (Derives (definitions_of self.now.made) (assumptions_of self.now.made)) (sequents_of self.now.made) }
+    {
+        self.store.derives();
     }
 
     // The first command is the number 6.
@@ -162,7 +201,7 @@ impl Machine {
 
     // A command of the body.
     fn run(&mut self, item: &Item) -> Result<(), Fault>
-        requires building { IsBuilding item.now }
+        requires takes { IsTaken item.now }
         ensures taken { OnOk result (step_at Place.body self.old item.now ≡ Ok self.new) }
         ensures refused { IfErr result (λ fault. Fails fault (step_at Place.body self.old item.now)) }
         ensures unchanged { OnErr result (self.new ≡ self.old) }
@@ -183,7 +222,7 @@ impl Machine {
 
     // A word of the body.
     fn word(&mut self, word: Word) -> Result<(), Fault>
-        requires building { IsBuildingWord word }
+        requires takes { IsTakenWord word }
         ensures taken { OnOk result (obey self.old word ≡ Ok self.new) }
         ensures refused { IfErr result (λ fault. Fails fault (obey self.old word)) }
         ensures unchanged { OnErr result (self.new ≡ self.old) }
@@ -207,7 +246,20 @@ impl Machine {
             | Word::AbsTerm
             | Word::Pop
             | Word::Pragma => self.on_stack(word),
-            _ => unreachable!(),
+            Word::Refl
+            | Word::Assume
+            | Word::EqMp
+            | Word::AbsThm
+            | Word::AppThm
+            | Word::DeductAntisym
+            | Word::BetaConv
+            | Word::Sym
+            | Word::Trans
+            | Word::ProveHyp
+            | Word::Subst
+            | Word::Axiom
+            | Word::Thm => self.infer(word),
+            Word::DefineConst | Word::DefineConstList | Word::DefineTypeOp => { unreachable!() }
         }
     }
 
@@ -219,6 +271,16 @@ impl Machine {
         ensures unchanged { OnErr result (self.new ≡ self.old) }
     {
         obey_on_stack(self.alloc, &mut self.store, &mut self.stack, word)
+    }
+
+    // A word of inference.
+    fn infer(&mut self, word: Word) -> Result<(), Fault>
+        requires word { IsInference word }
+        ensures taken { OnOk result (obey self.old word ≡ Ok self.new) }
+        ensures refused { IfErr result (λ fault. Fails fault (obey self.old word)) }
+        ensures unchanged { OnErr result (self.new ≡ self.old) }
+    {
+        obey_by_inference(self.alloc, &mut self.store, &mut self.stack, word)
     }
 
     // Keeps an object under a number.
@@ -264,29 +326,12 @@ impl Machine {
     }
 }
 
-// Whether a word neither makes nor takes a theorem.
-fn is_building_word(word: Word) -> bool
-    ensures { IsTrue result ↔ IsBuildingWord word }
+// Whether a word defines nothing.
+fn is_taken_word(word: Word) -> bool
+    ensures { IsTrue result ↔ IsTakenWord word }
 {
     match word {
-        Word::Version
-        | Word::Nil
-        | Word::Cons
-        | Word::HdTl
-        | Word::TypeOp
-        | Word::VarType
-        | Word::OpType
-        | Word::Const
-        | Word::ConstTerm
-        | Word::Var
-        | Word::VarTerm
-        | Word::AppTerm
-        | Word::AbsTerm
-        | Word::Def
-        | Word::Ref
-        | Word::Remove
-        | Word::Pop
-        | Word::Pragma => true,
-        _ => false,
+        Word::DefineConst | Word::DefineConstList | Word::DefineTypeOp => false,
+        _ => true,
     }
 }

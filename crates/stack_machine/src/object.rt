@@ -1,5 +1,6 @@
 //! Objects, as numbers of what the machine keeps.
 
+use hol_rules::StepId;
 use hol_term::TermId;
 use hol_type::TypeId;
 
@@ -30,6 +31,8 @@ pub(crate) enum Object {
     /// A variable, of this name and type.
     Variable(NameId, TypeId),
     Term(TermId),
+    /// A theorem, by the step that made it.
+    Theorem(StepId),
 }
 
 /// The first element of a list, and the rest of it.

@@ -1,13 +1,14 @@
 //! What a command takes from the stack.
 ghost use Rattle.std.specs.Prelude.{◌≡◌};
 ghost use Rattle.hol_term.specs.Tables.{term_at, type_at};
-ghost use Rattle.article_spec.specs.Operands.{any_object, as_constant, as_list, as_name, as_number, as_term, as_type, as_type_operator, as_variable};
+ghost use Rattle.article_spec.specs.Operands.{any_object, as_constant, as_list, as_name, as_number, as_term, as_theorem, as_type, as_type_operator, as_variable};
 ghost use Rattle.stack_machine.specs.Reading.{Operand, Reads};
-ghost use Rattle.stack_machine.specs.Stored.{Stored, IsKnown, IsListKnown, IsName, IsTerm, IsType, list_view, name_at, object_view};
+ghost use Rattle.stack_machine.specs.Stored.{Stored, IsKnown, IsListKnown, IsName, IsStep, IsTerm, IsType, list_view, name_at, object_view};
 
 use crate::object::{List, NameId, Object};
 use crate::stack::Stack;
 use bridge_base::{Fault, Kind};
+use hol_rules::StepId;
 use hol_term::TermId;
 use hol_type::TypeId;
 
@@ -101,6 +102,16 @@ pub(crate) fn term_in(object: Object) -> Result<TermId, Fault>
     }
 }
 
+/// The object as a theorem.
+pub(crate) fn theorem_in(object: Object) -> Result<StepId, Fault>
+    ensures { (m : Stored) → Reads m as_theorem (λ i. i) (λ i. IsStep m i) object result }
+{
+    match object {
+        Object::Theorem(step) => Ok(step),
+        _ => Err(Fault::Refused(Kind::WrongKind)),
+    }
+}
+
 /// The number at a depth of the stack.
 pub(crate) fn number_on(stack: &Stack, depth: usize) -> Result<i64, Fault>
     ensures { (m : Stored) → Operand m as_number (λ z. z) (λ z. Unit {0}) stack.now depth result }
@@ -177,6 +188,16 @@ pub(crate) fn term_on(stack: &Stack, depth: usize) -> Result<TermId, Fault>
 {
     match stack.at(depth) {
         Some(object) => term_in(object),
+        None => Err(Fault::Refused(Kind::StackShort)),
+    }
+}
+
+/// The theorem at a depth of the stack.
+pub(crate) fn theorem_on(stack: &Stack, depth: usize) -> Result<StepId, Fault>
+    ensures { (m : Stored) → Operand m as_theorem (λ i. i) (λ i. IsStep m i) stack.now depth result }
+{
+    match stack.at(depth) {
+        Some(object) => theorem_in(object),
         None => Err(Fault::Refused(Kind::StackShort)),
     }
 }

@@ -1,28 +1,31 @@
-//! What the machine keeps: types, terms, names and lists by number, and what the run made.
+//! What the machine keeps: a proof, names and lists by number, and which steps of the proof are assumptions and exports.
 ghost use Rattle.std.specs.Prelude.{◌≡◌, ◌<◌, ◌≤◌, ◌++◌, [], length, slice_get, unwrap_or, Ok, Some, IfOk, IfErr, OnOk, OnErr};
+ghost use Rattle.std.specs.List.{AllByRecursion};
+ghost use Rattle.hol_spec.specs.Derivations.{Derives};
+ghost use Rattle.hol_spec.specs.Proofs.{assumptions_of, definitions_of, sequents_of};
 ghost use Rattle.hol_spec.specs.Types.{operator, types_of, variable};
 ghost use Rattle.hol_spec.specs.Terms.{free, constant, app};
 ghost use Rattle.hol_spec.specs.Symbols.{new_constant, new_operator};
 ghost use Rattle.hol_spec.specs.Rules.{abstraction};
 ghost use Rattle.hol_type.specs.Tables.{AreKnown as AreTypes, types_at};
-ghost use Rattle.hol_term.specs.Tables.{term_at, type_at};
+ghost use Rattle.hol_term.specs.Tables.{term_at, terms_at, type_at};
+ghost use Rattle.hol_rules.specs.Premises.{AreTermsAt};
 ghost use Rattle.bridge_base.specs.declared.faults.Fault.TheVariants as the_fault;
 ghost use Rattle.article_spec.specs.Conditions.{term_in_limits};
-ghost use Rattle.article_spec.specs.Operands.{as_type, each};
+ghost use Rattle.article_spec.specs.Operands.{as_term, as_type, each};
 ghost use Rattle.article_spec.specs.Results.{Fails};
 ghost use Rattle.article_spec.specs.State as state;
-ghost use Rattle.stack_machine.specs.Making.{taking};
+ghost use Rattle.stack_machine.specs.Making.{taking, AreSteps};
 ghost use Rattle.stack_machine.specs.Refusals.{application_fits, constant_fits, operator_fits};
 ghost use Rattle.stack_machine.specs.Stored.{Grows, rank, IsKnown, IsListKnown, IsName, IsTerm, IsType, cell_view, list_view, name_at, object_view, taken_symbols};
 
 use crate::making::{make_constant, make_operator};
 use crate::object::{Cell, CellId, List, NameId, Object};
-use crate::operands::type_in;
-use crate::step::Step;
+use crate::operands::{term_in, type_in};
 use bridge_base::{Fault, Memory};
-use hol_defs::Symbols;
 use hol_name::Name;
-use hol_term::{TermId, TermTable, Variable};
+use hol_rules::{Proof, StepId};
+use hol_term::{TermId, Variable};
 use hol_type::TypeId;
 use std::alloc::Global;
 use std::marker::Model;
@@ -46,28 +49,25 @@ fn cell_in(cells: &Vec<Cell>, id: CellId) -> Cell
 /// What the machine keeps. What has a number keeps it.
 #[derive(Drop)]
 pub(crate) struct Store {
-    terms: TermTable,
+    pub(crate) proof: Proof,
     names: Vec<Name>,
     cells: Vec<Cell>,
-    symbols: Symbols,
-    steps: Vec<Step>,
-    assumptions: Vec<usize>,
-    exports: Vec<usize>,
+    pub(crate) assumptions: Vec<StepId>,
+    pub(crate) exports: Vec<StepId>,
     // how many exports earlier articles made
-    pool: usize,
+    pub(crate) pool: usize,
 }
 
 impl Model for Store {
-    ghost use Rattle.stack_machine.specs.Making.{IsRunKnown, run_view};
-    ghost use Rattle.stack_machine.specs.Stored.{Stored, AreCells, coded_stored, stored, without_lists};
+    ghost use Rattle.stack_machine.specs.Stored.{Stored, IsStore, coded_stored, store_view};
 
     ghost Value = { Stored };
 
     ghost coded = { coded_stored };
 
-    ghost invariant = { λ s. AreCells (without_lists s.terms s.names.items (run_view s.terms s.symbols s.steps.items s.assumptions.items s.exports.items s.pool)) s.cells.items × IsRunKnown s.terms s.symbols s.steps.items s.exports.items s.pool };
+    ghost invariant = { λ s. IsStore s.proof s.names.items s.cells.items s.assumptions.items s.exports.items s.pool };
 
-    ghost view = { λ s. stored s.terms s.names.items (run_view s.terms s.symbols s.steps.items s.assumptions.items s.exports.items s.pool) s.cells.items };
+    ghost view = { λ s. store_view s.proof s.names.items s.cells.items s.assumptions.items s.exports.items s.pool };
 }
 
 impl Store {
@@ -75,22 +75,44 @@ impl Store {
         ensures empty { IfOk result (λ s. s.run ≡ record { made = []; assumptions = []; exports = []; pool = [] }) }
     {
         Ok(Store {
-            terms: TermTable::new(alloc),
+            proof: Proof::new(alloc)?,
             names: Vec::new(alloc),
             cells: Vec::new(alloc),
-            symbols: Symbols::new(alloc)?,
-            steps: Vec::new(alloc),
             assumptions: Vec::new(alloc),
             exports: Vec::new(alloc),
             pool: 0,
         })
     }
 
-    // The symbols that are taken, in order of taking.
-    pub(crate) fn symbols(&self) -> &Symbols
-        ensures { result.now ≡ taken_symbols self.now }
+    // The proof that the articles made.
+    pub(crate) fn proof(&self) -> &Proof
+        ensures trees { result.now.trees ≡ self.now.trees }
+        ensures made { result.now.made ≡ self.now.run.made }
     {
-        &self.symbols
+        &self.proof
+    }
+
+    // The steps that are assumptions, in order.
+    pub(crate) fn assumptions(&self) -> &[StepId]
+        ensures numbers { result.now ≡ self.now.run.assumptions }
+        ensures steps { AreSteps self.now.run.made result.now }
+    {
+        &self.assumptions
+    }
+
+    // The steps that are exports, in order.
+    pub(crate) fn exports(&self) -> &[StepId]
+        ensures numbers { result.now ≡ self.now.run.exports }
+        ensures steps { AreSteps self.now.run.made result.now }
+    {
+        &self.exports
+    }
+
+    // What each step says derives from the definitions and the assumptions.
+    pub(crate) fn derives(&self)
+        ensures { AllByRecursion (Derives (definitions_of self.now.run.made) (assumptions_of self.now.run.made)) (sequents_of self.now.run.made) }
+    {
+        self.proof.derives();
     }
 
     // Gives up all names and lists at the end of an article, whose exports are there for the next.
@@ -150,7 +172,7 @@ impl Store {
         ensures run { self.new.run ≡ self.old.run }
     {
         let name = name_in(&self.names, name);
-        self.terms.ty_var(name)
+        self.proof.ty_var(name)
     }
 
     // The free variable of a name and a type.
@@ -165,7 +187,7 @@ impl Store {
         ensures run { self.new.run ≡ self.old.run }
     {
         let name = name_in(&self.names, name);
-        self.terms.free(name, ty)
+        self.proof.free(name, ty)
     }
 
     // The application of a term to a term.
@@ -179,7 +201,7 @@ impl Store {
         ensures grows { Grows self.old self.new }
         ensures run { self.new.run ≡ self.old.run }
     {
-        self.terms.app(f, x)
+        self.proof.app(f, x)
     }
 
     // The abstraction of a term over the variable of a name and a type.
@@ -203,8 +225,17 @@ impl Store {
         self.abstraction_over(&variable, body)
     }
 
+    // The name.
+    pub(crate) fn name(&self, name: NameId) -> Result<Name, Memory>
+        requires { IsName self.now name.0 }
+        ensures { IfOk result (λ own. own ≡ name_at self.now name.0) }
+    {
+        let own = name_in(&self.names, name).clone()?;
+        Ok(own)
+    }
+
     // The variable of a name and a type.
-    fn variable(&self, name: NameId, ty: TypeId) -> Result<Variable, Memory>
+    pub(crate) fn variable(&self, name: NameId, ty: TypeId) -> Result<Variable, Memory>
         requires name { IsName self.now name.0 }
         ensures name { IfOk result (λ variable. variable.name ≡ name_at self.now name.0) }
         ensures ty { IfOk result (λ variable. variable.ty ≡ ty) }
@@ -224,7 +255,7 @@ impl Store {
         ensures grows { Grows self.old self.new }
         ensures run { self.new.run ≡ self.old.run }
     {
-        self.terms.abs(variable, body)
+        self.proof.abs(variable, body)
     }
 
     // The type of an operator with these arguments.
@@ -240,7 +271,7 @@ impl Store {
         ensures grows { Grows self.old self.new }
     {
         let name = name_in(&self.names, name);
-        make_operator(&mut self.terms, &mut self.symbols, name, args)
+        make_operator(&mut self.proof, name, args)
     }
 
     // The constant of a name at a type.
@@ -256,7 +287,7 @@ impl Store {
         ensures grows { Grows self.old self.new }
     {
         let name = name_in(&self.names, name);
-        make_constant(&mut self.terms, &mut self.symbols, name, ty)
+        make_constant(&mut self.proof, name, ty)
     }
 
     // The elements of a list as types, in their order.
@@ -274,5 +305,22 @@ impl Store {
             rest = cell.tail;
         }
         Ok(types)
+    }
+
+    // The elements of a list as terms, in their order.
+    pub(crate) fn terms_in(&self, alloc: Global, list: List) -> Result<Vec<TermId>, Fault>
+        requires { IsListKnown self.now list }
+        ensures terms { IfOk result (λ ids. each as_term (list_view self.now list) ≡ Ok (terms_at self.now.trees ids.items)) }
+        ensures known { IfOk result (λ ids. AreTermsAt self.now.trees ids.items) }
+        ensures refused { IfErr result (λ fault. Fails fault (each as_term (list_view self.now list))) }
+    {
+        let mut terms = Vec::new(alloc);
+        let mut rest = list;
+        while let List::Cell(id) = rest {
+            let cell = self.cell(id);
+            terms.push(term_in(cell.head)?)?;
+            rest = cell.tail;
+        }
+        Ok(terms)
     }
 }

@@ -1,10 +1,20 @@
-//! Tests of the stack machine by its public calls: every command but those for theorems, the kind and the line of each
-//! refusal, and the limits.
+//! Tests of the stack machine by its public calls: every command but the definitions, the kind and the line of each
+//! refusal, assumptions that exports meet, and the limits.
 #![tactic(auto)]
 
 #[cfg(test)]
 mod articles;
 #[cfg(test)]
+mod bench;
+#[cfg(test)]
+mod cases;
+#[cfg(test)]
+mod inference;
+#[cfg(test)]
 mod limits;
 #[cfg(test)]
 mod refusals;
+#[cfg(test)]
+mod stating;
+#[cfg(test)]
+mod symbols;

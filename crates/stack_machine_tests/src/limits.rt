@@ -1,5 +1,6 @@
 //! Types and terms have at most 1,048,576 nodes and a depth of at most 1,024, whatever command makes them.
 use crate::articles::run;
+use crate::refusals::stops;
 use article_read::LineFault;
 use bridge_base::Kind;
 use stack_machine::Machine;
@@ -65,11 +66,13 @@ const GROW_TERM: Part = (
 const TWICE: Part = (1, b"2\nref\n3\nref\nappTerm\n3\nref\nappTerm\n");
 
 // The parts, one after another.
-fn article(alloc: Global, parts: &[Part]) -> Result<Vec<u8>, Fail> {
+fn article(alloc: Global, parts: &[Part]) -> Result<Vec<u8>, LineFault> {
     let mut text = Vec::new(alloc);
     for (times, part) in parts {
         for _ in 0..*times {
-            text.extend_from_slice(part)?;
+            let Ok(()) = text.extend_from_slice(part) else {
+                return Err(LineFault::Memory);
+            };
         }
     }
     Ok(text)
@@ -85,104 +88,140 @@ fn line_count(text: &[u8]) -> u64 {
     count
 }
 
+// Whether an article is obeyed.
+fn passes(alloc: Global, parts: &[Part]) -> Result<bool, LineFault> {
+    let Ok(mut machine) = Machine::new(alloc) else {
+        return Err(LineFault::Memory);
+    };
+    let text = article(alloc, parts)?;
+    Ok(run(&mut machine, alloc, &text, 4096) == Ok(()))
+}
+
+// Whether the last line of an article is refused for this reason.
+fn ends(alloc: Global, parts: &[Part], kind: Kind) -> Result<bool, LineFault> {
+    let text = article(alloc, parts)?;
+    stops(alloc, &text, line_count(&text), kind)
+}
+
+fn largest_type(alloc: Global) -> Result<bool, LineFault> {
+    passes(alloc, &[BEGIN, BOOL, KEEP, GROW, OPEN, KEPT, CLOSE])
+}
+
+fn deepest_type(alloc: Global) -> Result<bool, LineFault> {
+    passes(alloc, &[BEGIN, OPEN_ALL, BOOL, CLOSE_ALL])
+}
+
+fn deepest_term(alloc: Global) -> Result<bool, LineFault> {
+    let functions: Part = (1020, b"1\nref\n");
+    let applications: Part = (1020, b"appTerm\n");
+    let parts = [
+        BEGIN,
+        BOOL,
+        KEEP,
+        UNARY,
+        ATOM,
+        functions,
+        ATOM_KEPT,
+        applications,
+    ];
+    passes(alloc, &parts)
+}
+
+fn large_type(alloc: Global) -> Result<bool, LineFault> {
+    let parts = [BEGIN, BOOL, KEEP, GROW, OPEN, OPEN, KEPT, CLOSE, CLOSE];
+    ends(alloc, &parts, Kind::TooLarge)
+}
+
+fn deep_type(alloc: Global) -> Result<bool, LineFault> {
+    let parts = [BEGIN, OPEN, OPEN_ALL, BOOL, CLOSE_ALL, CLOSE];
+    ends(alloc, &parts, Kind::TooDeep)
+}
+
+fn large_constant(alloc: Global) -> Result<bool, LineFault> {
+    let parts = [
+        BEGIN, BOOL, KEEP, GROW, CONST, OPEN, KEPT, CLOSE, CONST_TERM,
+    ];
+    ends(alloc, &parts, Kind::TooLarge)
+}
+
+fn deep_constant(alloc: Global) -> Result<bool, LineFault> {
+    let parts = [BEGIN, CONST, OPEN_ALL, BOOL, CLOSE_ALL, CONST_TERM];
+    ends(alloc, &parts, Kind::TooDeep)
+}
+
+fn large_variable(alloc: Global) -> Result<bool, LineFault> {
+    let parts = [BEGIN, BOOL, KEEP, GROW, NAME, OPEN, KEPT, CLOSE, VAR_TERM];
+    ends(alloc, &parts, Kind::TooLarge)
+}
+
+fn deep_variable(alloc: Global) -> Result<bool, LineFault> {
+    let parts = [BEGIN, NAME, OPEN_ALL, BOOL, CLOSE_ALL, VAR_TERM];
+    ends(alloc, &parts, Kind::TooDeep)
+}
+
+fn large_abstraction(alloc: Global) -> Result<bool, LineFault> {
+    let parts = [
+        BEGIN, BOOL, KEEP, GROW, NAME, KEPT, VAR, NAME, BOOL, VAR_TERM, ABS_TERM,
+    ];
+    ends(alloc, &parts, Kind::TooLarge)
+}
+
+fn deep_abstraction(alloc: Global) -> Result<bool, LineFault> {
+    let parts = [
+        BEGIN, NAME, OPEN_ALL, BOOL, CLOSE_ALL, VAR, NAME, BOOL, VAR_TERM, ABS_TERM,
+    ];
+    ends(alloc, &parts, Kind::TooDeep)
+}
+
+fn large_application(alloc: Global) -> Result<bool, LineFault> {
+    let parts = [BEGIN, BOOL, KEEP, BINARY, ATOM, GROW_TERM, TWICE];
+    ends(alloc, &parts, Kind::TooLarge)
+}
+
+fn deep_application(alloc: Global) -> Result<bool, LineFault> {
+    let functions: Part = (1021, b"1\nref\n");
+    let applications: Part = (1021, b"appTerm\n");
+    let parts = [
+        BEGIN,
+        BOOL,
+        KEEP,
+        UNARY,
+        ATOM,
+        functions,
+        ATOM_KEPT,
+        applications,
+    ];
+    ends(alloc, &parts, Kind::TooDeep)
+}
+
 #[test]
 fn the_largest_and_the_deepest_are_made(rt: HostRuntime) -> Result<(), Fail> {
-    let cases: [&[Part]; 3] = [
-        &[BEGIN, BOOL, KEEP, GROW, OPEN, KEPT, CLOSE],
-        &[BEGIN, OPEN_ALL, BOOL, CLOSE_ALL],
-        &[
-            BEGIN,
-            BOOL,
-            KEEP,
-            UNARY,
-            ATOM,
-            (1020, b"1\nref\n"),
-            ATOM_KEPT,
-            (1020, b"appTerm\n"),
-        ],
-    ];
-    for (index, parts) in cases.iter().enumerate() {
-        let mut machine = Machine::new(rt.alloc())?;
-        let text = article(rt.alloc(), parts)?;
-        assert_eq!(rt;
-            run(&mut machine, rt.alloc(), &text, 4096),
-            Ok(()),
-            "case {index}"
-        );
-    }
+    let alloc = rt.alloc();
+    assert!(rt; largest_type(alloc)?);
+    assert!(rt; deepest_type(alloc)?);
+    assert!(rt; deepest_term(alloc)?);
     Ok(())
 }
 
 // The last line of each article is refused for the limit that it passes.
 #[test]
-fn limits_are_told_at_their_line(rt: HostRuntime) -> Result<(), Fail> {
-    let cases: [(&[Part], Kind); 10] = [
-        (
-            &[BEGIN, BOOL, KEEP, GROW, OPEN, OPEN, KEPT, CLOSE, CLOSE],
-            Kind::TooLarge,
-        ),
-        (
-            &[BEGIN, OPEN, OPEN_ALL, BOOL, CLOSE_ALL, CLOSE],
-            Kind::TooDeep,
-        ),
-        (
-            &[
-                BEGIN, BOOL, KEEP, GROW, CONST, OPEN, KEPT, CLOSE, CONST_TERM,
-            ],
-            Kind::TooLarge,
-        ),
-        (
-            &[BEGIN, CONST, OPEN_ALL, BOOL, CLOSE_ALL, CONST_TERM],
-            Kind::TooDeep,
-        ),
-        (
-            &[BEGIN, BOOL, KEEP, GROW, NAME, OPEN, KEPT, CLOSE, VAR_TERM],
-            Kind::TooLarge,
-        ),
-        (
-            &[BEGIN, NAME, OPEN_ALL, BOOL, CLOSE_ALL, VAR_TERM],
-            Kind::TooDeep,
-        ),
-        (
-            &[
-                BEGIN, BOOL, KEEP, GROW, NAME, KEPT, VAR, NAME, BOOL, VAR_TERM, ABS_TERM,
-            ],
-            Kind::TooLarge,
-        ),
-        (
-            &[
-                BEGIN, NAME, OPEN_ALL, BOOL, CLOSE_ALL, VAR, NAME, BOOL, VAR_TERM, ABS_TERM,
-            ],
-            Kind::TooDeep,
-        ),
-        (
-            &[BEGIN, BOOL, KEEP, BINARY, ATOM, GROW_TERM, TWICE],
-            Kind::TooLarge,
-        ),
-        (
-            &[
-                BEGIN,
-                BOOL,
-                KEEP,
-                UNARY,
-                ATOM,
-                (1021, b"1\nref\n"),
-                ATOM_KEPT,
-                (1021, b"appTerm\n"),
-            ],
-            Kind::TooDeep,
-        ),
-    ];
-    for (index, (parts, kind)) in cases.iter().enumerate() {
-        let mut machine = Machine::new(rt.alloc())?;
-        let text = article(rt.alloc(), parts)?;
-        let line = line_count(&text);
-        let kind = *kind;
-        assert_eq!(rt;
-            run(&mut machine, rt.alloc(), &text, 4096),
-            Err(LineFault::Refused { line, kind }),
-            "case {index}"
-        );
-    }
+fn types_past_a_limit_are_refused(rt: HostRuntime) -> Result<(), Fail> {
+    let alloc = rt.alloc();
+    assert!(rt; large_type(alloc)?);
+    assert!(rt; deep_type(alloc)?);
+    assert!(rt; large_constant(alloc)?);
+    assert!(rt; deep_constant(alloc)?);
+    assert!(rt; large_variable(alloc)?);
+    assert!(rt; deep_variable(alloc)?);
+    Ok(())
+}
+
+#[test]
+fn terms_past_a_limit_are_refused(rt: HostRuntime) -> Result<(), Fail> {
+    let alloc = rt.alloc();
+    assert!(rt; large_abstraction(alloc)?);
+    assert!(rt; deep_abstraction(alloc)?);
+    assert!(rt; large_application(alloc)?);
+    assert!(rt; deep_application(alloc)?);
     Ok(())
 }

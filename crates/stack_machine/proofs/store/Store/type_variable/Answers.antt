@@ -1,13 +1,11 @@
-use Rattle.stack_machine.specs.MakingLaws.{run_view-Keeps, IsRunKnown-Keeps}
-use Rattle.stack_machine.specs.StoredLaws.{IsFront-refl}
-use Rattle.stack_machine.proofs.Cells.{stored-Grows, stored-AreCells}
+use Rattle.stack_machine.proofs.Stores.{IsStore-Grows, Grows-Grows, run-Grows}
 use Rattle.stack_machine.proofs.store.Store.type_variable.Goals as goal
 
 pub invariant_of-self : goal.invariant_of-self
-invariant_of-self c = (stored-AreCells _ _ _ _ _ _ _ c.ty_var.ensures.keeps (IsFront-refl _) c.self.invariant.0, IsRunKnown-Keeps c.ty_var.ensures.keeps _ _ _ _ c.self.invariant.1)
+invariant_of-self c = IsStore-Grows c.ty_var.ensures.grows c.self.invariant
 
 pub returns-clause-grows : goal.returns-clause-grows
-returns-clause-grows c = rw (← c.self.view_is) (stored-Grows _ _ _ _ _ _ _ c.ty_var.ensures.keeps (IsFront-refl _) c.self.invariant.0)
+returns-clause-grows c = rw (← c.self.view_is) (Grows-Grows c.ty_var.ensures.grows c.self.invariant)
 
 pub returns-clause-run : goal.returns-clause-run
-returns-clause-run c = rw (← c.self.view_is) (run_view-Keeps c.ty_var.ensures.keeps _ _ _ _ _ c.self.invariant.1)
+returns-clause-run c = rw (← c.self.view_is) (run-Grows c.ty_var.ensures.grows c.self.invariant)

@@ -1,0 +1,111 @@
+-- What the words of inference answer, by what their rules make.
+use Rattle.std.proofs.Common.{◌≡◌, ℕ, ◌<◌, ◌≤◌, refl, sym, ap, subst, ◌∙◌, arith, List, [], ◌∷◌, ◌++◌, length, drop, Result, Ok, Err, IfOk, IfErr, OnErr}
+use Rattle.std.specs.Result.{IsErrAnd}
+use Rattle.std.proofs.Math.Path.{ap₂}
+use Rattle.hol_spec.specs.Names.{Name}
+use Rattle.hol_spec.specs.Proofs.{Made, Step, steps_of}
+use Rattle.bridge_base.specs.declared.faults.Fault.{Fault}
+use Rattle.bridge_base.specs.declared.faults.Fault.TheVariants.{Memory, Refused}
+use Rattle.bridge_base.specs.declared.faults.Kind.{Kind}
+use Rattle.article_spec.specs.declared.commands.Word.{Word}
+use Rattle.article_spec.specs.State.{State}
+use Rattle.article_spec.specs.State as state
+use Rattle.article_spec.specs.Results.{◌>>=◌, ◌>>◌, Fails}
+use Rattle.article_spec.specs.Conditions.{sequent_in_limits}
+use Rattle.article_spec.specs.Changes.{with_theorem}
+use Rattle.article_spec.specs.Step.{obey}
+use Rattle.hol_rules.specs.Kept.{Kept}
+use Rattle.hol_rules.specs.Kept as proof
+use Rattle.hol_rules.specs.Conclusions.{Concludes, limited}
+use Rattle.stack_machine.specs.declared.object.Object.{Object}
+use Rattle.stack_machine.specs.declared.object.Object.TheVariants as object
+use Rattle.stack_machine.specs.declared.object.Cell.{Cell}
+use Rattle.stack_machine.specs.Making.{run_view}
+use Rattle.stack_machine.specs.MakingLaws.{count-step}
+use Rattle.stack_machine.specs.Stored.{Stored, IsStore, objects_view, store_view, AreKnown}
+use Rattle.stack_machine.specs.Shown.{in_state, shown}
+use Rattle.stack_machine.specs.Obeying.{Obeys}
+use Rattle.stack_machine.specs.Inferring.{Exports, Infers, by_step}
+use Rattle.stack_machine.proofs.Passing.{IfOk-map, IfErr-map, OnErr-map}
+use Rattle.stack_machine.proofs.Obeyed.{failed, placed}
+use Rattle.stack_machine.proofs.Stores.{IsMore, IsStore-more, Grows-more}
+
+-- a rule's conditions, one after another, and then its step
+pub bind-by_step : {A : Type 0} (r : Result A Kind) (g : A → Result Step Kind) (f : A → Result State Kind) (s : State) → ((x : A) → f x ≡ by_step (g x) s) → (r >>= f) ≡ by_step (r >>= g) s
+bind-by_step (Ok x) g f s h = h x
+bind-by_step (Err k) g f s h = refl
+
+pub then-by_step : (r : Result (Unit {0}) Kind) (q : Result Step Kind) (p : Result State Kind) (s : State) → p ≡ by_step q s → (r >> p) ≡ by_step (r >> q) s
+then-by_step (Ok x) q p s h = h
+then-by_step (Err k) q p s h = refl
+
+-- what is made of a step within the limits
+abbrev pub limited_state : (Step → State) → Step → Result State Kind
+limited_state f x = sequent_in_limits x.sequent >> Ok (f x)
+
+pub limited-Ok : (f : Step → State) (rule : Result Step Kind) (x : Step) → limited rule ≡ Ok x → (rule >>= limited_state f) ≡ Ok (f x)
+limited-Ok f (Ok y) x e = go (sequent_in_limits y.sequent) e
+  where
+    go : (r : Result (Unit {0}) Kind) → ◌≡◌ {A = Result Step Kind} (r >> Ok y) (Ok x) → ◌≡◌ {A = Result State Kind} (r >> Ok (f y)) (Ok (f x))
+    go (Ok u) e = let same : y ≡ x = cc in ap (λ z. Ok (f z)) same
+    go (Err k) e = absurd (cc)
+limited-Ok f (Err k) x e = absurd (cc)
+
+pub limited-fails : (f : Step → State) (rule : Result Step Kind) (fault : Fault) → Fails fault (limited rule) → Fails fault (rule >>= limited_state f)
+limited-fails f rule Memory h = tt
+limited-fails f (Ok y) (Refused k) h = go (sequent_in_limits y.sequent) h
+  where
+    go : (r : Result (Unit {0}) Kind) → ◌≡◌ {A = Result Step Kind} (r >> Ok y) (Err k) → ◌≡◌ {A = Result State Kind} (r >> Ok (f y)) (Err k)
+    go (Ok u) e = absurd (cc)
+    go (Err j) e = let same : j ≡ k = cc in rw same refl
+limited-fails f (Err j) (Refused k) h = let same : j ≡ k = cc in rw same refl
+
+-- a rule makes the next step, or nothing
+module _ {a b : Kept} {rule : Result Step Kind} {r : Result ℕ Fault} (h : Concludes a rule b r) where
+  pub Concludes-more : IsMore a b
+  Concludes-more = record { trees = h.keeps; steps = by_answer r h.concluded h.unchanged }
+    where
+      by_answer : (r : Result ℕ Fault) → IfOk r (λ i. (i ≡ proof.step_count a) × ((x : Step) × (limited rule ≡ Ok x) × (b.made ≡ a.made ++ Made.step x ∷ []))) → OnErr r (b.made ≡ a.made) → length (steps_of a.made) ≤ length (steps_of b.made)
+      by_answer (Ok i) c u = let e = ap (λ made. length (steps_of made)) c.1.2 ∙ count-step a.made c.1.0 in omega (arith, e)
+      by_answer (Err x) c u = let e = ap (λ made. length (steps_of made)) u in omega (arith, e)
+
+  pub Concludes-made : IfOk r (λ i. i < length (steps_of b.made))
+  Concludes-made = IfOk-map r _ _ h.concluded (λ i c. let e = ap (λ made. length (steps_of made)) c.1.2 ∙ count-step a.made c.1.0 in omega (arith, e, c.0))
+
+  module _ (us ws : List ℕ) (p : ℕ) where
+    pub Concludes-taken : IfOk r (λ i. (s : State) (below : List state.Object) → by_step rule (in_state s below (run_view a.made us ws p)) ≡ Ok (in_state s (state.Object.theorem i ∷ below) (run_view b.made us ws p)))
+    Concludes-taken = IfOk-map r _ _ h.concluded (λ i c s below. limited-Ok (with_theorem (in_state s below (run_view a.made us ws p))) rule c.1.0 c.1.1
+        ∙ ap₂ (λ j made. Ok (in_state s (state.Object.theorem j ∷ below) (run_view made us ws p))) (sym c.0) (sym c.1.2))
+
+    pub Concludes-refused : IfErr r (λ fault. (s : State) (below : List state.Object) → Fails fault (by_step rule (in_state s below (run_view a.made us ws p))))
+    Concludes-refused = IfErr-map r _ _ h.refused (λ fault e s below. limited-fails (with_theorem (in_state s below (run_view a.made us ws p))) rule fault e)
+
+    pub Concludes-run : OnErr r (run_view b.made us ws p ≡ run_view a.made us ws p)
+    Concludes-run = OnErr-map r _ _ h.unchanged (λ e. ap (λ made. run_view made us ws p) e)
+
+module _ {a b : Kept} {rule : Result Step Kind} {r : Result ℕ Fault} {ns : List Name} {cs : List Cell} {us ws : List ℕ} {p : ℕ} (h : Concludes a rule b r) (i : IsStore a ns cs us ws p) where
+  pub Concludes-IsStore : IsStore b ns cs us ws p
+  Concludes-IsStore = IsStore-more (Concludes-more h) i
+
+  pub Concludes-Infers : Infers (store_view a ns cs us ws p) (by_step rule) (store_view b ns cs us ws p) r
+  Concludes-Infers = record {
+    taken = Concludes-taken h us ws p;
+    made = Concludes-made h;
+    refused = Concludes-refused h us ws p;
+    run = Concludes-run h us ws p;
+    grows = Grows-more (Concludes-more h) i;
+  }
+
+-- a word whose operands are off the stack, and which its rule refuses or obeys
+module _ {word : Word} {a b : Stored} {stack : List Object} {f : State → Result State Kind} (n : ℕ) (e : (s : State) → obey (shown a stack s) word ≡ f (in_state s (objects_view a (drop n stack)) a.run)) (k : AreKnown a stack) where
+  pub Infers-fails : (r : Result (Unit {0}) Fault) (x : Fault) → IsErrAnd r (λ y. y ≡ x) → Infers a f b (Err x) → Obeys word a stack b stack r
+  Infers-fails r x h i = failed r x h k i.grows i.run (λ s. subst (Fails x) (sym (e s)) (i.refused s (objects_view a (drop n stack))))
+
+  pub Infers-obeys : {new : List Object} {i : ℕ} → Infers a f b (Ok i) → new ≡ object.Theorem i ∷ drop n stack → Obeys word a stack b new (Ok tt)
+  Infers-obeys {i = i} h put = placed n (object.Theorem i ∷ []) (state.Object.theorem i ∷ []) b.run k h.grows put (h.made, tt) refl refl (λ s. e s ∙ h.taken s (objects_view a (drop n stack)))
+
+  pub Exports-fails : (r : Result (Unit {0}) Fault) (x : Fault) → IsErrAnd r (λ y. y ≡ x) → Exports a f b (Err x) → Obeys word a stack b stack r
+  Exports-fails r x h i = failed r x h k i.grows i.run (λ s. subst (Fails x) (sym (e s)) (i.refused s (objects_view a (drop n stack))))
+
+  pub Exports-obeys : {new : List Object} → Exports a f b (Ok tt) → new ≡ drop n stack → Obeys word a stack b new (Ok tt)
+  Exports-obeys h dropped = placed n [] [] b.run k h.grows dropped tt refl refl (λ s. e s ∙ h.taken s (objects_view a (drop n stack)))

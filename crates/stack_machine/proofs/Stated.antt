@@ -1,0 +1,359 @@
+-- Sequents that articles state: what meets them, and what becomes of the run.
+use Rattle.std.proofs.Common.{◌≡◌, ℕ, ◌<◌, ◌≤◌, ◌⊎◌, inl, inr, refl, sym, ap, subst, ◌∙◌, arith, List, [], ◌∷◌, ◌++◌, get_or, length, length-append, map, take, zero, suc, Bool, true, false, cond, ◌&&◌, Option, None, Some, Result, Ok, Err, OnOk, OnErr, IfOk, IfErr}
+use Rattle.std.specs.Prelude.{IfSome, slice_get, slice_index_or, unwrap_or}
+use Rattle.std.specs.List.{AllByRecursion, find, list_all}
+use Rattle.std.specs.Option.{option_or}
+use Rattle.std.specs.Result.{IsErrAnd}
+use Rattle.std.proofs.lemmas.List.{take-append-le}
+use Rattle.std.proofs.lemmas.Option.{slice_get_cases}
+use Rattle.std.proofs.Math.Path.{ap₂}
+use Rattle.hol_spec.specs.Lists.{IsIn, distinct, is_in}
+use Rattle.hol_spec.specs.Names.{Name}
+use Rattle.hol_spec.specs.Primitives.{bool}
+use Rattle.hol_spec.specs.Terms.{Term, HasType, IsTerm, bound, term_eq}
+use Rattle.hol_spec.specs.Rules.{Parameters}
+use Rattle.hol_spec.specs.Sequents.{Sequent, IsSequent, same, within}
+use Rattle.hol_spec.specs.Proofs.{Made, Step, steps_of, sequents_of, sequent_at, IsProof}
+use Rattle.hol_spec.specs.declared.StepKind.TheVariants as by_rule
+use Rattle.hol_laws.specs.Members.{All-at, is_in-IsIn, IsIn-distinct}
+use Rattle.hol_laws.specs.TermLaws.{term_eq-Decides, type_eq-refl}
+use Rattle.proof_laws.specs.ProofGrowth.{All-get, proof-sequents}
+use Rattle.bridge_base.specs.declared.faults.Fault.{Fault}
+use Rattle.bridge_base.specs.declared.faults.Fault.TheVariants.{Memory, Refused}
+use Rattle.bridge_base.specs.declared.faults.Kind.{Kind}
+use Rattle.bridge_base.specs.declared.faults.Kind.TheVariants.{NotBool, NotTheSequent}
+use Rattle.article_spec.specs.State.{State}
+use Rattle.article_spec.specs.State as state
+use Rattle.article_spec.specs.Results.{◌>>=◌, ◌>>◌, Fails}
+use Rattle.article_spec.specs.Conditions.{all_bool, demand, follows, has_type, is_of_type}
+use Rattle.article_spec.specs.Changes.{conclude, first_same, next_step, with_step}
+use Rattle.article_spec.specs.Inference.{step_by}
+use Rattle.article_spec.specs.Stating.{assume_or_meet, export, restatement, stated}
+use Rattle.hol_term.specs.declared.TermId.{TermId}
+use Rattle.hol_term.specs.Tables.{Trees, AreKnown, IsTermAt}
+use Rattle.hol_rules.specs.Premises.{AreTermsAt}
+use Rattle.hol_rules.specs.Kept.{Kept}
+use Rattle.hol_rules.specs.Kept as proof
+use Rattle.hol_rules.specs.Conclusions.{Concludes, limited}
+use Rattle.hol_rules.specs.Steps.{axiom_step, restate_step}
+use Rattle.stack_machine.specs.declared.object.Cell.{Cell}
+use Rattle.stack_machine.specs.Making.{AreSteps, run_view}
+use Rattle.stack_machine.specs.MakingLaws.{count-step, AreSteps-more, AreSteps-push}
+use Rattle.stack_machine.specs.Stored.{Stored, IsStore, Grows, store_view}
+use Rattle.stack_machine.specs.StoredLaws.{IsFront-refl, Grows-refl}
+use Rattle.stack_machine.specs.Shown.{in_state}
+use Rattle.stack_machine.specs.Inferring.{Exports, Infers, by_step, assuming, exported, exporting, recording, restating}
+use Rattle.stack_machine.proofs.Passing.{IfOk-map, IfErr-map, OnOk-map, OnErr-map2}
+use Rattle.stack_machine.proofs.Stores.{IsStore-run, Grows-run}
+use Rattle.stack_machine.proofs.Inferred.{Concludes-made, Concludes-more, Concludes-refused, Concludes-taken, limited-Ok, limited-fails}
+
+-- what is found passes the test, and has what all have
+module _ {A : Type 0} (test : A → Bool) where
+  pub find-passes : (xs : List A) (x : A) → find test xs ≡ Some x → test x ≡ true
+  find-passes [] x e = absurd (cc)
+  find-passes (y ∷ xs) x e = go (test y) refl e (find-passes xs x)
+    where
+      go : (b : Bool) → test y ≡ b → cond b (Some y) (find test xs) ≡ Some x → (find test xs ≡ Some x → test x ≡ true) → test x ≡ true
+      go true f g r = let same : y ≡ x = cc in subst (λ z. test z ≡ true) same f
+      go false f g r = r g
+
+  pub find-All : (P : A → Type 0) (xs : List A) (x : A) → AllByRecursion P xs → find test xs ≡ Some x → P x
+  find-All P [] x h e = absurd (cc)
+  find-All P (y ∷ xs) x h e = go (test y) e (find-All P xs x h.1)
+    where
+      go : (b : Bool) → cond b (Some y) (find test xs) ≡ Some x → (find test xs ≡ Some x → P x) → P x
+      go true g r = let same : y ≡ x = cc in subst P same h.0
+      go false g r = r g
+
+  pub find-here : (x : A) (xs : List A) → test x ≡ true → find test (x ∷ xs) ≡ Some x
+  find-here x xs e = ap (λ b. cond b (Some x) (find test xs)) e
+
+  pub find-later : (x : A) (xs : List A) → test x ≡ false → find test (x ∷ xs) ≡ find test xs
+  find-later x xs e = ap (λ b. cond b (Some x) (find test xs)) e
+
+pub found-step : (made : List Made) (test : ℕ → Bool) (ids : List ℕ) (r : Option ℕ) → AreSteps made ids → r ≡ find test ids → IfSome r (λ i. i < length (steps_of made))
+found-step made test ids None h e = tt
+found-step made test ids (Some i) h e = find-All test (λ j. j < length (steps_of made)) ids i h (sym e)
+
+-- a table has the numbers of terms
+known_term : (trees : Trees) (id : ℕ) → IsTermAt trees id → id < length trees.terms
+known_term trees id h = go (slice_get_cases trees.terms id).1
+  where
+    go : ((x : Term) × (id < length trees.terms) × (slice_get trees.terms id ≡ Some x) × (get_or trees.terms id x ≡ x)) ⊎ ((length trees.terms ≤ id) × (slice_get trees.terms id ≡ None)) → id < length trees.terms
+    go (inl w) = w.1
+    go (inr w) = absurd (let e = ap (λ o. unwrap_or o (bound 0)) w.1 in let f = subst IsTerm e h in cc)
+
+pub AreTermsAt-known : (trees : Trees) (ids : List TermId) → AreTermsAt trees ids → AreKnown trees ids
+AreTermsAt-known trees [] h = tt
+AreTermsAt-known trees (id ∷ ids) h = (known_term trees id.0 h.0, AreTermsAt-known trees ids h.1)
+
+pub option_or-Some : {A : Type 0} (a b : Option A) (x : A) → option_or a b ≡ Some x → (a ≡ Some x) ⊎ (b ≡ Some x)
+option_or-Some None b x e = inr e
+option_or-Some (Some y) b x e = inl e
+
+pub AreSteps-take : (made : List Made) (n : ℕ) (ids : List ℕ) → AreSteps made ids → AreSteps made (take n ids)
+AreSteps-take made zero [] h = tt
+AreSteps-take made zero (i ∷ ids) h = tt
+AreSteps-take made (suc n) [] h = tt
+AreSteps-take made (suc n) (i ∷ ids) h = (h.0, AreSteps-take made n ids h.1)
+
+first_half : (a b : Bool) → (a && b) ≡ true → a ≡ true
+first_half true b e = refl
+first_half false b e = absurd (cc)
+
+second_half : (a b : Bool) → (a && b) ≡ true → b ≡ true
+second_half true b e = e
+second_half false b e = absurd (cc)
+
+-- the rest is to be sought through for a step that says this
+pub record IsSought (made : List Made) (sequent : Sequent) (ids rest : List ℕ) : Type 0 where
+  pub steps : AreSteps made rest
+  pub decides : find (λ i. same (sequent_at made i) sequent) ids ≡ find (λ i. same (sequent_at made i) sequent) rest
+
+module _ (made : List Made) (sequent : Sequent) (ids : List ℕ) where
+  abbrev test : ℕ → Bool
+  test i = same (sequent_at made i) sequent
+
+  pub seek_begins : AreSteps made ids → IsSought made sequent ids ids
+  seek_begins h = record { steps = h; decides = refl }
+
+  pub seek_goes_on : (i : ℕ) (rest : List ℕ) → IsSought made sequent ids (i ∷ rest) → same (sequent_at made i) sequent ≡ false → IsSought made sequent ids rest
+  seek_goes_on i rest h e = record { steps = h.steps.1; decides = h.decides ∙ find-later test i rest e }
+
+  pub seek_finds : (i : ℕ) (rest : List ℕ) → IsSought made sequent ids (i ∷ rest) → same (sequent_at made i) sequent ≡ true → Some i ≡ find test ids
+  seek_finds i rest h e = sym (h.decides ∙ find-here test i rest e)
+
+  pub seek_ends : IsSought made sequent ids [] → None ≡ find test ids
+  seek_ends h = sym h.decides
+
+-- what is the same says no more
+pub same-follows : (one s : Sequent) → same one s ≡ true → follows one s ≡ Ok tt
+same-follows one s e = ap (λ b. demand b NotTheSequent) (first_half (within one s) (within s one) e)
+
+-- what is the same as a sequent of truth values is of truth values
+bool-is_of_type : (t : Term) → HasType t bool → is_of_type bool t ≡ true
+bool-is_of_type t h = ap (λ o. has_type o bool) h ∙ type_eq-refl bool
+
+all-in : (ts hs : List Term) → list_all (λ h. is_in term_eq h hs) ts ≡ true → (t : Term) → IsIn ts t → is_in term_eq t hs ≡ true
+all-in [] hs e t k = absurd k
+all-in (u ∷ ts) hs e t (inl q) = rw q (first_half (is_in term_eq u hs) (list_all (λ h. is_in term_eq h hs) ts) e)
+all-in (u ∷ ts) hs e t (inr k) = all-in ts hs (second_half (is_in term_eq u hs) (list_all (λ h. is_in term_eq h hs) ts) e) t k
+
+both : (a b : Bool) → a ≡ true → b ≡ true → (a && b) ≡ true
+both true b e f = f
+both false b e f = absurd (cc)
+
+each-bool : (hs : List Term) → ((t : Term) → IsIn hs t → is_of_type bool t ≡ true) → list_all (is_of_type bool) hs ≡ true
+each-bool [] h = refl
+each-bool (t ∷ hs) h = both (is_of_type bool t) (list_all (is_of_type bool) hs) (h t (inl refl)) (each-bool hs (λ u k. h u (inr k)))
+
+pub same-all_bool : (one : Sequent) (hs : List Term) (c : Term) → IsSequent one → same one (stated hs c) ≡ true → all_bool (c ∷ hs) ≡ Ok tt
+same-all_bool one hs c h e =
+    let back = second_half (within one (stated hs c)) (within (stated hs c) one) e in
+    let among = first_half (list_all (λ t. is_in term_eq t one.hypotheses) (distinct term_eq hs)) (term_eq c one.conclusion) back in
+    let concl : c ≡ one.conclusion = (term_eq-Decides c one.conclusion).0 (second_half (list_all (λ t. is_in term_eq t one.hypotheses) (distinct term_eq hs)) (term_eq c one.conclusion) back) in
+    ap (λ b. demand b NotBool) (both (is_of_type bool c) (list_all (is_of_type bool) hs)
+    (bool-is_of_type c (subst (λ t. HasType t bool) (sym concl) h.conclusion))
+    (each-bool hs (λ t k. bool-is_of_type t (All-at (λ u. HasType u bool) one.hypotheses t h.hypotheses (is_in-IsIn term_eq term_eq-Decides one.hypotheses t (all-in (distinct term_eq hs) one.hypotheses among t (IsIn-distinct term_eq term_eq-Decides hs t k)))))))
+
+-- a step of a proof says a sequent
+pub said : (made : List Made) → IsProof made → (i : ℕ) → i < length (steps_of made) → IsSequent (sequent_at made i)
+said made p i l = All-get IsSequent (sequents_of made) i (sequent_at made i) (proof-sequents made p) (from (steps_of made) i l)
+  where
+    from : (xs : List Step) (i : ℕ) → i < length xs → slice_get (map (λ (y : Step). y.sequent) xs) i ≡ Some (slice_index_or (map (λ (y : Step). y.sequent) xs) i (record { hypotheses = []; conclusion = Term.bound 0 }))
+    from [] i l = absurd (omega arith)
+    from (x ∷ xs) zero l = refl
+    from (x ∷ xs) (suc i) l = from xs i (omega arith)
+
+-- what is assumed is met by a step that says it, or recorded
+module _ (s : State) (hs : List Term) (c : Term) where
+  -- the steps that may meet it
+  abbrev known : Option ℕ
+  known = option_or (first_same s s.pool (stated hs c)) (first_same s s.assumptions (stated hs c))
+
+  known-says : (i : ℕ) → known ≡ Some i → same (sequent_at s.made i) (stated hs c) ≡ true
+  known-says i e = go (option_or-Some (first_same s s.pool (stated hs c)) (first_same s s.assumptions (stated hs c)) i e)
+    where
+      go : (first_same s s.pool (stated hs c) ≡ Some i) ⊎ (first_same s s.assumptions (stated hs c) ≡ Some i) → same (sequent_at s.made i) (stated hs c) ≡ true
+      go (inl f) = find-passes (λ j. same (sequent_at s.made j) (stated hs c)) s.pool i f
+      go (inr f) = find-passes (λ j. same (sequent_at s.made j) (stated hs c)) s.assumptions i f
+
+  passed : (r q : Result (Unit {0}) Kind) (x : Step) → q ≡ Ok tt → (r >> conclude s x) ≡ by_step (r >> (q >> Ok x)) s
+  passed (Ok u) (Ok v) x e = refl
+  passed (Ok u) (Err k) x e = absurd (cc)
+  passed (Err k) q x e = refl
+
+  pub assuming-met : (i : ℕ) → known ≡ Some i → assuming hs c s ≡ by_step (restate_step s.made i hs c) s
+  assuming-met i e = ap (λ o. all_bool (c ∷ hs) >> assume_or_meet s (stated hs c) o) e
+      ∙ passed (all_bool (c ∷ hs)) (follows (sequent_at s.made i) (stated hs c)) (restatement i (stated hs c)) (same-follows (sequent_at s.made i) (stated hs c) (known-says i e))
+
+  recorded : (r : Result (Unit {0}) Kind) (t : State) (x : Step) → (r >> conclude t x) ≡ by_step (r >> Ok x) t
+  recorded (Ok u) t x = refl
+  recorded (Err k) t x = refl
+
+  pub assuming-new : known ≡ None → assuming hs c s ≡ recording hs c s
+  assuming-new e = ap (λ o. all_bool (c ∷ hs) >> assume_or_meet s (stated hs c) o) e
+      ∙ recorded (all_bool (c ∷ hs)) (record s { assumptions = s.assumptions ++ next_step s ∷ [] }) (step_by by_rule.Axiom [] (Parameters.sequent (stated hs c)) (stated hs c))
+
+  -- what is exported was exported, or is restated
+  module _ (i : ℕ) where
+    abbrev exports_it : Option ℕ → Result State Kind
+    exports_it o = all_bool (c ∷ hs) >> (follows (sequent_at s.made i) (stated hs c) >> export s i (stated hs c) o)
+
+    pub exporting-again : (j : ℕ) → first_same s s.exports (stated hs c) ≡ Some j → all_bool (c ∷ hs) ≡ Ok tt → exporting i hs c s ≡ (follows (sequent_at s.made i) (stated hs c) >> Ok s)
+    exporting-again j e a = ap exports_it e ∙ ap (λ r. r >> (follows (sequent_at s.made i) (stated hs c) >> Ok s)) a
+
+    judged : (r q : Result (Unit {0}) Kind) (x : Step) → (r >> (q >> exported s x)) ≡ ((r >> (q >> Ok x)) >>= exported s)
+    judged (Ok u) (Ok v) x = refl
+    judged (Ok u) (Err k) x = refl
+    judged (Err k) q x = refl
+
+    pub exporting-new : first_same s s.exports (stated hs c) ≡ None → exporting i hs c s ≡ restating i hs c s
+    exporting-new e = ap exports_it e ∙ judged (all_bool (c ∷ hs)) (follows (sequent_at s.made i) (stated hs c)) (restatement i (stated hs c))
+
+-- the same, said of what is kept
+module _ {old new : Stored} {f g : State → Result State Kind} (e : (s : State) (below : List state.Object) → f (in_state s below old.run) ≡ g (in_state s below old.run)) where
+  pub Infers-as : {r : Result ℕ Fault} → Infers old g new r → Infers old f new r
+  Infers-as {r = r} h = record {
+    taken = IfOk-map r _ _ h.taken (λ i t s below. e s below ∙ t s below);
+    made = h.made;
+    refused = IfErr-map r _ _ h.refused (λ x t s below. subst (Fails x) (sym (e s below)) (t s below));
+    run = h.run;
+    grows = h.grows;
+  }
+
+  pub Exports-as : {r : Result (Unit {0}) Fault} → Exports old g new r → Exports old f new r
+  Exports-as {r = r} h = record {
+    taken = OnOk-map r _ _ h.taken (λ t s below. e s below ∙ t s below);
+    refused = IfErr-map r _ _ h.refused (λ x t s below. subst (Fails x) (sym (e s below)) (t s below));
+    run = h.run;
+    grows = h.grows;
+  }
+
+-- nothing is kept for want of memory
+pub Infers-memory : {old : Stored} {f : State → Result State Kind} (r : Result ℕ Fault) → IsErrAnd r (λ x. x ≡ Memory) → Infers old f old r
+Infers-memory (Ok i) h = absurd h
+Infers-memory {old = old} {f = f} (Err x) h = record { taken = tt; made = tt; refused = subst (λ y. (s : State) (below : List state.Object) → Fails y (f (in_state s below old.run))) (sym h) (λ s below. tt); run = refl; grows = Grows-refl old }
+
+pub Exports-memory : {old : Stored} {f : State → Result State Kind} (r : Result (Unit {0}) Fault) → IsErrAnd r (λ x. x ≡ Memory) → Exports old f old r
+Exports-memory (Ok i) h = absurd h
+Exports-memory {old = old} {f = f} (Err x) h = record { taken = tt; refused = subst (λ y. (s : State) (below : List state.Object) → Fails y (f (in_state s below old.run))) (sym h) (λ s below. tt); run = refl; grows = Grows-refl old }
+
+-- an export again, where nothing is kept
+pub Exports-again : {old : Stored} {f : State → Result State Kind} (q : Result (Unit {0}) Kind) (r : Result (Unit {0}) Fault) → ((s : State) (below : List state.Object) → f (in_state s below old.run) ≡ (q >> Ok (in_state s below old.run)))
+    → OnOk r (q ≡ Ok tt) → IfErr r (λ x. Fails x q) → Exports old f old r
+Exports-again {old = old} q (Ok u) e a b = record { taken = λ s below. e s below ∙ ap (λ t. t >> Ok (in_state s below old.run)) a; refused = tt; run = tt; grows = Grows-refl old }
+Exports-again {old = old} {f = f} q (Err x) e a b = record { taken = tt; refused = λ s below. subst (Fails x) (sym (e s below)) (fails x b (in_state s below old.run)); run = refl; grows = Grows-refl old }
+  where
+    fails : (x : Fault) → Fails x q → (s : State) → Fails x (q >> Ok s)
+    fails Memory h s = tt
+    fails (Refused k) h s = ap (λ t. t >> Ok s) h
+
+module _ {old : Stored} (n : ℕ) (hs : List Term) (c : Term) (q : Sequent) (is : q ≡ stated hs c) (r : Result (Unit {0}) Fault) where
+  -- a sequent that an export says is judged, and nothing is made
+  pub Exports-known : (j : ℕ) → IsProof old.run.made → AreSteps old.run.made old.run.exports → Some j ≡ find (λ i. same (sequent_at old.run.made i) q) old.run.exports
+      → OnOk r (follows (sequent_at old.run.made n) q ≡ Ok tt) → IfErr r (λ x. Fails x (follows (sequent_at old.run.made n) q)) → Exports old (exporting n hs c) old r
+  Exports-known j proof steps first passes fails =
+      let found : find (λ i. same (sequent_at old.run.made i) (stated hs c)) old.run.exports ≡ Some j = sym (subst (λ t. Some j ≡ find (λ i. same (sequent_at old.run.made i) t) old.run.exports) is first) in
+      let says : same (sequent_at old.run.made j) (stated hs c) ≡ true = find-passes (λ i. same (sequent_at old.run.made i) (stated hs c)) old.run.exports j found in
+      let truths = same-all_bool (sequent_at old.run.made j) hs c (said old.run.made proof j (find-All (λ i. same (sequent_at old.run.made i) (stated hs c)) (λ i. i < length (steps_of old.run.made)) old.run.exports j steps found)) says in
+      Exports-again (follows (sequent_at old.run.made n) (stated hs c)) r (λ s below. exporting-again (in_state s below old.run) hs c n j found truths)
+      (subst (λ t. OnOk r (follows (sequent_at old.run.made n) t ≡ Ok tt)) is passes) (subst (λ t. IfErr r (λ x. Fails x (follows (sequent_at old.run.made n) t))) is fails)
+
+  -- another is restated
+  pub Exports-new : {new : Stored} → None ≡ find (λ i. same (sequent_at old.run.made i) q) old.run.exports → Exports old (restating n hs c) new r → Exports old (exporting n hs c) new r
+  Exports-new none e = Exports-as (λ s below. exporting-new (in_state s below old.run) hs c n (sym (subst (λ t. None ≡ find (λ i. same (sequent_at old.run.made i) t) old.run.exports) is none))) e
+
+pub Exports-handed : {old new : Stored} {f : State → Result State Kind} (r : Result (Unit {0}) Fault) (x : Fault) → IsErrAnd r (λ y. y ≡ x) → Exports old f new (Err x) → Exports old f new r
+Exports-handed (Ok u) x h e = absurd h
+Exports-handed {old = old} {new = new} {f = f} (Err y) x h e = subst (λ z. Exports old f new (Err z)) (sym h) e
+
+-- a step that is made and noted
+module _ {a b : Kept} {rule : Result Step Kind} {r : Result ℕ Fault} (h : Concludes a rule b r) (us vs : List ℕ) (noted : OnOk r (vs ≡ us ++ length (steps_of a.made) ∷ [])) (unchanged : OnErr r (vs ≡ us)) where
+  pub noted-AreSteps : AreSteps a.made us → AreSteps b.made vs
+  noted-AreSteps k = by_answer r h.concluded noted unchanged
+    where
+      more : AreSteps b.made us
+      more = AreSteps-more a.made b.made (Concludes-more h).steps us k
+
+      by_answer : (r : Result ℕ Fault) → IfOk r (λ i. (i ≡ proof.step_count a) × ((x : Step) × (limited rule ≡ Ok x) × (b.made ≡ a.made ++ Made.step x ∷ []))) → OnOk r (vs ≡ us ++ length (steps_of a.made) ∷ []) → OnErr r (vs ≡ us) → AreSteps b.made vs
+      by_answer (Ok i) c n u = let e = ap (λ made. length (steps_of made)) c.1.2 ∙ count-step a.made c.1.0 in subst (AreSteps b.made) (sym n) (AreSteps-push b.made us (length (steps_of a.made)) more (omega (arith, e)))
+      by_answer (Err x) c n u = subst (AreSteps b.made) (sym u) more
+
+  pub noted-longer : (p : ℕ) → p ≤ length us → p ≤ length vs
+  noted-longer p l = by_answer r noted unchanged
+    where
+      by_answer : (r : Result ℕ Fault) → OnOk r (vs ≡ us ++ length (steps_of a.made) ∷ []) → OnErr r (vs ≡ us) → p ≤ length vs
+      by_answer (Ok i) n u = let e = ap length n ∙ length-append us (length (steps_of a.made) ∷ []) in omega (arith, l, e)
+      by_answer (Err x) n u = let e = ap length u in omega (arith, l, e)
+
+  -- an assumption
+  module _ {ns : List Name} {cs : List Cell} {ws : List ℕ} {p : ℕ} (i : IsStore a ns cs us ws p) where
+    pub assumed-IsStore : IsStore b ns cs vs ws p
+    assumed-IsStore = IsStore-run (Concludes-more h) i (IsFront-refl ns) (record {
+      assumed = noted-AreSteps i.run_known.assumed;
+      exported = AreSteps-more a.made b.made (Concludes-more h).steps ws i.run_known.exported;
+      earlier = i.run_known.earlier;
+    })
+
+    pub assumed-grows : Grows (store_view a ns cs us ws p) (store_view b ns cs vs ws p)
+    assumed-grows = Grows-run (Concludes-more h) i p (IsFront-refl ns)
+
+    pub assumed-run : OnErr r (run_view b.made vs ws p ≡ run_view a.made us ws p)
+    assumed-run = OnErr-map2 r _ _ _ unchanged h.unchanged (λ e f. ap₂ (λ l made. run_view made l ws p) e f)
+
+    pub assumed-taken : IfOk r (λ j. (s : State) (below : List state.Object) → by_step rule (in_state s below (run_view a.made (us ++ length (steps_of a.made) ∷ []) ws p)) ≡ Ok (in_state s (state.Object.theorem j ∷ below) (run_view b.made vs ws p)))
+    assumed-taken = by_answer r noted (Concludes-taken h (us ++ length (steps_of a.made) ∷ []) ws p)
+      where
+        by_answer : (r : Result ℕ Fault) → OnOk r (vs ≡ us ++ length (steps_of a.made) ∷ [])
+            → IfOk r (λ j. (s : State) (below : List state.Object) → by_step rule (in_state s below (run_view a.made (us ++ length (steps_of a.made) ∷ []) ws p)) ≡ Ok (in_state s (state.Object.theorem j ∷ below) (run_view b.made (us ++ length (steps_of a.made) ∷ []) ws p)))
+            → IfOk r (λ j. (s : State) (below : List state.Object) → by_step rule (in_state s below (run_view a.made (us ++ length (steps_of a.made) ∷ []) ws p)) ≡ Ok (in_state s (state.Object.theorem j ∷ below) (run_view b.made vs ws p)))
+        by_answer (Ok j) n t = λ s below. t s below ∙ ap (λ l. Ok (in_state s (state.Object.theorem j ∷ below) (run_view b.made l ws p))) (sym n)
+        by_answer (Err x) n t = tt
+
+  -- an export
+  module _ {ns : List Name} {cs : List Cell} {ws : List ℕ} {p : ℕ} (i : IsStore a ns cs ws us p) where
+    pub exported-IsStore : IsStore b ns cs ws vs p
+    exported-IsStore = IsStore-run (Concludes-more h) i (IsFront-refl ns) (record {
+      assumed = AreSteps-more a.made b.made (Concludes-more h).steps ws i.run_known.assumed;
+      exported = noted-AreSteps i.run_known.exported;
+      earlier = noted-longer p i.run_known.earlier;
+    })
+
+    pub exported-grows : Grows (store_view a ns cs ws us p) (store_view b ns cs ws vs p)
+    exported-grows = Grows-run (Concludes-more h) i p (IsFront-refl ns)
+
+pub assumed-Infers : (hs : List Term) (c : Term) {a b : Kept} {r : Result ℕ Fault} (h : Concludes a (axiom_step hs c) b r) (us vs : List ℕ) → OnOk r (vs ≡ us ++ length (steps_of a.made) ∷ []) → OnErr r (vs ≡ us)
+    → {ns : List Name} {cs : List Cell} {ws : List ℕ} {p : ℕ} → IsStore a ns cs us ws p → Infers (store_view a ns cs us ws p) (recording hs c) (store_view b ns cs vs ws p) r
+assumed-Infers hs c {a = a} h us vs noted unchanged {ws = ws} {p = p} i = record {
+  taken = assumed-taken h us vs noted unchanged i;
+  made = Concludes-made h;
+  refused = Concludes-refused h (us ++ length (steps_of a.made) ∷ []) ws p;
+  run = assumed-run h us vs noted unchanged i;
+  grows = assumed-grows h us vs noted unchanged i;
+}
+
+-- what an export does to a state
+abbrev with_export : State → Step → State
+with_export s x = record (with_step s x) { exports = s.exports ++ next_step s ∷ [] }
+
+pub exported-Exports : (n : ℕ) (hs : List Term) (c : Term) {a b : Kept} {j : ℕ} (h : Concludes a (restate_step a.made n hs c) b (Ok j)) (us vs : List ℕ) → vs ≡ us ++ length (steps_of a.made) ∷ []
+    → {ns : List Name} {cs : List Cell} {ws : List ℕ} {p : ℕ} → IsStore a ns cs ws us p → Exports (store_view a ns cs ws us p) (restating n hs c) (store_view b ns cs ws vs p) (Ok tt)
+exported-Exports n hs c {a = a} h us vs noted {ws = ws} {p = p} i =
+    let q : take p vs ≡ take p us = ap (take p) noted ∙ take-append-le p us (length (steps_of a.made) ∷ []) i.run_known.earlier in
+    record {
+      taken = λ s below. limited-Ok (with_export (in_state s below (run_view a.made ws us p))) (restate_step a.made n hs c) h.concluded.1.0 h.concluded.1.1
+          ∙ (λ t. Ok (in_state s below (record { made = sym h.concluded.1.2 t; assumptions = ws; exports = sym noted t; pool = sym q t })));
+      refused = tt;
+      run = tt;
+      grows = exported-grows h us vs noted tt i;
+    }
+
+pub exported-fails : (n : ℕ) (hs : List Term) (c : Term) {a b : Kept} {x : Fault} (h : Concludes a (restate_step a.made n hs c) b (Err x)) (us vs : List ℕ) → vs ≡ us
+    → {ns : List Name} {cs : List Cell} {ws : List ℕ} {p : ℕ} → IsStore a ns cs ws us p → Exports (store_view a ns cs ws us p) (restating n hs c) (store_view b ns cs ws vs p) (Err x)
+exported-fails n hs c {a = a} {x = x} h us vs unchanged {ws = ws} {p = p} i = record {
+  taken = tt;
+  refused = λ s below. limited-fails (with_export (in_state s below (run_view a.made ws us p))) (restate_step a.made n hs c) x h.refused;
+  run = ap₂ (λ l made. run_view made ws l p) unchanged h.unchanged;
+  grows = exported-grows h us vs tt unchanged i;
+}
