@@ -1,4 +1,5 @@
 pub mod ClosedFormTest
+pub mod ClosedText
 pub mod Decode
 pub mod DecodeStatements
 pub mod Demangled
