@@ -1,7 +1,13 @@
+pub mod AbstractionLemmas
+pub mod ArgumentLemmas
 pub mod ConstantLemmas
+pub mod ConstantTerms
 pub mod GenericLemmas
+pub mod HeadLemmas
 pub mod NameLemmas
 pub mod PeelLemmas
+pub mod SubstitutionLemmas
 pub mod SymbolLemmas
+pub mod TermLemmas
 pub mod TypeWalk
 pub mod UndeclaredLemmas

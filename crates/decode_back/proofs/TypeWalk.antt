@@ -39,6 +39,10 @@ pub IfOk-weaker : {A E : Type 0} (P Q : A → Type 0) (r : Result A E) → IfOk 
 IfOk-weaker P Q (Ok x) h f = f x h
 IfOk-weaker P Q (Err e) h f = tt
 
+pub IfOk-both : {A E : Type 0} (P Q R : A → Type 0) (r : Result A E) → IfOk r P → IfOk r Q → ((x : A) → P x → Q x → R x) → IfOk r R
+IfOk-both P Q R (Ok x) h k f = f x h k
+IfOk-both P Q R (Err e) h k f = tt
+
 types_at-one : (ts : List HolType) (xs ys : List TypeId) → types_at ts (xs ++ ys) ≡ types_at ts xs ++ types_at ts ys
 types_at-one ts [] ys = refl
 types_at-one ts (x ∷ xs) ys = ap (λ l. tree_at ts x.0 ∷ l) (types_at-one ts xs ys)

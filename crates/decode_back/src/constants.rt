@@ -28,7 +28,7 @@ use lp_term::{LpId, LpNode, LpTable};
 use std::alloc::Global;
 
 // The number of the symbol of the types of terms.
-const TERM: usize = 4;
+pub(crate) const TERM: usize = 4;
 
 // The greatest depth of a type.
 const GREATEST_DEPTH: usize = 1024;
@@ -53,6 +53,7 @@ pub fn constant_at(
     requires declared { symbol < length (signature ++ declarations_of source.now) }
     requires limit { limit ≤ greatest_size }
     ensures found { IfOk result (λ found. IsConstantFound limit (constant_meant (declarations_of source.now) symbol) table.new found) }
+    ensures few { IfOk result (λ found. IfSome found (λ constant. constant.variables ≤ greatest_number)) }
     ensures keeps { Keeps table.old table.new }
 {
     match symbol {
@@ -78,6 +79,7 @@ fn primitive(
     requires declared { symbol < length (signature ++ declarations_of source.now) }
     requires limit { limit ≤ greatest_size }
     ensures found { IfOk result (λ found. IsConstantFound limit (option_map (λ (g : ℕ × ClosedType). constant_with (text.now ∷ []) g.0 g.1) (generic_told (declarations_of source.now) (symbol_type (declarations_of source.now) symbol))) table.new found) }
+    ensures few { IfOk result (λ found. IfSome found (λ constant. constant.variables ≤ greatest_number)) }
     ensures keeps { Keeps table.old table.new }
 {
     let Some((variables, generic)) = generic_of(
@@ -110,6 +112,7 @@ fn input(
     requires held { IsHeld source.now }
     requires declared { symbol < length (signature ++ declarations_of source.now) }
     ensures found { IfOk result (λ found. MatchOption found (input_constant (declarations_of source.now) symbol ≡ None) (IsConstant (input_constant (declarations_of source.now) symbol) table.new)) }
+    ensures few { IfOk result (λ found. IfSome found (λ constant. constant.variables ≤ greatest_number)) }
     ensures keeps { Keeps table.old table.new }
 {
     let Some(name) = constant_named(alloc, source, symbol, b"i_")? else {
@@ -141,6 +144,7 @@ fn defined(
     requires declared { symbol < length (signature ++ declarations_of source.now) }
     requires limit { limit ≤ greatest_size }
     ensures found { IfOk result (λ found. IsConstantFound limit (defined_constant (declarations_of source.now) symbol) table.new found) }
+    ensures few { IfOk result (λ found. IfSome found (λ constant. constant.variables ≤ greatest_number)) }
     ensures keeps { Keeps table.old table.new }
 {
     let Some(name) = constant_named(alloc, source, symbol, b"c_")? else {
@@ -253,6 +257,7 @@ fn generic_of(
     requires known { id.0 < length source.now.table }
     requires limit { limit ≤ greatest_size }
     ensures found { IfOk result (λ found. IsGenericFound limit (generic_told (declarations_of source.now) (Some (tree_at source.now.table id.0))) table.new found) }
+    ensures few { IfOk result (λ found. IfSome found (λ generic. generic.0 ≤ greatest_number)) }
     ensures keeps { Keeps table.old table.new }
 {
     let (count, rest) = peel_types(&source.table, id);
@@ -301,7 +306,7 @@ fn peel_types(table: &LpTable, id: LpId) -> (usize, LpId)
 }
 
 // The argument of a symbol, where the tree is the symbol applied to one.
-fn symbol_argument(table: &LpTable, symbol: usize, id: LpId) -> Option<LpId>
+pub(crate) fn symbol_argument(table: &LpTable, symbol: usize, id: LpId) -> Option<LpId>
     requires { id.0 < length table.now }
     ensures argument { option_map (λ r. tree_at table.now r.0) result ≡ argument_told symbol (tree_at table.now id.0) }
     ensures known { IfSome result (λ r. r.0 < id.0) }

@@ -144,7 +144,7 @@ module _ (named : ℕ → Name) (apart : (i j : ℕ) → named i ≡ named j →
   IsClosedForm-IsOpen s is = subst (IsOpen named) (sym is.closed) (closed_form-IsOpen named apart is.sequent is.is_sequent is.within)
 
 -- each test
-is_of_type-Decides : (o : Option HolType) (a : HolType) → Decides (is_of_type o a) (o ≡ Some a)
+pub is_of_type-Decides : (o : Option HolType) (a : HolType) → Decides (is_of_type o a) (o ≡ Some a)
 is_of_type-Decides None a = (λ h. absurd (cc), λ h. absurd (cc))
 is_of_type-Decides (Some b) a = (λ h. ap Some ((type_eq-Decides b a).0 h), λ h. (type_eq-Decides b a).1 (cc))
 
@@ -166,7 +166,7 @@ module _ {A : Type 0} (same : A → A → Bool) where
   no_repeats-Decides [] = (λ h. tt, λ h. refl)
   no_repeats-Decides (x ∷ xs) = both-Decides (list_all (λ y. not (same x y)) xs) (no_repeats same xs) (apart-Decides x xs) (no_repeats-Decides xs) (λ a b. (a, b)) (λ h. h)
 
-at_most-Decides : (limit n : ℕ) → Decides (at_most limit n) (n ≤ limit)
+pub at_most-Decides : (limit n : ℕ) → Decides (at_most limit n) (n ≤ limit)
 at_most-Decides limit n =
     let d = Decides-not (nat_lt limit n) (Decides-ltb limit n) in
     (λ h. let f = d.0 h in from f, λ h. d.1 (λ l. omega (arith, l, h)))

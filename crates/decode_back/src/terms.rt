@@ -1,0 +1,402 @@
+//! The terms that trees stand for.
+ghost use Rattle.std.specs.Prelude.{true, false, ◌≡◌, ◌<◌, ◌≤◌, ◌+◌, ℕ, List, length, IfOk, IfSome, OnOk, MatchOption};
+ghost use Rattle.hol_spec.specs.ClosedForm.{ClosedTerm, ClosedType};
+ghost use Rattle.hol_spec.specs.Limits.{greatest_depth, greatest_size, term_size, type_size};
+ghost use Rattle.hol_spec.specs.Terms as term;
+ghost use Rattle.lp_spec.specs.Modules.{applied, signature, Declaration};
+ghost use Rattle.lp_spec.specs.Trees.{Sym, Tree, Var};
+ghost use Rattle.lp_term.specs.Tables as lp;
+ghost use Rattle.lp_term.specs.Tables.{tree_at, trees_at};
+ghost use Rattle.holide_sig.specs.Modules.{declarations_of, IsHeld};
+ghost use Rattle.hol_term.specs.Tables.{term_at, type_at, AreKnown, Holds, Keeps};
+ghost use Rattle.hol_type.specs.Tables as type;
+ghost use Rattle.decode_spec.specs.Opened.{open_term};
+ghost use Rattle.decode_spec.specs.Decode.{term_from};
+ghost use Rattle.decode_back.specs.Walks.{at_place, greatest_number, parameter_name as the_name};
+ghost use Rattle.decode_back.specs.TermWalks.{AreTypeArguments, AreVariables, IsFresh, IsHead, IsHeadFound, IsLamFound, IsTermFound};
+
+use crate::constants::{TERM, constant_at, symbol_argument};
+use crate::names::parameter_name;
+use crate::places::Place;
+use crate::types::decode_type;
+use bridge_base::{Fault, Memory, Stack};
+use hol_name::Name;
+use hol_term::{TermId, TermTable, Variable};
+use hol_type::TypeId;
+use holide_sig::{Module, SIGNATURE};
+use lp_term::{LpId, LpNode, LpTable};
+use std::alloc::Global;
+
+/// The term that a tree stands for at a place, no larger than what is left of the budget and no deeper than the level. What it takes of
+/// the budget is its size.
+#[cycle(terms)]
+pub fn decode_term(
+    alloc: Global,
+    source: &Module,
+    variables: &[TermId],
+    innermost: TermId,
+    place: Place,
+    table: &mut TermTable,
+    budget: &mut u64,
+    level: usize,
+    id: LpId,
+) -> Result<Option<TermId>, Memory>
+    requires held { IsHeld source.now }
+    requires few { place.type_variables ≤ greatest_number }
+    requires variables { AreKnown table.old variables.now }
+    requires all { length variables.now ≡ place.free_variables }
+    requires innermost { Holds table.old innermost.0 (term.bound 0) }
+    requires budget { budget.old ≤ greatest_size }
+    requires level { place.binders + level ≤ greatest_depth }
+    requires known { id.0 < length source.now.table }
+    ensures decoded { IfOk result (λ found. (types : List ClosedType) → AreVariables table.old variables.now types → IsTermFound level types budget.old budget.new (term_from (declarations_of source.now) (tree_at source.now.table id.0) (at_place place)) table.new found) }
+    ensures known { IfOk result (λ found. IfSome found (λ t. t.0 < length table.new.terms)) }
+    ensures budget { budget.new ≤ budget.old }
+    ensures keeps { Keeps table.old table.new }
+{
+    if level == 0 {
+        return Ok(None);
+    }
+    let mut args = Stack::new(alloc);
+    let head = spine(&source.table, id, &mut args)?;
+    let found = decode_head(
+        alloc, source, variables, innermost, place, table, budget, level, head, &mut args,
+    )?;
+    let Some(made) = found else {
+        return Ok(None);
+    };
+    apply_rest(
+        alloc, source, variables, innermost, place, table, budget, level, made, &mut args,
+    )
+}
+
+// What a tree is applied to, the first on top, and what is applied.
+fn spine(table: &LpTable, id: LpId, args: &mut Stack<LpId>) -> Result<LpId, Memory>
+    requires known { id.0 < length table.now }
+    requires args { lp.AreKnown table.now args.old }
+    ensures spine { IfOk result (λ head. applied (tree_at table.now head.0) (trees_at table.now args.new) ≡ applied (tree_at table.now id.0) (trees_at table.now args.old)) }
+    ensures head { IfOk result (λ head. IsHead (tree_at table.now head.0)) }
+    ensures known { IfOk result (λ head. head.0 < length table.now) }
+    ensures args { OnOk result (lp.AreKnown table.now args.new) }
+{
+    let mut head = id;
+    while let LpNode::App(function, argument) = table.view(head) {
+        args.push(argument)?;
+        head = function;
+    }
+    Ok(head)
+}
+
+// The term of the head of a spine. A constant takes its type arguments off the spine.
+#[cycle(terms)]
+fn decode_head(
+    alloc: Global,
+    source: &Module,
+    variables: &[TermId],
+    innermost: TermId,
+    place: Place,
+    table: &mut TermTable,
+    budget: &mut u64,
+    level: usize,
+    head: LpId,
+    args: &mut Stack<LpId>,
+) -> Result<Option<TermId>, Memory>
+    requires held { IsHeld source.now }
+    requires few { place.type_variables ≤ greatest_number }
+    requires variables { AreKnown table.old variables.now }
+    requires all { length variables.now ≡ place.free_variables }
+    requires innermost { Holds table.old innermost.0 (term.bound 0) }
+    requires budget { budget.old ≤ greatest_size }
+    requires level { place.binders + level ≤ greatest_depth }
+    requires positive { 0 < level }
+    requires known { head.0 < length source.now.table }
+    requires head { IsHead (tree_at source.now.table head.0) }
+    requires args { lp.AreKnown source.now.table args.old }
+    ensures decoded { IfOk result (λ found. (types : List ClosedType) → AreVariables table.old variables.now types → IsHeadFound level types budget.old budget.new (declarations_of source.now) (at_place place) (tree_at source.now.table head.0) (trees_at source.now.table args.old) (trees_at source.now.table args.new) table.new found) }
+    ensures known { IfOk result (λ found. IfSome found (λ t. t.0 < length table.new.terms)) }
+    ensures args { OnOk result (lp.AreKnown source.now.table args.new) }
+    ensures budget { budget.new ≤ budget.old }
+    ensures keeps { Keeps table.old table.new }
+{
+    match source.table.view(head) {
+        LpNode::Sym(symbol) => constant(alloc, source, place, table, budget, level, symbol, args),
+        LpNode::Var(number) => variable(variables, innermost, place, table, budget, number),
+        LpNode::Lam(domain, body) => {
+            let Some(tree) = symbol_argument(&source.table, TERM, domain) else {
+                return Ok(None);
+            };
+            let Some(ty) = decode_type(alloc, source, place, table, level, tree)? else {
+                return Ok(None);
+            };
+            let inside = Place {
+                type_variables: place.type_variables,
+                free_variables: place.free_variables,
+                hypotheses: place.hypotheses,
+                binders: place.binders + 1,
+            };
+            let found = decode_term(
+                alloc,
+                source,
+                variables,
+                innermost,
+                inside,
+                table,
+                budget,
+                level - 1,
+                body,
+            )?;
+            let Some(body) = found else {
+                return Ok(None);
+            };
+            abstraction(alloc, table, budget, ty, body)
+        }
+        LpNode::SortType | LpNode::SortKind | LpNode::App(_, _) | LpNode::Pi(_, _) => Ok(None),
+    }
+}
+
+// A term applied to the terms of what is left of a spine.
+#[cycle(terms)]
+fn apply_rest(
+    alloc: Global,
+    source: &Module,
+    variables: &[TermId],
+    innermost: TermId,
+    place: Place,
+    table: &mut TermTable,
+    budget: &mut u64,
+    level: usize,
+    head: TermId,
+    args: &mut Stack<LpId>,
+) -> Result<Option<TermId>, Memory>
+    requires held { IsHeld source.now }
+    requires few { place.type_variables ≤ greatest_number }
+    requires variables { AreKnown table.old variables.now }
+    requires all { length variables.now ≡ place.free_variables }
+    requires innermost { Holds table.old innermost.0 (term.bound 0) }
+    requires budget { budget.old ≤ greatest_size }
+    requires level { place.binders + level ≤ greatest_depth }
+    requires positive { 0 < level }
+    requires known { head.0 < length table.old.terms }
+    requires args { lp.AreKnown source.now.table args.old }
+    ensures decoded { IfOk result (λ found. (types : List ClosedType) (F : Tree) (f : ClosedTerm) (whole : ℕ) → AreVariables table.old variables.now types → term_from (declarations_of source.now) F (at_place place) ≡ Some f → Holds table.old head.0 (open_term the_name types f) → budget.old + term_size (open_term the_name types f) ≡ whole → IsTermFound level types whole budget.new (term_from (declarations_of source.now) (applied F (trees_at source.now.table args.old)) (at_place place)) table.new found) }
+    ensures known { IfOk result (λ found. IfSome found (λ t. t.0 < length table.new.terms)) }
+    ensures budget { budget.new ≤ budget.old }
+    ensures keeps { Keeps table.old table.new }
+{
+    let mut made = head;
+    while let Some(arg) = args.pop() {
+        let found = decode_term(
+            alloc,
+            source,
+            variables,
+            innermost,
+            place,
+            table,
+            budget,
+            level - 1,
+            arg,
+        )?;
+        let Some(argument) = found else {
+            return Ok(None);
+        };
+        if !spend(budget, 1) {
+            return Ok(None);
+        }
+        made = table.application(made, argument)?;
+    }
+    Ok(Some(made))
+}
+
+// The term of a variable: of a binder of its own, or of a free variable of the sequent.
+fn variable(
+    variables: &[TermId],
+    innermost: TermId,
+    place: Place,
+    table: &mut TermTable,
+    budget: &mut u64,
+    number: u128,
+) -> Result<Option<TermId>, Memory>
+    requires variables { AreKnown table.old variables.now }
+    requires all { length variables.now ≡ place.free_variables }
+    requires innermost { Holds table.old innermost.0 (term.bound 0) }
+    requires budget { budget.old ≤ greatest_size }
+    ensures decoded { IfOk result (λ found. (d : List Declaration) (level : ℕ) (types : List ClosedType) → AreVariables table.old variables.now types → IsTermFound level types budget.old budget.new (term_from d (Var number) (at_place place)) table.new found) }
+    ensures known { IfOk result (λ found. IfSome found (λ t. t.0 < length table.new.terms)) }
+    ensures budget { budget.new ≤ budget.old }
+    ensures keeps { Keeps table.old table.new }
+{
+    if number < place.binders as u128 {
+        return bound(innermost, table, budget, number);
+    }
+    let depth = place.depth();
+    if number >= depth {
+        return Ok(None);
+    }
+    let outer = depth - 1 - number;
+    if outer < place.type_variables as u128 {
+        return Ok(None);
+    }
+    let free = outer - place.type_variables as u128;
+    if free >= place.free_variables as u128 {
+        return Ok(None);
+    }
+    let made = variables[free as usize];
+    if !spend(budget, table.size(made)) {
+        return Ok(None);
+    }
+    Ok(Some(made))
+}
+
+// The term of a variable that a binder of its own binds.
+fn bound(
+    innermost: TermId,
+    table: &mut TermTable,
+    budget: &mut u64,
+    number: u128,
+) -> Result<Option<TermId>, Memory>
+    requires innermost { Holds table.old innermost.0 (term.bound 0) }
+    ensures found { IfOk result (λ found. MatchOption found (budget.old ≡ 0) (λ id. Holds table.new id.0 (term.bound number))) }
+    ensures spent { IfOk result (λ found. IfSome found (λ id. budget.new + 1 ≡ budget.old)) }
+    ensures known { IfOk result (λ found. IfSome found (λ t. t.0 < length table.new.terms)) }
+    ensures budget { budget.new ≤ budget.old }
+    ensures keeps { Keeps table.old table.new }
+{
+    if !spend(budget, 1) {
+        return Ok(None);
+    }
+    match table.lift(number, innermost) {
+        Ok(made) => Ok(Some(made)),
+        Err(_) => Err(Memory),
+    }
+}
+
+// The constant that a symbol stands for at the types of its first arguments, which it takes off the spine.
+fn constant(
+    alloc: Global,
+    source: &Module,
+    place: Place,
+    table: &mut TermTable,
+    budget: &mut u64,
+    level: usize,
+    symbol: usize,
+    args: &mut Stack<LpId>,
+) -> Result<Option<TermId>, Memory>
+    requires held { IsHeld source.now }
+    requires few { place.type_variables ≤ greatest_number }
+    requires budget { budget.old ≤ greatest_size }
+    requires level { level ≤ greatest_depth }
+    requires args { lp.AreKnown source.now.table args.old }
+    ensures decoded { IfOk result (λ found. (types : List ClosedType) → IsHeadFound level types budget.old budget.new (declarations_of source.now) (at_place place) (Sym symbol) (trees_at source.now.table args.old) (trees_at source.now.table args.new) table.new found) }
+    ensures known { IfOk result (λ found. IfSome found (λ t. t.0 < length table.new.terms)) }
+    ensures args { OnOk result (lp.AreKnown source.now.table args.new) }
+    ensures budget { budget.new ≤ budget.old }
+    ensures keeps { Keeps table.old table.new }
+{
+    if symbol >= SIGNATURE + source.decls.len() {
+        return Ok(None);
+    }
+    let Some(constant) = constant_at(alloc, source, table, symbol, *budget)? else {
+        return Ok(None);
+    };
+    let Some(pairs) = type_arguments(alloc, source, place, table, level, constant.variables, args)?
+    else {
+        return Ok(None);
+    };
+    let instance = match table.ty_subst(&pairs, constant.generic) {
+        Ok(instance) => instance,
+        Err(Fault::Memory) => return Err(Memory),
+        Err(Fault::Refused(_)) => return Ok(None),
+    };
+    let made = match table.constant(&constant.name, instance) {
+        Ok(made) => made,
+        Err(Fault::Memory) => return Err(Memory),
+        Err(Fault::Refused(_)) => return Ok(None),
+    };
+    if !spend(budget, table.size(made)) {
+        return Ok(None);
+    }
+    Ok(Some(made))
+}
+
+// The types of so many arguments, each with the name of the variable for which it stands. They are taken off the spine.
+fn type_arguments(
+    alloc: Global,
+    source: &Module,
+    place: Place,
+    table: &mut TermTable,
+    level: usize,
+    count: usize,
+    args: &mut Stack<LpId>,
+) -> Result<Option<Vec<(Name, TypeId)>>, Memory>
+    requires held { IsHeld source.now }
+    requires few { place.type_variables ≤ greatest_number }
+    requires count { count ≤ greatest_number }
+    requires level { level ≤ greatest_depth }
+    requires args { lp.AreKnown source.now.table args.old }
+    ensures types { IfOk result (λ found. AreTypeArguments level (declarations_of source.now) (at_place place) count (trees_at source.now.table args.old) (trees_at source.now.table args.new) table.new found) }
+    ensures known { IfOk result (λ found. IfSome found (λ pairs. type.ArePairsKnown table.new.types pairs.items)) }
+    ensures args { OnOk result (lp.AreKnown source.now.table args.new) }
+    ensures keeps { Keeps table.old table.new }
+{
+    let mut pairs = Vec::new(alloc);
+    for number in 0..count {
+        let Some(arg) = args.pop() else {
+            return Ok(None);
+        };
+        let Some(ty) = decode_type(alloc, source, place, table, level, arg)? else {
+            return Ok(None);
+        };
+        pairs.push((parameter_name(alloc, number)?, ty))?;
+    }
+    Ok(Some(pairs))
+}
+
+// The abstraction over a type of the body of its binder.
+fn abstraction(
+    alloc: Global,
+    table: &mut TermTable,
+    budget: &mut u64,
+    ty: TypeId,
+    body: TermId,
+) -> Result<Option<TermId>, Memory>
+    requires ty { ty.0 < length table.old.types }
+    requires body { body.0 < length table.old.terms }
+    requires budget { budget.old ≤ greatest_size }
+    ensures made { IfOk result (λ found. IsFresh (term_at table.old body.0) → IsLamFound (type_at table.old ty.0) (term_at table.old body.0) budget.old budget.new table.new found) }
+    ensures known { IfOk result (λ found. IfSome found (λ t. t.0 < length table.new.terms)) }
+    ensures budget { budget.new ≤ budget.old }
+    ensures keeps { Keeps table.old table.new }
+{
+    let size = table.types().size(ty);
+    if !spend(budget, size) {
+        return Ok(None);
+    }
+    if !spend(budget, 1) {
+        return Ok(None);
+    }
+    let Ok(name) = Name::single(alloc, b"") else {
+        return Err(Memory);
+    };
+    let variable = Variable { name, ty };
+    let outside = match table.free(&variable.name, ty) {
+        Ok(outside) => outside,
+        Err(Fault::Memory) => return Err(Memory),
+        Err(Fault::Refused(_)) => return Ok(None),
+    };
+    let open = table.instance(body, outside)?;
+    let made = table.abstraction(&variable, open)?;
+    Ok(Some(made))
+}
+
+// Takes a cost off a budget, unless it is greater.
+fn spend(budget: &mut u64, cost: u64) -> bool
+    ensures paid { result ≡ true → budget.new + cost ≡ budget.old }
+    ensures short { result ≡ false → budget.old < cost }
+    ensures less { budget.new ≤ budget.old }
+{
+    if *budget < cost {
+        return false;
+    }
+    *budget -= cost;
+    true
+}
