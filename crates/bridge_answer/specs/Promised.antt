@@ -5,12 +5,13 @@ use Rattle.std.proofs.lemmas.List.{append-nil}
 use Rattle.bridge_base.specs.Outside.{Files, Gains, file}
 use Rattle.hol_spec.specs.Proofs.{Accepted}
 use Rattle.lp_spec.specs.Modules.{Declaration}
-use Rattle.article_spec.specs.Run.{Outcome, accepted, refused_at, RunsBy}
+use Rattle.article_spec.specs.Run.{Obeys, Outcome, accepted, refused_at, RunsBy}
 use Rattle.article_laws.specs.RunLaws.{one_outcome}
 use Rattle.module_spec.specs.Image.{image}
 use Rattle.module_spec.specs.Stands.{Stands}
 use Rattle.bridge_spec.specs.FirstPath.{first_path}
-use Rattle.bridge_spec.specs.Forms.{Form, translate, check}
+use Rattle.bridge_spec.specs.WithoutDefinitions.{without_definitions}
+use Rattle.bridge_spec.specs.Forms.{Form, translate, check, show}
 use Rattle.bridge_spec.specs.Texts.{usage_line}
 use Rattle.bridge_spec.specs.Calls.{Shelved, Sunk, Call}
 use Rattle.bridge_spec.specs.FileChecks.{IsAccepted, ReadsWellTyped}
@@ -78,17 +79,18 @@ no_form-answers shelf = record {
   quiet = λ answer out note h differs. no_form-quiet shelf answer out note h;
 }
 
--- `translate`: files that are told have one outcome.
-RunsTo-unique : (told : Option Files) (names : List (List ℕ)) (a b : Outcome) → IsTrue (is_some told) → RunsTo first_path told names a → RunsTo first_path told names b → a ≡ b
-RunsTo-unique None names a b h p q = absurd (cc)
-RunsTo-unique (Some files) names a b h p q =
-    let one = one_outcome first_path (articles files names) in
-    one.only a (subst (λ texts. RunsBy first_path texts a) p.read p.runs) ∙ sym (one.only b (subst (λ texts. RunsBy first_path texts b) q.read q.runs))
+-- Files that are told have one outcome, by whatever way of obeying.
+RunsTo-unique : (by : Obeys) (told : Option Files) (names : List (List ℕ)) (a b : Outcome) → IsTrue (is_some told) → RunsTo by told names a → RunsTo by told names b → a ≡ b
+RunsTo-unique by None names a b h p q = absurd (cc)
+RunsTo-unique by (Some files) names a b h p q =
+    let one = one_outcome by (articles files names) in
+    one.only a (subst (λ texts. RunsBy by texts a) p.read p.runs) ∙ sym (one.only b (subst (λ texts. RunsBy by texts b) q.read q.runs))
 
+-- `translate`: the answer of the one outcome.
 translate-exact : (names : List (List ℕ)) (shelf : Shelved) → ReadWell shelf → (answer due : Status) (out note : List ℕ) → FormAnswers (Some (translate names)) shelf answer out note
     → IsDue (Some (translate names)) shelf.told_before due → Aside answer (answer ≡ due)
-translate-exact names shelf well Done due out note h d = ap answer_of (RunsTo-unique shelf.told_before names (accepted h.0) d.outcome well.tells h.1 d.runs) ∙ sym d.is
-translate-exact names shelf well (Refused article line kind) due out note h d = ap answer_of (RunsTo-unique shelf.told_before names (refused_at article line kind) d.outcome well.tells h.0 d.runs) ∙ sym d.is
+translate-exact names shelf well Done due out note h d = ap answer_of (RunsTo-unique first_path shelf.told_before names (accepted h.0) d.outcome well.tells h.1 d.runs) ∙ sym d.is
+translate-exact names shelf well (Refused article line kind) due out note h d = ap answer_of (RunsTo-unique first_path shelf.told_before names (refused_at article line kind) d.outcome well.tells h.0 d.runs) ∙ sym d.is
 translate-exact names shelf well Usage due out note h d = absurd h
 translate-exact names shelf well ReadFault due out note h d = absurd (well.no_fault h.0)
 translate-exact names shelf well WriteFault due out note h d = tt
@@ -150,11 +152,45 @@ check-answers name budget shelf = record {
   quiet = check-quiet name budget shelf;
 }
 
+-- `show`: the answer of the one outcome.
+show-exact : (names : List (List ℕ)) (shelf : Shelved) → ReadWell shelf → (answer due : Status) (out note : List ℕ) → FormAnswers (Some (show names)) shelf answer out note
+    → IsDue (Some (show names)) shelf.told_before due → Aside answer (answer ≡ due)
+show-exact names shelf well Done due out note h d = ap answer_of (RunsTo-unique without_definitions shelf.told_before names (accepted h.0) d.outcome well.tells h.1 d.runs) ∙ sym d.is
+show-exact names shelf well (Refused article line kind) due out note h d = ap answer_of (RunsTo-unique without_definitions shelf.told_before names (refused_at article line kind) d.outcome well.tells h.0 d.runs) ∙ sym d.is
+show-exact names shelf well Usage due out note h d = absurd h
+show-exact names shelf well ReadFault due out note h d = absurd (well.no_fault h.0)
+show-exact names shelf well WriteFault due out note h d = tt
+show-exact names shelf well Memory due out note h d = tt
+show-exact names shelf well (DkRefused place kind) due out note h d = absurd h
+show-exact names shelf well (IllTyped i) due out note h d = absurd h
+show-exact names shelf well (OverBudget i) due out note h d = absurd h
+
+show-quiet : (names : List (List ℕ)) (shelf : Shelved) (answer : Status) (out note : List ℕ) → FormAnswers (Some (show names)) shelf answer out note → (answer ≡ Done → ⊥) → out ≡ []
+show-quiet names shelf Done out note h differs = absurd (differs refl)
+show-quiet names shelf (Refused article line kind) out note h differs = h.1.0
+show-quiet names shelf Usage out note h differs = absurd h
+show-quiet names shelf ReadFault out note h differs = h.1.0
+show-quiet names shelf WriteFault out note h differs = absurd h
+show-quiet names shelf Memory out note h differs = h.0
+show-quiet names shelf (DkRefused place kind) out note h differs = absurd h
+show-quiet names shelf (IllTyped i) out note h differs = absurd h
+show-quiet names shelf (OverBudget i) out note h differs = absurd h
+
+show-answers : (names : List (List ℕ)) (shelf : Shelved) → AreAnswers (Some (show names)) shelf
+show-answers names shelf = record {
+  exact = show-exact names shelf;
+  usage = λ out note h. absurd h;
+  read_fault = λ out note h. h.0;
+  write_fault = λ out note h. h;
+  quiet = show-quiet names shelf;
+}
+
 -- the answers of every form
 each-answers : (form : Option Form) (shelf : Shelved) → AreAnswers form shelf
 each-answers None shelf = no_form-answers shelf
 each-answers (Some (translate names)) shelf = translate-answers names shelf
 each-answers (Some (check name budget)) shelf = check-answers name budget shelf
+each-answers (Some (show names)) shelf = show-answers names shelf
 
 -- The checker's law: what is accepted is well typed.
 accepted-well_typed : (told : Option Files) (name : List ℕ) (files : Files) (m : List Declaration) → told ≡ Some files → IsAccepted told name m → ReadsWellTyped (file files name)
@@ -270,4 +306,10 @@ usage-Promise call result none d =
 pub check-Promise : (call : Call) (result : Status) (name : List ℕ) (budget : ℕ) → call.form ≡ Some (check name budget) → Outputs call result → call.shelf.told ≡ call.shelf.told_before
     → call.shelf.faults_before ≤ call.shelf.faults → call.out.faults_before ≤ call.out.faults → call.note.faults_before ≤ call.note.faults → Promise call result
 check-Promise call result name budget form h =
+    outputs-Promise call result (λ run has. absurd (subst (λ f. FormRunsTo f call.shelf.told_before (accepted run)) form has)) h
+
+-- What a show answers by its cause, delivered.
+pub show-Promise : (call : Call) (result : Status) (names : List (List ℕ)) → call.form ≡ Some (show names) → Outputs call result → call.shelf.told ≡ call.shelf.told_before
+    → call.shelf.faults_before ≤ call.shelf.faults → call.out.faults_before ≤ call.out.faults → call.note.faults_before ≤ call.note.faults → Promise call result
+show-Promise call result names form h =
     outputs-Promise call result (λ run has. absurd (subst (λ f. FormRunsTo f call.shelf.told_before (accepted run)) form has)) h

@@ -13,6 +13,8 @@ pub enum Form<'a> {
     Translate(&'a [String]),
     /// A check of the module in the file, with this budget for each declaration.
     Check(&'a str, u64),
+    /// What the article in the one file assumes and exports.
+    Show(&'a [String]),
 }
 
 /// The budget of a declaration where the words give none.
@@ -30,6 +32,7 @@ pub fn form_of(words: &[String]) -> Option<Form<'_>>
         [_, word, rest @ ..] => match word.as_str() {
             "translate" => translate_form(rest),
             "check" => check_form(rest),
+            "show" => show_form(rest),
             _ => None,
         },
         [] | [_] => None,
@@ -45,6 +48,23 @@ fn translate_form(words: &[String]) -> Option<Form<'_>>
         [file] => {
             if is_file(file.as_str()) {
                 Some(Form::Translate(words))
+            } else {
+                None
+            }
+        }
+        _ => None,
+    }
+}
+
+/// The form of the words after `show`.
+fn show_form(words: &[String]) -> Option<Form<'_>>
+    ensures form { option_map asked result ≡ forms.show_form (names_in words.now) }
+    ensures one { HasOneFile result }
+{
+    match words {
+        [file] => {
+            if is_file(file.as_str()) {
+                Some(Form::Show(words))
             } else {
                 None
             }

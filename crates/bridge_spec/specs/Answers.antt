@@ -5,11 +5,12 @@ use Rattle.dk_read.specs.States.{fault_of}
 use Rattle.bridge_base.specs.Outside.{Files, file, Rose}
 use Rattle.hol_spec.specs.Proofs.{Accepted}
 use Rattle.article_spec.specs.Run.{Obeys, Outcome, accepted, refused_at, RunsBy}
-use Rattle.bridge_spec.specs.Forms.{Form, translate, check}
+use Rattle.bridge_spec.specs.Forms.{Form, translate, check, show}
 use Rattle.bridge_spec.specs.FirstPath.{first_path}
+use Rattle.bridge_spec.specs.WithoutDefinitions.{without_definitions}
 use Rattle.bridge_spec.specs.Calls.{Shelved, Call}
 use Rattle.bridge_spec.specs.FileChecks.{IsRefusedAt, IsAccepted, IsIllTyped, IsOverBudget, PassesWithin, FailsWithin}
-use Rattle.bridge_spec.specs.Texts.{module_text, counts_of, five_lines, refusal_line, usage_line, read_fault_line, memory_line, checked_of, accepted_line, dk_refusal_line, ill_typed_line, over_budget_line}
+use Rattle.bridge_spec.specs.Texts.{module_text, counts_of, five_lines, shown_text, refusal_line, usage_line, read_fault_line, memory_line, checked_of, accepted_line, dk_refusal_line, ill_typed_line, over_budget_line}
 use Rattle.bridge_spec.specs.declared.status.Status.{Status}
 use Rattle.bridge_spec.specs.declared.status.Status.TheVariants.{Done, Refused, Usage, ReadFault, WriteFault, Memory, DkRefused, IllTyped, OverBudget}
 
@@ -28,11 +29,12 @@ pub record RunsTo (by : Obeys) (told : Option Files) (names : List (List ℕ)) (
   pub read : AreRead told names texts
   pub runs : RunsBy by texts outcome
 
--- the outcome of the run that a form asks for
+-- the outcome of the run whose module a form asks for
 abbrev pub FormRunsTo : Option Form → Option Files → Outcome → Type 0
 FormRunsTo None told outcome = ⊥
 FormRunsTo (Some (translate names)) told outcome = RunsTo first_path told names outcome
 FormRunsTo (Some (check name budget)) told outcome = ⊥
+FormRunsTo (Some (show names)) told outcome = ⊥
 
 abbrev pub HasOutcome : Call → Outcome → Type 0
 HasOutcome call outcome = FormRunsTo call.form call.shelf.told_before outcome
@@ -42,10 +44,10 @@ abbrev pub answer_of : Outcome → Status
 answer_of (accepted run) = Done
 answer_of (refused_at article line kind) = Refused article line kind
 
--- a run of this outcome is answered so
-pub record IsAnswerOfRun (told : Option Files) (names : List (List ℕ)) (status : Status) : Type 0 where
+-- a run by this way of obeying is answered so
+pub record IsAnswerOfRun (by : Obeys) (told : Option Files) (names : List (List ℕ)) (status : Status) : Type 0 where
   pub outcome : Outcome
-  pub runs : RunsTo first_path told names outcome
+  pub runs : RunsTo by told names outcome
   pub is : status ≡ answer_of outcome
 
 -- A check must be answered so: the file passes within the budget, is refused, or has a first declaration that fails within the budget.
@@ -58,8 +60,9 @@ IsDueOfCheck told name budget _ = ⊥
 -- The files of the form must be answered so, where they are read without a fault.
 abbrev pub IsDue : Option Form → Option Files → Status → Type 0
 IsDue None told status = status ≡ Usage
-IsDue (Some (translate names)) told status = IsAnswerOfRun told names status
+IsDue (Some (translate names)) told status = IsAnswerOfRun first_path told names status
 IsDue (Some (check name budget)) told status = IsDueOfCheck told name budget status
+IsDue (Some (show names)) told status = IsAnswerOfRun without_definitions told names status
 
 -- the shelf failed
 abbrev pub ReadFailed : Shelved → Type 0
@@ -111,11 +114,26 @@ AnswersCheck name budget shelf (IllTyped i) out note = IsIllTyped shelf.told_bef
 AnswersCheck name budget shelf (OverBudget i) out note =
     IsOverBudget shelf.told_before name budget i × NoteAlone (over_budget_line i) out note
 
+-- `show`: what an accepted run of the articles assumes and exports; or where the run is refused; or what failed.
+abbrev pub AnswersShow : List (List ℕ) → Shelved → Status → List ℕ → List ℕ → Type 0
+AnswersShow names shelf Done out note =
+    (run : Accepted) × RunsTo without_definitions shelf.told_before names (accepted run) × (out ≡ shown_text run) × (note ≡ [])
+AnswersShow names shelf (Refused article line kind) out note =
+    RunsTo without_definitions shelf.told_before names (refused_at article line kind) × NoteAlone (refusal_line article line kind) out note
+AnswersShow names shelf Usage out note = ⊥
+AnswersShow names shelf ReadFault out note = ReadFailed shelf × NoteAlone read_fault_line out note
+AnswersShow names shelf WriteFault out note = ⊥
+AnswersShow names shelf Memory out note = NoteAlone memory_line out note
+AnswersShow names shelf (DkRefused place kind) out note = ⊥
+AnswersShow names shelf (IllTyped i) out note = ⊥
+AnswersShow names shelf (OverBudget i) out note = ⊥
+
 -- The answers of each form, before anything is written.
 abbrev pub FormAnswers : Option Form → Shelved → Status → List ℕ → List ℕ → Type 0
 FormAnswers None shelf status out note = AnswersNoForm status out note
 FormAnswers (Some (translate names)) shelf status out note = AnswersTranslate names shelf status out note
 FormAnswers (Some (check name budget)) shelf status out note = AnswersCheck name budget shelf status out note
+FormAnswers (Some (show names)) shelf status out note = AnswersShow names shelf status out note
 
 -- The answer comes by its cause, with these texts on standard output and on standard error.
 abbrev pub Answers : Call → Status → List ℕ → List ℕ → Type 0

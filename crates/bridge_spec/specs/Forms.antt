@@ -4,10 +4,11 @@ use Rattle.std.specs.Str.{bytes_eq}
 use Rattle.article_spec.specs.Numbers.{digits_value}
 
 -- what the words ask for: the module of the articles in these files; a check of the module in this file, with this budget for each
--- declaration
+-- declaration; what the articles in these files assume and export
 pub data Form : Type 0 where
   translate : List (List ℕ) → Form
   check : List ℕ → ℕ → Form
+  show : List (List ℕ) → Form
 
 -- a file is named by a word that isn't empty and doesn't begin with `-`
 abbrev pub is_file : List ℕ → Bool
@@ -56,11 +57,17 @@ abbrev pub translate_form : List (List ℕ) → Option Form
 translate_form (name ∷ []) = if is_file name then Some (translate (name ∷ [])) else None
 translate_form words = None
 
+-- the form of the words after `show`: a file
+abbrev pub show_form : List (List ℕ) → Option Form
+show_form (name ∷ []) = if is_file name then Some (show (name ∷ [])) else None
+show_form words = None
+
 -- the form of a word and those after it
 abbrev pub form_by : List ℕ → List (List ℕ) → Option Form
 form_by word words =
     if bytes_eq word (codes "translate") then translate_form words
     else if bytes_eq word (codes "check") then check_form words
+    else if bytes_eq word (codes "show") then show_form words
     else None
 
 -- the form of the words after the program's name, if they have one

@@ -6,3 +6,4 @@ pub mod Forms
 pub mod Outputs
 pub mod Promises
 pub mod Texts
+pub mod WithoutDefinitions

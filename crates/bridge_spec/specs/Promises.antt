@@ -45,11 +45,11 @@ KeepsOut (OverBudget i) out = out.got ≡ out.got_before
 pub record Promise (call : Call) (result : Status) : Type 0 where
   -- Each answer comes only by its cause, and the sinks gain its texts; or a failing write replaced it.
   pub outputs : Outputs call result
-  -- Where the shelf tells its files and didn't fail, the answer is the one that is due: that of the run of the articles; or of the check of
-  -- a file that is refused, or whose declarations pass, or fail at the first that doesn't pass, within the budget.
+  -- Where the shelf tells its files and didn't fail, the answer is the one that is due: that of the run of the articles, for `translate` and
+  -- `show`; or of the check of a file that is refused, or whose declarations pass, or fail at the first that doesn't pass, within the budget.
   pub exact : ReadWell call.shelf → (status : Status) → IsDue call.form call.shelf.told_before status → Aside result (result ≡ status)
-  -- The module of an accepted run of the files is well typed, leaves unproved only what is allowed, and its exports are those of
-  -- the run, in order.
+  -- The module of an accepted run of the files, where `translate` is asked for it, is well typed, leaves unproved only what is allowed, and
+  -- its exports are those of the run, in order.
   pub stands : (run : Accepted) → HasOutcome call (accepted run) → Stands (image run) run
   -- The checker's law: a file that is told and accepted reads as one module, and that module is well typed.
   pub checked : (name : List ℕ) (budget : ℕ) (files : Files) → call.form ≡ Some (check name budget) → call.shelf.told_before ≡ Some files → result ≡ Done → ReadsWellTyped (file files name)

@@ -1,13 +1,15 @@
 -- What the program writes for an answer.
-use Rattle.std.specs.Prelude.{ℕ, ◌++◌, List, [], map, length, min, sum, count_by, is_none, codes, decimal}
+use Rattle.std.specs.Prelude.{ℕ, suc, ◌++◌, List, [], ◌∷◌, map, length, min, sum, count_by, is_none, codes, decimal}
 use Rattle.bridge_base.specs.declared.faults.Kind.{Kind}
 use Rattle.bridge_base.specs.Kinds.{kind_name, kind_number}
-use Rattle.hol_spec.specs.Proofs.{Accepted}
+use Rattle.hol_spec.specs.ClosedForm.{ClosedSequent, closed_form}
+use Rattle.hol_spec.specs.Proofs.{Made, sequent_at, Accepted}
 use Rattle.lp_spec.specs.Modules.{Declaration}
 use Rattle.lp_spec.specs.ReadingFaults.{Fault, NoPrelude, BadText, UnknownName, NameTwice, DkTooDeep, DkTooLong}
 use Rattle.lp_spec.specs.Text.{written}
 use Rattle.lp_spec.specs.Weight.{bound, greatest}
 use Rattle.module_spec.specs.Image.{image}
+use Rattle.decode_spec.specs.ClosedText.{closed_text}
 use Rattle.bridge_spec.specs.declared.status.Status.{Status}
 use Rattle.bridge_spec.specs.declared.status.Status.TheVariants.{Done, Refused, Usage, ReadFault, WriteFault, Memory, DkRefused, IllTyped, OverBudget}
 
@@ -119,3 +121,16 @@ ill_typed_line i = declaration_line i (codes ": ill typed\n")
 
 abbrev pub over_budget_line : ℕ → List ℕ
 over_budget_line i = declaration_line i (codes ": over budget\n")
+
+-- the line for a theorem: what it is, its number, and its closed text
+abbrev pub theorem_line : List ℕ → ℕ → ClosedSequent → List ℕ
+theorem_line what number s = what ++ (decimal number ++ (codes ": " ++ (closed_text s ++ codes "\n")))
+
+-- the lines for the theorems of these steps, numbered from this number on
+abbrev pub theorem_lines : List ℕ → List Made → ℕ → List ℕ → List ℕ
+theorem_lines what made number [] = []
+theorem_lines what made number (i ∷ steps) = theorem_line what number (closed_form (sequent_at made i)) ++ theorem_lines what made (suc number) steps
+
+-- what a run assumes, and then what it exports, each from 0 on
+abbrev pub shown_text : Accepted → List ℕ
+shown_text run = theorem_lines (codes "assumption ") run.made 0 run.assumptions ++ theorem_lines (codes "export ") run.made 0 run.exports

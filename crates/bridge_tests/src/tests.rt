@@ -143,7 +143,7 @@ fn answers_for_each_article(rt: HostRuntime) -> Result<(), Fail> {
 
 #[test]
 fn answers_words_that_are_no_form(rt: HostRuntime) -> Result<(), Fail> {
-    let cases: [&[&str]; 17] = [
+    let cases: [&[&str]; 19] = [
         &["bridge"],
         &["bridge", "verify"],
         &["bridge", "check", "a", "b"],
@@ -151,6 +151,8 @@ fn answers_words_that_are_no_form(rt: HostRuntime) -> Result<(), Fail> {
         &["bridge", "trial", "0"],
         &["bridge", "help"],
         &["bridge", "translate", "-a"],
+        &["bridge", "show"],
+        &["bridge", "show", "a", "b"],
         &["bridge", "check"],
         &["bridge", "check", ""],
         &["bridge", "check", "--", "a"],

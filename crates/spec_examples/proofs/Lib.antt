@@ -1,4 +1,5 @@
 pub mod ApartNames
+pub mod ClosedTexts
 pub mod DefinedConstant
 pub mod HeadStep
 pub mod ListedConstants

@@ -5,7 +5,7 @@ use Rattle.std.specs.Fmt.{digits}
 use Rattle.lp_spec.specs.Modules.{types, bools, symbol}
 use Rattle.lp_spec.specs.declared.form.Form.TheVariants.{Def}
 use Rattle.lp_spec.specs.ReadingFaults.{NoPrelude, UnknownName}
-use Rattle.bridge_spec.specs.Forms.{translate, check, form_of}
+use Rattle.bridge_spec.specs.Forms.{translate, check, show, form_of}
 use Rattle.bridge_spec.specs.Texts.{checked_of, accepted_line, dk_refusal_line, ill_typed_line, over_budget_line}
 
 -- a file alone, and with a budget before it or behind it
@@ -23,6 +23,9 @@ checked_behind = refl
 
 greatest : form_of (codes "bridge" ∷ codes "check" ∷ codes "a" ∷ codes "--budget" ∷ codes "18446744073709551615" ∷ []) ≡ Some (check (codes "a") 18446744073709551615)
 greatest = refl
+
+shown : form_of (codes "bridge" ∷ codes "show" ∷ codes "a" ∷ []) ≡ Some (show (codes "a" ∷ []))
+shown = refl
 
 -- words that are no form: a budget that is too great, nothing, zero, with a zero before it or with a sign; two files; no file
 too_great : form_of (codes "bridge" ∷ codes "check" ∷ codes "a" ∷ codes "--budget" ∷ codes "18446744073709551616" ∷ []) ≡ None
@@ -42,6 +45,9 @@ signed = refl
 
 two_files : form_of (codes "bridge" ∷ codes "check" ∷ codes "a" ∷ codes "b" ∷ []) ≡ None
 two_files = refl
+
+two_shown : form_of (codes "bridge" ∷ codes "show" ∷ codes "a" ∷ codes "b" ∷ []) ≡ None
+two_shown = refl
 
 no_file : form_of (codes "bridge" ∷ codes "check" ∷ codes "--" ∷ codes "a" ∷ []) ≡ None
 no_file = refl

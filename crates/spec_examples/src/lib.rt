@@ -17,5 +17,6 @@
 //! | `ProofRows` | two runs as proofs, and what their steps say derives |
 //! | `Reasons` | why the other declarations may have no body: inputs, and what a type definition makes |
 //! | `WhatWasRead` | what was read of a shelf that tells its files, and of one that doesn't, and how an answer comes of it |
+//! | `ClosedTexts` | small sequents as `show` prints them |
 //! | `WordForms` | which words are a form of the program, and the lines of a check |
 #![tactic(auto)]

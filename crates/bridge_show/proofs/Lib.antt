@@ -1,0 +1,4 @@
+pub mod OneName
+pub mod Outcomes
+pub mod Readings
+pub mod Shown

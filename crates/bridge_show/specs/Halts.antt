@@ -1,0 +1,66 @@
+-- How a run of the commands of a text halts before its end, and what it comes to.
+use Rattle.std.specs.Prelude.{◌≡◌, ℕ, List, [], ◌∷◌, Option, IfSome, option_map, Result, Ok, Err}
+use Rattle.bridge_base.specs.Outside.{Files, file}
+use Rattle.bridge_base.specs.declared.faults.Kind.{Kind}
+use Rattle.bridge_base.specs.declared.faults.Fault.{Fault}
+use Rattle.bridge_base.specs.declared.faults.Fault.TheVariants as fault
+use Rattle.article_read.specs.declared.lines.LineFault.{LineFault}
+use Rattle.article_read.specs.declared.lines.LineFault.TheVariants as line_fault
+use Rattle.article_spec.specs.declared.commands.Command.{Command}
+use Rattle.article_spec.specs.Lines.{Lines, End, ended}
+use Rattle.article_spec.specs.State.{State}
+use Rattle.article_spec.specs.Run.{obey_all, obey_article, RunsBy, refused_at}
+use Rattle.bridge_spec.specs.WithoutDefinitions.{without_definitions}
+use Rattle.bridge_show.specs.declared.reading.Stop.{Stop}
+use Rattle.bridge_show.specs.declared.reading.Stop.TheVariants.{Refused, ReadFault, Memory}
+
+-- The stop of a run of commands that answers so; want of memory says nothing of it.
+abbrev pub Halts : Stop → Result State (ℕ × Kind) → Type 0
+Halts (Refused line kind) answer = answer ≡ Err (line, kind)
+Halts ReadFault answer = ⊥
+Halts Memory answer = Unit {0}
+
+-- The stop for a fault of the machine at a line.
+abbrev pub stop_of_fault : ℕ → Fault → Stop
+stop_of_fault line (fault.Refused kind) = Refused line kind
+stop_of_fault line fault.Memory = Memory
+
+-- The stop for a faulty line.
+abbrev pub stop_of_line : LineFault → Stop
+stop_of_line (line_fault.Refused line kind) = Refused line kind
+stop_of_line line_fault.Memory = Memory
+
+-- From one state, the commands of a text end at this line in the other.
+pub record ReadsTo (text : List ℕ) (before : State) (line : ℕ) (after : State) : Type 0 where
+  pub commands : List Command
+  pub lines : Lines text commands (ended line)
+  pub obeyed : obey_all without_definitions before commands ≡ Ok after
+
+-- From a state, the commands of a text are refused.
+pub record IsRefused (text : List ℕ) (before : State) (line : ℕ) (kind : Kind) : Type 0 where
+  pub commands : List Command
+  pub end : End
+  pub lines : Lines text commands end
+  pub refused : obey_article without_definitions before commands end ≡ Err (line, kind)
+
+-- This holds of some text: of the bytes that are told, where they are, and else of what was read.
+pub record OfText (told : Option (List ℕ)) (P : List ℕ → Type 0) : Type 0 where
+  pub text : List ℕ
+  pub is : IfSome told (λ bytes. text ≡ bytes)
+  pub holds : P text
+
+-- the bytes of the file of that name, where the files are told
+abbrev pub bytes_told : Option Files → List ℕ → Option (List ℕ)
+bytes_told told name = option_map (λ files. file files name) told
+
+-- The stop is that of the text; what comes from without says nothing of it.
+abbrev pub StopsText : Stop → Option (List ℕ) → State → Type 0
+StopsText (Refused line kind) told before = OfText told (λ text. IsRefused text before line kind)
+StopsText ReadFault told before = Unit {0}
+StopsText Memory told before = Unit {0}
+
+-- The stop is that of a run of one article.
+abbrev pub StopsRun : Stop → Option (List ℕ) → Type 0
+StopsRun (Refused line kind) told = OfText told (λ text. RunsBy without_definitions (text ∷ []) (refused_at 1 line kind))
+StopsRun ReadFault told = Unit {0}
+StopsRun Memory told = Unit {0}

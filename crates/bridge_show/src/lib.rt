@@ -1,0 +1,22 @@
+//! The part of the program for the words `show FILE`: what an article assumes and what it exports, as closed sequents.
+//!
+//! [`show`] is its one public call. Its contract is that of the program for these words, in the words of `bridge_spec`: it
+//! answers Done exactly where the stack machine accepts the article, and then each line has the closed text of what that
+//! step of the run says.
+//!
+//! It stands on `article_read` for the commands of an article, on `stack_machine` for the run, on `closed_text` for the
+//! lines, and on `bridge_answer` for what is written. A word that defines a constant or an operator is refused as a bad line
+//! yet.
+//!
+//! ```text
+//! let status = show(alloc, &files, &mut shelf, &mut out, &mut note);
+//! assert_eq!(status, Status::Done);
+//! ```
+#![tactic(auto)]
+
+mod program;
+mod reading;
+mod showing;
+
+pub use crate::program::show;
+pub use bridge_spec::Status;

@@ -1,0 +1,12 @@
+//! Tests of the command `show` under `bridge`, over shelves and sinks in memory: the lines of an accepted article, the line and the
+//! kind of a refused one, the limits, and faults of the outside.
+#![tactic(auto)]
+
+#[cfg(test)]
+mod answers;
+#[cfg(test)]
+mod limits;
+#[cfg(test)]
+mod refusals;
+#[cfg(test)]
+mod shows;
