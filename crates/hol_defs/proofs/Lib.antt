@@ -1,2 +1,12 @@
-mod InputLaws
+mod EquationLaws
+mod FirstTermLaws
+mod IndexLaws
+mod JudgeLaws
+mod ListEnds
+mod ListFaults
+mod LoopLaws
+mod OperatorEnds
+mod OperatorLaws
+mod PairLaws
 mod TypeShapes
+mod UseLaws

@@ -1,10 +1,10 @@
 -- What is said of the generic type of a constant.
 -- Source: HOL Light's kernel, `get_const_type` and `the_term_constants`.
-use Rattle.std.specs.Prelude.{◌≡◌, List, Option, None, Some, IsSome}
-use Rattle.hol_spec.specs.Names.{Name}
+use Rattle.std.specs.Prelude.{◌≡◌, ◌<◌, List, length}
 use Rattle.hol_spec.specs.Types.{HolType}
-use Rattle.hol_spec.specs.Primitives.{generic, equality_type, select_type, primitive_type}
-use Rattle.hol_spec.specs.Symbols.{Symbol, first_defined_type, generic_type}
+use Rattle.hol_spec.specs.Primitives.{generic, equality_type, select_type}
+use Rattle.hol_type.specs.declared.table.TypeId.{TypeId}
+use Rattle.hol_type.specs.Tables.{tree_at}
 use Rattle.hol_defs.specs.declared.Generic.{Generic}
 use Rattle.hol_defs.specs.declared.Generic.TheVariants.{Eq, Select, Defined}
 use Rattle.hol_defs.specs.declared.primitive.Primitive.{Primitive}
@@ -22,9 +22,18 @@ IsEqualityType t = (a : HolType) × (t ≡ equality_type a)
 abbrev pub IsSelectType : HolType → Type 0
 IsSelectType t = (a : HolType) × (t ≡ select_type a)
 
--- the answer tells the name's generic type: none, that of equality, that of choice, or that of a definition
-abbrev pub TellsGeneric : List Symbol → Name → Option Generic → Type 0
-TellsGeneric symbols n None = generic_type symbols n ≡ None
-TellsGeneric symbols n (Some Eq) = generic_type symbols n ≡ Some (equality_type generic)
-TellsGeneric symbols n (Some Select) = generic_type symbols n ≡ Some (select_type generic)
-TellsGeneric symbols n (Some (Defined id)) = (primitive_type n ≡ None) × IsSome (first_defined_type n symbols)
+-- the type of a number among these
+abbrev pub number_at : List HolType → TypeId → HolType
+number_at types id = tree_at types id.0
+
+-- the generic type that an answer tells: that of equality, that of choice, or one with a number among these types
+abbrev pub generic_at : List HolType → Generic → HolType
+generic_at types Eq = equality_type generic
+generic_at types Select = select_type generic
+generic_at types (Defined id) = number_at types id
+
+-- its number is of the table
+abbrev pub IsGenericKnown : List HolType → Generic → Type 0
+IsGenericKnown types Eq = Unit {0}
+IsGenericKnown types Select = Unit {0}
+IsGenericKnown types (Defined id) = id.0 < length types

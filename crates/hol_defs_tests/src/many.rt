@@ -1,5 +1,7 @@
 //! Many symbols: each is found, however many are taken.
 ghost use Rattle.std.specs.Prelude.{◌≡◌, ◌<◌, length};
+ghost use Rattle.hol_term.specs.Tables.{Trees};
+ghost use Rattle.hol_defs.specs.Symbols.{AreKnownSymbols};
 
 use bridge_base::Fault;
 use hol_defs::{SymbolKind, Symbols};
@@ -28,8 +30,10 @@ fn take(
     ty: TypeId,
     number: u32,
 ) -> Result<(), Fault>
-    requires { ty.0 < length table.old.types }
-    ensures { table.new ≡ table.old }
+    requires ty { ty.0 < length table.old.types }
+    requires known { AreKnownSymbols table.old symbols.old }
+    ensures table { table.new ≡ table.old }
+    ensures known { AreKnownSymbols table.new symbols.new }
 {
     let name = numbered(alloc, number)?;
     symbols.use_op(&name, 1)?;
@@ -43,7 +47,8 @@ fn take_all(
     alloc: Global,
     ty: TypeId,
 ) -> Result<(), Fault>
-    requires { ty.0 < length table.old.types }
+    requires ty { ty.0 < length table.old.types }
+    requires known { AreKnownSymbols table.old symbols.old }
 {
     for number in 0..COUNT {
         take(symbols, table, alloc, ty, number)?;
@@ -71,7 +76,9 @@ fn first_free(symbols: &Symbols, alloc: Global) -> Result<u32, Fault> {
 }
 
 // Uses all the names, and gives the first number whose name is not taken then.
-fn taken(symbols: &mut Symbols, alloc: Global) -> Result<u32, Fault> {
+fn taken(symbols: &mut Symbols, alloc: Global) -> Result<u32, Fault>
+    requires { (trees : Trees) → AreKnownSymbols trees symbols.old }
+{
     let mut table = TermTable::new(alloc);
     let name = numbered(alloc, 0)?;
     let ty = table.ty_var(&name)?;

@@ -2,60 +2,70 @@
 use bridge_base::{Fault, Kind};
 use hol_defs::{SymbolKind, Symbols};
 use hol_name::Name;
+use std::alloc::Global;
 use std::test::Fail;
+
+// Uses an operator of this name with so many arguments, where no symbol is taken, and counts those that are.
+fn use_first(alloc: Global, text: &[u8], arity: usize) -> Result<usize, Fault> {
+    let mut symbols = Symbols::new(alloc)?;
+    let name = named(alloc, text)?;
+    symbols.use_op(&name, arity)?;
+    Ok(symbols.count())
+}
+
+fn named(alloc: Global, text: &[u8]) -> Result<Name, Fault> {
+    match Name::single(alloc, text) {
+        Ok(name) => Ok(name),
+        Err(_) => Err(Fault::Memory),
+    }
+}
 
 #[test]
 fn primitive_operators_have_an_arity(rt: HostRuntime) -> Result<(), Fail> {
-    let cases: [(&[u8], usize); 3] = [(b"->", 2), (b"bool", 0), (b"ind", 0)];
-    let mut symbols = Symbols::new(rt.alloc())?;
-    for (text, arity) in cases {
-        let name = Name::single(rt.alloc(), text)?;
-        assert_eq!(rt;
-            symbols.op_kind(&name),
-            Some(SymbolKind::Primitive),
-            "at {text:?}"
-        );
-        assert_eq!(rt; symbols.const_kind(&name), None, "at {text:?}");
-        assert_eq!(rt; symbols.use_op(&name, arity), Ok(()), "at {text:?}");
-        assert_eq!(rt;
-            symbols.use_op(&name, 1),
-            Err(Fault::Refused(Kind::BadArity)),
-            "at {text:?}"
-        );
-    }
-    assert_eq!(rt; symbols.count(), 0, "a primitive operator is not taken");
+    let refused = Err(Fault::Refused(Kind::BadArity));
+    assert!(rt; use_first(rt.alloc(), b"->", 2) == Ok(0));
+    assert!(rt; use_first(rt.alloc(), b"->", 1) == refused);
+    assert!(rt; use_first(rt.alloc(), b"bool", 0) == Ok(0));
+    assert!(rt; use_first(rt.alloc(), b"bool", 1) == refused);
+    assert!(rt; use_first(rt.alloc(), b"ind", 0) == Ok(0));
+    assert!(rt; use_first(rt.alloc(), b"=", 1) == Ok(1));
     Ok(())
+}
+
+// The kinds of a name as an operator and as a constant, once it is used as an operator.
+fn kinds_of_used(
+    alloc: Global,
+    text: &[u8],
+) -> Result<(Option<SymbolKind>, Option<SymbolKind>), Fault> {
+    let mut symbols = Symbols::new(alloc)?;
+    let name = named(alloc, text)?;
+    symbols.use_op(&name, 1)?;
+    Ok((symbols.op_kind(&name), symbols.const_kind(&name)))
 }
 
 #[test]
 fn operators_have_names_of_their_own(rt: HostRuntime) -> Result<(), Fail> {
-    let cases: [(&[u8], Option<SymbolKind>); 3] = [
-        (b"=", Some(SymbolKind::Primitive)),
-        (b"select", Some(SymbolKind::Primitive)),
-        (b"list", None),
-    ];
-    for (text, constant) in cases {
-        let mut symbols = Symbols::new(rt.alloc())?;
-        let name = Name::single(rt.alloc(), text)?;
-        assert_eq!(rt; symbols.op_kind(&name), None, "at {text:?}");
-        assert_eq!(rt; symbols.use_op(&name, 1), Ok(()), "at {text:?}");
-        assert_eq!(rt;
-            symbols.op_kind(&name),
-            Some(SymbolKind::Input),
-            "at {text:?}"
-        );
-        assert_eq!(rt; symbols.const_kind(&name), constant, "at {text:?}");
-    }
+    let (operator, constant) = kinds_of_used(rt.alloc(), b"=")?;
+    assert!(rt; operator == Some(SymbolKind::Input));
+    assert!(rt; constant == Some(SymbolKind::Primitive));
+    let (operator, constant) = kinds_of_used(rt.alloc(), b"list")?;
+    assert!(rt; operator == Some(SymbolKind::Input));
+    assert!(rt; constant.is_none());
     Ok(())
+}
+
+// How many symbols are taken after uses of one operator with none, with two and again with two arguments.
+fn used_thrice(alloc: Global) -> Result<usize, Fault> {
+    let mut symbols = Symbols::new(alloc)?;
+    let name = named(alloc, b"list")?;
+    symbols.use_op(&name, 0)?;
+    symbols.use_op(&name, 2)?;
+    symbols.use_op(&name, 2)?;
+    Ok(symbols.count())
 }
 
 #[test]
 fn an_operator_is_taken_once_for_each_arity(rt: HostRuntime) -> Result<(), Fail> {
-    let mut symbols = Symbols::new(rt.alloc())?;
-    let list = Name::single(rt.alloc(), b"list")?;
-    for (arity, count) in [(0, 1), (2, 2), (2, 2)] {
-        assert_eq!(rt; symbols.use_op(&list, arity), Ok(()));
-        assert_eq!(rt; symbols.count(), count, "after {arity} arguments");
-    }
+    assert!(rt; used_thrice(rt.alloc())? == 2);
     Ok(())
 }

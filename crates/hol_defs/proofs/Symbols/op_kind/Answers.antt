@@ -1,13 +1,17 @@
-use Rattle.std.proofs.Common.{sym, ◌∙◌, true, false}
-use Rattle.hol_defs.proofs.InputLaws.{operator_kind_of_inputs, no_primitive_arity}
+use Rattle.std.proofs.Common.{ap, sym, ◌∙◌, map}
+use Rattle.hol_defs.specs.Indexes.{taken_of}
+use Rattle.std.specs.Prelude.{is_some}
+use Rattle.std.specs.Map.{lookup}
+use Rattle.hol_spec.specs.NameEquality.{name_eq}
+use Rattle.hol_defs.specs.Kinds.{first_kind}
+use Rattle.hol_defs.proofs.IndexLaws.{operator_kind-found}
 use Rattle.hol_defs.proofs.Symbols.op_kind.Goals as goal
 
-pub returns-then-contains : goal.returns-then-contains
-returns-then-contains c =
-    let unnamed = no_primitive_arity c.arity_of.result _ (sym c.is_some.ensures ∙ c.if-is_some.false) c.arity_of.ensures in
-    rw (← c.self.view_is) (record { kind = operator_kind_of_inputs c.args.name.now c.self.inside.inputs.keys true unnamed (sym (c.self.invariant.operators_named c.args.name.now) ∙ sym c.contains.ensures ∙ c.if-contains.true) })
-
-pub returns-else-contains : goal.returns-else-contains
-returns-else-contains c =
-    let unnamed = no_primitive_arity c.arity_of.result _ (sym c.is_some.ensures ∙ c.if-is_some.false) c.arity_of.ensures in
-    rw (← c.self.view_is) (record { kind = operator_kind_of_inputs c.args.name.now c.self.inside.inputs.keys false unnamed (sym (c.self.invariant.operators_named c.args.name.now) ∙ sym c.contains.ensures ∙ c.if-contains.false) })
+pub returns : goal.returns
+returns c = rw (← c.self.view_is) (record {
+  kind = λ trees.
+      let p = c.is_some.ensures ∙ ap is_some c.arity_of.ensures in
+      let d = c.is_some-2.ensures ∙ ap is_some (c.find.ensures ∙ ap (lookup (name_eq c.args.name.now)) c.self.invariant.arities_are) in
+      let i = c.has.ensures ∙ c.self.invariant.names_are c.args.name.now in
+      c.kind_by.ensures ∙ (λ j. first_kind (p j) (d j) (i j)) ∙ sym (operator_kind-found trees c.args.name.now (map taken_of c.self.inside.taken.items));
+})
