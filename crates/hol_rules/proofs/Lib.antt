@@ -12,6 +12,9 @@ mod Truths
 mod FreeIn
 mod FunctionEnds
 mod Taken
+mod Defined
+mod ConstantImage
+mod ConstantEnds
 mod BetaEnds
 mod Chaining
 mod ImageOf

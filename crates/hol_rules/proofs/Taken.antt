@@ -1,23 +1,25 @@
--- One symbol more.
-use Rattle.std.proofs.Common.{◌≡◌, ℕ, ◌<◌, ◌≤◌, refl, sym, ap, subst, ◌∙◌, arith, List, [], ◌∷◌, ◌++◌, length, map, Bool, true, false}
+-- Symbols more.
+use Rattle.std.proofs.Common.{◌≡◌, ℕ, ◌<◌, ◌≤◌, ◌+◌, refl, sym, ap, subst, ◌∙◌, arith, List, [], ◌∷◌, ◌++◌, length, map, Bool, true, false}
 use Rattle.std.specs.Prelude.{◌||◌, if◌then◌else◌, is_some}
-use Rattle.std.specs.List.{list_any}
-use Rattle.std.proofs.lemmas.List.{map-append, length-append}
+use Rattle.std.specs.List.{list_any, AllByRecursion}
+use Rattle.std.proofs.lemmas.List.{append-nil, append_assoc, length-append, length-map}
 use Rattle.hol_spec.specs.Names.{Name}
 use Rattle.hol_spec.specs.Symbols.{Symbol, operator_arity, is_input_operator, is_taken_constant, new_constant, new_operator}
 use Rattle.hol_spec.specs.Taking.{Takes}
 use Rattle.hol_spec.specs.Taking as taking
-use Rattle.hol_spec.specs.Proofs.{Made, steps_of, symbols_of}
+use Rattle.hol_spec.specs.Proofs.{Made, steps_of, symbols_of, IsProof}
 use Rattle.hol_spec.specs.Proofs as proof
 use Rattle.hol_laws.specs.Members.{All-append}
 use Rattle.proof_laws.specs.ProofLaws.{steps_of-symbols, symbols_of-symbols}
 use Rattle.proof_laws.specs.SymbolGrowth.{or-neither}
 use Rattle.hol_term.specs.Tables.{Trees}
+use Rattle.hol_defs.specs.Symbols.{Taken, symbol_at, symbols_at, AreKnownSymbols}
 use Rattle.hol_params.specs.declared.ParamMemo.{ParamMemo}
 use Rattle.hol_rules.specs.declared.made.Made.{Made as OneMade}
 use Rattle.hol_rules.specs.declared.made.Made.TheVariants as one
 use Rattle.hol_rules.specs.declared.made.Step.{Step}
-use Rattle.hol_rules.specs.Views.{steps_view, made_view, one_view, IsNumbered, IsKept}
+use Rattle.hol_rules.specs.Views.{steps_view, made_of, made_view, symbol_count, IsNumbered, IsKept}
+use Rattle.hol_rules.proofs.Pushed.{symbol_count-append, made_of-append, counted-at}
 
 -- what is newly taken is one symbol or none, as the count tells
 one_or_none : (symbols : List Symbol) (b : Bool) (x : Symbol) → length symbols < length (symbols ++ (if b then [] else x ∷ [])) → b ≡ false
@@ -40,34 +42,118 @@ new_operator-grows symbols n k h = one_or_none symbols (is_some (operator_arity 
 pub new_operator-stays : (symbols : List Symbol) (n : Name) (k : ℕ) → length (symbols ++ new_operator symbols n k) ≤ length symbols → new_operator symbols n k ≡ []
 new_operator-stays symbols n k h = none_taken symbols (is_some (operator_arity symbols n) || list_any (is_input_operator n k) symbols) (Symbol.input_operator n k) h
 
-module _ (trees : Trees) (symbols : List Symbol) (xs : List Step) (ms : List OneMade) {memo : ParamMemo} (h : IsKept trees symbols xs ms memo) where
-  module _ (y : OneMade) (x : Symbol) (e : one_view (steps_view trees xs) y ≡ Made.symbol x) where
-    made_view-symbol : made_view trees xs (ms ++ y ∷ []) ≡ made_view trees xs ms ++ Made.symbol x ∷ []
-    made_view-symbol = map-append (one_view (steps_view trees xs)) ms (y ∷ []) ∙ ap (λ m. made_view trees xs ms ++ m ∷ []) e
+-- the same as numbers of the symbols tell it
+module _ (trees : Trees) (symbols after : List Taken) where
+  as_many : (new : List Symbol) → symbols_at trees after ≡ symbols_at trees symbols ++ new → length after ≡ length (symbols_at trees symbols ++ new)
+  as_many new is = sym (length-map after (symbol_at trees)) ∙ ap length is
 
-    IsKept-symbol : IsNumbered (length xs) y → Takes symbols x → IsKept trees (symbols ++ x ∷ []) xs (ms ++ y ∷ []) memo
-    IsKept-symbol n takes = record {
+  own_count : length (symbols_at trees symbols) ≡ length symbols
+  own_count = length-map symbols (symbol_at trees)
+
+  module _ (n : Name) (is : symbols_at trees after ≡ symbols_at trees symbols ++ new_constant (symbols_at trees symbols) n) where
+    pub constant-is_new : length symbols < length after → is_taken_constant (symbols_at trees symbols) n ≡ false
+    constant-is_new l = let a = as_many (new_constant (symbols_at trees symbols) n) is in new_constant-grows (symbols_at trees symbols) n (omega (arith, l, a, own_count))
+
+    pub constant-isnt_new : length after ≤ length symbols → new_constant (symbols_at trees symbols) n ≡ []
+    constant-isnt_new l = let a = as_many (new_constant (symbols_at trees symbols) n) is in new_constant-stays (symbols_at trees symbols) n (omega (arith, l, a, own_count))
+
+  module _ (n : Name) (k : ℕ) (is : symbols_at trees after ≡ symbols_at trees symbols ++ new_operator (symbols_at trees symbols) n k) where
+    pub operator-is_new : length symbols < length after → (is_some (operator_arity (symbols_at trees symbols) n) || list_any (is_input_operator n k) (symbols_at trees symbols)) ≡ false
+    operator-is_new l = let a = as_many (new_operator (symbols_at trees symbols) n k) is in new_operator-grows (symbols_at trees symbols) n k (omega (arith, l, a, own_count))
+
+    pub operator-isnt_new : length after ≤ length symbols → new_operator (symbols_at trees symbols) n k ≡ []
+    operator-isnt_new l = let a = as_many (new_operator (symbols_at trees symbols) n k) is in new_operator-stays (symbols_at trees symbols) n k (omega (arith, l, a, own_count))
+
+-- symbols that may be taken one after another
+abbrev pub AreTakenAfter : List Symbol → List Symbol → Type 0
+AreTakenAfter symbols [] = Unit {0}
+AreTakenAfter symbols (x ∷ xs) = Takes symbols x × AreTakenAfter (symbols ++ x ∷ []) xs
+
+proof-taken : (made : List Made) (xs : List Symbol) → IsProof made → AreTakenAfter (symbols_of made) xs → IsProof (made ++ map Made.symbol xs)
+proof-taken made [] p h = subst IsProof (sym (append-nil made)) p
+proof-taken made (x ∷ xs) p h =
+    let own : IsProof (made ++ Made.symbol x ∷ []) = proof.Each.more (Made.symbol x) p h.0 refl in
+    subst IsProof (append_assoc made (Made.symbol x ∷ []) (map Made.symbol xs)) (proof-taken (made ++ Made.symbol x ∷ []) xs own (subst (λ ss. AreTakenAfter ss xs) (sym (symbols_of-symbols made (x ∷ []))) h.1))
+
+module _ (trees : Trees) (symbols : List Taken) (xs : List Step) (ms : List OneMade) {memo : ParamMemo} (h : IsKept trees symbols xs ms memo) (after : List Taken) where
+  abbrev S : List Symbol
+  S = symbols_at trees symbols
+
+  -- new symbols, and how they were made
+  module _ (new : List Symbol) (is : symbols_at trees after ≡ S ++ new) (ys : List OneMade) (names : made_of new (steps_view trees xs) ys ≡ map Made.symbol new) where
+    pub made_view-symbols : made_view trees after xs (ms ++ ys) ≡ made_view trees symbols xs ms ++ map Made.symbol new
+    made_view-symbols =
+        ap (λ ss. made_of ss (steps_view trees xs) (ms ++ ys)) is
+        ∙ made_of-append S new (steps_view trees xs) ms ys (counted-at trees symbols (symbol_count ms) h.counted)
+        ∙ ap (λ l. made_view trees symbols xs ms ++ l) names
+
+    pub IsKept-symbols : AreKnownSymbols trees after → AllByRecursion (IsNumbered (length xs)) ys → symbol_count ys ≡ length new → AreTakenAfter S new → IsKept trees after xs (ms ++ ys) memo
+    IsKept-symbols known numbered count takes = record {
       distinct = h.distinct;
       known = h.known;
-      numbered = All-append (IsNumbered (length xs)) ms (y ∷ []) h.numbered (n, tt {0});
-      steps = ap steps_of made_view-symbol ∙ steps_of-symbols (made_view trees xs ms) (x ∷ []) ∙ h.steps;
-      symbols_taken = ap symbols_of made_view-symbol ∙ symbols_of-symbols (made_view trees xs ms) (x ∷ []) ∙ ap (λ l. l ++ x ∷ []) h.symbols_taken;
-      proof = proof.Each.more (Made.symbol x) h.proof (subst (λ ss. Takes ss x) (sym h.symbols_taken) takes) made_view-symbol;
+      numbered = All-append (IsNumbered (length xs)) ms ys h.numbered numbered;
+      steps = ap steps_of made_view-symbols ∙ steps_of-symbols (made_view trees symbols xs ms) new ∙ h.steps;
+      counted =
+          let long : length after ≡ length symbols + length new = sym (length-map after (symbol_at trees)) ∙ ap length is ∙ length-append S new ∙ ap (λ n. n + length new) (length-map symbols (symbol_at trees)) in
+          omega (arith, symbol_count-append ms ys, h.counted, count, long);
+      symbols_taken = ap symbols_of made_view-symbols ∙ symbols_of-symbols (made_view trees symbols xs ms) new ∙ ap (λ l. l ++ new) h.symbols_taken ∙ sym is;
+      symbols_known = known;
+      proof = subst IsProof (sym made_view-symbols) (proof-taken (made_view trees symbols xs ms) new h.proof (subst (λ ss. AreTakenAfter ss new) (sym h.symbols_taken) takes));
       noted = h.noted;
     }
 
-  module _ (n : Name) (new : is_taken_constant symbols n ≡ false) where
-    pub IsKept-constant : IsKept trees (symbols ++ new_constant symbols n) xs (ms ++ one.InputConst n ∷ []) memo
-    IsKept-constant = rw new (IsKept-symbol (one.InputConst n) (Symbol.input_constant n) refl (tt {0}) (taking.Takes.input_constant new))
+  -- no symbol is new
+  module _ (same : symbols_at trees after ≡ S) where
+    pub made_view-same : made_view trees after xs ms ≡ made_view trees symbols xs ms
+    made_view-same = ap (λ ss. made_of ss (steps_view trees xs) ms) same
 
-    pub made_view-constant : made_view trees xs (ms ++ one.InputConst n ∷ []) ≡ made_view trees xs ms ++ map Made.symbol (new_constant symbols n)
-    made_view-constant = rw new (made_view-symbol (one.InputConst n) (Symbol.input_constant n) refl)
+    pub IsKept-same : AreKnownSymbols trees after → IsKept trees after xs ms memo
+    IsKept-same known = subst (λ l. IsKept trees after xs l memo) (append-nil ms) (IsKept-symbols [] (same ∙ sym (append-nil S)) [] refl known (tt {0}) refl (tt {0}))
 
-  module _ (n : Name) (k : ℕ) (new : (is_some (operator_arity symbols n) || list_any (is_input_operator n k) symbols) ≡ false) where
-    pub IsKept-operator : IsKept trees (symbols ++ new_operator symbols n k) xs (ms ++ one.InputOp n k ∷ []) memo
-    IsKept-operator =
-        let parts = or-neither (is_some (operator_arity symbols n)) (list_any (is_input_operator n k) symbols) new in
-        rw new (IsKept-symbol (one.InputOp n k) (Symbol.input_operator n k) refl (tt {0}) (taking.Takes.input_operator parts.0 parts.1))
+  module _ (n : Name) (is : symbols_at trees after ≡ S ++ new_constant S n) (new : is_taken_constant S n ≡ false) where
+    one_constant : new_constant S n ≡ Symbol.input_constant n ∷ []
+    one_constant = ap (λ b. if b then [] else Symbol.input_constant n ∷ []) new
 
-    pub made_view-operator : made_view trees xs (ms ++ one.InputOp n k ∷ []) ≡ made_view trees xs ms ++ map Made.symbol (new_operator symbols n k)
-    made_view-operator = rw new (made_view-symbol (one.InputOp n k) (Symbol.input_operator n k) refl)
+    pub IsKept-constant : AreKnownSymbols trees after → IsKept trees after xs (ms ++ one.InputConst n ∷ []) memo
+    IsKept-constant known = IsKept-symbols (Symbol.input_constant n ∷ []) (is ∙ ap (λ l. S ++ l) one_constant) (one.InputConst n ∷ []) refl known (tt {0}, tt {0}) refl (taking.Takes.input_constant new, tt {0})
+
+    pub made_view-constant : made_view trees after xs (ms ++ one.InputConst n ∷ []) ≡ made_view trees symbols xs ms ++ map Made.symbol (new_constant (symbols_of (made_view trees symbols xs ms)) n)
+    made_view-constant =
+        made_view-symbols (Symbol.input_constant n ∷ []) (is ∙ ap (λ l. S ++ l) one_constant) (one.InputConst n ∷ []) refl
+        ∙ ap (λ l. made_view trees symbols xs ms ++ map Made.symbol l) (sym one_constant ∙ ap (λ ss. new_constant ss n) (sym h.symbols_taken))
+
+  module _ (n : Name) (is : symbols_at trees after ≡ S ++ new_constant S n) (none : new_constant S n ≡ []) where
+    no_constant : symbols_at trees after ≡ S
+    no_constant = is ∙ ap (λ l. S ++ l) none ∙ append-nil S
+
+    pub IsKept-no_constant : AreKnownSymbols trees after → IsKept trees after xs ms memo
+    IsKept-no_constant known = IsKept-same no_constant known
+
+    pub made_view-no_constant : made_view trees after xs ms ≡ made_view trees symbols xs ms ++ map Made.symbol (new_constant (symbols_of (made_view trees symbols xs ms)) n)
+    made_view-no_constant =
+        made_view-same no_constant ∙ sym (append-nil (made_view trees symbols xs ms)) ∙ ap (λ l. made_view trees symbols xs ms ++ map Made.symbol l) (sym none ∙ ap (λ ss. new_constant ss n) (sym h.symbols_taken))
+
+  module _ (n : Name) (k : ℕ) (is : symbols_at trees after ≡ S ++ new_operator S n k) (new : (is_some (operator_arity S n) || list_any (is_input_operator n k) S) ≡ false) where
+    one_operator : new_operator S n k ≡ Symbol.input_operator n k ∷ []
+    one_operator = ap (λ b. if b then [] else Symbol.input_operator n k ∷ []) new
+
+    pub IsKept-operator : AreKnownSymbols trees after → IsKept trees after xs (ms ++ one.InputOp n k ∷ []) memo
+    IsKept-operator known =
+        let parts = or-neither (is_some (operator_arity S n)) (list_any (is_input_operator n k) S) new in
+        IsKept-symbols (Symbol.input_operator n k ∷ []) (is ∙ ap (λ l. S ++ l) one_operator) (one.InputOp n k ∷ []) refl known (tt {0}, tt {0}) refl (taking.Takes.input_operator parts.0 parts.1, tt {0})
+
+    pub made_view-operator : made_view trees after xs (ms ++ one.InputOp n k ∷ []) ≡ made_view trees symbols xs ms ++ map Made.symbol (new_operator (symbols_of (made_view trees symbols xs ms)) n k)
+    made_view-operator =
+        made_view-symbols (Symbol.input_operator n k ∷ []) (is ∙ ap (λ l. S ++ l) one_operator) (one.InputOp n k ∷ []) refl
+        ∙ ap (λ l. made_view trees symbols xs ms ++ map Made.symbol l) (sym one_operator ∙ ap (λ ss. new_operator ss n k) (sym h.symbols_taken))
+
+  module _ (n : Name) (k : ℕ) (is : symbols_at trees after ≡ S ++ new_operator S n k) (none : new_operator S n k ≡ []) where
+    no_operator : symbols_at trees after ≡ S
+    no_operator = is ∙ ap (λ l. S ++ l) none ∙ append-nil S
+
+    pub IsKept-no_operator : AreKnownSymbols trees after → IsKept trees after xs ms memo
+    IsKept-no_operator known = IsKept-same no_operator known
+
+    pub made_view-no_operator : made_view trees after xs ms ≡ made_view trees symbols xs ms ++ map Made.symbol (new_operator (symbols_of (made_view trees symbols xs ms)) n k)
+    made_view-no_operator =
+        made_view-same no_operator ∙ sym (append-nil (made_view trees symbols xs ms)) ∙ ap (λ l. made_view trees symbols xs ms ++ map Made.symbol l) (sym none ∙ ap (λ ss. new_operator ss n k) (sym h.symbols_taken))

@@ -1,21 +1,31 @@
 -- The step that each rule makes of its premises and of what else it is given, or the first of its conditions that fails.
 -- Source: HOL Light's kernel; the OpenTheory article file format, version 6, "Commands".
-use Rattle.std.specs.Prelude.{ℕ, List, [], ◌∷◌, map, not, Some, Result, Ok}
-use Rattle.std.specs.List.{list_all}
+use Rattle.std.specs.Prelude.{ℕ, List, [], ◌∷◌, length, map, not, nat_eq, Some, Result, Ok}
+use Rattle.std.specs.List.{list_all, list_any}
 use Rattle.std.specs.Option.{ok_or}
 use Rattle.bridge_base.specs.declared.faults.Kind.{Kind}
-use Rattle.bridge_base.specs.declared.faults.Kind.TheVariants.{NotBool, TypeMismatch, NotAlike, VarInHyps, NotRedex, BadSubst}
+use Rattle.bridge_base.specs.declared.faults.Kind.TheVariants.{NotBool, TypeMismatch, NotAlike, VarInHyps, NotRedex, BadSubst, NameTaken, NotClosed, ExtraTypeVars, BadDefinitionList, NotTheSequent}
+use Rattle.hol_spec.specs.Definitions.{Definition, TypeNames}
+use Rattle.hol_spec.specs.DefinitionLists.{ConstantPairs, names_of, defining_equations, is_definition_list, constants_put}
+use Rattle.hol_spec.specs.Defining.{is_closed, has_type_variables_of}
 use Rattle.hol_spec.specs.Lists.{distinct}
+use Rattle.hol_spec.specs.Measures.{Measure, type_measure, sequent_measure}
+use Rattle.hol_spec.specs.Names.{Name}
+use Rattle.hol_spec.specs.NewTypes.{new_type, abstraction_type, representation_type}
 use Rattle.hol_spec.specs.Primitives.{bool, function}
+use Rattle.hol_spec.specs.Types.{HolType}
 use Rattle.hol_spec.specs.Sequents.{Sequent}
 use Rattle.hol_spec.specs.Substitution.{TypePairs}
+use Rattle.hol_spec.specs.Symbols.{Symbol, is_taken_constant}
 use Rattle.hol_spec.specs.Terms.{Term, Variable, app, term_eq, equation, application_type}
 use Rattle.hol_spec.specs.TermSubstitution.{TermPairs, sub}
+use Rattle.hol_spec.specs.TypeDefinitions.{first_law, second_law}
 use Rattle.hol_spec.specs.Rules.{Parameters, nothing, derived, joined, removed, abstraction, is_free_in}
-use Rattle.hol_spec.specs.Proofs.{Made, Step, sequent_at}
+use Rattle.hol_spec.specs.Proofs.{Made, Step, symbols_of, sequent_at}
 use Rattle.hol_spec.specs.declared.StepKind.TheVariants as by_rule
 use Rattle.article_spec.specs.Results.{◌>>=◌, ◌>>◌}
-use Rattle.article_spec.specs.Conditions.{demand, typed, is_of_type, equation_of, all_bool, follows}
+use Rattle.article_spec.specs.Conditions.{demand, in_limits, typed, is_of_type, equation_of, all_bool, follows}
+use Rattle.article_spec.specs.DefiningWords.{application_parts, predicate_fits, are_new_names}
 use Rattle.article_spec.specs.Inference.{step_by, contracted}
 use Rattle.article_spec.specs.Stating.{stated, restatement}
 
@@ -120,3 +130,51 @@ restate_step made i hypotheses conclusion = do
   all_bool (conclusion ∷ hypotheses)
   follows (sequent_at made i) (stated hypotheses conclusion)
   Ok (restatement i (stated hypotheses conclusion))
+
+-- |- n = t, for a new constant n that stands for the closed term t. The type of t has each of its type variables.
+abbrev pub define_const_step : List Made → Name → Term → Result Step Kind
+define_const_step made n t = do
+  demand (not (is_taken_constant (symbols_of made) n)) NameTaken
+  demand (is_closed t) NotClosed
+  a ← typed t
+  demand (has_type_variables_of a t) ExtraTypeVars
+  Ok (step_by by_rule.DefineConst [] (Parameters.constant n t) (derived [] (equation a (Term.constant n a) t)))
+
+-- from v = t, .. |- p: |- p[c/v, ..], for new constants c. What is judged of one definition is judged of all before the next.
+abbrev pub define_const_list_step : List Made → ConstantPairs → ℕ → Result Step Kind
+define_const_list_step made pairs i = do
+  let one = sequent_at made i
+  let equations = defining_equations pairs one.hypotheses
+  demand (not (list_any (is_taken_constant (symbols_of made)) (names_of pairs))) NameTaken
+  demand (list_all (λ e. is_closed e.1) equations) NotClosed
+  demand (list_all (λ e. has_type_variables_of e.0.1 e.1) equations) ExtraTypeVars
+  demand (is_definition_list pairs one) BadDefinitionList
+  Ok (step_by by_rule.DefineConstList (i ∷ []) (Parameters.constants pairs) (derived [] (sub [] (constants_put pairs) one.conclusion)))
+
+-- what the definition of a type operator makes: the operator with its constants, and its two laws
+pub record NewType : Type 0 where
+  pub symbol : Symbol
+  pub first : Step
+  pub second : Step
+
+-- the measures of all that it makes
+abbrev pub type_measures : TypeNames → HolType → Term → List Measure
+type_measures names c f =
+    type_measure (new_type names) ∷ type_measure (abstraction_type names c) ∷ type_measure (representation_type names c) ∷ sequent_measure (first_law names c) ∷ sequent_measure (second_law names c f) ∷ []
+
+-- from |- f t, for a new operator N and new constants abs and rep: |- (\a. abs (rep a)) = (\a. a) and |- (\r. rep (abs r) = r) = (\r. f r).
+-- The limits on all that is made come last, every size before any depth.
+abbrev pub type_laws : List Made → TypeNames → ℕ → Result NewType Kind
+type_laws made names i = do
+  let one = sequent_at made i
+  are_new_names (symbols_of made) names
+  predicate_fits names.variables (application_parts one.conclusion)
+  demand (nat_eq (length one.hypotheses) 0) NotTheSequent
+  (f, t) ← ok_or (application_parts one.conclusion) NotTheSequent
+  c ← typed t
+  in_limits (type_measures names c f)
+  Ok (record {
+    symbol = Symbol.defined (Definition.type_operator names c f);
+    first = step_by by_rule.FirstLaw (i ∷ []) (Parameters.type_operator names) (first_law names c);
+    second = step_by by_rule.SecondLaw (i ∷ []) (Parameters.type_operator names) (second_law names c f);
+  })

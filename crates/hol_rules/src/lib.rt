@@ -5,7 +5,7 @@
 //! step follows by its rule from steps before it. A rule answers exactly as its definition says: with the number of the
 //! step that it made, or with the first condition that fails, where the limits of size, of depth and of the number of
 //! parameters come last and in this order. After a refusal or want of memory nothing is made, and what had a number keeps
-//! it.
+//! it. The definition of a constant takes its symbol and makes its step, or does neither.
 //!
 //! What a rule costs, beside the trees that it makes and the step that it keeps (its premises, its sequent and what it was
 //! given): terms are compared by their numbers, whatever their size, and a walk comes once to each part of a term, with a
@@ -14,13 +14,15 @@
 //! | Rule | Steps | Memory |
 //! |---|---|---|
 //! | each | a look-up for each hypothesis of its premises and of its sequent; a note of each type and each term that is new in the table, at a look-up for each variable of its parts; to count the parameters, a look-up for each variable of each hypothesis and of the conclusion | what is noted of each type and each term, which the proof keeps; while it counts, the variables of the sequent |
-//! | `abs_thm` | a look-up of the variable among those of each hypothesis, and a walk over each side of the equation | the walks' notes |
+//! | `abs_thm` | a comparison with each free variable of each hypothesis, and a walk over each side of the equation | the walks' notes |
 //! | `beta_conv` | a walk over the body | the walk's notes |
+//! | `define_const` | two walks over the term | the walks' notes; two copies of the name, which the proof keeps |
 //! | `subst` | one walk over the hypotheses and the conclusion together; at each variable as many comparisons as there are pairs, and at each variable, constant and binder a walk over its type | the walk's notes; a copy of the pairs, which the step keeps; at most two more trees for each hypothesis, which the table keeps |
 //!
 //! The parameters of a term are found once, from those of its parts, and noted (`hol_params`): so a step over terms that share
 //! their parts costs its new nodes, and no walk over the old ones. More than 1,024 type variables or free variables of one
-//! term are not noted: a sequent with such a term is counted by two walks over each hypothesis and over the conclusion.
+//! term are not noted: a sequent with such a term is counted by two walks over each hypothesis and over the conclusion, and
+//! `abs_thm` walks over such a hypothesis.
 //!
 //! A walk under binders comes to a part once for each number of binders that it stands under. Trees that were made before
 //! a refusal stay in the table.
@@ -34,6 +36,7 @@
 
 mod beta;
 mod conclude;
+mod definitions;
 mod functions;
 mod hypotheses;
 mod judge;

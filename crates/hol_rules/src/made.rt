@@ -30,6 +30,21 @@ pub enum Parameters {
     Subst(Substitution),
     /// A sequent that was stated.
     Sequent(Sequent),
+    /// A constant, and the term that it stands for.
+    Const(Name, TermId),
+    /// Constants, each with the variable for which it is put.
+    List(Vec<(Name, Variable)>),
+    /// A type operator.
+    TypeOp {
+        /// The operator.
+        op: Name,
+        /// The constant to the new type.
+        abs: Name,
+        /// The constant from the new type.
+        rep: Name,
+        /// The operator's type variables, in their order.
+        names: Vec<Name>,
+    },
 }
 
 /// One thing that a proof made.
@@ -39,6 +54,10 @@ pub enum Made {
     InputConst(Name),
     /// An input operator with so many arguments was taken.
     InputOp(Name, usize),
+    /// A constant was defined.
+    Const(Name),
+    /// A type operator was defined, with the constants to and from the new type.
+    TypeOp(Name),
     /// The step of this number.
     Step(StepId),
 }

@@ -1,11 +1,12 @@
 //! A proof: its table, the symbols that it took and the steps that it made.
-ghost use Rattle.std.specs.Prelude.{◌≡◌, ◌<◌, [], length, map, IfOk};
+ghost use Rattle.std.specs.Prelude.{◌≡◌, ◌<◌, [], length, IfOk};
 ghost use Rattle.std.specs.List.{AllByRecursion};
 ghost use Rattle.hol_spec.specs.Derivations.{Derives};
 ghost use Rattle.hol_spec.specs.Proofs.{assumptions_of, definitions_of, sequent_at, sequents_of, steps_of, symbols_of, IsProof};
+ghost use Rattle.hol_defs.specs.Symbols.{symbols_at, AreKnownSymbols};
 ghost use Rattle.sequent.specs.Sequents as numbers;
 ghost use Rattle.hol_rules.specs.Kept.{step_count};
-ghost use Rattle.hol_rules.specs.Views.{one_view, parameters_view, step_at, step_view, IsStepKnown};
+ghost use Rattle.hol_rules.specs.Views.{made_of, parameters_view, step_at, step_view, AreParametersKnown, IsStepKnown};
 
 use crate::made::{Made, Parameters, Step, StepId};
 use bridge_base::Memory;
@@ -36,7 +37,7 @@ impl Model for Proof {
 
     ghost coded = { coded_kept };
 
-    ghost view = { λ p. record { trees = p.terms; made = made_view p.terms p.steps.items p.made.items } };
+    ghost view = { λ p. record { trees = p.terms; made = made_view p.terms p.symbols p.steps.items p.made.items } };
 
     ghost invariant = { λ p. IsKept p.terms p.symbols p.steps.items p.made.items p.params };
 }
@@ -65,7 +66,8 @@ impl Proof {
 
     /// The symbols that are taken, for reading.
     pub fn symbols(&self) -> &Symbols
-        ensures { result.now ≡ symbols_of self.now.made }
+        ensures are { symbols_at self.now.trees result.now ≡ symbols_of self.now.made }
+        ensures known { AreKnownSymbols self.now.trees result.now }
     {
         &self.symbols
     }
@@ -77,9 +79,9 @@ impl Proof {
         self.steps.len()
     }
 
-    /// What was made, in order: a step stands with its number.
+    /// What was made, in order: a defined symbol stands with its name, a step with its number.
     pub fn made(&self) -> &[Made]
-        ensures { map (one_view (steps_of self.now.made)) result.now ≡ self.now.made }
+        ensures { made_of (symbols_of self.now.made) (steps_of self.now.made) result.now ≡ self.now.made }
     {
         &self.made
     }
@@ -112,7 +114,8 @@ impl Proof {
     /// What a step's rule was given beside its premises.
     pub fn params(&self, id: StepId) -> &Parameters
         requires { id < step_count self.now }
-        ensures { parameters_view self.now.trees result.now ≡ (step_at self.now.made id).parameters }
+        ensures is { parameters_view self.now.trees result.now ≡ (step_at self.now.made id).parameters }
+        ensures known { AreParametersKnown self.now.trees result.now }
     {
         &self.step(id).parameters
     }

@@ -518,6 +518,57 @@ impl Bench {
             Err(UNKNOWN)
         }
     }
+
+    /// The equation of two terms of one type.
+    pub(crate) fn equal(&mut self, left: TermId, right: TermId) -> Result<TermId, Fault> {
+        let name = self.name(b"=")?;
+        let truth = self.boolean()?;
+        if !self.is_term(left) {
+            return Err(UNKNOWN);
+        }
+        let ty = self.proof.terms().type_of(left);
+        let predicate = self.function(ty, truth)?;
+        let relation = self.function(ty, predicate)?;
+        let equality = self.proof.constant(&name, relation)?;
+        let half = self.app(equality, left)?;
+        self.app(half, right)
+    }
+
+    /// The constant of a name, of the type of a term.
+    pub(crate) fn constant_like(&mut self, text: &[u8], t: TermId) -> Result<TermId, Fault> {
+        let name = self.name(text)?;
+        if !self.is_term(t) {
+            return Err(UNKNOWN);
+        }
+        let ty = self.proof.terms().type_of(t);
+        self.proof.constant(&name, ty)
+    }
+
+    /// The abstraction of a term over the variable of this letter, of the term's type.
+    pub(crate) fn abs_like(&mut self, letter: u8, body: TermId) -> Result<TermId, Fault> {
+        let name = self.name(&[letter])?;
+        if !self.is_term(body) {
+            return Err(UNKNOWN);
+        }
+        let ty = self.proof.terms().type_of(body);
+        self.proof.abs(&Variable { name, ty }, body)
+    }
+
+    /// Whether the thing of this number that was made is a constant that was defined.
+    pub(crate) fn is_defined(&self, index: usize, text: &[u8]) -> Result<bool, Fault> {
+        let name = self.name(text)?;
+        let made = self.proof.made().get(index);
+        Ok(matches!(made, Some(Made::Const(own)) if *own == name))
+    }
+
+    pub(crate) fn define_const(&mut self, text: &[u8], t: TermId) -> Result<StepId, Fault> {
+        let name = self.name(text)?;
+        if self.is_term(t) {
+            self.proof.define_const(&name, t)
+        } else {
+            Err(UNKNOWN)
+        }
+    }
 }
 
 /// Whether a rule was refused for this reason.

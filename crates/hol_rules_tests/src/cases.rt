@@ -1,6 +1,6 @@
 //! The cases, each over a proof of its own.
 use crate::bench::Bench;
-use crate::{equations, functions, hypotheses, limits, stating, steps, substitution};
+use crate::{definitions, equations, functions, hypotheses, limits, stating, steps, substitution};
 use bridge_base::Fault;
 use std::alloc::Global;
 use std::test::Fail;
@@ -40,6 +40,8 @@ enum Case {
     AxiomRefused,
     Restate,
     RestateRefused,
+    NewerConstant,
+    ConstantRefused,
     ReflMany,
     ReflDeep,
     ReflLarge,
@@ -91,6 +93,8 @@ fn holds(case: Case, bench: &mut Bench) -> Result<bool, Fault> {
         Case::AxiomRefused => stating::axiom_refused(bench),
         Case::Restate => stating::restate(bench),
         Case::RestateRefused => stating::restate_refused(bench),
+        Case::NewerConstant => definitions::newer_constant(bench),
+        Case::ConstantRefused => definitions::refused(bench),
         Case::ReflMany => limits::refl_many(bench),
         Case::ReflDeep => limits::refl_deep(bench),
         Case::ReflLarge => limits::refl_large(bench),
@@ -159,6 +163,8 @@ fn rules_make_their_sequents_or_refuse(rt: HostRuntime) -> Result<(), Fail> {
         Case::AxiomRefused,
         Case::Restate,
         Case::RestateRefused,
+        Case::NewerConstant,
+        Case::ConstantRefused,
         Case::ReflMany,
         Case::ReflDeep,
         Case::ReflLarge,

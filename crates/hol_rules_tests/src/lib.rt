@@ -7,6 +7,8 @@ mod bench;
 #[cfg(test)]
 mod cases;
 #[cfg(test)]
+mod definitions;
+#[cfg(test)]
 mod equations;
 #[cfg(test)]
 mod functions;

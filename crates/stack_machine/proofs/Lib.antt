@@ -7,6 +7,7 @@ mod Read
 mod Placed
 mod Obeyed
 mod Stores
+mod OwnKinds
 mod Inferred
 mod RuleWords
 mod Stated

@@ -1,10 +1,12 @@
 -- What a run made, and which of its steps are assumptions and exports.
-use Rattle.std.specs.Prelude.{ℕ, ◌<◌, ◌≤◌, List, ◌++◌, length, map, take, refl}
+use Rattle.std.specs.Prelude.{ℕ, ◌<◌, ◌≤◌, List, ◌++◌, length, map, take, refl, Bool, true, false, Option, Some}
 use Rattle.std.specs.Coded.{Coded, code_by, coded×, coded_list, coded_ℕ}
 use Rattle.std.specs.List.{AllByRecursion}
 use Rattle.hol_spec.specs.Symbols.{Symbol}
 use Rattle.hol_spec.specs.Proofs.{Made, steps_of}
 use Rattle.proof_laws.specs.ProofCodes.{coded_made}
+use Rattle.hol_defs.specs.declared.SymbolKind.{SymbolKind}
+use Rattle.hol_defs.specs.declared.SymbolKind.TheVariants.{Primitive, Defined}
 
 -- symbols and steps in order of making; the steps that are assumptions, that are exports, and that earlier articles exported
 pub record Run : Type 0 where
@@ -38,3 +40,9 @@ pub record IsRunKnown (made : List Made) (assumptions exports : List ℕ) (pool 
   pub assumed : AreSteps made assumptions
   pub exported : AreSteps made exports
   pub earlier : pool ≤ length exports
+
+-- a name of this kind has a type, or a number of arguments, that is settled: it is primitive or defined
+abbrev pub is_own_kind : Option SymbolKind → Bool
+is_own_kind (Some Primitive) = true
+is_own_kind (Some Defined) = true
+is_own_kind kind = false

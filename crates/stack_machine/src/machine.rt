@@ -9,6 +9,8 @@ ghost use Rattle.article_spec.specs.declared.commands.Word.TheVariants as word;
 ghost use Rattle.article_spec.specs.Results.{Fails};
 ghost use Rattle.article_spec.specs.State.{Place, initial};
 ghost use Rattle.article_spec.specs.Step.{finish, obey, step, step_at};
+ghost use Rattle.hol_term.specs.Tables.{Trees};
+ghost use Rattle.hol_defs.specs.Symbols.{symbols_at, AreKnownSymbols};
 ghost use Rattle.stack_machine.specs.Making.{AreSteps};
 ghost use Rattle.stack_machine.specs.Shown.{IsInference, IsOnStack, IsTaken, IsTakenWord};
 
@@ -132,9 +134,9 @@ impl Machine {
         self.store.proof()
     }
 
-    /// The symbols that are taken, in order of taking.
+    /// The symbols that are taken, in order of taking, by the numbers of the proof's table.
     pub fn symbols(&self) -> &Symbols
-        ensures { result.now ≡ symbols_of self.now.made }
+        ensures symbols { (trees : Trees) × AreKnownSymbols trees result.now × (symbols_at trees result.now ≡ symbols_of self.now.made) }
     {
         self.proof().symbols()
     }

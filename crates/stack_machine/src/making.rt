@@ -9,6 +9,7 @@ ghost use Rattle.hol_type.specs.Tables.{AreKnown as AreTypes, types_at};
 ghost use Rattle.hol_term.specs.Tables.{Keeps, IsTermAt, term_at, type_at};
 ghost use Rattle.hol_rules.specs.Premises.{IsNumberOf};
 ghost use Rattle.article_spec.specs.Results.{Fails};
+ghost use Rattle.stack_machine.specs.Making.{is_own_kind};
 ghost use Rattle.stack_machine.specs.Refusals.{constant_fits, operator_fits};
 
 use bridge_base::Fault;
@@ -17,6 +18,30 @@ use hol_name::Name;
 use hol_rules::Proof;
 use hol_term::TermId;
 use hol_type::TypeId;
+
+// Whether a name is taken so that its type or its number of arguments is settled.
+fn is_own(kind: Option<SymbolKind>) -> bool
+    ensures { result ≡ is_own_kind kind }
+{
+    match kind {
+        Some(SymbolKind::Primitive | SymbolKind::Defined) => true,
+        Some(SymbolKind::Input) | None => false,
+    }
+}
+
+// Whether a name is that of a primitive or defined operator.
+fn is_own_operator(proof: &Proof, name: &Name) -> bool
+    ensures { result ≡ is_some (operator_arity (symbols_of proof.now.made) name.now) }
+{
+    is_own(proof.symbols().op_kind(name))
+}
+
+// Whether a name is that of a primitive or defined constant.
+fn is_own_constant(proof: &Proof, name: &Name) -> bool
+    ensures { result ≡ is_some (generic_type (symbols_of proof.now.made) name.now) }
+{
+    is_own(proof.symbols().const_kind(name))
+}
 
 // The type of an operator with these arguments.
 pub(crate) fn make_operator(
@@ -33,9 +58,10 @@ pub(crate) fn make_operator(
     ensures unchanged { OnErr result (proof.new.made ≡ proof.old.made) }
     ensures keeps { Keeps proof.old.trees proof.new.trees }
 {
-    match proof.symbols().op_kind(name) {
-        Some(SymbolKind::Primitive | SymbolKind::Defined) => { own_operator(proof, name, args) }
-        Some(SymbolKind::Input) | None => input_operator(proof, name, args),
+    if is_own_operator(proof, name) {
+        own_operator(proof, name, args)
+    } else {
+        input_operator(proof, name, args)
     }
 }
 
@@ -85,9 +111,10 @@ pub(crate) fn make_constant(proof: &mut Proof, name: &Name, ty: TypeId) -> Resul
     ensures unchanged { OnErr result (proof.new.made ≡ proof.old.made) }
     ensures keeps { Keeps proof.old.trees proof.new.trees }
 {
-    match proof.symbols().const_kind(name) {
-        Some(SymbolKind::Primitive | SymbolKind::Defined) => { own_constant(proof, name, ty) }
-        Some(SymbolKind::Input) | None => input_constant(proof, name, ty),
+    if is_own_constant(proof, name) {
+        own_constant(proof, name, ty)
+    } else {
+        input_constant(proof, name, ty)
     }
 }
 

@@ -1,0 +1,136 @@
+//! Definitions of constants.
+ghost use Rattle.std.specs.Prelude.{◌≡◌, ◌<◌, ◌++◌, ◌∷◌, [], None, Ok, length, IfOk, IfErr, OnOk, OnErr};
+ghost use Rattle.article_spec.specs.Results.{Fails};
+ghost use Rattle.hol_defs.specs.Faults.{constant_fault};
+ghost use Rattle.hol_rules.specs.declared.made.Parameters.TheVariants as given;
+ghost use Rattle.hol_spec.specs.Definitions.{Definition};
+ghost use Rattle.hol_spec.specs.Proofs.{symbols_of, IsStep};
+ghost use Rattle.hol_spec.specs.Proofs as proof;
+ghost use Rattle.hol_spec.specs.Symbols.{Symbol};
+ghost use Rattle.hol_spec.specs.Terms.{constant as constant_tree};
+ghost use Rattle.hol_spec.specs.declared.StepKind.TheVariants.{DefineConst};
+ghost use Rattle.hol_term.specs.Tables.{term_at, type_at, IsTermAt, Keeps};
+ghost use Rattle.sequent.specs.Sequents.{IsKnown};
+ghost use Rattle.hol_rules.specs.Conclusions.{Defines};
+ghost use Rattle.hol_rules.specs.Kept.{step_count, Grows};
+ghost use Rattle.hol_rules.specs.Premises.{IsNumberOf};
+ghost use Rattle.hol_rules.specs.Steps.{define_const_step};
+ghost use Rattle.hol_rules.specs.Views.{new_step, step_view, IsStepKnown};
+
+use crate::judge::judge;
+use crate::made::{Made, Parameters, Step, StepId};
+use crate::proof::Proof;
+use bridge_base::{Fault, Memory};
+use hol_name::Name;
+use hol_spec::StepKind;
+use hol_term::{TermId, TermTable};
+use hol_type::TypeId;
+use sequent::Sequent;
+use std::alloc::Global;
+
+impl Proof {
+    /// The equation of a new constant and the term that it stands for. It is refused with `NameTaken` where a constant
+    /// has the name, else with `NotClosed` where the term has a free variable, else with `ExtraTypeVars` where it has a
+    /// type variable that its type lacks, and else for the limits. (Source: HOL Light's kernel, new_basic_definition; the
+    /// OpenTheory article format, `defineConst`.)
+    pub fn define_const(&mut self, name: &Name, t: TermId) -> Result<StepId, Fault>
+        requires { IsTermAt self.old.trees t.0 }
+        ensures { Defines self.old (Symbol.defined (Definition.constant name.now (term_at self.old.trees t.0)) ∷ []) (define_const_step self.old.made name.now (term_at self.old.trees t.0)) self.new result }
+    {
+        self.judge_const(name, t)?;
+        let ty = self.terms.type_of(t);
+        let constant = self.constant_at(name, ty)?;
+        let concl = self.equation(constant, t)?;
+        let hyps = self.hyps_of(&[])?;
+        self.conclude_const(name, t, Sequent { hyps, concl })
+    }
+
+    // Judges the definition of a constant.
+    fn judge_const(&self, name: &Name, t: TermId) -> Result<(), Fault>
+        requires { IsTermAt self.now.trees t.0 }
+        ensures fits { OnOk result (constant_fault (symbols_of self.now.made) name.now (term_at self.now.trees t.0) ≡ None) }
+        ensures refused { IfErr result (λ fault. Fails fault (define_const_step self.now.made name.now (term_at self.now.trees t.0))) }
+    {
+        self.symbols.judge_const(&self.terms, name, t)
+    }
+
+    // The constant of this name and type, whatever its size and depth.
+    fn constant_at(&mut self, name: &Name, ty: TypeId) -> Result<TermId, Memory>
+        requires { ty.0 < length self.old.trees.types }
+        ensures made { IfOk result (λ id. IsNumberOf self.new.trees id (constant_tree name.now (type_at self.old.trees ty.0))) }
+        ensures grows { Grows self.old self.new }
+    {
+        constant_of(self.alloc, &mut self.terms, name, ty)
+    }
+
+    // The constant is defined, and its step is made, if the sequent is within the limits.
+    fn conclude_const(&mut self, name: &Name, t: TermId, sequent: Sequent) -> Result<StepId, Fault>
+        requires term { IsTermAt self.old.trees t.0 }
+        requires sequent { IsKnown self.old.trees sequent }
+        requires follows { IsStep (self.old.made ++ proof.Made.symbol (Symbol.defined (Definition.constant name.now (term_at self.old.trees t.0))) ∷ []) (new_step self.old.trees DefineConst [] (given.Const name.now t) sequent) }
+        ensures { Defines self.old (Symbol.defined (Definition.constant name.now (term_at self.old.trees t.0)) ∷ []) (Ok (new_step self.old.trees DefineConst [] (given.Const name.now t) sequent)) self.new result }
+    {
+        judge(&self.terms, &mut self.params, &sequent)?;
+        let own = name.clone()?;
+        let step = Step {
+            kind: StepKind::DefineConst,
+            premises: Vec::new(self.alloc),
+            parameters: Parameters::Const(own, t),
+            sequent,
+        };
+        let id = self.keep_const(name, t, step)?;
+        Ok(id)
+    }
+
+    // The constant is defined, and the step becomes the last. Room is made first, so that nothing fails once the
+    // constant is taken.
+    fn keep_const(&mut self, name: &Name, t: TermId, step: Step) -> Result<StepId, Memory>
+        requires term { IsTermAt self.old.trees t.0 }
+        requires known { IsStepKnown self.old.trees step }
+        requires follows { IsStep (self.old.made ++ proof.Made.symbol (Symbol.defined (Definition.constant name.now (term_at self.old.trees t.0))) ∷ []) (step_view self.old.trees step) }
+        ensures number { IfOk result (λ id. id ≡ step_count self.old) }
+        ensures kept { IfOk result (λ id. self.new ≡ record self.old { made = (self.old.made ++ proof.Made.symbol (Symbol.defined (Definition.constant name.now (term_at self.old.trees t.0))) ∷ []) ++ proof.Made.step (step_view self.old.trees step) ∷ [] }) }
+        ensures unchanged { OnErr result (self.new ≡ self.old) }
+    {
+        let own = name.clone()?;
+        let id = self.steps.len();
+        self.made.reserve(2)?;
+        self.steps.reserve(1)?;
+        match self.symbols.define(&mut self.terms, name, t) {
+            Ok(()) => {
+                self.made.push_reserved(Made::Const(own));
+                self.made.push_reserved(Made::Step(id));
+                self.steps.push_reserved(step);
+                Ok(id)
+            }
+            Err(_) => Err(Memory),
+        }
+    }
+}
+
+// The constant of this name and type, whatever its size and depth: at a type variable it is within the limits, and the
+// type is put for the variable.
+fn constant_of(
+    alloc: Global,
+    terms: &mut TermTable,
+    name: &Name,
+    ty: TypeId,
+) -> Result<TermId, Memory>
+    requires { ty.0 < length terms.old.types }
+    ensures made { IfOk result (λ id. IsNumberOf terms.new id (constant_tree name.now (type_at terms.old ty.0))) }
+    ensures keeps { Keeps terms.old terms.new }
+{
+    let Ok(variable) = Name::single(alloc, b"A") else {
+        return Err(Memory);
+    };
+    let Ok(general) = terms.ty_var(&variable) else {
+        return Err(Memory);
+    };
+    let Ok(constant) = terms.constant(name, general) else {
+        return Err(Memory);
+    };
+    let mut pairs = Vec::new(alloc);
+    pairs.push((variable, ty))?;
+    let made = terms.substituted(&pairs, &[], constant)?;
+    Ok(made)
+}

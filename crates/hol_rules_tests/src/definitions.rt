@@ -1,0 +1,38 @@
+//! Definitions of constants.
+use crate::bench::{Bench, is_refused};
+use bridge_base::{Fault, Kind};
+use hol_spec::StepKind;
+
+/// c for \x. x, and then d for c.
+pub(crate) fn newer_constant(bench: &mut Bench) -> Result<bool, Fault> {
+    let x = bench.truth(b'x')?;
+    let identity = bench.abs(b'x', x)?;
+    let one = bench.define_const(b"c", identity)?;
+    let c = bench.constant_like(b"c", identity)?;
+    let two = bench.define_const(b"d", c)?;
+    let d = bench.constant_like(b"d", c)?;
+    let taken = bench.is_defined(0, b"c")? && bench.is_defined(2, b"d")?;
+    let steps = bench.is_step_at(1, one) && bench.is_step_at(3, two);
+    let by = bench.is_by(one, StepKind::DefineConst, &[]);
+    Ok(
+        taken
+            && steps
+            && by
+            && bench.equates(one, &[], c, identity)
+            && bench.equates(two, &[], d, c),
+    )
+}
+
+/// An input n, a free variable, and the type variable of (\z. z) = (\z. z), each alone.
+pub(crate) fn refused(bench: &mut Bench) -> Result<bool, Fault> {
+    let p = bench.truth(b'p')?;
+    let identity = bench.abs(b'p', p)?;
+    bench.use_const(b"n")?;
+    let taken = is_refused(bench.define_const(b"n", identity), Kind::NameTaken);
+    let open = is_refused(bench.define_const(b"m", p), Kind::NotClosed);
+    let z = bench.of_type_a(b'z')?;
+    let own = bench.abs_like(b'z', z)?;
+    let same = bench.equal(own, own)?;
+    let extra = is_refused(bench.define_const(b"m", same), Kind::ExtraTypeVars);
+    Ok(taken && open && extra && bench.proof.len() == 0 && bench.proof.made().len() == 1)
+}
