@@ -1,8 +1,6 @@
 -- The abstraction of a body over the variable of its binder.
-use Rattle.std.proofs.Common.{◌≡◌, ℕ, suc, ◌+◌, ◌-◌, ◌<◌, ◌≤◌, List, [], ◌∷◌, ◌++◌, Bool, true, false, cond, Option, Some, None, length, refl, sym, ap, subst, ◌∙◌, arith}
-use Rattle.std.specs.Prelude.{min, ◌^◌, nat_lt, nat_eq, ◌&&◌}
-use Rattle.std.specs.Bool.{Decides}
-use Rattle.std.specs.List.{AllByRecursion}
+use Rattle.std.proofs.Common.{◌≡◌, ℕ, suc, ◌+◌, ◌-◌, ◌<◌, ◌≤◌, List, Bool, true, false, cond, Option, Some, None, length, refl, sym, ap, subst, ◌∙◌, arith}
+use Rattle.std.specs.Prelude.{nat_lt, nat_eq, ◌&&◌}
 use Rattle.std.proofs.Math.Path.{ap₂}
 use Rattle.std.proofs.lemmas.Bool.Decides.{Decides-ltb, Decides-eqb}
 use Rattle.hol_spec.specs.Names.{Name}
@@ -10,11 +8,11 @@ use Rattle.hol_spec.specs.NameEquality.{name_eq}
 use Rattle.hol_laws.specs.NameEqualityLaws.{name_eq-Decides}
 use Rattle.hol_laws.specs.Members.{All-left, All-right, All-append}
 use Rattle.hol_spec.specs.Types.{HolType, type_eq}
-use Rattle.hol_spec.specs.Limits.{greatest_size, greatest_depth, type_size, type_depth, term_size, term_depth}
+use Rattle.hol_spec.specs.Limits.{greatest_size, greatest_depth, type_size, term_size, term_depth}
 use Rattle.hol_spec.specs.Terms as term
 use Rattle.hol_spec.specs.Terms.{Term, variable_eq, free_places}
 use Rattle.hol_laws.specs.TermLaws.{variable_eq-Decides}
-use Rattle.hol_spec.specs.TermBinding.{raised, put_at, put_bound, put, close_at, close}
+use Rattle.hol_spec.specs.TermBinding.{put_at, put_bound, put, close_at, close}
 use Rattle.hol_spec.specs.ClosedForm.{ClosedType, ClosedTerm}
 use Rattle.bridge_base.specs.declared.faults.Kind.{Kind}
 use Rattle.bridge_base.specs.declared.faults.Kind.TheVariants as kind
@@ -25,12 +23,12 @@ use Rattle.hol_type.specs.declared.table.TypeId.{TypeId}
 use Rattle.hol_type.specs.TableLaws.{tree_at-Stays}
 use Rattle.hol_term.specs.TableLaws.{Keeps-trans, Some-term_in, term_in-Stays}
 use Rattle.lp_spec.specs.Trees.{Tree, Lam}
-use Rattle.lp_spec.specs.Modules.{Declaration, term_of, term_symbol}
+use Rattle.lp_spec.specs.Modules.{Declaration}
 use Rattle.module_spec.specs.TypeEnc.{Place, inside}
 use Rattle.decode_spec.specs.Options.{bind, both}
 use Rattle.decode_laws.specs.OptionLaws.{some-injective, bind-is, both-is}
 use Rattle.decode_spec.specs.Opened.{open_type, open_term}
-use Rattle.decode_spec.specs.Decode.{symbol_argument, term_part, type_of_tree, term_from}
+use Rattle.decode_spec.specs.Decode.{term_part, type_of_tree, term_from}
 use Rattle.decode_laws.specs.TermWalkLaws.{NoTerm}
 use Rattle.decode_back.specs.Walks.{parameter_name, IsTypeFound}
 use Rattle.decode_back.specs.TermWalks.{outside_name, IsFresh, IsLamFound, IsTermFound}

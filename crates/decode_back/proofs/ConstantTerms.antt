@@ -1,32 +1,30 @@
 -- The terms of constants.
-use Rattle.std.proofs.Common.{◌≡◌, ℕ, ◌+◌, ◌<◌, ◌≤◌, List, [], ◌∷◌, ◌++◌, length, Option, Some, None, refl, sym, ap, subst, ◌∙◌, arith}
+use Rattle.std.proofs.Common.{◌≡◌, ℕ, ◌+◌, ◌<◌, ◌≤◌, List, ◌∷◌, ◌++◌, length, Option, Some, None, sym, ap, subst, ◌∙◌, arith}
 use Rattle.std.specs.Prelude.{min, ◌^◌, ◌-◌}
 use Rattle.hol_spec.specs.Names.{Name}
 use Rattle.hol_spec.specs.Types.{HolType}
 use Rattle.hol_spec.specs.Limits.{greatest_size, greatest_depth, type_size, type_depth, term_size, term_depth}
 use Rattle.hol_spec.specs.Substitution.{TypePairs, substitute}
 use Rattle.hol_spec.specs.Terms as term
-use Rattle.hol_spec.specs.ClosedForm.{ClosedType, ClosedTypes, ClosedTerm}
+use Rattle.hol_spec.specs.ClosedForm.{ClosedType, ClosedTerm}
 use Rattle.bridge_base.specs.declared.faults.Kind.{Kind}
 use Rattle.bridge_base.specs.declared.faults.Kind.TheVariants as kind
 use Rattle.hol_type.specs.Refusals.{PassesLimit}
-use Rattle.hol_type.specs.declared.table.TypeId.{TypeId}
 use Rattle.hol_term.specs.declared.TermId.{TermId}
 use Rattle.hol_term.specs.Tables.{Trees, Holds, Keeps, type_at}
 use Rattle.hol_type.specs.Tables as type
 use Rattle.hol_type.specs.TableLaws.{Holds-tree_at}
 use Rattle.lp_spec.specs.Trees.{Tree, Sym}
 use Rattle.lp_spec.specs.Modules.{Declaration, applied, signature}
-use Rattle.module_spec.specs.TypeEnc.{Place, StandForTypes}
+use Rattle.module_spec.specs.TypeEnc.{Place}
 use Rattle.module_spec.specs.ConstantMeaning.{instance_of}
-use Rattle.decode_spec.specs.Opened.{open_type, open_term}
-use Rattle.decode_spec.specs.Decode.{closed_count, Constant, constant_with, constant_at, term_from}
-use Rattle.decode_laws.specs.OptionLaws.{some-injective}
+use Rattle.decode_spec.specs.Opened.{open_type}
+use Rattle.decode_spec.specs.Decode.{Constant, constant_with, constant_at, term_from}
 use Rattle.decode_laws.specs.TypeLaws.{count-stand}
 use Rattle.decode_laws.specs.ConstantLaws.{constant_at-is}
 use Rattle.decode_laws.specs.TermLaws.{term_from-constant}
 use Rattle.decode_laws.specs.SizeLaws.{means-in_order}
-use Rattle.decode_laws.specs.TermWalkLaws.{NoTerm, IsDead, applied-append, dead-applied, dead-symbol, dead-argument, dead-instance, too_few, constant_from-stand}
+use Rattle.decode_laws.specs.TermWalkLaws.{NoTerm, applied-append, dead-applied, dead-symbol, dead-argument, dead-instance, too_few, constant_from-stand}
 use Rattle.decode_back.specs.Walks.{parameter_name, IsConstantFound}
 use Rattle.decode_back.specs.TermWalks.{named_types, AreTaken, IsNoType, LacksTypes, IsHeadFound}
 use Rattle.decode_back.specs.TermWalks as walks

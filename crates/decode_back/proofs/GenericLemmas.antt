@@ -1,5 +1,5 @@
 -- The generic type that a declared type tells.
-use Rattle.std.proofs.Common.{◌≡◌, ℕ, suc, ◌+◌, ◌*◌, ◌<◌, ◌≤◌, ◌&&◌, List, [], ◌∷◌, map, Bool, true, false, Option, Some, None, refl, sym, ap, subst, ◌∙◌, arith}
+use Rattle.std.proofs.Common.{◌≡◌, ℕ, ◌*◌, ◌<◌, ◌≤◌, List, map, Bool, true, false, Option, Some, None, refl, sym, ap, subst, ◌∙◌, arith}
 use Rattle.std.specs.Prelude.{nat_eq, min, ◌^◌, ◌-◌}
 use Rattle.std.specs.Bool.{Decides}
 use Rattle.std.proofs.lemmas.Bool.Decides.{Decides-eqb}
@@ -8,20 +8,20 @@ use lib.Pointwise.{pointwise}
 use Rattle.hol_spec.specs.Names.{Name}
 use Rattle.hol_spec.specs.Lists.{distinct}
 use Rattle.hol_spec.specs.Limits.{greatest_size, greatest_depth, type_size, type_depth}
-use Rattle.hol_spec.specs.Types.{HolType, type_variables}
+use Rattle.hol_spec.specs.Types.{type_variables}
 use Rattle.hol_spec.specs.ClosedForm.{ClosedType}
 use Rattle.hol_type.specs.declared.table.TypeId.{TypeId}
 use Rattle.hol_type.specs.Tables.{Holds, tree_at}
 use Rattle.hol_type.specs.TableLaws.{Holds-tree_at}
 use Rattle.hol_term.specs.Tables.{Trees}
 use Rattle.lp_spec.specs.Trees.{Tree, size}
-use Rattle.lp_spec.specs.Modules.{Declaration, term_symbol}
+use Rattle.lp_spec.specs.Modules.{Declaration}
 use Rattle.module_spec.specs.TypeEnc.{place}
 use Rattle.module_spec.specs.ConstantMeaning.{parameter_places, numbers}
 use Rattle.decode_spec.specs.Options.{bind, provided}
 use Rattle.decode_laws.specs.OptionLaws.{some-injective, bind-is, provided-is, provided-true}
 use Rattle.decode_spec.specs.Opened.{open_type}
-use Rattle.decode_spec.specs.Decode.{symbol_argument, term_part, peel_types, type_of_tree, generic_of}
+use Rattle.decode_spec.specs.Decode.{term_part, peel_types, type_of_tree, generic_of}
 use Rattle.decode_laws.specs.TypeLaws.{type_of_tree-is}
 use Rattle.decode_laws.specs.SizeLaws.{type-size}
 use Rattle.decode_laws.specs.GenericLaws.{count-size, numbered-in_order, in_order-numbered}

@@ -1,5 +1,5 @@
 -- What is found of the head of a spine, and of the whole.
-use Rattle.std.proofs.Common.{◌≡◌, ℕ, suc, ◌+◌, ◌-◌, ◌<◌, ◌≤◌, List, [], ◌∷◌, ◌++◌, Option, Some, None, refl, sym, ap, subst, ◌∙◌, arith}
+use Rattle.std.proofs.Common.{◌≡◌, ℕ, suc, ◌+◌, ◌≤◌, List, Option, Some, None, refl, sym, ap, subst, arith}
 use Rattle.hol_spec.specs.Limits.{greatest_size, greatest_depth, term_size}
 use Rattle.hol_spec.specs.ClosedForm.{ClosedType, ClosedTerm}
 use Rattle.hol_type.specs.declared.table.TypeId.{TypeId}

@@ -2,10 +2,14 @@ pub mod AbstractionLemmas
 pub mod ArgumentLemmas
 pub mod ConstantLemmas
 pub mod ConstantTerms
+pub mod DecodeLemmas
 pub mod GenericLemmas
 pub mod HeadLemmas
+pub mod JudgeLemmas
 pub mod NameLemmas
+pub mod PartsLemmas
 pub mod PeelLemmas
+pub mod SequentLemmas
 pub mod SubstitutionLemmas
 pub mod SymbolLemmas
 pub mod TermLemmas

@@ -1,13 +1,11 @@
 -- How trees begin: products over types, and symbols with one argument.
-use Rattle.std.proofs.Common.{◌≡◌, ℕ, suc, ◌+◌, ◌&&◌, List, [], ◌∷◌, ◌++◌, Bool, true, false, Option, Some, None, refl, sym, ap, subst, ◌∙◌, append_assoc, arith}
-use Rattle.std.specs.Prelude.{nat_eq}
-use Rattle.std.specs.Option.{option_map}
+use Rattle.std.proofs.Common.{◌≡◌, ℕ, suc, ◌+◌, List, [], ◌∷◌, ◌++◌, Bool, true, false, Some, None, refl, sym, ap, ◌∙◌, arith}
 use Rattle.lp_spec.specs.Trees.{Tree, SortType, SortKind, Var, Sym, App, Lam, Pi, tree_eq}
-use Rattle.lp_spec.specs.Modules.{types, type_symbol}
+use Rattle.lp_spec.specs.Modules.{types}
 use Rattle.lp_term.specs.declared.LpId.{LpId}
 use Rattle.lp_term.specs.declared.LpNode.{LpNode}
 use Rattle.lp_term.specs.declared.LpNode.TheVariants as node
-use Rattle.lp_term.specs.Tables.{tree_at, trees_at, tree_of_node}
+use Rattle.lp_term.specs.Tables.{tree_of_node}
 use Rattle.decode_spec.specs.Options.{provided}
 use Rattle.decode_spec.specs.Decode.{is_types, peel_one, peel_types, symbol_argument, peel_on, peel}
 use Rattle.decode_back.specs.TermWalks.{IsHead}

@@ -1,10 +1,8 @@
 -- Lemmas on the walk over terms.
-use Rattle.std.proofs.Common.{◌≡◌, ℕ, zero, suc, ◌+◌, ◌-◌, ◌*◌, ◌<◌, ◌≤◌, List, [], ◌∷◌, ◌++◌, map, length, get_or, ◌⊎◌, inl, inr, ⊎_elim, Bool, true, false, Option, Some, None, refl, sym, ap, subst, ◌∙◌, arith}
-use Rattle.std.specs.Prelude.{min, ◌^◌, slice_get, nat_lt, nat_eq, not, ◌&&◌, MatchOption, IfSome}
-use Rattle.std.specs.Option.{unwrap_or}
+use Rattle.std.proofs.Common.{◌≡◌, ℕ, zero, suc, ◌+◌, ◌-◌, ◌<◌, ◌≤◌, List, [], ◌∷◌, ◌++◌, map, length, get_or, ◌⊎◌, inl, inr, ⊎_elim, Bool, true, Option, Some, None, refl, sym, ap, subst, ◌∙◌, arith}
+use Rattle.std.specs.Prelude.{min, ◌^◌, nat_lt, not, ◌&&◌, MatchOption, IfSome}
 use Rattle.std.proofs.lemmas.Bool.Decides.{Decides-ltb, Decides-not}
-use Rattle.hol_spec.specs.Names.{Name}
-use Rattle.hol_spec.specs.Limits.{greatest_size, greatest_depth, type_size, type_depth, term_size, term_depth}
+use Rattle.hol_spec.specs.Limits.{greatest_size, term_size}
 use Rattle.hol_spec.specs.Terms as term
 use Rattle.hol_spec.specs.Terms.{Term}
 use Rattle.hol_spec.specs.TermBinding.{lift}
@@ -12,7 +10,7 @@ use Rattle.hol_spec.specs.ClosedForm.{ClosedType, ClosedTypes, ClosedTerm}
 use Rattle.hol_term.specs.declared.TermId.{TermId}
 use Rattle.hol_term.specs.Tables.{Trees, Holds, Keeps, term_at, terms_at, AreKnown}
 use Rattle.hol_term.specs.TableLaws.{terms_at-Keeps, Some-term_in, term_in-Some}
-use Rattle.lp_spec.specs.Trees.{Tree, SortType, SortKind, Var, Sym, App, Pi}
+use Rattle.lp_spec.specs.Trees.{Tree, SortType, SortKind, Var, App, Pi}
 use Rattle.lp_term.specs.declared.LpId.{LpId}
 use Rattle.lp_term.specs.declared.LpNode.{LpNode}
 use Rattle.lp_term.specs.declared.LpNode.TheVariants as node
@@ -20,7 +18,7 @@ use Rattle.lp_term.specs.Tables.{tree_at, tree_of_node}
 use Rattle.lp_spec.specs.Modules.{Declaration, applied}
 use Rattle.module_spec.specs.TypeEnc.{Place, depth_of}
 use Rattle.decode_spec.specs.Opened.{open_type, type_at, open_term, open_variables}
-use Rattle.decode_spec.specs.Decode.{term_from, term_parameter, constant_from}
+use Rattle.decode_spec.specs.Decode.{term_from, constant_from}
 use Rattle.decode_spec.specs.Options.{provided}
 use Rattle.decode_laws.specs.OptionLaws.{some-injective, or_else-is, provided-is}
 use Rattle.decode_laws.specs.SymbolLaws.{and-is}

@@ -32,8 +32,7 @@ use Rattle.decode_spec.specs.Opened.{open_type, open_types}
 use Rattle.decode_spec.specs.Decode.{operator_at, type_from, closed_count}
 use Rattle.decode_laws.specs.WalkLaws.{NoType, none-argument, none-operator, some-argument}
 use Rattle.hol_term.specs.Tables.{Trees}
-use Rattle.decode_back.specs.declared.places.Place.{Place as APlace}
-use Rattle.decode_back.specs.Walks.{at_place, parameter_name, AreArguments, IsTypeFound}
+use Rattle.decode_back.specs.Walks.{parameter_name, AreArguments, IsTypeFound}
 
 pub IfOk-weaker : {A E : Type 0} (P Q : A → Type 0) (r : Result A E) → IfOk r P → ((x : A) → P x → Q x) → IfOk r Q
 IfOk-weaker P Q (Ok x) h f = f x h

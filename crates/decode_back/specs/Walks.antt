@@ -1,5 +1,5 @@
 -- What a walk over the nodes of a type or a term answers.
-use Rattle.std.specs.Prelude.{◌≡◌, ℕ, suc, Bool, true, ◌&&◌, ◌≤◌, ◌+◌, ◌/◌, ◌%◌, List, [], ◌∷◌, reverse, Option, None, Some}
+use Rattle.std.specs.Prelude.{◌≡◌, ℕ, suc, Bool, true, ◌&&◌, ◌≤◌, ◌/◌, ◌%◌, List, [], ◌∷◌, reverse, Option, None, Some}
 use Rattle.hol_spec.specs.Names.{Name}
 use Rattle.hol_spec.specs.NameEquality.{name_eq}
 use Rattle.hol_spec.specs.Types.{types_of}

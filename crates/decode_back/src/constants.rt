@@ -31,7 +31,7 @@ use std::alloc::Global;
 pub(crate) const TERM: usize = 4;
 
 // The greatest depth of a type.
-const GREATEST_DEPTH: usize = 1024;
+pub(crate) const GREATEST_DEPTH: usize = 1024;
 
 /// A constant: its name, how many variables its generic type has, and that type, in which they have the names of parameters.
 #[derive(Drop)]
@@ -288,7 +288,7 @@ fn generic_of(
 }
 
 // How many products over `type` a tree begins with, and what they end in.
-fn peel_types(table: &LpTable, id: LpId) -> (usize, LpId)
+pub(crate) fn peel_types(table: &LpTable, id: LpId) -> (usize, LpId)
     requires { id.0 < length table.now }
     ensures peeled { ◌≡◌ {A = ℕ × Tree} (peeled (tree_at table.now id.0)) (result.0, tree_at table.now result.1.0) }
     ensures known { result.1.0 < length table.now }
@@ -321,7 +321,7 @@ pub(crate) fn symbol_argument(table: &LpTable, symbol: usize, id: LpId) -> Optio
 }
 
 // Whether names are those of the parameters from 0 on, so many.
-fn are_numbered(alloc: Global, names: &[Name], count: usize) -> Result<bool, Memory>
+pub(crate) fn are_numbered(alloc: Global, names: &[Name], count: usize) -> Result<bool, Memory>
     requires few { count ≤ greatest_number }
     ensures { IfOk result (λ told. Decides told (names.now ≡ map the_name (numbers 0 count))) }
 {

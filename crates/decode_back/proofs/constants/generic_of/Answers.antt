@@ -1,4 +1,4 @@
-use Rattle.std.proofs.Common.{◌≡◌, ℕ, Some, Option, ap, sym, subst, ◌∙◌, arith}
+use Rattle.std.proofs.Common.{◌≡◌, ℕ, Some, ap, sym, subst, ◌∙◌, arith}
 use Rattle.hol_spec.specs.Limits.{greatest_depth}
 use Rattle.hol_spec.specs.Types.{type_variables}
 use Rattle.hol_type.specs.Tables as type

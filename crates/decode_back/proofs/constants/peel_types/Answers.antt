@@ -1,9 +1,9 @@
 use Rattle.std.proofs.Common.{◌≡◌, ℕ, ap, subst, sym, ◌∙◌, refl, arith}
-use Rattle.lp_spec.specs.Trees.{Tree, Pi}
+use Rattle.lp_spec.specs.Trees.{Tree}
 use Rattle.lp_term.specs.Tables.{tree_at}
 use Rattle.decode_spec.specs.Decode.{peel_types}
 use Rattle.decode_back.proofs.TypeWalk.{at-Holds}
-use Rattle.decode_back.proofs.PeelLemmas.{after, after-none, peel_types-other, peel_types-domain, peel_types-more, peeled-more, peeled-end}
+use Rattle.decode_back.proofs.PeelLemmas.{after-none, peel_types-other, peel_types-domain, peel_types-more, peeled-more, peeled-end}
 use Rattle.decode_back.proofs.constants.peel_types.Goals as goal
 
 pub loop-domain-init : goal.loop-domain-init

@@ -1,4 +1,4 @@
-use Rattle.std.proofs.Common.{ap, sym, ◌∙◌}
+use Rattle.std.proofs.Common.{sym, ◌∙◌}
 use Rattle.lp_term.specs.Tables.{tree_at}
 use Rattle.holide_sig.specs.Modules.{declarations_of}
 use Rattle.decode_back.proofs.SymbolLemmas.{unnamed, is-primitive, other-type, is-named}

@@ -1,12 +1,10 @@
-use Rattle.std.proofs.Common.{◌≡◌, ◌<◌, ◌≤◌, ◌+◌, ◌-◌, Some, refl, sym, ap, subst, ◌∙◌, arith}
+use Rattle.std.proofs.Common.{◌≡◌, ◌-◌, ap, subst, ◌∙◌, arith}
 use Rattle.std.specs.Prelude.{min, ◌^◌}
 use Rattle.hol_spec.specs.Limits.{type_size, term_size, term_depth}
 use Rattle.hol_type.specs.Refusals.{PassesLimit}
-use Rattle.hol_spec.specs.TermBinding.{put, close}
 use Rattle.hol_spec.specs.Terms as term
 use Rattle.hol_type.specs.Tables.{tree_at}
-use Rattle.hol_term.specs.Tables.{term_at, type_at, Holds}
-use Rattle.hol_term.specs.TableLaws.{Some-term_in}
+use Rattle.hol_term.specs.Tables.{term_at, type_at}
 use Rattle.hol_term.specs.Refusals.{RefusesTerm}
 use Rattle.decode_back.specs.TermWalks.{outside_name}
 use Rattle.decode_back.proofs.AbstractionLemmas.{lam-made, lam-short, lam-refused, lam-held}

@@ -1,8 +1,7 @@
-use Rattle.std.proofs.Common.{◌≡◌, ◌<◌, ◌≤◌, ◌-◌, ◌+◌, Some, length, refl, sym, ap, subst, ◌∙◌, arith}
+use Rattle.std.proofs.Common.{◌≡◌, ◌<◌, ◌-◌, ◌+◌, ap, subst, ◌∙◌, arith}
 use Rattle.std.specs.Prelude.{min, ◌^◌}
 use Rattle.std.proofs.lemmas.Option.{slice_get_within}
-use Rattle.hol_spec.specs.Types.{HolType}
-use Rattle.hol_spec.specs.Limits.{type_size, type_depth, term_size, term_depth}
+use Rattle.hol_spec.specs.Limits.{type_size, type_depth, term_size}
 use Rattle.hol_spec.specs.Substitution.{substitute}
 use Rattle.hol_spec.specs.Terms as term
 use Rattle.hol_type.specs.Tables.{pairs_at}

@@ -1,6 +1,4 @@
-use Rattle.std.proofs.Common.{◌≡◌, ◌≤◌, ◌++◌, List, length}
-use Rattle.hol_spec.specs.ClosedForm.{ClosedTypes}
-use Rattle.lp_spec.specs.Trees.{Tree}
+use Rattle.std.proofs.Common.{◌≤◌}
 use Rattle.lp_term.specs.Tables as lp
 use Rattle.lp_term.specs.Tables.{trees_at}
 use Rattle.hol_type.specs.Tables.{pairs_at, ArePairsKnown}

@@ -1,12 +1,10 @@
-use Rattle.std.proofs.Common.{◌≡◌, ◌<◌, ◌≤◌, ◌+◌, ◌-◌, Some, length, refl, sym, subst, ◌∙◌, arith}
+use Rattle.std.proofs.Common.{◌≡◌, ◌<◌, ◌+◌, ◌-◌, Some, refl, subst, arith}
 use Rattle.hol_spec.specs.ClosedForm.{ClosedTerm}
 use Rattle.lp_spec.specs.Trees.{Var}
-use Rattle.module_spec.specs.TypeEnc.{depth_of}
 use Rattle.decode_spec.specs.Decode.{term_from}
 use Rattle.decode_back.specs.Walks.{at_place}
-use Rattle.decode_back.specs.TermWalks.{IsTermFound}
 use Rattle.decode_back.proofs.TypeWalk.{IfOk-both}
-use Rattle.decode_back.proofs.TermLemmas.{bound-found, nothing-NoTerm, large-NoTerm, variable-nothing, variable-free, known-at, free-short, free-found}
+use Rattle.decode_back.proofs.TermLemmas.{bound-found, nothing-NoTerm, variable-nothing, variable-free, known-at, free-short, free-found}
 use Rattle.decode_back.proofs.terms.variable.Goals as goal
 
 pub returns-then-number-place-clause-decoded : goal.returns-then-number-place-clause-decoded

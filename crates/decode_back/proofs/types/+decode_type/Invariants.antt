@@ -1,4 +1,4 @@
-use Rattle.std.proofs.Common.{◌≡◌, ◌<◌, ◌≤◌, length}
+use Rattle.std.proofs.Common.{◌≡◌, ◌<◌, length}
 use Rattle.hol_spec.specs.ClosedForm.{ClosedTypes}
 use Rattle.hol_type.specs.Tables.{AreKnown}
 use Rattle.hol_term.specs.Tables.{Keeps}

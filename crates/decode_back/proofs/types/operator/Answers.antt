@@ -1,9 +1,9 @@
-use Rattle.std.proofs.Common.{sym, subst, ◌∙◌, arith}
+use Rattle.std.proofs.Common.{sym, subst, ◌∙◌}
 use Rattle.hol_type.specs.Tables.{AreKnown, types_at}
 use Rattle.hol_type.specs.Refusals.{RefusesType}
 use Rattle.hol_spec.specs.Types.{operator, types_of}
 use Rattle.holide_sig.specs.Modules.{declarations_of}
-use Rattle.decode_back.proofs.TypeWalk.{long, AreKnown-reverse, arguments-count, symbol-none, symbol-some, symbol-refused, not-within, undeclared-none}
+use Rattle.decode_back.proofs.TypeWalk.{long, AreKnown-reverse, arguments-count, symbol-none, symbol-some, symbol-refused, not-within}
 use Rattle.decode_back.proofs.types.operator.Goals as goal
 
 pub returns-in_default-clause-decoded : goal.returns-in_default-clause-decoded

@@ -1,0 +1,91 @@
+-- What a walk over the parts of a sequent's product answers.
+use Rattle.std.specs.Prelude.{◌≡◌, ℕ, ◌<◌, ◌≤◌, ◌+◌, List, [], ◌∷◌, length, map, Bool, ◌&&◌, Option, None, Some}
+use Rattle.std.specs.declared.vec.Vec.{Vec}
+use Rattle.std.specs.declared.alloc.Global.{Global}
+use Rattle.hol_spec.specs.Limits.{greatest_size, greatest_depth, greatest_parameter_count, type_size, type_depth, term_size, term_depth, sequent_size}
+use Rattle.hol_spec.specs.Primitives.{bool}
+use Rattle.hol_spec.specs.Terms.{Term, HasType}
+use Rattle.hol_spec.specs.ClosedForm.{ClosedType, ClosedTerm, ClosedSequent, closed_form}
+use Rattle.hol_term.specs.declared.TermId.{TermId}
+use Rattle.hol_term.specs.Tables.{Trees, term_at, terms_at}
+use Rattle.lp_spec.specs.Trees.{Tree}
+use Rattle.lp_spec.specs.Modules.{Declaration}
+use Rattle.lp_term.specs.Tables as lp
+use Rattle.sequent.specs.declared.closed.Closed.{Closed}
+use Rattle.sequent.specs.Closed.{closed_view}
+use Rattle.decode_spec.specs.Opened.{open_type, open_term, opened, IsOpen}
+use Rattle.decode_spec.specs.ClosedFormTest.{at_most, is_formula}
+use Rattle.decode_spec.specs.Decode.{Parts, proof_part, sequent_from}
+use Rattle.decode_back.specs.declared.sequents.Parts.{Parts as PartsFound}
+use Rattle.decode_back.specs.Walks.{parameter_name}
+use Rattle.decode_back.specs.TermWalks.{AreVariables}
+
+-- the numbers of the trees of a product's parts are of the table
+pub record ArePartsKnown (trees : List Tree) (found : PartsFound) : Type 0 where
+  pub variables : lp.AreKnown trees found.variables.items
+  pub hypotheses : lp.AreKnown trees found.hypotheses.items
+  pub conclusion : found.conclusion.0 < length trees
+
+-- the parts of a product are those of these trees
+pub record AreParts (trees : List Tree) (p : Parts) (found : PartsFound) : Type 0 where
+  pub type_variables : p.type_variables ≡ found.type_variables
+  pub variables : p.variables ≡ lp.trees_at trees found.variables.items
+  pub hypotheses : p.hypotheses ≡ lp.trees_at trees found.hypotheses.items
+  pub conclusion : proof_part p.end ≡ Some (lp.tree_at trees found.conclusion.0)
+
+-- a type and the term of a free variable of it are within the limits
+pub record IsVariableWithin (t : ClosedType) : Type 0 where
+  pub size : 1 + type_size (open_type parameter_name t) ≤ greatest_size
+  pub depth : 1 + type_depth (open_type parameter_name t) ≤ greatest_depth
+
+abbrev pub AreVariablesWithin : List ClosedType → Type 0
+AreVariablesWithin [] = Unit {0}
+AreVariablesWithin (t ∷ ts) = IsVariableWithin t × AreVariablesWithin ts
+
+-- the free variables of these types are in the table, or there are none within the limits
+abbrev pub AreVariablesFound : Option (List ClosedType) → Trees → Option (Vec TermId Global) → Type 0
+AreVariablesFound o trees None = (types : List ClosedType) → o ≡ Some types → AreVariablesWithin types → ⊥
+AreVariablesFound o trees (Some ids) = (types : List ClosedType) × (o ≡ Some types) × AreVariables trees ids.items types
+
+-- the sum of the sizes of terms, and that all are no deeper than the greatest depth
+abbrev pub all_size : List ClosedType → List ClosedTerm → ℕ
+all_size types [] = 0
+all_size types (c ∷ cs) = term_size (open_term parameter_name types c) + all_size types cs
+
+abbrev pub AreShallow : List ClosedType → List ClosedTerm → Type 0
+AreShallow types [] = Unit {0}
+AreShallow types (c ∷ cs) = (term_depth (open_term parameter_name types c) ≤ greatest_depth) × AreShallow types cs
+
+-- the hypotheses are in the table, and what is left and their sizes are what there was; or there are none within that and the greatest depth
+abbrev pub AreHypothesesFound : List ClosedType → ℕ → ℕ → Option (List ClosedTerm) → Trees → Option (Vec TermId Global) → Type 0
+AreHypothesesFound types there left o trees None = (cs : List ClosedTerm) → o ≡ Some cs → all_size types cs ≤ there → AreShallow types cs → ⊥
+AreHypothesesFound types there left o trees (Some ids) =
+    (cs : List ClosedTerm) × (o ≡ Some cs) × (terms_at trees ids.items ≡ map (open_term parameter_name types) cs) × (left + all_size types cs ≡ there)
+
+-- the terms of a closed sequent with names for its parameters are in the table, and it is within the limits of size and of count
+pub record IsMade (trees : Trees) (count : ℕ) (variables ids : List TermId) (concl : TermId) (s : ClosedSequent) : Type 0 where
+  pub count_is : s.type_variable_count ≡ count
+  pub variables_are : AreVariables trees variables s.free_variable_types
+  pub hypotheses_are : terms_at trees ids ≡ (opened parameter_name s).hypotheses
+  pub conclusion_is : term_at trees concl.0 ≡ (opened parameter_name s).conclusion
+  pub small : sequent_size (opened parameter_name s) ≤ greatest_size
+  pub few : count + length variables + length ids ≤ greatest_parameter_count
+
+-- the closed sequent is open, and this is its closed form; or it isn't open
+abbrev pub IsJudged : ClosedSequent → Option Closed → Type 0
+IsJudged s None = IsOpen parameter_name s → ⊥
+IsJudged s (Some closed) = IsOpen parameter_name s × (closed_view closed ≡ closed_form (opened parameter_name s))
+
+-- a term is a formula within the greatest depth
+pub record IsFormula (t : Term) : Type 0 where
+  pub typed : HasType t bool
+  pub depth : term_depth t ≤ greatest_depth
+
+-- the parts of a product stand for a closed form, which is this; or they stand for none
+abbrev pub IsSequentFound : List Declaration → Parts → Option Closed → Type 0
+IsSequentFound d p None = (s : ClosedSequent) → sequent_from d p ≡ Some s → IsOpen parameter_name s → ⊥
+IsSequentFound d p (Some closed) = (s : ClosedSequent) × (sequent_from d p ≡ Some s) × IsOpen parameter_name s × (closed_view closed ≡ s)
+
+-- the test for that
+abbrev pub is_bounded_formula : Term → Bool
+is_bounded_formula t = at_most greatest_depth (term_depth t) && is_formula t
