@@ -1,3 +1,4 @@
 pub mod AnswerTexts
+pub mod OneDecoding
 pub mod OneDue
 pub mod Promised

@@ -1,26 +1,25 @@
 -- A check of a file that is told has at most one answer that is due, and what comes by another cause is not due.
-use Rattle.std.proofs.Common.{◌≡◌, ◌<◌, ◌≤◌, ℕ, List, [], ◌∷◌, length, take, Option, None, Some, IsTrue, Bool, true, false, refl, sym, ap, subst, ◌∙◌, arith, ⊎_elim, min}
-use Rattle.std.specs.Prelude.{is_some, slice_get, nat_le, if◌then◌else◌}
+use Rattle.std.proofs.Common.{◌≡◌, ◌<◌, ◌≤◌, ℕ, List, length, take, Option, None, Some, IsTrue, Bool, true, false, refl, sym, ap, subst, ◌∙◌, arith, ⊎_elim, min}
+use Rattle.std.specs.Prelude.{is_some, nat_le, if◌then◌else◌}
 use Rattle.std.proofs.lemmas.Bool.{cases_lt}
 use Rattle.std.proofs.lemmas.Grind.{common_steps}
 use Rattle.std.proofs.lemmas.Option.{slice_get_within, same_Some}
-use Rattle.bridge_base.specs.Outside.{Files, file}
+use Rattle.bridge_base.specs.Outside.{Files}
 use Rattle.lp_spec.specs.Trees.{Tree}
 use Rattle.lp_spec.specs.Modules.{Declaration}
 use Rattle.lp_spec.specs.Reading.{Reads}
-use Rattle.lp_spec.specs.ReadingFaults.{Fault, NoPrelude, BadText, UnknownName, NameTwice, DkTooDeep, DkTooLong, Refusal, refusal, Answer, reads, refused, answer, answer_within, cut_at, read_bytes, unread}
+use Rattle.lp_spec.specs.ReadingFaults.{Fault, NoPrelude, BadText, UnknownName, NameTwice, DkTooDeep, DkTooLong, Answer, reads, refused, answer, answer_within, cut_at, read_bytes, unread}
 use Rattle.lp_shape.specs.Check.{Reply, Found, No, Ends, declaration_plan, Check}
 use Rattle.lp_shape.specs.CheckLaws.{one_reply, Found-No}
-use Rattle.lp_shape.specs.CheckerLaw.{PassesAt}
 use Rattle.text_laws.specs.ReadingLaws.{Reads-answer}
 use Rattle.dk_read.specs.States.{fault_of}
 use Rattle.dk_read.specs.Texts.{Refuses}
 use Rattle.dk_read.specs.declared.faults.DkKind.{DkKind}
 use Rattle.dk_read.specs.declared.faults.DkKind.TheVariants as kind
-use Rattle.bridge_spec.specs.FileChecks.{max_file, IsReadOf, ReadsAs, IsRefusedAt, IsAccepted, IsIllTyped, IsOverBudget, EndsWithin, PassWithin, PassesWithin, FailsWithin}
+use Rattle.bridge_spec.specs.FileChecks.{max_file, ReadsAs, IsRefusedAt, IsAccepted, IsIllTyped, IsOverBudget}
 use Rattle.bridge_spec.specs.Answers.{IsDueOfCheck}
 use Rattle.bridge_spec.specs.declared.status.Status.{Status}
-use Rattle.bridge_spec.specs.declared.status.Status.TheVariants.{Done, Refused, Usage, ReadFault, WriteFault, Memory, DkRefused, IllTyped, OverBudget}
+use Rattle.bridge_spec.specs.declared.status.Status.TheVariants.{Done, Refused, Usage, ReadFault, WriteFault, Memory, DkRefused, IllTyped, OverBudget, NotSequent}
 
 -- A check has one reply.
 one_check : (m : List Declaration) (i : ℕ) {a b : Reply} {n k : ℕ} → Check m i a n → Check m i b k → a ≡ b
@@ -33,7 +32,7 @@ not-both : (m : List Declaration) (i : ℕ) {t : Tree} {n k : ℕ} {X : Type 0} 
 not-both m i c d = absurd (Found-No (one_check m i c d))
 
 -- Two numbers are equal where neither is below the other.
-neither-below : (i j : ℕ) → (i < j → ⊥) → (j < i → ⊥) → i ≡ j
+pub neither-below : (i j : ℕ) → (i < j → ⊥) → (j < i → ⊥) → i ≡ j
 neither-below i j f g = ⊎_elim (λ less. absurd (f less)) (λ no. ⊎_elim (λ less. absurd (g less)) (λ other. omega (arith, no, other)) (cases_lt j i)) (cases_lt i j)
 
 -- A text within the limit of files that reads as a module has it for its answer.
@@ -64,7 +63,7 @@ kind_of-fault_of kind.DkTooDeep = refl
 kind_of-fault_of kind.DkTooLong = refl
 
 -- A text has one refusal.
-one_refusal : (a : Answer) (p q : ℕ) (k l : DkKind) → Refuses a p k → Refuses a q l → DkRefused p k ≡ DkRefused q l
+pub one_refusal : (a : Answer) (p q : ℕ) (k l : DkKind) → Refuses a p k → Refuses a q l → DkRefused p k ≡ DkRefused q l
 one_refusal a p q k l h g =
     let two : refused h.r ≡ refused g.r = sym h.is ∙ g.is in
     let same : h.r ≡ g.r = cc in
@@ -78,10 +77,10 @@ reads-or-refused text m p k within h g = let two : reads m ≡ refused g.r = sym
 
 module _ (files : Files) (name : List ℕ) where
   -- A file that is told reads as one module, and is not refused.
-  one_module : (m n : List Declaration) → ReadsAs (Some files) name m → ReadsAs (Some files) name n → m ≡ n
+  pub one_module : (m n : List Declaration) → ReadsAs (Some files) name m → ReadsAs (Some files) name n → m ≡ n
   one_module m n h g = sym (h.only n (subst (λ text. Reads text n) (g.read ∙ sym h.read) g.reads))
 
-  read_or_refused : (m : List Declaration) (p : ℕ) (k : DkKind) {X : Type 0} → ReadsAs (Some files) name m → IsRefusedAt (Some files) name p k → X
+  pub read_or_refused : (m : List Declaration) (p : ℕ) (k : DkKind) {X : Type 0} → ReadsAs (Some files) name m → IsRefusedAt (Some files) name p k → X
   read_or_refused m p k h g = reads-or-refused h.text m p k h.within h.reads (subst (λ text. Refuses (answer_within (Some max_file) text) p k) (g.read ∙ sym h.read) g.refused)
 
   module _ (budget : ℕ) where
@@ -98,6 +97,7 @@ module _ (files : Files) (name : List ℕ) where
     accepted_due m h WriteFault d = absurd d
     accepted_due m h Memory d = absurd d
     accepted_due m h (OverBudget i) d = absurd d
+    accepted_due m h (NotSequent i) d = absurd d
 
     refused_due : (p : ℕ) (k : DkKind) → IsRefusedAt (Some files) name p k → (due : Status) → IsDueOfCheck (Some files) name budget due → DkRefused p k ≡ due
     refused_due p k h Done d = read_or_refused d.m p k d.file h
@@ -109,6 +109,7 @@ module _ (files : Files) (name : List ℕ) where
     refused_due p k h WriteFault d = absurd d
     refused_due p k h Memory d = absurd d
     refused_due p k h (OverBudget i) d = absurd d
+    refused_due p k h (NotSequent i) d = absurd d
 
     ill_typed_due : (i : ℕ) → IsIllTyped (Some files) name i → (due : Status) → IsDueOfCheck (Some files) name budget due → IllTyped i ≡ due
     ill_typed_due i h Done d =
@@ -126,6 +127,7 @@ module _ (files : Files) (name : List ℕ) where
     ill_typed_due i h WriteFault d = absurd d
     ill_typed_due i h Memory d = absurd d
     ill_typed_due i h (OverBudget j) d = absurd d
+    ill_typed_due i h (NotSequent j) d = absurd d
 
     over_budget_due : (i : ℕ) → IsOverBudget (Some files) name budget i → (due : Status) → IsDueOfCheck (Some files) name budget due → ⊥
     over_budget_due i h Done d =
@@ -145,6 +147,7 @@ module _ (files : Files) (name : List ℕ) where
     over_budget_due i h WriteFault d = absurd d
     over_budget_due i h Memory d = absurd d
     over_budget_due i h (OverBudget j) d = absurd d
+    over_budget_due i h (NotSequent j) d = absurd d
 
 -- Over a shelf that tells its files.
 module _ (told : Option Files) (name : List ℕ) (budget : ℕ) (tells : IsTrue (is_some told)) where

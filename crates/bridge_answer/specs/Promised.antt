@@ -1,5 +1,5 @@
 -- What a call promises comes of its outputs, and of what the outside keeps. Each form has the facts on its answers that this rests on.
-use Rattle.std.proofs.Common.{◌≡◌, ◌≤◌, ◌<◌, ◌⊎◌, inl, inr, ℕ, List, [], ◌∷◌, length, Option, None, Some, IsTrue, true, refl, sym, ap, subst, ◌∙◌, arith}
+use Rattle.std.proofs.Common.{◌≡◌, ◌≤◌, ◌⊎◌, inl, inr, ℕ, List, [], Option, None, Some, IsTrue, refl, sym, ap, subst, ◌∙◌}
 use Rattle.std.specs.Prelude.{is_some}
 use Rattle.std.proofs.lemmas.List.{append-nil}
 use Rattle.bridge_base.specs.Outside.{Files, Gains, file}
@@ -11,7 +11,7 @@ use Rattle.module_spec.specs.Image.{image}
 use Rattle.module_spec.specs.Stands.{Stands}
 use Rattle.bridge_spec.specs.FirstPath.{first_path}
 use Rattle.bridge_spec.specs.WithoutDefinitions.{without_definitions}
-use Rattle.bridge_spec.specs.Forms.{Form, translate, check, show}
+use Rattle.bridge_spec.specs.Forms.{Form, translate, check, show, decode}
 use Rattle.bridge_spec.specs.Texts.{usage_line}
 use Rattle.bridge_spec.specs.Calls.{Shelved, Sunk, Call}
 use Rattle.bridge_spec.specs.FileChecks.{IsAccepted, ReadsWellTyped}
@@ -19,8 +19,9 @@ use Rattle.bridge_spec.specs.Answers.{RunsTo, FormRunsTo, HasOutcome, answer_of,
 use Rattle.bridge_spec.specs.Outputs.{Gained, Failed, Delivers, Outputs}
 use Rattle.bridge_spec.specs.Promises.{ReadWell, Aside, KeepsOut, Promise}
 use Rattle.bridge_spec.specs.declared.status.Status.{Status}
-use Rattle.bridge_spec.specs.declared.status.Status.TheVariants.{Done, Refused, Usage, ReadFault, WriteFault, Memory, DkRefused, IllTyped, OverBudget}
+use Rattle.bridge_spec.specs.declared.status.Status.TheVariants.{Done, Refused, Usage, ReadFault, WriteFault, Memory, DkRefused, IllTyped, OverBudget, NotSequent}
 use Rattle.bridge_answer.specs.OneDue.{accepted-due, refused-due, ill_typed-due, over_budget-due}
+use Rattle.bridge_answer.specs.OneDecoding as decoding
 
 -- What is asked of the answers of a form, before anything is written.
 pub record AreAnswers (form : Option Form) (shelf : Shelved) : Type 0 where
@@ -46,6 +47,7 @@ aside Memory fact h = tt
 aside (DkRefused place kind) fact h = h
 aside (IllTyped i) fact h = h
 aside (OverBudget i) fact h = h
+aside (NotSequent i) fact h = h
 
 -- No form: one answer.
 no_form-usage : (shelf : Shelved) (answer : Status) (out note : List ℕ) → FormAnswers None shelf answer out note → answer ≡ Usage
@@ -58,6 +60,7 @@ no_form-usage shelf Memory out note h = absurd h
 no_form-usage shelf (DkRefused place kind) out note h = absurd h
 no_form-usage shelf (IllTyped i) out note h = absurd h
 no_form-usage shelf (OverBudget i) out note h = absurd h
+no_form-usage shelf (NotSequent i) out note h = absurd h
 
 no_form-quiet : (shelf : Shelved) (answer : Status) (out note : List ℕ) → FormAnswers None shelf answer out note → out ≡ []
 no_form-quiet shelf Done out note h = absurd h
@@ -69,6 +72,7 @@ no_form-quiet shelf Memory out note h = absurd h
 no_form-quiet shelf (DkRefused place kind) out note h = absurd h
 no_form-quiet shelf (IllTyped i) out note h = absurd h
 no_form-quiet shelf (OverBudget i) out note h = absurd h
+no_form-quiet shelf (NotSequent i) out note h = absurd h
 
 no_form-answers : (shelf : Shelved) → AreAnswers None shelf
 no_form-answers shelf = record {
@@ -98,6 +102,7 @@ translate-exact names shelf well Memory due out note h d = tt
 translate-exact names shelf well (DkRefused place kind) due out note h d = absurd h
 translate-exact names shelf well (IllTyped i) due out note h d = absurd h
 translate-exact names shelf well (OverBudget i) due out note h d = absurd h
+translate-exact names shelf well (NotSequent i) due out note h d = absurd h
 
 translate-quiet : (names : List (List ℕ)) (shelf : Shelved) (answer : Status) (out note : List ℕ) → FormAnswers (Some (translate names)) shelf answer out note → (answer ≡ Done → ⊥) → out ≡ []
 translate-quiet names shelf Done out note h differs = absurd (differs refl)
@@ -109,6 +114,7 @@ translate-quiet names shelf Memory out note h differs = h.0
 translate-quiet names shelf (DkRefused place kind) out note h differs = absurd h
 translate-quiet names shelf (IllTyped i) out note h differs = absurd h
 translate-quiet names shelf (OverBudget i) out note h differs = absurd h
+translate-quiet names shelf (NotSequent i) out note h differs = absurd h
 
 translate-answers : (names : List (List ℕ)) (shelf : Shelved) → AreAnswers (Some (translate names)) shelf
 translate-answers names shelf = record {
@@ -131,6 +137,7 @@ check-exact name budget shelf well Memory due out note h d = tt
 check-exact name budget shelf well (DkRefused place kind) due out note h d = refused-due shelf.told_before name budget well.tells place kind h.0 due d
 check-exact name budget shelf well (IllTyped i) due out note h d = ill_typed-due shelf.told_before name budget well.tells i h.0 due d
 check-exact name budget shelf well (OverBudget i) due out note h d = absurd (over_budget-due shelf.told_before name budget well.tells i h.0 due d)
+check-exact name budget shelf well (NotSequent i) due out note h d = absurd h
 
 check-quiet : (name : List ℕ) (budget : ℕ) (shelf : Shelved) (answer : Status) (out note : List ℕ) → FormAnswers (Some (check name budget)) shelf answer out note → (answer ≡ Done → ⊥) → out ≡ []
 check-quiet name budget shelf Done out note h differs = absurd (differs refl)
@@ -142,6 +149,7 @@ check-quiet name budget shelf Memory out note h differs = h.0
 check-quiet name budget shelf (DkRefused place kind) out note h differs = h.1.0
 check-quiet name budget shelf (IllTyped i) out note h differs = h.1.0
 check-quiet name budget shelf (OverBudget i) out note h differs = h.1.0
+check-quiet name budget shelf (NotSequent i) out note h differs = absurd h
 
 check-answers : (name : List ℕ) (budget : ℕ) (shelf : Shelved) → AreAnswers (Some (check name budget)) shelf
 check-answers name budget shelf = record {
@@ -164,6 +172,7 @@ show-exact names shelf well Memory due out note h d = tt
 show-exact names shelf well (DkRefused place kind) due out note h d = absurd h
 show-exact names shelf well (IllTyped i) due out note h d = absurd h
 show-exact names shelf well (OverBudget i) due out note h d = absurd h
+show-exact names shelf well (NotSequent i) due out note h d = absurd h
 
 show-quiet : (names : List (List ℕ)) (shelf : Shelved) (answer : Status) (out note : List ℕ) → FormAnswers (Some (show names)) shelf answer out note → (answer ≡ Done → ⊥) → out ≡ []
 show-quiet names shelf Done out note h differs = absurd (differs refl)
@@ -175,6 +184,7 @@ show-quiet names shelf Memory out note h differs = h.0
 show-quiet names shelf (DkRefused place kind) out note h differs = absurd h
 show-quiet names shelf (IllTyped i) out note h differs = absurd h
 show-quiet names shelf (OverBudget i) out note h differs = absurd h
+show-quiet names shelf (NotSequent i) out note h differs = absurd h
 
 show-answers : (names : List (List ℕ)) (shelf : Shelved) → AreAnswers (Some (show names)) shelf
 show-answers names shelf = record {
@@ -185,12 +195,48 @@ show-answers names shelf = record {
   quiet = show-quiet names shelf;
 }
 
+-- `decode`: a file that is told has at most one answer that is due.
+decode-exact : (name : List ℕ) (shelf : Shelved) → ReadWell shelf → (answer due : Status) (out note : List ℕ) → FormAnswers (Some (decode name)) shelf answer out note
+    → IsDue (Some (decode name)) shelf.told_before due → Aside answer (answer ≡ due)
+decode-exact name shelf well Done due out note h d = decoding.decoded-due shelf.told_before name well.tells h.0 h.1 h.2 due d
+decode-exact name shelf well (Refused article line kind) due out note h d = absurd h
+decode-exact name shelf well Usage due out note h d = absurd h
+decode-exact name shelf well ReadFault due out note h d = absurd (well.no_fault h.0)
+decode-exact name shelf well WriteFault due out note h d = tt
+decode-exact name shelf well Memory due out note h d = tt
+decode-exact name shelf well (DkRefused place kind) due out note h d = decoding.refused-due shelf.told_before name well.tells place kind h.0 due d
+decode-exact name shelf well (IllTyped i) due out note h d = absurd h
+decode-exact name shelf well (OverBudget i) due out note h d = absurd h
+decode-exact name shelf well (NotSequent i) due out note h d = decoding.not_sequent-due shelf.told_before name well.tells i h.0 due d
+
+decode-quiet : (name : List ℕ) (shelf : Shelved) (answer : Status) (out note : List ℕ) → FormAnswers (Some (decode name)) shelf answer out note → (answer ≡ Done → ⊥) → out ≡ []
+decode-quiet name shelf Done out note h differs = absurd (differs refl)
+decode-quiet name shelf (Refused article line kind) out note h differs = absurd h
+decode-quiet name shelf Usage out note h differs = absurd h
+decode-quiet name shelf ReadFault out note h differs = h.1.0
+decode-quiet name shelf WriteFault out note h differs = absurd h
+decode-quiet name shelf Memory out note h differs = h.0
+decode-quiet name shelf (DkRefused place kind) out note h differs = h.1.0
+decode-quiet name shelf (IllTyped i) out note h differs = absurd h
+decode-quiet name shelf (OverBudget i) out note h differs = absurd h
+decode-quiet name shelf (NotSequent i) out note h differs = h.1.0
+
+decode-answers : (name : List ℕ) (shelf : Shelved) → AreAnswers (Some (decode name)) shelf
+decode-answers name shelf = record {
+  exact = decode-exact name shelf;
+  usage = λ out note h. absurd h;
+  read_fault = λ out note h. h.0;
+  write_fault = λ out note h. h;
+  quiet = decode-quiet name shelf;
+}
+
 -- the answers of every form
 each-answers : (form : Option Form) (shelf : Shelved) → AreAnswers form shelf
 each-answers None shelf = no_form-answers shelf
 each-answers (Some (translate names)) shelf = translate-answers names shelf
 each-answers (Some (check name budget)) shelf = check-answers name budget shelf
 each-answers (Some (show names)) shelf = show-answers names shelf
+each-answers (Some (decode name)) shelf = decode-answers name shelf
 
 -- The checker's law: what is accepted is well typed.
 accepted-well_typed : (told : Option Files) (name : List ℕ) (files : Files) (m : List Declaration) → told ≡ Some files → IsAccepted told name m → ReadsWellTyped (file files name)
@@ -256,6 +302,7 @@ outputs-KeepsOut call result h = by_cases result h
     by_cases (DkRefused place kind) h = same (DkRefused place kind) h (λ e. cc) (λ e. cc)
     by_cases (IllTyped i) h = same (IllTyped i) h (λ e. cc) (λ e. cc)
     by_cases (OverBudget i) h = same (OverBudget i) h (λ e. cc) (λ e. cc)
+    by_cases (NotSequent i) h = same (NotSequent i) h (λ e. cc) (λ e. cc)
 
 -- All that a call promises comes of its outputs, of what the outside keeps, and of what the module of an accepted run stands for.
 pub outputs-Promise : (call : Call) (result : Status) → ((run : Accepted) → HasOutcome call (accepted run) → Stands (image run) run) → Outputs call result → call.shelf.told ≡ call.shelf.told_before
@@ -312,4 +359,10 @@ check-Promise call result name budget form h =
 pub show-Promise : (call : Call) (result : Status) (names : List (List ℕ)) → call.form ≡ Some (show names) → Outputs call result → call.shelf.told ≡ call.shelf.told_before
     → call.shelf.faults_before ≤ call.shelf.faults → call.out.faults_before ≤ call.out.faults → call.note.faults_before ≤ call.note.faults → Promise call result
 show-Promise call result names form h =
+    outputs-Promise call result (λ run has. absurd (subst (λ f. FormRunsTo f call.shelf.told_before (accepted run)) form has)) h
+
+-- What a decoding answers by its cause, delivered.
+pub decode-Promise : (call : Call) (result : Status) (name : List ℕ) → call.form ≡ Some (decode name) → Outputs call result → call.shelf.told ≡ call.shelf.told_before
+    → call.shelf.faults_before ≤ call.shelf.faults → call.out.faults_before ≤ call.out.faults → call.note.faults_before ≤ call.note.faults → Promise call result
+decode-Promise call result name form h =
     outputs-Promise call result (λ run has. absurd (subst (λ f. FormRunsTo f call.shelf.told_before (accepted run)) form has)) h

@@ -36,6 +36,8 @@ pub enum Answer {
     IllTyped(u64),
     /// The check of this declaration does not end within its budget.
     OverBudget(u64),
+    /// The type of this declaration, which is named as an export, stands for no closed sequent.
+    NotSequent(u64),
 }
 
 impl Answer {
@@ -56,6 +58,7 @@ impl Answer {
             Answer::DkRefused(place, kind) => Status::DkRefused { place, kind },
             Answer::IllTyped(i) => Status::IllTyped(i),
             Answer::OverBudget(i) => Status::OverBudget(i),
+            Answer::NotSequent(i) => Status::NotSequent(i),
         }
     }
 

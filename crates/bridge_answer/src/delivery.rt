@@ -79,6 +79,7 @@ fn write_note<N: Sink>(note: &mut N, answer: &Answer) -> Result<(), Failed>
         Answer::DkRefused(place, kind) => write_dk_refusal(note, *place, kind),
         Answer::IllTyped(i) => write_declaration(note, *i, b": ill typed\n"),
         Answer::OverBudget(i) => write_declaration(note, *i, b": over budget\n"),
+        Answer::NotSequent(i) => write_declaration(note, *i, b": not a sequent\n"),
     }
 }
 

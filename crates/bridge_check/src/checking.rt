@@ -8,9 +8,9 @@ ghost use Rattle.bridge_spec.specs.Texts.{checked_of, accepted_line};
 ghost use Rattle.bridge_answer.specs.AnswerTexts.{status_of, text_of, note_of};
 ghost use Rattle.bridge_check.specs.Verdicts.{IsJudged};
 
-use crate::reading::{Stop, read_module};
 use bridge_answer::Answer;
 use bridge_base::{Memory, Shelf};
+use bridge_module::{Stop, read_module};
 use holide_sig::Module;
 use itoa::Buffer;
 use lp_kernel::{Verdict, check_module};

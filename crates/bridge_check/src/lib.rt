@@ -3,7 +3,7 @@
 //! [`check`] is its one public call. Its contract is that of the program for these words, in the words of `bridge_spec`: among
 //! others, a file that it accepts reads as one module, and that module is well typed.
 //!
-//! It stands on `dk_read` for the module of a text, on `lp_kernel` for its check, and on `bridge_answer` for what is written.
+//! It stands on `bridge_module` for the module in a file, on `lp_kernel` for its check, and on `bridge_answer` for what is written.
 //!
 //! ```text
 //! let status = check(alloc, "m.dk", 100_000_000, &mut shelf, &mut out, &mut note);
@@ -13,7 +13,6 @@
 
 mod checking;
 mod program;
-mod reading;
 
 pub use crate::program::check;
 pub use bridge_spec::Status;

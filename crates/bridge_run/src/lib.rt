@@ -2,8 +2,8 @@
 //!
 //! - [`bridge`] is all that the program does. Its contract is stated in the words of `bridge_spec`: the words decide the form,
 //!   each answer comes only by its cause, and the outputs then hold its texts.
-//! - [`translate`], [`check`] and [`show`] are its parts for the words `translate FILE`, `check FILE` and `show FILE`, each
-//!   proved in a crate of its own.
+//! - [`translate`], [`check`], [`show`] and [`decode`] are its parts for the words `translate FILE`, `check FILE`, `show FILE` and
+//!   `decode FILE`, each proved in a crate of its own.
 //!
 //! ```text
 //! let status = bridge(alloc, &words, &mut shelf, &mut out, &mut note);
@@ -16,6 +16,7 @@ mod words;
 
 pub use crate::program::bridge;
 pub use bridge_check::check;
+pub use bridge_decode::decode;
 pub use bridge_show::show;
 pub use bridge_spec::Status;
 pub use first_path::translate;

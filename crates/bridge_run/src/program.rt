@@ -6,6 +6,7 @@ use crate::words::{Form, form_of};
 use bridge_answer::{Answer, deliver};
 use bridge_base::{Shelf, Sink};
 use bridge_check::check;
+use bridge_decode::decode;
 use bridge_show::show;
 use bridge_spec::Status;
 use first_path::translate;
@@ -29,6 +30,7 @@ pub fn bridge<H: Shelf, O: Sink, N: Sink>(
         Some(Form::Translate(files)) => translate(alloc, files, shelf, out, note),
         Some(Form::Check(file, budget)) => check(alloc, file, budget, shelf, out, note),
         Some(Form::Show(files)) => show(alloc, files, shelf, out, note),
+        Some(Form::Decode(file)) => decode(alloc, file, shelf, out, note),
         None => deliver(Answer::Usage, out, note),
     }
 }

@@ -15,6 +15,8 @@ pub enum Form<'a> {
     Check(&'a str, u64),
     /// What the article in the one file assumes and exports.
     Show(&'a [String]),
+    /// What the exports of the module in the file say.
+    Decode(&'a str),
 }
 
 /// The budget of a declaration where the words give none.
@@ -33,6 +35,7 @@ pub fn form_of(words: &[String]) -> Option<Form<'_>>
             "translate" => translate_form(rest),
             "check" => check_form(rest),
             "show" => show_form(rest),
+            "decode" => decode_form(rest),
             _ => None,
         },
         [] | [_] => None,
@@ -65,6 +68,23 @@ fn show_form(words: &[String]) -> Option<Form<'_>>
         [file] => {
             if is_file(file.as_str()) {
                 Some(Form::Show(words))
+            } else {
+                None
+            }
+        }
+        _ => None,
+    }
+}
+
+/// The form of the words after `decode`.
+fn decode_form(words: &[String]) -> Option<Form<'_>>
+    ensures form { option_map asked result ≡ forms.decode_form (names_in words.now) }
+    ensures one { HasOneFile result }
+{
+    match words {
+        [file] => {
+            if is_file(file.as_str()) {
+                Some(Form::Decode(file.as_str()))
             } else {
                 None
             }

@@ -3,16 +3,18 @@ use Rattle.std.specs.Prelude.{ℕ, ◌≡◌, List, [], map, length, Option, Non
 use Rattle.lp_spec.specs.Modules.{Declaration}
 use Rattle.dk_read.specs.States.{fault_of}
 use Rattle.bridge_base.specs.Outside.{Files, file, Rose}
+use Rattle.hol_spec.specs.ClosedForm.{ClosedSequent}
 use Rattle.hol_spec.specs.Proofs.{Accepted}
 use Rattle.article_spec.specs.Run.{Obeys, Outcome, accepted, refused_at, RunsBy}
-use Rattle.bridge_spec.specs.Forms.{Form, translate, check, show}
+use Rattle.bridge_spec.specs.Forms.{Form, translate, check, show, decode}
 use Rattle.bridge_spec.specs.FirstPath.{first_path}
 use Rattle.bridge_spec.specs.WithoutDefinitions.{without_definitions}
 use Rattle.bridge_spec.specs.Calls.{Shelved, Call}
 use Rattle.bridge_spec.specs.FileChecks.{IsRefusedAt, IsAccepted, IsIllTyped, IsOverBudget, PassesWithin, FailsWithin}
-use Rattle.bridge_spec.specs.Texts.{module_text, counts_of, five_lines, shown_text, refusal_line, usage_line, read_fault_line, memory_line, checked_of, accepted_line, dk_refusal_line, ill_typed_line, over_budget_line}
+use Rattle.bridge_spec.specs.FileExports.{exports_of, Says, IsNotSequent}
+use Rattle.bridge_spec.specs.Texts.{module_text, counts_of, five_lines, shown_text, refusal_line, usage_line, read_fault_line, memory_line, checked_of, accepted_line, dk_refusal_line, ill_typed_line, over_budget_line, export_lines, not_sequent_line}
 use Rattle.bridge_spec.specs.declared.status.Status.{Status}
-use Rattle.bridge_spec.specs.declared.status.Status.TheVariants.{Done, Refused, Usage, ReadFault, WriteFault, Memory, DkRefused, IllTyped, OverBudget}
+use Rattle.bridge_spec.specs.declared.status.Status.TheVariants.{Done, Refused, Usage, ReadFault, WriteFault, Memory, DkRefused, IllTyped, OverBudget, NotSequent}
 
 -- the bytes of the articles of these names
 abbrev pub articles : Files → List (List ℕ) → List (List ℕ)
@@ -35,6 +37,7 @@ FormRunsTo None told outcome = ⊥
 FormRunsTo (Some (translate names)) told outcome = RunsTo first_path told names outcome
 FormRunsTo (Some (check name budget)) told outcome = ⊥
 FormRunsTo (Some (show names)) told outcome = ⊥
+FormRunsTo (Some (decode name)) told outcome = ⊥
 
 abbrev pub HasOutcome : Call → Outcome → Type 0
 HasOutcome call outcome = FormRunsTo call.form call.shelf.told_before outcome
@@ -57,12 +60,20 @@ IsDueOfCheck told name budget (DkRefused place kind) = IsRefusedAt told name pla
 IsDueOfCheck told name budget (IllTyped i) = FailsWithin told name budget i
 IsDueOfCheck told name budget _ = ⊥
 
+-- A decoding must be answered so: each export says a closed sequent, the file is refused, or there is a first export that says none.
+abbrev pub IsDueOfDecode : Option Files → List ℕ → Status → Type 0
+IsDueOfDecode told name Done = (m : List Declaration) × (ss : List ClosedSequent) × Says told name m ss
+IsDueOfDecode told name (DkRefused place kind) = IsRefusedAt told name place kind
+IsDueOfDecode told name (NotSequent i) = IsNotSequent told name i
+IsDueOfDecode told name _ = ⊥
+
 -- The files of the form must be answered so, where they are read without a fault.
 abbrev pub IsDue : Option Form → Option Files → Status → Type 0
 IsDue None told status = status ≡ Usage
 IsDue (Some (translate names)) told status = IsAnswerOfRun first_path told names status
 IsDue (Some (check name budget)) told status = IsDueOfCheck told name budget status
 IsDue (Some (show names)) told status = IsAnswerOfRun without_definitions told names status
+IsDue (Some (decode name)) told status = IsDueOfDecode told name status
 
 -- the shelf failed
 abbrev pub ReadFailed : Shelved → Type 0
@@ -83,6 +94,7 @@ AnswersNoForm Memory out note = ⊥
 AnswersNoForm (DkRefused place kind) out note = ⊥
 AnswersNoForm (IllTyped i) out note = ⊥
 AnswersNoForm (OverBudget i) out note = ⊥
+AnswersNoForm (NotSequent i) out note = ⊥
 
 -- `translate`: the module of an accepted run of the articles, and its counts; or where the run is refused; or what failed.
 abbrev pub AnswersTranslate : List (List ℕ) → Shelved → Status → List ℕ → List ℕ → Type 0
@@ -97,6 +109,7 @@ AnswersTranslate names shelf Memory out note = NoteAlone memory_line out note
 AnswersTranslate names shelf (DkRefused place kind) out note = ⊥
 AnswersTranslate names shelf (IllTyped i) out note = ⊥
 AnswersTranslate names shelf (OverBudget i) out note = ⊥
+AnswersTranslate names shelf (NotSequent i) out note = ⊥
 
 -- `check`: the counts of a module that the file reads as and that is accepted; or where the file is refused, or the first declaration that
 -- does not pass; or what failed.
@@ -113,6 +126,7 @@ AnswersCheck name budget shelf (DkRefused place kind) out note =
 AnswersCheck name budget shelf (IllTyped i) out note = IsIllTyped shelf.told_before name i × NoteAlone (ill_typed_line i) out note
 AnswersCheck name budget shelf (OverBudget i) out note =
     IsOverBudget shelf.told_before name budget i × NoteAlone (over_budget_line i) out note
+AnswersCheck name budget shelf (NotSequent i) out note = ⊥
 
 -- `show`: what an accepted run of the articles assumes and exports; or where the run is refused; or what failed.
 abbrev pub AnswersShow : List (List ℕ) → Shelved → Status → List ℕ → List ℕ → Type 0
@@ -127,6 +141,23 @@ AnswersShow names shelf Memory out note = NoteAlone memory_line out note
 AnswersShow names shelf (DkRefused place kind) out note = ⊥
 AnswersShow names shelf (IllTyped i) out note = ⊥
 AnswersShow names shelf (OverBudget i) out note = ⊥
+AnswersShow names shelf (NotSequent i) out note = ⊥
+
+-- `decode`: a line for each export of a module that the file reads as, with the closed sequent for which its type stands; or where the file
+-- is refused, or the first export that stands for none; or what failed.
+abbrev pub AnswersDecode : List ℕ → Shelved → Status → List ℕ → List ℕ → Type 0
+AnswersDecode name shelf Done out note =
+    (m : List Declaration) × (ss : List ClosedSequent) × Says shelf.told_before name m ss × (out ≡ export_lines (exports_of m) ss) × (note ≡ [])
+AnswersDecode name shelf (Refused article line kind) out note = ⊥
+AnswersDecode name shelf Usage out note = ⊥
+AnswersDecode name shelf ReadFault out note = ReadFailed shelf × NoteAlone read_fault_line out note
+AnswersDecode name shelf WriteFault out note = ⊥
+AnswersDecode name shelf Memory out note = NoteAlone memory_line out note
+AnswersDecode name shelf (DkRefused place kind) out note =
+    IsRefusedAt shelf.told_before name place kind × NoteAlone (dk_refusal_line place (fault_of kind)) out note
+AnswersDecode name shelf (IllTyped i) out note = ⊥
+AnswersDecode name shelf (OverBudget i) out note = ⊥
+AnswersDecode name shelf (NotSequent i) out note = IsNotSequent shelf.told_before name i × NoteAlone (not_sequent_line i) out note
 
 -- The answers of each form, before anything is written.
 abbrev pub FormAnswers : Option Form → Shelved → Status → List ℕ → List ℕ → Type 0
@@ -134,6 +165,7 @@ FormAnswers None shelf status out note = AnswersNoForm status out note
 FormAnswers (Some (translate names)) shelf status out note = AnswersTranslate names shelf status out note
 FormAnswers (Some (check name budget)) shelf status out note = AnswersCheck name budget shelf status out note
 FormAnswers (Some (show names)) shelf status out note = AnswersShow names shelf status out note
+FormAnswers (Some (decode name)) shelf status out note = AnswersDecode name shelf status out note
 
 -- The answer comes by its cause, with these texts on standard output and on standard error.
 abbrev pub Answers : Call → Status → List ℕ → List ℕ → Type 0

@@ -4,11 +4,12 @@ use Rattle.std.specs.Str.{bytes_eq}
 use Rattle.article_spec.specs.Numbers.{digits_value}
 
 -- what the words ask for: the module of the articles in these files; a check of the module in this file, with this budget for each
--- declaration; what the articles in these files assume and export
+-- declaration; what the articles in these files assume and export; what the exports of the module in this file say
 pub data Form : Type 0 where
   translate : List (List ℕ) → Form
   check : List ℕ → ℕ → Form
   show : List (List ℕ) → Form
+  decode : List ℕ → Form
 
 -- a file is named by a word that isn't empty and doesn't begin with `-`
 abbrev pub is_file : List ℕ → Bool
@@ -62,12 +63,18 @@ abbrev pub show_form : List (List ℕ) → Option Form
 show_form (name ∷ []) = if is_file name then Some (show (name ∷ [])) else None
 show_form words = None
 
+-- the form of the words after `decode`: a file
+abbrev pub decode_form : List (List ℕ) → Option Form
+decode_form (name ∷ []) = if is_file name then Some (decode name) else None
+decode_form words = None
+
 -- the form of a word and those after it
 abbrev pub form_by : List ℕ → List (List ℕ) → Option Form
 form_by word words =
     if bytes_eq word (codes "translate") then translate_form words
     else if bytes_eq word (codes "check") then check_form words
     else if bytes_eq word (codes "show") then show_form words
+    else if bytes_eq word (codes "decode") then decode_form words
     else None
 
 -- the form of the words after the program's name, if they have one

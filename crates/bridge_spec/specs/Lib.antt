@@ -1,6 +1,7 @@
 pub mod Answers
 pub mod Calls
 pub mod FileChecks
+pub mod FileExports
 pub mod FirstPath
 pub mod Forms
 pub mod Outputs

@@ -11,7 +11,7 @@ use Rattle.bridge_spec.specs.Outputs.{Failed, Outputs}
 use Rattle.module_spec.specs.Image.{image}
 use Rattle.module_spec.specs.Stands.{Stands}
 use Rattle.bridge_spec.specs.declared.status.Status.{Status}
-use Rattle.bridge_spec.specs.declared.status.Status.TheVariants.{Done, Refused, Usage, ReadFault, WriteFault, Memory, DkRefused, IllTyped, OverBudget}
+use Rattle.bridge_spec.specs.declared.status.Status.TheVariants.{Done, Refused, Usage, ReadFault, WriteFault, Memory, DkRefused, IllTyped, OverBudget, NotSequent}
 
 -- the shelf tells its files, and didn't fail
 pub record ReadWell (shelf : Shelved) : Type 0 where
@@ -29,6 +29,7 @@ Aside Memory fact = Unit {0}
 Aside (DkRefused place kind) fact = fact
 Aside (IllTyped i) fact = fact
 Aside (OverBudget i) fact = fact
+Aside (NotSequent i) fact = fact
 
 -- standard output is as before at every answer but Done and a write fault
 abbrev pub KeepsOut : Status → Sunk → Type 0
@@ -41,12 +42,14 @@ KeepsOut Memory out = out.got ≡ out.got_before
 KeepsOut (DkRefused place kind) out = out.got ≡ out.got_before
 KeepsOut (IllTyped i) out = out.got ≡ out.got_before
 KeepsOut (OverBudget i) out = out.got ≡ out.got_before
+KeepsOut (NotSequent i) out = out.got ≡ out.got_before
 
 pub record Promise (call : Call) (result : Status) : Type 0 where
   -- Each answer comes only by its cause, and the sinks gain its texts; or a failing write replaced it.
   pub outputs : Outputs call result
   -- Where the shelf tells its files and didn't fail, the answer is the one that is due: that of the run of the articles, for `translate` and
-  -- `show`; or of the check of a file that is refused, or whose declarations pass, or fail at the first that doesn't pass, within the budget.
+  -- `show`; of the check of a file that is refused, or whose declarations pass, or fail at the first that doesn't pass, within the budget; or of what
+  -- the exports of a file that `decode` is given say.
   pub exact : ReadWell call.shelf → (status : Status) → IsDue call.form call.shelf.told_before status → Aside result (result ≡ status)
   -- The module of an accepted run of the files, where `translate` is asked for it, is well typed, leaves unproved only what is allowed, and
   -- its exports are those of the run, in order.

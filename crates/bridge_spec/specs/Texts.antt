@@ -11,7 +11,7 @@ use Rattle.lp_spec.specs.Weight.{bound, greatest}
 use Rattle.module_spec.specs.Image.{image}
 use Rattle.decode_spec.specs.ClosedText.{closed_text}
 use Rattle.bridge_spec.specs.declared.status.Status.{Status}
-use Rattle.bridge_spec.specs.declared.status.Status.TheVariants.{Done, Refused, Usage, ReadFault, WriteFault, Memory, DkRefused, IllTyped, OverBudget}
+use Rattle.bridge_spec.specs.declared.status.Status.TheVariants.{Done, Refused, Usage, ReadFault, WriteFault, Memory, DkRefused, IllTyped, OverBudget, NotSequent}
 
 -- the number with which the program ends
 abbrev pub status_number : Status → ℕ
@@ -24,6 +24,7 @@ status_number Memory = 5
 status_number (DkRefused place kind) = 6
 status_number (IllTyped i) = 7
 status_number (OverBudget i) = 8
+status_number (NotSequent i) = 9
 
 -- the bound of each declaration of a run's module
 abbrev pub module_bounds : Accepted → List ℕ
@@ -122,6 +123,9 @@ ill_typed_line i = declaration_line i (codes ": ill typed\n")
 abbrev pub over_budget_line : ℕ → List ℕ
 over_budget_line i = declaration_line i (codes ": over budget\n")
 
+abbrev pub not_sequent_line : ℕ → List ℕ
+not_sequent_line i = declaration_line i (codes ": not a sequent\n")
+
 -- the line for a theorem: what it is, its number, and its closed text
 abbrev pub theorem_line : List ℕ → ℕ → ClosedSequent → List ℕ
 theorem_line what number s = what ++ (decimal number ++ (codes ": " ++ (closed_text s ++ codes "\n")))
@@ -134,3 +138,13 @@ theorem_lines what made number (i ∷ steps) = theorem_line what number (closed_
 -- what a run assumes, and then what it exports, each from 0 on
 abbrev pub shown_text : Accepted → List ℕ
 shown_text run = theorem_lines (codes "assumption ") run.made 0 run.assumptions ++ theorem_lines (codes "export ") run.made 0 run.exports
+
+-- the line for an export of a module: its name, and the closed text of what it says
+abbrev pub export_line : List ℕ → ClosedSequent → List ℕ
+export_line name s = name ++ (codes ": " ++ (closed_text s ++ codes "\n"))
+
+-- the lines for exports that say these, in order
+abbrev pub export_lines : List Declaration → List ClosedSequent → List ℕ
+export_lines [] ss = []
+export_lines (d ∷ ds) [] = []
+export_lines (d ∷ ds) (s ∷ ss) = export_line d.name s ++ export_lines ds ss

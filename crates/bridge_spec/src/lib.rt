@@ -9,6 +9,7 @@
 //! | `Calls`, `Forms` | what a call is given and what the outside did in it; which words are a form |
 //! | `Answers` | when each answer comes, form by form |
 //! | `FileChecks` | what a file reads as, and how its declarations pass |
+//! | `FileExports` | what the exports of the module in a file say |
 //! | `Texts` | what is written for each answer |
 //! | `Outputs` | what the sinks hold afterwards |
 //! | `FirstPath` | which words of an article `translate` obeys so far, as a way of obeying; it goes when the whole machine is run |

@@ -26,6 +26,9 @@ pub enum Status {
     IllTyped(u64),
     /// The check of this declaration, counted from 0, does not end within its budget, and those before it pass.
     OverBudget(u64),
+    /// The type of this declaration, counted from 0 and named as an export, stands for no closed sequent within the limits, and
+    /// those of the exports before it do.
+    NotSequent(u64),
 }
 
 impl Status {
@@ -43,6 +46,7 @@ impl Status {
             Status::DkRefused { .. } => 6,
             Status::IllTyped(_) => 7,
             Status::OverBudget(_) => 8,
+            Status::NotSequent(_) => 9,
         }
     }
 }

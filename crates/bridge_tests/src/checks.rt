@@ -1,9 +1,12 @@
 //! Checks of modules in files in memory: what is accepted, what is refused, and within which budget.
 ghost use Rattle.std.specs.Prelude.{◌<◌};
 
-use crate::tests::{BEGINNING, THEOREMS, shelf, sink, texts};
-use bridge_run::{Status, bridge, check};
+use crate::answers::{
+    BEGINNING, THEOREMS, answer_in_pieces, is_done, is_refused, joined, shelf, sink,
+};
+use bridge_run::{Status, check};
 use holide_sig::PRELUDE;
+use std::alloc::{AllocError, Global};
 use std::test::Fail;
 
 /// Two declarations of which the second is typed only where the first is unfolded.
@@ -24,167 +27,123 @@ A0 : proof (eq bool (i_a_2eb__c bool) (i_a__b__c bool)).
 thm E0 : proof (eq bool (i_a_2eb__c bool) (i_a__b__c bool)) := A0.
 ";
 
+const CHECK: &[&str] = &["bridge", "check", "a"];
+
+// Whether the module with these lines after the prelude is accepted, and this is said of it.
+fn accepts(alloc: Global, words: &[&str], lines: &[u8], said: &[u8]) -> Result<bool, AllocError> {
+    is_done(alloc, words, &joined(alloc, PRELUDE, lines)?, said, b"")
+}
+
+// Whether the module with these lines after the prelude is answered with this number and this line.
+fn refuses(
+    alloc: Global,
+    words: &[&str],
+    lines: &[u8],
+    number: u8,
+    said: &[u8],
+) -> Result<bool, AllocError> {
+    is_refused(alloc, words, &joined(alloc, PRELUDE, lines)?, number, said)
+}
+
 #[test]
-fn answers_for_each_module(rt: HostRuntime) -> Result<(), Fail> {
-    let cases: [(&[u8], &[&str], u8, &[u8], &[u8]); 17] = [
-        (b"", &["a"], 0, b"accepted 0, unproved 0\n", b""),
-        (
-            b"x : type.",
-            &["a", "--budget", "1"],
-            0,
-            b"accepted 1, unproved 1\n",
-            b"",
-        ),
-        (
-            b"x : term bool.",
-            &["--budget", "4", "a"],
-            0,
-            b"accepted 1, unproved 1\n",
-            b"",
-        ),
-        (
-            b"x : term bool.",
-            &["--budget=3", "a"],
-            8,
-            b"",
-            b"declaration 0: over budget\n",
-        ),
-        (
-            b"def y : type := bool.",
-            &["a", "--budget=3"],
-            0,
-            b"accepted 1, unproved 0\n",
-            b"",
-        ),
-        (
-            b"def y : type := bool.",
-            &["a", "--budget=2"],
-            8,
-            b"",
-            b"declaration 0: over budget\n",
-        ),
-        (
-            b"x : type. y : term bool.",
-            &["a", "--budget=3"],
-            8,
-            b"",
-            b"declaration 1: over budget\n",
-        ),
-        (
-            b"x : term bool. y : term bool.",
-            &["a", "--budget=4"],
-            0,
-            b"accepted 2, unproved 2\n",
-            b"",
-        ),
-        (
-            b"x : proof bool.",
-            &["a"],
-            7,
-            b"",
-            b"declaration 0: ill typed\n",
-        ),
-        (NOT_UNFOLDED, &["a"], 7, b"", b"declaration 1: ill typed\n"),
-        (UNFOLDED, &["a"], 0, b"accepted 2, unproved 0\n", b""),
-        (
-            UNFOLDED,
-            &["a", "--budget", "1"],
-            8,
-            b"",
-            b"declaration 0: over budget\n",
-        ),
-        (
-            b"thm e : proof e := e.",
-            &["a"],
-            6,
-            b"",
-            b"byte 846: UnknownName e\n",
-        ),
-        (
-            b"bool : type.",
-            &["a"],
-            6,
-            b"",
-            b"byte 832: NameTwice bool\n",
-        ),
-        (
-            b"def q : type := bool",
-            &["a"],
-            6,
-            b"",
-            b"byte 852: BadText\n",
-        ),
-        (b"(; a", &["a"], 6, b"", b"byte 832: BadText\n"),
-        (
-            b"x : type.",
-            &["a", "--budget", "18446744073709551615"],
-            0,
-            b"accepted 1, unproved 1\n",
-            b"",
-        ),
-    ];
-    for (lines, words, number, out_text, note_text) in cases {
-        let mut all = texts(rt.alloc(), &["bridge", "check"])?;
-        for word in texts(rt.alloc(), words)? {
-            all.push(word)?;
-        }
-        let mut module = PRELUDE.to_vec(rt.alloc())?;
-        module.extend_from_slice(lines)?;
-        let mut shelf = shelf(rt.alloc(), &module, 4096, &[])?;
-        let mut out = sink(rt.alloc(), &[])?;
-        let mut note = sink(rt.alloc(), &[])?;
-        let status = bridge(rt.alloc(), &all, &mut shelf, &mut out, &mut note);
-        assert_eq!(rt; out.contents(), out_text);
-        assert_eq!(rt; note.contents(), note_text);
-        assert_eq!(rt; status.number(), number);
-    }
+fn accepts_what_is_well_typed(rt: HostRuntime) -> Result<(), Fail> {
+    let one: &[u8] = b"accepted 1, unproved 1\n";
+    let greatest: &[&str] = &["bridge", "check", "a", "--budget", "18446744073709551615"];
+    assert!(rt; accepts(rt.alloc(), CHECK, b"", b"accepted 0, unproved 0\n")?);
+    assert!(rt; accepts(rt.alloc(), greatest, b"x : type.", one)?);
+    assert!(rt; accepts(rt.alloc(), CHECK, UNFOLDED, b"accepted 2, unproved 0\n")?);
     Ok(())
 }
 
 #[test]
-fn checks_what_translations_write(rt: HostRuntime) -> Result<(), Fail> {
-    let accepted: [(&[u8], &[u8]); 2] = [
-        (THEOREMS, b"accepted 4, unproved 0\n"),
-        (NAMES, b"accepted 6, unproved 3\n"),
-    ];
-    for (lines, said) in accepted {
-        let mut module = BEGINNING.to_vec(rt.alloc())?;
-        module.extend_from_slice(lines)?;
-        for most in [1, 7, 4096] {
-            if most == 0 {
-                continue;
-            }
-            let mut shelf = shelf(rt.alloc(), &module, most, &[])?;
-            let mut out = sink(rt.alloc(), &[])?;
-            let mut note = sink(rt.alloc(), &[])?;
-            let status = check(rt.alloc(), "a", 100000000, &mut shelf, &mut out, &mut note);
-            assert_eq!(rt; status, Status::Done);
-            assert_eq!(rt; out.contents(), said);
-            assert_eq!(rt; note.contents(), b"".as_slice());
-        }
-    }
+fn accepts_within_a_budget(rt: HostRuntime) -> Result<(), Fail> {
+    let one: &[u8] = b"accepted 1, unproved 1\n";
+    let before: &[&str] = &["bridge", "check", "--budget", "4", "a"];
+    let behind: &[&str] = &["bridge", "check", "a", "--budget", "1"];
+    let three: &[&str] = &["bridge", "check", "a", "--budget=3"];
+    let four: &[&str] = &["bridge", "check", "a", "--budget=4"];
+    let two_lines: &[u8] = b"x : term bool. y : term bool.";
+    assert!(rt; accepts(rt.alloc(), behind, b"x : type.", one)?);
+    assert!(rt; accepts(rt.alloc(), before, b"x : term bool.", one)?);
+    assert!(rt;
+        accepts(
+            rt.alloc(),
+            three,
+            b"def y : type := bool.",
+            b"accepted 1, unproved 0\n"
+        )?
+    );
+    assert!(rt; accepts(rt.alloc(), four, two_lines, b"accepted 2, unproved 2\n")?);
     Ok(())
 }
 
 #[test]
-fn answers_faults_of_a_check(rt: HostRuntime) -> Result<(), Fail> {
-    let read: &[u8] = b"read fault\n";
-    let write: &[u8] = b"write fault\n";
-    let cases: [(&str, &[u64], &[u64], &[u64], Status, &[u8]); 5] = [
-        ("a", &[1], &[], &[], Status::ReadFault, read),
-        ("a", &[2], &[], &[], Status::ReadFault, read),
-        ("b", &[], &[], &[], Status::ReadFault, read),
-        ("a", &[], &[1], &[], Status::WriteFault, write),
-        ("b", &[], &[], &[1], Status::WriteFault, b""),
-    ];
-    for (file, reads, writes, notes, wanted, said) in cases {
-        let mut shelf = shelf(rt.alloc(), BEGINNING, 4096, reads)?;
-        let mut out = sink(rt.alloc(), writes)?;
-        let mut note = sink(rt.alloc(), notes)?;
-        let status = check(rt.alloc(), file, 100000000, &mut shelf, &mut out, &mut note);
-        assert_eq!(rt; status, wanted);
-        assert_eq!(rt; out.contents(), b"".as_slice());
-        assert_eq!(rt; note.contents(), said);
-    }
+fn stops_at_the_budget(rt: HostRuntime) -> Result<(), Fail> {
+    let first: &[u8] = b"declaration 0: over budget\n";
+    let second: &[u8] = b"declaration 1: over budget\n";
+    let one: &[&str] = &["bridge", "check", "a", "--budget", "1"];
+    let two: &[&str] = &["bridge", "check", "a", "--budget=2"];
+    let three: &[&str] = &["bridge", "check", "--budget=3", "a"];
+    assert!(rt; refuses(rt.alloc(), three, b"x : term bool.", 8, first)?);
+    assert!(rt; refuses(rt.alloc(), two, b"def y : type := bool.", 8, first)?);
+    assert!(rt; refuses(rt.alloc(), three, b"x : type. y : term bool.", 8, second)?);
+    assert!(rt; refuses(rt.alloc(), one, UNFOLDED, 8, first)?);
+    Ok(())
+}
+
+#[test]
+fn refuses_what_is_ill_typed(rt: HostRuntime) -> Result<(), Fail> {
+    let first: &[u8] = b"declaration 0: ill typed\n";
+    let second: &[u8] = b"declaration 1: ill typed\n";
+    assert!(rt; refuses(rt.alloc(), CHECK, b"x : proof bool.", 7, first)?);
+    assert!(rt; refuses(rt.alloc(), CHECK, NOT_UNFOLDED, 7, second)?);
+    Ok(())
+}
+
+#[test]
+fn refuses_what_reads_as_no_module(rt: HostRuntime) -> Result<(), Fail> {
+    let unknown: &[u8] = b"byte 846: UnknownName e\n";
+    let twice: &[u8] = b"byte 832: NameTwice bool\n";
+    let at_the_end: &[u8] = b"byte 852: BadText\n";
+    let comment: &[u8] = b"byte 832: BadText\n";
+    assert!(rt; refuses(rt.alloc(), CHECK, b"thm e : proof e := e.", 6, unknown)?);
+    assert!(rt; refuses(rt.alloc(), CHECK, b"bool : type.", 6, twice)?);
+    assert!(rt; refuses(rt.alloc(), CHECK, b"def q : type := bool", 6, at_the_end)?);
+    assert!(rt; refuses(rt.alloc(), CHECK, b"(; a", 6, comment)?);
+    Ok(())
+}
+
+// Whether what a translation wrote is accepted, where its file gives so many bytes a read.
+fn accepts_in_pieces(
+    alloc: Global,
+    lines: &[u8],
+    most: usize,
+    said: &[u8],
+) -> Result<bool, AllocError>
+    requires { 0 < most }
+{
+    let module = joined(alloc, BEGINNING, lines)?;
+    let answer = answer_in_pieces(alloc, CHECK, &module, most)?;
+    Ok(answer.number == 0 && answer.out.as_slice() == said && answer.note.is_empty())
+}
+
+#[test]
+fn accepts_what_translations_write(rt: HostRuntime) -> Result<(), Fail> {
+    let four: &[u8] = b"accepted 4, unproved 0\n";
+    let six: &[u8] = b"accepted 6, unproved 3\n";
+    assert!(rt; accepts_in_pieces(rt.alloc(), THEOREMS, 1, four)?);
+    assert!(rt; accepts_in_pieces(rt.alloc(), THEOREMS, 7, four)?);
+    assert!(rt; accepts_in_pieces(rt.alloc(), NAMES, 4096, six)?);
+    Ok(())
+}
+
+#[test]
+fn checks_by_a_call_of_its_own(rt: HostRuntime) -> Result<(), Fail> {
+    let mut shelf = shelf(rt.alloc(), BEGINNING, 4096, &[])?;
+    let mut out = sink(rt.alloc(), &[])?;
+    let mut note = sink(rt.alloc(), &[])?;
+    let status = check(rt.alloc(), "a", 100000000, &mut shelf, &mut out, &mut note);
+    assert_eq!(rt; status, Status::Done);
+    assert_eq!(rt; out.contents(), b"accepted 2, unproved 0\n".as_slice());
     Ok(())
 }

@@ -9,7 +9,7 @@ use Rattle.module_spec.specs.Image.{image}
 use Rattle.module_spec.specs.Stands.{Stands}
 use Rattle.run_laws.specs.PrimitiveRuns.{primitive_runs_stand}
 use Rattle.bridge_spec.specs.FirstPath.{first_path}
-use Rattle.bridge_spec.specs.Forms.{Form, translate, check, show}
+use Rattle.bridge_spec.specs.Forms.{Form, translate, check, show, decode}
 use Rattle.bridge_spec.specs.Answers.{FormRunsTo}
 use Rattle.plain_laws.specs.PlainRuns.{IsPlainMade}
 use Rattle.plain_laws.specs.PlainItems.{plain-row}
@@ -36,4 +36,5 @@ pub form_run-stands : (form : Option Form) (told : Option Files) (run : Accepted
 form_run-stands None told run h = absurd h
 form_run-stands (Some (check name budget)) told run h = absurd h
 form_run-stands (Some (show names)) told run h = absurd h
+form_run-stands (Some (decode name)) told run h = absurd h
 form_run-stands (Some (translate names)) told run h = plain_run-stands h.texts run h.runs

@@ -5,8 +5,8 @@ use Rattle.std.specs.Fmt.{digits}
 use Rattle.lp_spec.specs.Modules.{types, bools, symbol}
 use Rattle.lp_spec.specs.declared.form.Form.TheVariants.{Def}
 use Rattle.lp_spec.specs.ReadingFaults.{NoPrelude, UnknownName}
-use Rattle.bridge_spec.specs.Forms.{translate, check, show, form_of}
-use Rattle.bridge_spec.specs.Texts.{checked_of, accepted_line, dk_refusal_line, ill_typed_line, over_budget_line}
+use Rattle.bridge_spec.specs.Forms.{translate, check, show, decode, form_of}
+use Rattle.bridge_spec.specs.Texts.{checked_of, accepted_line, dk_refusal_line, ill_typed_line, over_budget_line, not_sequent_line}
 
 -- a file alone, and with a budget before it or behind it
 translated : form_of (codes "bridge" ∷ codes "translate" ∷ codes "a" ∷ []) ≡ Some (translate (codes "a" ∷ []))
@@ -26,6 +26,9 @@ greatest = refl
 
 shown : form_of (codes "bridge" ∷ codes "show" ∷ codes "a" ∷ []) ≡ Some (show (codes "a" ∷ []))
 shown = refl
+
+decoded : form_of (codes "bridge" ∷ codes "decode" ∷ codes "a" ∷ []) ≡ Some (decode (codes "a"))
+decoded = refl
 
 -- words that are no form: a budget that is too great, nothing, zero, with a zero before it or with a sign; two files; no file
 too_great : form_of (codes "bridge" ∷ codes "check" ∷ codes "a" ∷ codes "--budget" ∷ codes "18446744073709551616" ∷ []) ≡ None
@@ -72,3 +75,7 @@ ill_typed = refl
 over_budget : over_budget_line 0 ≡ codes "declaration 0: over budget\n"
 unfolding digits
 over_budget = refl
+
+not_sequent : not_sequent_line 0 ≡ codes "declaration 0: not a sequent\n"
+unfolding digits
+not_sequent = refl

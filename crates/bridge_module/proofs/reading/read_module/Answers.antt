@@ -1,8 +1,8 @@
 use Rattle.std.proofs.Common.{◌≡◌, subst}
 use Rattle.holide_sig.specs.Modules.{declarations_of}
-use Rattle.bridge_check.specs.Stops.{bytes_told, IsModuleOf, StopsText}
-use Rattle.bridge_check.proofs.Readings.{file_module, file_stop, without_error, on_success, on_error}
-use Rattle.bridge_check.proofs.reading.read_module.Goals as goal
+use Rattle.bridge_module.specs.Stops.{bytes_told, IsModuleOf, StopsText}
+use Rattle.bridge_module.proofs.Readings.{file_module, file_stop, without_error, on_success, on_error}
+use Rattle.bridge_module.proofs.reading.read_module.Goals as goal
 
 pub returns-clause-reads : goal.returns-clause-reads
 returns-clause-reads g c =

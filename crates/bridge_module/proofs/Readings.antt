@@ -2,8 +2,8 @@
 use Rattle.std.proofs.Common.{◌≡◌, ◌+◌, ◌-◌, ◌<◌, ◌≤◌, ℕ, List, [], ◌++◌, length, Option, None, Some, Result, Ok, Err, false, OnOk, IfOk, IfErr, refl, sym, ap, subst, ◌∙◌, arith}
 use Rattle.std.specs.Prelude.{IfSome}
 use Rattle.std.specs.Result.{is_err}
-use Rattle.std.proofs.lemmas.List.{append-nil, length-append}
-use Rattle.bridge_base.specs.Outside.{Files, file, Gives}
+use Rattle.std.proofs.lemmas.List.{length-append}
+use Rattle.bridge_base.specs.Outside.{Files, Gives}
 use Rattle.bridge_base.specs.Gaining.{gives_none, gives_both, given_whole}
 use Rattle.lp_spec.specs.Modules.{Declaration}
 use Rattle.lp_spec.specs.ReadingFaults.{answer_within}
@@ -11,10 +11,10 @@ use Rattle.dk_read.specs.declared.faults.DkFault.{DkFault}
 use Rattle.dk_read.specs.declared.faults.DkFault.TheVariants as fault
 use Rattle.dk_read.specs.Readers.{Reading, IsFed, fed_with, IsWithin, IsRead, IsJudged, Judges, Feeds, Answers}
 use Rattle.dk_read.specs.Texts.{Refuses, Ends}
-use Rattle.bridge_spec.specs.FileChecks.{max_file, ReadsAs, IsRefusedAt}
-use Rattle.bridge_check.specs.declared.reading.Stop.{Stop}
-use Rattle.bridge_check.specs.declared.reading.Stop.TheVariants.{Refused, ReadFault, Memory}
-use Rattle.bridge_check.specs.Stops.{stop_of, bytes_told, IsModuleOf, IsRefusedText, StopsText, StopsFile}
+use Rattle.bridge_spec.specs.FileChecks.{max_file, ReadsAs}
+use Rattle.bridge_module.specs.declared.reading.Stop.{Stop}
+use Rattle.bridge_module.specs.declared.reading.Stop.TheVariants.{Refused, ReadFault, Memory}
+use Rattle.bridge_module.specs.Stops.{stop_of, bytes_told, IsModuleOf, StopsText, StopsFile}
 
 -- of the whole this is left, and the reader was fed what came before it
 pub record IsReading (whole left : Option (List ℕ)) (r : Reading) : Type 0 where

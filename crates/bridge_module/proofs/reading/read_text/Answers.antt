@@ -1,9 +1,9 @@
 use Rattle.std.proofs.Common.{◌≡◌, Ok, sym, ap, subst, arith}
 use Rattle.std.proofs.lemmas.Grind.{common_steps}
 use Rattle.holide_sig.specs.Modules.{declarations_of}
-use Rattle.bridge_check.specs.Stops.{StopsText}
-use Rattle.bridge_check.proofs.Readings.{IsReading, feed_refused, ended_well, ended_badly}
-use Rattle.bridge_check.proofs.reading.read_text.Goals as goal
+use Rattle.bridge_module.specs.Stops.{StopsText}
+use Rattle.bridge_module.proofs.Readings.{feed_refused, ended_well, ended_badly}
+use Rattle.bridge_module.proofs.reading.read_text.Goals as goal
 
 pub returns-in-Err-feed-clause-refused : goal.returns-in-Err-feed-clause-refused
 returns-in-Err-feed-clause-refused g c =

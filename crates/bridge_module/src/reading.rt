@@ -4,7 +4,7 @@ ghost use Rattle.bridge_base.specs.Outside.{Rose};
 ghost use Rattle.lp_spec.specs.ModuleOrder.{IsModule};
 ghost use Rattle.holide_sig.specs.Modules.{declarations_of, IsHeld};
 ghost use Rattle.bridge_spec.specs.FileChecks.{max_file, ReadsAs};
-ghost use Rattle.bridge_check.specs.Stops.{bytes_told, IsModuleOf, StopsText, StopsFile, stop_of};
+ghost use Rattle.bridge_module.specs.Stops.{bytes_told, IsModuleOf, StopsText, StopsFile, stop_of};
 
 use bridge_base::{Failed, Shelf};
 use dk_read::{DkFault, DkKind, Limit, Reader};

@@ -1,5 +1,5 @@
 -- What a text reads as, and why it comes to no module.
-use Rattle.std.specs.Prelude.{◌≡◌, ℕ, ◌≤◌, List, length, Option, None, Some, IfSome, option_map}
+use Rattle.std.specs.Prelude.{◌≡◌, ℕ, ◌≤◌, List, length, Option, Some, IfSome, option_map}
 use Rattle.bridge_base.specs.Outside.{Files, file}
 use Rattle.lp_spec.specs.Modules.{Declaration}
 use Rattle.lp_spec.specs.Reading.{Reads}
@@ -9,8 +9,8 @@ use Rattle.dk_read.specs.declared.faults.DkFault.{DkFault}
 use Rattle.dk_read.specs.declared.faults.DkFault.TheVariants as fault
 use Rattle.dk_read.specs.declared.faults.DkKind.{DkKind}
 use Rattle.bridge_spec.specs.FileChecks.{max_file, IsRefusedAt}
-use Rattle.bridge_check.specs.declared.reading.Stop.{Stop}
-use Rattle.bridge_check.specs.declared.reading.Stop.TheVariants.{Refused, ReadFault, Memory}
+use Rattle.bridge_module.specs.declared.reading.Stop.{Stop}
+use Rattle.bridge_module.specs.declared.reading.Stop.TheVariants.{Refused, ReadFault, Memory}
 
 -- the stop for a fault of the reader
 abbrev pub stop_of : DkFault → Stop

@@ -1,0 +1,29 @@
+//! What the exports of the module in a file say, as an answer.
+ghost use Rattle.std.specs.Prelude.{◌≡◌, ◌≤◌};
+ghost use Rattle.bridge_spec.specs.Calls.{shelved};
+ghost use Rattle.bridge_spec.specs.Answers.{AnswersDecode};
+ghost use Rattle.bridge_answer.specs.AnswerTexts.{status_of, text_of, note_of};
+
+use crate::exports::{Said, exports_said};
+use bridge_answer::Answer;
+use bridge_base::{Memory, Shelf};
+use bridge_module::{Stop, read_module};
+use std::alloc::Global;
+
+/// What is to be answered for the module in a file.
+pub fn decoded<H: Shelf>(alloc: Global, file: &str, shelf: &mut H) -> Answer
+    ensures answers { AnswersDecode file.now (shelved H.told H.faults shelf.old shelf.new) (status_of result) (text_of result) (note_of result) }
+    ensures told_kept { H.told shelf.new ≡ H.told shelf.old }
+    ensures count { H.faults shelf.old ≤ H.faults shelf.new }
+{
+    match read_module(alloc, file, shelf) {
+        Ok(module) => match exports_said(alloc, &module) {
+            Ok(Said::Lines(text)) => Answer::Told(text),
+            Ok(Said::Nothing(i)) => Answer::NotSequent(i as u64),
+            Err(Memory) => Answer::Memory,
+        },
+        Err(Stop::Refused(place, kind)) => Answer::DkRefused(place, kind),
+        Err(Stop::ReadFault) => Answer::ReadFault,
+        Err(Stop::Memory) => Answer::Memory,
+    }
+}
