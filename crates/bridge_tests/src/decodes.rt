@@ -66,6 +66,47 @@ fn says_exports_as_they_stand(rt: HostRuntime) -> Result<(), Fail> {
     Ok(())
 }
 
+// An assumption, and the same under a hypothesis more.
+const WEAKENING: &[u8] = b"A0 : v0 : term bool -> v1 : term bool -> v2 : proof v0 -> proof v1.
+thm E0 : v0 : term bool -> v1 : term bool -> v2 : term bool -> v3 : proof v0 -> v4 : proof v1 -> proof v2 := v0 : term bool => v1 : term bool => v2 : term bool => v3 : proof v0 => v4 : proof v1 => A0 v0 v2 v3.
+";
+
+// Two constants whose names differ by a backslash alone.
+const NAMES: &[u8] = b"i_a_2eb__c : v0 : type -> term v0.
+i_a__b__c : v0 : type -> term v0.
+A0 : proof (eq bool (i_a_2eb__c bool) (i_a__b__c bool)).
+thm E0 : proof (eq bool (i_a_2eb__c bool) (i_a__b__c bool)) := A0.
+";
+
+// A constant that stands for another one.
+const NEWER: &[u8] = b"def c_c : term (arr bool bool) := v0 : term bool => v0.
+def c_d : term (arr bool bool) := c_c.
+thm E0 : proof (eq (arr bool bool) c_d c_c) := refl (arr bool bool) c_c.
+";
+
+// A type operator whose arguments stand in another order than in its constants' types.
+const NEW_TYPE: &[u8] = b"o_two : v0 : type -> v1 : type -> type.
+c_mk : v0 : type -> v1 : type -> term (arr (arr v0 v1) (o_two v1 v0)).
+c_dest : v0 : type -> v1 : type -> term (arr (o_two v0 v1) (arr v1 v0)).
+E0 : v0 : type -> v1 : type -> proof (eq (arr (o_two v0 v1) (o_two v0 v1)) (v2 : term (o_two v0 v1) => c_mk v1 v0 (c_dest v0 v1 v2)) (v2 : term (o_two v0 v1) => v2)).
+";
+
+#[test]
+fn says_constants_and_operators_by_their_names(rt: HostRuntime) -> Result<(), Fail> {
+    let weaker: &[u8] = b"E0: [] [x0:bool x1:bool x2:bool] {x0, x1} |- x2\n";
+    let names: &[u8] =
+        b"E0: [] [] {} |- (((=:(bool -> (bool -> bool))) (a_2eb__c:bool)) (a__b__c:bool))\n";
+    let newer: &[u8] =
+        b"E0: [] [] {} |- (((=:((bool -> bool) -> ((bool -> bool) -> bool))) (d:(bool -> bool))) (c:(bool -> bool)))\n";
+    let new_type: &[u8] =
+        b"E0: [a0 a1] [] {} |- (((=:(((two a0 a1) -> (two a0 a1)) -> (((two a0 a1) -> (two a0 a1)) -> bool))) (\\b0:(two a0 a1). ((mk:((a1 -> a0) -> (two a0 a1))) ((dest:((two a0 a1) -> (a1 -> a0))) b0)))) (\\b0:(two a0 a1). b0))\n";
+    assert!(rt; says(rt.alloc(), WEAKENING, weaker)?);
+    assert!(rt; says(rt.alloc(), NAMES, names)?);
+    assert!(rt; says(rt.alloc(), NEWER, newer)?);
+    assert!(rt; says(rt.alloc(), NEW_TYPE, new_type)?);
+    Ok(())
+}
+
 #[test]
 fn keeps_the_order_of_hypotheses(rt: HostRuntime) -> Result<(), Fail> {
     let module: &[u8] =
