@@ -6,3 +6,4 @@ pub mod Lists
 pub mod Refusals
 pub mod SymbolLaws
 pub mod Symbols
+pub mod Views

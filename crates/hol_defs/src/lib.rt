@@ -35,6 +35,7 @@ mod judging;
 mod lists;
 mod operators;
 mod primitive;
+mod readers;
 mod tables;
 mod uses;
 
@@ -44,6 +45,7 @@ use crate::tables::{Arities, Generics, NameSet, Uses};
 use bridge_base::Memory;
 use hol_name::Name;
 use hol_type::TypeId;
+pub use readers::{SymbolView, TypeOpView};
 use std::alloc::Global;
 use std::marker::Model;
 
