@@ -8,6 +8,7 @@ use Rattle.hol_type.specs.TableLaws as type_law
 use Rattle.hol_term.specs.declared.Variable.{Variable}
 use Rattle.hol_term.specs.Tables.{Trees, Keeps}
 use Rattle.hol_term.specs.TableLaws as table_law
+use Rattle.hol_defs.specs.Lists.{pairs_at, ArePairsKnown}
 use Rattle.hol_defs.specs.Symbols.{Taken, AreKnownSymbols}
 use Rattle.hol_defs.specs.SymbolLaws.{symbols_at-Keeps, AreKnownSymbols-Keeps}
 use Rattle.hol_params.specs.declared.ParamMemo.{ParamMemo}
@@ -19,7 +20,7 @@ use Rattle.hol_rules.specs.declared.made.Parameters.TheVariants as parameters
 use Rattle.hol_rules.specs.declared.made.Made.{Made as OneMade}
 use Rattle.hol_rules.specs.declared.made.Step.{Step}
 use Rattle.hol_rules.specs.Kept.{Grows}
-use Rattle.hol_rules.specs.Views.{variable_view, pairs_view, parameters_view, step_view, steps_view, made_of, made_view, AreConstantPairsKnown, AreParametersKnown, IsStepKnown, IsKept}
+use Rattle.hol_rules.specs.Views.{variable_view, parameters_view, step_view, steps_view, made_of, made_view, AreParametersKnown, IsStepKnown, IsKept}
 use Rattle.hol_rules.proofs.PairLaws.{AreKnownPairs-Keeps, type_pairs-Keeps, term_pairs-Keeps}
 use Rattle.std.proofs.Math.Path.{ap₂}
 
@@ -34,13 +35,13 @@ module _ {a b : Trees} (k : Keeps a b) where
   variable_view-Keeps v h = ap (λ t. (v.name, t)) (type_law.tree_at-Stays k.types.stays v.ty.0 h)
 
   -- the pairs of a list of constants
-  AreConstantPairsKnown-Keeps : (ps : List (Name × Variable)) → AreConstantPairsKnown a ps → AreConstantPairsKnown b ps
-  AreConstantPairsKnown-Keeps [] h = tt
-  AreConstantPairsKnown-Keeps (p ∷ ps) h = (omega (arith, k.types.longer, h.0), AreConstantPairsKnown-Keeps ps h.1)
+  pub ArePairsKnown-Keeps : (ps : List (Name × Variable)) → ArePairsKnown a ps → ArePairsKnown b ps
+  ArePairsKnown-Keeps [] h = tt
+  ArePairsKnown-Keeps (p ∷ ps) h = (omega (arith, k.types.longer, h.0), ArePairsKnown-Keeps ps h.1)
 
-  pub pairs_view-Keeps : (ps : List (Name × Variable)) → AreConstantPairsKnown a ps → pairs_view a ps ≡ pairs_view b ps
-  pairs_view-Keeps [] h = refl
-  pairs_view-Keeps (p ∷ ps) h = ap₂ (λ v l. (p.0, v) ∷ l) (variable_view-Keeps p.1 h.0) (pairs_view-Keeps ps h.1)
+  pub pairs_at-Keeps : (ps : List (Name × Variable)) → ArePairsKnown a ps → pairs_at a ps ≡ pairs_at b ps
+  pairs_at-Keeps [] h = refl
+  pairs_at-Keeps (p ∷ ps) h = ap₂ (λ v l. (p.0, v) ∷ l) (variable_view-Keeps p.1 h.0) (pairs_at-Keeps ps h.1)
 
   AreParametersKnown-Keeps : (p : Parameters) → AreParametersKnown a p → AreParametersKnown b p
   AreParametersKnown-Keeps parameters.Nothing h = tt
@@ -49,7 +50,7 @@ module _ {a b : Trees} (k : Keeps a b) where
   AreParametersKnown-Keeps (parameters.Subst s) h = AreKnownPairs-Keeps k s.types.items s.terms.items h
   AreParametersKnown-Keeps (parameters.Sequent s) h = IsKnown-Keeps s h
   AreParametersKnown-Keeps (parameters.Const n t) h = omega (arith, k.longer, h)
-  AreParametersKnown-Keeps (parameters.List pairs) h = AreConstantPairsKnown-Keeps pairs.items h
+  AreParametersKnown-Keeps (parameters.List pairs) h = ArePairsKnown-Keeps pairs.items h
   AreParametersKnown-Keeps (parameters.TypeOp op abs rep names) h = tt
 
   pub parameters_view-Keeps : (p : Parameters) → AreParametersKnown a p → parameters_view a p ≡ parameters_view b p
@@ -59,15 +60,18 @@ module _ {a b : Trees} (k : Keeps a b) where
   parameters_view-Keeps (parameters.Subst s) h = ap₂ rule.Parameters.substitution (type_pairs-Keeps k s.types.items s.terms.items h) (term_pairs-Keeps k s.types.items s.terms.items h)
   parameters_view-Keeps (parameters.Sequent s) h = ap rule.Parameters.sequent (sequent_at-Keeps s h)
   parameters_view-Keeps (parameters.Const n t) h = ap (rule.Parameters.constant n) (table_law.term_in-Stays k.stays t.0 h)
-  parameters_view-Keeps (parameters.List pairs) h = ap rule.Parameters.constants (pairs_view-Keeps pairs.items h)
+  parameters_view-Keeps (parameters.List pairs) h = ap rule.Parameters.constants (pairs_at-Keeps pairs.items h)
   parameters_view-Keeps (parameters.TypeOp op abs rep names) h = refl
 
-  step_view-Keeps : (x : Step) → IsStepKnown a x → step_view a x ≡ step_view b x
+  pub step_view-Keeps : (x : Step) → IsStepKnown a x → step_view a x ≡ step_view b x
   step_view-Keeps x h = ap₂ (λ p s. record { kind = x.kind; premises = x.premises.items; parameters = p; sequent = s }) (parameters_view-Keeps x.parameters h.parameters) (sequent_at-Keeps x.sequent h.sequent)
 
   steps_view-Keeps : (xs : List Step) → AllByRecursion (IsStepKnown a) xs → steps_view a xs ≡ steps_view b xs
   steps_view-Keeps [] h = refl
   steps_view-Keeps (x ∷ xs) h = ap₂ (λ y l. y ∷ l) (step_view-Keeps x h.0) (steps_view-Keeps xs h.1)
+
+  pub IsStepKnown-Keeps : (x : Step) → IsStepKnown a x → IsStepKnown b x
+  IsStepKnown-Keeps x h = record { parameters = AreParametersKnown-Keeps x.parameters h.parameters; sequent = IsKnown-Keeps x.sequent h.sequent }
 
   AreStepsKnown-Keeps : (xs : List Step) → AllByRecursion (IsStepKnown a) xs → AllByRecursion (IsStepKnown b) xs
   AreStepsKnown-Keeps [] h = tt

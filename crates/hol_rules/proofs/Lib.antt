@@ -18,4 +18,15 @@ mod ConstantEnds
 mod BetaEnds
 mod Chaining
 mod ImageOf
+mod TypeMeasures
+mod ClosedTerms
+mod LawTrees
+mod TypeEnds
+mod TypeKept
+mod TypeConcluded
 mod SubstitutionEnds
+mod ListConditions
+mod ListSymbols
+mod ListPut
+mod ListTaken
+mod ListEnds

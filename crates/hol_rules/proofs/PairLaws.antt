@@ -27,11 +27,11 @@ AreTermPairs-known trees (p ∷ ps) h = (h.0, (known_term trees p.1.0 h.1.0, Are
 
 -- a longer table has the same pairs
 module _ {a b : Trees} (k : Keeps a b) where
-  AreTermPairsKnown-Keeps : (ps : List (Variable × TermId)) → AreTermPairsKnown a ps → AreTermPairsKnown b ps
+  pub AreTermPairsKnown-Keeps : (ps : List (Variable × TermId)) → AreTermPairsKnown a ps → AreTermPairsKnown b ps
   AreTermPairsKnown-Keeps [] h = tt
   AreTermPairsKnown-Keeps (p ∷ ps) h = (omega (arith, k.types.longer, h.0), (omega (arith, k.longer, h.1.0), AreTermPairsKnown-Keeps ps h.1.1))
 
-  term_pairs_at-Keeps : (ps : List (Variable × TermId)) → AreTermPairsKnown a ps → term_pairs_at a ps ≡ term_pairs_at b ps
+  pub term_pairs_at-Keeps : (ps : List (Variable × TermId)) → AreTermPairsKnown a ps → term_pairs_at a ps ≡ term_pairs_at b ps
   term_pairs_at-Keeps [] h = refl
   term_pairs_at-Keeps (p ∷ ps) h =
       ap₂ (λ q l. q ∷ l) (ap₂ (λ t u. ((p.0.name, t), u)) (type_law.tree_at-Stays k.types.stays p.0.ty.0 h.0) (term_in-Stays k.stays p.1.0 h.1.0)) (term_pairs_at-Keeps ps h.1.1)

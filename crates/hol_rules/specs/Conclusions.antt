@@ -32,10 +32,14 @@ pub record Defines (old : Kept) (symbols : List Symbol) (rule : Result Step Kind
   pub unchanged : OnErr result (new.made ≡ old.made)
   pub keeps : Keeps old.trees new.trees
 
+-- what was made, then a type operator, and then the steps of its laws
+abbrev pub with_type : List Made → NewType → List Made
+with_type made x = ((made ++ Made.symbol x.symbol ∷ []) ++ Made.step x.first ∷ []) ++ Made.step x.second ∷ []
+
 -- The same of the definition of a type operator, which makes two steps: the answer is their numbers. Its limits are among its conditions.
 pub record DefinesType (old : Kept) (rule : Result NewType Kind) (new : Kept) (result : Result (ℕ × ℕ) Fault) : Type 0 where
   pub concluded : IfOk result (λ ids. (ids.0 ≡ step_count old) × ((ids.1 ≡ step_count old + 1)
-      × ((x : NewType) × (rule ≡ Ok x) × (new.made ≡ ((old.made ++ Made.symbol x.symbol ∷ []) ++ Made.step x.first ∷ []) ++ Made.step x.second ∷ []))))
+      × ((x : NewType) × (rule ≡ Ok x) × (new.made ≡ with_type old.made x))))
   pub refused : IfErr result (λ fault. Fails fault rule)
   pub unchanged : OnErr result (new.made ≡ old.made)
   pub keeps : Keeps old.trees new.trees

@@ -3,4 +3,6 @@ pub mod Views
 pub mod Conclusions
 pub mod Steps
 pub mod Premises
+pub mod Laws
 pub mod Chains
+pub mod ConstantLists

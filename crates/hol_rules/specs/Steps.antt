@@ -162,6 +162,14 @@ abbrev pub type_measures : TypeNames → HolType → Term → List Measure
 type_measures names c f =
     type_measure (new_type names) ∷ type_measure (abstraction_type names c) ∷ type_measure (representation_type names c) ∷ sequent_measure (first_law names c) ∷ sequent_measure (second_law names c f) ∷ []
 
+-- what is made where the predicate f says which part of the type c the new one is
+abbrev pub made_of_type : TypeNames → ℕ → HolType → Term → NewType
+made_of_type names i c f = record {
+  symbol = Symbol.defined (Definition.type_operator names c f);
+  first = step_by by_rule.FirstLaw (i ∷ []) (Parameters.type_operator names) (first_law names c);
+  second = step_by by_rule.SecondLaw (i ∷ []) (Parameters.type_operator names) (second_law names c f);
+}
+
 -- from |- f t, for a new operator N and new constants abs and rep: |- (\a. abs (rep a)) = (\a. a) and |- (\r. rep (abs r) = r) = (\r. f r).
 -- The limits on all that is made come last, every size before any depth.
 abbrev pub type_laws : List Made → TypeNames → ℕ → Result NewType Kind
@@ -173,8 +181,4 @@ type_laws made names i = do
   (f, t) ← ok_or (application_parts one.conclusion) NotTheSequent
   c ← typed t
   in_limits (type_measures names c f)
-  Ok (record {
-    symbol = Symbol.defined (Definition.type_operator names c f);
-    first = step_by by_rule.FirstLaw (i ∷ []) (Parameters.type_operator names) (first_law names c);
-    second = step_by by_rule.SecondLaw (i ∷ []) (Parameters.type_operator names) (second_law names c f);
-  })
+  Ok (made_of_type names i c f)

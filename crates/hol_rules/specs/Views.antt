@@ -4,7 +4,6 @@ use Rattle.std.specs.List.{AllByRecursion}
 use Rattle.hol_spec.specs.Names.{Name}
 use Rattle.hol_spec.specs.Terms.{Variable as AVariable, bound}
 use Rattle.hol_spec.specs.Definitions.{Definition}
-use Rattle.hol_spec.specs.DefinitionLists.{ConstantPairs}
 use Rattle.hol_spec.specs.Symbols.{Symbol}
 use Rattle.hol_spec.specs.Rules as rule
 use Rattle.hol_spec.specs.Proofs.{Made, steps_of, symbols_of, IsProof}
@@ -15,6 +14,7 @@ use Rattle.hol_type.specs.Tables as type
 use Rattle.hol_term.specs.declared.Variable.{Variable}
 use Rattle.hol_term.specs.Substitutions.{term_pairs_at, AreKnownPairs}
 use Rattle.hol_term.specs.Tables.{Trees, term_at, type_at, IsDistinct}
+use Rattle.hol_defs.specs.Lists.{pairs_at, ArePairsKnown}
 use Rattle.hol_defs.specs.Symbols.{Taken, named, symbols_at, AreKnownSymbols}
 use Rattle.hol_params.specs.declared.ParamMemo.{ParamMemo}
 use Rattle.hol_params.specs.Noted.{AreNoted}
@@ -29,9 +29,6 @@ use Rattle.hol_rules.specs.declared.made.Step.{Step}
 abbrev pub variable_view : Trees → Variable → AVariable
 variable_view trees v = (v.name, type_at trees v.ty.0)
 
-abbrev pub pairs_view : Trees → List (Name × Variable) → ConstantPairs
-pairs_view trees pairs = map (λ p. (p.0, variable_view trees p.1)) pairs
-
 abbrev pub parameters_view : Trees → Parameters → rule.Parameters
 parameters_view trees parameters.Nothing = rule.Parameters.nothing
 parameters_view trees (parameters.Term t) = rule.Parameters.term (term_at trees t.0)
@@ -39,7 +36,7 @@ parameters_view trees (parameters.Variable v) = rule.Parameters.variable (variab
 parameters_view trees (parameters.Subst s) = rule.Parameters.substitution (type.pairs_at trees.types s.types.items) (term_pairs_at trees s.terms.items)
 parameters_view trees (parameters.Sequent s) = rule.Parameters.sequent (sequent_at trees s)
 parameters_view trees (parameters.Const n t) = rule.Parameters.constant n (term_at trees t.0)
-parameters_view trees (parameters.List pairs) = rule.Parameters.constants (pairs_view trees pairs.items)
+parameters_view trees (parameters.List pairs) = rule.Parameters.constants (pairs_at trees pairs.items)
 parameters_view trees (parameters.TypeOp op abs rep names) = rule.Parameters.type_operator (named op abs rep names.items)
 
 abbrev pub step_view : Trees → Step → proof.Step
@@ -98,11 +95,6 @@ symbol_count (one.Const n ∷ ms) = suc (symbol_count ms)
 symbol_count (one.TypeOp n ∷ ms) = suc (symbol_count ms)
 symbol_count (one.Step i ∷ ms) = symbol_count ms
 
--- the types of the pairs' variables are of the table
-abbrev pub AreConstantPairsKnown : Trees → List (Name × Variable) → Type 0
-AreConstantPairsKnown trees [] = Unit {0}
-AreConstantPairsKnown trees (p ∷ ps) = (p.1.ty.0 < length trees.types) × AreConstantPairsKnown trees ps
-
 -- the numbers of a step are of the table
 abbrev pub AreParametersKnown : Trees → Parameters → Type 0
 AreParametersKnown trees parameters.Nothing = Unit {0}
@@ -111,7 +103,7 @@ AreParametersKnown trees (parameters.Variable v) = v.ty.0 < length trees.types
 AreParametersKnown trees (parameters.Subst s) = AreKnownPairs trees s.types.items s.terms.items
 AreParametersKnown trees (parameters.Sequent s) = IsKnown trees s
 AreParametersKnown trees (parameters.Const n t) = t.0 < length trees.terms
-AreParametersKnown trees (parameters.List pairs) = AreConstantPairsKnown trees pairs.items
+AreParametersKnown trees (parameters.List pairs) = ArePairsKnown trees pairs.items
 AreParametersKnown trees (parameters.TypeOp op abs rep names) = Unit {0}
 
 pub record IsStepKnown (trees : Trees) (x : Step) : Type 0 where

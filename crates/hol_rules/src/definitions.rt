@@ -110,7 +110,7 @@ impl Proof {
 
 // The constant of this name and type, whatever its size and depth: at a type variable it is within the limits, and the
 // type is put for the variable.
-fn constant_of(
+pub(crate) fn constant_of(
     alloc: Global,
     terms: &mut TermTable,
     name: &Name,

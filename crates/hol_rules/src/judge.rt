@@ -12,11 +12,11 @@ use hol_term::TermTable;
 use sequent::Sequent;
 
 // The limits of what a rule concludes.
-const GREATEST_SIZE: u64 = 1_048_576;
+pub(crate) const GREATEST_SIZE: u64 = 1_048_576;
 
-const GREATEST_DEPTH: u64 = 1_024;
+pub(crate) const GREATEST_DEPTH: u64 = 1_024;
 
-const GREATEST_PARAMETER_COUNT: usize = 1_024;
+pub(crate) const GREATEST_PARAMETER_COUNT: usize = 1_024;
 
 // Refuses what passes a limit: that of size, or else that of depth, or else that of the number of parameters.
 pub(crate) fn judge(

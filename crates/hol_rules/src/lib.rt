@@ -5,7 +5,7 @@
 //! step follows by its rule from steps before it. A rule answers exactly as its definition says: with the number of the
 //! step that it made, or with the first condition that fails, where the limits of size, of depth and of the number of
 //! parameters come last and in this order. After a refusal or want of memory nothing is made, and what had a number keeps
-//! it. The definition of a constant takes its symbol and makes its step, or does neither.
+//! it. The definition of a constant, or of a list of constants, takes its symbols and makes its step, or does neither.
 //!
 //! What a rule costs, beside the trees that it makes and the step that it keeps (its premises, its sequent and what it was
 //! given): terms are compared by their numbers, whatever their size, and a walk comes once to each part of a term, with a
@@ -17,7 +17,9 @@
 //! | `abs_thm` | a comparison with each free variable of each hypothesis, and a walk over each side of the equation | the walks' notes |
 //! | `beta_conv` | a walk over the body | the walk's notes |
 //! | `define_const` | two walks over the term | the walks' notes; two copies of the name, which the proof keeps |
+//! | `define_const_list` | four walks over each defining term and two over the conclusion; one walk more over the conclusion, as that of `subst` with a pair for each constant | the walks' notes; two copies of each name and one of its variable's, which the proof keeps |
 //! | `subst` | one walk over the hypotheses and the conclusion together; at each variable as many comparisons as there are pairs, and at each variable, constant and binder a walk over its type | the walk's notes; a copy of the pairs, which the step keeps; at most two more trees for each hypothesis, which the table keeps |
+//! | `define_type_op` | five walks over the predicate | the walks' notes; copies of the names, which the proof keeps |
 //!
 //! The parameters of a term are found once, from those of its parts, and noted (`hol_params`): so a step over terms that share
 //! their parts costs its new nodes, and no walk over the old ones. More than 1,024 type variables or free variables of one
@@ -36,10 +38,12 @@
 
 mod beta;
 mod conclude;
+mod const_lists;
 mod definitions;
 mod functions;
 mod hypotheses;
 mod judge;
+mod laws;
 mod made;
 mod premises;
 mod proof;
@@ -47,6 +51,7 @@ mod rules;
 mod stating;
 mod substitution;
 mod terms;
+mod type_definitions;
 
 pub use made::{Made, Parameters, StepId, Substitution};
 pub use proof::Proof;

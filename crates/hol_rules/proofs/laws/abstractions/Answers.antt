@@ -1,0 +1,27 @@
+use Rattle.std.proofs.Common.{subst}
+use Rattle.hol_spec.specs.Rules.{abstraction}
+use Rattle.hol_term.specs.Tables.{term_at}
+use Rattle.hol_term.specs.TableLaws.{Keeps-trans}
+use Rattle.hol_rules.specs.Premises.{IsNumberOf}
+use Rattle.hol_rules.specs.Views.{variable_view}
+use Rattle.hol_rules.proofs.ConstantImage.{held}
+use Rattle.hol_rules.proofs.LawTrees.{equated, own-number, own-type, number-kept, type-kept, variable-kept}
+use Rattle.hol_rules.proofs.laws.abstractions.Goals as goal
+
+pub returns-in_err-made-clause-keeps : goal.returns-in_err-made-clause-keeps
+returns-in_err-made-clause-keeps c = Keeps-trans (Keeps-trans c.abstraction.ensures.keeps c.abstraction-2.ensures.keeps) c.equation.ensures.keeps
+
+pub returns-clause-made : goal.returns-clause-made
+returns-clause-made c =
+    let k0 = c.args.terms.now in
+    let k1 = c.abstraction.new.self in
+    let k2 = c.abstraction-2.new.self in
+    let v = c.args.variable.now in
+    let first = number-kept c.abstraction-2.ensures.keeps (held k1 c.in_ok-left.left (abstraction (variable_view k0 v) (term_at k0 c.args.left.0)) c.in_ok-left.ensures.known c.in_ok-left.ensures.made) in
+    let same = variable-kept c.abstraction.ensures.keeps v c.requires.variable in
+    let tree = (number-kept c.abstraction.ensures.keeps (own-number k0 c.args.right c.requires.right)).is in
+    let second = subst (IsNumberOf k2 c.in_ok-right.right) (λ i. abstraction (same i) (tree i)) (held k2 c.in_ok-right.right (abstraction (variable_view k1 v) (term_at k1 c.args.right.0)) c.in_ok-right.ensures.known c.in_ok-right.ensures.made) in
+    equated k2 c.equation.new.self c.args.ty c.in_ok-left.left c.in_ok-right.right c.in_ok-made.made _ _ _ (type-kept (Keeps-trans c.abstraction.ensures.keeps c.abstraction-2.ensures.keeps) (own-type k0 c.args.ty c.requires.ty)) first second c.in_ok-made.ensures.known c.in_ok-made.ensures.made
+
+pub returns-clause-keeps : goal.returns-clause-keeps
+returns-clause-keeps c = Keeps-trans (Keeps-trans c.abstraction.ensures.keeps c.abstraction-2.ensures.keeps) c.equation.ensures.keeps

@@ -1,0 +1,243 @@
+//! Definitions of lists of constants.
+ghost use Rattle.std.specs.Prelude.{◌≡◌, ◌<◌, ◌++◌, ◌∷◌, [], None, Ok, length, map, IfOk, IfErr, OnOk, OnErr};
+ghost use Rattle.article_spec.specs.Results.{Fails};
+ghost use Rattle.hol_defs.specs.Faults.{list_fault};
+ghost use Rattle.hol_defs.specs.Lists.{pairs_at, ArePairsKnown};
+ghost use Rattle.hol_spec.specs.DefinitionLists.{constants_put};
+ghost use Rattle.hol_spec.specs.Proofs.{sequent_at, symbols_of, IsStep};
+ghost use Rattle.hol_spec.specs.Proofs as proof;
+ghost use Rattle.hol_spec.specs.Sequents.{IsSequent};
+ghost use Rattle.hol_spec.specs.TermSubstitution.{sub};
+ghost use Rattle.hol_term.specs.Substitutions.{term_pairs_at, AreTermPairsKnown};
+ghost use Rattle.hol_term.specs.Tables.{term_at, Keeps};
+ghost use Rattle.sequent.specs.Sequents as numbers;
+ghost use Rattle.hol_rules.specs.Conclusions.{Defines};
+ghost use Rattle.hol_rules.specs.ConstantLists.{constants_in, list_step, named_constants};
+ghost use Rattle.hol_rules.specs.Kept.{step_count, Grows};
+ghost use Rattle.hol_rules.specs.Premises.{IsNumberOf, IsStated};
+ghost use Rattle.hol_rules.specs.Steps.{define_const_list_step};
+ghost use Rattle.hol_rules.specs.Views.{step_view, IsStepKnown};
+ghost use Rattle.hol_rules.specs.declared.made.Made.TheVariants as one;
+
+use crate::definitions::constant_of;
+use crate::judge::judge;
+use crate::made::{Made, Parameters, Step, StepId};
+use crate::proof::Proof;
+use bridge_base::{Fault, Memory};
+use hol_name::Name;
+use hol_spec::StepKind;
+use hol_term::{TermId, TermTable, Variable};
+use sequent::Sequent;
+use std::alloc::Global;
+
+impl Proof {
+    /// A theorem's conclusion, where its hypotheses are the equations `v = t` that define new constants, one for each
+    /// pair: each constant is put for its variable, and no hypothesis is left. It is refused with `NameTaken` where a
+    /// constant has one of the names; else with `NotClosed` where a defining term has a free variable; else with
+    /// `ExtraTypeVars` where a defining term has a type variable that its type lacks; else with `BadDefinitionList` where
+    /// names or variables repeat, there are not as many hypotheses as pairs, a variable has no equation, or the conclusion
+    /// has a free variable outside the list; and else for the limits. (Source: the OpenTheory article format, version 6,
+    /// `defineConstList`.)
+    pub fn define_const_list(
+        &mut self,
+        pairs: &[(Name, Variable)],
+        one: StepId,
+    ) -> Result<StepId, Fault>
+        requires pairs { ArePairsKnown self.old.trees pairs.now }
+        requires one { one < step_count self.old }
+        ensures { Defines self.old (constants_in (pairs_at self.old.trees pairs.now) (sequent_at self.old.made one)) (define_const_list_step self.old.made (pairs_at self.old.trees pairs.now) one) self.new result }
+    {
+        self.judge_list(pairs, one)?;
+        let premise = self.premise(one)?;
+        let concl = self.with_constants(pairs, premise.concl)?;
+        let hyps = self.hyps_of(&[])?;
+        self.conclude_list(pairs, one, &premise, Sequent { hyps, concl })
+    }
+
+    // Judges the definitions of a list of constants by a theorem's hypotheses.
+    fn judge_list(&self, pairs: &[(Name, Variable)], one: StepId) -> Result<(), Fault>
+        requires pairs { ArePairsKnown self.now.trees pairs.now }
+        requires one { one < step_count self.now }
+        ensures fits { OnOk result (list_fault (symbols_of self.now.made) (pairs_at self.now.trees pairs.now) (sequent_at self.now.made one) ≡ None) }
+        ensures refused { IfErr result (λ fault. Fails fault (define_const_list_step self.now.made (pairs_at self.now.trees pairs.now) one)) }
+    {
+        self.is_proof();
+        let sequent = self.sequent(one);
+        match self
+            .symbols
+            .judge_list(&self.terms, pairs, sequent.hyps.ids(), sequent.concl)
+        {
+            Ok(_) => Ok(()),
+            Err(fault) => Err(fault),
+        }
+    }
+
+    // The sequent of a step, copied.
+    fn premise(&self, id: StepId) -> Result<Sequent, Memory>
+        requires { id < step_count self.now }
+        ensures stated { IfOk result (λ sequent. IsStated self.now.trees sequent (sequent_at self.now.made id)) }
+        ensures typed { IsSequent (sequent_at self.now.made id) }
+    {
+        self.is_proof();
+        let hyps = self.hyps(id)?;
+        let concl = self.concl(id);
+        Ok(Sequent { hyps, concl })
+    }
+
+    // A term with the constants for their variables.
+    fn with_constants(&mut self, pairs: &[(Name, Variable)], term: TermId) -> Result<TermId, Memory>
+        requires pairs { ArePairsKnown self.old.trees pairs.now }
+        requires term { term.0 < length self.old.trees.terms }
+        ensures made { IfOk result (λ id. IsNumberOf self.new.trees id (sub [] (constants_put (pairs_at self.old.trees pairs.now)) (term_at self.old.trees term.0))) }
+        ensures grows { Grows self.old self.new }
+    {
+        with_constants_of(self.alloc, &mut self.terms, pairs, term)
+    }
+
+    // The constants are defined by the premise's hypotheses, and their step is made, if the sequent is within the limits.
+    fn conclude_list(
+        &mut self,
+        pairs: &[(Name, Variable)],
+        one: StepId,
+        premise: &Sequent,
+        sequent: Sequent,
+    ) -> Result<StepId, Fault>
+        requires pairs { ArePairsKnown self.old.trees pairs.now }
+        requires premise { IsSequent (numbers.sequent_at self.old.trees premise.now) }
+        requires sequent { numbers.IsKnown self.old.trees sequent }
+        requires follows { IsStep (self.old.made ++ map proof.Made.symbol (constants_in (pairs_at self.old.trees pairs.now) (numbers.sequent_at self.old.trees premise.now))) (list_step self.old.trees pairs.now one sequent) }
+        ensures { Defines self.old (constants_in (pairs_at self.old.trees pairs.now) (numbers.sequent_at self.old.trees premise.now)) (Ok (list_step self.old.trees pairs.now one sequent)) self.new result }
+    {
+        judge(&self.terms, &mut self.params, &sequent)?;
+        let own = copied(self.alloc, pairs)?;
+        let step = Step {
+            kind: StepKind::DefineConstList,
+            premises: Vec::from_slice(self.alloc, &[one])?,
+            parameters: Parameters::List(own),
+            sequent,
+        };
+        let id = self.keep_list(pairs, premise, step)?;
+        Ok(id)
+    }
+
+    // The constants are defined, and the step becomes the last. Room is made first, so that nothing fails once the
+    // constants are taken.
+    fn keep_list(
+        &mut self,
+        pairs: &[(Name, Variable)],
+        premise: &Sequent,
+        step: Step,
+    ) -> Result<StepId, Memory>
+        requires pairs { ArePairsKnown self.old.trees pairs.now }
+        requires premise { IsSequent (numbers.sequent_at self.old.trees premise.now) }
+        requires known { IsStepKnown self.old.trees step }
+        requires follows { IsStep (self.old.made ++ map proof.Made.symbol (constants_in (pairs_at self.old.trees pairs.now) (numbers.sequent_at self.old.trees premise.now))) (step_view self.old.trees step) }
+        ensures number { IfOk result (λ id. id ≡ step_count self.old) }
+        ensures kept { IfOk result (λ id. self.new ≡ record self.old { made = (self.old.made ++ map proof.Made.symbol (constants_in (pairs_at self.old.trees pairs.now) (numbers.sequent_at self.old.trees premise.now))) ++ proof.Made.step (step_view self.old.trees step) ∷ [] }) }
+        ensures unchanged { OnErr result (self.new ≡ self.old) }
+    {
+        let id = self.steps.len();
+        let count = self.made.len();
+        self.steps.reserve(1)?;
+        note_made(self.alloc, &mut self.made, pairs, id)?;
+        let hyps = premise.hyps.ids();
+        match self
+            .symbols
+            .define_list(&mut self.terms, pairs, hyps, premise.concl)
+        {
+            Ok(()) => {
+                self.steps.push_reserved(step);
+                Ok(id)
+            }
+            Err(_) => {
+                self.made.truncate(count);
+                Err(Memory)
+            }
+        }
+    }
+}
+
+// A term with the constants for their variables.
+fn with_constants_of(
+    alloc: Global,
+    terms: &mut TermTable,
+    pairs: &[(Name, Variable)],
+    term: TermId,
+) -> Result<TermId, Memory>
+    requires pairs { ArePairsKnown terms.old pairs.now }
+    requires term { term.0 < length terms.old.terms }
+    ensures made { IfOk result (λ id. IsNumberOf terms.new id (sub [] (constants_put (pairs_at terms.old pairs.now)) (term_at terms.old term.0))) }
+    ensures keeps { Keeps terms.old terms.new }
+{
+    let put = constants_of(alloc, terms, pairs)?;
+    let made = terms.substituted(&[], &put, term)?;
+    Ok(made)
+}
+
+// The constants, each for its variable.
+fn constants_of(
+    alloc: Global,
+    terms: &mut TermTable,
+    pairs: &[(Name, Variable)],
+) -> Result<Vec<(Variable, TermId)>, Memory>
+    requires { ArePairsKnown terms.old pairs.now }
+    ensures known { IfOk result (λ put. AreTermPairsKnown terms.new put.items) }
+    ensures put { IfOk result (λ put. term_pairs_at terms.new put.items ≡ constants_put (pairs_at terms.old pairs.now)) }
+    ensures keeps { Keeps terms.old terms.new }
+{
+    let mut put = Vec::new(alloc);
+    for (name, variable) in pairs {
+        let constant = constant_of(alloc, terms, name, variable.ty)?;
+        let own_name = variable.name.clone()?;
+        let own = Variable {
+            name: own_name,
+            ty: variable.ty,
+        };
+        put.push((own, constant))?;
+    }
+    Ok(put)
+}
+
+// The constants of the pairs are put last, and then the step of this number.
+fn note_made(
+    alloc: Global,
+    made: &mut Vec<Made>,
+    pairs: &[(Name, Variable)],
+    id: StepId,
+) -> Result<(), Memory>
+    ensures noted { OnOk result (made.new.items ≡ made.old.items ++ (named_constants pairs.now ++ one.Step id ∷ [])) }
+    ensures unchanged { OnErr result (made.new.items ≡ made.old.items) }
+{
+    let mut more = made_constants(alloc, pairs)?;
+    more.push(Made::Step(id))?;
+    made.append(&mut more)?;
+    Ok(())
+}
+
+// The constants of the pairs, as what is made.
+fn made_constants(alloc: Global, pairs: &[(Name, Variable)]) -> Result<Vec<Made>, Memory>
+    ensures { IfOk result (λ made. made.items ≡ named_constants pairs.now) }
+{
+    let mut made = Vec::new(alloc);
+    for (name, _) in pairs {
+        made.push(Made::Const(name.clone()?))?;
+    }
+    Ok(made)
+}
+
+// The pairs, each copied.
+fn copied(alloc: Global, pairs: &[(Name, Variable)]) -> Result<Vec<(Name, Variable)>, Memory>
+    ensures { IfOk result (λ copy. copy.items ≡ pairs.now) }
+{
+    let mut copy = Vec::new(alloc);
+    for (name, variable) in pairs {
+        let own_name = name.clone()?;
+        let variable_name = variable.name.clone()?;
+        let own = Variable {
+            name: variable_name,
+            ty: variable.ty,
+        };
+        copy.push((own_name, own))?;
+    }
+    Ok(copy)
+}

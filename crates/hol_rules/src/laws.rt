@@ -1,0 +1,221 @@
+//! The laws of a new type: that its two constants undo each other.
+ghost use Rattle.std.specs.Prelude.{◌≡◌, ◌<◌, length, map, IfOk};
+ghost use Rattle.hol_spec.specs.Primitives.{bool as bool_type, function};
+ghost use Rattle.hol_spec.specs.Rules.{abstraction as abstraction_tree};
+ghost use Rattle.hol_spec.specs.Terms.{app, constant as constant_tree, equation as equation_tree};
+ghost use Rattle.hol_spec.specs.Types.{operator, types_of, variable as type_variable};
+ghost use Rattle.hol_type.specs.Tables as type;
+ghost use Rattle.hol_term.specs.Tables.{term_at, type_at, Keeps};
+ghost use Rattle.hol_rules.specs.Laws.{first_tree, second_tree, AreKnownTypes, AreNewTypes, IsTypeOf, IsWithoutVariables};
+ghost use Rattle.hol_rules.specs.Premises.{IsNumberOf};
+ghost use Rattle.hol_rules.specs.Views.{variable_view};
+
+use crate::definitions::constant_of;
+use bridge_base::Memory;
+use hol_name::Name;
+use hol_term::{TermId, TermTable, Variable};
+use hol_type::TypeId;
+use std::alloc::Global;
+
+/// The new type, and the types of the constants to it and from it.
+#[derive(Clone, Copy)]
+pub(crate) struct NewTypes {
+    pub(crate) part: TypeId,
+    pub(crate) abs: TypeId,
+    pub(crate) rep: TypeId,
+}
+
+// The types that a definition makes, which are within the limits.
+pub(crate) fn new_types(
+    alloc: Global,
+    terms: &mut TermTable,
+    op: &Name,
+    names: &[Name],
+    whole: TypeId,
+) -> Result<NewTypes, Memory>
+    requires { whole.0 < length terms.old.types }
+    ensures types { IfOk result (λ types. AreNewTypes terms.new op.now names.now (type_at terms.old whole.0) types) }
+    ensures keeps { Keeps terms.old terms.new }
+{
+    let part = part_type(alloc, terms, op, names)?;
+    let abs = function_type(alloc, terms, whole, part)?;
+    let rep = function_type(alloc, terms, part, whole)?;
+    Ok(NewTypes { part, abs, rep })
+}
+
+// The operator over the type variables of these names.
+fn part_type(
+    alloc: Global,
+    terms: &mut TermTable,
+    op: &Name,
+    names: &[Name],
+) -> Result<TypeId, Memory>
+    ensures made { IfOk result (λ id. IsTypeOf terms.new id (operator op.now (types_of (map type_variable names.now)))) }
+    ensures keeps { Keeps terms.old terms.new }
+{
+    let variables = type_variables(alloc, terms, names)?;
+    let Ok(part) = terms.ty_op(op, &variables) else {
+        return Err(Memory);
+    };
+    Ok(part)
+}
+
+// The type variables of these names.
+fn type_variables(
+    alloc: Global,
+    terms: &mut TermTable,
+    names: &[Name],
+) -> Result<Vec<TypeId>, Memory>
+    ensures known { IfOk result (λ ids. type.AreKnown terms.new.types ids.items) }
+    ensures made { IfOk result (λ ids. type.types_at terms.new.types ids.items ≡ map type_variable names.now) }
+    ensures keeps { Keeps terms.old terms.new }
+{
+    let mut ids = Vec::new(alloc);
+    for name in names {
+        let Ok(id) = terms.ty_var(name) else {
+            return Err(Memory);
+        };
+        ids.push(id)?;
+    }
+    Ok(ids)
+}
+
+// The type of functions from one type to another.
+fn function_type(
+    alloc: Global,
+    terms: &mut TermTable,
+    domain: TypeId,
+    codomain: TypeId,
+) -> Result<TypeId, Memory>
+    requires domain { domain.0 < length terms.old.types }
+    requires codomain { codomain.0 < length terms.old.types }
+    ensures made { IfOk result (λ id. IsTypeOf terms.new id (function (type_at terms.old domain.0) (type_at terms.old codomain.0))) }
+    ensures keeps { Keeps terms.old terms.new }
+{
+    let Ok(arrow) = Name::single(alloc, b"->") else {
+        return Err(Memory);
+    };
+    let Ok(made) = terms.ty_op(&arrow, &[domain, codomain]) else {
+        return Err(Memory);
+    };
+    Ok(made)
+}
+
+// The type of truth values.
+fn truth_type(alloc: Global, terms: &mut TermTable) -> Result<TypeId, Memory>
+    ensures made { IfOk result (λ id. IsTypeOf terms.new id bool_type) }
+    ensures keeps { Keeps terms.old terms.new }
+{
+    let Ok(name) = Name::single(alloc, b"bool") else {
+        return Err(Memory);
+    };
+    let Ok(made) = terms.ty_op(&name, &[]) else {
+        return Err(Memory);
+    };
+    Ok(made)
+}
+
+// A constant of what another makes of a tree.
+fn composed(
+    alloc: Global,
+    terms: &mut TermTable,
+    outer: &Name,
+    outer_type: TypeId,
+    inner: &Name,
+    inner_type: TypeId,
+    x: TermId,
+) -> Result<TermId, Memory>
+    requires outer { outer_type.0 < length terms.old.types }
+    requires inner { inner_type.0 < length terms.old.types }
+    requires argument { x.0 < length terms.old.terms }
+    ensures made { IfOk result (λ id. IsNumberOf terms.new id (app (constant_tree outer.now (type_at terms.old outer_type.0)) (app (constant_tree inner.now (type_at terms.old inner_type.0)) (term_at terms.old x.0)))) }
+    ensures keeps { Keeps terms.old terms.new }
+{
+    let first = constant_of(alloc, terms, inner, inner_type)?;
+    let second = constant_of(alloc, terms, outer, outer_type)?;
+    let part = terms.application(first, x)?;
+    let made = terms.application(second, part)?;
+    Ok(made)
+}
+
+// The abstractions of two trees over a variable, in an equation at this type.
+fn abstractions(
+    terms: &mut TermTable,
+    variable: &Variable,
+    left: TermId,
+    right: TermId,
+    ty: TypeId,
+) -> Result<TermId, Memory>
+    requires variable { variable.now.ty.0 < length terms.old.types }
+    requires left { left.0 < length terms.old.terms }
+    requires right { right.0 < length terms.old.terms }
+    requires ty { ty.0 < length terms.old.types }
+    ensures made { IfOk result (λ id. IsNumberOf terms.new id (equation_tree (type_at terms.old ty.0) (abstraction_tree (variable_view terms.old variable.now) (term_at terms.old left.0)) (abstraction_tree (variable_view terms.old variable.now) (term_at terms.old right.0)))) }
+    ensures keeps { Keeps terms.old terms.new }
+{
+    let left = terms.abstraction(variable, left)?;
+    let right = terms.abstraction(variable, right)?;
+    let made = terms.equation(ty, left, right)?;
+    Ok(made)
+}
+
+// The conclusion of the first law, `(\a. abs (rep a)) = (\a. a)`.
+pub(crate) fn first_law(
+    alloc: Global,
+    terms: &mut TermTable,
+    abs: &Name,
+    rep: &Name,
+    types: NewTypes,
+) -> Result<TermId, Memory>
+    requires { AreKnownTypes terms.old types }
+    ensures made { IfOk result (λ id. IsNumberOf terms.new id (first_tree abs.now rep.now (type_at terms.old types.part.0) (type_at terms.old types.abs.0) (type_at terms.old types.rep.0))) }
+    ensures keeps { Keeps terms.old terms.new }
+{
+    let Ok(name) = Name::single(alloc, b"a") else {
+        return Err(Memory);
+    };
+    let variable = Variable {
+        name,
+        ty: types.part,
+    };
+    let Ok(own) = terms.free(&variable.name, types.part) else {
+        return Err(Memory);
+    };
+    let both = composed(alloc, terms, abs, types.abs, rep, types.rep, own)?;
+    let ty = function_type(alloc, terms, types.part, types.part)?;
+    let made = abstractions(terms, &variable, both, own, ty)?;
+    Ok(made)
+}
+
+// The conclusion of the second law, `(\r. rep (abs r) = r) = (\r. f r)`, where f has no free variable.
+pub(crate) fn second_law(
+    alloc: Global,
+    terms: &mut TermTable,
+    abs: &Name,
+    rep: &Name,
+    types: NewTypes,
+    whole: TypeId,
+    predicate: TermId,
+) -> Result<TermId, Memory>
+    requires types { AreKnownTypes terms.old types }
+    requires whole { whole.0 < length terms.old.types }
+    requires predicate { predicate.0 < length terms.old.terms }
+    requires closed { IsWithoutVariables (term_at terms.old predicate.0) }
+    ensures made { IfOk result (λ id. IsNumberOf terms.new id (second_tree abs.now rep.now (type_at terms.old whole.0) (type_at terms.old types.abs.0) (type_at terms.old types.rep.0) (term_at terms.old predicate.0))) }
+    ensures keeps { Keeps terms.old terms.new }
+{
+    let Ok(name) = Name::single(alloc, b"r") else {
+        return Err(Memory);
+    };
+    let variable = Variable { name, ty: whole };
+    let Ok(own) = terms.free(&variable.name, whole) else {
+        return Err(Memory);
+    };
+    let both = composed(alloc, terms, rep, types.rep, abs, types.abs, own)?;
+    let back = terms.equation(whole, both, own)?;
+    let holds = terms.application(predicate, own)?;
+    let truth = truth_type(alloc, terms)?;
+    let ty = function_type(alloc, terms, whole, truth)?;
+    let made = abstractions(terms, &variable, back, holds, ty)?;
+    Ok(made)
+}

@@ -1,0 +1,453 @@
+//! Definitions of type operators.
+ghost use Rattle.std.specs.Prelude.{◌≡◌, ◌<◌, ◌∷◌, [], ◌++◌, ◌+◌, ◌-◌, ◌^◌, ◌&&◌, if◌then◌else◌, List, None, length, min, nat_le, IfOk, IfErr, OnOk, OnErr};
+ghost use Rattle.article_spec.specs.Conditions.{in_limits};
+ghost use Rattle.article_spec.specs.Results.{Fails};
+ghost use Rattle.bridge_base.specs.declared.faults.Fault.TheVariants.{Refused};
+ghost use Rattle.bridge_base.specs.declared.faults.Kind.TheVariants.{NameTaken, NotTheSequent};
+ghost use Rattle.hol_defs.specs.Faults.{are_new as are_new_names, operator_fault, Refuses};
+ghost use Rattle.hol_defs.specs.Symbols.{named, symbols_at, AreKnownSymbols};
+ghost use Rattle.hol_spec.specs.Definitions.{Definition, TypeNames};
+ghost use Rattle.hol_spec.specs.Limits.{greatest_parameter_count};
+ghost use Rattle.hol_spec.specs.Names.{Name as AName};
+ghost use Rattle.hol_spec.specs.Proofs.{symbols_of};
+ghost use Rattle.hol_spec.specs.Sequents.{parameter_count};
+ghost use Rattle.hol_spec.specs.Symbols.{Symbol};
+ghost use Rattle.hol_spec.specs.Terms.{Term, app, HasType};
+ghost use Rattle.hol_spec.specs.Types.{HolType};
+ghost use Rattle.hol_term.specs.Tables.{term_at, type_at, IsTermAt, Keeps};
+ghost use Rattle.sequent.specs.Sequents.{sequent_at, IsKnown};
+ghost use Rattle.hol_rules.specs.declared.made.Made.TheVariants as one_made;
+ghost use Rattle.hol_rules.specs.Conclusions.{with_type, DefinesType};
+ghost use Rattle.hol_rules.specs.Kept.{step_count, Grows};
+ghost use Rattle.hol_rules.specs.Laws.{larger_law_size, second_law_depth, AreLaws, AreLawSteps, AreSmall, AreTypeParts, IsLawPushed, IsLawStep, IsWithoutVariables};
+ghost use Rattle.hol_rules.specs.Steps.{made_of_type, type_laws, type_measures};
+
+use crate::judge::{GREATEST_DEPTH, GREATEST_PARAMETER_COUNT, GREATEST_SIZE};
+use crate::laws::{first_law, new_types, second_law};
+use crate::made::{Made, Parameters, Step, StepId};
+use crate::proof::Proof;
+use bridge_base::{Fault, Kind, Memory};
+use hol_defs::Symbols;
+use hol_name::Name;
+use hol_spec::StepKind;
+use hol_term::{TermId, TermTable, TermView};
+use hol_type::TypeId;
+use sequent::{Hyps, Sequent};
+use std::alloc::Global;
+
+/// A theorem's conclusion, its predicate, and the type of which the new one is a part.
+#[derive(Clone, Copy)]
+pub(crate) struct TypeParts {
+    pub(crate) concl: TermId,
+    pub(crate) predicate: TermId,
+    pub(crate) whole: TypeId,
+}
+
+/// The laws of a new type.
+#[derive(Drop)]
+pub(crate) struct Laws {
+    pub(crate) first: Sequent,
+    pub(crate) second: Sequent,
+}
+
+impl Proof {
+    /// From a theorem `f t` without hypotheses, the two laws of a new type operator: the new type is the part of the type
+    /// of `t` in which `f` holds, over the type variables of these names, in their order; `abs` is the constant to it and
+    /// `rep` the constant from it. It is refused with `NameTaken` where `op` is an operator or `abs` or `rep` a constant,
+    /// or `abs` and `rep` are one name; else with `NotClosed` where `f` has a free variable; else with `BadTypeVars` where
+    /// the names repeat or aren't the type variables of `f`; else with `NotTheSequent` where there is a hypothesis or the
+    /// conclusion is no application; and else for the limits, every size judged before any depth and every depth before
+    /// any number of parameters. (Source: HOL Light's kernel, new_basic_type_definition; the OpenTheory article format,
+    /// version 6, `defineTypeOp`.)
+    pub fn define_type_op(
+        &mut self,
+        op: &Name,
+        abs: &Name,
+        rep: &Name,
+        names: &[Name],
+        one: StepId,
+    ) -> Result<(StepId, StepId), Fault>
+        requires { one < step_count self.old }
+        ensures { DefinesType self.old (type_laws self.old.made (named op.now abs.now rep.now names.now) one) self.new result }
+    {
+        let parts = self.type_parts(op, abs, rep, names, one)?;
+        judge_measures(self.terms(), names.len(), parts)?;
+        self.is_proof();
+        let laws = self.laws(op, abs, rep, names, parts)?;
+        if !self.are_counted(&laws)? {
+            return Err(Fault::Refused(Kind::TooManyParams));
+        }
+        let ids = self.keep_type(op, abs, rep, names, one, parts, laws)?;
+        Ok(ids)
+    }
+
+    // The predicate of a step's conclusion and the type of what satisfies it, if they may define a new type.
+    fn type_parts(
+        &self,
+        op: &Name,
+        abs: &Name,
+        rep: &Name,
+        names: &[Name],
+        one: StepId,
+    ) -> Result<TypeParts, Fault>
+        requires { one < step_count self.now }
+        ensures parts { IfOk result (λ parts. AreTypeParts self.now (named op.now abs.now rep.now names.now) one parts) }
+        ensures refused { IfErr result (λ fault. Fails fault (type_laws self.now.made (named op.now abs.now rep.now names.now) one)) }
+    {
+        let terms = self.terms();
+        let concl = self.concl(one);
+        let TermView::App(predicate, witness) = terms.view(concl) else {
+            return Err(self.without_application(op, abs, rep));
+        };
+        match self.judge_type(op, abs, rep, names, predicate) {
+            Ok(()) => {}
+            Err(fault) => return Err(fault),
+        }
+        if self.sequent(one).hyps.ids().len() > 0 {
+            return Err(Fault::Refused(Kind::NotTheSequent));
+        }
+        let whole = terms.type_of(witness);
+        Ok(TypeParts {
+            concl,
+            predicate,
+            whole,
+        })
+    }
+
+    // Judges the names and the predicate of a new type.
+    fn judge_type(
+        &self,
+        op: &Name,
+        abs: &Name,
+        rep: &Name,
+        names: &[Name],
+        predicate: TermId,
+    ) -> Result<(), Fault>
+        requires { predicate.0 < length self.now.trees.terms }
+        ensures fits { OnOk result (operator_fault (symbols_of self.now.made) (named op.now abs.now rep.now names.now) (term_at self.now.trees predicate.0) ≡ None) }
+        ensures refusal { IfErr result (λ fault. Refuses fault (operator_fault (symbols_of self.now.made) (named op.now abs.now rep.now names.now) (term_at self.now.trees predicate.0))) }
+    {
+        self.symbols
+            .judge_op(&self.terms, op, abs, rep, names, predicate)
+    }
+
+    // Why a conclusion that is no application defines no type with these names.
+    fn without_application(&self, op: &Name, abs: &Name, rep: &Name) -> Fault
+        ensures { (variables : List AName) → result ≡ Refused (if are_new_names (symbols_of self.now.made) (named op.now abs.now rep.now variables) then NotTheSequent else NameTaken) }
+    {
+        if self.symbols.are_new(op, abs, rep) {
+            Fault::Refused(Kind::NotTheSequent)
+        } else {
+            Fault::Refused(Kind::NameTaken)
+        }
+    }
+
+    // The laws of a new type, whose types are within the limits.
+    fn laws(
+        &mut self,
+        op: &Name,
+        abs: &Name,
+        rep: &Name,
+        names: &[Name],
+        parts: TypeParts,
+    ) -> Result<Laws, Memory>
+        requires whole { parts.whole.0 < length self.old.trees.types }
+        requires predicate { parts.predicate.0 < length self.old.trees.terms }
+        requires closed { IsWithoutVariables (term_at self.old.trees parts.predicate.0) }
+        ensures made { IfOk result (λ laws. AreLaws self.new.trees (named op.now abs.now rep.now names.now) (type_at self.old.trees parts.whole.0) (term_at self.old.trees parts.predicate.0) laws) }
+        ensures grows { Grows self.old self.new }
+    {
+        laws_of(self.alloc, &mut self.terms, op, abs, rep, names, parts)
+    }
+
+    // Whether neither law has too many parameters.
+    fn are_counted(&mut self, laws: &Laws) -> Result<bool, Memory>
+        requires first { IsKnown self.old.trees laws.now.first }
+        requires second { IsKnown self.old.trees laws.now.second }
+        ensures counted { IfOk result (λ counted. counted ≡ (nat_le (parameter_count (sequent_at self.old.trees laws.now.first)) greatest_parameter_count && nat_le (parameter_count (sequent_at self.old.trees laws.now.second)) greatest_parameter_count)) }
+        ensures unchanged { self.new ≡ self.old }
+    {
+        if self.params.count(&self.terms, &laws.first)? > GREATEST_PARAMETER_COUNT {
+            return Ok(false);
+        }
+        let count = self.params.count(&self.terms, &laws.second)?;
+        Ok(count <= GREATEST_PARAMETER_COUNT)
+    }
+
+    // The type operator is defined, and the steps of its laws become the last. The steps are let go again where the
+    // operator isn't taken.
+    fn keep_type(
+        &mut self,
+        op: &Name,
+        abs: &Name,
+        rep: &Name,
+        names: &[Name],
+        one: StepId,
+        parts: TypeParts,
+        laws: Laws,
+    ) -> Result<(StepId, StepId), Memory>
+        requires one { one < step_count self.old }
+        requires parts { AreTypeParts self.old (named op.now abs.now rep.now names.now) one parts }
+        requires laws { AreLaws self.old.trees (named op.now abs.now rep.now names.now) (type_at self.old.trees parts.whole.0) (term_at self.old.trees parts.predicate.0) laws }
+        ensures numbers { IfOk result (λ ids. (ids.0 ≡ step_count self.old) × (ids.1 ≡ step_count self.old + 1)) }
+        ensures kept { IfOk result (λ ids. self.new.made ≡ with_type self.old.made (made_of_type (named op.now abs.now rep.now names.now) one (type_at self.old.trees parts.whole.0) (term_at self.old.trees parts.predicate.0))) }
+        ensures unchanged { OnErr result (self.new.made ≡ self.old.made) }
+        ensures keeps { Keeps self.old.trees self.new.trees }
+    {
+        let (first, second) = push_laws(
+            self.alloc,
+            &mut self.steps,
+            op,
+            abs,
+            rep,
+            names,
+            one,
+            laws,
+        )?;
+        match take_type(
+            &mut self.symbols,
+            &mut self.terms,
+            &mut self.made,
+            op,
+            abs,
+            rep,
+            names,
+            parts.concl,
+            first,
+            second,
+        ) {
+            Ok(()) => Ok((first, second)),
+            Err(_) => {
+                self.steps.truncate(first);
+                Err(Memory)
+            }
+        }
+    }
+}
+
+// The type operator is taken, and noted as made before two steps. Room is made first, so that nothing fails once it is
+// taken.
+fn take_type(
+    symbols: &mut Symbols,
+    terms: &mut TermTable,
+    made: &mut Vec<Made>,
+    op: &Name,
+    abs: &Name,
+    rep: &Name,
+    names: &[Name],
+    concl: TermId,
+    first: StepId,
+    second: StepId,
+) -> Result<(), Memory>
+    requires known { AreKnownSymbols terms.old symbols.old }
+    requires term { IsTermAt terms.old concl.0 }
+    requires application { (f : Term) × ((t : Term) × (term_at terms.old concl.0 ≡ app f t)) }
+    ensures takes { OnOk result ((f t : Term) (c : HolType) → term_at terms.old concl.0 ≡ app f t → HasType t c → symbols_at terms.new symbols.new ≡ symbols_at terms.old symbols.old ++ Symbol.defined (Definition.type_operator (named op.now abs.now rep.now names.now) c f) ∷ []) }
+    ensures noted { OnOk result (made.new.items ≡ ((made.old.items ++ one_made.TypeOp op.now ∷ []) ++ one_made.Step first ∷ []) ++ one_made.Step second ∷ []) }
+    ensures unchanged { OnErr result (symbols.new ≡ symbols.old) }
+    ensures unnoted { OnErr result (made.new.items ≡ made.old.items) }
+    ensures known { AreKnownSymbols terms.new symbols.new }
+    ensures keeps { Keeps terms.old terms.new }
+{
+    let own = op.clone()?;
+    made.reserve(3)?;
+    match symbols.define_op(terms, op, abs, rep, names, concl) {
+        Ok(()) => {
+            made.push_reserved(Made::TypeOp(own));
+            made.push_reserved(Made::Step(first));
+            made.push_reserved(Made::Step(second));
+            Ok(())
+        }
+        Err(_) => Err(Memory),
+    }
+}
+
+// The steps of two laws become the last, or neither does. The answer is their numbers.
+fn push_laws(
+    alloc: Global,
+    steps: &mut Vec<Step>,
+    op: &Name,
+    abs: &Name,
+    rep: &Name,
+    names: &[Name],
+    one: StepId,
+    laws: Laws,
+) -> Result<(StepId, StepId), Memory>
+    ensures numbers { IfOk result (λ ids. (ids.0 ≡ length steps.old.items) × (ids.1 ≡ length steps.old.items + 1)) }
+    ensures pushed { OnOk result (AreLawSteps (named op.now abs.now rep.now names.now) one laws steps.old.items steps.new.items) }
+    ensures unchanged { OnErr result (steps.new.items ≡ steps.old.items) }
+{
+    let first = push_law(
+        alloc,
+        steps,
+        StepKind::FirstLaw,
+        op,
+        abs,
+        rep,
+        names,
+        one,
+        laws.first,
+    )?;
+    match push_law(
+        alloc,
+        steps,
+        StepKind::SecondLaw,
+        op,
+        abs,
+        rep,
+        names,
+        one,
+        laws.second,
+    ) {
+        Ok(second) => Ok((first, second)),
+        Err(_) => {
+            steps.truncate(first);
+            Err(Memory)
+        }
+    }
+}
+
+// The step of a law becomes the last. The answer is its number.
+fn push_law(
+    alloc: Global,
+    steps: &mut Vec<Step>,
+    kind: StepKind,
+    op: &Name,
+    abs: &Name,
+    rep: &Name,
+    names: &[Name],
+    one: StepId,
+    sequent: Sequent,
+) -> Result<StepId, Memory>
+    ensures number { IfOk result (λ id. id ≡ length steps.old.items) }
+    ensures pushed { OnOk result (IsLawPushed kind (named op.now abs.now rep.now names.now) one sequent steps.old.items steps.new.items) }
+    ensures unchanged { OnErr result (steps.new.items ≡ steps.old.items) }
+{
+    let step = law_step(alloc, kind, op, abs, rep, names, one, sequent)?;
+    let id = steps.len();
+    steps.push(step)?;
+    Ok(id)
+}
+
+// The step of a law.
+fn law_step(
+    alloc: Global,
+    kind: StepKind,
+    op: &Name,
+    abs: &Name,
+    rep: &Name,
+    names: &[Name],
+    one: StepId,
+    sequent: Sequent,
+) -> Result<Step, Memory>
+    ensures { IfOk result (λ step. IsLawStep kind (named op.now abs.now rep.now names.now) one sequent step) }
+{
+    let premises = Vec::from_slice(alloc, &[one])?;
+    let names = copied(alloc, names)?;
+    let op = op.clone()?;
+    let abs = abs.clone()?;
+    let rep = rep.clone()?;
+    let parameters = Parameters::TypeOp {
+        op,
+        abs,
+        rep,
+        names,
+    };
+    Ok(Step {
+        kind,
+        premises,
+        parameters,
+        sequent,
+    })
+}
+
+// The laws of a new type, whose types are within the limits.
+fn laws_of(
+    alloc: Global,
+    terms: &mut TermTable,
+    op: &Name,
+    abs: &Name,
+    rep: &Name,
+    names: &[Name],
+    parts: TypeParts,
+) -> Result<Laws, Memory>
+    requires whole { parts.whole.0 < length terms.old.types }
+    requires predicate { parts.predicate.0 < length terms.old.terms }
+    requires closed { IsWithoutVariables (term_at terms.old parts.predicate.0) }
+    ensures made { IfOk result (λ laws. AreLaws terms.new (named op.now abs.now rep.now names.now) (type_at terms.old parts.whole.0) (term_at terms.old parts.predicate.0) laws) }
+    ensures keeps { Keeps terms.old terms.new }
+{
+    let types = new_types(alloc, terms, op, names, parts.whole)?;
+    let first = first_law(alloc, terms, abs, rep, types)?;
+    let second = second_law(alloc, terms, abs, rep, types, parts.whole, parts.predicate)?;
+    Ok(Laws {
+        first: Sequent {
+            hyps: Hyps::new(alloc),
+            concl: first,
+        },
+        second: Sequent {
+            hyps: Hyps::new(alloc),
+            concl: second,
+        },
+    })
+}
+
+// The names, each copied.
+fn copied(alloc: Global, names: &[Name]) -> Result<Vec<Name>, Memory>
+    ensures { IfOk result (λ copy. copy.items ≡ names.now) }
+{
+    let mut copy = Vec::new(alloc);
+    for name in names {
+        copy.push(name.clone()?)?;
+    }
+    Ok(copy)
+}
+
+// Judges every size and then every depth of what a definition makes over so many type variables. One of the laws is the
+// largest, and the second is the deepest.
+fn judge_measures(terms: &TermTable, count: usize, parts: TypeParts) -> Result<(), Fault>
+    requires whole { parts.whole.0 < length terms.now.types }
+    requires predicate { parts.predicate.0 < length terms.now.terms }
+    ensures within { OnOk result ((names : TypeNames) → length names.variables ≡ count → AreSmall (type_measures names (type_at terms.now parts.whole.0) (term_at terms.now parts.predicate.0))) }
+    ensures refused { IfErr result (λ fault. (names : TypeNames) → length names.variables ≡ count → Fails fault (in_limits (type_measures names (type_at terms.now parts.whole.0) (term_at terms.now parts.predicate.0)))) }
+{
+    let count = count as u64;
+    if law_size(terms, count, parts) > GREATEST_SIZE {
+        return Err(Fault::Refused(Kind::TooLarge));
+    }
+    if law_depth(terms, count, parts) > GREATEST_DEPTH {
+        return Err(Fault::Refused(Kind::TooDeep));
+    }
+    Ok(())
+}
+
+// The size of the larger law, or the greatest number of the type if it is more.
+fn law_size(terms: &TermTable, count: u64, parts: TypeParts) -> u64
+    requires whole { parts.whole.0 < length terms.now.types }
+    requires predicate { parts.predicate.0 < length terms.now.terms }
+    ensures { result ≡ min (larger_law_size (type_at terms.now parts.whole.0) count (term_at terms.now parts.predicate.0)) (2 ^ 64 - 1) }
+{
+    let whole = terms.types().size(parts.whole);
+    let first = whole
+        .saturating_mul(2)
+        .saturating_add(count.saturating_mul(8))
+        .saturating_add(26);
+    let second = whole
+        .saturating_mul(8)
+        .saturating_add(count.saturating_mul(2))
+        .saturating_add(terms.size(parts.predicate))
+        .saturating_add(30);
+    first.max(second)
+}
+
+// The depth of the second law, or the greatest number of the type if it is more.
+fn law_depth(terms: &TermTable, count: u64, parts: TypeParts) -> u64
+    requires whole { parts.whole.0 < length terms.now.types }
+    requires predicate { parts.predicate.0 < length terms.now.terms }
+    ensures { result ≡ min (second_law_depth (type_at terms.now parts.whole.0) count (term_at terms.now parts.predicate.0)) (2 ^ 64 - 1) }
+{
+    let own = count.max(1).saturating_add(count.min(1));
+    let constants = terms.types().depth(parts.whole).max(own).saturating_add(10);
+    let predicate = terms.depth(parts.predicate).saturating_add(3);
+    constants.max(predicate)
+}
