@@ -7,6 +7,7 @@ use Rattle.hol_spec.specs.Names.{Name}
 use Rattle.hol_type.specs.Tables.{tree_at, types_at, pairs_at, AreKnown, ArePairsKnown}
 use Rattle.hol_term.specs.declared.Variable.{Variable}
 use Rattle.hol_term.specs.Substitutions.{term_pairs_at, AreTermPairs}
+use Rattle.hol_defs.specs.Lists.{pairs_at as constant_pairs_at, ArePairsKnown as AreConstantPairsKnown}
 use Rattle.hol_rules.specs.Views.{variable_view}
 use Rattle.hol_term.specs.declared.TermId.{TermId}
 use Rattle.hol_term.specs.Tables.{Trees, term_at, terms_at, type_at, IsTermAt}
@@ -75,6 +76,14 @@ term_pairs_at-push trees (q ∷ ps) p = ap (λ l. ((q.0.name, type_at trees q.0.
 pub AreTermPairs-push : (trees : Trees) (ps : List (Variable × TermId)) (p : Variable × TermId) → AreTermPairs trees ps → p.0.ty.0 < length trees.types → IsTermAt trees p.1.0 → AreTermPairs trees (ps ++ p ∷ [])
 AreTermPairs-push trees [] p h k l = (k, (l, tt))
 AreTermPairs-push trees (q ∷ ps) p h k l = (h.0, (h.1.0, AreTermPairs-push trees ps p h.1.1 k l))
+
+-- one pair of a constant more
+pub constant_pairs_at-push : (trees : Trees) (ps : List (Name × Variable)) (p : Name × Variable) → constant_pairs_at trees (ps ++ p ∷ []) ≡ constant_pairs_at trees ps ++ (p.0, variable_view trees p.1) ∷ []
+constant_pairs_at-push trees ps p = map-append (λ (q : Name × Variable). (q.0, variable_view trees q.1)) ps (p ∷ [])
+
+pub AreConstantPairsKnown-push : (trees : Trees) (ps : List (Name × Variable)) (p : Name × Variable) → AreConstantPairsKnown trees ps → p.1.ty.0 < length trees.types → AreConstantPairsKnown trees (ps ++ p ∷ [])
+AreConstantPairsKnown-push trees [] p h k = (k, tt)
+AreConstantPairsKnown-push trees (q ∷ ps) p h k = (h.0, AreConstantPairsKnown-push trees ps p h.1 k)
 
 -- a list that is no cell's is empty
 pub none_left : (xs : AList) → ((c : CellId) → xs ≡ CellOf c → ⊥) → xs ≡ Empty

@@ -10,6 +10,9 @@ mod Stores
 mod OwnKinds
 mod Inferred
 mod RuleWords
+mod Defined
+mod DefiningRules
+mod ConstantLists
 mod Stated
 mod TwoObjects
 mod Dictionaries

@@ -77,3 +77,25 @@ set-drop xs n x p h =
 pub set-top : {A : Type 0} (xs : List A) (x : A) → 0 < length xs → slice_set xs 0 x ≡ x ∷ drop 1 xs
 set-top [] x h = absurd (omega arith)
 set-top (y ∷ xs) x h = refl
+
+-- two items in place of so many
+set-two-suc : {A : Type 0} (xs : List A) (m : ℕ) (a b : A) → suc (suc m) ≤ length xs → slice_set (slice_set (drop m xs) 1 a) 0 b ≡ b ∷ a ∷ drop (suc (suc m)) xs
+set-two-suc [] m a b h = absurd (omega (arith, h))
+set-two-suc (x ∷ []) m a b h = absurd (omega (arith, h))
+set-two-suc (x ∷ y ∷ xs) zero a b h = refl
+set-two-suc (x ∷ y ∷ xs) (suc m) a b h = set-two-suc (y ∷ xs) m a b (omega (arith, h))
+
+pub set-two : {A : Type 0} (xs : List A) (n : ℕ) (a b : A) → 2 ≤ n → n ≤ length xs → slice_set (slice_set (drop (n - 2) xs) 1 a) 0 b ≡ b ∷ a ∷ drop n xs
+set-two xs n a b p h =
+    let e : suc (suc (n - 2)) ≡ n = omega (arith, p) in
+    subst (λ m. slice_set (slice_set (drop (n - 2) xs) 1 a) 0 b ≡ b ∷ a ∷ drop m xs) e (set-two-suc xs (n - 2) a b (omega (arith, p, h)))
+
+-- five items in place of five
+pub set-five : {A : Type 0} (xs : List A) (a b c d e : A) → 5 ≤ length xs
+    → slice_set (slice_set (slice_set (slice_set (slice_set xs 4 a) 3 b) 2 c) 1 d) 0 e ≡ e ∷ d ∷ c ∷ b ∷ a ∷ drop 5 xs
+set-five [] a b c d e h = absurd (omega (arith, h))
+set-five (v ∷ []) a b c d e h = absurd (omega (arith, h))
+set-five (v ∷ w ∷ []) a b c d e h = absurd (omega (arith, h))
+set-five (v ∷ w ∷ x ∷ []) a b c d e h = absurd (omega (arith, h))
+set-five (v ∷ w ∷ x ∷ y ∷ []) a b c d e h = absurd (omega (arith, h))
+set-five (v ∷ w ∷ x ∷ y ∷ z ∷ xs) a b c d e h = refl

@@ -7,13 +7,14 @@ use Rattle.bridge_base.specs.declared.faults.Fault.{Fault}
 use Rattle.bridge_base.specs.declared.faults.Kind.{Kind}
 use Rattle.hol_spec.specs.Terms.{Term}
 use Rattle.hol_spec.specs.Sequents.{Sequent, same}
+use Rattle.hol_spec.specs.Symbols.{Symbol}
 use Rattle.hol_spec.specs.Proofs.{Step, sequent_at}
-use Rattle.hol_rules.specs.Steps.{axiom_step, restate_step}
+use Rattle.hol_rules.specs.Steps.{NewType, axiom_step, restate_step}
 use Rattle.article_spec.specs.State.{State}
 use Rattle.article_spec.specs.State as state
 use Rattle.article_spec.specs.Results.{◌>>=◌, ◌>>◌, Fails}
 use Rattle.article_spec.specs.Conditions.{all_bool, follows, sequent_in_limits}
-use Rattle.article_spec.specs.Changes.{conclude, first_same, next_step, with_step}
+use Rattle.article_spec.specs.Changes.{conclude, first_same, next_step, with_step, with_symbols, with_theorem}
 use Rattle.article_spec.specs.Stating.{stated, assume_or_meet, export}
 use Rattle.stack_machine.specs.Stored.{Stored, IsStep, Grows}
 use Rattle.stack_machine.specs.Shown.{in_state}
@@ -23,6 +24,21 @@ abbrev pub by_step : Result Step Kind → State → Result State Kind
 by_step rule s = do
   x ← rule
   conclude s x
+
+-- symbols are taken, and then a rule's step is concluded
+abbrev pub defining : List Symbol → Result Step Kind → State → Result State Kind
+defining symbols rule s = do
+  x ← rule
+  conclude (with_symbols s symbols) x
+
+-- a type operator is taken with its constants, and its two laws are pushed
+abbrev pub with_type : State → NewType → State
+with_type s x = with_theorem (with_theorem (with_symbols s (x.symbol ∷ [])) x.first) x.second
+
+abbrev pub defining_type : Result NewType Kind → State → Result State Kind
+defining_type rule s = do
+  x ← rule
+  Ok (with_type s x)
 
 -- what `axiom` states is met, or it is the next assumption
 abbrev pub assuming : List Term → Term → State → Result State Kind
@@ -70,6 +86,14 @@ pub record Infers (old : Stored) (obeyed : State → Result State Kind) (new : S
 -- The same of a word that pushes nothing.
 pub record Exports (old : Stored) (obeyed : State → Result State Kind) (new : Stored) (result : Result (Unit {0}) Fault) : Type 0 where
   pub taken : OnOk result ((s : State) (below : List state.Object) → obeyed (in_state s below old.run) ≡ Ok (in_state s below new.run))
+  pub refused : IfErr result (λ fault. (s : State) (below : List state.Object) → Fails fault (obeyed (in_state s below old.run)))
+  pub run : OnErr result (new.run ≡ old.run)
+  pub grows : Grows old new
+
+-- The same of a word that pushes the theorems of two steps, the second on top.
+pub record InfersTwo (old : Stored) (obeyed : State → Result State Kind) (new : Stored) (result : Result (ℕ × ℕ) Fault) : Type 0 where
+  pub taken : IfOk result (λ ids. (s : State) (below : List state.Object) → obeyed (in_state s below old.run) ≡ Ok (in_state s (state.Object.theorem ids.1 ∷ state.Object.theorem ids.0 ∷ below) new.run))
+  pub made : IfOk result (λ ids. IsStep new ids.0 × IsStep new ids.1)
   pub refused : IfErr result (λ fault. (s : State) (below : List state.Object) → Fails fault (obeyed (in_state s below old.run)))
   pub run : OnErr result (new.run ≡ old.run)
   pub grows : Grows old new

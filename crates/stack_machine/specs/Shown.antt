@@ -3,8 +3,6 @@ use Rattle.std.specs.Prelude.{ℤ, List, [], map}
 use Rattle.std.specs.List.{AllByRecursion}
 use Rattle.std.specs.Ordering.{int_cmp}
 use Rattle.std.specs.FinMap.{FinMap, from_entries}
-use Rattle.article_spec.specs.declared.commands.Item.{Item}
-use Rattle.article_spec.specs.declared.commands.Item.TheVariants as item
 use Rattle.article_spec.specs.declared.commands.Word.{Word}
 use Rattle.article_spec.specs.declared.commands.Word.TheVariants as word
 use Rattle.article_spec.specs.State.{State}
@@ -58,17 +56,12 @@ IsInference word.Axiom = Unit {0}
 IsInference word.Thm = Unit {0}
 IsInference w = ⊥
 
--- the word defines nothing
-abbrev pub IsTakenWord : Word → Type 0
-IsTakenWord word.DefineConst = ⊥
-IsTakenWord word.DefineConstList = ⊥
-IsTakenWord word.DefineTypeOp = ⊥
-IsTakenWord w = Unit {0}
-
-abbrev pub IsTaken : Item → Type 0
-IsTaken (item.Number z) = Unit {0}
-IsTaken (item.Name n) = Unit {0}
-IsTaken (item.Word w) = IsTakenWord w
+-- the word defines a constant, a list of constants, or a type operator
+abbrev pub IsDefinition : Word → Type 0
+IsDefinition word.DefineConst = Unit {0}
+IsDefinition word.DefineConstList = Unit {0}
+IsDefinition word.DefineTypeOp = Unit {0}
+IsDefinition w = ⊥
 
 -- the dictionary's entries
 abbrev pub dictionary_view : Stored → List (ℤ × Object) → FinMap int_cmp state.Object

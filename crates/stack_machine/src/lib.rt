@@ -1,12 +1,12 @@
-//! The stack machine of articles (OpenTheory article format, version 6), over all commands but the definitions.
+//! The stack machine of articles (OpenTheory article format, version 6).
 //!
 //! [`Machine`] obeys the commands of one article after another. Contracts see its state, the `State` of `article_spec`:
 //! the objects on the stack from the top, the dictionary as a finite map from numbers to objects, how far the article
 //! is, and what the run made: symbols and steps in order, and which steps are assumptions and exports. A call answers
 //! exactly as that crate's `step` and `finish` do: the next state, or the first kind of refusal in the order of the
 //! definition. After a refusal or want of memory the state is as before. Constants and operators that are neither
-//! primitive nor defined become inputs where they are first used. What an article assumes is met by what an earlier one
-//! exports, or by an earlier assumption.
+//! primitive nor defined become inputs where they are first used. A word that defines takes its symbols with its
+//! theorems, or does nothing. What an article assumes is met by what an earlier one exports, or by an earlier assumption.
 //!
 //! The machine owns a `Proof` of `hol_rules`, which has the types and terms, the symbols and the steps. What stands on
 //! the stack are numbers of what the machine keeps once: types, terms and steps of the proof, names, and lists by their
@@ -23,6 +23,8 @@
 #![tactic(auto)]
 
 mod commands;
+mod defining;
+mod definitions;
 mod inference;
 mod machine;
 mod making;

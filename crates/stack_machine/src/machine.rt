@@ -1,5 +1,5 @@
 //! The stack machine.
-ghost use Rattle.std.specs.Prelude.{◌≡◌, ◌↔◌, IsTrue, Ok, OnOk, OnErr, IfOk, IfErr};
+ghost use Rattle.std.specs.Prelude.{◌≡◌, Ok, OnOk, OnErr, IfOk, IfErr};
 ghost use Rattle.std.specs.List.{AllByRecursion};
 ghost use Rattle.hol_spec.specs.Derivations.{Derives};
 ghost use Rattle.hol_spec.specs.Proofs.{assumptions_of, definitions_of, sequents_of, symbols_of};
@@ -12,9 +12,10 @@ ghost use Rattle.article_spec.specs.Step.{finish, obey, step, step_at};
 ghost use Rattle.hol_term.specs.Tables.{Trees};
 ghost use Rattle.hol_defs.specs.Symbols.{symbols_at, AreKnownSymbols};
 ghost use Rattle.stack_machine.specs.Making.{AreSteps};
-ghost use Rattle.stack_machine.specs.Shown.{IsInference, IsOnStack, IsTaken, IsTakenWord};
+ghost use Rattle.stack_machine.specs.Shown.{IsDefinition, IsInference, IsOnStack};
 
 use crate::commands::obey_on_stack;
+use crate::definitions::obey_by_definition;
 use crate::inference::obey_by_inference;
 use crate::object::Object;
 use crate::operands::{number_on, object_on};
@@ -79,23 +80,11 @@ impl Machine {
         })
     }
 
-    /// Whether the machine takes a command that says this: it does unless the command defines a constant or an
-    /// operator.
-    pub fn takes(item: &Item) -> bool
-        ensures { IsTrue result ↔ IsTaken item.now }
-    {
-        match item {
-            Item::Number(_) | Item::Name(_) => true,
-            Item::Word(word) => is_taken_word(*word),
-        }
-    }
-
     /// Obeys a command (OpenTheory article format, version 6, "Commands"). It is refused for the first condition that
     /// fails: the place of `version`; the stack, each operand from the top first there and then of its kind; the
     /// dictionary; the command's own conditions; the limits of size, of depth and of the number of parameters. After a
-    /// refusal or want of memory the machine is as before. The words that define are no commands of this machine yet.
+    /// refusal or want of memory the machine is as before.
     pub fn step(&mut self, command: &Command) -> Result<(), Fault>
-        requires takes { IsTaken command.now.item }
         ensures taken { OnOk result (step self.old command.now ≡ Ok self.new) }
         ensures refused { IfErr result (λ fault. Fails fault (step self.old command.now)) }
         ensures unchanged { OnErr result (self.new ≡ self.old) }
@@ -203,7 +192,6 @@ impl Machine {
 
     // A command of the body.
     fn run(&mut self, item: &Item) -> Result<(), Fault>
-        requires takes { IsTaken item.now }
         ensures taken { OnOk result (step_at Place.body self.old item.now ≡ Ok self.new) }
         ensures refused { IfErr result (λ fault. Fails fault (step_at Place.body self.old item.now)) }
         ensures unchanged { OnErr result (self.new ≡ self.old) }
@@ -224,7 +212,6 @@ impl Machine {
 
     // A word of the body.
     fn word(&mut self, word: Word) -> Result<(), Fault>
-        requires takes { IsTakenWord word }
         ensures taken { OnOk result (obey self.old word ≡ Ok self.new) }
         ensures refused { IfErr result (λ fault. Fails fault (obey self.old word)) }
         ensures unchanged { OnErr result (self.new ≡ self.old) }
@@ -261,7 +248,9 @@ impl Machine {
             | Word::Subst
             | Word::Axiom
             | Word::Thm => self.infer(word),
-            Word::DefineConst | Word::DefineConstList | Word::DefineTypeOp => { unreachable!() }
+            Word::DefineConst | Word::DefineConstList | Word::DefineTypeOp => {
+                self.define_by(word)
+            }
         }
     }
 
@@ -283,6 +272,16 @@ impl Machine {
         ensures unchanged { OnErr result (self.new ≡ self.old) }
     {
         obey_by_inference(self.alloc, &mut self.store, &mut self.stack, word)
+    }
+
+    // A word that defines.
+    fn define_by(&mut self, word: Word) -> Result<(), Fault>
+        requires word { IsDefinition word }
+        ensures taken { OnOk result (obey self.old word ≡ Ok self.new) }
+        ensures refused { IfErr result (λ fault. Fails fault (obey self.old word)) }
+        ensures unchanged { OnErr result (self.new ≡ self.old) }
+    {
+        obey_by_definition(self.alloc, &mut self.store, &mut self.stack, word)
     }
 
     // Keeps an object under a number.
@@ -325,15 +324,5 @@ impl Machine {
         };
         self.stack.put(1, object);
         Ok(())
-    }
-}
-
-// Whether a word defines nothing.
-fn is_taken_word(word: Word) -> bool
-    ensures { IsTrue result ↔ IsTakenWord word }
-{
-    match word {
-        Word::DefineConst | Word::DefineConstList | Word::DefineTypeOp => false,
-        _ => true,
     }
 }

@@ -1,10 +1,11 @@
-//! The pairs that `subst` puts, read from lists.
+//! The pairs that `subst` and `defineConstList` put, read from lists.
 ghost use Rattle.std.specs.Prelude.{◌≡◌, Ok, Some, IfOk, IfErr};
 ghost use Rattle.std.specs.Option.{ok_or};
 ghost use Rattle.bridge_base.specs.declared.faults.Kind.TheVariants as kind;
 ghost use Rattle.hol_type.specs.Tables.{pairs_at, ArePairsKnown};
 ghost use Rattle.hol_term.specs.Substitutions.{term_pairs_at, AreTermPairs};
 ghost use Rattle.hol_term.specs.Tables.{term_at, type_at};
+ghost use Rattle.hol_defs.specs.Lists.{pairs_at as constant_pairs_at, ArePairsKnown as AreConstantPairsKnown};
 ghost use Rattle.hol_rules.specs.Views.{variable_view};
 ghost use Rattle.article_spec.specs.Operands.{as_name, as_substitution, as_term, as_type, as_variable, each, pair_of};
 ghost use Rattle.article_spec.specs.Results.{Fails};
@@ -85,6 +86,21 @@ impl Store {
         Ok((variable, term))
     }
 
+    // A name and a variable.
+    fn constant_pair_in(&self, object: Object) -> Result<(Name, Variable), Fault>
+        requires { IsKnown self.now object }
+        ensures pair { IfOk result (λ p. pair_of as_name as_variable (object_view self.now object) ≡ Ok (p.0, variable_view self.now.trees p.1)) }
+        ensures known { IfOk result (λ p. IsType self.now p.1.ty.0) }
+        ensures refused { IfErr result (λ fault. Fails fault (pair_of as_name as_variable (object_view self.now object))) }
+    {
+        let (first, second) = self.two_in(object)?;
+        let id = name_in(first)?;
+        let (own, ty) = variable_in(second)?;
+        let name = self.name(id)?;
+        let variable = self.variable(own, ty)?;
+        Ok((name, variable))
+    }
+
     // Pairs of a name and a type, in their order.
     fn type_pairs_in(&self, alloc: Global, list: List) -> Result<Vec<(Name, TypeId)>, Fault>
         requires { IsListKnown self.now list }
@@ -115,6 +131,28 @@ impl Store {
         while let List::Cell(id) = rest {
             let cell = self.cell(id);
             let pair = self.term_pair_in(cell.head)?;
+            pairs.push(pair)?;
+            rest = cell.tail;
+        }
+        Ok(pairs)
+    }
+
+    // Pairs of a name and a variable, in their order.
+    pub(crate) fn constant_pairs_in(
+        &self,
+        alloc: Global,
+        list: List,
+    ) -> Result<Vec<(Name, Variable)>, Fault>
+        requires { IsListKnown self.now list }
+        ensures pairs { IfOk result (λ pairs. each (pair_of as_name as_variable) (list_view self.now list) ≡ Ok (constant_pairs_at self.now.trees pairs.items)) }
+        ensures known { IfOk result (λ pairs. AreConstantPairsKnown self.now.trees pairs.items) }
+        ensures refused { IfErr result (λ fault. Fails fault (each (pair_of as_name as_variable) (list_view self.now list))) }
+    {
+        let mut pairs = Vec::new(alloc);
+        let mut rest = list;
+        while let List::Cell(id) = rest {
+            let cell = self.cell(id);
+            let pair = self.constant_pair_in(cell.head)?;
             pairs.push(pair)?;
             rest = cell.tail;
         }

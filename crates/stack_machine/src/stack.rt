@@ -79,6 +79,36 @@ impl Stack {
         self.set(0, object);
     }
 
+    /// Puts two objects in place of so many on top, the second on top of the first.
+    pub(crate) fn put_two(&mut self, count: usize, first: Object, second: Object)
+        requires two { 2 ≤ count }
+        requires there { count ≤ length self.old }
+        ensures { self.new ≡ second ∷ first ∷ drop count self.old }
+    {
+        self.drop_top(count - 2);
+        self.set(1, first);
+        self.set(0, second);
+    }
+
+    /// Puts five objects in place of the five on top, the fifth on top.
+    pub(crate) fn put_five(
+        &mut self,
+        first: Object,
+        second: Object,
+        third: Object,
+        fourth: Object,
+        fifth: Object,
+    )
+        requires { 5 ≤ length self.old }
+        ensures { self.new ≡ fifth ∷ fourth ∷ third ∷ second ∷ first ∷ drop 5 self.old }
+    {
+        self.set(4, first);
+        self.set(3, second);
+        self.set(2, third);
+        self.set(1, fourth);
+        self.set(0, fifth);
+    }
+
     /// Takes all objects off.
     pub(crate) fn clear(&mut self)
         ensures { self.new ≡ [] }

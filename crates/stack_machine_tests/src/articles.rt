@@ -9,11 +9,9 @@ use std::test::Fail;
 // Obeys commands up to the first that is refused.
 fn obey_all(machine: &mut Machine, commands: &[Command]) -> Result<(), LineFault> {
     for command in commands {
-        if Machine::takes(&command.item) {
-            machine
-                .step(command)
-                .map_err(|fault| told(command.line, fault))?;
-        }
+        machine
+            .step(command)
+            .map_err(|fault| told(command.line, fault))?;
     }
     Ok(())
 }

@@ -139,14 +139,8 @@ impl Bench {
         Ok(commands)
     }
 
-    // Obeys a command. The words that define are not tried.
+    // Obeys a command.
     fn step(&mut self, command: &Command) -> Result<(), LineFault> {
-        if !Machine::takes(&command.item) {
-            return Err(LineFault::Refused {
-                line: command.line,
-                kind: Kind::BadLine,
-            });
-        }
         match self.machine.step(command) {
             Ok(()) => Ok(()),
             Err(fault) => Err(told(command.line, fault)),

@@ -1,6 +1,6 @@
-//! The cases of symbols, of inference and of what is stated, each over a machine of its own.
+//! The cases of symbols, of inference, of definitions and of what is stated, each over a machine of its own.
 use crate::bench::Bench;
-use crate::{inference, stating, symbols};
+use crate::{definitions, inference, stating, symbols};
 use article_read::LineFault;
 use std::alloc::Global;
 use std::test::Fail;
@@ -46,6 +46,20 @@ enum Case {
     ExportMeets,
     AssumedBeforeTheExport,
     OwnExport,
+    Definition,
+    NewerConstant,
+    DefinitionOfATakenName,
+    DefinitionNotClosed,
+    DefinitionWithATypeVariable,
+    DefinitionOfATheorem,
+    DefinitionWithoutAName,
+    ConstantList,
+    ConstantListTooShort,
+    NoConstants,
+    NewType,
+    NewTypeWithATypeVariable,
+    NewTypeOfTwiceAName,
+    NewTypeUnderAHypothesis,
 }
 
 // Whether a case comes out as it must.
@@ -89,6 +103,20 @@ fn holds(case: Case, bench: &mut Bench) -> Result<bool, LineFault> {
         Case::ExportMeets => stating::export_meets(bench),
         Case::AssumedBeforeTheExport => stating::assumed_before_the_export(bench),
         Case::OwnExport => stating::own_export(bench),
+        Case::Definition => definitions::definition(bench),
+        Case::NewerConstant => definitions::newer_constant(bench),
+        Case::DefinitionOfATakenName => definitions::definition_of_a_taken_name(bench),
+        Case::DefinitionNotClosed => definitions::definition_not_closed(bench),
+        Case::DefinitionWithATypeVariable => definitions::definition_with_a_type_variable(bench),
+        Case::DefinitionOfATheorem => definitions::definition_of_a_theorem(bench),
+        Case::DefinitionWithoutAName => definitions::definition_without_a_name(bench),
+        Case::ConstantList => definitions::constant_list(bench),
+        Case::ConstantListTooShort => definitions::constant_list_too_short(bench),
+        Case::NoConstants => definitions::no_constants(bench),
+        Case::NewType => definitions::new_type(bench),
+        Case::NewTypeWithATypeVariable => definitions::new_type_with_a_type_variable(bench),
+        Case::NewTypeOfTwiceAName => definitions::new_type_of_twice_a_name(bench),
+        Case::NewTypeUnderAHypothesis => definitions::new_type_under_a_hypothesis(bench),
     }
 }
 
@@ -149,6 +177,20 @@ fn symbols_and_theorems_are_made_or_refused(rt: HostRuntime) -> Result<(), Fail>
         Case::ExportMeets,
         Case::AssumedBeforeTheExport,
         Case::OwnExport,
+        Case::Definition,
+        Case::NewerConstant,
+        Case::DefinitionOfATakenName,
+        Case::DefinitionNotClosed,
+        Case::DefinitionWithATypeVariable,
+        Case::DefinitionOfATheorem,
+        Case::DefinitionWithoutAName,
+        Case::ConstantList,
+        Case::ConstantListTooShort,
+        Case::NoConstants,
+        Case::NewType,
+        Case::NewTypeWithATypeVariable,
+        Case::NewTypeOfTwiceAName,
+        Case::NewTypeUnderAHypothesis,
     ];
     let wrong = first_wrong(rt.alloc(), &cases)?;
     assert!(rt; wrong.is_none(), "{wrong:?}");

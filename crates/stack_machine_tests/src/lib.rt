@@ -1,5 +1,5 @@
-//! Tests of the stack machine by its public calls: every command but the definitions, the kind and the line of each
-//! refusal, assumptions that exports meet, and the limits.
+//! Tests of the stack machine by its public calls: every command, the kind and the line of each refusal, assumptions that
+//! exports meet, and the limits.
 #![tactic(auto)]
 
 #[cfg(test)]
@@ -8,6 +8,8 @@ mod articles;
 mod bench;
 #[cfg(test)]
 mod cases;
+#[cfg(test)]
+mod definitions;
 #[cfg(test)]
 mod inference;
 #[cfg(test)]

@@ -1,0 +1,8 @@
+use Rattle.stack_machine.proofs.Defined.{DefinesType-IsStore, DefinesType-InfersTwo}
+use Rattle.stack_machine.proofs.store.Store.define_type_op_as.Goals as goal
+
+pub invariant_of-self : goal.invariant_of-self
+invariant_of-self c = DefinesType-IsStore c.define_type_op.ensures c.self.invariant
+
+pub returns : goal.returns
+returns c = rw (← c.self.view_is) (DefinesType-InfersTwo c.define_type_op.ensures c.self.invariant)

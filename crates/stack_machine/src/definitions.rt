@@ -1,0 +1,107 @@
+//! The words that define constants and type operators: each takes what its definition is given from the stack, and puts there
+//! what it made, its theorems on top.
+ghost use Rattle.article_spec.specs.declared.commands.Word.TheVariants as word;
+ghost use Rattle.article_spec.specs.Operands.{as_constant_pairs, as_names};
+ghost use Rattle.hol_defs.specs.Lists.{pairs_at as constant_pairs_at, ArePairsKnown as AreConstantPairsKnown};
+ghost use Rattle.stack_machine.specs.Obeying.{Obeys};
+ghost use Rattle.stack_machine.specs.Reading.{Operand};
+ghost use Rattle.stack_machine.specs.Shown.{IsDefinition};
+ghost use Rattle.stack_machine.specs.Stored.{AreKnown};
+
+use crate::object::Object;
+use crate::operands::{list_on, name_on, term_on, theorem_on};
+use crate::stack::Stack;
+use crate::store::Store;
+use article_spec::Word;
+use bridge_base::Fault;
+use hol_name::Name;
+use hol_term::Variable;
+use std::alloc::Global;
+
+/// The list of names at a depth of the stack.
+fn names_on(alloc: Global, store: &Store, stack: &Stack, depth: usize) -> Result<Vec<Name>, Fault>
+    requires { AreKnown store.now stack.now }
+    ensures { Operand store.now as_names (λ names. names.items) (λ names. Unit {0}) stack.now depth result }
+{
+    let list = list_on(stack, depth)?;
+    store.names_in(alloc, list)
+}
+
+/// The list of constants with their variables at a depth of the stack.
+fn constant_pairs_on(
+    alloc: Global,
+    store: &Store,
+    stack: &Stack,
+    depth: usize,
+) -> Result<Vec<(Name, Variable)>, Fault>
+    requires { AreKnown store.now stack.now }
+    ensures { Operand store.now as_constant_pairs (λ pairs. constant_pairs_at store.now.trees pairs.items) (λ pairs. AreConstantPairsKnown store.now.trees pairs.items) stack.now depth result }
+{
+    let list = list_on(stack, depth)?;
+    store.constant_pairs_in(alloc, list)
+}
+
+/// A constant by the term that it stands for.
+fn define_const(store: &mut Store, stack: &mut Stack) -> Result<(), Fault>
+    requires { AreKnown store.old stack.old }
+    ensures { Obeys word.DefineConst store.old stack.old store.new stack.new result }
+{
+    let term = term_on(stack, 0)?;
+    let name = name_on(stack, 1)?;
+    let step = store.define_const(name, term)?;
+    stack.put_two(2, Object::Constant(name), Object::Theorem(step));
+    Ok(())
+}
+
+/// A list of constants by the hypotheses of a theorem.
+fn define_const_list(alloc: Global, store: &mut Store, stack: &mut Stack) -> Result<(), Fault>
+    requires { AreKnown store.old stack.old }
+    ensures { Obeys word.DefineConstList store.old stack.old store.new stack.new result }
+{
+    let one = theorem_on(stack, 0)?;
+    let pairs = constant_pairs_on(alloc, store, stack, 1)?;
+    let constants = store.constants_of(&pairs)?;
+    let step = store.define_const_list(&pairs, one)?;
+    stack.put_two(2, Object::List(constants), Object::Theorem(step));
+    Ok(())
+}
+
+/// A type operator by the predicate and the witness of a theorem.
+fn define_type_op(alloc: Global, store: &mut Store, stack: &mut Stack) -> Result<(), Fault>
+    requires { AreKnown store.old stack.old }
+    ensures { Obeys word.DefineTypeOp store.old stack.old store.new stack.new result }
+{
+    let one = theorem_on(stack, 0)?;
+    let names = names_on(alloc, store, stack, 1)?;
+    let rep = name_on(stack, 2)?;
+    let abs = name_on(stack, 3)?;
+    let op = name_on(stack, 4)?;
+    let (first, second) = store.define_type_op(op, abs, rep, &names, one)?;
+    stack.put_five(
+        Object::TypeOperator(op),
+        Object::Constant(abs),
+        Object::Constant(rep),
+        Object::Theorem(first),
+        Object::Theorem(second),
+    );
+    Ok(())
+}
+
+/// A word that defines.
+pub(crate) fn obey_by_definition(
+    alloc: Global,
+    store: &mut Store,
+    stack: &mut Stack,
+    word: Word,
+) -> Result<(), Fault>
+    requires word { IsDefinition word }
+    requires stack { AreKnown store.old stack.old }
+    ensures { Obeys word store.old stack.old store.new stack.new result }
+{
+    match word {
+        Word::DefineConst => define_const(store, stack),
+        Word::DefineConstList => define_const_list(alloc, store, stack),
+        Word::DefineTypeOp => define_type_op(alloc, store, stack),
+        _ => unreachable!(),
+    }
+}
