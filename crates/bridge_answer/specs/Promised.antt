@@ -5,12 +5,11 @@ use Rattle.std.proofs.lemmas.List.{append-nil}
 use Rattle.bridge_base.specs.Outside.{Files, Gains, file}
 use Rattle.hol_spec.specs.Proofs.{Accepted}
 use Rattle.lp_spec.specs.Modules.{Declaration}
-use Rattle.article_spec.specs.Run.{Obeys, Outcome, accepted, refused_at, RunsBy}
+use Rattle.article_spec.specs.Run.{Obeys, machine, Outcome, accepted, refused_at, RunsBy}
 use Rattle.article_laws.specs.RunLaws.{one_outcome}
 use Rattle.module_spec.specs.Image.{image}
 use Rattle.module_spec.specs.Stands.{Stands}
 use Rattle.bridge_spec.specs.FirstPath.{first_path}
-use Rattle.bridge_spec.specs.WithoutDefinitions.{without_definitions}
 use Rattle.bridge_spec.specs.Forms.{Form, translate, check, show, decode}
 use Rattle.bridge_spec.specs.Texts.{usage_line}
 use Rattle.bridge_spec.specs.Calls.{Shelved, Sunk, Call}
@@ -163,8 +162,8 @@ check-answers name budget shelf = record {
 -- `show`: the answer of the one outcome.
 show-exact : (names : List (List ℕ)) (shelf : Shelved) → ReadWell shelf → (answer due : Status) (out note : List ℕ) → FormAnswers (Some (show names)) shelf answer out note
     → IsDue (Some (show names)) shelf.told_before due → Aside answer (answer ≡ due)
-show-exact names shelf well Done due out note h d = ap answer_of (RunsTo-unique without_definitions shelf.told_before names (accepted h.0) d.outcome well.tells h.1 d.runs) ∙ sym d.is
-show-exact names shelf well (Refused article line kind) due out note h d = ap answer_of (RunsTo-unique without_definitions shelf.told_before names (refused_at article line kind) d.outcome well.tells h.0 d.runs) ∙ sym d.is
+show-exact names shelf well Done due out note h d = ap answer_of (RunsTo-unique machine shelf.told_before names (accepted h.0) d.outcome well.tells h.1 d.runs) ∙ sym d.is
+show-exact names shelf well (Refused article line kind) due out note h d = ap answer_of (RunsTo-unique machine shelf.told_before names (refused_at article line kind) d.outcome well.tells h.0 d.runs) ∙ sym d.is
 show-exact names shelf well Usage due out note h d = absurd h
 show-exact names shelf well ReadFault due out note h d = absurd (well.no_fault h.0)
 show-exact names shelf well WriteFault due out note h d = tt

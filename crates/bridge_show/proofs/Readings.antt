@@ -15,29 +15,28 @@ use Rattle.article_laws.specs.ReadingLaws.{one_reading, opens_front}
 use Rattle.article_spec.specs.Results.{Fails, ◌>>=◌}
 use Rattle.article_spec.specs.State.{State, initial}
 use Rattle.article_spec.specs.Step.{finish}
-use Rattle.bridge_spec.specs.WithoutDefinitions.{without_definitions}
-use Rattle.article_spec.specs.Run.{at_line, obey_all, RunsBy, accepted, accepted_state, finished, passed, stopped}
+use Rattle.article_spec.specs.Run.{machine, at_line, obey_all, Run, accepted, accepted_state, finished, passed, stopped}
 use Rattle.bridge_show.specs.Halts.{Halts, ReadsTo, IsRefused, OfText, StopsText, StopsRun, stop_of_fault, stop_of_line}
 use Rattle.bridge_show.specs.declared.reading.Stop.{Stop}
 use Rattle.bridge_show.specs.declared.reading.Stop.TheVariants as stop
 
-joined : (xs ys : List Command) (r : Result State (ℕ × Kind)) → ((t : State) → obey_all without_definitions t (xs ++ ys) ≡ (obey_all without_definitions t xs >>= λ u. obey_all without_definitions u ys))
-    → (r >>= λ t. obey_all without_definitions t (xs ++ ys)) ≡ ((r >>= λ t. obey_all without_definitions t xs) >>= λ u. obey_all without_definitions u ys)
+joined : (xs ys : List Command) (r : Result State (ℕ × Kind)) → ((t : State) → obey_all machine t (xs ++ ys) ≡ (obey_all machine t xs >>= λ u. obey_all machine u ys))
+    → (r >>= λ t. obey_all machine t (xs ++ ys)) ≡ ((r >>= λ t. obey_all machine t xs) >>= λ u. obey_all machine u ys)
 joined xs ys (Ok t) h = h t
 joined xs ys (Err r) h = refl
 
 -- To obey two lists is to obey one after the other.
-pub obey_all-append : (xs ys : List Command) (s : State) → obey_all without_definitions s (xs ++ ys) ≡ (obey_all without_definitions s xs >>= λ t. obey_all without_definitions t ys)
+pub obey_all-append : (xs ys : List Command) (s : State) → obey_all machine s (xs ++ ys) ≡ (obey_all machine s xs >>= λ t. obey_all machine t ys)
 obey_all-append [] ys s = refl
-obey_all-append (x ∷ xs) ys s = joined xs ys (at_line x.line (without_definitions.command s x)) (obey_all-append xs ys)
+obey_all-append (x ∷ xs) ys s = joined xs ys (at_line x.line (machine.command s x)) (obey_all-append xs ys)
 
-obeyed_more : (xs ys : List Command) (s t u : State) → obey_all without_definitions s xs ≡ Ok t → obey_all without_definitions t ys ≡ Ok u → obey_all without_definitions s (xs ++ ys) ≡ Ok u
+obeyed_more : (xs ys : List Command) (s t u : State) → obey_all machine s xs ≡ Ok t → obey_all machine t ys ≡ Ok u → obey_all machine s (xs ++ ys) ≡ Ok u
 obeyed_more xs ys s t u e f = obey_all-append xs ys s ∙ rw (e, f) refl
 
-halted_more : (xs ys : List Command) (s t : State) (r : ℕ × Kind) → obey_all without_definitions s xs ≡ Ok t → obey_all without_definitions t ys ≡ Err r → obey_all without_definitions s (xs ++ ys) ≡ Err r
+halted_more : (xs ys : List Command) (s t : State) (r : ℕ × Kind) → obey_all machine s xs ≡ Ok t → obey_all machine t ys ≡ Err r → obey_all machine s (xs ++ ys) ≡ Err r
 halted_more xs ys s t r e f = obey_all-append xs ys s ∙ rw (e, f) refl
 
-halted_front : (xs ys : List Command) (s : State) (r : ℕ × Kind) → obey_all without_definitions s xs ≡ Err r → obey_all without_definitions s (xs ++ ys) ≡ Err r
+halted_front : (xs ys : List Command) (s : State) (r : ℕ × Kind) → obey_all machine s xs ≡ Err r → obey_all machine s (xs ++ ys) ≡ Err r
 halted_front xs ys s r e = obey_all-append xs ys s ∙ rw e refl
 
 -- This holds of the text that was read to some place, whatever follows there.
@@ -65,7 +64,7 @@ pub record IsRead (start left : Option (List ℕ)) (before now : State) (lines :
   pub gave : Gives start fed left
   pub given : List Command
   pub read : IsFed lines fed given
-  pub obeyed : obey_all without_definitions before given ≡ Ok now
+  pub obeyed : obey_all machine before given ≡ Ok now
 
 -- At first nothing is.
 pub none_read : (start : Option (List ℕ)) (s : State) → IsRead start start s s fresh
@@ -77,7 +76,7 @@ pub record IsPiece (start new : Option (List ℕ)) (before now : State) (lines :
   pub gave : Gives start fed new
   pub given : List Command
   pub read : IsFed lines fed (given ++ commands)
-  pub obeyed : obey_all without_definitions before given ≡ Ok now
+  pub obeyed : obey_all machine before given ≡ Ok now
 
 pub piece_read : (start old new : Option (List ℕ)) (before now : State) (lines next : Reading) (piece : List ℕ) (cleared commands : List Command)
     → IsRead start old before now lines → Gives old piece new → cleared ≡ [] → Feeds lines piece cleared commands next → IsPiece start new before now next commands
@@ -92,21 +91,21 @@ piece_read start old new before now lines next piece cleared commands r g e f =
 
 -- Its commands are obeyed.
 pub piece_obeyed : (start new : Option (List ℕ)) (before now after : State) (lines : Reading) (commands : List Command)
-    → IsPiece start new before now lines commands → obey_all without_definitions now commands ≡ Ok after → IsRead start new before after lines
+    → IsPiece start new before now lines commands → obey_all machine now commands ≡ Ok after → IsRead start new before after lines
 piece_obeyed start new before now after lines commands p e =
     record { fed = p.fed; gave = p.gave; given = p.given ++ commands; read = p.read; obeyed = obeyed_more p.given commands before now after p.obeyed e }
 
 -- A run of the commands of a text's front is refused as the text's is.
-refused_of_all : (text : List ℕ) (before : State) (line : ℕ) (kind : Kind) (commands : List Command) (end : End) → Lines text commands end → obey_all without_definitions before commands ≡ Err (line, kind) → IsRefused text before line kind
+refused_of_all : (text : List ℕ) (before : State) (line : ℕ) (kind : Kind) (commands : List Command) (end : End) → Lines text commands end → obey_all machine before commands ≡ Err (line, kind) → IsRefused text before line kind
 refused_of_all text before line kind commands end l e = record { commands = commands; end = end; lines = l; refused = rw e refl }
 
-refused_of_front : (front more : List ℕ) (before : State) (line : ℕ) (kind : Kind) (commands : List Command) (n o : ℕ) (line_text : List ℕ) → Opens 1 0 front commands n o line_text → obey_all without_definitions before commands ≡ Err (line, kind) → IsRefused (front ++ more) before line kind
+refused_of_front : (front more : List ℕ) (before : State) (line : ℕ) (kind : Kind) (commands : List Command) (n o : ℕ) (line_text : List ℕ) → Opens 1 0 front commands n o line_text → obey_all machine before commands ≡ Err (line, kind) → IsRefused (front ++ more) before line kind
 refused_of_front front more before line kind commands n o line_text h e =
     let r = one_reading (front ++ more) in
     let f = opens_front front more commands r.commands n o line_text r.end h r.read in
-    refused_of_all (front ++ more) before line kind r.commands r.end r.read (ap (obey_all without_definitions before) f.is ∙ halted_front commands f.rest before (line, kind) e)
+    refused_of_all (front ++ more) before line kind r.commands r.end r.read (ap (obey_all machine before) f.is ∙ halted_front commands f.rest before (line, kind) e)
 
-refused_of_fed : (fault : Option LineFault) (lines : Reading) (fed rest : List ℕ) (before : State) (line : ℕ) (kind : Kind) (commands : List Command) → fed_with fault lines fed commands → obey_all without_definitions before commands ≡ Err (line, kind) → IsRefused (fed ++ rest) before line kind
+refused_of_fed : (fault : Option LineFault) (lines : Reading) (fed rest : List ℕ) (before : State) (line : ℕ) (kind : Kind) (commands : List Command) → fed_with fault lines fed commands → obey_all machine before commands ≡ Err (line, kind) → IsRefused (fed ++ rest) before line kind
 refused_of_fed None lines fed rest before line kind commands h e = refused_of_front fed rest before line kind commands lines.number lines.offset lines.rest h e
 refused_of_fed (Some (line_fault.Refused l k)) lines fed rest before line kind commands h e = refused_of_all (fed ++ rest) before line kind commands (refused l k) (stops (Stops-append h rest)) e
 refused_of_fed (Some line_fault.Memory) lines fed rest before line kind commands h e =
@@ -114,7 +113,7 @@ refused_of_fed (Some line_fault.Memory) lines fed rest before line kind commands
 
 -- Its commands are refused.
 pub piece_halted : (start new : Option (List ℕ)) (before now : State) (lines : Reading) (commands : List Command) (why : Stop)
-    → IsPiece start new before now lines commands → Halts why (obey_all without_definitions now commands) → StopsText why start before
+    → IsPiece start new before now lines commands → Halts why (obey_all machine now commands) → StopsText why start before
 piece_halted start new before now lines commands (stop.Refused line kind) p e =
     text_so_far start new p.fed (λ text. IsRefused text before line kind) p.gave
     (λ rest. refused_of_fed lines.fault lines p.fed rest before line kind (p.given ++ commands) p.read (halted_more p.given commands before now (line, kind) p.obeyed e))
@@ -123,7 +122,7 @@ piece_halted start new before now lines commands stop.Memory p e = tt
 
 -- Its commands are obeyed, and it has a faulty line.
 pub piece_faulty : (start new : Option (List ℕ)) (before now after : State) (lines : Reading) (commands : List Command) (why : LineFault)
-    → IsPiece start new before now lines commands → obey_all without_definitions now commands ≡ Ok after → lines.fault ≡ Some why → StopsText (stop_of_line why) start before
+    → IsPiece start new before now lines commands → obey_all machine now commands ≡ Ok after → lines.fault ≡ Some why → StopsText (stop_of_line why) start before
 piece_faulty start new before now after lines commands (line_fault.Refused line kind) p e q =
     let h : Stops 1 0 p.fed (p.given ++ commands) line kind = subst (λ o. fed_with o lines p.fed (p.given ++ commands)) q p.read in
     text_so_far start new p.fed (λ text. IsRefused text before line kind) p.gave (λ rest. record {
@@ -136,7 +135,7 @@ piece_faulty start new before now after lines commands line_fault.Memory p e q =
 
 -- The text ends, and its last commands are obeyed.
 pub last_obeyed : (start left : Option (List ℕ)) (before now after : State) (lines : Reading) (commands : List Command) (line : ℕ)
-    → IsRead start left before now lines → IfSome left (λ rest. rest ≡ []) → EndsWith lines [] commands (Ok line) → obey_all without_definitions now commands ≡ Ok after → OfText start (λ text. ReadsTo text before line after)
+    → IsRead start left before now lines → IfSome left (λ rest. rest ≡ []) → EndsWith lines [] commands (Ok line) → obey_all machine now commands ≡ Ok after → OfText start (λ text. ReadsTo text before line after)
 last_obeyed start left before now after lines commands line r h f e =
     text_to_end start left r.fed (λ text. ReadsTo text before line after) r.gave h (record {
       commands = r.given ++ commands;
@@ -145,7 +144,7 @@ last_obeyed start left before now after lines commands line r h f e =
     })
 
 last_refused : (start left : Option (List ℕ)) (before now : State) (lines : Reading) (commands : List Command) (end : End) (line : ℕ) (kind : Kind)
-    → IsRead start left before now lines → IfSome left (λ rest. rest ≡ []) → Ends lines [] commands end → obey_all without_definitions now commands ≡ Err (line, kind) → OfText start (λ text. IsRefused text before line kind)
+    → IsRead start left before now lines → IfSome left (λ rest. rest ≡ []) → Ends lines [] commands end → obey_all machine now commands ≡ Err (line, kind) → OfText start (λ text. IsRefused text before line kind)
 last_refused start left before now lines commands end line kind r h f e =
     text_to_end start left r.fed (λ text. IsRefused text before line kind) r.gave h
     (refused_of_all r.fed before line kind (r.given ++ commands) end
@@ -154,17 +153,17 @@ last_refused start left before now lines commands end line kind r h f e =
 
 -- The text ends, and its last commands are refused.
 pub last_halted : (start left : Option (List ℕ)) (before now : State) (lines : Reading) (commands : List Command) (answer : Result ℕ LineFault) (why : Stop)
-    → IsRead start left before now lines → IfSome left (λ rest. rest ≡ []) → EndsWith lines [] commands answer → Halts why (obey_all without_definitions now commands) → StopsText why start before
+    → IsRead start left before now lines → IfSome left (λ rest. rest ≡ []) → EndsWith lines [] commands answer → Halts why (obey_all machine now commands) → StopsText why start before
 last_halted start left before now lines commands (Ok n) (stop.Refused line kind) r h f e = last_refused start left before now lines commands (ended n) line kind r h f e
 last_halted start left before now lines commands (Err (line_fault.Refused l k)) (stop.Refused line kind) r h f e = last_refused start left before now lines commands (refused l k) line kind r h f e
 last_halted start left before now lines commands (Err line_fault.Memory) (stop.Refused line kind) r h f e =
-    let g : ◌≡◌ {A = Result State (ℕ × Kind)} (Ok now) (Err (line, kind)) = ap (obey_all without_definitions now) (sym f) ∙ e in absurd (cc)
+    let g : ◌≡◌ {A = Result State (ℕ × Kind)} (Ok now) (Err (line, kind)) = ap (obey_all machine now) (sym f) ∙ e in absurd (cc)
 last_halted start left before now lines commands answer stop.ReadFault r h f e = tt
 last_halted start left before now lines commands answer stop.Memory r h f e = tt
 
 -- The text ends with a faulty line.
 pub last_faulty : (start left : Option (List ℕ)) (before now after : State) (lines : Reading) (commands : List Command) (why : LineFault)
-    → IsRead start left before now lines → IfSome left (λ rest. rest ≡ []) → EndsWith lines [] commands (Err why) → obey_all without_definitions now commands ≡ Ok after → StopsText (stop_of_line why) start before
+    → IsRead start left before now lines → IfSome left (λ rest. rest ≡ []) → EndsWith lines [] commands (Err why) → obey_all machine now commands ≡ Ok after → StopsText (stop_of_line why) start before
 last_faulty start left before now after lines commands (line_fault.Refused line kind) r h f e =
     text_to_end start left r.fed (λ text. IsRefused text before line kind) r.gave h (record {
       commands = r.given ++ commands;
@@ -175,7 +174,7 @@ last_faulty start left before now after lines commands (line_fault.Refused line 
 last_faulty start left before now after lines commands line_fault.Memory r h f e = tt
 
 -- A text that is read, with its end, is a run of one article.
-pub run_accepted : (bytes : List ℕ) (line : ℕ) (s next : State) → ReadsTo bytes initial line s → finish s ≡ Ok next → RunsBy without_definitions (bytes ∷ []) (accepted (accepted_state next))
+pub run_accepted : (bytes : List ℕ) (line : ℕ) (s next : State) → ReadsTo bytes initial line s → finish s ≡ Ok next → Run (bytes ∷ []) (accepted (accepted_state next))
 run_accepted bytes line s next r e = passed {next = next} r.lines (rw (r.obeyed, e) refl) (finished refl)
 
 pub run_unfinished : (told : Option (List ℕ)) (line : ℕ) (s : State) (why : Fault) → OfText told (λ text. ReadsTo text initial line s) → Fails why (finish s) → StopsRun (stop_of_fault line why) told

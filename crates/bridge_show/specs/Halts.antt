@@ -9,8 +9,7 @@ use Rattle.article_read.specs.declared.lines.LineFault.TheVariants as line_fault
 use Rattle.article_spec.specs.declared.commands.Command.{Command}
 use Rattle.article_spec.specs.Lines.{Lines, End, ended}
 use Rattle.article_spec.specs.State.{State}
-use Rattle.article_spec.specs.Run.{obey_all, obey_article, RunsBy, refused_at}
-use Rattle.bridge_spec.specs.WithoutDefinitions.{without_definitions}
+use Rattle.article_spec.specs.Run.{machine, obey_all, obey_article, refused_at, Run}
 use Rattle.bridge_show.specs.declared.reading.Stop.{Stop}
 use Rattle.bridge_show.specs.declared.reading.Stop.TheVariants.{Refused, ReadFault, Memory}
 
@@ -34,14 +33,14 @@ stop_of_line line_fault.Memory = Memory
 pub record ReadsTo (text : List ℕ) (before : State) (line : ℕ) (after : State) : Type 0 where
   pub commands : List Command
   pub lines : Lines text commands (ended line)
-  pub obeyed : obey_all without_definitions before commands ≡ Ok after
+  pub obeyed : obey_all machine before commands ≡ Ok after
 
 -- From a state, the commands of a text are refused.
 pub record IsRefused (text : List ℕ) (before : State) (line : ℕ) (kind : Kind) : Type 0 where
   pub commands : List Command
   pub end : End
   pub lines : Lines text commands end
-  pub refused : obey_article without_definitions before commands end ≡ Err (line, kind)
+  pub refused : obey_article machine before commands end ≡ Err (line, kind)
 
 -- This holds of some text: of the bytes that are told, where they are, and else of what was read.
 pub record OfText (told : Option (List ℕ)) (P : List ℕ → Type 0) : Type 0 where
@@ -61,6 +60,6 @@ StopsText Memory told before = Unit {0}
 
 -- The stop is that of a run of one article.
 abbrev pub StopsRun : Stop → Option (List ℕ) → Type 0
-StopsRun (Refused line kind) told = OfText told (λ text. RunsBy without_definitions (text ∷ []) (refused_at 1 line kind))
+StopsRun (Refused line kind) told = OfText told (λ text. Run (text ∷ []) (refused_at 1 line kind))
 StopsRun ReadFault told = Unit {0}
 StopsRun Memory told = Unit {0}

@@ -5,8 +5,7 @@
 //! step of the run says.
 //!
 //! It stands on `article_read` for the commands of an article, on `stack_machine` for the run, on `closed_text` for the
-//! lines, and on `bridge_answer` for what is written. A word that defines a constant or an operator is refused as a bad line
-//! yet.
+//! lines, and on `bridge_answer` for what is written.
 //!
 //! ```text
 //! let status = show(alloc, &files, &mut shelf, &mut out, &mut note);

@@ -1,10 +1,9 @@
 //! An article read from a shelf, line by line, to its end.
 ghost use Rattle.std.specs.Prelude.{◌≡◌, ◌≢◌, ◌≤◌, ◌∷◌, [], Ok, OnOk, IfOk, IfErr};
 ghost use Rattle.bridge_base.specs.Outside.{Rose};
-ghost use Rattle.article_spec.specs.Results.{Fails};
-ghost use Rattle.article_spec.specs.Run.{obey_all, RunsBy, accepted, accepted_state};
+ghost use Rattle.article_spec.specs.Run as run;
+ghost use Rattle.article_spec.specs.Run.{obey_all, accepted, accepted_state, Run};
 ghost use Rattle.article_spec.specs.State.{initial};
-ghost use Rattle.bridge_spec.specs.WithoutDefinitions.{without_definitions};
 ghost use Rattle.bridge_show.specs.declared.reading.Stop.{Stop};
 ghost use Rattle.bridge_show.specs.Halts.{Halts, ReadsTo, OfText, bytes_told, StopsText, StopsRun, stop_of_fault, stop_of_line};
 
@@ -25,7 +24,7 @@ pub enum Stop {
 /// The machine at the end of an article: that of the file's bytes, where the shelf tells them, and else
 /// that of the bytes that were read.
 pub fn read_article<H: Shelf>(alloc: Global, file: &str, shelf: &mut H) -> Result<Machine, Stop>
-    ensures accepted { IfOk result (λ machine. OfText (bytes_told (H.told shelf.old) file.now) (λ text. RunsBy without_definitions (text ∷ []) (accepted (accepted_state machine)))) }
+    ensures accepted { IfOk result (λ machine. OfText (bytes_told (H.told shelf.old) file.now) (λ text. Run (text ∷ []) (accepted (accepted_state machine)))) }
     ensures refused { IfErr result (λ stop. StopsRun stop (bytes_told (H.told shelf.old) file.now)) }
     ensures read_fault { IfErr result (λ stop. stop ≡ Stop.ReadFault → Rose (H.faults shelf.old) (H.faults shelf.new)) }
     ensures told_kept { H.told shelf.new ≡ H.told shelf.old }
@@ -47,7 +46,7 @@ fn run_article<H: Shelf>(
     mut machine: Machine,
 ) -> Result<Machine, Stop>
     requires begun { machine ≡ initial }
-    ensures accepted { IfOk result (λ last. OfText (H.left shelf.old) (λ text. RunsBy without_definitions (text ∷ []) (accepted (accepted_state last)))) }
+    ensures accepted { IfOk result (λ last. OfText (H.left shelf.old) (λ text. Run (text ∷ []) (accepted (accepted_state last)))) }
     ensures refused { IfErr result (λ stop. StopsRun stop (H.left shelf.old)) }
     ensures read_fault { IfErr result (λ stop. stop ≡ Stop.ReadFault → Rose (H.faults shelf.old) (H.faults shelf.new)) }
     ensures told_kept { H.told shelf.new ≡ H.told shelf.old }
@@ -97,27 +96,16 @@ fn read_commands<H: Shelf>(alloc: Global, shelf: &mut H, machine: &mut Machine) 
 
 /// Runs commands up to the first that is refused.
 fn run_all(machine: &mut Machine, commands: &[Command]) -> Result<(), Stop>
-    ensures obeyed { OnOk result (obey_all without_definitions machine.old commands.now ≡ Ok machine.new) }
-    ensures halted { IfErr result (λ stop. Halts stop (obey_all without_definitions machine.old commands.now)) }
+    ensures obeyed { OnOk result (obey_all run.machine machine.old commands.now ≡ Ok machine.new) }
+    ensures halted { IfErr result (λ stop. Halts stop (obey_all run.machine machine.old commands.now)) }
     ensures own { IfErr result (λ stop. stop ≢ Stop.ReadFault) }
 {
     for command in commands {
-        if let Err(fault) = obey(machine, command) {
+        if let Err(fault) = machine.step(command) {
             return Err(stop_at(command.line, fault));
         }
     }
     Ok(())
-}
-
-/// Obeys a command. One that defines is told as a bad line.
-fn obey(machine: &mut Machine, command: &Command) -> Result<(), Fault>
-    ensures taken { OnOk result (without_definitions.command machine.old command.now ≡ Ok machine.new) }
-    ensures refused { IfErr result (λ fault. Fails fault (without_definitions.command machine.old command.now)) }
-{
-    if !Machine::takes(&command.item) {
-        return Err(Fault::Refused(Kind::BadLine));
-    }
-    machine.step(command)
 }
 
 /// The stop for a fault of the machine at a line.

@@ -100,3 +100,13 @@ pub(crate) fn is_refused(alloc: Global, pieces: &[&str], said: &[u8]) -> Result<
     let answer = answer_to(alloc, &article(alloc, pieces)?)?;
     Ok(answer.number == 1 && answer.out.is_empty() && answer.note.as_slice() == said)
 }
+
+/// Whether these lines alone are written for an article of these pieces, which is accepted.
+pub(crate) fn shows_lines(
+    alloc: Global,
+    pieces: &[&str],
+    lines: &[u8],
+) -> Result<bool, AllocError> {
+    let answer = answer_to(alloc, &article(alloc, pieces)?)?;
+    Ok(answer.number == 0 && answer.out.as_slice() == lines && answer.note.is_empty())
+}

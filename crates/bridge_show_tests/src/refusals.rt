@@ -177,13 +177,6 @@ fn tells_each_kind_of_a_theorem(rt: HostRuntime) -> Result<(), Fail> {
             b"article 1 line 44: NotTheSequent (20)\n"
         )?
     );
-    assert!(rt;
-        is_refused(
-            rt.alloc(),
-            &[VERSION, P, "\"c\" defineConst"],
-            b"article 1 line 11: BadLine (1)\n"
-        )?
-    );
     Ok(())
 }
 

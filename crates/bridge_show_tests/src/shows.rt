@@ -2,8 +2,8 @@
 ghost use Rattle.std.specs.Prelude.{◌<◌};
 
 use crate::answers::{
-    BINARY_TYPE, P, Q, R, REFLEXIVITY, VAR_P, VAR_Q, VERSION, answer_to, article, shelf, sink,
-    texts,
+    BINARY_TYPE, P, Q, R, REFLEXIVITY, VAR_P, VAR_Q, VERSION, answer_to, article, shelf,
+    shows_lines, sink, texts,
 };
 use bridge_run::{Status, show};
 use std::alloc::{AllocError, Global};
@@ -44,12 +44,6 @@ fn shows_nothing_where_nothing_is_exported(rt: HostRuntime) -> Result<(), Fail> 
     assert!(rt; shows_nothing(rt.alloc(), &[VERSION])?);
     assert!(rt; shows_nothing(rt.alloc(), &[VERSION, "9223372036854775807"])?);
     Ok(())
-}
-
-// Whether these lines alone are written for an article of these pieces, which is accepted.
-fn shows_lines(alloc: Global, pieces: &[&str], lines: &[u8]) -> Result<bool, AllocError> {
-    let answer = answer_to(alloc, &article(alloc, pieces)?)?;
-    Ok(answer.number == 0 && answer.out.as_slice() == lines && answer.note.is_empty())
 }
 
 #[test]

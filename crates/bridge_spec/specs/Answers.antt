@@ -5,10 +5,9 @@ use Rattle.dk_read.specs.States.{fault_of}
 use Rattle.bridge_base.specs.Outside.{Files, file, Rose}
 use Rattle.hol_spec.specs.ClosedForm.{ClosedSequent}
 use Rattle.hol_spec.specs.Proofs.{Accepted}
-use Rattle.article_spec.specs.Run.{Obeys, Outcome, accepted, refused_at, RunsBy}
+use Rattle.article_spec.specs.Run.{Obeys, machine, Outcome, accepted, refused_at, RunsBy}
 use Rattle.bridge_spec.specs.Forms.{Form, translate, check, show, decode}
 use Rattle.bridge_spec.specs.FirstPath.{first_path}
-use Rattle.bridge_spec.specs.WithoutDefinitions.{without_definitions}
 use Rattle.bridge_spec.specs.Calls.{Shelved, Call}
 use Rattle.bridge_spec.specs.FileChecks.{IsRefusedAt, IsAccepted, IsIllTyped, IsOverBudget, PassesWithin, FailsWithin}
 use Rattle.bridge_spec.specs.FileExports.{exports_of, Says, IsNotSequent}
@@ -72,7 +71,7 @@ abbrev pub IsDue : Option Form → Option Files → Status → Type 0
 IsDue None told status = status ≡ Usage
 IsDue (Some (translate names)) told status = IsAnswerOfRun first_path told names status
 IsDue (Some (check name budget)) told status = IsDueOfCheck told name budget status
-IsDue (Some (show names)) told status = IsAnswerOfRun without_definitions told names status
+IsDue (Some (show names)) told status = IsAnswerOfRun machine told names status
 IsDue (Some (decode name)) told status = IsDueOfDecode told name status
 
 -- the shelf failed
@@ -131,9 +130,9 @@ AnswersCheck name budget shelf (NotSequent i) out note = ⊥
 -- `show`: what an accepted run of the articles assumes and exports; or where the run is refused; or what failed.
 abbrev pub AnswersShow : List (List ℕ) → Shelved → Status → List ℕ → List ℕ → Type 0
 AnswersShow names shelf Done out note =
-    (run : Accepted) × RunsTo without_definitions shelf.told_before names (accepted run) × (out ≡ shown_text run) × (note ≡ [])
+    (run : Accepted) × RunsTo machine shelf.told_before names (accepted run) × (out ≡ shown_text run) × (note ≡ [])
 AnswersShow names shelf (Refused article line kind) out note =
-    RunsTo without_definitions shelf.told_before names (refused_at article line kind) × NoteAlone (refusal_line article line kind) out note
+    RunsTo machine shelf.told_before names (refused_at article line kind) × NoteAlone (refusal_line article line kind) out note
 AnswersShow names shelf Usage out note = ⊥
 AnswersShow names shelf ReadFault out note = ReadFailed shelf × NoteAlone read_fault_line out note
 AnswersShow names shelf WriteFault out note = ⊥

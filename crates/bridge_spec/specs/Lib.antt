@@ -7,4 +7,3 @@ pub mod Forms
 pub mod Outputs
 pub mod Promises
 pub mod Texts
-pub mod WithoutDefinitions

@@ -13,7 +13,6 @@
 //! | `Texts` | what is written for each answer |
 //! | `Outputs` | what the sinks hold afterwards |
 //! | `FirstPath` | which words of an article `translate` obeys so far, as a way of obeying; it goes when the whole machine is run |
-//! | `WithoutDefinitions` | which words `show` obeys so far: all but those that define; it goes when these are obeyed |
 //!
 //! The module of an accepted run, and what it is good for, are defined in `module_spec`.
 #![tactic(auto)]
