@@ -25,7 +25,7 @@ use Rattle.sequent.specs.Params.{same_variable}
 use Rattle.translate_term.specs.Told.{TellsConstant, told_constant}
 use Rattle.translate_term.specs.Patterns.{IsGeneric, IsTypeTree}
 use Rattle.translate_term.specs.Walks.{Given, Grows, AreGiven, IsTypeStart, type_wanted, term_wanted}
-use Rattle.translate_term.proofs.GrowLaws.{IsHeld-Grows, declarations_of-Grows}
+use Rattle.translate_term.specs.GrowLaws.{IsHeld-Grows, declarations_of-Grows}
 use Rattle.translate_term.proofs.ScopeLists.{term-found, term-absent}
 use Rattle.std.proofs.lemmas.Option.{same_Some}
 

@@ -3,7 +3,6 @@ mod KeyLaws
 mod ListSteps
 mod VisitLaws
 mod EndsLaws
-mod GrowLaws
 mod TypeTurns
 mod PatternLaws
 mod MatchTurns

@@ -29,7 +29,7 @@ use Rattle.translate_term.specs.Tasks.{IsNoted, IsDone, AreAll, visits, PartsAre
 use Rattle.translate_term.specs.Told.{TellsType, TellsTerm}
 use Rattle.translate_term.specs.Walks.{Grows, Given, IsGiven, IsTypeMemo, IsTypeStart, IsTermKnown, IsTermMemo, IsTermStart, IsTermWalk, IsApplication, IsAbstraction, HasParts, type_wanted, term_wanted, place_size}
 use Rattle.translate_term.proofs.EndsLaws.{Ends-done, Ends-noted, Ends-set_out, noted-sound}
-use Rattle.translate_term.proofs.GrowLaws.{IsGiven-Grows, AreGiven-Grows, IsTermMemo-Keeps}
+use Rattle.translate_term.specs.GrowLaws.{IsGiven-Grows, AreGiven-Grows, IsTermMemo-Keeps}
 use Rattle.std.proofs.lemmas.Option.{same_Some}
 
 -- To lift is to substitute.

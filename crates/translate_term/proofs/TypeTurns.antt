@@ -22,7 +22,7 @@ use Rattle.translate_term.specs.Tasks.{IsNoted, IsDone, AreAll, visits, PartsAre
 use Rattle.translate_term.specs.Told.{TellsType, TellsTypes, told_operator}
 use Rattle.translate_term.specs.Walks.{Grows, Given, IsGiven, IsTypeKnown, IsTypeMemo, IsTypeStart, IsTypeWalk, HasArguments, AreNoted, type_wanted, size_at}
 use Rattle.translate_term.proofs.EndsLaws.{Ends-done, Ends-noted, Ends-set_out, noted-sound, sum_of}
-use Rattle.translate_term.proofs.GrowLaws.{IsGiven-Grows, IsTypeMemo-Keeps}
+use Rattle.translate_term.specs.GrowLaws.{IsGiven-Grows, IsTypeMemo-Keeps}
 use Rattle.std.proofs.Math.Path.{ap₂}
 use Rattle.std.proofs.lemmas.Option.{same_Some}
 

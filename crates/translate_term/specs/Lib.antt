@@ -3,3 +3,4 @@ pub mod Tasks
 pub mod Walks
 pub mod Patterns
 pub mod Closed
+pub mod GrowLaws

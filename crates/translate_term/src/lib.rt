@@ -30,11 +30,11 @@ ghost use Rattle.hol_term.specs.Tables.{term_at};
 ghost use Rattle.holide_sig.specs.Modules.{declarations_of, IsHeld};
 ghost use Rattle.lp_term.specs.Tables.{tree_at, Holds, Keeps};
 ghost use Rattle.module_spec.specs.Enc.{Enc};
-ghost use Rattle.module_spec.specs.Scopes.{Symbols, filler as filler_of, sequent_tree, term_tree as tree_of_term, type_tree as tree_of_type};
+ghost use Rattle.module_spec.specs.Scopes.{Symbols, constant_tree, filler as filler_of, sequent_tree, term_tree as tree_of_term, type_tree as tree_of_type};
 ghost use Rattle.module_laws.specs.ListedScopes.{told, told_types};
 ghost use Rattle.module_laws.specs.SequentEncoding.{TermMeant};
 ghost use Rattle.sequent.specs.Closed.{closed_view};
-ghost use Rattle.translate_term.specs.Told.{AreTermsKnown, AreTypesKnown, TellsClosed, TellsTerm, TellsType, terms_in, types_in};
+ghost use Rattle.translate_term.specs.Told.{AreTermsKnown, AreTypesKnown, TellsClosed, TellsConstant, TellsTerm, TellsType, terms_in, types_in};
 
 mod closed;
 mod generic;
@@ -47,11 +47,13 @@ mod terms;
 mod types;
 
 use crate::closed::closed_type;
+use crate::generic::constant_of;
 use crate::memo::TypeMemo;
 use crate::nodes::filling;
 use crate::terms::term_tree;
 use crate::types::type_of;
 use bridge_base::Memory;
+use hol_name::Name;
 use hol_term::{TermId, TermTable};
 use hol_type::{TypeId, TypeTable};
 use holide_sig::Module;
@@ -106,6 +108,31 @@ pub fn tm(
     // As many terms as the table has can be counted.
     let _count = table.count();
     term_tree(alloc, target, table, scope, id)
+}
+
+/// A constant at a type: its symbol at what the variables of its generic type have there.
+pub fn constant(
+    alloc: Global,
+    target: &mut Module,
+    table: &TypeTable,
+    scope: &Scope,
+    name: &Name,
+    ty: TypeId,
+) -> Result<LpId, Memory>
+    requires held { IsHeld target.old }
+    requires ty { ty.0 < length table.now }
+    requires types { AreTypesKnown target.old.table scope.now.types }
+    requires told { (symbols : Symbols) × TellsConstant (declarations_of target.old) symbols name.now (type.tree_at table.now ty.0) }
+    ensures made { IfOk result (λ r. (symbols : Symbols) → TellsConstant (declarations_of target.old) symbols name.now (type.tree_at table.now ty.0) → Holds target.new.table r.0 (constant_tree symbols (told_types (types_in target.old.table scope.now.types)) name.now (type.tree_at table.now ty.0))) }
+    ensures known { IfOk result (λ r. r.0 < length target.new.table) }
+    ensures keeps { Keeps target.old.table target.new.table }
+    ensures decls { target.new.decls ≡ target.old.decls }
+    ensures held { IsHeld target.new }
+    ensures declared { declarations_of target.new ≡ declarations_of target.old }
+{
+    let mut memo = TypeMemo::new(alloc);
+    let tree = type_of(alloc, target, table, &scope.types, &mut memo, ty)?;
+    constant_of(alloc, target, name, tree)
 }
 
 /// The type that a theorem of this closed sequent is declared at: the product over its type variables, its free variables and

@@ -6,7 +6,7 @@ use Rattle.module_spec.specs.Enc.{Enc}
 use Rattle.module_spec.specs.Scopes.{sequent_tree}
 use Rattle.module_laws.specs.SequentEncoding.{sequent_tree-Enc}
 use Rattle.sequent.specs.Closed.{closed_view}
-use Rattle.translate_term.proofs.GrowLaws.{IsHeld-Grows, declarations_of-Grows}
+use Rattle.translate_term.specs.GrowLaws.{IsHeld-Grows, declarations_of-Grows}
 use Rattle.translate_term.proofs.ParameterScopes.{TellsClosed-HasInstances}
 use Rattle.translate_term.proofs.closed_ty.Goals as goal
 

@@ -1,4 +1,4 @@
-use Rattle.translate_term.proofs.GrowLaws.{Grows-table, IsHeld-Grows, declarations_of-Grows}
+use Rattle.translate_term.specs.GrowLaws.{Grows-table, IsHeld-Grows, declarations_of-Grows}
 use Rattle.translate_term.proofs.filler.Goals as goal
 
 pub returns-clause-held : goal.returns-clause-held

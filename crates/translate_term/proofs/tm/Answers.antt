@@ -2,7 +2,7 @@ use Rattle.std.proofs.Common.{◌∙◌, ap, Some, ◌<◌, ◌^◌, arith}
 use Rattle.std.proofs.lemmas.Result.{IfOk-weaker}
 use Rattle.hol_term.specs.Tables.{term_at}
 use Rattle.lp_term.specs.TableLaws.{Holds-within}
-use Rattle.translate_term.proofs.GrowLaws.{IsHeld-Grows, declarations_of-Grows}
+use Rattle.translate_term.specs.GrowLaws.{IsHeld-Grows, declarations_of-Grows}
 use Rattle.translate_term.proofs.Public.{given_to, term-start, term-zero}
 use Rattle.translate_term.proofs.tm.Goals as goal
 

@@ -1,6 +1,6 @@
 use Rattle.std.proofs.lemmas.Result.{IfOk-weaker}
 use Rattle.lp_term.specs.TableLaws.{Holds-within}
-use Rattle.translate_term.proofs.GrowLaws.{IsHeld-Grows, declarations_of-Grows}
+use Rattle.translate_term.specs.GrowLaws.{IsHeld-Grows, declarations_of-Grows}
 use Rattle.translate_term.proofs.Public.{type-start}
 use Rattle.translate_term.proofs.ty.Goals as goal
 

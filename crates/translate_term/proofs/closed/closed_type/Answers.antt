@@ -1,7 +1,7 @@
 use Rattle.std.proofs.Common.{arith, refl, ap, ◌∙◌, ◌+◌, Some}
 use Rattle.std.proofs.lemmas.Result.{IfOk-weaker}
 use Rattle.lp_term.specs.TableLaws.{Holds-tree_at, Holds-within}
-use Rattle.translate_term.proofs.GrowLaws.{Grows-table, Grows-trans}
+use Rattle.translate_term.specs.GrowLaws.{Grows-table, Grows-trans}
 use Rattle.translate_term.proofs.ClosedProduct.{conclusion_start, hypotheses_start, variables_start, product_is}
 use Rattle.translate_term.proofs.closed.closed_type.Goals as goal
 

@@ -1,6 +1,6 @@
 use Rattle.std.proofs.Common.{arith, refl, ap, ◌∙◌, Some}
 use Rattle.lp_term.specs.TableLaws.{Keeps-trans, tree_at-Holds}
-use Rattle.translate_term.proofs.GrowLaws.{Grows-trans}
+use Rattle.translate_term.specs.GrowLaws.{Grows-trans}
 use Rattle.translate_term.proofs.ClosedParts.{types_step, types_end}
 use Rattle.translate_term.proofs.closed.over_types.Goals as goal
 

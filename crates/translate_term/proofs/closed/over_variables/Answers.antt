@@ -1,7 +1,7 @@
 use Rattle.std.proofs.Common.{arith, refl, ap, ◌∙◌, ◌+◌, ◌-◌, take, length, Some}
 use Rattle.std.proofs.lemmas.List.{length-take}
 use Rattle.lp_term.specs.TableLaws.{Holds-within, Keeps-trans, tree_at-Holds}
-use Rattle.translate_term.proofs.GrowLaws.{Grows-refl, Grows-trans}
+use Rattle.translate_term.specs.GrowLaws.{Grows-refl, Grows-trans}
 use Rattle.translate_term.proofs.ListSteps.{front-item, no-item}
 use Rattle.translate_term.proofs.ClosedTurns.{IsNumbered-Grows}
 use Rattle.translate_term.proofs.ClosedParts.{variable_next, type_start, variables_goes_on, variables_end, product_made}

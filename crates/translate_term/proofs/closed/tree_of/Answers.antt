@@ -1,4 +1,4 @@
-use Rattle.translate_term.proofs.GrowLaws.{Grows-refl, Grows-trans}
+use Rattle.translate_term.specs.GrowLaws.{Grows-refl, Grows-trans}
 use Rattle.translate_term.proofs.ClosedTurns.{walk_begins, walk-one, walk_ends}
 use Rattle.translate_term.proofs.closed.tree_of.Goals as goal
 

@@ -1,7 +1,7 @@
 use Rattle.std.proofs.Common.{arith, refl}
 use Rattle.lp_term.specs.TableLaws as lp_laws
 use Rattle.translate_term.proofs.EndsLaws.{OnOk-map}
-use Rattle.translate_term.proofs.GrowLaws.{Grows-table}
+use Rattle.translate_term.specs.GrowLaws.{Grows-table}
 use Rattle.translate_term.proofs.ClosedTurns.{type_turn, term_turn, constant-one, constant_start, constant_turn, application-two, application-known, application_turn, abstraction-two, abstraction-known, abstraction_turn}
 use Rattle.translate_term.proofs.closed.turn.Goals as goal
 

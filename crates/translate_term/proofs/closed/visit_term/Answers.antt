@@ -5,7 +5,7 @@ use Rattle.sequent.specs.declared.closed.ClosedTerm as terms
 use Rattle.sequent.specs.Closed.{closed_term_view, closed_type_view}
 use Rattle.translate_term.specs.Closed.{IsClosedWalk, IsTermVisit}
 use Rattle.translate_term.proofs.EndsLaws.{OnOk-map}
-use Rattle.translate_term.proofs.GrowLaws.{Grows-table}
+use Rattle.translate_term.specs.GrowLaws.{Grows-table}
 use Rattle.translate_term.proofs.ListSteps.{put-two, put-three}
 use Rattle.translate_term.proofs.ClosedViews.{view-term_parameter, view-term_bound, view-term_constant}
 use Rattle.translate_term.proofs.ClosedTurns.{term_leaf, term_number, constant_set_out, application_set_out, abstraction_set_out}

@@ -5,7 +5,7 @@ use Rattle.sequent.specs.Closed.{closed_type_view}
 use Rattle.translate_term.specs.Told.{told_operator}
 use Rattle.translate_term.specs.Closed.{IsTypeVisit}
 use Rattle.translate_term.proofs.EndsLaws.{OnOk-map}
-use Rattle.translate_term.proofs.GrowLaws.{Grows-table}
+use Rattle.translate_term.specs.GrowLaws.{Grows-table}
 use Rattle.translate_term.proofs.ClosedViews.{view-type_parameter, view-type_operator}
 use Rattle.translate_term.proofs.ClosedTurns.{type_leaf, operator-found, type_set_out}
 use Rattle.translate_term.proofs.closed.visit_type.Goals as goal

@@ -2,7 +2,7 @@ use Rattle.std.proofs.Common.{◌∙◌, Some}
 use Rattle.std.proofs.lemmas.Result.{IfOk-weaker}
 use Rattle.lp_spec.specs.Modules.{applied}
 use Rattle.lp_term.specs.TableLaws.{Holds-tree_at}
-use Rattle.translate_term.proofs.GrowLaws.{trees_at-Keeps, AreKnown-Keeps}
+use Rattle.translate_term.specs.GrowLaws.{trees_at-Keeps, AreKnown-Keeps}
 use Rattle.translate_term.proofs.nodes.call.Goals as goal
 use Rattle.std.proofs.Math.Path.{ap₂}
 

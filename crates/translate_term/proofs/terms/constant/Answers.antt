@@ -1,7 +1,7 @@
 use Rattle.std.proofs.Common.{◌∙◌, ap, Some}
 use Rattle.std.proofs.lemmas.Result.{IfOk-weaker}
 use Rattle.hol_type.specs.Tables as type
-use Rattle.translate_term.proofs.GrowLaws.{IsTypeMemo-Keeps}
+use Rattle.translate_term.specs.GrowLaws.{IsTypeMemo-Keeps}
 use Rattle.translate_term.proofs.LeafLaws.{OnOk-always, constant-typed, constant-unlifted}
 use Rattle.translate_term.proofs.terms.constant.Goals as goal
 

@@ -1,5 +1,5 @@
 use Rattle.lp_term.specs.TableLaws.{Keeps-trans}
-use Rattle.translate_term.proofs.GrowLaws.{IsTypeMemo-Keeps}
+use Rattle.translate_term.specs.GrowLaws.{IsTypeMemo-Keeps}
 use Rattle.translate_term.proofs.LeafLaws.{OnOk-always}
 use Rattle.translate_term.proofs.terms.domain.Goals as goal
 

@@ -5,7 +5,7 @@ use Rattle.lp_term.specs.declared.LpId.{LpId}
 use Rattle.lp_term.specs.TableLaws as lp_laws
 use Rattle.translate_term.specs.Tasks.{IsNoted}
 use Rattle.translate_term.proofs.EndsLaws.{OnOk-map3}
-use Rattle.translate_term.proofs.GrowLaws.{Grows-table, Grows-trans, IsTypeMemo-Keeps}
+use Rattle.translate_term.specs.GrowLaws.{Grows-table, Grows-trans, IsTypeMemo-Keeps}
 use Rattle.translate_term.proofs.MadeLaws.{is_some-unless, if_some}
 use Rattle.translate_term.proofs.TermTurns.{application-done, abstraction-done, start-of, term_joined, lam-wanted}
 use Rattle.translate_term.proofs.terms.join.Goals as goal

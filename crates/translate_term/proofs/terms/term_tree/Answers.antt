@@ -1,4 +1,4 @@
-use Rattle.translate_term.proofs.GrowLaws.{Grows-refl, Grows-trans}
+use Rattle.translate_term.specs.GrowLaws.{Grows-refl, Grows-trans}
 use Rattle.translate_term.proofs.MadeLaws.{is_some-unless, if_some}
 use Rattle.translate_term.proofs.TermTurns.{term_begins}
 use Rattle.translate_term.proofs.terms.term_tree.Goals as goal

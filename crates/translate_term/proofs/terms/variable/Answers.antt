@@ -1,7 +1,7 @@
 use Rattle.std.proofs.Common.{◌∙◌, sym}
 use Rattle.std.proofs.lemmas.Result.{IfOk-weaker}
 use Rattle.lp_term.specs.TableLaws as lp_laws
-use Rattle.translate_term.proofs.GrowLaws.{IsTypeMemo-Keeps}
+use Rattle.translate_term.specs.GrowLaws.{IsTypeMemo-Keeps}
 use Rattle.translate_term.proofs.LeafLaws.{OnOk-always, free-told, free-filled}
 use Rattle.translate_term.proofs.terms.variable.Goals as goal
 

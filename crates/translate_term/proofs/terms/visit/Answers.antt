@@ -4,7 +4,7 @@ use Rattle.lp_spec.specs.Trees.{lift}
 use Rattle.lp_term.specs.TableLaws as lp_laws
 use Rattle.translate_term.specs.Walks.{IsTermWalk}
 use Rattle.translate_term.proofs.EndsLaws.{OnOk-map, OnOk-map3, visit-less}
-use Rattle.translate_term.proofs.GrowLaws.{Grows-table, Grows-trans, IsTypeMemo-Keeps}
+use Rattle.translate_term.specs.GrowLaws.{Grows-table, Grows-trans, IsTypeMemo-Keeps}
 use Rattle.translate_term.proofs.TermTurns.{term_done, term_application, term_abstraction, start-of, told-in, term_leaf, bound-wanted, free-lift, constant-lift, place_size-positive}
 use Rattle.translate_term.proofs.terms.visit.Goals as goal
 

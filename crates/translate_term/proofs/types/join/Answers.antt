@@ -1,7 +1,7 @@
 use Rattle.std.proofs.Common.{arith, ◌∙◌, sym}
 use Rattle.hol_type.specs.TableLaws.{AreBelow-known}
 use Rattle.translate_term.proofs.EndsLaws.{OnOk-map3}
-use Rattle.translate_term.proofs.GrowLaws.{Grows-table}
+use Rattle.translate_term.specs.GrowLaws.{Grows-table}
 use Rattle.translate_term.proofs.TypeTurns.{parts-arguments, noted-known, symbol-found, type_join}
 use Rattle.translate_term.proofs.types.join.Goals as goal
 

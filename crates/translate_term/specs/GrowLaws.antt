@@ -43,15 +43,15 @@ pub AreTypesKnown-Keeps : {old new : List Tree} → Keeps old new → (es : List
 AreTypesKnown-Keeps k [] h = tt
 AreTypesKnown-Keeps k (e ∷ es) h = (omega (arith, k.longer, h.0), AreTypesKnown-Keeps k es h.1)
 
-types_in-Keeps : {old new : List Tree} → Keeps old new → (es : List (Name × LpId)) → AreTypesKnown old es → types_in new es ≡ types_in old es
+pub types_in-Keeps : {old new : List Tree} → Keeps old new → (es : List (Name × LpId)) → AreTypesKnown old es → types_in new es ≡ types_in old es
 types_in-Keeps k [] h = refl
 types_in-Keeps k (e ∷ es) h = ap₂ (λ t l. (e.0, t) ∷ l) (sym (tree_at-Stays k.stays e.1.0 h.0)) (types_in-Keeps k es h.1)
 
-AreTermsKnown-Keeps : {old new : List Tree} → Keeps old new → (types : List HolType) (es : List (Variable × LpId)) → AreTermsKnown types old es → AreTermsKnown types new es
+pub AreTermsKnown-Keeps : {old new : List Tree} → Keeps old new → (types : List HolType) (es : List (Variable × LpId)) → AreTermsKnown types old es → AreTermsKnown types new es
 AreTermsKnown-Keeps k types [] h = tt
 AreTermsKnown-Keeps k types (e ∷ es) h = (h.0, omega (arith, k.longer, h.1), AreTermsKnown-Keeps k types es h.2)
 
-terms_in-Keeps : {old new : List Tree} → Keeps old new → (types : List HolType) (es : List (Variable × LpId)) → AreTermsKnown types old es → terms_in types new es ≡ terms_in types old es
+pub terms_in-Keeps : {old new : List Tree} → Keeps old new → (types : List HolType) (es : List (Variable × LpId)) → AreTermsKnown types old es → terms_in types new es ≡ terms_in types old es
 terms_in-Keeps k types [] h = refl
 terms_in-Keeps k types (e ∷ es) h = ap₂ (λ t l. ((e.0.name, type.tree_at types e.0.ty.0), t) ∷ l) (sym (tree_at-Stays k.stays e.1.0 h.1)) (terms_in-Keeps k types es h.2)
 

@@ -1,0 +1,29 @@
+use Rattle.std.proofs.Common.{◌∙◌, sym, ap, subst}
+use Rattle.hol_spec.specs.Terms.{variable_eq}
+use Rattle.hol_laws.specs.TermLaws.{variable_eq-Decides}
+use Rattle.hol_term.specs.Subterms.{HaveTypes, variables_of}
+use Rattle.hol_rules.specs.Views.{variable_view}
+use Rattle.rule_proofs.specs.Images.{retyped}
+use Rattle.rule_proofs.proofs.ListSteps.{drop-item}
+use Rattle.rule_proofs.proofs.MatchLaws.{in-rest}
+use Rattle.rule_proofs.proofs.PlaceLaws.{HaveTypes-drop}
+use Rattle.rule_proofs.proofs.images.own_variable.Goals as goal
+
+pub becomes-requires-clause-own : goal.becomes-requires-clause-own
+becomes-requires-clause-own c =
+    let split = drop-item c.args.own.now c.loop-one.one-index c.one-item.result c.one-item.is c.loop-one-test.true in
+    (subst (HaveTypes c.args.table.now) split (HaveTypes-drop c.args.table.now c.loop-one.one-index c.args.own.now c.requires.own)).0
+
+pub returns-then-becomes-clause-is : goal.returns-then-becomes-clause-is
+returns-then-becomes-clause-is c =
+    sym ((variable_eq-Decides (retyped c.args.table.now c.args.put.now c.args.variable.now.name c.args.variable.now.ty) (variable_view c.args.table.now c.one-item.result)).0 (sym c.becomes.ensures ∙ c.if-becomes.true))
+
+pub returns-then-becomes-clause-known : goal.returns-then-becomes-clause-known
+returns-then-becomes-clause-known c =
+    let split = drop-item c.args.own.now c.loop-one.one-index c.one-item.result c.one-item.is c.loop-one-test.true in
+    (subst (HaveTypes c.args.table.now) split (HaveTypes-drop c.args.table.now c.loop-one.one-index c.args.own.now c.requires.own)).0
+
+pub loop-one-preserved : goal.loop-one-preserved
+loop-one-preserved c =
+    let split = drop-item c.args.own.now c.loop-one.one-index c.one-item.result c.one-item.is c.loop-one-test.true in
+    in-rest variable_eq variable_eq-Decides (retyped c.args.table.now c.args.put.now c.args.variable.now.name c.args.variable.now.ty) (variable_view c.args.table.now c.one-item.result) _ _ (ap (variables_of c.args.table.now) split) (sym c.if-becomes.false ∙ c.becomes.ensures) c.loop-one.invariant

@@ -1,0 +1,13 @@
+pub mod Placed
+pub mod Environments
+pub mod Placing
+pub mod Told
+pub mod Equations
+pub mod Numbers
+pub mod Rescoped
+pub mod Images
+pub mod Constants
+pub mod PlacedLaws
+pub mod EnvironmentLaws
+pub mod FormulaLaws
+pub mod StepSequents

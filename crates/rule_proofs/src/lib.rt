@@ -1,0 +1,47 @@
+//! The proofs of steps, as trees of the lambda-Pi calculus made in the table of a module (Assaf and Burel, "Translating HOL to Dedukti").
+//!
+//! An environment tells what stands for type variables, free variables and hypotheses: at first the binders of a sequent's parameters, by
+//! their numbers. In it a premise is its symbol, applied to what stands for its own parameters; where nothing stands for one, it is filled
+//! as translation fills. A row makes the proof of a step by its rule, of the premises and of what their sequents say. What is made is the tree
+//! that the definitions give in each scope that the environment stands for, for whatever symbols the module tells; the declarations stay, and
+//! so does the tree of each number. A premise comes with the number of its step and with its symbol.
+//!
+//! ```
+//! let env = Environment::of(alloc, &mut module, &params, sequent.hyps.ids(), 0)?;
+//! let inner = eq_mp(&mut module, &proof, &env, one, two)?;
+//! ```
+//!
+//! | Rule | Call |
+//! |---|---|
+//! | `refl`, `betaConv`, `defineConst` | `refl`, by the conclusion of the step |
+//! | `assume` | `Environment::hypothesis` |
+//! | `eqMp`, `sym`, `trans`, `appThm` | the call of that name |
+//! | `absThm` | `abs_thm`, with the environment of `Environment::under_variable` |
+//! | `deductAntisym` | `deduct_antisym`, with two environments of `Environment::under_proof` |
+//! | `proveHyp` | `prove_hyp`; where the first premise proves no hypothesis of the second, `Environment::theorem` at the second |
+//! | `subst` | `subst`, with what the step's parameters put |
+//! | `restate` | `Environment::theorem` |
+//! | `defineConstList` | `constant_list`, with the pairs of the step's parameters |
+//!
+//! Under a substitution the images of the premise's own parameters stand for them. Which of the step's variables and hypotheses they are is
+//! told by comparing trees part by part: nothing is made in the proof's table.
+//!
+//! `step_name` gives the name under which a module declares a step, and `abstracted` puts a proof under the binders of its type.
+#![tactic(auto)]
+
+mod constants;
+mod images;
+mod matching;
+mod names;
+mod premise;
+mod rows;
+mod scope;
+mod trees;
+
+pub use constants::constant_list;
+pub use images::subst;
+pub use names::step_name;
+pub use premise::Premise;
+pub use rows::{abs_thm, app_thm, deduct_antisym, eq_mp, prove_hyp, refl, sym, trans};
+pub use scope::Environment;
+pub use trees::abstracted;

@@ -1,0 +1,237 @@
+//! What stands for type variables, free variables and hypotheses.
+ghost use Rattle.std.specs.Prelude.{◌≡◌, ◌<◌, ◌^◌, [], length, IfOk, OnOk};
+ghost use Rattle.std.specs.Map.{lookup};
+ghost use Rattle.hol_spec.specs.NameEquality.{name_eq};
+ghost use Rattle.hol_spec.specs.Terms.{Term, Variable as ATerm, term_eq, variable_eq};
+ghost use Rattle.hol_type.specs.Tables as type;
+ghost use Rattle.hol_term.specs.Subterms.{HaveTypes, variables_of};
+ghost use Rattle.hol_term.specs.Tables.{Trees, term_at, terms_at, AreKnown, IsDistinct};
+ghost use Rattle.hol_rules.specs.Views.{variable_view};
+ghost use Rattle.indexmap.specs.IndexMap.{insert_entry};
+ghost use Rattle.lp_spec.specs.Trees.{Tree, Var};
+ghost use Rattle.module_spec.specs.Scopes.{TypeScope, set_proof, set_term};
+ghost use Rattle.sequent.specs.Params.{same_variable};
+ghost use Rattle.sequent.specs.Sequents.{same_id};
+ghost use Rattle.translate_term.specs.Walks.{Grows};
+ghost use Rattle.rule_proofs.specs.Environments.{Given, Stands, TellProofs, TellTerms, TellTypes};
+ghost use Rattle.rule_proofs.specs.Placed.{placed};
+ghost use Rattle.rule_proofs.specs.Placing.{IsPlaced, ProofsAlone, TermsAlone, TypesAlone};
+ghost use Rattle.rule_proofs.specs.Rescoped.{with_scope};
+
+use bridge_base::Memory;
+use hol_name::Name;
+use hol_term::{TermId, Variable};
+use holide_sig::Module;
+use indexmap::IndexMap;
+use lp_term::{LpId, LpNode};
+use sequent::Params;
+use std::alloc::Global;
+use translate_term::Scope;
+
+/// The trees that stand for type variables, free variables and hypotheses. The scope of translations has those for variables once
+/// more, since it isn't read by name.
+#[derive(Drop)]
+pub struct Environment {
+    pub(crate) alloc: Global,
+    pub(crate) scope: Scope,
+    pub(crate) types: IndexMap<Name, LpId>,
+    pub(crate) terms: IndexMap<Variable, LpId>,
+    pub(crate) proofs: IndexMap<TermId, LpId>,
+}
+
+impl Environment {
+    /// What stands for a sequent's parameters where so many binders more are inside theirs.
+    pub fn of(
+        alloc: Global,
+        target: &mut Module,
+        params: &Params,
+        hyps: &[TermId],
+        inside: u128,
+    ) -> Result<Environment, Memory>
+        requires { inside < 2 ^ 64 }
+        ensures made { IfOk result (λ env. (given : Given) (trees : Trees) → IsPlaced given target.old trees params.now.type_vars params.now.free_vars hyps.now inside → Stands given target.new trees env) }
+        ensures grows { Grows target.old target.new }
+    {
+        let names = params.type_vars.names();
+        let variables = params.free_vars.variables();
+        let proofs = inside + hyps.len() as u128;
+        let terms = proofs + variables.len() as u128;
+        let types = terms + names.len() as u128;
+        let mut made = Environment::new(alloc);
+        made.place_types(target, names, types)?;
+        made.place_terms(target, variables, terms)?;
+        made.place_proofs(target, hyps, proofs)?;
+        Ok(made)
+    }
+
+    /// What stands for them under one binder more, which stands for a variable.
+    pub fn under_variable(
+        alloc: Global,
+        target: &mut Module,
+        params: &Params,
+        hyps: &[TermId],
+        variable: &Variable,
+    ) -> Result<Environment, Memory>
+        ensures made { IfOk result (λ env. (given : Given) (trees : Trees) → IsPlaced given target.old trees params.now.type_vars params.now.free_vars hyps.now 1 → variable.now.ty.0 < length trees.types → Stands (with_scope given (set_term (variable_view trees variable.now) (Var 0) given.scope)) target.new trees env) }
+        ensures grows { Grows target.old target.new }
+    {
+        let mut made = Environment::of(alloc, target, params, hyps, 1)?;
+        let tree = target.table.node(LpNode::Var(0))?;
+        made.set_term(variable, tree)?;
+        Ok(made)
+    }
+
+    /// What stands for them under one binder more, which proves a formula.
+    pub fn under_proof(
+        alloc: Global,
+        target: &mut Module,
+        params: &Params,
+        hyps: &[TermId],
+        id: TermId,
+    ) -> Result<Environment, Memory>
+        ensures made { IfOk result (λ env. (given : Given) (trees : Trees) → IsPlaced given target.old trees params.now.type_vars params.now.free_vars hyps.now 1 → id.0 < length trees.terms → Stands (with_scope given (set_proof (term_at trees id.0) (Var 0) given.scope)) target.new trees env) }
+        ensures grows { Grows target.old target.new }
+    {
+        let mut made = Environment::of(alloc, target, params, hyps, 1)?;
+        let tree = target.table.node(LpNode::Var(0))?;
+        made.set_proof(id, tree)?;
+        Ok(made)
+    }
+
+    // The environment in which nothing is told.
+    fn new(alloc: Global) -> Environment
+        ensures types { result.types.entries ≡ [] }
+        ensures terms { result.terms.entries ≡ [] }
+        ensures proofs { result.proofs.entries ≡ [] }
+        ensures scope_types { result.scope.types ≡ [] }
+        ensures scope_terms { result.scope.terms ≡ [] }
+    {
+        Environment {
+            alloc,
+            scope: Scope::new(alloc),
+            types: IndexMap::new(alloc),
+            terms: IndexMap::new(alloc),
+            proofs: IndexMap::new(alloc),
+        }
+    }
+
+    // Lets the binders from the outermost of so many on stand for type variables.
+    fn place_types(
+        &mut self,
+        target: &mut Module,
+        names: &[Name],
+        depth: u128,
+    ) -> Result<(), Memory>
+        ensures types { OnOk result ((scope : TypeScope) → TellTypes target.old.table self.old.types.entries scope → TellTypes target.new.table self.new.types.entries (placed name_eq depth names.now scope)) }
+        ensures alone { OnOk result (TypesAlone self.old self.new) }
+        ensures grows { Grows target.old target.new }
+    {
+        let mut place = depth;
+        for name in names {
+            place = place.saturating_sub(1);
+            let tree = target.table.node(LpNode::Var(place))?;
+            self.set_type(name, tree)?;
+        }
+        Ok(())
+    }
+
+    // Lets them stand for free variables.
+    fn place_terms(
+        &mut self,
+        target: &mut Module,
+        variables: &[Variable],
+        depth: u128,
+    ) -> Result<(), Memory>
+        ensures terms { OnOk result ((trees : Trees) (other scope : ATerm → Tree) → type.IsDistinct trees.types → HaveTypes trees variables.now → TellTerms trees.types target.old.table self.old.terms.entries other scope → TellTerms trees.types target.new.table self.new.terms.entries other (placed variable_eq depth (variables_of trees variables.now) scope)) }
+        ensures alone { OnOk result (TermsAlone self.old self.new) }
+        ensures grows { Grows target.old target.new }
+    {
+        let mut place = depth;
+        for variable in variables {
+            place = place.saturating_sub(1);
+            let tree = target.table.node(LpNode::Var(place))?;
+            self.set_term(variable, tree)?;
+        }
+        Ok(())
+    }
+
+    // Lets them prove hypotheses.
+    fn place_proofs(
+        &mut self,
+        target: &mut Module,
+        hyps: &[TermId],
+        depth: u128,
+    ) -> Result<(), Memory>
+        ensures proofs { OnOk result ((trees : Trees) (other scope : Term → Tree) → IsDistinct trees.terms → AreKnown trees hyps.now → TellProofs trees target.old.table self.old.proofs.entries other scope → TellProofs trees target.new.table self.new.proofs.entries other (placed term_eq depth (terms_at trees hyps.now) scope)) }
+        ensures alone { OnOk result (ProofsAlone self.old self.new) }
+        ensures grows { Grows target.old target.new }
+    {
+        let mut place = depth;
+        for id in hyps {
+            place = place.saturating_sub(1);
+            let tree = target.table.node(LpNode::Var(place))?;
+            self.set_proof(*id, tree)?;
+        }
+        Ok(())
+    }
+
+    // What is told of a type variable.
+    pub(crate) fn find_type(&self, name: &Name) -> Option<LpId>
+        ensures { result ≡ lookup (name_eq name.now) self.now.types.entries }
+    {
+        self.types.get(name).copied()
+    }
+
+    // What is told of a free variable.
+    pub(crate) fn find_term(&self, variable: &Variable) -> Option<LpId>
+        ensures { result ≡ lookup (same_variable variable.now) self.now.terms.entries }
+    {
+        self.terms.get(variable).copied()
+    }
+
+    // What is told of a hypothesis.
+    pub(crate) fn find_proof(&self, id: TermId) -> Option<LpId>
+        ensures { result ≡ lookup (same_id id) self.now.proofs.entries }
+    {
+        self.proofs.get(&id).copied()
+    }
+
+    // Lets a tree stand for a type variable.
+    fn set_type(&mut self, name: &Name, tree: LpId) -> Result<(), Memory>
+        ensures types { OnOk result (self.new.types.entries ≡ insert_entry name_eq self.old.types.entries name.now tree) }
+        ensures alone { OnOk result (TypesAlone self.old self.new) }
+    {
+        self.scope.types.set(name.clone()?, tree)?;
+        self.types.insert(name.clone()?, tree)?;
+        Ok(())
+    }
+
+    // Lets a tree stand for a free variable.
+    pub(crate) fn set_term(&mut self, variable: &Variable, tree: LpId) -> Result<(), Memory>
+        ensures terms { OnOk result (self.new.terms.entries ≡ insert_entry same_variable self.old.terms.entries variable.now tree) }
+        ensures alone { OnOk result (TermsAlone self.old self.new) }
+    {
+        self.scope.terms.set(copied(variable)?, tree)?;
+        self.terms.insert(copied(variable)?, tree)?;
+        Ok(())
+    }
+
+    // Lets a tree prove a hypothesis.
+    pub(crate) fn set_proof(&mut self, id: TermId, tree: LpId) -> Result<(), Memory>
+        ensures proofs { OnOk result (self.new.proofs.entries ≡ insert_entry same_id self.old.proofs.entries id tree) }
+        ensures alone { OnOk result (ProofsAlone self.old self.new) }
+    {
+        self.proofs.insert(id, tree)?;
+        Ok(())
+    }
+}
+
+// A variable, copied.
+fn copied(variable: &Variable) -> Result<Variable, Memory>
+    ensures { IfOk result (λ copy. copy ≡ variable.now) }
+{
+    Ok(Variable {
+        name: variable.name.clone()?,
+        ty: variable.ty,
+    })
+}
