@@ -1,0 +1,36 @@
+-- The module of every accepted run: its text reads back, it stands for its run, and each check ends within its bound.
+use Rattle.std.proofs.Common.{ℕ, List}
+use Rattle.std.specs.List.{AllByRecursion}
+use Rattle.std.proofs.lemmas.List.{length-map}
+use Rattle.hol_spec.specs.Mangling.{AreBytes}
+use Rattle.hol_spec.specs.Proofs.{Accepted}
+use Rattle.article_spec.specs.Run.{accepted, Run}
+use Rattle.article_laws.specs.SoundSteps.{runs_are_sound}
+use Rattle.lp_spec.specs.TextLaws.{ReadsBack}
+use Rattle.lp_spec.specs.Weight.{bound}
+use Rattle.text_laws.specs.WrittenModules.{written_reads}
+use Rattle.module_spec.specs.Image.{image}
+use Rattle.run_laws.specs.RunModules.{runs_are_modules}
+use Rattle.standing_laws.specs.NamedRuns.{run-has_names, runs_of_bytes_stand}
+use Rattle.fitting_laws.specs.ShallowRuns.{runs_are_shallow}
+use Rattle.fitting_laws.specs.SmallRuns.{runs_are_within_bounds}
+use Rattle.headline_laws.specs.Headline.{Headline, EachRunCarries}
+use Rattle.bridge_spec.specs.Texts.{module_bounds}
+use Rattle.headline_laws.specs.PlainNames.{image-ArePlain}
+
+-- what is written of it reads as it, and as no other
+written-ReadsBack : (texts : List (List ℕ)) (run : Accepted) → AllByRecursion AreBytes texts → Run texts (accepted run) → ReadsBack (image run) (module_bounds run)
+written-ReadsBack texts run bytes r =
+    let named = run-has_names texts run bytes r in
+    written_reads (image run) (module_bounds run) (runs_are_modules texts run r named) (image-ArePlain run named (runs_are_sound texts run r)) (runs_are_shallow texts run r) (length-map (image run) (bound (image run)))
+
+pub each_run_carries : EachRunCarries
+each_run_carries texts run bytes r =
+    let back = written-ReadsBack texts run bytes r in
+    record {
+      reads = back.read;
+      only = back.only;
+      stands = runs_of_bytes_stand texts run bytes r;
+      within = λ i d e. let w = runs_are_within_bounds texts run r i d e in record { price = w.price; by = w.check; within = w.within };
+      derived = (runs_are_sound texts run r).exports;
+    }

@@ -1,0 +1,18 @@
+//! The headline: what the module of every accepted run of articles is good for.
+//!
+//! There is no code: what is shown beyond lemmas is a function that does nothing, whose contract is the law.
+//!
+//! | File | Laws of |
+//! |---|---|
+//! | `Headline` | (a definition) what the module of an accepted run is good for |
+//! | `PlainNames` | the names that a run's module declares are identifiers, unlike key words and binders |
+//! | `Headlines` | the module's text reads as it alone; it is well typed and stands for its run, each check ends within its bound, and the exports derive |
+#![tactic(auto)]
+
+ghost use Rattle.headline_laws.specs.Headline.{EachRunCarries};
+
+/// The module of every accepted run over articles of bytes reads back from its text, is well typed and faithful to its run, and each of its
+/// declarations is accepted within its bound.
+pub fn each_run_carries()
+    ensures { EachRunCarries }
+{}

@@ -1,0 +1,5 @@
+use Rattle.telling_laws.specs.NextTells as law
+use Rattle.telling_laws.proofs.next_tells.Goals as goal
+
+pub returns : goal.returns
+returns c = law.next-tells

@@ -1,0 +1,11 @@
+pub mod Told
+pub mod Positions
+pub mod ItemNames
+pub mod DeclaredNumbers
+pub mod Making
+pub mod MadeInOrder
+pub mod ToldKeys
+pub mod HeldItems
+pub mod NextTells
+pub mod NextSteps
+pub mod NextItems
