@@ -1,8 +1,5 @@
-pub mod Placed
-pub mod Environments
-pub mod Placing
-pub mod Told
-pub mod Equations
-pub mod Numbers
-pub mod Rescoped
-pub mod Images
+pub mod Steps
+pub mod ItemViews
+pub mod LemmaNodes
+pub mod Making
+pub mod TypeScopes

@@ -1,44 +1,41 @@
-//! The proofs of steps, as trees of the lambda-Pi calculus made in the table of a module (Assaf and Burel, "Translating HOL to Dedukti").
+//! The module of a run, and the declarations of its steps (Assaf and Burel, "Translating HOL to Dedukti").
 //!
-//! An environment tells what stands for type variables, free variables and hypotheses: at first the binders of a sequent's parameters, by
-//! their numbers. In it a premise is its symbol, applied to what stands for its own parameters; where nothing stands for one, it is filled
-//! as translation fills. A row makes the proof of a step by its rule, of the premises and of what their sequents say. What is made is the tree
-//! that the definitions give in each scope that the environment stands for, for whatever symbols the module tells; the declarations stay, and
-//! so does the tree of each number. A premise comes with the number of its step and with its symbol.
+//! [`module`] makes the module of what a proof made and its exports reach: the two lemmas, and then, in order of making, a declaration for
+//! each symbol and each step that an export reaches through types and bodies. It is the module that the definitions give of an accepted
+//! run (`image`).
+//!
+//! [`step`] makes the declaration of one step in the table of a module.
+//! A step becomes a theorem, whose type is what its sequent says and whose body is the proof by its rule under the binders of its
+//! parameters. An assumption and the two laws of a type definition become symbols without a body. The declaration is the one that the
+//! definitions give of the step, for whatever symbols the module tells; the module's own declarations stay, and so does the tree of each
+//! number.
 //!
 //! ```
-//! let env = Environment::of(alloc, &mut module, &params, sequent.hyps.ids(), 0)?;
-//! let inner = eq_mp(&mut module, &proof, &env, one, two)?;
+//! let module = module(alloc, machine.proof(), machine.assumptions(), machine.exports())?;
 //! ```
 //!
-//! | Rule | Call |
+//! | File | |
 //! |---|---|
-//! | `refl`, `betaConv` | `refl`, by the conclusion of the step |
-//! | `assume` | `Environment::hypothesis` |
-//! | `eqMp`, `sym`, `trans`, `appThm` | the call of that name |
-//! | `absThm` | `abs_thm`, with the environment of `Environment::under_variable` |
-//! | `deductAntisym` | `deduct_antisym`, with two environments of `Environment::under_proof` |
-//! | `proveHyp` | `prove_hyp`; where the first premise proves no hypothesis of the second, `Environment::theorem` at the second |
-//! | `subst` | `subst`, with what the step's parameters put |
-//! | `restate` | `Environment::theorem` |
-//!
-//! Under a substitution the images of the premise's own parameters stand for them. Which of the step's variables and hypotheses they are is
-//! told by comparing trees part by part: nothing is made in the proof's table.
-//!
-//! `step_name` gives the name under which a module declares a step, and `abstracted` puts a proof under the binders of its type.
+//! | `declaration` | `step`: the name, the type and the body of a declaration |
+//! | `row` | the proof of a step by its rule, one function for the rules with as many premises, and one for each rule that was given more than premises or has binders of its own |
+//! | `premises` | the premises of a step, with the symbols of their declarations; whether the first of `proveHyp` proves nothing |
+//! | `own` | the environment of a step's own parameters, also under one binder more |
+//! | `making` | `module`: the module of a run, item by item |
+//! | `items` | an item of what was made, and its declaration |
+//! | `generics` | types and definitions of constants, over the type variables of their types |
+//! | `symbol_names` | the names of operators and constants |
+//! | `lemmas` | the two lemmas with which each module begins, by the nodes of their trees |
 #![tactic(auto)]
 
-mod images;
-mod matching;
-mod names;
-mod premise;
-mod rows;
-mod scope;
-mod trees;
+mod declaration;
+mod generics;
+mod items;
+mod lemmas;
+mod making;
+mod own;
+mod premises;
+mod row;
+mod symbol_names;
 
-pub use images::subst;
-pub use names::step_name;
-pub use premise::Premise;
-pub use rows::{abs_thm, app_thm, deduct_antisym, eq_mp, prove_hyp, refl, sym, trans};
-pub use scope::Environment;
-pub use trees::abstracted;
+pub use declaration::step;
+pub use making::module;

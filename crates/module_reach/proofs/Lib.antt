@@ -1,0 +1,12 @@
+pub mod Ended
+pub mod Fronts
+pub mod Given
+pub mod Listed
+pub mod Looked
+pub mod Parts
+pub mod Stacked
+pub mod Taken
+pub mod Taking
+pub mod Unnamed
+pub mod Walked
+pub mod Wanted

@@ -1,0 +1,27 @@
+use Rattle.std.proofs.Common.{[], ◌∷◌, refl}
+use Rattle.module_reach.specs.declared.walk.Task.TheVariants as task
+use Rattle.module_reach.specs.declared.walk.Walk.{Walk}
+use Rattle.module_reach.specs.MadeItems.{made_items}
+use Rattle.module_reach.proofs.Walked.{OnOk-map, gains-IsWalk}
+use Rattle.module_reach.proofs.Wanted.{no-marks}
+use Rattle.module_reach.proofs.walk.Walk.want_parts.Goals as goal
+
+pub returns-in-Type-clause-walk : goal.returns-in-Type-clause-walk
+returns-in-Type-clause-walk c = OnOk-map c.push.result
+    (λ put.
+    let p = c.args.proof.now in
+    let w = c.args.self.now in
+    let v : Walk = record { marks = w.marks; types = w.types; terms = w.terms; tasks = c.push.new.self } in
+    let more = task.Type c.in-Type.id ∷ [] in
+    gains-IsWalk p.trees (made_items p.made) w v [] more c.requires.walk (no-marks p.trees (made_items p.made) w v more (rw c.in-Type.is at c.requires.known, tt {0}) refl refl refl put))
+    c.push.ensures.pushed
+
+pub returns-in-Term-clause-walk : goal.returns-in-Term-clause-walk
+returns-in-Term-clause-walk c = OnOk-map c.push-in-Term.result
+    (λ put.
+    let p = c.args.proof.now in
+    let w = c.args.self.now in
+    let v : Walk = record { marks = w.marks; types = w.types; terms = w.terms; tasks = c.push-in-Term.new.self } in
+    let more = task.Term c.in-Term.id ∷ [] in
+    gains-IsWalk p.trees (made_items p.made) w v [] more c.requires.walk (no-marks p.trees (made_items p.made) w v more (rw c.in-Term.is at c.requires.known, tt {0}) refl refl refl put))
+    c.push-in-Term.ensures.pushed

@@ -1,0 +1,4 @@
+pub mod Indexes
+pub mod MadeItems
+pub mod Reached
+pub mod Walks

@@ -1,0 +1,60 @@
+-- The binders of a step's own sequent are placed for its parameters, in its scope and under more binders.
+use Rattle.std.proofs.Common.{◌≡◌, ℕ, suc, ◌+◌, refl, sym, ap, ◌∙◌, List, [], ◌∷◌, length}
+use Rattle.hol_spec.specs.Names.{Name}
+use Rattle.hol_spec.specs.NameEquality.{name_eq}
+use Rattle.hol_spec.specs.Proofs.{sequent_at}
+use Rattle.hol_spec.specs.Sequents.{Sequent, free_variables_of}
+use Rattle.hol_spec.specs.Terms.{Term, Variable, variable_eq, term_eq}
+use Rattle.hol_term.specs.declared.TermId.{TermId}
+use Rattle.hol_term.specs.declared.Variable.{Variable as AVariable}
+use Rattle.hol_term.specs.Subterms.{variables_of}
+use Rattle.hol_term.specs.Tables.{Trees, terms_at, AreKnown}
+use Rattle.hol_rules.specs.Kept.{Kept}
+use Rattle.lp_spec.specs.Modules.{Declaration, bools}
+use Rattle.lp_spec.specs.Trees.{Tree, lift}
+use Rattle.lp_binding.specs.Composition.{lift_zero}
+use Rattle.holide_sig.specs.declared.module.Module.{Module}
+use Rattle.holide_sig.specs.Modules.{declarations_of, IsHeld}
+use Rattle.module_spec.specs.Scopes.{Symbols, Scope, scope_of, lifted}
+use Rattle.rule_proofs.specs.Environments.{filled_terms, unproved}
+use Rattle.rule_proofs.specs.Placed.{placed}
+use Rattle.rule_proofs.specs.Placing.{IsPlaced}
+use Rattle.rule_proofs.specs.Rescoped.{with_scope}
+use Rattle.translate_rule.specs.Steps.{given_at, AreParams}
+use Rattle.rule_proofs.specs.PlacedLaws.{types-placed, terms-placed, proofs-placed}
+
+-- as many terms and variables as numbers
+pub terms-count : (trees : Trees) (hs : List TermId) → length (terms_at trees hs) ≡ length hs
+terms-count trees [] = refl
+terms-count trees (h ∷ hs) = ap suc (terms-count trees hs)
+
+pub variables-count : (trees : Trees) (vs : List AVariable) → length (variables_of trees vs) ≡ length vs
+variables-count trees [] = refl
+variables-count trees (v ∷ vs) = ap suc (variables-count trees vs)
+
+module _ (k : Kept) (id : ℕ) (d : List Declaration) (symbols : Symbols) (m : Module) (held : IsHeld m) (declared : declarations_of m ≡ d) (names : List Name) (variables : List AVariable) (params : AreParams k id names variables) (hyps : List TermId) (known : AreKnown k.trees hyps) (are : terms_at k.trees hyps ≡ (sequent_at k.made id).hypotheses) where
+  abbrev s : Sequent
+  s = sequent_at k.made id
+
+  placed-in : (inside : ℕ) (scope : Scope) → ((n : Name) → lift inside ((scope_of symbols s).types n) ≡ scope.types n) → ((v : Variable) → lift inside ((scope_of symbols s).terms v) ≡ scope.terms v)
+      → ((h : Term) → lift inside ((scope_of symbols s).proofs h) ≡ scope.proofs h) → IsPlaced (with_scope (given_at d symbols s) scope) m k.trees names variables hyps inside
+  placed-in inside scope types terms proofs =
+      let a : length hyps ≡ length s.hypotheses = sym (terms-count k.trees hyps) ∙ ap length are in
+      let b : length variables ≡ length (free_variables_of s) = sym (variables-count k.trees variables) ∙ ap length params.free_vars in
+      record {
+        held = held;
+        declared = declared;
+        one_type = params.one_type;
+        one_term = params.one_term;
+        variables_known = params.known;
+        hyps_known = known;
+        types = λ n. (λ i. placed name_eq (inside + a i + b i + length (params.type_vars i)) (params.type_vars i) (λ w. bools) n) ∙ sym (types-placed symbols s inside n) ∙ types n;
+        terms = λ v. (λ i. placed variable_eq (inside + a i + b i) (params.free_vars i) (filled_terms symbols (λ n. sym (types n) i)) v) ∙ sym (terms-placed symbols s inside v) ∙ terms v;
+        proofs = λ g. (λ i. placed term_eq (inside + a i) (are i) unproved g) ∙ sym (proofs-placed symbols s inside g) ∙ proofs g;
+      }
+
+  pub placed-own : IsPlaced (given_at d symbols s) m k.trees names variables hyps 0
+  placed-own = placed-in 0 (scope_of symbols s) (λ n. lift_zero ((scope_of symbols s).types n)) (λ v. lift_zero ((scope_of symbols s).terms v)) (λ h. lift_zero ((scope_of symbols s).proofs h))
+
+  pub placed-under : IsPlaced (with_scope (given_at d symbols s) (lifted (scope_of symbols s))) m k.trees names variables hyps 1
+  placed-under = placed-in 1 (lifted (scope_of symbols s)) (λ n. refl) (λ v. refl) (λ h. refl)

@@ -1,0 +1,133 @@
+-- One turn of the loop over what was made: what the module on its way is after a step and after a symbol.
+use Rattle.std.proofs.Common.{◌≡◌, ℕ, zero, suc, ◌+◌, ◌<◌, Bool, refl, sym, ap, ◌∙◌, subst, arith, List, [], ◌∷◌, ◌++◌, length, map, Some, slice_get}
+use Rattle.std.specs.List.{AllByRecursion}
+use Rattle.std.proofs.lemmas.List.{length-map, length-append}
+use Rattle.std.proofs.lemmas.Option.{same_Some}
+use Rattle.article_spec.specs.SoundRuns.{IsSoundRun}
+use Rattle.hol_defs.specs.Symbols.{Taken, symbol_at, symbols_at, IsKnownSymbol}
+use Rattle.hol_spec.specs.Proofs.{Made, Step, steps_of, symbols_of, Accepted}
+use Rattle.hol_spec.specs.Symbols.{Symbol}
+use Rattle.hol_term.specs.Tables.{Trees}
+use Rattle.hol_rules.specs.declared.made.Made.{Made as OneMade}
+use Rattle.hol_rules.specs.declared.made.Made.TheVariants as one
+use Rattle.hol_rules.specs.Kept.{Kept}
+use Rattle.holide_sig.specs.Modules.{declarations_of, declaration_in}
+use Rattle.lp_spec.specs.Modules.{signature}
+use Rattle.module_reach.specs.Reached.{flag}
+use Rattle.module_spec.specs.Image.{name_in, image}
+use Rattle.module_spec.specs.Items.{Item}
+use Rattle.telling_laws.specs.Making.{items_made, is_kept, kept_of, declared}
+use Rattle.translate_rule.specs.declared.items.Item.TheVariants as item
+use Rattle.translate_rule.specs.declared.making.Making.{Making}
+use Rattle.translate_rule.specs.ItemViews.{run_of}
+use Rattle.translate_rule.specs.Making.{IsRun, AreDeclared, AreCounted, HaveNumbers, IsMaking, IsNextItem, IsSameKind}
+use Rattle.translate_rule.specs.Steps.{symbol_in}
+use Rattle.translate_rule.proofs.RunLaws.{symbol-there, symbol-within, symbols-more, symbols-same, steps-more, steps-same}
+use Rattle.translate_rule.proofs.NextItems.{next-step, next-number, numbers-more}
+
+-- an item is flagged where it is kept
+pub flag-kept : (k : Kept) (assumptions exports : List ℕ) (flags : List Bool) → IsRun k assumptions exports flags → (b v : Bool) (i n : ℕ) → b ≡ flag flags i → i ≡ n → b ≡ v → is_kept (run_of k assumptions exports) n ≡ v
+flag-kept k assumptions exports flags h b v i n e same is = sym (h.reach.each (name_in (run_of k assumptions exports)) n) ∙ ap (flag flags) (sym same) ∙ sym e ∙ is
+
+-- an item that isn't kept adds nothing
+pub declared-gone : (run : Accepted) (items grown : List Item) (now : Making) → AreCounted run items now → kept_of run grown ≡ kept_of run items → AreDeclared run grown now.target
+declared-gone run items grown now h e = record { held = h.declared.held; declared = h.declared.declared ∙ ap (declared run) (sym e) }
+
+-- THE NEXT SYMBOL, by what is kept of it
+get-map : {X Y : Type 0} (f : X → Y) (xs : List X) (i : ℕ) (x : X) → slice_get xs i ≡ Some x → slice_get (map f xs) i ≡ Some (f x)
+get-map f [] i x e = absurd (cc)
+get-map f (y ∷ xs) zero x e = ap Some (ap f (same_Some _ _ e))
+get-map f (y ∷ xs) (suc i) x e = get-map f xs i x e
+
+All-get : {X : Type 0} (P : X → Type 0) (xs : List X) (i : ℕ) (x : X) → AllByRecursion P xs → slice_get xs i ≡ Some x → P x
+All-get P [] i x h e = absurd (cc)
+All-get P (y ∷ xs) zero x h e = subst P (same_Some _ _ e) h.0
+All-get P (y ∷ xs) (suc i) x h e = All-get P xs i x h.1 e
+
+pub taken-known : (trees : Trees) (symbols : List Taken) (i : ℕ) (t : Taken) → AllByRecursion (IsKnownSymbol trees) symbols → slice_get symbols i ≡ Some t → IsKnownSymbol trees t
+taken-known trees symbols i t h e = All-get (IsKnownSymbol trees) symbols i t h e
+
+pub taken-here : (trees : Trees) (symbols : List Taken) (made earlier later : List Made) (x : Symbol) (i : ℕ) (t : Taken) → symbols_at trees symbols ≡ symbols_of made → made ≡ earlier ++ Made.symbol x ∷ later → i ≡ length (symbols_of earlier) → slice_get symbols i ≡ Some t → symbol_at trees t ≡ x
+taken-here trees symbols made earlier later x i t are whole place e =
+    same_Some _ _
+    (sym (get-map (symbol_at trees) symbols i t e) ∙ ap (λ l. slice_get l i) are ∙ ap (slice_get (symbols_of made)) place ∙ symbol-there made earlier later x whole)
+
+pub taken-within : (trees : Trees) (symbols : List Taken) (made earlier later : List Made) (x : Symbol) (i : ℕ) → symbols_at trees symbols ≡ symbols_of made → made ≡ earlier ++ Made.symbol x ∷ later → i ≡ length (symbols_of earlier) → i < length symbols
+taken-within trees symbols made earlier later x i are whole place =
+    let within = symbol-within made earlier later x whole in
+    let long : length symbols ≡ length (symbols_of made) = sym (length-map symbols (symbol_at trees)) ∙ ap length are in
+    omega (arith, within, long, place)
+
+-- AFTER A SYMBOL
+pub symbol-made : (run : Accepted) (earlier : List Made) (x : Symbol) (old new : Making) (next : ℕ) → IsMaking run earlier old → AreCounted run (items_made run (earlier ++ Made.symbol x ∷ [])) new → new.numbers ≡ old.numbers → next ≡ old.symbol + 1
+    → IsMaking run (earlier ++ Made.symbol x ∷ []) (record new { symbol = next })
+symbol-made run earlier x old new next h counted numbers is =
+    let count = steps-same earlier x in
+    record {
+      counted = record { declared = counted.declared; item = counted.item };
+      symbol = is ∙ ap (λ n. n + 1) h.symbol ∙ sym (symbols-more earlier x);
+      steps = ap (λ v. length v.items) numbers ∙ h.steps ∙ sym count;
+      numbers = λ k l keep. ap (λ v. symbol_in v.items k) numbers ∙ h.numbers k (omega (arith, l, count)) keep;
+    }
+
+-- AFTER A STEP
+module _ (k : Kept) (assumptions exports : List ℕ) (sound : IsSoundRun (run_of k assumptions exports)) (earlier later : List Made) (x : Step) (whole : k.made ≡ earlier ++ Made.step x ∷ later) where
+  abbrev run : Accepted
+  run = run_of k assumptions exports
+
+  pub step-numbers : (old : Making) → IsMaking run earlier old → (n : ℕ) (more : List ℕ) → n ≡ length signature + length old.target.decls → more ≡ old.numbers.items ++ n ∷ []
+      → HaveNumbers run (earlier ++ Made.step x ∷ []) more
+  step-numbers old h n more is put =
+      numbers-more k assumptions exports sound earlier later x whole old.numbers.items more n put h.steps
+      (next-number k assumptions exports sound earlier later x whole (declarations_of old.target) h.counted.declared.declared n
+      (is ∙ ap (λ m. length signature + m) (sym (length-map old.target.decls (declaration_in old.target.table)))))
+      h.numbers
+
+  pub steps-counted : (old : Making) → IsMaking run earlier old → (n : ℕ) (more : List ℕ) → more ≡ old.numbers.items ++ n ∷ [] → length more ≡ length (steps_of (earlier ++ Made.step x ∷ []))
+  steps-counted old h n more put =
+      let count = steps-more earlier x in
+      let long = ap length put ∙ length-append old.numbers.items (n ∷ []) in
+      let steps = h.steps in
+      omega (arith, count, long, steps)
+
+-- THE NEXT THING IS A STEP OR A SYMBOL
+pub kind-step : {j : ℕ} (m : OneMade) (y : Made) → m ≡ one.Step j → IsSameKind m y → (x : Step) × (y ≡ Made.step x)
+kind-step {j = j} m y e h = go y (subst (λ n. IsSameKind n y) e h)
+  where
+    go : (y : Made) → IsSameKind (one.Step j) y → (x : Step) × (y ≡ Made.step x)
+    go (Made.step x) h = (x, refl)
+    go (Made.symbol x) h = absurd h
+
+pub kind-symbol : (m : OneMade) (y : Made) → ((j : ℕ) → m ≡ one.Step j → ⊥) → IsSameKind m y → (x : Symbol) × (y ≡ Made.symbol x)
+kind-symbol m (Made.symbol x) other h = (x, refl)
+kind-symbol (one.InputConst n) (Made.step x) other h = absurd h
+kind-symbol (one.InputOp n k) (Made.step x) other h = absurd h
+kind-symbol (one.Const n) (Made.step x) other h = absurd h
+kind-symbol (one.TypeOp n) (Made.step x) other h = absurd h
+kind-symbol (one.Step j) (Made.step x) other h = absurd (other j refl)
+
+-- the next step as the next item
+pub step-next : (k : Kept) (assumptions exports : List ℕ) → IsSoundRun (run_of k assumptions exports) → (earlier later : List Made) (x : Step) → k.made ≡ earlier ++ Made.step x ∷ later → (now : Making) → IsMaking (run_of k assumptions exports) earlier now → (id : ℕ) → id ≡ length now.numbers.items
+    → IsNextItem (run_of k assumptions exports) (items_made (run_of k assumptions exports) earlier) (items_made (run_of k assumptions exports) (earlier ++ Made.step x ∷ [])) k now.numbers.items (item.Step id)
+step-next k assumptions exports sound earlier later x whole now h id is =
+    let run = run_of k assumptions exports in
+    subst (λ i. IsNextItem run (items_made run earlier) (items_made run (earlier ++ Made.step x ∷ [])) k now.numbers.items (item.Step i)) (sym (is ∙ h.steps))
+    (next-step k assumptions exports sound earlier later x whole now.numbers.items h.steps h.numbers)
+
+-- after it
+pub step-made : (k : Kept) (assumptions exports : List ℕ) → IsSoundRun (run_of k assumptions exports) → (earlier later : List Made) (x : Step) → k.made ≡ earlier ++ Made.step x ∷ later → (old new : Making) (n : ℕ) → IsMaking (run_of k assumptions exports) earlier old
+    → AreCounted (run_of k assumptions exports) (items_made (run_of k assumptions exports) (earlier ++ Made.step x ∷ [])) new → n ≡ length signature + length old.target.decls → new.numbers.items ≡ old.numbers.items ++ n ∷ [] → new.symbol ≡ old.symbol → IsMaking (run_of k assumptions exports) (earlier ++ Made.step x ∷ []) new
+step-made k assumptions exports sound earlier later x whole old new n h counted is put symbol = record {
+  counted = counted;
+  symbol = symbol ∙ h.symbol ∙ sym (symbols-same earlier x);
+  steps = steps-counted k assumptions exports sound earlier later x whole old h n new.numbers.items put;
+  numbers = step-numbers k assumptions exports sound earlier later x whole old h n new.numbers.items is put;
+}
+
+-- a module on its way whose numbers alone changed
+pub counted-with : (run : Accepted) (items : List Item) (a b : Making) → AreCounted run items a → b.target ≡ a.target → b.item ≡ a.item → AreCounted run items b
+counted-with run items a b h t i = record { declared = subst (AreDeclared run items) (sym t) h.declared; item = i ∙ h.item }
+
+-- WHEN ALL IS MADE THE MODULE IS THE IMAGE
+pub all-declared : (run : Accepted) (earlier : List Made) (now : Making) → earlier ≡ run.made → IsMaking run earlier now → declarations_of now.target ≡ image run
+all-declared run earlier now e h = h.counted.declared.declared ∙ ap (λ l. declared run (kept_of run (items_made run l))) e

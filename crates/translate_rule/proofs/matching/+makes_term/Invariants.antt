@@ -1,4 +1,0 @@
-use Rattle.translate_rule.proofs.matching.+makes_term.Given as goal
-
-abbrev pub decreases-makes_term : goal.decreases-makes_term
-decreases-makes_term l = l.general.0

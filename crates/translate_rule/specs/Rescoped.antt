@@ -1,6 +1,0 @@
--- What is given, in another scope.
-use Rattle.module_spec.specs.Scopes.{Scope}
-use Rattle.translate_rule.specs.Environments.{Given}
-
-abbrev pub with_scope : Given → Scope → Given
-with_scope given scope = record { declarations = given.declarations; symbols = given.symbols; scope = scope }

@@ -1,0 +1,206 @@
+//! The items of a proof, and the declaration of each.
+ghost use Rattle.std.specs.Prelude.{◌≡◌, ◌<◌, length, IfOk, List, ℕ};
+ghost use Rattle.hol_spec.specs.Primitives.{generic};
+ghost use Rattle.hol_term.specs.Tables.{term_at, type_at};
+ghost use Rattle.hol_type.specs.Tables as type;
+ghost use Rattle.holide_sig.specs.Modules.{declaration_in, declarations_of, IsHeld, IsKnown};
+ghost use Rattle.lp_spec.specs.declared.form.Form.TheVariants as form;
+ghost use Rattle.lp_term.specs.Tables.{Holds};
+ghost use Rattle.module_spec.specs.Image.{constant_name as name_of_constant, input_constant_name as name_of_input_constant};
+ghost use Rattle.module_spec.specs.Items.{Content, declaration_of, definition_tree};
+ghost use Rattle.module_spec.specs.Scopes.{Symbols as Tables, generic_tree};
+ghost use Rattle.rule_proofs.specs.Numbers.{IsRising};
+ghost use Rattle.telling_laws.specs.Told.{TellsContent};
+ghost use Rattle.translate_term.specs.Told.{TellsTerm, TellsType};
+ghost use Rattle.translate_term.specs.Walks.{Grows};
+ghost use Rattle.translate_rule.specs.ItemViews.{item_content, item_name, run_of, IsItemKnown};
+
+use crate::declaration::step;
+use crate::generics::{at_types, over_types, simple_type, terms, terms_of_all, type_scope};
+use crate::symbol_names::{constant_name, input_constant_name, input_operator_name, operator_name};
+use bridge_base::Memory;
+use hol_name::Name;
+use hol_rules::{Proof, StepId};
+use hol_term::{TermId, TermTable};
+use hol_type::{TypeId, TypeTable};
+use holide_sig::{Decl, Form, Ident, Module};
+use lp_term::LpId;
+use std::alloc::Global;
+use translate_term::{tm, ty};
+
+/// An item of what a proof made, by its numbers.
+#[derive(Clone, Copy)]
+pub(crate) enum Item<'a> {
+    /// A constant without a definition.
+    InputConst(&'a Name),
+    /// An operator without a definition, with so many arguments.
+    InputOp(&'a Name, usize),
+    /// A constant, the term that it stands for, and its generic type.
+    Const(&'a Name, TermId, TypeId),
+    /// The operator of a type definition, with so many arguments.
+    TypeOp(&'a Name, usize),
+    /// One of its constants, with its generic type.
+    TypeConst(&'a Name, TypeId),
+    /// The step of this number.
+    Step(StepId),
+}
+
+// The declaration of an item, where the declarations of the steps before it have these symbols.
+pub(crate) fn declaration(
+    alloc: Global,
+    target: &mut Module,
+    proof: &Proof,
+    assumptions: &[StepId],
+    exports: &[StepId],
+    numbers: &[usize],
+    item: Item<'_>,
+) -> Result<Decl, Memory>
+    requires known { IsItemKnown proof.now numbers.now item }
+    requires assumptions { IsRising assumptions.now }
+    requires exports { IsRising exports.now }
+    requires held { IsHeld target.old }
+    requires told { (tables : Tables) × TellsContent (declarations_of target.old) tables (item_content proof.now numbers.now item) }
+    ensures made { IfOk result (λ decl. (tables : Tables) → TellsContent (declarations_of target.old) tables (item_content proof.now numbers.now item.entry) → declaration_in target.new.table decl ≡ declaration_of tables (item_name (run_of proof.now assumptions.now exports.now) item.entry) (item_content proof.now numbers.now item.entry)) }
+    ensures known { IfOk result (IsKnown target.new.table) }
+    ensures grows { Grows target.old target.new }
+{
+    match item {
+        Item::InputConst(name) => input_constant(alloc, target, name),
+        Item::InputOp(name, arity) => {
+            let text = input_operator_name(alloc, name, arity)?;
+            operator(target, text, arity)
+        }
+        Item::Const(name, term, ty) => constant(alloc, target, proof.terms(), name, term, ty),
+        Item::TypeOp(name, arity) => {
+            let text = operator_name(alloc, name)?;
+            operator(target, text, arity)
+        }
+        Item::TypeConst(name, ty) => type_constant(alloc, target, proof.terms().types(), name, ty),
+        Item::Step(id) => step(alloc, target, proof, assumptions, exports, numbers, id),
+    }
+}
+
+// An input constant.
+fn input_constant(alloc: Global, target: &mut Module, name: &Name) -> Result<Decl, Memory>
+    ensures made { IfOk result (λ decl. (tables : Tables) → declaration_in target.new.table decl ≡ declaration_of tables (name_of_input_constant name.now) (Content.constant name.now generic)) }
+    ensures known { IfOk result (IsKnown target.new.table) }
+    ensures grows { Grows target.old target.new }
+{
+    let text = input_constant_name(alloc, name)?;
+    let ty = terms_of_all(&mut target.table)?;
+    Ok(symbol(text, ty))
+}
+
+// An operator with so many arguments.
+fn operator(target: &mut Module, text: Vec<u8>, arity: usize) -> Result<Decl, Memory>
+    ensures made { IfOk result (λ decl. (tables : Tables) (n : List (List ℕ)) → declaration_in target.new.table decl ≡ declaration_of tables text.items (Content.operator n arity)) }
+    ensures known { IfOk result (IsKnown target.new.table) }
+    ensures grows { Grows target.old target.new }
+{
+    let end = simple_type(&mut target.table)?;
+    let ty = over_types(&mut target.table, arity, end)?;
+    Ok(symbol(text, ty))
+}
+
+// A constant of a type definition.
+fn type_constant(
+    alloc: Global,
+    target: &mut Module,
+    types: &TypeTable,
+    name: &Name,
+    id: TypeId,
+) -> Result<Decl, Memory>
+    requires id { id.0 < length types.now }
+    requires held { IsHeld target.old }
+    requires told { (tables : Tables) × TellsType (declarations_of target.old) tables (type.tree_at types.now id.0) }
+    ensures made { IfOk result (λ decl. (tables : Tables) → TellsType (declarations_of target.old) tables (type.tree_at types.now id.0) → declaration_in target.new.table decl ≡ declaration_of tables (name_of_constant name.now) (Content.constant name.now (type.tree_at types.now id.0))) }
+    ensures known { IfOk result (IsKnown target.new.table) }
+    ensures grows { Grows target.old target.new }
+{
+    let text = constant_name(alloc, name)?;
+    let ty = constant_type(alloc, target, types, id)?;
+    Ok(symbol(text, ty))
+}
+
+// A constant that stands for a term.
+fn constant(
+    alloc: Global,
+    target: &mut Module,
+    table: &TermTable,
+    name: &Name,
+    term: TermId,
+    id: TypeId,
+) -> Result<Decl, Memory>
+    requires term { term.0 < length table.now.terms }
+    requires id { id.0 < length table.now.types }
+    requires held { IsHeld target.old }
+    requires told { (tables : Tables) × TellsType (declarations_of target.old) tables (type_at table.now id.0) × TellsTerm (declarations_of target.old) tables (term_at table.now term.0) }
+    ensures made { IfOk result (λ decl. (tables : Tables) → TellsType (declarations_of target.old) tables (type_at table.now id.0) → TellsTerm (declarations_of target.old) tables (term_at table.now term.0) → declaration_in target.new.table decl ≡ declaration_of tables (name_of_constant name.now) (Content.defined_constant name.now (type_at table.now id.0) (term_at table.now term.0))) }
+    ensures known { IfOk result (IsKnown target.new.table) }
+    ensures grows { Grows target.old target.new }
+{
+    let name = Ident::new(constant_name(alloc, name)?);
+    let ty = constant_type(alloc, target, table.types(), id)?;
+    let body = definition(alloc, target, table, term, id)?;
+    Ok(Decl {
+        name,
+        form: Form::Def,
+        ty,
+        body: Some(body),
+    })
+}
+
+// A symbol without a body.
+fn symbol(text: Vec<u8>, ty: LpId) -> Decl
+    ensures { result ≡ record { name = text.items; form = form.Symbol; ty = ty; body = None } }
+{
+    Decl {
+        name: Ident::new(text),
+        form: Form::Symbol,
+        ty,
+        body: None,
+    }
+}
+
+// The declared type of a constant with a generic type: over its variables, the terms of it.
+fn constant_type(
+    alloc: Global,
+    target: &mut Module,
+    types: &TypeTable,
+    id: TypeId,
+) -> Result<LpId, Memory>
+    requires id { id.0 < length types.now }
+    requires held { IsHeld target.old }
+    requires told { (tables : Tables) × TellsType (declarations_of target.old) tables (type.tree_at types.now id.0) }
+    ensures made { IfOk result (λ r. (tables : Tables) → TellsType (declarations_of target.old) tables (type.tree_at types.now id.0) → Holds target.new.table r.0 (generic_tree tables (type.tree_at types.now id.0))) }
+    ensures known { IfOk result (λ r. r.0 < length target.new.table) }
+    ensures grows { Grows target.old target.new }
+{
+    let names = types.vars(id)?;
+    let scope = type_scope(alloc, &mut target.table, &names)?;
+    let tree = ty(alloc, target, types, &scope, id)?;
+    let inside = terms(&mut target.table, tree)?;
+    over_types(&mut target.table, names.len(), inside)
+}
+
+// What a constant of a generic type stands for: over the type's variables, the term.
+fn definition(
+    alloc: Global,
+    target: &mut Module,
+    table: &TermTable,
+    term: TermId,
+    id: TypeId,
+) -> Result<LpId, Memory>
+    requires term { term.0 < length table.now.terms }
+    requires id { id.0 < length table.now.types }
+    requires held { IsHeld target.old }
+    requires told { (tables : Tables) × TellsTerm (declarations_of target.old) tables (term_at table.now term.0) }
+    ensures made { IfOk result (λ r. (tables : Tables) → TellsTerm (declarations_of target.old) tables (term_at table.now term.0) → Holds target.new.table r.0 (definition_tree tables (type_at table.now id.0) (term_at table.now term.0))) }
+    ensures known { IfOk result (λ r. r.0 < length target.new.table) }
+    ensures grows { Grows target.old target.new }
+{
+    let names = table.types().vars(id)?;
+    let scope = type_scope(alloc, &mut target.table, &names)?;
+    let body = tm(alloc, target, table, &scope, term)?;
+    at_types(&mut target.table, names.len(), body)
+}

@@ -1,0 +1,89 @@
+//! What stands for the parameters of a step's own sequent.
+ghost use Rattle.std.specs.Prelude.{◌≡◌, ◌<◌, List, length, IfOk};
+ghost use Rattle.hol_spec.specs.Proofs.{sequent_at};
+ghost use Rattle.hol_term.specs.Tables.{term_at};
+ghost use Rattle.hol_rules.specs.Kept.{step_count};
+ghost use Rattle.hol_rules.specs.Views.{variable_view};
+ghost use Rattle.holide_sig.specs.Modules.{declarations_of, IsHeld};
+ghost use Rattle.lp_spec.specs.Modules.{Declaration};
+ghost use Rattle.module_spec.specs.Scopes.{Symbols, scope_of, under_proof as proof_under, under_term};
+ghost use Rattle.translate_term.specs.Walks.{Grows};
+ghost use Rattle.rule_proofs.specs.Environments.{Stands};
+ghost use Rattle.rule_proofs.specs.Rescoped.{with_scope};
+ghost use Rattle.translate_rule.specs.Steps.{given_at, AreParams};
+
+use bridge_base::Memory;
+use hol_rules::{Proof, StepId};
+use hol_term::{TermId, Variable};
+use holide_sig::Module;
+use rule_proofs::Environment;
+use sequent::Params;
+use std::alloc::Global;
+
+// The parameters of a step's sequent.
+pub(crate) fn own_params(alloc: Global, proof: &Proof, id: StepId) -> Result<Params, Memory>
+    requires { id < step_count proof.now }
+    ensures { IfOk result (λ params. AreParams proof.now id params.type_vars params.free_vars) }
+{
+    let sequent = proof.sequent(id);
+    // No term of the table has two numbers.
+    let _conclusion = proof.terms().view(sequent.concl);
+    sequent.params(alloc, proof.terms())
+}
+
+// The environment of its binders.
+pub(crate) fn own_environment(
+    alloc: Global,
+    target: &mut Module,
+    proof: &Proof,
+    params: &Params,
+    id: StepId,
+) -> Result<Environment, Memory>
+    requires id { id < step_count proof.now }
+    requires params { AreParams proof.now id params.now.type_vars params.now.free_vars }
+    requires held { IsHeld target.old }
+    ensures made { IfOk result (λ env. (declarations : List Declaration) (symbols : Symbols) → declarations_of target.old ≡ declarations → Stands (given_at declarations symbols (sequent_at proof.now.made id)) target.new proof.now.trees env) }
+    ensures grows { Grows target.old target.new }
+{
+    Environment::of(alloc, target, params, proof.sequent(id).hyps.ids(), 0)
+}
+
+// That under one binder more, which stands for a variable.
+pub(crate) fn under_variable(
+    alloc: Global,
+    target: &mut Module,
+    proof: &Proof,
+    params: &Params,
+    id: StepId,
+    variable: &Variable,
+) -> Result<Environment, Memory>
+    requires id { id < step_count proof.now }
+    requires params { AreParams proof.now id params.now.type_vars params.now.free_vars }
+    requires variable { variable.now.ty.0 < length proof.now.trees.types }
+    requires held { IsHeld target.old }
+    ensures made { IfOk result (λ env. (declarations : List Declaration) (symbols : Symbols) → declarations_of target.old ≡ declarations → Stands (with_scope (given_at declarations symbols (sequent_at proof.now.made id)) (under_term (variable_view proof.now.trees variable.now) (scope_of symbols (sequent_at proof.now.made id)))) target.new proof.now.trees env) }
+    ensures grows { Grows target.old target.new }
+{
+    let hyps = proof.sequent(id).hyps.ids();
+    Environment::under_variable(alloc, target, params, hyps, variable)
+}
+
+// That under one binder more, which proves a formula.
+pub(crate) fn under_proof(
+    alloc: Global,
+    target: &mut Module,
+    proof: &Proof,
+    params: &Params,
+    id: StepId,
+    formula: TermId,
+) -> Result<Environment, Memory>
+    requires id { id < step_count proof.now }
+    requires params { AreParams proof.now id params.now.type_vars params.now.free_vars }
+    requires formula { formula.0 < length proof.now.trees.terms }
+    requires held { IsHeld target.old }
+    ensures made { IfOk result (λ env. (declarations : List Declaration) (symbols : Symbols) → declarations_of target.old ≡ declarations → Stands (with_scope (given_at declarations symbols (sequent_at proof.now.made id)) (proof_under (term_at proof.now.trees formula.0) (scope_of symbols (sequent_at proof.now.made id)))) target.new proof.now.trees env) }
+    ensures grows { Grows target.old target.new }
+{
+    let hyps = proof.sequent(id).hyps.ids();
+    Environment::under_proof(alloc, target, params, hyps, formula)
+}
