@@ -1,5 +1,5 @@
 //! The stack machine.
-ghost use Rattle.std.specs.Prelude.{◌≡◌, Ok, OnOk, OnErr, IfOk, IfErr};
+ghost use Rattle.std.specs.Prelude.{◌≡◌, ℕ, List, Ok, OnOk, OnErr, IfOk, IfErr};
 ghost use Rattle.std.specs.List.{AllByRecursion};
 ghost use Rattle.hol_spec.specs.Derivations.{Derives};
 ghost use Rattle.hol_spec.specs.Proofs.{assumptions_of, definitions_of, sequents_of, symbols_of};
@@ -7,6 +7,8 @@ ghost use Rattle.bridge_base.specs.declared.faults.Fault.TheVariants as the_faul
 ghost use Rattle.bridge_base.specs.declared.faults.Kind.TheVariants as the_kind;
 ghost use Rattle.article_spec.specs.declared.commands.Word.TheVariants as word;
 ghost use Rattle.article_spec.specs.Results.{Fails};
+ghost use Rattle.article_spec.specs.Run.{accepted, accepted_state, Run};
+ghost use Rattle.article_spec.specs.SoundRuns.{IsSoundRun};
 ghost use Rattle.article_spec.specs.State.{Place, initial};
 ghost use Rattle.article_spec.specs.Step.{finish, obey, step, step_at};
 ghost use Rattle.hol_term.specs.Tables.{Trees};
@@ -152,6 +154,14 @@ impl Machine {
     {
         self.store.derives();
     }
+
+    /// What articles made that the machine obeyed to their ends is a sound run. What each step was given was taken before
+    /// it, and what its sequent mentions was taken when it was made; constants stand there at instances of their generic
+    /// types, and operators at their numbers of arguments. The assumptions are the steps of that kind, in order of making;
+    /// the exports are in order of making, without repeats; and what a definition rests on was taken before it.
+    pub fn sound(&self)
+        ensures { (articles : List (List ℕ)) → Run articles (accepted (accepted_state self.now)) → IsSoundRun (accepted_state self.now) }
+    {}
 
     // The first command is the number 6.
     fn begin(&mut self, item: &Item) -> Result<(), Fault>
