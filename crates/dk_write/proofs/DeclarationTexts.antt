@@ -1,7 +1,7 @@
 -- The parts of a declaration's text, and of a module's.
-use Rattle.std.proofs.Common.{◌≡◌, ℕ, suc, ◌+◌, ◌<◌, ◌≤◌, refl, sym, ap, subst, ◌∙◌, List, [], ◌∷◌, ◌++◌, Option, Some, append_assoc, codes, length, map, drop, drop-cons, get_or, add-one, zero}
+use Rattle.std.proofs.Common.{◌≡◌, ℕ, suc, ◌+◌, ◌<◌, refl, sym, ap, subst, ◌∙◌, List, [], ◌∷◌, ◌++◌, Option, Some, append_assoc, codes, length, map, drop, drop-cons, get_or, add-one, zero}
 use Rattle.std.specs.Prelude.{option_map, slice_get}
-use Rattle.std.proofs.lemmas.List.{append-nil, drop_all}
+use Rattle.std.proofs.lemmas.List.{append-nil}
 use Rattle.std.proofs.lemmas.Option.{same_Some}
 use Rattle.lp_spec.specs.Trees.{Tree}
 use Rattle.lp_spec.specs.Modules.{Declaration}
@@ -41,14 +41,6 @@ pub slice_get-map : {X Y : Type 0} (f : X → Y) (xs : List X) (i : ℕ) (x : X)
 slice_get-map f [] i x e = absurd (cc)
 slice_get-map f (y ∷ ys) zero x e = ap Some (ap f (same_Some _ _ e))
 slice_get-map f (y ∷ ys) (suc i) x e = slice_get-map f ys i x e
-
--- where the bounds are at their end
-pub no_line : (m ds : List Declaration) (bs : List ℕ) (i : ℕ) → length bs ≤ i → declarations_text m (drop i ds) (drop i bs) ≡ []
-no_line m ds bs i h = ap (declarations_text m (drop i ds)) (drop_all i bs h) ∙ nothing (drop i ds)
-  where
-    nothing : (xs : List Declaration) → declarations_text m xs [] ≡ []
-    nothing [] = refl
-    nothing (x ∷ xs) = refl
 
 pub AreShallow-slice_get : (ts : List Tree) (ds : List Decl) (i : ℕ) (d : Decl) → AreShallow ts ds → slice_get ds i ≡ Some d → IsShallow ts d
 AreShallow-slice_get ts [] i d h e = absurd (cc)

@@ -1,8 +1,6 @@
 -- What a turn writes, and what it leaves.
-use Rattle.std.proofs.Common.{◌≡◌, ℕ, suc, ◌-◌, Bool, true, false, not, refl, sym, ap, subst, ◌∙◌, arith, List, [], ◌∷◌, ◌++◌, Option, Result, Ok, Err, OnErr, append_assoc, codes, decimal, if◌then◌else◌}
+use Rattle.std.proofs.Common.{◌≡◌, ℕ, suc, ◌-◌, Bool, true, false, not, refl, sym, ap, ◌∙◌, arith, List, [], ◌∷◌, ◌++◌, append_assoc, codes, decimal, if◌then◌else◌}
 use Rattle.std.proofs.lemmas.List.{append-nil}
-use Rattle.bridge_base.specs.Outside.{GainsFront}
-use Rattle.bridge_base.specs.Gaining.{front_of_first}
 use Rattle.lp_spec.specs.Trees.{Tree, Var, Sym, App, Lam, Pi}
 use Rattle.lp_spec.specs.Modules.{symbol_name}
 use Rattle.lp_spec.specs.Text.{binder_name, enclosed, is_binder, is_word, tree_text}
@@ -15,11 +13,6 @@ use Rattle.dk_write.specs.declared.path.Place.{Place}
 use Rattle.dk_write.specs.declared.path.Frame.{Frame}
 use Rattle.dk_write.specs.declared.path.Frame.TheVariants.{Close, Argument, Abstracted, Produced}
 use Rattle.dk_write.specs.Paths.{place_text, frame_text, frames_text}
-
--- a call failed in a front of the text
-pub on_err_front : {T E : Type 0} (r : Result T E) (a c : Option (List ℕ)) (whole xs rest : List ℕ) → whole ≡ xs ++ rest → GainsFront a xs c → OnErr r (GainsFront a whole c)
-on_err_front (Ok v) a c whole xs rest e h = tt
-on_err_front (Err x) a c whole xs rest e h = subst (λ l. GainsFront a l c) (sym e) (front_of_first a c xs rest h)
 
 abbrev pub opened : Bool → List ℕ
 opened b = if b then codes "(" else []
@@ -38,13 +31,14 @@ apart_binder : (n k o f c a x r : List ℕ) → ((((n ++ k) ++ (o ++ (f ++ c))) 
 apart_binder n k o f c a x r = simp append_assoc
 
 module _ (m : Module) (fs : List Frame) where
-  pub argument_parts : (p : Place) (closes opens : Bool) (w v : List ℕ) → w ≡ closed closes → v ≡ opened opens → opens ≡ not (is_word (tree_at m.table p.id.0))
-      → frame_text m (Argument p closes) ++ frames_text m fs ≡ (w ++ (codes " " ++ (v ++ []))) ++ (place_text m p ++ frames_text m (if opens then Close ∷ fs else fs))
-  argument_parts p closes opens w v e f g =
+  pub argument_parts : (p : Place) (closes opens : Bool) (w v : List ℕ) (gs : List Frame) → w ≡ closed closes → v ≡ opened opens → opens ≡ not (is_word (tree_at m.table p.id.0)) → (if opens then Close ∷ fs else fs) ≡ gs
+      → frame_text m (Argument p closes) ++ frames_text m fs ≡ (w ++ (codes " " ++ (v ++ []))) ++ (place_text m p ++ frames_text m gs)
+  argument_parts p closes opens w v gs e f g h =
       ap (λ b. (closed closes ++ (codes " " ++ enclosed b (place_text m p))) ++ frames_text m fs) (sym g)
       ∙ by opens
       ∙ sym (ap (λ l. (l ++ (codes " " ++ (v ++ []))) ++ (place_text m p ++ frames_text m (if opens then Close ∷ fs else fs))) e
       ∙ ap (λ l. (closed closes ++ (codes " " ++ (l ++ []))) ++ (place_text m p ++ frames_text m (if opens then Close ∷ fs else fs))) f)
+      ∙ ap (λ l. (w ++ (codes " " ++ (v ++ []))) ++ (place_text m p ++ frames_text m l)) h
     where
       by : (b : Bool) → (closed closes ++ (codes " " ++ enclosed b (place_text m p))) ++ frames_text m fs
           ≡ (closed closes ++ (codes " " ++ (opened b ++ []))) ++ (place_text m p ++ frames_text m (if b then Close ∷ fs else fs))

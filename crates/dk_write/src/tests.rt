@@ -9,7 +9,7 @@ ghost use Rattle.holide_sig.specs.Modules.{declarations_of, IsHeld};
 ghost use Rattle.dk_write.specs.Shallow.{AreShallow};
 
 use crate::{DEPTH, write};
-use bridge_base::{Failed, MemSink, Memory, QuietSink, Stack};
+use bridge_base::{Failed, MemSink, Memory, QuietSink, Sink, Stack};
 use holide_sig::{Decl, Form, Ident, Module, PRELUDE, SIGNATURE};
 use lp_term::{LpId, LpNode, LpTable};
 use std::alloc::{AllocError, Global};
@@ -32,13 +32,10 @@ fn a_module_begins_with_the_prelude(rt: HostRuntime) -> Result<(), Fail> {
     let mut sink = MemSink::new(Vec::new(alloc), Vec::new(alloc));
     assert_eq!(rt; write(&module, &[], &mut sink), Ok(()));
     assert_eq!(rt; sink.contents(), PRELUDE);
-    assert_eq!(rt; sink.calls(), 14, "a call for each line");
-    let mut failing = MemSink::new(Vec::new(alloc), vec![in alloc; 3]?);
+    assert_eq!(rt; sink.calls(), 1, "a call for all lines");
+    let mut failing = MemSink::new(Vec::new(alloc), vec![in alloc; 1]?);
     assert_eq!(rt; write(&module, &[], &mut failing), Err(Failed));
-    assert_eq!(rt;
-        failing.contents(),
-        b"type : Type.\nbool : type.\n".as_slice()
-    );
+    assert_eq!(rt; failing.contents(), b"".as_slice());
     assert_eq!(rt; discard(&module, &[]), Ok(()));
     Ok(())
 }
@@ -150,6 +147,47 @@ fn deep_trees_are_written(rt: HostRuntime) -> Result<(), Fail> {
         let text = text_of(alloc, before, inner, after, repeated)?;
         assert!(rt; sink.contents() == text.as_slice());
     }
+    Ok(())
+}
+
+// A sink that takes whole pieces, and counts them and the bytes of the longest.
+#[derive(Drop)]
+struct Measured {
+    pieces: usize,
+    longest: usize,
+}
+
+impl Sink for Measured {
+    ghost use Rattle.std.specs.Prelude.{None};
+
+    ghost got = { λ _. None };
+
+    ghost faults = { λ _. 0 };
+
+    fn write(&mut self, piece: &[u8]) -> Result<usize, Failed> {
+        self.pieces = self.pieces.saturating_add(1);
+        self.longest = self.longest.max(piece.len());
+        Ok(piece.len())
+    }
+}
+
+#[test]
+fn many_words_are_written_at_once(rt: HostRuntime) -> Result<(), Fail> {
+    let alloc = rt.alloc();
+    let mut module = Module::new(alloc)?;
+    push_nest(alloc, &mut module, 3_000, true)?;
+    let text = text_of(alloc, b"", b"bool", b" bool", 3_000)?;
+    let mut measured = Measured {
+        pieces: 0,
+        longest: 0,
+    };
+    assert_eq!(rt; write(&module, &[0], &mut measured), Ok(()));
+    assert_eq!(rt; measured.pieces, text.len().div_ceil(4_096));
+    assert_eq!(rt; measured.longest, 4_096);
+    let mut failing = MemSink::new(Vec::new(alloc), vec![in alloc; 3]?);
+    assert_eq!(rt; write(&module, &[0], &mut failing), Err(Failed));
+    assert_eq!(rt; failing.contents().len(), 8_192);
+    assert!(rt; text.starts_with(failing.contents()));
     Ok(())
 }
 

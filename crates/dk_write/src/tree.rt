@@ -9,8 +9,8 @@ ghost use Rattle.holide_sig.specs.Modules.{declarations_of};
 ghost use Rattle.dk_write.specs.Paths.{IsPlace, IsTurn, AreFrames, IsFrame, left_text, frames_text, frame_text, work, frames_work, frame_work};
 ghost use Rattle.dk_write.specs.Writing.{Writes, Gained};
 
+use crate::gathered::Gathered;
 use crate::path::{Frame, Path, Place};
-use crate::words::write_words;
 use bridge_base::{Failed, Sink};
 use holide_sig::{Module, SIGNATURE};
 use itoa::Buffer;
@@ -30,20 +30,21 @@ pub(crate) fn write_tree<S: Sink>(
     source: &Module,
     id: LpId,
     path: &mut Path,
+    gathered: &mut Gathered,
     sink: &mut S,
 ) -> Result<(), Failed>
     requires known { id.0 < length source.now.table }
     requires shallow { depth_of (tree_at source.now.table id.0) ≤ 16384 }
-    ensures { Writes (S.got sink.old) (S.faults sink.old)
-        (tree_text (declarations_of source.now) 0 (tree_at source.now.table id.0)) (S.got sink.new) (S.faults sink.new) result }
+    ensures { Writes (S.got sink.old) gathered.old (S.faults sink.old)
+        (tree_text (declarations_of source.now) 0 (tree_at source.now.table id.0)) (S.got sink.new) gathered.new (S.faults sink.new) result }
 {
     path.clear();
     let mut turn = Turn::Write(Place { id, depth: 0 });
     loop {
         turn = match turn {
-            Turn::Write(place) => write_place(source, place, path, sink)?,
+            Turn::Write(place) => write_place(source, place, path, gathered, sink)?,
             Turn::Leave => match path.pop() {
-                Some(frame) => write_frame(source, frame, path, sink)?,
+                Some(frame) => write_frame(source, frame, path, gathered, sink)?,
                 None => return Ok(()),
             },
         };
@@ -55,6 +56,7 @@ fn write_place<S: Sink>(
     source: &Module,
     place: Place,
     path: &mut Path,
+    gathered: &mut Gathered,
     sink: &mut S,
 ) -> Result<Turn, Failed>
     requires place { IsPlace source.now.table (length path.old) place }
@@ -62,19 +64,26 @@ fn write_place<S: Sink>(
     ensures turn { IfOk result (IsTurn source.now.table path.new) }
     ensures frames { IfOk result (λ _. AreFrames source.now.table path.new) }
     ensures less { IfOk result (λ turn. work source.now.table turn path.new < work source.now.table (Turn.Write place) path.old) }
-    ensures ok { IfOk result (λ turn. Gained (S.got sink.old) (left_text source.now (Turn.Write place) path.old) (left_text source.now turn path.new) (S.got sink.new)) }
-    ensures err { OnErr result (GainsFront (S.got sink.old) (left_text source.now (Turn.Write place) path.old) (S.got sink.new)) }
+    ensures ok { IfOk result (λ turn. Gained (S.got sink.old) (gathered.old ++ left_text source.now (Turn.Write place) path.old) (gathered.new ++ left_text source.now turn path.new) (S.got sink.new)) }
+    ensures err { OnErr result (GainsFront (S.got sink.old) (gathered.old ++ left_text source.now (Turn.Write place) path.old) (S.got sink.new)) }
     ensures cause { HasCause (S.faults sink.old) (S.faults sink.new) result }
 {
     let depth = place.depth;
     match source.table.view(place.id) {
-        LpNode::SortType => write_words(sink, &[b"Type"])?,
-        LpNode::SortKind => {}
-        LpNode::Sym(symbol) => write_words(sink, &[symbol_name(source, symbol)])?,
+        LpNode::SortType => {
+            gathered.write_words(&[b"Type"], sink)?;
+            Ok(Turn::Leave)
+        }
+        LpNode::SortKind => Ok(Turn::Leave),
+        LpNode::Sym(symbol) => {
+            gathered.write_words(&[symbol_name(source, symbol)], sink)?;
+            Ok(Turn::Leave)
+        }
         LpNode::Var(number) => {
             let mut buffer = Buffer::new();
             let binder = u128::from(depth).saturating_sub(number).saturating_sub(1);
-            write_words(sink, &[b"v", buffer.format(binder).as_bytes()])?
+            gathered.write_words(&[b"v", buffer.format(binder).as_bytes()], sink)?;
+            Ok(Turn::Leave)
         }
         LpNode::App(function, argument) => {
             let closes = is_binder(source, function);
@@ -85,11 +94,11 @@ fn write_place<S: Sink>(
                 },
                 closes,
             ));
-            write_words(sink, &[opening(closes)])?;
-            return Ok(Turn::Write(Place {
+            gathered.write_words(&[opening(closes)], sink)?;
+            Ok(Turn::Write(Place {
                 id: function,
                 depth,
-            }));
+            }))
         }
         LpNode::Lam(domain, body) => {
             let closes = is_binder(source, domain);
@@ -100,8 +109,8 @@ fn write_place<S: Sink>(
                 },
                 closes,
             ));
-            write_binder(sink, depth, closes)?;
-            return Ok(Turn::Write(Place { id: domain, depth }));
+            write_binder(depth, closes, gathered, sink)?;
+            Ok(Turn::Write(Place { id: domain, depth }))
         }
         LpNode::Pi(domain, body) => {
             let closes = is_binder(source, domain);
@@ -112,20 +121,24 @@ fn write_place<S: Sink>(
                 },
                 closes,
             ));
-            write_binder(sink, depth, closes)?;
-            return Ok(Turn::Write(Place { id: domain, depth }));
+            write_binder(depth, closes, gathered, sink)?;
+            Ok(Turn::Write(Place { id: domain, depth }))
         }
     }
-    Ok(Turn::Leave)
 }
 
 // Writes the name of a binder and what stands before its domain.
-fn write_binder<S: Sink>(sink: &mut S, depth: u64, opens: bool) -> Result<(), Failed>
-    ensures { Writes (S.got sink.old) (S.faults sink.old) (binder_name depth ++ (codes " : " ++ (if opens then codes "(" else []))) (S.got sink.new) (S.faults sink.new) result }
+fn write_binder<S: Sink>(
+    depth: u64,
+    opens: bool,
+    gathered: &mut Gathered,
+    sink: &mut S,
+) -> Result<(), Failed>
+    ensures { Writes (S.got sink.old) gathered.old (S.faults sink.old) (binder_name depth ++ (codes " : " ++ (if opens then codes "(" else []))) (S.got sink.new) gathered.new (S.faults sink.new) result }
 {
     let mut buffer = Buffer::new();
     let number = buffer.format(depth).as_bytes();
-    write_words(sink, &[b"v", number, b" : ", opening(opens)])
+    gathered.write_words(&[b"v", number, b" : ", opening(opens)], sink)
 }
 
 // Writes what stands between a part of a tree and the next.
@@ -133,6 +146,7 @@ fn write_frame<S: Sink>(
     source: &Module,
     frame: Frame,
     path: &mut Path,
+    gathered: &mut Gathered,
     sink: &mut S,
 ) -> Result<Turn, Failed>
     requires frame { IsFrame source.now.table (length path.old) frame }
@@ -141,29 +155,29 @@ fn write_frame<S: Sink>(
     ensures turn { IfOk result (IsTurn source.now.table path.new) }
     ensures frames { IfOk result (λ _. AreFrames source.now.table path.new) }
     ensures less { IfOk result (λ turn. work source.now.table turn path.new < work source.now.table Turn.Leave (frame ∷ path.old)) }
-    ensures ok { IfOk result (λ turn. Gained (S.got sink.old) (left_text source.now Turn.Leave (frame ∷ path.old)) (left_text source.now turn path.new) (S.got sink.new)) }
-    ensures err { OnErr result (GainsFront (S.got sink.old) (left_text source.now Turn.Leave (frame ∷ path.old)) (S.got sink.new)) }
+    ensures ok { IfOk result (λ turn. Gained (S.got sink.old) (gathered.old ++ left_text source.now Turn.Leave (frame ∷ path.old)) (gathered.new ++ left_text source.now turn path.new) (S.got sink.new)) }
+    ensures err { OnErr result (GainsFront (S.got sink.old) (gathered.old ++ left_text source.now Turn.Leave (frame ∷ path.old)) (S.got sink.new)) }
     ensures cause { HasCause (S.faults sink.old) (S.faults sink.new) result }
 {
     match frame {
         Frame::Close => {
-            write_words(sink, &[b")"])?;
+            gathered.write_words(&[b")"], sink)?;
             Ok(Turn::Leave)
         }
         Frame::Argument(place, closes) => {
             let opens = !is_word(source, place.id);
-            write_words(sink, &[closing(closes), b" ", opening(opens)])?;
+            gathered.write_words(&[closing(closes), b" ", opening(opens)], sink)?;
             if opens {
                 path.push(Frame::Close);
             }
             Ok(Turn::Write(place))
         }
         Frame::Abstracted(place, closes) => {
-            write_words(sink, &[closing(closes), b" => "])?;
+            gathered.write_words(&[closing(closes), b" => "], sink)?;
             Ok(Turn::Write(place))
         }
         Frame::Produced(place, closes) => {
-            write_words(sink, &[closing(closes), b" -> "])?;
+            gathered.write_words(&[closing(closes), b" -> "], sink)?;
             Ok(Turn::Write(place))
         }
     }
