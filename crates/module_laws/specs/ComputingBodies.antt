@@ -16,8 +16,6 @@ use Rattle.hol_laws.specs.GenericInstances.{type_arguments-filled_in, substitute
 use Rattle.module_spec.specs.Scopes.{Symbols, type_tree, Scope, constant_symbol, generic_type}
 use Rattle.module_laws.specs.ScopeTyping.{DeclaresConstant, ConstantOver, TypeOver, TermOver}
 use Rattle.module_spec.specs.Items.{definition_tree}
-use Rattle.lp_binding.specs.Composition.{sub_var}
-use Rattle.lp_spec.specs.Substitution.{ups, cons}
 
 -- the module has this definition of a constant: its term is closed, and its type variables are those of its type
 pub record IsDefinition (m : List Declaration) (symbols : Symbols) (n : Name) (a : HolType) (t : Term) : Type 0 where

@@ -14,7 +14,6 @@ pub mod ItemShapes
 pub mod KeptModules
 pub mod LawSpreads
 pub mod ListedScopes
-pub mod ListedTranslation
 pub mod MadeModules
 pub mod MeaningLaws
 pub mod ModuleTyping
@@ -25,7 +24,6 @@ pub mod OrderedModules
 pub mod PricedModules
 pub mod PuttingLaws
 pub mod RuleShapes
-pub mod SameSequents
 pub mod ScopeLaws
 pub mod ScopeTyping
 pub mod SequentEncoding
@@ -44,6 +42,7 @@ pub mod SubstitutionTranslated
 pub mod SymbolsHeld
 pub mod TermScopeLaws
 pub mod TheoremTyping
+pub mod ToldParameters
 pub mod TranslationShown
 pub mod TranslationStatements
 pub mod WantedItems

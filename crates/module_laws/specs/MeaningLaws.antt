@@ -23,7 +23,7 @@ use Rattle.module_spec.specs.ConstantMeaning.{parameter_places, parameter_places
 use Rattle.hol_laws.specs.Members.{IsIn-distinct, All-each, All-weaker, map-each, map-twice}
 use Rattle.module_spec.specs.Scopes.{Symbols, constant_symbol, generic_type, type_tree, under_types, unfilled}
 use Rattle.module_laws.specs.ScopeTyping.{DeclaresConstant}
-use Rattle.module_laws.specs.SameSequents.{TypesTold, TypesTold-own}
+use Rattle.module_laws.specs.ToldParameters.{TypesTold, TypesTold-own}
 use Rattle.module_laws.specs.SequentEncoding.{TypeMeant, type_stands, placed-types, types-are}
 use Rattle.proof_laws.specs.SymbolGrowth.{symmetric}
 

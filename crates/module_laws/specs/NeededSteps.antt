@@ -19,8 +19,6 @@ use Rattle.module_spec.specs.Rows.{has_row}
 use Rattle.module_spec.specs.MadeItems.{proves_nothing, restated, needed}
 use Rattle.module_laws.specs.BodyTyping.{IsIn-without}
 use Rattle.proof_laws.specs.DefinitionListLaws.{not-is}
-use Rattle.std.specs.Bool.{Decides}
-use Rattle.hol_spec.specs.Derivations.{definitions_used, Follows}
 
 -- what is in a list passes the test
 in-list : (hs : List Term) (h : Term) → IsIn hs h → is_in term_eq h hs ≡ true

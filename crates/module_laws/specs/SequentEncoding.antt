@@ -22,7 +22,7 @@ use Rattle.hol_spec.specs.ClosedForm.{ClosedType, ClosedTypes, close_type, close
 use Rattle.lp_spec.specs.Trees.{Tree, Var, lift}
 use Rattle.lp_spec.specs.Modules.{Declaration, products, types, bools, term_of, proof_of}
 use Rattle.module_spec.specs.TypeEnc.{parameter, Place, place, depth_of, inside, StandsForType, StandForTypes}
-use Rattle.module_laws.specs.ListedTranslation.{parameters}
+use Rattle.module_laws.specs.ListedScopes.{parameters}
 use Rattle.module_spec.specs.OperatorMeaning.{MeansOperator}
 use Rattle.module_spec.specs.ConstantMeaning.{MeansConstant, argument, instance_of, instances_of}
 use Rattle.module_spec.specs.Enc.{StandsForConstant, StandsForTerm, StandForVariables, StandForHypotheses, Enc}
@@ -32,7 +32,7 @@ use Rattle.hol_laws.specs.GenericInstances.{filled_in, filled_in_all, Instance-f
 use Rattle.module_spec.specs.Scopes.{Symbols, operator_symbol, constant_symbol, generic_type, TypeScope, type_tree, type_trees, Scope, constant_tree, term_tree, under_term, under_proof, under_proofs, term_domains, proof_domains, scope_of_types, scope_of_terms, scope_of, sequent_tree}
 use Rattle.module_spec.specs.Scopes as scopes
 use Rattle.module_laws.specs.TheoremTyping.{IsFormula, HasInstances, term-IsFormula, free_variables-known}
-use Rattle.module_laws.specs.SameSequents.{TypesTold, TypesTold-lifted, TypesTold-own, TypesTold-terms, TermsTold, TermsTold-lifted, TermsTold-own, parameter-lift}
+use Rattle.module_laws.specs.ToldParameters.{TypesTold, TypesTold-lifted, TypesTold-own, TypesTold-terms, TermsTold, TermsTold-lifted, TermsTold-own, parameter-lift}
 use Rattle.module_laws.specs.ScopeTyping.{length-type_trees}
 use Rattle.hol_laws.specs.PositionLaws.{position-cons}
 use Rattle.std.proofs.lemmas.List.{length-map}

@@ -7,7 +7,7 @@ use Rattle.hol_spec.specs.NameEquality.{name_eq}
 use Rattle.hol_laws.specs.NameEqualityLaws.{name_eq-Decides}
 use Rattle.hol_spec.specs.Types.{variable_places}
 use Rattle.hol_spec.specs.Primitives.{bool}
-use Rattle.hol_spec.specs.Terms.{Term, free, Variable, variable_eq, HasType, type_variable_places, free_places}
+use Rattle.hol_spec.specs.Terms.{Term, Variable, variable_eq, HasType, type_variable_places, free_places}
 use Rattle.hol_laws.specs.TermLaws.{variable_eq-Decides}
 use Rattle.hol_spec.specs.TermBinding.{loose}
 use Rattle.hol_laws.specs.TermTyping.{loose-typed}

@@ -4,8 +4,7 @@ use Rattle.module_laws.specs.ScopeLaws.{type_tree-substitute}
 use Rattle.module_laws.specs.TermScopeLaws.{term_tree-substitution}
 use Rattle.module_laws.specs.SubstitutionTranslated.{sequent-substitution}
 use Rattle.module_laws.specs.SequentEncoding.{sequent_tree-Enc}
-use Rattle.module_laws.specs.SameSequents.{sequent-same}
-use Rattle.module_laws.specs.TranslationStatements.{TypeSubstitutionTranslated, TermSubstitutionTranslated, SequentSubstitutionTranslated, SequentsEncoded, SameSoFar}
+use Rattle.module_laws.specs.TranslationStatements.{TypeSubstitutionTranslated, TermSubstitutionTranslated, SequentSubstitutionTranslated, SequentsEncoded}
 
 pub type_substitution_translated : TypeSubstitutionTranslated
 type_substitution_translated symbols pairs scope t = type_tree-substitute symbols pairs scope t
@@ -18,6 +17,3 @@ sequent_substitution_translated symbols pairs terms closed scope s is h = sequen
 
 pub sequents_encoded : SequentsEncoded
 sequents_encoded d symbols s is within instances meant = sequent_tree-Enc d symbols s is within instances meant
-
-pub same_so_far : SameSoFar
-same_so_far s is h = sequent-same s is h

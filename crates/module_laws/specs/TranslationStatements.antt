@@ -10,13 +10,11 @@ use Rattle.hol_spec.specs.ClosedForm.{closed_form}
 use Rattle.hol_spec.specs.Sequents.{Sequent, IsSequent, terms_of, type_variables_of, free_variables_of}
 use Rattle.lp_spec.specs.Trees.{put_all}
 use Rattle.lp_spec.specs.Modules.{Declaration}
-use Rattle.module_laws.specs.ListedTranslation as listed
 use Rattle.module_spec.specs.Enc.{Enc}
 use Rattle.module_spec.specs.Scopes.{Symbols, TypeScope, type_tree, Scope, term_tree, sequent_tree, images}
 use Rattle.module_laws.specs.TermScopeLaws.{AreClosed, AreInstances}
 use Rattle.module_laws.specs.TheoremTyping.{HasInstances}
 use Rattle.module_laws.specs.SubstitutionTranslated.{statement_tree, rest_tree}
-use Rattle.module_laws.specs.ListedScopes.{primitive_symbols}
 use Rattle.module_laws.specs.SequentEncoding.{TermMeant}
 
 -- Translation of substitution, for types, for terms, and for sequents with the images put in.
@@ -41,7 +39,3 @@ abbrev pub SequentsEncoded : Type 0
 SequentsEncoded =
     (d : List Declaration) (symbols : Symbols) (s : Sequent) → IsSequent s → SequentWithin s → HasInstances symbols s → AllByRecursion (TermMeant d symbols) (terms_of s)
     → Enc d (closed_form s) (sequent_tree symbols s)
-
--- Over the primitive symbols it is the tree so far.
-abbrev pub SameSoFar : Type 0
-SameSoFar = (s : Sequent) → IsSequent s → HasInstances primitive_symbols s → sequent_tree primitive_symbols s ≡ listed.sequent_tree s

@@ -6,7 +6,7 @@
 //! | File | Laws of |
 //! |---|---|
 //! | `ScopeLaws`, `TermScopeLaws`, `DeepScopes`, `PuttingLaws`, `SimultaneousArguments`, `SubstitutionTranslated` | translation under lifting, putting and substitution |
-//! | `ListedTranslation`, `ListedScopes`, `SameSequents` | scopes that lists tell, and the translation that the first path computes |
+//! | `ListedScopes`, `ToldParameters` | scopes that lists tell: those of the parameters of a sequent |
 //! | `MeaningLaws`, `SequentEncoding`, `EncLaws` | what symbols and types stand for |
 //! | `ScopeTyping`, `TheoremTyping`, `SequentScope`, `Bodies`, `BodyTyping` | what a scope and a premise must be |
 //! | `ShapeLaws`, `ShapedScopes`, `ShapedTheorems`, `ShapedSequents` | translated terms, theorems and sequents are shaped |
@@ -20,7 +20,7 @@
 
 ghost use Rattle.module_spec.specs.Enc.{OneEncoding};
 ghost use Rattle.module_laws.specs.NameStatements.{ExportNamesTold, NumeralsDiffer};
-ghost use Rattle.module_laws.specs.TranslationStatements.{SameSoFar, SequentSubstitutionTranslated, SequentsEncoded, TermSubstitutionTranslated, TypeSubstitutionTranslated};
+ghost use Rattle.module_laws.specs.TranslationStatements.{SequentSubstitutionTranslated, SequentsEncoded, TermSubstitutionTranslated, TypeSubstitutionTranslated};
 ghost use Rattle.module_laws.specs.ShapeStatements.{ModulesPriced, ModulesShaped, ModulesTyped, RulesShaped, SequentsShaped, TermsShaped, TheoremsShaped};
 
 /// The law of translation of substitution, for types: the tree of a type with types put is its tree in the scope of the images.
@@ -57,11 +57,6 @@ pub fn numerals_differ()
 /// The test of the names of exports tells them exactly: `E` and a number without leading zeros.
 pub fn export_names_told()
     ensures { ExportNamesTold }
-{}
-
-/// Over the primitive symbols the tree of a sequent is that of the translation over lists, which the first path computes.
-pub fn same_so_far()
-    ensures { SameSoFar }
 {}
 
 /// The law of terms: the tree of a term is a term of the tree of its type.

@@ -36,15 +36,25 @@ use Rattle.module_laws.specs.BodyTyping.{IsIn-map}
 use Rattle.module_laws.specs.KeptModules.{IsIn-kept}
 use Rattle.module_laws.specs.ItemConditions.{IsDefining, IsContent}
 use Rattle.module_laws.specs.WantedItems.{AreMadeInOrder}
-use Rattle.module_laws.specs.SameSequents.{TypesTold, TypesTold-own}
+use Rattle.module_laws.specs.ToldParameters.{TypesTold, TypesTold-own}
 use Rattle.module_laws.specs.SequentEncoding.{TypeMeant, TermMeant, TypesPlaced, placed-types, type_stands, term_stands, types-are}
 use Rattle.run_laws.specs.Origins.{Origin}
 use Rattle.run_laws.specs.Named.{HasNames, IsStepName, step_name-is, is-assumed, at-place}
 use Rattle.run_laws.specs.ExportOrder.{HaveRows, sequent-step}
 use Rattle.run_laws.specs.Meanings.{ContentMeant}
 use Rattle.run_laws.specs.Standing.{Always, items, keep, number, stays, symbols, declared, stays-meant, item-stands, BothMeant}
-use Rattle.run_laws.specs.PrimitiveRuns.{proved-body, no_definition}
 use Rattle.proof_laws.specs.SymbolGrowth.{symmetric}
+
+-- the declaration of a step with a proof is a theorem, with a body
+proved-body : (symbols : Symbols) (number : ℕ → ℕ) (name : List ℕ) (b : Bool) → b ≡ true → (kind : StepKind) (js : List ℕ) (ss : List Sequent) (g : Parameters) (s : Sequent)
+    → (declaration_of symbols name (renumbered_content number (content_by b kind js ss g s))).body ≡ None → ⊥
+proved-body symbols number name true e kind js ss g s f = absurd (cc)
+proved-body symbols number name false e kind js ss g s f = absurd (cc)
+
+no_definition : (symbols : Symbols) (number : ℕ → ℕ) (name : List ℕ) (b : Bool) (kind : StepKind) (js : List ℕ) (ss : List Sequent) (g : Parameters) (s : Sequent)
+    → (declaration_of symbols name (renumbered_content number (content_by b kind js ss g s))).form ≡ Def → ⊥
+no_definition symbols number name true kind js ss g s f = absurd (cc)
+no_definition symbols number name false kind js ss g s f = absurd (cc)
 
 -- a member is among the list
 pub among : {A : Type 0} (xs : List A) (x : A) → IsIn xs x → IsAmong xs x

@@ -9,7 +9,6 @@ pub mod Named
 pub mod NewNames
 pub mod Origins
 pub mod PremiseUses
-pub mod PrimitiveRuns
 pub mod Reaching
 pub mod RunModules
 pub mod Standing

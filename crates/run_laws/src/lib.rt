@@ -10,14 +10,12 @@
 //! | `ExportOrder`, `ExportSteps` | its exports are the run's in order, and each restates a theorem |
 //! | `Meanings`, `Standing` | its symbols mean what they stand for, and its theorems stand for what they say |
 //! | `Givens`, `FaithfulRuns` | what has no body was given, what is defined the run defined: the module is faithful to its run |
-//! | `PrimitiveRuns` | it stands for a run that takes no symbols and assumes nothing |
 //! | `Reaching`, `Uses`, `PremiseUses` | what is kept is reached, and what trees use |
 #![tactic(auto)]
 
 ghost use Rattle.run_laws.specs.AcceptedRuns.{RunsAreCarried};
 ghost use Rattle.run_laws.specs.RunModules.{RunsAreModules};
 ghost use Rattle.run_laws.specs.FaithfulRuns.{RunsAreFaithful};
-ghost use Rattle.run_laws.specs.PrimitiveRuns.{PrimitiveRunsStand};
 
 /// The module of an accepted run is well typed, shaped and priced, and each export is said.
 pub fn runs_are_carried()
@@ -27,11 +25,6 @@ pub fn runs_are_carried()
 /// The module of an accepted run whose names are bytes is a module: each name is new, and each tree is over what is declared before.
 pub fn runs_are_modules()
     ensures { RunsAreModules }
-{}
-
-/// The module of an accepted run that takes no symbols and assumes nothing stands for its run.
-pub fn primitive_runs_stand()
-    ensures { PrimitiveRunsStand }
 {}
 
 /// The module of an accepted run is faithful to it: what has no body was given, what is defined the run defined, and its exports are the run's.

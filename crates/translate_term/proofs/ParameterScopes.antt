@@ -24,7 +24,7 @@ use Rattle.lp_spec.specs.Trees.{Tree, Var, Pi, raised}
 use Rattle.lp_spec.specs.Modules.{Declaration, products, types, bools, term_of, proof_of}
 use Rattle.module_spec.specs.Scopes.{Symbols, Scope, filler, type_tree, term_tree, inside, under_term, under_proof, under_proofs, term_domains, proof_domains, scope_of_types, scope_of_terms, conclusion_tree, sequent_tree}
 use Rattle.module_laws.specs.ListedScopes.{told}
-use Rattle.module_laws.specs.SameSequents.{TypesTold, TypesTold-lifted, TypesTold-own, TypesTold-terms, TermsTold, TermsTold-lifted, TermsTold-own}
+use Rattle.module_laws.specs.ToldParameters.{TypesTold, TypesTold-lifted, TypesTold-own, TypesTold-terms, TermsTold, TermsTold-lifted, TermsTold-own}
 use Rattle.module_laws.specs.SequentEncoding.{told-at, types-are}
 use Rattle.module_laws.specs.TermScopeLaws.{AreInstances, term_tree-agrees}
 use Rattle.module_laws.specs.TheoremTyping.{IsFormula, HasInstances, term-IsFormula, free_variables-known}

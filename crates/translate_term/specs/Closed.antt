@@ -15,7 +15,7 @@ use Rattle.lp_term.specs.Tables.{trees_at, AreKnown}
 use Rattle.holide_sig.specs.declared.module.Module.{Module}
 use Rattle.holide_sig.specs.Modules.{declarations_of, IsHeld}
 use Rattle.module_spec.specs.Scopes.{Symbols, TypeScope, Scope, type_tree, term_tree, constant_tree}
-use Rattle.module_laws.specs.ListedTranslation.{parameters}
+use Rattle.module_laws.specs.ListedScopes.{parameters}
 use Rattle.module_laws.specs.ListedScopes.{told_types, told}
 use Rattle.sequent.specs.Closed.{closed_type_view, closed_term_view}
 use Rattle.translate_term.specs.declared.closed.Work.{Work}
