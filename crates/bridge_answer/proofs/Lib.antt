@@ -1,3 +1,2 @@
-pub mod Delivered
 pub mod Fronts
 pub mod Notes

@@ -4,13 +4,7 @@ use Rattle.std.specs.Prelude.{decimal}
 use Rattle.bridge_base.specs.Kinds.{kind_name, kind_number}
 use Rattle.bridge_base.specs.declared.faults.Kind.{Kind}
 use Rattle.std.proofs.lemmas.List.{append-nil}
-use Rattle.bridge_spec.specs.Texts.{five_lines, refusal_line, byte_line, declaration_line}
-
--- the pieces of the five lines
-pub counts_pieces : (exports declarations bounds : List ℕ) (x y z : ℕ) → exports ≡ decimal x → declarations ≡ decimal y → bounds ≡ decimal z
-    → codes "articles 1\nassumptions 0\nexports " ++ (exports ++ (codes "\ndeclarations " ++ (declarations ++ (codes "\nbounds " ++ (bounds ++ codes "\n")))))
-    ≡ five_lines (record { exports = x; declarations = y; bounds = z })
-counts_pieces exports declarations bounds x y z e f h = rw (e, f, h) refl
+use Rattle.bridge_spec.specs.Texts.{refusal_line, byte_line, declaration_line}
 
 -- the pieces of a refusal
 pub refusal_pieces : (first place name number : List ℕ) (article line : ℕ) (kind : Kind) → first ≡ decimal article → place ≡ decimal line → name ≡ kind_name kind → number ≡ decimal (kind_number kind)

@@ -1,18 +1,16 @@
 -- The texts of an answer.
 use Rattle.std.specs.Prelude.{ℕ, List, []}
 use Rattle.dk_read.specs.States.{fault_of}
-use Rattle.bridge_spec.specs.Texts.{Counts, five_lines, refusal_line, usage_line, read_fault_line, memory_line, dk_refusal_line, ill_typed_line, over_budget_line, not_sequent_line}
+use Rattle.bridge_spec.specs.Texts.{refusal_line, usage_line, read_fault_line, memory_line, dk_refusal_line, ill_typed_line, over_budget_line, not_sequent_line}
 use Rattle.bridge_spec.specs.declared.status.Status.{Status}
 use Rattle.bridge_spec.specs.declared.status.Status.TheVariants as status
-use Rattle.bridge_answer.specs.declared.answer.Translation.{Translation}
 use Rattle.bridge_answer.specs.declared.answer.Answer.{Answer}
-use Rattle.bridge_answer.specs.declared.answer.Answer.TheVariants.{Translated, Told, Refused, Usage, ReadFault, Memory, DkRefused, IllTyped, OverBudget, NotSequent}
+use Rattle.bridge_answer.specs.declared.answer.Answer.TheVariants.{Told, Refused, Usage, ReadFault, Memory, DkRefused, IllTyped, OverBudget, NotSequent}
 
 -- the status of an answer
 abbrev pub status_of : Answer → Status
-status_of (Translated translation) = status.Done
 status_of (Told text) = status.Done
-status_of (Refused line kind) = status.Refused 1 line kind
+status_of (Refused article line kind) = status.Refused article line kind
 status_of Usage = status.Usage
 status_of ReadFault = status.ReadFault
 status_of Memory = status.Memory
@@ -23,19 +21,13 @@ status_of (NotSequent i) = status.NotSequent i
 
 -- its text on standard output
 abbrev pub text_of : Answer → List ℕ
-text_of (Translated translation) = translation.text.items
 text_of (Told text) = text.items
 text_of _ = []
 
--- what is counted in a translation
-abbrev pub counts_in : Translation → Counts
-counts_in translation = record { exports = translation.exports; declarations = translation.declarations; bounds = translation.bounds }
-
 -- its text on standard error
 abbrev pub note_of : Answer → List ℕ
-note_of (Translated translation) = five_lines (counts_in translation)
 note_of (Told text) = []
-note_of (Refused line kind) = refusal_line 1 line kind
+note_of (Refused article line kind) = refusal_line article line kind
 note_of Usage = usage_line
 note_of ReadFault = read_fault_line
 note_of Memory = memory_line

@@ -1,4 +1,5 @@
 pub mod AnswerTexts
+pub mod Delivered
 pub mod OneDecoding
 pub mod OneDue
 pub mod Promised

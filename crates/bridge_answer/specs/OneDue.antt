@@ -28,7 +28,7 @@ one_check m i {b = b} {k = k} c d =
     (one_reply (take i m) true c.ends (subst (λ e. Ends (take i m) true (declaration_plan e) b k) is d.ends)).0
 
 -- So a declaration that passes doesn't fail.
-not-both : (m : List Declaration) (i : ℕ) {t : Tree} {n k : ℕ} {X : Type 0} → Check m i (Found t) n → Check m i No k → X
+pub not-both : (m : List Declaration) (i : ℕ) {t : Tree} {n k : ℕ} {X : Type 0} → Check m i (Found t) n → Check m i No k → X
 not-both m i c d = absurd (Found-No (one_check m i c d))
 
 -- Two numbers are equal where neither is below the other.

@@ -1,25 +1,31 @@
 -- What a call promises comes of its outputs, and of what the outside keeps. Each form has the facts on its answers that this rests on.
-use Rattle.std.proofs.Common.{◌≡◌, ◌≤◌, ◌⊎◌, inl, inr, ℕ, List, [], Option, None, Some, IsTrue, refl, sym, ap, subst, ◌∙◌}
+use Rattle.std.proofs.Common.{◌≡◌, ◌<◌, ◌≤◌, ◌⊎◌, inl, inr, ℕ, zero, suc, List, [], ◌∷◌, map, length, slice_get, Option, None, Some, IsTrue, refl, sym, ap, subst, ◌∙◌, arith}
 use Rattle.std.specs.Prelude.{is_some}
+use Rattle.std.specs.List.{AllByRecursion}
+use Rattle.std.proofs.lemmas.Option.{same_Some}
 use Rattle.std.proofs.lemmas.List.{append-nil}
 use Rattle.bridge_base.specs.Outside.{Files, Gains, file}
+use Rattle.bridge_base.specs.declared.faults.Kind.{Kind}
 use Rattle.hol_spec.specs.Proofs.{Accepted}
 use Rattle.lp_spec.specs.Modules.{Declaration}
-use Rattle.article_spec.specs.Run.{Obeys, machine, Outcome, accepted, refused_at, RunsBy}
+use Rattle.lp_spec.specs.Reading.{Reads}
+use Rattle.lp_spec.specs.Weight.{bound}
+use Rattle.lp_shape.specs.Check.{No, Check}
+use Rattle.article_spec.specs.Run.{Outcome, machine, accepted, refused_at, Run}
 use Rattle.article_laws.specs.RunLaws.{one_outcome}
 use Rattle.module_spec.specs.Image.{image}
-use Rattle.module_spec.specs.Stands.{Stands}
-use Rattle.bridge_spec.specs.FirstPath.{first_path}
-use Rattle.bridge_spec.specs.Forms.{Form, translate, check, show, decode}
-use Rattle.bridge_spec.specs.Texts.{usage_line}
+use Rattle.bridge_spec.specs.Forms.{Form, verify, translate, check, show, decode}
+use Rattle.bridge_spec.specs.Headline.{Headline}
+use Rattle.headline_laws.specs.Headlines.{each_run_carries}
+use Rattle.bridge_spec.specs.Texts.{usage_line, module_bounds, module_text}
 use Rattle.bridge_spec.specs.Calls.{Shelved, Sunk, Call}
-use Rattle.bridge_spec.specs.FileChecks.{IsAccepted, ReadsWellTyped}
-use Rattle.bridge_spec.specs.Answers.{RunsTo, FormRunsTo, HasOutcome, answer_of, IsDue, ReadFailed, FormAnswers, articles}
+use Rattle.bridge_spec.specs.FileChecks.{ReadsAs, IsAccepted, IsIllTyped, PassesWithin, ReadsWellTyped}
+use Rattle.bridge_spec.specs.Answers.{RunsTo, IsRunOf, FormRun, IsAnswerOfRun, answer_of, IsDue, ReadFailed, FormAnswers, articles}
 use Rattle.bridge_spec.specs.Outputs.{Gained, Failed, Delivers, Outputs}
-use Rattle.bridge_spec.specs.Promises.{ReadWell, Aside, KeepsOut, Promise}
+use Rattle.bridge_spec.specs.Promises.{ReadWell, Aside, KeepsOut, WritesModule, HasModule, Promise}
 use Rattle.bridge_spec.specs.declared.status.Status.{Status}
 use Rattle.bridge_spec.specs.declared.status.Status.TheVariants.{Done, Refused, Usage, ReadFault, WriteFault, Memory, DkRefused, IllTyped, OverBudget, NotSequent}
-use Rattle.bridge_answer.specs.OneDue.{accepted-due, refused-due, ill_typed-due, over_budget-due}
+use Rattle.bridge_answer.specs.OneDue as checking
 use Rattle.bridge_answer.specs.OneDecoding as decoding
 
 -- What is asked of the answers of a form, before anything is written.
@@ -82,18 +88,64 @@ no_form-answers shelf = record {
   quiet = λ answer out note h differs. no_form-quiet shelf answer out note h;
 }
 
--- Files that are told have one outcome, by whatever way of obeying.
-RunsTo-unique : (by : Obeys) (told : Option Files) (names : List (List ℕ)) (a b : Outcome) → IsTrue (is_some told) → RunsTo by told names a → RunsTo by told names b → a ≡ b
-RunsTo-unique by None names a b h p q = absurd (cc)
-RunsTo-unique by (Some files) names a b h p q =
-    let one = one_outcome by (articles files names) in
-    one.only a (subst (λ texts. RunsBy by texts a) p.read p.runs) ∙ sym (one.only b (subst (λ texts. RunsBy by texts b) q.read q.runs))
+-- Files that are told have one outcome.
+RunsTo-unique : (told : Option Files) (names : List (List ℕ)) (a b : Outcome) → IsTrue (is_some told) → RunsTo told names a → RunsTo told names b → a ≡ b
+RunsTo-unique None names a b h p q = absurd (cc)
+RunsTo-unique (Some files) names a b h p q =
+    let one = one_outcome machine (articles files names) in
+    one.only a (subst (λ texts. Run texts a) p.read p.runs) ∙ sym (one.only b (subst (λ texts. Run texts b) q.read q.runs))
+
+-- So the answer that is due is that of the outcome.
+run-due : (told : Option Files) (names : List (List ℕ)) → IsTrue (is_some told) → (outcome : Outcome) → RunsTo told names outcome → (due : Status) → IsAnswerOfRun told names due → answer_of outcome ≡ due
+run-due told names tells outcome r due d = ap answer_of (RunsTo-unique told names outcome d.outcome tells r d.runs) ∙ sym d.is
+
+accepted-due : (told : Option Files) (names : List (List ℕ)) → IsTrue (is_some told) → (run : Accepted) → IsRunOf told names run → (due : Status) → IsAnswerOfRun told names due → Done ≡ due
+accepted-due told names tells run r = run-due told names tells (accepted run) (record { texts = r.texts; read = r.read; runs = r.runs })
+
+refused_run-due : (told : Option Files) (names : List (List ℕ)) → IsTrue (is_some told) → (article line : ℕ) (kind : Kind) → RunsTo told names (refused_at article line kind) → (due : Status) → IsAnswerOfRun told names due
+    → Refused article line kind ≡ due
+refused_run-due told names tells article line kind r = run-due told names tells (refused_at article line kind) r
+
+-- `verify`: the answer of the one outcome.
+verify-exact : (names : List (List ℕ)) (shelf : Shelved) → ReadWell shelf → (answer due : Status) (out note : List ℕ) → FormAnswers (Some (verify names)) shelf answer out note
+    → IsDue (Some (verify names)) shelf.told_before due → Aside answer (answer ≡ due)
+verify-exact names shelf well Done due out note h d = accepted-due shelf.told_before names well.tells h.0 h.1 due d
+verify-exact names shelf well (Refused article line kind) due out note h d = refused_run-due shelf.told_before names well.tells article line kind h.0 due d
+verify-exact names shelf well Usage due out note h d = absurd h
+verify-exact names shelf well ReadFault due out note h d = absurd (well.no_fault h.0)
+verify-exact names shelf well WriteFault due out note h d = tt
+verify-exact names shelf well Memory due out note h d = tt
+verify-exact names shelf well (DkRefused place kind) due out note h d = absurd h
+verify-exact names shelf well (IllTyped i) due out note h d = absurd h
+verify-exact names shelf well (OverBudget i) due out note h d = absurd h
+verify-exact names shelf well (NotSequent i) due out note h d = absurd h
+
+verify-quiet : (names : List (List ℕ)) (shelf : Shelved) (answer : Status) (out note : List ℕ) → FormAnswers (Some (verify names)) shelf answer out note → (answer ≡ Done → ⊥) → out ≡ []
+verify-quiet names shelf Done out note h differs = absurd (differs refl)
+verify-quiet names shelf (Refused article line kind) out note h differs = h.1.0
+verify-quiet names shelf Usage out note h differs = absurd h
+verify-quiet names shelf ReadFault out note h differs = h.1.0
+verify-quiet names shelf WriteFault out note h differs = absurd h
+verify-quiet names shelf Memory out note h differs = h.0
+verify-quiet names shelf (DkRefused place kind) out note h differs = absurd h
+verify-quiet names shelf (IllTyped i) out note h differs = absurd h
+verify-quiet names shelf (OverBudget i) out note h differs = absurd h
+verify-quiet names shelf (NotSequent i) out note h differs = absurd h
+
+verify-answers : (names : List (List ℕ)) (shelf : Shelved) → AreAnswers (Some (verify names)) shelf
+verify-answers names shelf = record {
+  exact = verify-exact names shelf;
+  usage = λ out note h. absurd h;
+  read_fault = λ out note h. h.0;
+  write_fault = λ out note h. h;
+  quiet = verify-quiet names shelf;
+}
 
 -- `translate`: the answer of the one outcome.
 translate-exact : (names : List (List ℕ)) (shelf : Shelved) → ReadWell shelf → (answer due : Status) (out note : List ℕ) → FormAnswers (Some (translate names)) shelf answer out note
     → IsDue (Some (translate names)) shelf.told_before due → Aside answer (answer ≡ due)
-translate-exact names shelf well Done due out note h d = ap answer_of (RunsTo-unique first_path shelf.told_before names (accepted h.0) d.outcome well.tells h.1 d.runs) ∙ sym d.is
-translate-exact names shelf well (Refused article line kind) due out note h d = ap answer_of (RunsTo-unique first_path shelf.told_before names (refused_at article line kind) d.outcome well.tells h.0 d.runs) ∙ sym d.is
+translate-exact names shelf well Done due out note h d = accepted-due shelf.told_before names well.tells h.0 h.1 due d
+translate-exact names shelf well (Refused article line kind) due out note h d = refused_run-due shelf.told_before names well.tells article line kind h.0 due d
 translate-exact names shelf well Usage due out note h d = absurd h
 translate-exact names shelf well ReadFault due out note h d = absurd (well.no_fault h.0)
 translate-exact names shelf well WriteFault due out note h d = tt
@@ -127,15 +179,15 @@ translate-answers names shelf = record {
 -- `check`: a file that is told has at most one answer that is due, and one of another cause is not due.
 check-exact : (name : List ℕ) (budget : ℕ) (shelf : Shelved) → ReadWell shelf → (answer due : Status) (out note : List ℕ) → FormAnswers (Some (check name budget)) shelf answer out note
     → IsDue (Some (check name budget)) shelf.told_before due → Aside answer (answer ≡ due)
-check-exact name budget shelf well Done due out note h d = accepted-due shelf.told_before name budget well.tells h.0 h.1 due d
+check-exact name budget shelf well Done due out note h d = checking.accepted-due shelf.told_before name budget well.tells h.0 h.1 due d
 check-exact name budget shelf well (Refused article line kind) due out note h d = absurd h
 check-exact name budget shelf well Usage due out note h d = absurd h
 check-exact name budget shelf well ReadFault due out note h d = absurd (well.no_fault h.0)
 check-exact name budget shelf well WriteFault due out note h d = tt
 check-exact name budget shelf well Memory due out note h d = tt
-check-exact name budget shelf well (DkRefused place kind) due out note h d = refused-due shelf.told_before name budget well.tells place kind h.0 due d
-check-exact name budget shelf well (IllTyped i) due out note h d = ill_typed-due shelf.told_before name budget well.tells i h.0 due d
-check-exact name budget shelf well (OverBudget i) due out note h d = absurd (over_budget-due shelf.told_before name budget well.tells i h.0 due d)
+check-exact name budget shelf well (DkRefused place kind) due out note h d = checking.refused-due shelf.told_before name budget well.tells place kind h.0 due d
+check-exact name budget shelf well (IllTyped i) due out note h d = checking.ill_typed-due shelf.told_before name budget well.tells i h.0 due d
+check-exact name budget shelf well (OverBudget i) due out note h d = absurd (checking.over_budget-due shelf.told_before name budget well.tells i h.0 due d)
 check-exact name budget shelf well (NotSequent i) due out note h d = absurd h
 
 check-quiet : (name : List ℕ) (budget : ℕ) (shelf : Shelved) (answer : Status) (out note : List ℕ) → FormAnswers (Some (check name budget)) shelf answer out note → (answer ≡ Done → ⊥) → out ≡ []
@@ -162,8 +214,8 @@ check-answers name budget shelf = record {
 -- `show`: the answer of the one outcome.
 show-exact : (names : List (List ℕ)) (shelf : Shelved) → ReadWell shelf → (answer due : Status) (out note : List ℕ) → FormAnswers (Some (show names)) shelf answer out note
     → IsDue (Some (show names)) shelf.told_before due → Aside answer (answer ≡ due)
-show-exact names shelf well Done due out note h d = ap answer_of (RunsTo-unique machine shelf.told_before names (accepted h.0) d.outcome well.tells h.1 d.runs) ∙ sym d.is
-show-exact names shelf well (Refused article line kind) due out note h d = ap answer_of (RunsTo-unique machine shelf.told_before names (refused_at article line kind) d.outcome well.tells h.0 d.runs) ∙ sym d.is
+show-exact names shelf well Done due out note h d = accepted-due shelf.told_before names well.tells h.0 h.1 due d
+show-exact names shelf well (Refused article line kind) due out note h d = refused_run-due shelf.told_before names well.tells article line kind h.0 due d
 show-exact names shelf well Usage due out note h d = absurd h
 show-exact names shelf well ReadFault due out note h d = absurd (well.no_fault h.0)
 show-exact names shelf well WriteFault due out note h d = tt
@@ -232,6 +284,7 @@ decode-answers name shelf = record {
 -- the answers of every form
 each-answers : (form : Option Form) (shelf : Shelved) → AreAnswers form shelf
 each-answers None shelf = no_form-answers shelf
+each-answers (Some (verify names)) shelf = verify-answers names shelf
 each-answers (Some (translate names)) shelf = translate-answers names shelf
 each-answers (Some (check name budget)) shelf = check-answers name budget shelf
 each-answers (Some (show names)) shelf = show-answers names shelf
@@ -303,13 +356,94 @@ outputs-KeepsOut call result h = by_cases result h
     by_cases (OverBudget i) h = same (OverBudget i) h (λ e. cc) (λ e. cc)
     by_cases (NotSequent i) h = same (NotSequent i) h (λ e. cc) (λ e. cc)
 
--- All that a call promises comes of its outputs, of what the outside keeps, and of what the module of an accepted run stands for.
-pub outputs-Promise : (call : Call) (result : Status) → ((run : Accepted) → HasOutcome call (accepted run) → Stands (image run) run) → Outputs call result → call.shelf.told ≡ call.shelf.told_before
+-- THE HEADLINE, for the run that a form asks for
+run-headline : (told : Option Files) (names : List (List ℕ)) (run : Accepted) → IsRunOf told names run → Headline run
+run-headline told names run r = each_run_carries r.texts run r.bytes r.runs
+
+form-headline : (form : Option Form) (told : Option Files) (run : Accepted) → FormRun form told run → Headline run
+form-headline None told run h = absurd h
+form-headline (Some (verify names)) told run h = run-headline told names run h
+form-headline (Some (translate names)) told run h = run-headline told names run h
+form-headline (Some (check name budget)) told run h = absurd h
+form-headline (Some (show names)) told run h = run-headline told names run h
+form-headline (Some (decode name)) told run h = absurd h
+
+-- The text of a run's module reads as one well-typed module.
+text-ReadsWellTyped : (run : Accepted) → Headline run → ReadsWellTyped (module_text run)
+text-ReadsWellTyped run h = record { m = image run; reads = h.reads; only = h.only; typed = h.stands.typed }
+
+-- what is written at Done by a form that writes the module of its run
+module-written : (form : Option Form) (shelf : Shelved) (out note : List ℕ) → WritesModule form → FormAnswers form shelf Done out note → ReadsWellTyped out
+module-written None shelf out note w h = absurd w
+module-written (Some (verify names)) shelf out note w h = subst ReadsWellTyped (sym h.2) (text-ReadsWellTyped h.0 (run-headline shelf.told_before names h.0 h.1))
+module-written (Some (translate names)) shelf out note w h = subst ReadsWellTyped (sym h.2) (text-ReadsWellTyped h.0 (run-headline shelf.told_before names h.0 h.1))
+module-written (Some (check name budget)) shelf out note w h = absurd w
+module-written (Some (show names)) shelf out note w h = absurd w
+module-written (Some (decode name)) shelf out note w h = absurd w
+
+delivered-Gained : (answer : Status) (out_text note_text : List ℕ) (out note : Sunk) (result : Status) → Delivers answer out_text note_text out note result
+    → (result ≡ WriteFault → ⊥) → Gained out out_text
+delivered-Gained answer out_text note_text out note result d differs = elim d [
+  | inl f ↦ f.1
+  | inr f ↦ absurd (differs f.0)
+]
+
+-- A FILE WITH THE MODULE OF A RUN
+module-ReadsAs : (told : Option Files) (name : List ℕ) → (file : HasModule told name) → ReadsAs told name (image file.run)
+module-ReadsAs told name file =
+    let h = each_run_carries file.texts file.run file.bytes file.runs in
+    record { text = module_text file.run; read = file.read; within = file.within; reads = h.reads; only = h.only }
+
+-- each declaration passes within a budget of at least each bound
+bound-within : (m : List Declaration) (bounds : Declaration → ℕ) (budget i : ℕ) (d : Declaration) → slice_get m i ≡ Some d → AllByRecursion (λ bound. bound ≤ budget) (map bounds m) → bounds d ≤ budget
+bound-within [] bounds budget i d e h = absurd (cc)
+bound-within (x ∷ m) bounds budget zero d e h = subst (λ y. bounds y ≤ budget) (same_Some x d e) h.0
+bound-within (x ∷ m) bounds budget (suc i) d e h = bound-within m bounds budget i d e h.1
+
+-- a declaration of each number that there is
+pub declaration-at : (m : List Declaration) (i : ℕ) → i < length m → (d : Declaration) × (slice_get m i ≡ Some d)
+declaration-at [] i l = absurd (omega (arith, l))
+declaration-at (x ∷ m) zero l = (x, refl)
+declaration-at (x ∷ m) (suc i) l = declaration-at m i (omega (arith, l))
+
+module-PassesWithin : (told : Option Files) (name : List ℕ) (budget : ℕ) → (file : HasModule told name) → AllByRecursion (λ bound. bound ≤ budget) (module_bounds file.run) → PassesWithin told name budget
+module-PassesWithin told name budget file h = record {
+  m = image file.run;
+  file = module-ReadsAs told name file;
+  pass = λ k l.
+      let d = declaration-at (image file.run) k l in
+      let e = (each_run_carries file.texts file.run file.bytes file.runs).within k d.0 d.1 in
+      let low = bound-within (image file.run) (bound (image file.run)) budget k d.0 d.1 h in
+      (d.0.ty, record { price = e.price; by = e.by; within = let short = e.within in omega (arith, short, low) });
+}
+
+-- no check of it says no
+module-passes : (told : Option Files) (name : List ℕ) (i : ℕ) → IsTrue (is_some told) → HasModule told name → IsIllTyped told name i → ⊥
+module-passes None name i tells file ill = absurd (cc)
+module-passes (Some files) name i tells file ill =
+    let h = each_run_carries file.texts file.run file.bytes file.runs in
+    let same : ill.m ≡ image file.run = h.only ill.m (subst (λ text. Reads text ill.m) (ill.file.read ∙ sym file.read) ill.file.reads) in
+    let no : Check (image file.run) i No ill.price = subst (λ m. Check m i No ill.price) same ill.no in
+    let e = h.within i no.declaration no.at in
+    checking.not-both (image file.run) i e.by no
+
+-- All that a call promises comes of its outputs and of what the outside keeps.
+pub outputs-Promise : (call : Call) (result : Status) → Outputs call result → call.shelf.told ≡ call.shelf.told_before
     → call.shelf.faults_before ≤ call.shelf.faults → call.out.faults_before ≤ call.out.faults → call.note.faults_before ≤ call.note.faults → Promise call result
-outputs-Promise call result stands h told shelf_count out_count note_count = record {
+outputs-Promise call result h told shelf_count out_count note_count = record {
   outputs = h;
-  exact = λ well due d. delivered-Aside (λ status. status ≡ due) h.answer h.out_text h.note_text call.out call.note result h.delivered (facts.exact well h.answer due h.out_text h.note_text h.answers d);
-  stands = stands;
+  exact = exact;
+  headline = λ run has. form-headline call.form call.shelf.told_before run has;
+  written = λ writes done. record {
+    text = h.out_text;
+    gained = delivered-Gained h.answer h.out_text h.note_text call.out call.note result h.delivered (λ f. differ done f);
+    typed = module-written call.form call.shelf h.out_text h.note_text writes (subst (λ status. FormAnswers call.form call.shelf status h.out_text h.note_text) (is done (λ f. cc)) h.answers);
+  };
+  passes = λ well name budget form file bounds.
+      exact well Done (subst (λ f. IsDue f call.shelf.told_before Done) (sym form) (module-PassesWithin call.shelf.told_before name budget file bounds));
+  never_ill_typed = λ well name budget i form file ill.
+      module-passes call.shelf.told_before name i well.tells file
+      (subst (λ f. FormAnswers f call.shelf (IllTyped i) h.out_text h.note_text) form (subst (λ status. FormAnswers call.form call.shelf status h.out_text h.note_text) (is ill (λ f. cc)) h.answers)).0;
   checked = λ name budget files form told_files done. of_check name budget files form told_files (subst (λ status. FormAnswers call.form call.shelf status h.out_text h.note_text) (is done (λ f. cc)) h.answers);
   usage = λ e. delivered-Aside (λ status. status ≡ Usage) h.answer h.out_text h.note_text call.out call.note result h.delivered
       (aside h.answer (h.answer ≡ Usage) (no_form-usage call.shelf h.answer h.out_text h.note_text (subst (λ form. FormAnswers form call.shelf h.answer h.out_text h.note_text) e h.answers)));
@@ -330,6 +464,12 @@ outputs-Promise call result stands h told shelf_count out_count note_count = rec
     is : {status : Status} → result ≡ status → (status ≡ WriteFault → ⊥) → h.answer ≡ status
     is e differs = delivered-answer h.answer h.out_text h.note_text call.out call.note result h.delivered (λ f. differs (sym e ∙ f)) ∙ e
 
+    differ : result ≡ Done → result ≡ WriteFault → ⊥
+    differ e f = let g : Done ≡ WriteFault = sym e ∙ f in absurd (cc)
+
+    exact : ReadWell call.shelf → (status : Status) → IsDue call.form call.shelf.told_before status → Aside result (result ≡ status)
+    exact well due d = delivered-Aside (λ status. status ≡ due) h.answer h.out_text h.note_text call.out call.note result h.delivered (facts.exact well h.answer due h.out_text h.note_text h.answers d)
+
     of_check : (name : List ℕ) (budget : ℕ) (files : Files) → call.form ≡ Some (check name budget) → call.shelf.told_before ≡ Some files
         → FormAnswers call.form call.shelf Done h.out_text h.note_text → ReadsWellTyped (file files name)
     of_check name budget files form told_files a =
@@ -340,28 +480,10 @@ outputs-Promise call result stands h told shelf_count out_count note_count = rec
 pub usage-Promise : (call : Call) (result : Status) → call.form ≡ None → Delivers Usage [] usage_line call.out call.note result → call.shelf.told ≡ call.shelf.told_before
     → call.shelf.faults_before ≤ call.shelf.faults → call.out.faults_before ≤ call.out.faults → call.note.faults_before ≤ call.note.faults → Promise call result
 usage-Promise call result none d =
-    outputs-Promise call result (λ run has. absurd (subst (λ form. FormRunsTo form call.shelf.told_before (accepted run)) none has)) (record {
+    outputs-Promise call result (record {
       answer = Usage;
       out_text = [];
       note_text = usage_line;
       answers = subst (λ form. FormAnswers form call.shelf Usage [] usage_line) (sym none) (refl, refl);
       delivered = d;
     })
-
--- What a check answers by its cause, delivered.
-pub check-Promise : (call : Call) (result : Status) (name : List ℕ) (budget : ℕ) → call.form ≡ Some (check name budget) → Outputs call result → call.shelf.told ≡ call.shelf.told_before
-    → call.shelf.faults_before ≤ call.shelf.faults → call.out.faults_before ≤ call.out.faults → call.note.faults_before ≤ call.note.faults → Promise call result
-check-Promise call result name budget form h =
-    outputs-Promise call result (λ run has. absurd (subst (λ f. FormRunsTo f call.shelf.told_before (accepted run)) form has)) h
-
--- What a show answers by its cause, delivered.
-pub show-Promise : (call : Call) (result : Status) (names : List (List ℕ)) → call.form ≡ Some (show names) → Outputs call result → call.shelf.told ≡ call.shelf.told_before
-    → call.shelf.faults_before ≤ call.shelf.faults → call.out.faults_before ≤ call.out.faults → call.note.faults_before ≤ call.note.faults → Promise call result
-show-Promise call result names form h =
-    outputs-Promise call result (λ run has. absurd (subst (λ f. FormRunsTo f call.shelf.told_before (accepted run)) form has)) h
-
--- What a decoding answers by its cause, delivered.
-pub decode-Promise : (call : Call) (result : Status) (name : List ℕ) → call.form ≡ Some (decode name) → Outputs call result → call.shelf.told ≡ call.shelf.told_before
-    → call.shelf.faults_before ≤ call.shelf.faults → call.out.faults_before ≤ call.out.faults → call.note.faults_before ≤ call.note.faults → Promise call result
-decode-Promise call result name form h =
-    outputs-Promise call result (λ run has. absurd (subst (λ f. FormRunsTo f call.shelf.told_before (accepted run)) form has)) h

@@ -6,27 +6,13 @@ use bridge_base::Kind;
 use bridge_spec::Status;
 use dk_read::DkKind;
 
-/// The module of an accepted run, and what is counted of it.
-#[derive(Drop)]
-pub struct Translation {
-    /// The text of the module.
-    pub text: Vec<u8>,
-    /// How many exports the run has.
-    pub exports: u64,
-    /// How many declarations follow the prelude.
-    pub declarations: u64,
-    /// The sum of all bounds, or the greatest number.
-    pub bounds: u128,
-}
-
 /// What is to be answered, before anything is written.
 #[derive(Drop)]
 pub enum Answer {
-    Translated(Translation),
     /// A text for standard output, and nothing to say beside it.
     Told(Vec<u8>),
-    /// The first article is refused at this line.
-    Refused(u64, Kind),
+    /// This article is refused at this line.
+    Refused(u64, u64, Kind),
     Usage,
     ReadFault,
     Memory,
@@ -46,9 +32,9 @@ impl Answer {
         ensures { result ≡ status_of self }
     {
         match self {
-            Answer::Translated(_) | Answer::Told(_) => Status::Done,
-            Answer::Refused(line, kind) => Status::Refused {
-                article: 1,
+            Answer::Told(_) => Status::Done,
+            Answer::Refused(article, line, kind) => Status::Refused {
+                article,
                 line,
                 kind,
             },
@@ -67,7 +53,6 @@ impl Answer {
         ensures { result.now ≡ text_of self.now }
     {
         match self {
-            Answer::Translated(translation) => &translation.text,
             Answer::Told(text) => text,
             _ => &[],
         }

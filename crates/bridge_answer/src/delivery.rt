@@ -8,7 +8,7 @@ ghost use Rattle.bridge_spec.specs.Outputs.{Delivers};
 ghost use Rattle.bridge_spec.specs.Texts.{byte_line, dk_refusal_line, fault_name, fault_blank, fault_identifier, declaration_line};
 ghost use Rattle.bridge_answer.specs.AnswerTexts.{status_of, text_of, note_of};
 
-use crate::answer::{Answer, Translation};
+use crate::answer::Answer;
 use bridge_base::{Failed, Kind, Sink, write_all};
 use bridge_spec::Status;
 use dk_read::DkKind;
@@ -70,9 +70,8 @@ fn write_note<N: Sink>(note: &mut N, answer: &Answer) -> Result<(), Failed>
     ensures cause { HasCause (N.faults note.old) (N.faults note.new) result }
 {
     match answer {
-        Answer::Translated(translation) => write_counts(note, translation),
         Answer::Told(_) => write_all(note, b""),
-        Answer::Refused(line, kind) => write_refusal(note, *line, *kind),
+        Answer::Refused(article, line, kind) => write_refusal(note, *article, *line, *kind),
         Answer::Usage => write_all(note, USAGE),
         Answer::ReadFault => write_all(note, b"read fault\n"),
         Answer::Memory => write_all(note, b"out of memory\n"),
@@ -83,41 +82,19 @@ fn write_note<N: Sink>(note: &mut N, answer: &Answer) -> Result<(), Failed>
     }
 }
 
-fn write_counts<N: Sink>(note: &mut N, translation: &Translation) -> Result<(), Failed>
-    ensures ok { OnOk result (Gains (N.got note.old) (note_of (Answer.Translated translation.now)) (N.got note.new)) }
-    ensures err { OnErr result (GainsFront (N.got note.old) (note_of (Answer.Translated translation.now)) (N.got note.new)) }
+fn write_refusal<N: Sink>(note: &mut N, article: u64, line: u64, kind: Kind) -> Result<(), Failed>
+    ensures ok { OnOk result (Gains (N.got note.old) (note_of (Answer.Refused article line kind)) (N.got note.new)) }
+    ensures err { OnErr result (GainsFront (N.got note.old) (note_of (Answer.Refused article line kind)) (N.got note.new)) }
     ensures cause { HasCause (N.faults note.old) (N.faults note.new) result }
 {
-    let mut exports = Buffer::new();
-    let mut declarations = Buffer::new();
-    let mut bounds = Buffer::new();
-    write_parts(
-        note,
-        &[
-            b"articles 1\nassumptions 0\nexports ",
-            exports.format(translation.exports).as_bytes(),
-            b"\ndeclarations ",
-            declarations.format(translation.declarations).as_bytes(),
-            b"\nbounds ",
-            bounds.format(translation.bounds).as_bytes(),
-            b"\n",
-        ],
-    )
-}
-
-fn write_refusal<N: Sink>(note: &mut N, line: u64, kind: Kind) -> Result<(), Failed>
-    ensures ok { OnOk result (Gains (N.got note.old) (note_of (Answer.Refused line kind)) (N.got note.new)) }
-    ensures err { OnErr result (GainsFront (N.got note.old) (note_of (Answer.Refused line kind)) (N.got note.new)) }
-    ensures cause { HasCause (N.faults note.old) (N.faults note.new) result }
-{
-    let mut article = Buffer::new();
+    let mut which = Buffer::new();
     let mut place = Buffer::new();
     let mut number = Buffer::new();
     write_parts(
         note,
         &[
             b"article ",
-            article.format(1u64).as_bytes(),
+            which.format(article).as_bytes(),
             b" line ",
             place.format(line).as_bytes(),
             b": ",
@@ -215,7 +192,7 @@ fn write_declaration<N: Sink>(note: &mut N, i: u64, said: &[u8]) -> Result<(), F
 }
 
 /// Writes pieces one after another.
-fn write_parts<S: Sink>(sink: &mut S, parts: &[&[u8]]) -> Result<(), Failed>
+pub fn write_parts<S: Sink>(sink: &mut S, parts: &[&[u8]]) -> Result<(), Failed>
     ensures ok { OnOk result (Gains (S.got sink.old) (flat_map (λ part. part.now) parts.now) (S.got sink.new)) }
     ensures err { OnErr result (GainsFront (S.got sink.old) (flat_map (λ part. part.now) parts.now) (S.got sink.new)) }
     ensures cause { HasCause (S.faults sink.old) (S.faults sink.new) result }

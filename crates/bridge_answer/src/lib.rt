@@ -15,5 +15,5 @@
 mod answer;
 mod delivery;
 
-pub use crate::answer::{Answer, Translation};
-pub use crate::delivery::deliver;
+pub use crate::answer::Answer;
+pub use crate::delivery::{deliver, write_parts};

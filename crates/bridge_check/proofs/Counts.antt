@@ -1,7 +1,6 @@
 -- How many declarations have no body.
-use Rattle.std.proofs.Common.{◌≡◌, ◌+◌, ◌<◌, ℕ, List, length, map, take, Option, None, Some, Bool, true, false, refl, sym, ap, ◌∙◌}
+use Rattle.std.proofs.Common.{◌≡◌, ◌+◌, ℕ, take, Option, None, Some, Bool, true, false, refl, ap, ◌∙◌}
 use Rattle.std.specs.Prelude.{slice_get, count_by, is_some, is_none, not, option_map}
-use Rattle.std.proofs.lemmas.List.{length-map}
 use Rattle.std.proofs.lemmas.List.Sums.{count_by_more_yes, count_by_more_no}
 use Rattle.std.proofs.lemmas.Option.{slice_get_within, slice_get-map, get_or_from_slice_get}
 use Rattle.lp_spec.specs.Modules.{Declaration}

@@ -1,5 +1,5 @@
 -- What the verdict on a module says under one budget for each declaration.
-use Rattle.std.specs.Prelude.{◌≡◌, ℕ, ◌<◌, List, length}
+use Rattle.std.specs.Prelude.{ℕ, ◌<◌, List, length}
 use Rattle.lp_spec.specs.Modules.{Declaration}
 use Rattle.lp_spec.specs.Typing.{WellTyped}
 use Rattle.lp_shape.specs.Check.{Reply, No, Check}

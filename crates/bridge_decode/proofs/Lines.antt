@@ -8,14 +8,13 @@ use Rattle.hol_spec.specs.ClosedForm.{ClosedSequent}
 use Rattle.lp_spec.specs.Trees.{Tree}
 use Rattle.lp_spec.specs.Modules.{Declaration}
 use Rattle.module_spec.specs.Enc.{Enc}
-use Rattle.module_spec.specs.Stands.{is_export_name}
 use Rattle.decode_spec.specs.ClosedText.{closed_text}
 use Rattle.holide_sig.specs.declared.decls.Decl.{Decl}
 use Rattle.holide_sig.specs.declared.module.Module.{Module}
 use Rattle.holide_sig.specs.Modules.{declaration_in, declarations_of}
 use Rattle.sequent.specs.declared.closed.Closed.{Closed}
 use Rattle.sequent.specs.Closed.{closed_view}
-use Rattle.bridge_spec.specs.FileExports.{exports_of, AreDecoded, SaysNothing, SayBefore}
+use Rattle.bridge_spec.specs.FileExports.{exports_of, AreDecoded, SayBefore}
 use Rattle.bridge_spec.specs.Texts.{export_line, export_lines}
 use Rattle.bridge_decode.specs.Saying.{HasLines, AddsLine, IsOneSaid}
 

@@ -9,7 +9,8 @@ use bridge_check::check;
 use bridge_decode::decode;
 use bridge_show::show;
 use bridge_spec::Status;
-use first_path::translate;
+use bridge_translate::translate;
+use bridge_verify::verify;
 use std::alloc::Global;
 
 /// All that the program does, for the words of its command line, of which the first is its name.
@@ -27,6 +28,7 @@ pub fn bridge<H: Shelf, O: Sink, N: Sink>(
     ensures { Promise (call (form_in words.now) (shelved H.told H.faults shelf.old shelf.new) (sunk O.got O.faults out.old out.new) (sunk N.got N.faults note.old note.new)) result }
 {
     match form_of(words) {
+        Some(Form::Verify(files)) => verify(alloc, files, shelf, out, note),
         Some(Form::Translate(files)) => translate(alloc, files, shelf, out, note),
         Some(Form::Check(file, budget)) => check(alloc, file, budget, shelf, out, note),
         Some(Form::Show(files)) => show(alloc, files, shelf, out, note),

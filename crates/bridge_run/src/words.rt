@@ -1,19 +1,22 @@
 //! The words of a command line.
-ghost use Rattle.std.specs.Prelude.{◌≡◌, min};
+ghost use Rattle.std.specs.Prelude.{◌≡◌, min, string_bytes};
+ghost use Rattle.std.specs.List.{list_all};
 ghost use Rattle.std.specs.Option.{option_map};
 ghost use Rattle.article_spec.specs.Numbers.{digits_value};
 ghost use Rattle.bridge_spec.specs.Forms as forms;
 ghost use Rattle.bridge_spec.specs.Calls.{form_in, names_in};
-ghost use Rattle.bridge_run.specs.Asked.{asked, HasOneFile};
+ghost use Rattle.bridge_run.specs.Asked.{asked};
 
 /// What the words ask for.
 #[derive(Clone, Copy)]
 pub enum Form<'a> {
-    /// The module of the article in the one file.
+    /// The module of the run of the articles in these files, checked before it is written.
+    Verify(&'a [String]),
+    /// The module of the run of the articles in these files.
     Translate(&'a [String]),
     /// A check of the module in the file, with this budget for each declaration.
     Check(&'a str, u64),
-    /// What the article in the one file assumes and exports.
+    /// What the articles in these files assume and export.
     Show(&'a [String]),
     /// What the exports of the module in the file say.
     Decode(&'a str),
@@ -27,11 +30,11 @@ const ABOVE: u128 = 18446744073709551616;
 
 /// The form of the words, of which the first is the program's name.
 pub fn form_of(words: &[String]) -> Option<Form<'_>>
-    ensures form { option_map asked result ≡ form_in words.now }
-    ensures one { HasOneFile result }
+    ensures { option_map asked result ≡ form_in words.now }
 {
     match words {
         [_, word, rest @ ..] => match word.as_str() {
+            "verify" => verify_form(rest),
             "translate" => translate_form(rest),
             "check" => check_form(rest),
             "show" => show_form(rest),
@@ -42,44 +45,56 @@ pub fn form_of(words: &[String]) -> Option<Form<'_>>
     }
 }
 
+/// The form of the words after `verify`.
+fn verify_form(words: &[String]) -> Option<Form<'_>>
+    ensures { option_map asked result ≡ forms.files_form forms.verify (names_in words.now) }
+{
+    if are_files(words) {
+        Some(Form::Verify(words))
+    } else {
+        None
+    }
+}
+
 /// The form of the words after `translate`.
 fn translate_form(words: &[String]) -> Option<Form<'_>>
-    ensures form { option_map asked result ≡ forms.translate_form (names_in words.now) }
-    ensures one { HasOneFile result }
+    ensures { option_map asked result ≡ forms.files_form forms.translate (names_in words.now) }
 {
-    match words {
-        [file] => {
-            if is_file(file.as_str()) {
-                Some(Form::Translate(words))
-            } else {
-                None
-            }
-        }
-        _ => None,
+    if are_files(words) {
+        Some(Form::Translate(words))
+    } else {
+        None
     }
 }
 
 /// The form of the words after `show`.
 fn show_form(words: &[String]) -> Option<Form<'_>>
-    ensures form { option_map asked result ≡ forms.show_form (names_in words.now) }
-    ensures one { HasOneFile result }
+    ensures { option_map asked result ≡ forms.files_form forms.show (names_in words.now) }
 {
-    match words {
-        [file] => {
-            if is_file(file.as_str()) {
-                Some(Form::Show(words))
-            } else {
-                None
-            }
-        }
-        _ => None,
+    if are_files(words) {
+        Some(Form::Show(words))
+    } else {
+        None
     }
+}
+
+/// Whether words name one or more files.
+fn are_files(words: &[String]) -> bool
+    ensures { result ≡ forms.are_files (names_in words.now) }
+{
+    !words.is_empty() && is_each_a_file(words)
+}
+
+/// Whether each of some words names a file.
+fn is_each_a_file(words: &[String]) -> bool
+    ensures { result ≡ list_all (λ word. forms.is_file (string_bytes word)) words.now }
+{
+    words.iter().all(|word| is_file(word.as_str()))
 }
 
 /// The form of the words after `decode`.
 fn decode_form(words: &[String]) -> Option<Form<'_>>
-    ensures form { option_map asked result ≡ forms.decode_form (names_in words.now) }
-    ensures one { HasOneFile result }
+    ensures { option_map asked result ≡ forms.decode_form (names_in words.now) }
 {
     match words {
         [file] => {
@@ -95,8 +110,7 @@ fn decode_form(words: &[String]) -> Option<Form<'_>>
 
 /// The form of the words after `check`: a file, and at most one budget, before it or behind it.
 fn check_form(words: &[String]) -> Option<Form<'_>>
-    ensures form { option_map asked result ≡ forms.check_form (names_in words.now) }
-    ensures one { HasOneFile result }
+    ensures { option_map asked result ≡ forms.check_form (names_in words.now) }
 {
     match words {
         [] => None,
@@ -121,8 +135,7 @@ fn check_form(words: &[String]) -> Option<Form<'_>>
 
 /// The check of a file with a budget, where they are both there.
 fn check_with(file: &str, budget: Option<u64>) -> Option<Form<'_>>
-    ensures form { option_map asked result ≡ forms.check_with file.now budget }
-    ensures one { HasOneFile result }
+    ensures { option_map asked result ≡ forms.check_with file.now budget }
 {
     match budget {
         Some(budget) => {

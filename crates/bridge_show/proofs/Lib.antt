@@ -1,4 +1,1 @@
-pub mod OneName
-pub mod Outcomes
-pub mod Readings
 pub mod Shown

@@ -3,19 +3,10 @@ use Rattle.std.proofs.Common.{◌≡◌, ℕ, zero, suc, ◌+◌, ◌<◌, List,
 use Rattle.std.specs.Prelude.{codes, decimal}
 use Rattle.std.specs.List.{AllByRecursion}
 use Rattle.std.proofs.lemmas.List.{drop_more}
-use Rattle.bridge_base.specs.Outside.{Files}
 use Rattle.hol_spec.specs.ClosedForm.{ClosedSequent, closed_form}
 use Rattle.hol_spec.specs.Proofs.{Made, sequent_at}
-use Rattle.article_spec.specs.Run.{machine, Outcome, Run}
 use Rattle.decode_spec.specs.ClosedText.{closed_text}
-use Rattle.bridge_spec.specs.Answers.{RunsTo}
 use Rattle.bridge_spec.specs.Texts.{theorem_line, theorem_lines}
-use Rattle.bridge_show.specs.Halts.{OfText, bytes_told}
-
--- The run of one file is that of the files asked for, where these are it.
-pub of_text-RunsTo : (told : Option Files) (name : List ℕ) (o : Outcome) → OfText (bytes_told told name) (λ text. Run (text ∷ []) o) → RunsTo machine told (name ∷ []) o
-of_text-RunsTo None name o h = record { texts = h.text ∷ []; read = refl; runs = h.holds }
-of_text-RunsTo (Some files) name o h = record { texts = h.text ∷ []; read = ap (λ text. text ∷ []) h.is; runs = h.holds }
 
 -- what holds of each holds of one
 pub all-at : (P : ℕ → Type 0) (xs : List ℕ) (i d : ℕ) → AllByRecursion P xs → i < length xs → P (get_or xs i d)

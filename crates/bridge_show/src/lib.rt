@@ -1,11 +1,11 @@
-//! The part of the program for the words `show FILE`: what an article assumes and what it exports, as closed sequents.
+//! The part of the program for the words `show FILE..`: what articles assume and what they export, as closed sequents.
 //!
 //! [`show`] is its one public call. Its contract is that of the program for these words, in the words of `bridge_spec`: it
-//! answers Done exactly where the stack machine accepts the article, and then each line has the closed text of what that
-//! step of the run says.
+//! answers Done exactly where the stack machine accepts the articles, one after another, and then each line has the closed
+//! text of what that step of the run says.
 //!
-//! It stands on `article_read` for the commands of an article, on `stack_machine` for the run, on `closed_text` for the
-//! lines, and on `bridge_answer` for what is written.
+//! It stands on `bridge_reading` for the run of the articles, on `closed_text` for the lines, and on `bridge_answer` for what
+//! is written.
 //!
 //! ```text
 //! let status = show(alloc, &files, &mut shelf, &mut out, &mut note);
@@ -14,7 +14,6 @@
 #![tactic(auto)]
 
 mod program;
-mod reading;
 mod showing;
 
 pub use crate::program::show;

@@ -1,5 +1,5 @@
-//! The part of the program for the words `show FILE`.
-ghost use Rattle.std.specs.Prelude.{◌≡◌, Some, length};
+//! The part of the program for the words `show FILE..`.
+ghost use Rattle.std.specs.Prelude.{Some};
 ghost use Rattle.bridge_spec.specs.Forms.{show};
 ghost use Rattle.bridge_spec.specs.Calls.{call, shelved, sunk, names_in};
 ghost use Rattle.bridge_spec.specs.Promises.{Promise};
@@ -10,7 +10,7 @@ use bridge_base::{Shelf, Sink};
 use bridge_spec::Status;
 use std::alloc::Global;
 
-/// Writes what the article in the one file assumes and exports to `out`, a line for each; or where the article is refused to
+/// Writes what the articles in these files assume and export to `out`, a line for each; or where a run of them is refused to
 /// `note`.
 pub fn show<H: Shelf, O: Sink, N: Sink>(
     alloc: Global,
@@ -19,9 +19,8 @@ pub fn show<H: Shelf, O: Sink, N: Sink>(
     out: &mut O,
     note: &mut N,
 ) -> Status
-    requires one { length files.now ≡ 1 }
     ensures { Promise (call (Some (show (names_in files.now))) (shelved H.told H.faults shelf.old shelf.new) (sunk O.got O.faults out.old out.new) (sunk N.got N.faults note.old note.new)) result }
 {
-    let answer = shown(alloc, files[0].as_str(), shelf);
+    let answer = shown(alloc, files, shelf);
     deliver(answer, out, note)
 }

@@ -1,4 +1,4 @@
-//! What an article assumes and exports, as an answer.
+//! What articles assume and export, as an answer.
 ghost use Rattle.std.specs.Prelude.{◌≡◌, ◌<◌, ◌≤◌, ◌∷◌, ◌++◌, [], IfOk, OnOk};
 ghost use Rattle.hol_spec.specs.ClosedForm.{closed_form};
 ghost use Rattle.hol_spec.specs.Proofs.{sequent_at};
@@ -6,14 +6,14 @@ ghost use Rattle.article_spec.specs.Run.{accepted_state};
 ghost use Rattle.sequent.specs.Closed.{closed_view};
 ghost use Rattle.hol_rules.specs.Kept.{step_count};
 ghost use Rattle.stack_machine.specs.Making.{AreSteps};
-ghost use Rattle.bridge_spec.specs.Calls.{shelved};
+ghost use Rattle.bridge_spec.specs.Calls.{names_in, shelved};
 ghost use Rattle.bridge_spec.specs.Answers.{AnswersShow};
 ghost use Rattle.bridge_spec.specs.Texts.{shown_text, theorem_line, theorem_lines};
 ghost use Rattle.bridge_answer.specs.AnswerTexts.{status_of, text_of, note_of};
 
-use crate::reading::{Stop, read_article};
 use bridge_answer::Answer;
 use bridge_base::{Memory, Shelf};
+use bridge_reading::read_articles;
 use closed_text::append_closed;
 use hol_rules::{Proof, StepId};
 use itoa::Buffer;
@@ -21,20 +21,18 @@ use sequent::Closed;
 use stack_machine::Machine;
 use std::alloc::Global;
 
-/// What is to be answered for the article in a file: what it assumes and exports where the machine accepts it.
-pub fn shown<H: Shelf>(alloc: Global, file: &str, shelf: &mut H) -> Answer
-    ensures answers { AnswersShow (file.now ∷ []) (shelved H.told H.faults shelf.old shelf.new) (status_of result) (text_of result) (note_of result) }
+/// What is to be answered for the articles in these files: what they assume and export where the machine accepts them.
+pub fn shown<H: Shelf>(alloc: Global, files: &[String], shelf: &mut H) -> Answer
+    ensures answers { AnswersShow (names_in files.now) (shelved H.told H.faults shelf.old shelf.new) (status_of result) (text_of result) (note_of result) }
     ensures told_kept { H.told shelf.new ≡ H.told shelf.old }
     ensures count { H.faults shelf.old ≤ H.faults shelf.new }
 {
-    match read_article(alloc, file, shelf) {
+    match read_articles(alloc, files, shelf) {
         Ok(machine) => match lines_of(alloc, &machine) {
             Ok(text) => Answer::Told(text),
             Err(Memory) => Answer::Memory,
         },
-        Err(Stop::Refused(line, kind)) => Answer::Refused(line, kind),
-        Err(Stop::ReadFault) => Answer::ReadFault,
-        Err(Stop::Memory) => Answer::Memory,
+        Err(stop) => stop.into_answer(),
     }
 }
 

@@ -1,17 +1,18 @@
 -- When the program gives an answer, and the two texts that belong to it.
 use Rattle.std.specs.Prelude.{ℕ, ◌≡◌, List, [], map, length, Option, None, Some}
+use Rattle.std.specs.List.{AllByRecursion}
 use Rattle.lp_spec.specs.Modules.{Declaration}
 use Rattle.dk_read.specs.States.{fault_of}
 use Rattle.bridge_base.specs.Outside.{Files, file, Rose}
 use Rattle.hol_spec.specs.ClosedForm.{ClosedSequent}
 use Rattle.hol_spec.specs.Proofs.{Accepted}
-use Rattle.article_spec.specs.Run.{Obeys, machine, Outcome, accepted, refused_at, RunsBy}
-use Rattle.bridge_spec.specs.Forms.{Form, translate, check, show, decode}
-use Rattle.bridge_spec.specs.FirstPath.{first_path}
+use Rattle.hol_spec.specs.Mangling.{AreBytes}
+use Rattle.article_spec.specs.Run.{Outcome, accepted, refused_at, Run}
+use Rattle.bridge_spec.specs.Forms.{Form, verify, translate, check, show, decode}
 use Rattle.bridge_spec.specs.Calls.{Shelved, Call}
 use Rattle.bridge_spec.specs.FileChecks.{IsRefusedAt, IsAccepted, IsIllTyped, IsOverBudget, PassesWithin, FailsWithin}
 use Rattle.bridge_spec.specs.FileExports.{exports_of, Says, IsNotSequent}
-use Rattle.bridge_spec.specs.Texts.{module_text, counts_of, five_lines, shown_text, refusal_line, usage_line, read_fault_line, memory_line, checked_of, accepted_line, dk_refusal_line, ill_typed_line, over_budget_line, export_lines, not_sequent_line}
+use Rattle.bridge_spec.specs.Texts.{module_text, counts_of, five_lines, six_lines, shown_text, refusal_line, usage_line, read_fault_line, memory_line, checked_of, accepted_line, dk_refusal_line, ill_typed_line, over_budget_line, export_lines, not_sequent_line}
 use Rattle.bridge_spec.specs.declared.status.Status.{Status}
 use Rattle.bridge_spec.specs.declared.status.Status.TheVariants.{Done, Refused, Usage, ReadFault, WriteFault, Memory, DkRefused, IllTyped, OverBudget, NotSequent}
 
@@ -24,32 +25,40 @@ abbrev pub AreRead : Option Files → List (List ℕ) → List (List ℕ) → Ty
 AreRead (Some files) names texts = texts ≡ articles files names
 AreRead None names texts = length texts ≡ length names
 
--- the outcome of the run of what was read of these files, by a way of obeying
-pub record RunsTo (by : Obeys) (told : Option Files) (names : List (List ℕ)) (outcome : Outcome) : Type 0 where
+-- the outcome of the run of what was read of these files
+pub record RunsTo (told : Option Files) (names : List (List ℕ)) (outcome : Outcome) : Type 0 where
   pub texts : List (List ℕ)
   pub read : AreRead told names texts
-  pub runs : RunsBy by texts outcome
+  pub runs : Run texts outcome
 
--- the outcome of the run whose module a form asks for
-abbrev pub FormRunsTo : Option Form → Option Files → Outcome → Type 0
-FormRunsTo None told outcome = ⊥
-FormRunsTo (Some (translate names)) told outcome = RunsTo first_path told names outcome
-FormRunsTo (Some (check name budget)) told outcome = ⊥
-FormRunsTo (Some (show names)) told outcome = ⊥
-FormRunsTo (Some (decode name)) told outcome = ⊥
+-- the accepted run of what was read of these files, to their ends
+pub record IsRunOf (told : Option Files) (names : List (List ℕ)) (run : Accepted) : Type 0 where
+  pub texts : List (List ℕ)
+  pub read : AreRead told names texts
+  pub bytes : AllByRecursion AreBytes texts
+  pub runs : Run texts (accepted run)
 
-abbrev pub HasOutcome : Call → Outcome → Type 0
-HasOutcome call outcome = FormRunsTo call.form call.shelf.told_before outcome
+-- the accepted run that a form asks for
+abbrev pub FormRun : Option Form → Option Files → Accepted → Type 0
+FormRun None told run = ⊥
+FormRun (Some (verify names)) told run = IsRunOf told names run
+FormRun (Some (translate names)) told run = IsRunOf told names run
+FormRun (Some (check name budget)) told run = ⊥
+FormRun (Some (show names)) told run = IsRunOf told names run
+FormRun (Some (decode name)) told run = ⊥
+
+abbrev pub HasRun : Call → Accepted → Type 0
+HasRun call run = FormRun call.form call.shelf.told_before run
 
 -- what a run of this outcome is answered with
 abbrev pub answer_of : Outcome → Status
 answer_of (accepted run) = Done
 answer_of (refused_at article line kind) = Refused article line kind
 
--- a run by this way of obeying is answered so
-pub record IsAnswerOfRun (by : Obeys) (told : Option Files) (names : List (List ℕ)) (status : Status) : Type 0 where
+-- the run of these files is answered so
+pub record IsAnswerOfRun (told : Option Files) (names : List (List ℕ)) (status : Status) : Type 0 where
   pub outcome : Outcome
-  pub runs : RunsTo by told names outcome
+  pub runs : RunsTo told names outcome
   pub is : status ≡ answer_of outcome
 
 -- A check must be answered so: the file passes within the budget, is refused, or has a first declaration that fails within the budget.
@@ -69,9 +78,10 @@ IsDueOfDecode told name _ = ⊥
 -- The files of the form must be answered so, where they are read without a fault.
 abbrev pub IsDue : Option Form → Option Files → Status → Type 0
 IsDue None told status = status ≡ Usage
-IsDue (Some (translate names)) told status = IsAnswerOfRun first_path told names status
+IsDue (Some (verify names)) told status = IsAnswerOfRun told names status
+IsDue (Some (translate names)) told status = IsAnswerOfRun told names status
 IsDue (Some (check name budget)) told status = IsDueOfCheck told name budget status
-IsDue (Some (show names)) told status = IsAnswerOfRun machine told names status
+IsDue (Some (show names)) told status = IsAnswerOfRun told names status
 IsDue (Some (decode name)) told status = IsDueOfDecode told name status
 
 -- the shelf failed
@@ -95,12 +105,28 @@ AnswersNoForm (IllTyped i) out note = ⊥
 AnswersNoForm (OverBudget i) out note = ⊥
 AnswersNoForm (NotSequent i) out note = ⊥
 
+-- `verify`: the module of an accepted run of the articles, and its counts; or where the run is refused; or what failed. The module is checked before it
+-- is written: that this changes no answer is part of the promise.
+abbrev pub AnswersVerify : List (List ℕ) → Shelved → Status → List ℕ → List ℕ → Type 0
+AnswersVerify names shelf Done out note =
+    (run : Accepted) × IsRunOf shelf.told_before names run × (out ≡ module_text run) × (note ≡ six_lines (counts_of (length names) run))
+AnswersVerify names shelf (Refused article line kind) out note =
+    RunsTo shelf.told_before names (refused_at article line kind) × NoteAlone (refusal_line article line kind) out note
+AnswersVerify names shelf Usage out note = ⊥
+AnswersVerify names shelf ReadFault out note = ReadFailed shelf × NoteAlone read_fault_line out note
+AnswersVerify names shelf WriteFault out note = ⊥
+AnswersVerify names shelf Memory out note = NoteAlone memory_line out note
+AnswersVerify names shelf (DkRefused place kind) out note = ⊥
+AnswersVerify names shelf (IllTyped i) out note = ⊥
+AnswersVerify names shelf (OverBudget i) out note = ⊥
+AnswersVerify names shelf (NotSequent i) out note = ⊥
+
 -- `translate`: the module of an accepted run of the articles, and its counts; or where the run is refused; or what failed.
 abbrev pub AnswersTranslate : List (List ℕ) → Shelved → Status → List ℕ → List ℕ → Type 0
 AnswersTranslate names shelf Done out note =
-    (run : Accepted) × RunsTo first_path shelf.told_before names (accepted run) × (out ≡ module_text run) × (note ≡ five_lines (counts_of run))
+    (run : Accepted) × IsRunOf shelf.told_before names run × (out ≡ module_text run) × (note ≡ five_lines (counts_of (length names) run))
 AnswersTranslate names shelf (Refused article line kind) out note =
-    RunsTo first_path shelf.told_before names (refused_at article line kind) × NoteAlone (refusal_line article line kind) out note
+    RunsTo shelf.told_before names (refused_at article line kind) × NoteAlone (refusal_line article line kind) out note
 AnswersTranslate names shelf Usage out note = ⊥
 AnswersTranslate names shelf ReadFault out note = ReadFailed shelf × NoteAlone read_fault_line out note
 AnswersTranslate names shelf WriteFault out note = ⊥
@@ -130,9 +156,9 @@ AnswersCheck name budget shelf (NotSequent i) out note = ⊥
 -- `show`: what an accepted run of the articles assumes and exports; or where the run is refused; or what failed.
 abbrev pub AnswersShow : List (List ℕ) → Shelved → Status → List ℕ → List ℕ → Type 0
 AnswersShow names shelf Done out note =
-    (run : Accepted) × RunsTo machine shelf.told_before names (accepted run) × (out ≡ shown_text run) × (note ≡ [])
+    (run : Accepted) × IsRunOf shelf.told_before names run × (out ≡ shown_text run) × (note ≡ [])
 AnswersShow names shelf (Refused article line kind) out note =
-    RunsTo machine shelf.told_before names (refused_at article line kind) × NoteAlone (refusal_line article line kind) out note
+    RunsTo shelf.told_before names (refused_at article line kind) × NoteAlone (refusal_line article line kind) out note
 AnswersShow names shelf Usage out note = ⊥
 AnswersShow names shelf ReadFault out note = ReadFailed shelf × NoteAlone read_fault_line out note
 AnswersShow names shelf WriteFault out note = ⊥
@@ -161,6 +187,7 @@ AnswersDecode name shelf (NotSequent i) out note = IsNotSequent shelf.told_befor
 -- The answers of each form, before anything is written.
 abbrev pub FormAnswers : Option Form → Shelved → Status → List ℕ → List ℕ → Type 0
 FormAnswers None shelf status out note = AnswersNoForm status out note
+FormAnswers (Some (verify names)) shelf status out note = AnswersVerify names shelf status out note
 FormAnswers (Some (translate names)) shelf status out note = AnswersTranslate names shelf status out note
 FormAnswers (Some (check name budget)) shelf status out note = AnswersCheck name budget shelf status out note
 FormAnswers (Some (show names)) shelf status out note = AnswersShow names shelf status out note

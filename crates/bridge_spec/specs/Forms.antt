@@ -1,11 +1,13 @@
 -- The forms of the command line.
 use Rattle.std.specs.Prelude.{ℕ, ◌==◌, not, nat_le, Bool, false, List, [], ◌∷◌, take, drop, Option, None, Some, codes, if◌then◌else◌}
+use Rattle.std.specs.List.{list_all}
 use Rattle.std.specs.Str.{bytes_eq}
 use Rattle.article_spec.specs.Numbers.{digits_value}
 
--- what the words ask for: the module of the articles in these files; a check of the module in this file, with this budget for each
--- declaration; what the articles in these files assume and export; what the exports of the module in this file say
+-- what the words ask for: the module of the articles in these files, checked before it is written, or as it is; a check of the module in this
+-- file, with this budget for each declaration; what the articles in these files assume and export; what the exports of the module in this file say
 pub data Form : Type 0 where
+  verify : List (List ℕ) → Form
   translate : List (List ℕ) → Form
   check : List ℕ → ℕ → Form
   show : List (List ℕ) → Form
@@ -53,15 +55,14 @@ check_form (one ∷ two ∷ []) = if is_file one then check_with one (named_budg
 check_form (one ∷ two ∷ three ∷ []) = if is_file one then check_with one (budget_after two three) else check_with three (budget_after one two)
 check_form words = None
 
--- the form of the words after `translate`: a file
-abbrev pub translate_form : List (List ℕ) → Option Form
-translate_form (name ∷ []) = if is_file name then Some (translate (name ∷ [])) else None
-translate_form words = None
+-- one or more files, the articles of a run in order; a file may be named twice
+abbrev pub are_files : List (List ℕ) → Bool
+are_files [] = false
+are_files (name ∷ names) = list_all is_file (name ∷ names)
 
--- the form of the words after `show`: a file
-abbrev pub show_form : List (List ℕ) → Option Form
-show_form (name ∷ []) = if is_file name then Some (show (name ∷ [])) else None
-show_form words = None
+-- the form of the words after `verify`, `translate` or `show`: files
+abbrev pub files_form : (List (List ℕ) → Form) → List (List ℕ) → Option Form
+files_form form names = if are_files names then Some (form names) else None
 
 -- the form of the words after `decode`: a file
 abbrev pub decode_form : List (List ℕ) → Option Form
@@ -71,9 +72,10 @@ decode_form words = None
 -- the form of a word and those after it
 abbrev pub form_by : List ℕ → List (List ℕ) → Option Form
 form_by word words =
-    if bytes_eq word (codes "translate") then translate_form words
+    if bytes_eq word (codes "verify") then files_form verify words
+    else if bytes_eq word (codes "translate") then files_form translate words
     else if bytes_eq word (codes "check") then check_form words
-    else if bytes_eq word (codes "show") then show_form words
+    else if bytes_eq word (codes "show") then files_form show words
     else if bytes_eq word (codes "decode") then decode_form words
     else None
 

@@ -2,8 +2,8 @@ pub mod Answers
 pub mod Calls
 pub mod FileChecks
 pub mod FileExports
-pub mod FirstPath
 pub mod Forms
 pub mod Outputs
+pub mod Headline
 pub mod Promises
 pub mod Texts

@@ -1,15 +1,17 @@
 -- What the one call of the program promises.
-use Rattle.std.specs.Prelude.{ℕ, ◌≡◌, ◌≤◌, ◌⊎◌, List, IsTrue, None, Some, is_some}
+use Rattle.std.specs.Prelude.{ℕ, ◌≡◌, ◌≤◌, ◌⊎◌, List, Option, IsTrue, None, Some, is_some, length}
+use Rattle.std.specs.List.{AllByRecursion}
 use Rattle.bridge_base.specs.Outside.{Files, file}
+use Rattle.hol_spec.specs.Mangling.{AreBytes}
 use Rattle.hol_spec.specs.Proofs.{Accepted}
-use Rattle.article_spec.specs.Run.{accepted}
-use Rattle.bridge_spec.specs.Forms.{check}
+use Rattle.article_spec.specs.Run.{accepted, Run}
+use Rattle.bridge_spec.specs.Forms.{Form, verify, translate, check, show, decode}
 use Rattle.bridge_spec.specs.Calls.{Shelved, Sunk, Call}
-use Rattle.bridge_spec.specs.FileChecks.{ReadsWellTyped}
-use Rattle.bridge_spec.specs.Answers.{HasOutcome, IsDue, ReadFailed}
-use Rattle.bridge_spec.specs.Outputs.{Failed, Outputs}
-use Rattle.module_spec.specs.Image.{image}
-use Rattle.module_spec.specs.Stands.{Stands}
+use Rattle.bridge_spec.specs.FileChecks.{IsReadOf, ReadsWellTyped, max_file}
+use Rattle.bridge_spec.specs.Answers.{HasRun, IsDue, ReadFailed}
+use Rattle.bridge_spec.specs.Headline.{Headline}
+use Rattle.bridge_spec.specs.Outputs.{Failed, Gained, Outputs}
+use Rattle.bridge_spec.specs.Texts.{module_bounds, module_text}
 use Rattle.bridge_spec.specs.declared.status.Status.{Status}
 use Rattle.bridge_spec.specs.declared.status.Status.TheVariants.{Done, Refused, Usage, ReadFault, WriteFault, Memory, DkRefused, IllTyped, OverBudget, NotSequent}
 
@@ -44,16 +46,46 @@ KeepsOut (IllTyped i) out = out.got ≡ out.got_before
 KeepsOut (OverBudget i) out = out.got ≡ out.got_before
 KeepsOut (NotSequent i) out = out.got ≡ out.got_before
 
+-- a form that writes the module of its run
+abbrev pub WritesModule : Option Form → Type 0
+WritesModule None = ⊥
+WritesModule (Some (verify names)) = Unit {0}
+WritesModule (Some (translate names)) = Unit {0}
+WritesModule (Some (check name budget)) = ⊥
+WritesModule (Some (show names)) = ⊥
+WritesModule (Some (decode name)) = ⊥
+
+-- the sink gained a text that reads as one module, which is well typed
+pub record GainsModule (out : Sunk) : Type 0 where
+  pub text : List ℕ
+  pub gained : Gained out text
+  pub typed : ReadsWellTyped text
+
+-- the file of that name has the text of the module of an accepted run of articles of bytes, within the limit of a file
+pub record HasModule (told : Option Files) (name : List ℕ) : Type 0 where
+  pub texts : List (List ℕ)
+  pub run : Accepted
+  pub bytes : AllByRecursion AreBytes texts
+  pub runs : Run texts (accepted run)
+  pub read : IsReadOf told name (module_text run)
+  pub within : length (module_text run) ≤ max_file
+
 pub record Promise (call : Call) (result : Status) : Type 0 where
   -- Each answer comes only by its cause, and the sinks gain its texts; or a failing write replaced it.
   pub outputs : Outputs call result
-  -- Where the shelf tells its files and didn't fail, the answer is the one that is due: that of the run of the articles, for `translate` and
-  -- `show`; of the check of a file that is refused, or whose declarations pass, or fail at the first that doesn't pass, within the budget; or of what
+  -- Where the shelf tells its files and didn't fail, the answer is the one that is due: that of the run of the articles, for `verify`,
+  -- `translate` and `show`; of the check of a file that is refused, or whose declarations pass, or fail at the first that doesn't pass, within the budget; or of what
   -- the exports of a file that `decode` is given say.
   pub exact : ReadWell call.shelf → (status : Status) → IsDue call.form call.shelf.told_before status → Aside result (result ≡ status)
-  -- The module of an accepted run of the files, where `translate` is asked for it, is well typed, leaves unproved only what is allowed, and
-  -- its exports are those of the run, in order.
-  pub stands : (run : Accepted) → HasOutcome call (accepted run) → Stands (image run) run
+  -- The headline: the module of an accepted run of the files reads back, is well typed, is faithful to its run and accepted within its bounds.
+  pub headline : (run : Accepted) → HasRun call run → Headline run
+  -- Whatever the shelf tells, at Done what was written as the module of the run reads as one well-typed module.
+  pub written : WritesModule call.form → result ≡ Done → GainsModule call.out
+  -- A file with the module of a run passes under a budget of at least each of its bounds ..
+  pub passes : ReadWell call.shelf → (name : List ℕ) (budget : ℕ) → call.form ≡ Some (check name budget) → (file : HasModule call.shelf.told_before name) → AllByRecursion (λ bound. bound ≤ budget) (module_bounds file.run)
+      → Aside result (result ≡ Done)
+  -- .. and is ill typed under no budget.
+  pub never_ill_typed : ReadWell call.shelf → (name : List ℕ) (budget i : ℕ) → call.form ≡ Some (check name budget) → HasModule call.shelf.told_before name → result ≡ IllTyped i → ⊥
   -- The checker's law: a file that is told and accepted reads as one module, and that module is well typed.
   pub checked : (name : List ℕ) (budget : ℕ) (files : Files) → call.form ≡ Some (check name budget) → call.shelf.told_before ≡ Some files → result ≡ Done → ReadsWellTyped (file files name)
   -- Words that are no form are answered with Usage ..

@@ -1,10 +1,12 @@
 -- What the program writes for an answer.
-use Rattle.std.specs.Prelude.{ℕ, suc, ◌++◌, List, [], ◌∷◌, map, length, min, sum, count_by, is_none, codes, decimal}
+use Rattle.std.specs.Prelude.{ℕ, suc, ◌++◌, List, [], ◌∷◌, map, length, min, sum_by, count_by, is_none, codes, decimal}
 use Rattle.bridge_base.specs.declared.faults.Kind.{Kind}
 use Rattle.bridge_base.specs.Kinds.{kind_name, kind_number}
 use Rattle.hol_spec.specs.ClosedForm.{ClosedSequent, closed_form}
 use Rattle.hol_spec.specs.Proofs.{Made, sequent_at, Accepted}
 use Rattle.lp_spec.specs.Modules.{Declaration}
+use Rattle.lp_spec.specs.declared.form.Form.{Form}
+use Rattle.lp_spec.specs.declared.form.Form.TheVariants.{Thm}
 use Rattle.lp_spec.specs.ReadingFaults.{Fault, NoPrelude, BadText, UnknownName, NameTwice, DkTooDeep, DkTooLong}
 use Rattle.lp_spec.specs.Text.{written}
 use Rattle.lp_spec.specs.Weight.{bound, greatest}
@@ -34,26 +36,45 @@ module_bounds run = map (bound (image run)) (image run)
 abbrev pub module_text : Accepted → List ℕ
 module_text run = written (image run) (module_bounds run)
 
--- what is counted of a run: its exports, the declarations of its module, and the sum of the bounds that are printed before them,
--- as far as a number goes
+-- the bound that is written of a declaration: that of a theorem, and nothing of another
+abbrev pub written_bound : Form → ℕ → ℕ
+written_bound Thm bound = bound
+written_bound _ bound = 0
+
+-- the sum of the bounds that are written of a module
+abbrev pub written_bounds : List Declaration → ℕ
+written_bounds m = sum_by (λ d. written_bound d.form (bound m d)) m
+
+-- what is counted of a run: its articles, what it assumes, its exports, the declarations of its module, and the sum of the bounds that are
+-- written of these, as far as a number goes
 pub record Counts : Type 0 where
+  pub articles : ℕ
+  pub assumptions : ℕ
   pub exports : ℕ
   pub declarations : ℕ
   pub bounds : ℕ
 
-abbrev pub counts_of : Accepted → Counts
-counts_of run = record {
+abbrev pub counts_of : ℕ → Accepted → Counts
+counts_of articles run = record {
+  articles = articles;
+  assumptions = length run.assumptions;
   exports = length run.exports;
   declarations = length (image run);
-  bounds = min (sum (module_bounds run)) greatest;
+  bounds = min (written_bounds (image run)) greatest;
 }
 
--- the five lines of an accepted run of one article, which assumes nothing
+-- the five lines of an accepted run
 abbrev pub five_lines : Counts → List ℕ
 five_lines counts =
-    codes "articles 1\nassumptions 0\nexports " ++ (decimal counts.exports
+    codes "articles " ++ (decimal counts.articles
+    ++ (codes "\nassumptions " ++ (decimal counts.assumptions
+    ++ (codes "\nexports " ++ (decimal counts.exports
     ++ (codes "\ndeclarations " ++ (decimal counts.declarations
-    ++ (codes "\nbounds " ++ (decimal counts.bounds ++ codes "\n")))))
+    ++ (codes "\nbounds " ++ (decimal counts.bounds ++ codes "\n")))))))))
+
+-- the six lines of one whose module was checked
+abbrev pub six_lines : Counts → List ℕ
+six_lines counts = five_lines counts ++ codes "verified\n"
 
 abbrev pub usage_line : List ℕ
 usage_line = codes "usage: bridge verify FILE.. | translate FILE.. | check FILE [--budget N] | decode FILE | show FILE.. | trial N\n"

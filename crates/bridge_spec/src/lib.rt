@@ -12,9 +12,9 @@
 //! | `FileExports` | what the exports of the module in a file say |
 //! | `Texts` | what is written for each answer |
 //! | `Outputs` | what the sinks hold afterwards |
-//! | `FirstPath` | which words of an article `translate` obeys so far, as a way of obeying; it goes when the whole machine is run |
+//! | `Headline` | what the module of an accepted run is good for |
 //!
-//! The module of an accepted run, and what it is good for, are defined in `module_spec`.
+//! The module of an accepted run, and what it is for it to stand for its run, are defined in `module_spec`.
 #![tactic(auto)]
 
 pub mod status;

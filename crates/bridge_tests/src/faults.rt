@@ -66,6 +66,8 @@ fn writes_nothing(alloc: Global, words: &[&str], file: &[u8]) -> Result<bool, Al
 
 const TRANSLATE: &[&str] = &["bridge", "translate", "a"];
 
+const VERIFY: &[&str] = &["bridge", "verify", "a"];
+
 const CHECK: &[&str] = &["bridge", "check", "a"];
 
 const DECODE: &[&str] = &["bridge", "decode", "a"];
@@ -73,6 +75,7 @@ const DECODE: &[&str] = &["bridge", "decode", "a"];
 #[test]
 fn answers_faults_of_the_shelf(rt: HostRuntime) -> Result<(), Fail> {
     assert!(rt; reads_badly(rt.alloc(), TRANSLATE, REFLEXIVITY, 2)?);
+    assert!(rt; reads_badly(rt.alloc(), VERIFY, REFLEXIVITY, 2)?);
     assert!(rt; reads_badly(rt.alloc(), CHECK, BEGINNING, 1)?);
     assert!(rt; reads_badly(rt.alloc(), CHECK, BEGINNING, 2)?);
     assert!(rt; reads_badly(rt.alloc(), DECODE, BEGINNING, 2)?);
@@ -85,6 +88,7 @@ fn answers_faults_of_the_shelf(rt: HostRuntime) -> Result<(), Fail> {
 #[test]
 fn answers_faults_of_the_sinks(rt: HostRuntime) -> Result<(), Fail> {
     assert!(rt; writes_badly(rt.alloc(), TRANSLATE, REFLEXIVITY, 3)?);
+    assert!(rt; writes_badly(rt.alloc(), VERIFY, REFLEXIVITY, 3)?);
     assert!(rt; writes_badly(rt.alloc(), CHECK, BEGINNING, 1)?);
     assert!(rt; writes_nothing(rt.alloc(), TRANSLATE, REFLEXIVITY)?);
     assert!(rt; writes_nothing(rt.alloc(), CHECK, BEGINNING)?);

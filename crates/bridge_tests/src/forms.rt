@@ -24,7 +24,8 @@ fn answers_words_of_no_command(rt: HostRuntime) -> Result<(), Fail> {
 fn answers_too_few_or_too_many_files(rt: HostRuntime) -> Result<(), Fail> {
     assert!(rt; is_usage(rt.alloc(), &["bridge", "translate", "-a"])?);
     assert!(rt; is_usage(rt.alloc(), &["bridge", "show"])?);
-    assert!(rt; is_usage(rt.alloc(), &["bridge", "show", "a", "b"])?);
+    assert!(rt; is_usage(rt.alloc(), &["bridge", "show", "a", "-b"])?);
+    assert!(rt; is_usage(rt.alloc(), &["bridge", "verify", "a", ""])?);
     assert!(rt; is_usage(rt.alloc(), &["bridge", "decode"])?);
     assert!(rt; is_usage(rt.alloc(), &["bridge", "decode", "a", "b"])?);
     assert!(rt; is_usage(rt.alloc(), &["bridge", "decode", "-a"])?);

@@ -1,4 +1,4 @@
-//! Tests of the program's calls, `bridge`, `translate`, `check` and `decode`, over shelves and sinks in memory.
+//! Tests of the program's calls, `bridge`, `verify`, `translate`, `check` and `decode`, over shelves and sinks in memory.
 //!
 //! They stand apart from `bridge_run` and the crates of its parts, since a crate with tests is proved twice.
 #![tactic(auto)]

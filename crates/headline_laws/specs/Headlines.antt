@@ -14,7 +14,7 @@ use Rattle.run_laws.specs.RunModules.{runs_are_modules}
 use Rattle.standing_laws.specs.NamedRuns.{run-has_names, runs_of_bytes_stand}
 use Rattle.fitting_laws.specs.ShallowRuns.{runs_are_shallow}
 use Rattle.fitting_laws.specs.SmallRuns.{runs_are_within_bounds}
-use Rattle.headline_laws.specs.Headline.{Headline, EachRunCarries}
+use Rattle.bridge_spec.specs.Headline.{Headline, EachRunCarries}
 use Rattle.bridge_spec.specs.Texts.{module_bounds}
 use Rattle.headline_laws.specs.PlainNames.{image-ArePlain}
 

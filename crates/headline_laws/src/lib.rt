@@ -4,12 +4,11 @@
 //!
 //! | File | Laws of |
 //! |---|---|
-//! | `Headline` | (a definition) what the module of an accepted run is good for |
 //! | `PlainNames` | the names that a run's module declares are identifiers, unlike key words and binders |
 //! | `Headlines` | the module's text reads as it alone; it is well typed and stands for its run, each check ends within its bound, and the exports derive |
 #![tactic(auto)]
 
-ghost use Rattle.headline_laws.specs.Headline.{EachRunCarries};
+ghost use Rattle.bridge_spec.specs.Headline.{EachRunCarries};
 
 /// The module of every accepted run over articles of bytes reads back from its text, is well typed and faithful to its run, and each of its
 /// declarations is accepted within its bound.

@@ -5,7 +5,6 @@ use Rattle.bridge_base.specs.Outside.{Files, Rose}
 use Rattle.bridge_base.specs.declared.faults.Kind.TheVariants.{BadLine}
 use Rattle.article_spec.specs.Lines.{Lines, IsLine, Opens, refused}
 use Rattle.article_spec.specs.Run.{RunsFrom, refused_at}
-use Rattle.bridge_spec.specs.FirstPath.{first_path}
 use Rattle.bridge_spec.specs.Calls.{Shelved}
 use Rattle.bridge_spec.specs.Answers.{AreRead, RunsTo}
 use Rattle.bridge_spec.specs.Promises.{ReadWell, Aside}
@@ -40,11 +39,11 @@ is_line = ((λ e. absurd cc), ((λ e. absurd cc), tt))
 no_lines : Lines (codes "no") [] (refused 1 BadLine)
 no_lines = Lines.last_faults (Opens.open_line (record { one_line = is_line; short = omega arith; within = omega arith })) refl
 
-runs : RunsTo first_path (Some files) (codes "a.art" ∷ []) (refused_at 1 1 BadLine)
+runs : RunsTo (Some files) (codes "a.art" ∷ []) (refused_at 1 1 BadLine)
 runs = record { texts = codes "no" ∷ []; read = refl; runs = RunsFrom.stopped no_lines refl refl }
 
 -- the same over a shelf that doesn't tell: some bytes are refused there
-runs_untold : RunsTo first_path None (codes "a.art" ∷ []) (refused_at 1 1 BadLine)
+runs_untold : RunsTo None (codes "a.art" ∷ []) (refused_at 1 1 BadLine)
 runs_untold = record { texts = codes "no" ∷ []; read = refl; runs = RunsFrom.stopped no_lines refl refl }
 
 -- a fact that is asked of an answer, but of a want of memory and a failing write

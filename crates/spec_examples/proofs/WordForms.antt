@@ -5,12 +5,15 @@ use Rattle.std.specs.Fmt.{digits}
 use Rattle.lp_spec.specs.Modules.{types, bools, symbol}
 use Rattle.lp_spec.specs.declared.form.Form.TheVariants.{Def}
 use Rattle.lp_spec.specs.ReadingFaults.{NoPrelude, UnknownName}
-use Rattle.bridge_spec.specs.Forms.{translate, check, show, decode, form_of}
+use Rattle.bridge_spec.specs.Forms.{verify, translate, check, show, decode, form_of}
 use Rattle.bridge_spec.specs.Texts.{checked_of, accepted_line, dk_refusal_line, ill_typed_line, over_budget_line, not_sequent_line}
 
 -- a file alone, and with a budget before it or behind it
 translated : form_of (codes "bridge" ∷ codes "translate" ∷ codes "a" ∷ []) ≡ Some (translate (codes "a" ∷ []))
 translated = refl
+
+verified : form_of (codes "bridge" ∷ codes "verify" ∷ codes "a" ∷ codes "b" ∷ codes "a" ∷ []) ≡ Some (verify (codes "a" ∷ codes "b" ∷ codes "a" ∷ []))
+verified = refl
 
 checked : form_of (codes "bridge" ∷ codes "check" ∷ codes "a" ∷ []) ≡ Some (check (codes "a") 100000000)
 checked = refl
@@ -30,7 +33,7 @@ shown = refl
 decoded : form_of (codes "bridge" ∷ codes "decode" ∷ codes "a" ∷ []) ≡ Some (decode (codes "a"))
 decoded = refl
 
--- words that are no form: a budget that is too great, nothing, zero, with a zero before it or with a sign; two files; no file
+-- words that are no form: a budget that is too great, nothing, zero, with a zero before it or with a sign; two files of a check; no file
 too_great : form_of (codes "bridge" ∷ codes "check" ∷ codes "a" ∷ codes "--budget" ∷ codes "18446744073709551616" ∷ []) ≡ None
 too_great = refl
 
@@ -49,8 +52,11 @@ signed = refl
 two_files : form_of (codes "bridge" ∷ codes "check" ∷ codes "a" ∷ codes "b" ∷ []) ≡ None
 two_files = refl
 
-two_shown : form_of (codes "bridge" ∷ codes "show" ∷ codes "a" ∷ codes "b" ∷ []) ≡ None
+two_shown : form_of (codes "bridge" ∷ codes "show" ∷ codes "a" ∷ codes "b" ∷ []) ≡ Some (show (codes "a" ∷ codes "b" ∷ []))
 two_shown = refl
+
+no_files : form_of (codes "bridge" ∷ codes "show" ∷ []) ≡ None
+no_files = refl
 
 no_file : form_of (codes "bridge" ∷ codes "check" ∷ codes "--" ∷ codes "a" ∷ []) ≡ None
 no_file = refl

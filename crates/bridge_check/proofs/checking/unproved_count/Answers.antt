@@ -1,4 +1,4 @@
-use Rattle.std.proofs.Common.{◌≡◌, ◌+◌, sym, ap, ◌∙◌, true, false}
+use Rattle.std.proofs.Common.{◌+◌, sym, ap, ◌∙◌, true, false}
 use Rattle.bridge_check.proofs.Counts.{none_by, unproved-more, unproved-same}
 use Rattle.bridge_check.proofs.checking.unproved_count.Goals.{then-is_none, else-is_none}
 use Rattle.bridge_check.proofs.checking.unproved_count.Goals as goal

@@ -1,4 +1,4 @@
-use Rattle.std.proofs.Common.{◌≡◌, ◌<◌, ◌≤◌, length, subst, arith}
+use Rattle.std.proofs.Common.{◌<◌, ◌≤◌, length, subst, arith}
 use Rattle.std.proofs.Math.ListN.{drop_of_length-le}
 use Rattle.std.proofs.lemmas.List.{length-map}
 use Rattle.holide_sig.specs.Modules.{declaration_in, declarations_of}

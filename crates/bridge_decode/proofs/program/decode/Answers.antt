@@ -1,17 +1,17 @@
-use Rattle.std.proofs.Common.{Some, refl}
+use Rattle.std.proofs.Common.{Some}
 use Rattle.bridge_spec.specs.Forms.{decode}
 use Rattle.bridge_spec.specs.Calls.{call, shelved, sunk}
 use Rattle.bridge_answer.specs.AnswerTexts.{status_of, text_of, note_of}
-use Rattle.bridge_answer.specs.Promised.{decode-Promise}
+use Rattle.bridge_answer.specs.Promised.{outputs-Promise}
 use Rattle.bridge_decode.proofs.program.decode.Goals as goal
 
 pub returns : goal.returns
 returns g c =
     let shelf = shelved g.H.Shelf.told g.H.Shelf.faults c.args.shelf.now c.decoded-answer.new.shelf in
     let answer = c.decoded-answer.result in
-    decode-Promise
+    outputs-Promise
     (call (Some (decode c.args.file.now)) shelf (sunk g.O.Sink.got g.O.Sink.faults c.args.out.now c.deliver.new.out) (sunk g.N.Sink.got g.N.Sink.faults c.args.note.now c.deliver.new.note))
-    c.deliver.result c.args.file.now refl
+    c.deliver.result
     (record {
       answer = status_of answer;
       out_text = text_of answer;

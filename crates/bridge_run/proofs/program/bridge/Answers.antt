@@ -9,4 +9,4 @@ returns-in-None g c =
     let out = sunk g.O.Sink.got g.O.Sink.faults c.args.out.now c.deliver.new.out in
     let note = sunk g.N.Sink.got g.N.Sink.faults c.args.note.now c.deliver.new.note in
     let this = call (form_in c.args.words.now) shelf out note in
-    usage-Promise this c.deliver.result (sym c.in-None.ensures.form) c.deliver.ensures.delivered refl (omega arith) c.deliver.ensures.out_count c.deliver.ensures.note_count
+    usage-Promise this c.deliver.result (sym c.in-None.ensures) c.deliver.ensures.delivered refl (omega arith) c.deliver.ensures.out_count c.deliver.ensures.note_count

@@ -1,9 +1,10 @@
-use Rattle.std.proofs.Common.{refl}
-use Rattle.article_spec.specs.Run.{accepted, accepted_state}
-use Rattle.bridge_show.proofs.Shown.{of_text-RunsTo}
+use Rattle.std.proofs.Common.{refl, sym, subst}
+use Rattle.article_spec.specs.Run.{accepted_state}
+use Rattle.bridge_spec.specs.Answers.{AnswersShow}
+use Rattle.bridge_spec.specs.Calls.{names_in, shelved}
+use Rattle.bridge_answer.specs.AnswerTexts.{status_of, text_of, note_of}
+use Rattle.bridge_reading.specs.StopAnswers.{stop-AnswersShow}
 use Rattle.bridge_show.proofs.showing.shown.Goals as goal
 
 pub returns-in-Ok-lines_of-clause-answers : goal.returns-in-Ok-lines_of-clause-answers
-returns-in-Ok-lines_of-clause-answers g c =
-    let run = accepted_state c.in-Ok.machine in
-    (run, of_text-RunsTo (g.H.Shelf.told c.args.shelf.now) c.args.file.now (accepted run) c.in-Ok.ensures.accepted, c.in-Ok-lines_of.ensures, refl)
+returns-in-Ok-lines_of-clause-answers g c = (accepted_state c.in-Ok.machine, c.in-Ok.ensures.accepted, c.in-Ok-lines_of.ensures, refl)

@@ -1,0 +1,3 @@
+pub mod PassedArticles
+pub mod Outcomes
+pub mod Readings

@@ -1,0 +1,120 @@
+//! The module of the run of some articles, before anything is written.
+ghost use Rattle.std.specs.Prelude.{◌≡◌, ◌≤◌, Option, IfOk, IfErr, length, map, min};
+ghost use Rattle.bridge_base.specs.Outside.{Files, Rose};
+ghost use Rattle.hol_spec.specs.Proofs.{Accepted};
+ghost use Rattle.article_spec.specs.Run.{accepted_state};
+ghost use Rattle.holide_sig.specs.Modules.{declarations_of, IsHeld};
+ghost use Rattle.lp_spec.specs.Weight.{bound as bound_of, greatest};
+ghost use Rattle.module_spec.specs.Image.{image};
+ghost use Rattle.bridge_spec.specs.Answers.{IsRunOf};
+ghost use Rattle.bridge_spec.specs.Calls.{names_in};
+ghost use Rattle.bridge_spec.specs.Texts.{written_bound, written_bounds};
+ghost use Rattle.bridge_reading.specs.Stops.{Stops};
+ghost use Rattle.bridge_translate.specs.Translations.{counts_in, IsTranslationOf};
+
+use bridge_base::{Memory, Shelf};
+use bridge_reading::{Stop, read_articles};
+use holide_sig::{Form, Module};
+use lp_weight::bound;
+use stack_machine::Machine;
+use std::alloc::Global;
+use translate_rule::module;
+
+/// What is counted of a run and its module.
+#[derive(Clone, Copy, Debug, PartialEq, Eq)]
+pub struct Counts {
+    /// How many articles were obeyed.
+    pub articles: u64,
+    /// How many assumptions the run recorded.
+    pub assumptions: u64,
+    /// How many exports it has.
+    pub exports: u64,
+    /// How many declarations follow the prelude.
+    pub declarations: u64,
+    /// The sum of the bounds that are written, those of theorems, or the greatest number.
+    pub bounds: u128,
+}
+
+/// The module of an accepted run, with a bound for each declaration and what is counted.
+#[derive(Drop)]
+pub struct Translation {
+    pub module: Module,
+    pub bounds: Vec<u128>,
+    pub counts: Counts,
+}
+
+/// The module of the run of the articles in these files; or why there is none.
+pub fn translation_of<H: Shelf>(
+    alloc: Global,
+    files: &[String],
+    shelf: &mut H,
+) -> Result<Translation, Stop>
+    ensures translated { IfOk result (λ translation. (run : Accepted) × IsRunOf (H.told shelf.old) (names_in files.now) run × IsTranslationOf (length (names_in files.now)) run translation) }
+    ensures refused { IfErr result (λ stop. Stops stop (H.told shelf.old) (names_in files.now)) }
+    ensures read_fault { IfErr result (λ stop. stop ≡ Stop.ReadFault → Rose (H.faults shelf.old) (H.faults shelf.new)) }
+    ensures told_kept { H.told shelf.new ≡ H.told shelf.old }
+    ensures count { H.faults shelf.old ≤ H.faults shelf.new }
+{
+    let machine = read_articles(alloc, files, shelf)?;
+    match translated(alloc, files, &machine) {
+        Ok(translation) => Ok(translation),
+        Err(Memory) => Err(Stop::Memory),
+    }
+}
+
+// The module of the run at whose end the machine is, with its bounds and what is counted.
+fn translated(alloc: Global, files: &[String], machine: &Machine) -> Result<Translation, Memory>
+    requires { (told : Option Files) × IsRunOf told (names_in files.now) (accepted_state machine.now) }
+    ensures { IfOk result (IsTranslationOf (length (names_in files.now)) (accepted_state machine.now)) }
+{
+    let assumptions = machine.assumptions();
+    let exports = machine.exports();
+    let made = module(alloc, machine.proof(), assumptions, exports)?;
+    let bounds = bounds_of(alloc, &made)?;
+    let counts = Counts {
+        articles: files.len() as u64,
+        assumptions: assumptions.len() as u64,
+        exports: exports.len() as u64,
+        declarations: made.decls.len() as u64,
+        bounds: total(&made, &bounds),
+    };
+    Ok(Translation {
+        module: made,
+        bounds,
+        counts,
+    })
+}
+
+// The bound of each declaration.
+fn bounds_of(alloc: Global, source: &Module) -> Result<Vec<u128>, Memory>
+    requires { IsHeld source.now }
+    ensures { IfOk result (λ bounds. bounds.items ≡ map (bound_of (declarations_of source.now)) (declarations_of source.now)) }
+{
+    let mut bounds = Vec::new(alloc);
+    for i in 0..source.decls.len() {
+        bounds.push(bound(alloc, source, i)?)?;
+    }
+    Ok(bounds)
+}
+
+// The sum of the bounds that are written of a module, or the greatest number.
+fn total(source: &Module, bounds: &[u128]) -> u128
+    requires { bounds.now ≡ map (bound_of (declarations_of source.now)) (declarations_of source.now) }
+    ensures { result ≡ min (written_bounds (declarations_of source.now)) greatest }
+{
+    let mut total = 0u128;
+    for (index, bound) in bounds.iter().enumerate() {
+        total = total.saturating_add(written(source.decls.get(index).form, *bound));
+    }
+    total
+}
+
+// The bound that is written of a declaration, and nothing where none is.
+fn written(form: Form, bound: u128) -> u128
+    ensures { result ≡ written_bound form bound }
+{
+    match form {
+        Form::Thm => bound,
+        Form::Symbol | Form::Def => 0,
+    }
+}

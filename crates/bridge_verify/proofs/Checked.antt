@@ -1,0 +1,55 @@
+-- The module of a run, read back and checked within its bounds: nothing is refused.
+use Rattle.std.proofs.Common.{◌≡◌, ℕ, List, length, sym, ap, subst, ◌∙◌}
+use Rattle.std.specs.Prelude.{option_map}
+use Rattle.std.proofs.lemmas.List.{length-map}
+use Rattle.std.proofs.lemmas.Option.{slice_get-map}
+use Rattle.hol_spec.specs.Proofs.{Accepted}
+use Rattle.lp_spec.specs.Reading.{Reads}
+use Rattle.lp_spec.specs.Text.{written}
+use Rattle.lp_spec.specs.Weight.{bound}
+use Rattle.lp_kernel.specs.Checks.{PassWithin}
+use Rattle.holide_sig.specs.declared.module.Module.{Module}
+use Rattle.holide_sig.specs.Modules.{declaration_in, declarations_of}
+use Rattle.module_spec.specs.Image.{image}
+use Rattle.bridge_spec.specs.Headline.{Headline}
+use Rattle.bridge_spec.specs.Texts.{module_bounds}
+use Rattle.bridge_answer.specs.Promised.{declaration-at}
+use Rattle.bridge_translate.specs.Translations.{IsTranslationOf}
+use Rattle.bridge_translate.specs.TranslationLaws.{written-module_text}
+use Rattle.bridge_translate.specs.declared.translation.Translation.{Translation}
+
+-- the check of each declaration says yes within its bound
+image-PassWithin : (run : Accepted) → Headline run → PassWithin (image run) (module_bounds run) (length (image run))
+image-PassWithin run h k l =
+    let m = image run in
+    let d = declaration-at m k l in
+    let e = h.within k d.0 d.1 in (
+      d.0.ty,
+      record {
+        price = e.price;
+        by = e.by;
+        budget = bound m d.0;
+        at = slice_get-map (bound m) m k ∙ ap (option_map (bound m)) d.1;
+        within = e.within;
+      },
+    )
+
+module _ (articles : ℕ) (run : Accepted) (t : Translation) (h : IsTranslationOf articles run t) (good : Headline run) where
+  -- the text that was gathered reads as the run's module
+  pub gathered-Reads : (text : List ℕ) → text ≡ written (declarations_of t.module) t.bounds.items → Reads text (image run)
+  gathered-Reads text e = subst (λ text. Reads text (image run)) (sym (e ∙ written-module_text articles run t h)) good.reads
+
+  module _ (back : Module) (same : declarations_of back ≡ image run) (budgets : List ℕ) (are : budgets ≡ t.bounds.items) where
+    length-back : length back.decls ≡ length (image run)
+    length-back = sym (length-map back.decls (declaration_in back.table)) ∙ ap length same
+
+    -- there is a budget for each declaration of what was read back
+    pub length-budgets : length budgets ≡ length back.decls
+    length-budgets = ap length (are ∙ h.bounds) ∙ length-map (image run) (bound (image run)) ∙ sym length-back
+
+    -- the check of each declaration of it says yes within its budget
+    pub back-PassWithin : PassWithin (declarations_of back) budgets (length back.decls)
+    back-PassWithin =
+        subst (λ m. PassWithin m budgets (length back.decls)) (sym same)
+        (subst (λ bounds. PassWithin (image run) bounds (length back.decls)) (sym (are ∙ h.bounds))
+        (subst (PassWithin (image run) (module_bounds run)) (sym length-back) (image-PassWithin run good)))

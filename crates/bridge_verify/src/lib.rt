@@ -1,0 +1,20 @@
+//! The part of the program for the words `verify FILE..`: the module of the run of some articles, checked before it is written.
+//!
+//! [`verify`] is its one public call. Its contract is that of the program for these words, in the words of `bridge_spec`: it answers Done
+//! exactly where the stack machine accepts the articles. Before anything is written the text of the module is gathered in memory, read
+//! again, and the module that it reads as is checked, each declaration within its bound. That the reading refuses nothing, and that the
+//! check says yes, is proved; the call does it all the same, and would say what it found.
+//!
+//! It stands on `bridge_translate` for the module, on `dk_write` and `dk_read` for its text, and on `lp_kernel` for the check.
+//!
+//! ```text
+//! let status = verify(alloc, &files, &mut shelf, &mut out, &mut note);
+//! assert_eq!(status, Status::Done);
+//! ```
+#![tactic(auto)]
+
+mod checking;
+mod program;
+
+pub use crate::program::verify;
+pub use bridge_spec::Status;
