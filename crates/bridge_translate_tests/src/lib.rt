@@ -1,0 +1,18 @@
+//! Tests of the commands `translate` and `verify` under `bridge`, over shelves and sinks in memory: the whole modules and the counts of
+//! articles of a few commands, of several articles in a run, the line and the kind of a refused one, and faults of the outside.
+#![tactic(auto)]
+
+#[cfg(test)]
+mod answers;
+#[cfg(test)]
+mod definitions;
+#[cfg(test)]
+mod faults;
+#[cfg(test)]
+mod inference;
+#[cfg(test)]
+mod refusals;
+#[cfg(test)]
+mod runs;
+#[cfg(test)]
+mod stating;

@@ -1,0 +1,5 @@
+use Rattle.translate_term_tests.proofs.SequentLaws.{parameters_next}
+use Rattle.translate_term_tests.proofs.sequents.parameters.Goals as goal
+
+pub loop-place-preserved : goal.loop-place-preserved
+loop-place-preserved c = parameters_next _ _ _ c.in_ok-push.ensures.items c.loop-place.invariant

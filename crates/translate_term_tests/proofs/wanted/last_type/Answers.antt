@@ -1,0 +1,7 @@
+use Rattle.holide_sig.specs.ModuleLaws.{AreDeclsKnown-slice_get}
+use Rattle.translate_term_tests.proofs.wanted.last_type.Goals as goal
+
+pub returns : goal.returns
+returns c =
+    let known = AreDeclsKnown-slice_get _ _ _ _ c.requires.decls c.get.ensures in
+    known.ty
