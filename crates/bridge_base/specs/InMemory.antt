@@ -1,5 +1,5 @@
 -- Shelves and sinks in memory.
-use Rattle.std.specs.Prelude.{ℕ, Bool, not, ◌&&◌, List, ◌++◌, length, min}
+use Rattle.std.specs.Prelude.{ℕ, Bool, not, ◌&&◌, List, [], ◌++◌, length, min}
 use Rattle.bridge_base.specs.Outside.{next_count, has}
 use Rattle.bridge_base.specs.Calls.{Calls, is_listed, passed, failed}
 use Rattle.bridge_base.specs.Opened.{Opened, begun, closed, advanced}
@@ -51,3 +51,7 @@ refused sink = record { contents = sink.contents; calls = failed sink.calls; sho
 -- after a call that failed for want of memory
 abbrev pub ran_short : SinkState → SinkState
 ran_short sink = record { contents = sink.contents; calls = failed sink.calls; short = next_count sink.short }
+
+-- after what it held was given up; its calls stay counted
+abbrev pub cleared : SinkState → SinkState
+cleared sink = record { contents = []; calls = sink.calls; short = sink.short }

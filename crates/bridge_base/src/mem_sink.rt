@@ -2,7 +2,7 @@
 ghost use Rattle.std.specs.Prelude.{◌≡◌, IsTrue, IsErr, IfOk, OnOk, OnErr, length, if◌then◌else◌};
 ghost use Rattle.bridge_base.specs.Outside.{HasCause};
 ghost use Rattle.bridge_base.specs.Calls.{is_listed};
-ghost use Rattle.bridge_base.specs.InMemory.{written, refused, ran_short};
+ghost use Rattle.bridge_base.specs.InMemory.{written, refused, ran_short, cleared};
 
 use crate::call_log::CallLog;
 use crate::outside::{Failed, Sink};
@@ -46,6 +46,13 @@ impl MemSink {
         ensures { result.now ≡ self.now.contents }
     {
         &self.contents
+    }
+
+    /// Gives up all that the sink holds, without giving back its memory. Its counts stay. It takes no memory.
+    pub fn clear(&mut self)
+        ensures { self.new ≡ cleared self.old }
+    {
+        self.contents.clear();
     }
 
     /// How many calls of `write` were made, up to the greatest u64.
@@ -114,6 +121,8 @@ mod tests {
             assert_eq!(rt; sink.write(piece), answer);
         }
         assert_eq!(rt; sink.contents(), b">abef".as_slice());
+        sink.clear();
+        assert_eq!(rt; sink.contents(), b"".as_slice());
         assert_eq!(rt; (sink.calls(), sink.faults(), sink.short()), (4, 2, 0));
         Ok(())
     }
