@@ -1,0 +1,9 @@
+pub mod TrialArticles
+pub mod TrialBlocks
+pub mod TrialEnds
+pub mod TrialLines
+pub mod TrialNames
+pub mod TrialRuns
+pub mod TrialSteps
+pub mod TrialSymbols
+pub mod Trials
