@@ -1,14 +1,16 @@
 -- The parts of a declaration's text, and of a module's.
-use Rattle.std.proofs.Common.{◌≡◌, ℕ, suc, ◌+◌, ◌<◌, refl, sym, ap, subst, ◌∙◌, List, [], ◌∷◌, ◌++◌, Option, Some, append_assoc, codes, length, map, drop, drop-cons, get_or, add-one, zero}
+use Rattle.std.proofs.Common.{◌≡◌, ℕ, suc, ◌<◌, sym, ap, subst, ◌∙◌, List, [], ◌∷◌, ◌++◌, Option, Some, append_assoc, codes, length, map, get_or, zero}
 use Rattle.std.specs.Prelude.{option_map, slice_get}
 use Rattle.std.proofs.lemmas.List.{append-nil}
-use Rattle.std.proofs.lemmas.Option.{same_Some}
+use Rattle.std.proofs.lemmas.Option.{same_Some, slice_get-get_or}
 use Rattle.lp_spec.specs.Trees.{Tree}
 use Rattle.lp_spec.specs.Modules.{Declaration}
-use Rattle.lp_spec.specs.Text.{opening, tree_text, body_text, declaration_text, declarations_text}
+use Rattle.lp_spec.specs.Text.{opening, tree_text, body_text, declaration_text}
 use Rattle.lp_term.specs.declared.LpId.{LpId}
 use Rattle.lp_term.specs.Tables.{tree_at}
 use Rattle.holide_sig.specs.declared.decls.Decl.{Decl}
+use Rattle.holide_sig.specs.Modules.{declaration_in}
+use Rattle.dk_write.specs.Lines.{line_of, line_at}
 use Rattle.dk_write.specs.Shallow.{IsShallow, AreShallow}
 
 apart_declaration : (o n k t b e : List ℕ) → ((((o ++ n) ++ k) ++ t) ++ b) ++ e ≡ o ++ ((n ++ (k ++ [])) ++ (t ++ (b ++ (e ++ []))))
@@ -24,19 +26,6 @@ pub body_parts : (m : List Declaration) (trees : List Tree) (body : Option LpId)
     → body_text m (option_map (λ i. tree_at trees i.0) body) ≡ (codes " := " ++ []) ++ tree_text m 0 (tree_at trees id.0)
 body_parts m trees body id e = ap (λ b. body_text m (option_map (λ i. tree_at trees i.0) b)) e
 
-drop_at : {X : Type 0} (xs : List X) (i : ℕ) (x : X) → slice_get xs i ≡ Some x → drop i xs ≡ x ∷ drop (i + 1) xs
-drop_at [] i x e = absurd (cc)
-drop_at (y ∷ ys) zero x e = ap (λ z. z ∷ ys) (same_Some _ _ e)
-drop_at (y ∷ ys) (suc i) x e = rw add-one (drop_at ys i x e ∙ rw add-one refl)
-
--- the line of the next declaration, and those of the rest
-pub next_line : (m ds : List Declaration) (bs : List ℕ) (i b : ℕ) (d : Declaration) → slice_get ds i ≡ Some d → i < length bs → b ≡ get_or bs i 0
-    → declarations_text m (drop i ds) (drop i bs) ≡ declaration_text m d b ++ declarations_text m (drop (i + 1) ds) (drop (i + 1) bs)
-next_line m ds bs i b d e h f =
-    let here : drop i ds ≡ d ∷ drop (i + 1) ds = drop_at ds i d e in
-    let there : drop i bs ≡ get_or bs i 0 ∷ drop (i + 1) bs = rw add-one (drop-cons bs i 0 h) in
-    ap (λ l. declarations_text m l (drop i bs)) here ∙ ap (declarations_text m (d ∷ drop (i + 1) ds)) (there ∙ ap (λ n. n ∷ drop (i + 1) bs) (sym f))
-
 pub slice_get-map : {X Y : Type 0} (f : X → Y) (xs : List X) (i : ℕ) (x : X) → slice_get xs i ≡ Some x → slice_get (map f xs) i ≡ Some (f x)
 slice_get-map f [] i x e = absurd (cc)
 slice_get-map f (y ∷ ys) zero x e = ap Some (ap f (same_Some _ _ e))
@@ -46,3 +35,13 @@ pub AreShallow-slice_get : (ts : List Tree) (ds : List Decl) (i : ℕ) (d : Decl
 AreShallow-slice_get ts [] i d h e = absurd (cc)
 AreShallow-slice_get ts (x ∷ xs) zero d h e = subst (IsShallow ts) (same_Some _ _ e) h.0
 AreShallow-slice_get ts (x ∷ xs) (suc i) d h e = AreShallow-slice_get ts xs i d h.1 e
+
+-- the line of the declaration at a place, with its bound
+pub line_at-is : (m : List Declaration) (bounds : List ℕ) (i b : ℕ) (d : Declaration) → slice_get m i ≡ Some d → slice_get bounds i ≡ Some b → line_at m bounds i ≡ declaration_text m d b
+line_at-is m bounds i b d e f = ap (λ x. line_of m x (slice_get bounds i)) e ∙ ap (line_of m (Some d)) f
+
+-- the line of the declaration that stands at a place in a module
+pub line_in : (trees : List Tree) (ds : List Decl) (bounds : List ℕ) (i : ℕ) (d : Decl) → slice_get ds i ≡ Some d → i < length bounds
+    → line_at (map (declaration_in trees) ds) bounds i ≡ declaration_text (map (declaration_in trees) ds) (declaration_in trees d) (get_or bounds i 0)
+line_in trees ds bounds i d e h =
+    line_at-is (map (declaration_in trees) ds) bounds i (get_or bounds i 0) (declaration_in trees d) (slice_get-map (declaration_in trees) ds i d e) (slice_get-get_or bounds i 0 h)

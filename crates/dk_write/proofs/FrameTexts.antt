@@ -24,34 +24,37 @@ enclosed_is : (b : Bool) (t : List ℕ) → enclosed b t ≡ opened b ++ (t ++ c
 enclosed_is true t = refl
 enclosed_is false t = sym (append-nil t)
 
-apart_application : (o f c s x r : List ℕ) → (((o ++ (f ++ c)) ++ s) ++ x) ++ r ≡ (o ++ []) ++ (f ++ ((c ++ (s ++ x)) ++ r))
+apart_application : (o f c s x r : List ℕ) → (((o ++ (f ++ c)) ++ s) ++ x) ++ r ≡ o ++ (f ++ ((c ++ (s ++ x)) ++ r))
 apart_application o f c s x r = simp append_assoc
 
 apart_binder : (n k o f c a x r : List ℕ) → ((((n ++ k) ++ (o ++ (f ++ c))) ++ a) ++ x) ++ r ≡ (n ++ (k ++ o)) ++ (f ++ ((c ++ (a ++ x)) ++ r))
 apart_binder n k o f c a x r = simp append_assoc
 
 module _ (m : Module) (fs : List Frame) where
-  pub argument_parts : (p : Place) (closes opens : Bool) (w v : List ℕ) (gs : List Frame) → w ≡ closed closes → v ≡ opened opens → opens ≡ not (is_word (tree_at m.table p.id.0)) → (if opens then Close ∷ fs else fs) ≡ gs
-      → frame_text m (Argument p closes) ++ frames_text m fs ≡ (w ++ (codes " " ++ (v ++ []))) ++ (place_text m p ++ frames_text m gs)
-  argument_parts p closes opens w v gs e f g h =
+  pub argument_parts : (p : Place) (closes opens : Bool) (w : List ℕ) (gs : List Frame) → w ≡ closed closes ++ (codes " " ++ opened opens) → opens ≡ not (is_word (tree_at m.table p.id.0)) → (if opens then Close ∷ fs else fs) ≡ gs
+      → frame_text m (Argument p closes) ++ frames_text m fs ≡ w ++ (place_text m p ++ frames_text m gs)
+  argument_parts p closes opens w gs e g h =
       ap (λ b. (closed closes ++ (codes " " ++ enclosed b (place_text m p))) ++ frames_text m fs) (sym g)
       ∙ by opens
-      ∙ sym (ap (λ l. (l ++ (codes " " ++ (v ++ []))) ++ (place_text m p ++ frames_text m (if opens then Close ∷ fs else fs))) e
-      ∙ ap (λ l. (closed closes ++ (codes " " ++ (l ++ []))) ++ (place_text m p ++ frames_text m (if opens then Close ∷ fs else fs))) f)
-      ∙ ap (λ l. (w ++ (codes " " ++ (v ++ []))) ++ (place_text m p ++ frames_text m l)) h
+      ∙ sym (ap (λ l. l ++ (place_text m p ++ frames_text m (if opens then Close ∷ fs else fs))) e)
+      ∙ ap (λ l. w ++ (place_text m p ++ frames_text m l)) h
     where
       by : (b : Bool) → (closed closes ++ (codes " " ++ enclosed b (place_text m p))) ++ frames_text m fs
-          ≡ (closed closes ++ (codes " " ++ (opened b ++ []))) ++ (place_text m p ++ frames_text m (if b then Close ∷ fs else fs))
+          ≡ (closed closes ++ (codes " " ++ opened b)) ++ (place_text m p ++ frames_text m (if b then Close ∷ fs else fs))
       by true = simp append_assoc
       by false = simp append_assoc
 
-  pub abstracted_parts : (p : Place) (closes : Bool) (w : List ℕ) → w ≡ closed closes
-      → frame_text m (Abstracted p closes) ++ frames_text m fs ≡ (w ++ (codes " => " ++ [])) ++ (place_text m p ++ frames_text m fs)
-  abstracted_parts p closes w e = ap (λ l. (l ++ (codes " => " ++ place_text m p)) ++ frames_text m fs) (sym e) ∙ simp append_assoc
+  pub abstracted_parts : (p : Place) (closes : Bool) (w : List ℕ) → w ≡ closed closes ++ codes " => "
+      → frame_text m (Abstracted p closes) ++ frames_text m fs ≡ w ++ (place_text m p ++ frames_text m fs)
+  abstracted_parts p closes w e =
+      let parts : (closed closes ++ (codes " => " ++ place_text m p)) ++ frames_text m fs ≡ (closed closes ++ codes " => ") ++ (place_text m p ++ frames_text m fs) = simp append_assoc in
+      parts ∙ ap (λ l. l ++ (place_text m p ++ frames_text m fs)) (sym e)
 
-  pub produced_parts : (p : Place) (closes : Bool) (w : List ℕ) → w ≡ closed closes
-      → frame_text m (Produced p closes) ++ frames_text m fs ≡ (w ++ (codes " -> " ++ [])) ++ (place_text m p ++ frames_text m fs)
-  produced_parts p closes w e = ap (λ l. (l ++ (codes " -> " ++ place_text m p)) ++ frames_text m fs) (sym e) ∙ simp append_assoc
+  pub produced_parts : (p : Place) (closes : Bool) (w : List ℕ) → w ≡ closed closes ++ codes " -> "
+      → frame_text m (Produced p closes) ++ frames_text m fs ≡ w ++ (place_text m p ++ frames_text m fs)
+  produced_parts p closes w e =
+      let parts : (closed closes ++ (codes " -> " ++ place_text m p)) ++ frames_text m fs ≡ (closed closes ++ codes " -> ") ++ (place_text m p ++ frames_text m fs) = simp append_assoc in
+      parts ∙ ap (λ l. l ++ (place_text m p ++ frames_text m fs)) (sym e)
 
   -- a place with its tree
   text_at : (p : Place) (t : Tree) → Holds m.table p.id.0 t → place_text m p ≡ tree_text (declarations_of m) p.depth t
@@ -64,20 +67,20 @@ module _ (m : Module) (fs : List Frame) where
       ap (λ l. l ++ frames_text m fs) (text_at p (Var n) h ∙ ap binder_name (sym less) ∙ ap (λ l. codes "v" ++ l) (sym e ∙ sym (append-nil digits)))
 
   pub symbol_parts : (p : Place) (s : ℕ) (w : List ℕ) → Holds m.table p.id.0 (Sym s) → w ≡ symbol_name (declarations_of m) s
-      → place_text m p ++ frames_text m fs ≡ (w ++ []) ++ frames_text m fs
-  symbol_parts p s w h e = ap (λ l. l ++ frames_text m fs) (text_at p (Sym s) h ∙ sym e ∙ sym (append-nil w))
+      → place_text m p ++ frames_text m fs ≡ w ++ frames_text m fs
+  symbol_parts p s w h e = ap (λ l. l ++ frames_text m fs) (text_at p (Sym s) h ∙ sym e)
 
   pub application_parts : (p : Place) (f x : LpId) (closes : Bool) (w : List ℕ) → Holds m.table p.id.0 (App (tree_at m.table f.0) (tree_at m.table x.0))
       → closes ≡ is_binder (tree_at m.table f.0) → w ≡ opened closes
       → place_text m p ++ frames_text m fs
-      ≡ (w ++ []) ++ (place_text m (record { id = f; depth = p.depth }) ++ (frame_text m (Argument (record { id = x; depth = p.depth }) closes) ++ frames_text m fs))
+      ≡ w ++ (place_text m (record { id = f; depth = p.depth }) ++ (frame_text m (Argument (record { id = x; depth = p.depth }) closes) ++ frames_text m fs))
   application_parts p f x closes w h g e =
       let function = place_text m (record { id = f; depth = p.depth }) in
       let argument = enclosed (not (is_word (tree_at m.table x.0))) (place_text m (record { id = x; depth = p.depth })) in
       ap (λ l. l ++ frames_text m fs) (text_at p (App (tree_at m.table f.0) (tree_at m.table x.0)) h)
       ∙ ap (λ l. (l ++ codes " " ++ argument) ++ frames_text m fs) (ap (λ b. enclosed b function) (sym g) ∙ enclosed_is closes function)
       ∙ apart_application (opened closes) function (closed closes) (codes " ") argument (frames_text m fs)
-      ∙ ap (λ l. (l ++ []) ++ (function ++ ((closed closes ++ (codes " " ++ argument)) ++ frames_text m fs))) (sym e)
+      ∙ ap (λ l. l ++ (function ++ ((closed closes ++ (codes " " ++ argument)) ++ frames_text m fs))) (sym e)
 
   pub abstraction_parts : (p : Place) (a b : LpId) (d : ℕ) (closes : Bool) → Holds m.table p.id.0 (Lam (tree_at m.table a.0) (tree_at m.table b.0))
       → closes ≡ is_binder (tree_at m.table a.0) → d ≡ suc p.depth

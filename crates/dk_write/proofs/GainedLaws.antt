@@ -39,6 +39,10 @@ gained_handed a b c whole before left xs rest g e h =
 pub gained_whole : (a b c : Option (List ℕ)) (whole after : List ℕ) → Gained a whole after b → Gains b after c → Gains a whole c
 gained_whole a b c whole after g h = subst (λ l. Gains a l c) (sym g.rest) (gains_both a b c g.done after g.gains h)
 
+-- nothing was left
+pub gained_all : (a b : Option (List ℕ)) (whole left : List ℕ) → left ≡ [] → Gained a whole left b → Gains a whole b
+gained_all a b whole left e g = subst (λ l. Gains a l b) (sym (g.rest ∙ ap (λ l. g.done ++ l) e ∙ append-nil g.done)) g.gains
+
 -- a call failed in the first part of a text
 pub front_part : (a b : Option (List ℕ)) (before text xs rest : List ℕ) → text ≡ xs ++ rest → GainsFront a (before ++ xs) b → GainsFront a (before ++ text) b
 front_part a b before text xs rest e h = subst (λ l. GainsFront a l b) (sym (whole_is before text xs rest e)) (front_of_first a b (before ++ xs) rest h)

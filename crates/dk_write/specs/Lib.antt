@@ -1,3 +1,5 @@
+pub mod Lines
+pub mod LineLaws
 pub mod Paths
 pub mod Shallow
 pub mod Writing

@@ -11,25 +11,25 @@ use Rattle.dk_write.specs.declared.path.Frame.TheVariants.{Close, Argument, Abst
 use Rattle.dk_write.specs.declared.tree.Turn.{Turn}
 use Rattle.dk_write.specs.declared.tree.Turn.TheVariants.{Write, Leave}
 
--- the tree is of the table, and what is open over it leaves room for its own path
-pub record IsPlace (trees : List Tree) (open_frames : ℕ) (p : Place) : Type 0 where
+-- the tree is of the table, and what is open over it leaves room for its own path among so many frames
+pub record IsPlace (most : ℕ) (trees : List Tree) (open_frames : ℕ) (p : Place) : Type 0 where
   pub known : p.id.0 < length trees
-  pub room : open_frames + depth (tree_at trees p.id.0) ≤ 16384
+  pub room : open_frames + depth (tree_at trees p.id.0) ≤ most
   pub binders : p.depth + depth (tree_at trees p.id.0) ≤ 16384
 
-abbrev pub IsFrame : List Tree → ℕ → Frame → Type 0
-IsFrame trees open_frames Close = Unit {0}
-IsFrame trees open_frames (Argument p closes) = IsPlace trees (suc open_frames) p
-IsFrame trees open_frames (Abstracted p closes) = IsPlace trees (suc open_frames) p
-IsFrame trees open_frames (Produced p closes) = IsPlace trees (suc open_frames) p
+abbrev pub IsFrame : ℕ → List Tree → ℕ → Frame → Type 0
+IsFrame most trees open_frames Close = Unit {0}
+IsFrame most trees open_frames (Argument p closes) = IsPlace most trees (suc open_frames) p
+IsFrame most trees open_frames (Abstracted p closes) = IsPlace most trees (suc open_frames) p
+IsFrame most trees open_frames (Produced p closes) = IsPlace most trees (suc open_frames) p
 
-abbrev pub AreFrames : List Tree → List Frame → Type 0
-AreFrames trees [] = Unit {0}
-AreFrames trees (frame ∷ frames) = IsFrame trees (length frames) frame × AreFrames trees frames
+abbrev pub AreFrames : ℕ → List Tree → List Frame → Type 0
+AreFrames most trees [] = Unit {0}
+AreFrames most trees (frame ∷ frames) = IsFrame most trees (length frames) frame × AreFrames most trees frames
 
-abbrev pub IsTurn : List Tree → List Frame → Turn → Type 0
-IsTurn trees frames (Write p) = IsPlace trees (length frames) p
-IsTurn trees frames Leave = Unit {0}
+abbrev pub IsTurn : ℕ → List Tree → List Frame → Turn → Type 0
+IsTurn most trees frames (Write p) = IsPlace most trees (length frames) p
+IsTurn most trees frames Leave = Unit {0}
 
 abbrev pub place_text : Module → Place → List ℕ
 place_text m p = tree_text (declarations_of m) p.depth (tree_at m.table p.id.0)

@@ -1,5 +1,5 @@
 //! Text that is gathered before a sink gets it.
-ghost use Rattle.std.specs.Prelude.{◌≡◌, ◌+◌, ◌≤◌, ◌++◌, [], codes, length, OnOk, OnErr};
+ghost use Rattle.std.specs.Prelude.{◌≡◌, ◌+◌, ◌≤◌, ◌++◌, [], length, OnOk, OnErr};
 ghost use Rattle.bridge_base.specs.Outside.{Gains, GainsFront, HasCause};
 ghost use Rattle.dk_write.specs.Writing.{Writes, words_text};
 
@@ -9,7 +9,7 @@ use std::marker::Model;
 // How many bytes are gathered at most, and written at once.
 const ROOM: usize = 4_096;
 
-/// Bytes that a sink is to get: it gets them together, at the end of a declaration, or once there is no room for one more.
+/// Bytes that a sink is to get: it gets them together, once there is no room for one more, and at the end.
 #[derive(Drop)]
 pub(crate) struct Gathered {
     bytes: [u8; ROOM],
@@ -78,14 +78,6 @@ impl Gathered {
         }
         self.gather(rest);
         Ok(())
-    }
-
-    // Writes the end of a declaration, and with it all that is gathered.
-    pub(crate) fn end_line<S: Sink>(&mut self, sink: &mut S) -> Result<(), Failed>
-        ensures { Writes (S.got sink.old) self.old (S.faults sink.old) (codes ".\n") (S.got sink.new) self.new (S.faults sink.new) result }
-    {
-        self.write(b".\n", sink)?;
-        self.flush(sink)
     }
 
     // Writes these words, one after another.

@@ -1,7 +1,6 @@
 //! What follows the part of a tree that is being written.
 ghost use Rattle.std.specs.Prelude.{◌≡◌, ◌<◌, [], ◌∷◌, length, MatchOption, IfNone, IfSome};
 
-use crate::DEPTH;
 use lp_term::LpId;
 use std::marker::Model;
 
@@ -25,14 +24,14 @@ pub(crate) enum Frame {
     Produced(Place, bool),
 }
 
-/// What follows the part of a tree that is being written, the next on top.
+/// What follows the part of a tree that is being written, the next on top: at most so many frames.
 #[derive(Drop)]
-pub(crate) struct Path {
-    frames: [Frame; DEPTH],
+pub(crate) struct Path<const MOST: usize> {
+    frames: [Frame; MOST],
     len: usize,
 }
 
-impl Model for Path {
+impl<const MOST: usize> Model for Path<MOST> {
     ghost use Rattle.std.specs.Prelude.{List, reverse, take, ◌≤◌};
     ghost use Rattle.dk_write.specs.declared.path.Frame.{Frame as AFrame};
 
@@ -40,28 +39,21 @@ impl Model for Path {
 
     ghost view = { λ p. reverse (take p.len p.frames) };
 
-    ghost invariant = { λ p. p.len ≤ 16384 };
+    ghost invariant = { λ p. p.len ≤ MOST };
 }
 
-impl Path {
+impl<const MOST: usize> Path<MOST> {
     pub(crate) fn new() -> Self
         ensures { result ≡ [] }
     {
         Path {
-            frames: [Frame::Close; DEPTH],
+            frames: [Frame::Close; MOST],
             len: 0,
         }
     }
 
-    // Gives up all frames.
-    pub(crate) fn clear(&mut self)
-        ensures { self.new ≡ [] }
-    {
-        self.len = 0;
-    }
-
     pub(crate) fn push(&mut self, frame: Frame)
-        requires { length self.old < 16384 }
+        requires { length self.old < MOST }
         ensures { self.new ≡ frame ∷ self.old }
     {
         self.frames[self.len] = frame;
@@ -71,7 +63,7 @@ impl Path {
     pub(crate) fn pop(&mut self) -> Option<Frame>
         ensures popped { MatchOption result (self.old ≡ []) (λ frame. self.old ≡ frame ∷ self.new) }
         ensures still_empty { IfNone result (self.new ≡ []) }
-        ensures room { IfSome result (λ _. length self.new < 16384) }
+        ensures room { IfSome result (λ _. length self.new < MOST) }
     {
         if self.len == 0 {
             return None;

@@ -8,7 +8,7 @@ ghost use Rattle.lp_term.specs.Tables.{tree_at, AreKnown, IsDistinct, Keeps, Par
 ghost use Rattle.holide_sig.specs.Modules.{declarations_of, IsHeld};
 ghost use Rattle.dk_write.specs.Shallow.{AreShallow};
 
-use crate::{DEPTH, write};
+use crate::{DEPTH, write, write_decl, write_prelude};
 use bridge_base::{Failed, MemSink, Memory, QuietSink, Sink, Stack};
 use holide_sig::{Decl, Form, Ident, Module, PRELUDE, SIGNATURE};
 use lp_term::{LpId, LpNode, LpTable};
@@ -182,11 +182,15 @@ fn many_words_are_written_at_once(rt: HostRuntime) -> Result<(), Fail> {
         longest: 0,
     };
     assert_eq!(rt; write(&module, &[0], &mut measured), Ok(()));
-    assert_eq!(rt; measured.pieces, text.len().div_ceil(4_096));
+    let line = text.len().saturating_sub(PRELUDE.len());
+    assert_eq!(rt; measured.pieces, line.div_ceil(4_096).saturating_add(1));
     assert_eq!(rt; measured.longest, 4_096);
     let mut failing = MemSink::new(Vec::new(alloc), vec![in alloc; 3]?);
     assert_eq!(rt; write(&module, &[0], &mut failing), Err(Failed));
-    assert_eq!(rt; failing.contents().len(), 8_192);
+    assert_eq!(rt;
+        failing.contents().len(),
+        PRELUDE.len().saturating_add(4_096)
+    );
     assert!(rt; text.starts_with(failing.contents()));
     Ok(())
 }
@@ -338,5 +342,18 @@ fn lemmas_are_written(rt: HostRuntime) -> Result<(), Fail> {
         Ok(())
     );
     assert_eq!(rt; sink.contents(), text.as_slice());
+    let mut line = MemSink::new(Vec::new(alloc), Vec::new(alloc));
+    assert_eq!(rt; write_prelude(&mut line), Ok(()));
+    assert_eq!(rt; line.contents(), PRELUDE);
+    line.clear();
+    assert_eq!(rt;
+        write_decl(&module, &[10_764_582_912, 5_451_776_000], 1, &mut line),
+        Ok(())
+    );
+    assert!(rt;
+        line.contents()
+            .starts_with(b"(; bound 5451776000 ;)\nthm trans : v0")
+    );
+    assert!(rt; text.as_slice().ends_with(line.contents()));
     Ok(())
 }

@@ -1,5 +1,5 @@
 //! Writing a tree, with a path in the place of a recursion.
-ghost use Rattle.std.specs.Prelude.{◌≡◌, ◌+◌, ◌-◌, ◌<◌, ◌≤◌, [], ◌∷◌, ◌++◌, suc, length, codes, IfOk, OnErr, if◌then◌else◌};
+ghost use Rattle.std.specs.Prelude.{◌≡◌, ◌+◌, ◌-◌, ◌<◌, ◌≤◌, [], ◌∷◌, ◌++◌, suc, length, codes, IfOk, OnOk, OnErr, if◌then◌else◌};
 ghost use Rattle.bridge_base.specs.Outside.{GainsFront, HasCause};
 ghost use Rattle.lp_spec.specs.Trees.{depth as depth_of};
 ghost use Rattle.lp_spec.specs.Text.{binder_name, is_binder as is_binder_tree, is_word as is_word_tree, tree_text};
@@ -25,20 +25,22 @@ pub(crate) enum Turn {
     Leave,
 }
 
-// Writes a tree that stands under no binder.
-pub(crate) fn write_tree<S: Sink>(
+// Writes a tree that stands under no binder. Nothing follows it, before and after.
+pub(crate) fn write_tree<S: Sink, const MOST: usize>(
     source: &Module,
     id: LpId,
-    path: &mut Path,
+    path: &mut Path<MOST>,
     gathered: &mut Gathered,
     sink: &mut S,
 ) -> Result<(), Failed>
     requires known { id.0 < length source.now.table }
     requires shallow { depth_of (tree_at source.now.table id.0) ≤ 16384 }
-    ensures { Writes (S.got sink.old) gathered.old (S.faults sink.old)
+    requires room { depth_of (tree_at source.now.table id.0) ≤ MOST }
+    requires empty { path.old ≡ [] }
+    ensures empty { OnOk result (path.new ≡ []) }
+    ensures writes { Writes (S.got sink.old) gathered.old (S.faults sink.old)
         (tree_text (declarations_of source.now) 0 (tree_at source.now.table id.0)) (S.got sink.new) gathered.new (S.faults sink.new) result }
 {
-    path.clear();
     let mut turn = Turn::Write(Place { id, depth: 0 });
     loop {
         turn = match turn {
@@ -52,17 +54,17 @@ pub(crate) fn write_tree<S: Sink>(
 }
 
 // Writes the front of a tree, as far as its first part, or all of it where it has none.
-fn write_place<S: Sink>(
+fn write_place<S: Sink, const MOST: usize>(
     source: &Module,
     place: Place,
-    path: &mut Path,
+    path: &mut Path<MOST>,
     gathered: &mut Gathered,
     sink: &mut S,
 ) -> Result<Turn, Failed>
-    requires place { IsPlace source.now.table (length path.old) place }
-    requires frames { AreFrames source.now.table path.old }
-    ensures turn { IfOk result (IsTurn source.now.table path.new) }
-    ensures frames { IfOk result (λ _. AreFrames source.now.table path.new) }
+    requires place { IsPlace MOST source.now.table (length path.old) place }
+    requires frames { AreFrames MOST source.now.table path.old }
+    ensures turn { IfOk result (IsTurn MOST source.now.table path.new) }
+    ensures frames { IfOk result (λ _. AreFrames MOST source.now.table path.new) }
     ensures less { IfOk result (λ turn. work source.now.table turn path.new < work source.now.table (Turn.Write place) path.old) }
     ensures ok { IfOk result (λ turn. Gained (S.got sink.old) (gathered.old ++ left_text source.now (Turn.Write place) path.old) (gathered.new ++ left_text source.now turn path.new) (S.got sink.new)) }
     ensures err { OnErr result (GainsFront (S.got sink.old) (gathered.old ++ left_text source.now (Turn.Write place) path.old) (S.got sink.new)) }
@@ -71,12 +73,12 @@ fn write_place<S: Sink>(
     let depth = place.depth;
     match source.table.view(place.id) {
         LpNode::SortType => {
-            gathered.write_words(&[b"Type"], sink)?;
+            gathered.write(b"Type", sink)?;
             Ok(Turn::Leave)
         }
         LpNode::SortKind => Ok(Turn::Leave),
         LpNode::Sym(symbol) => {
-            gathered.write_words(&[symbol_name(source, symbol)], sink)?;
+            gathered.write(symbol_name(source, symbol), sink)?;
             Ok(Turn::Leave)
         }
         LpNode::Var(number) => {
@@ -94,7 +96,7 @@ fn write_place<S: Sink>(
                 },
                 closes,
             ));
-            gathered.write_words(&[opening(closes)], sink)?;
+            open_part(closes, gathered, sink)?;
             Ok(Turn::Write(Place {
                 id: function,
                 depth,
@@ -127,6 +129,17 @@ fn write_place<S: Sink>(
     }
 }
 
+// Writes the parenthesis before a part, where it needs one.
+fn open_part<S: Sink>(wanted: bool, gathered: &mut Gathered, sink: &mut S) -> Result<(), Failed>
+    ensures { Writes (S.got sink.old) gathered.old (S.faults sink.old) (if wanted then codes "(" else []) (S.got sink.new) gathered.new (S.faults sink.new) result }
+{
+    if wanted {
+        gathered.write(b"(", sink)
+    } else {
+        Ok(())
+    }
+}
+
 // Writes the name of a binder and what stands before its domain.
 fn write_binder<S: Sink>(
     depth: u64,
@@ -142,18 +155,18 @@ fn write_binder<S: Sink>(
 }
 
 // Writes what stands between a part of a tree and the next.
-fn write_frame<S: Sink>(
+fn write_frame<S: Sink, const MOST: usize>(
     source: &Module,
     frame: Frame,
-    path: &mut Path,
+    path: &mut Path<MOST>,
     gathered: &mut Gathered,
     sink: &mut S,
 ) -> Result<Turn, Failed>
-    requires frame { IsFrame source.now.table (length path.old) frame }
-    requires frames { AreFrames source.now.table path.old }
-    requires room { length path.old < 16384 }
-    ensures turn { IfOk result (IsTurn source.now.table path.new) }
-    ensures frames { IfOk result (λ _. AreFrames source.now.table path.new) }
+    requires frame { IsFrame MOST source.now.table (length path.old) frame }
+    requires frames { AreFrames MOST source.now.table path.old }
+    requires room { length path.old < MOST }
+    ensures turn { IfOk result (IsTurn MOST source.now.table path.new) }
+    ensures frames { IfOk result (λ _. AreFrames MOST source.now.table path.new) }
     ensures less { IfOk result (λ turn. work source.now.table turn path.new < work source.now.table Turn.Leave (frame ∷ path.old)) }
     ensures ok { IfOk result (λ turn. Gained (S.got sink.old) (gathered.old ++ left_text source.now Turn.Leave (frame ∷ path.old)) (gathered.new ++ left_text source.now turn path.new) (S.got sink.new)) }
     ensures err { OnErr result (GainsFront (S.got sink.old) (gathered.old ++ left_text source.now Turn.Leave (frame ∷ path.old)) (S.got sink.new)) }
@@ -161,23 +174,23 @@ fn write_frame<S: Sink>(
 {
     match frame {
         Frame::Close => {
-            gathered.write_words(&[b")"], sink)?;
+            gathered.write(b")", sink)?;
             Ok(Turn::Leave)
         }
         Frame::Argument(place, closes) => {
             let opens = !is_word(source, place.id);
-            gathered.write_words(&[closing(closes), b" ", opening(opens)], sink)?;
+            gathered.write(between(closes, opens), sink)?;
             if opens {
                 path.push(Frame::Close);
             }
             Ok(Turn::Write(place))
         }
         Frame::Abstracted(place, closes) => {
-            gathered.write_words(&[closing(closes), b" => "], sink)?;
+            gathered.write(to_body(closes), sink)?;
             Ok(Turn::Write(place))
         }
         Frame::Produced(place, closes) => {
-            gathered.write_words(&[closing(closes), b" -> "], sink)?;
+            gathered.write(to_target(closes), sink)?;
             Ok(Turn::Write(place))
         }
     }
@@ -219,8 +232,28 @@ fn opening(wanted: bool) -> &'static [u8]
     if wanted { b"(" } else { b"" }
 }
 
-fn closing(wanted: bool) -> &'static [u8]
-    ensures { result.now ≡ (if wanted then codes ")" else []) }
+// What stands between a function and its argument: the parenthesis that ends the one, and the one before the other.
+fn between(closes: bool, opens: bool) -> &'static [u8]
+    ensures { result.now ≡ (if closes then codes ")" else []) ++ (codes " " ++ (if opens then codes "(" else [])) }
 {
-    if wanted { b")" } else { b"" }
+    match (closes, opens) {
+        (false, false) => b" ",
+        (false, true) => b" (",
+        (true, false) => b") ",
+        (true, true) => b") (",
+    }
+}
+
+// What stands between the domain of an abstraction and its body.
+fn to_body(closes: bool) -> &'static [u8]
+    ensures { result.now ≡ (if closes then codes ")" else []) ++ codes " => " }
+{
+    if closes { b") => " } else { b" => " }
+}
+
+// What stands between the domain of a product and its body.
+fn to_target(closes: bool) -> &'static [u8]
+    ensures { result.now ≡ (if closes then codes ")" else []) ++ codes " -> " }
+{
+    if closes { b") -> " } else { b" -> " }
 }

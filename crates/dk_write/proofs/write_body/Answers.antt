@@ -11,4 +11,4 @@ returns-in_err-write_words-in-Some g c =
 pub returns-in_ok-write_words-in-Some : goal.returns-in_ok-write_words-in-Some
 returns-in_ok-write_words-in-Some g c =
     writes_same _ _ (body_parts (declarations_of c.args.source.now) c.args.source.now.table c.args.body c.in-Some.id c.in-Some.is)
-    (writes_then _ _ _ _ _ _ _ _ _ _ _ _ _ _ c.in_ok-write_words-in-Some.was c.write_words.ensures c.write_tree.ensures)
+    (writes_then _ _ _ _ _ _ _ _ _ _ _ _ _ _ c.in_ok-write_words-in-Some.was c.write_words.ensures c.write_tree.ensures.writes)

@@ -20,14 +20,14 @@ returns-in_err-write_tree g c =
     writes_same _ _ (declaration_parts (declarations_of c.args.source.now) (declaration_in c.args.source.now.table c.args.decl.now) c.args.bound _ c.as_bytes.ensures)
     (writes_then _ _ _ _ _ _ _ _ _ _ _ _ _ _ c.in_ok-write_opening.was c.write_opening.ensures
     (writes_then _ _ _ _ _ _ _ _ _ _ _ _ _ _ c.in_ok-write_words.was c.write_words.ensures
-    (writes_stop _ _ _ _ _ _ _ _ _ _ _ c.in_err-write_tree.was c.from_residual-in_err-write_tree.ensures.0 c.write_tree.ensures)))
+    (writes_stop _ _ _ _ _ _ _ _ _ _ _ c.in_err-write_tree.was c.from_residual-in_err-write_tree.ensures.0 c.write_tree.ensures.writes)))
 
 pub returns-in_err-write_body : goal.returns-in_err-write_body
 returns-in_err-write_body g c =
     writes_same _ _ (declaration_parts (declarations_of c.args.source.now) (declaration_in c.args.source.now.table c.args.decl.now) c.args.bound _ c.as_bytes.ensures)
     (writes_then _ _ _ _ _ _ _ _ _ _ _ _ _ _ c.in_ok-write_opening.was c.write_opening.ensures
     (writes_then _ _ _ _ _ _ _ _ _ _ _ _ _ _ c.in_ok-write_words.was c.write_words.ensures
-    (writes_then _ _ _ _ _ _ _ _ _ _ _ _ _ _ c.in_ok-write_tree.was c.write_tree.ensures
+    (writes_then _ _ _ _ _ _ _ _ _ _ _ _ _ _ c.in_ok-write_tree.was c.write_tree.ensures.writes
     (writes_stop _ _ _ _ _ _ _ _ _ _ _ c.in_err-write_body.was c.from_residual-in_err-write_body.ensures.0 c.write_body.ensures))))
 
 pub returns : goal.returns
@@ -35,6 +35,6 @@ returns g c =
     writes_same _ _ (declaration_parts (declarations_of c.args.source.now) (declaration_in c.args.source.now.table c.args.decl.now) c.args.bound _ c.as_bytes.ensures)
     (writes_then _ _ _ _ _ _ _ _ _ _ _ _ _ _ c.in_ok-write_opening.was c.write_opening.ensures
     (writes_then _ _ _ _ _ _ _ _ _ _ _ _ _ _ c.in_ok-write_words.was c.write_words.ensures
-    (writes_then _ _ _ _ _ _ _ _ _ _ _ _ _ _ c.in_ok-write_tree.was c.write_tree.ensures
+    (writes_then _ _ _ _ _ _ _ _ _ _ _ _ _ _ c.in_ok-write_tree.was c.write_tree.ensures.writes
     (writes_then _ _ _ _ _ _ _ _ _ _ _ _ _ _ c.in_ok-write_body.was c.write_body.ensures
-    c.end_line.ensures))))
+    c.write_words-2.ensures))))

@@ -1,6 +1,6 @@
-use Rattle.std.proofs.Common.{ap, ◌∙◌, ◌≡◌, ℕ, ◌-◌, ◌+◌, suc, arith}
+use Rattle.std.proofs.Common.{refl, ap, ◌∙◌, ◌≡◌, ℕ, ◌-◌, ◌+◌, suc, arith}
 use Rattle.dk_write.proofs.GainedLaws.{gained_part, on_err_front}
-use Rattle.dk_write.proofs.FrameTexts.{variable_parts, application_parts, abstraction_parts, product_parts}
+use Rattle.dk_write.proofs.FrameTexts.{variable_parts, symbol_parts, application_parts, abstraction_parts, product_parts}
 use Rattle.dk_write.proofs.tree.write_place.Goals as goal
 
 next : (n : ℕ) → n + 1 ≡ suc n
@@ -14,17 +14,23 @@ returns-in_err-write_words-in-Var-clause-err g c =
     (c.saturating_sub-binder.ensures ∙ ap (λ n. n - 1) (c.saturating_sub.ensures ∙ ap (λ n. n - c.in-Var.number) c.from.ensures)))
     c.in_err-write_words-in-Var.ensures.err
 
-pub returns-in_err-write_words-in-App-clause-err : goal.returns-in_err-write_words-in-App-clause-err
-returns-in_err-write_words-in-App-clause-err g c =
+pub returns-in_err-write-in-Sym-clause-err : goal.returns-in_err-write-in-Sym-clause-err
+returns-in_err-write-in-Sym-clause-err g c =
     on_err_front _ _ _ _ _ _ _
-    (application_parts c.args.source.now c.args.path.now c.args.place c.in-App.function c.in-App.argument c.is_binder-closes.result _ c.in-App.ensures.is c.is_binder-closes.ensures c.opening.ensures)
-    c.in_err-write_words-in-App.ensures.err
+    (symbol_parts c.args.source.now c.args.path.now c.args.place c.in-Sym.symbol _ c.in-Sym.ensures.is c.symbol_name.ensures)
+    c.in_err-write-in-Sym.ensures.err
 
-pub returns-in_ok-write_words-in-App-clause-ok : goal.returns-in_ok-write_words-in-App-clause-ok
-returns-in_ok-write_words-in-App-clause-ok g c =
+pub returns-in_err-open_part-in-App-clause-err : goal.returns-in_err-open_part-in-App-clause-err
+returns-in_err-open_part-in-App-clause-err g c =
+    on_err_front _ _ _ _ _ _ _
+    (application_parts c.args.source.now c.args.path.now c.args.place c.in-App.function c.in-App.argument c.is_binder-closes.result _ c.in-App.ensures.is c.is_binder-closes.ensures refl)
+    c.in_err-open_part-in-App.ensures.err
+
+pub returns-in_ok-open_part-in-App-clause-ok : goal.returns-in_ok-open_part-in-App-clause-ok
+returns-in_ok-open_part-in-App-clause-ok g c =
     rw c.push.ensures (gained_part _ _ _ _ _ _ _
-    (application_parts c.args.source.now c.args.path.now c.args.place c.in-App.function c.in-App.argument c.is_binder-closes.result _ c.in-App.ensures.is c.is_binder-closes.ensures c.opening.ensures)
-    c.in_ok-write_words-in-App.ensures.ok)
+    (application_parts c.args.source.now c.args.path.now c.args.place c.in-App.function c.in-App.argument c.is_binder-closes.result _ c.in-App.ensures.is c.is_binder-closes.ensures refl)
+    c.in_ok-open_part-in-App.ensures.ok)
 
 pub returns-in_err-write_binder-in-Lam-clause-err : goal.returns-in_err-write_binder-in-Lam-clause-err
 returns-in_err-write_binder-in-Lam-clause-err g c =

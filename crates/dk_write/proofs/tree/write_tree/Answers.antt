@@ -2,14 +2,14 @@ use Rattle.std.proofs.Common.{arith}
 use Rattle.dk_write.proofs.GainedLaws.{gained_both, writes_failed}
 use Rattle.dk_write.proofs.tree.write_tree.Goals as goal
 
-pub returns-in_err-turn-in-Write : goal.returns-in_err-turn-in-Write
-returns-in_err-turn-in-Write g c =
+pub returns-in_err-turn-in-Write-clause-writes : goal.returns-in_err-turn-in-Write-clause-writes
+returns-in_err-turn-in-Write-clause-writes g c =
     let t = c.in-Write.is in
     let before = rw t at c.loop-turn.invariant.text in
     writes_failed _ _ _ _ _ _ _ _ _ _ _ _ c.from_residual.ensures.0 before c.loop-turn.invariant.later c.in_err-turn-in-Write.ensures.err c.in_err-turn-in-Write.ensures.cause
 
-pub returns-in_err-turn-in-Some : goal.returns-in_err-turn-in-Some
-returns-in_err-turn-in-Some g c =
+pub returns-in_err-turn-in-Some-clause-writes : goal.returns-in_err-turn-in-Some-clause-writes
+returns-in_err-turn-in-Some-clause-writes g c =
     let t = c.in-Leave.is in
     let p = c.in-Some.ensures.popped in
     let before = rw (t, p) at c.loop-turn.invariant.text in

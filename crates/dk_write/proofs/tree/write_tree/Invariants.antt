@@ -9,8 +9,8 @@ use Rattle.dk_write.proofs.tree.write_tree.Given as goal
 -- what is left are the bytes gathered and what the turn and the path write
 abbrev pub invariant-loop-turn : goal.invariant-loop-turn
 invariant-loop-turn g l = record {
-  turn : IsTurn l.source.table l.path l.turn;
-  frames : AreFrames l.source.table l.path;
+  turn : IsTurn g.row.MOST l.source.table l.path l.turn;
+  frames : AreFrames g.row.MOST l.source.table l.path;
   text : Gained (g.S.Sink.got l.fn.sink) (l.fn.gathered ++ tree_text (declarations_of l.fn.source) 0 (tree_at l.fn.source.table l.fn.id.0)) (l.gathered ++ left_text l.source l.turn l.path) (g.S.Sink.got l.sink);
   later : g.S.Sink.faults l.fn.sink ≤ g.S.Sink.faults l.sink;
 }
