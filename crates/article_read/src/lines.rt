@@ -109,6 +109,15 @@ impl Lines {
         Ok(line)
     }
 
+    /// How many bytes of the line that is open are kept, at most 1,048,576: nothing else is kept of what was fed. It takes
+    /// no memory.
+    pub fn held(&self) -> usize
+        ensures line { result ≡ length self.now.rest }
+        ensures most { result ≤ max_line }
+    {
+        self.rest.len()
+    }
+
     /// Takes one byte.
     fn take(&mut self, byte: u8, commands: &mut Vec<Command>) -> Result<(), LineFault>
         requires { self.old.fault ≡ None }

@@ -1,6 +1,6 @@
 //! A text in pieces of any size gives the same commands.
 use crate::reading::read;
-use article_read::{Command, Item, Word, read_all};
+use article_read::{Command, Item, Lines, Word, read_all};
 use hol_name::Name;
 use std::alloc::Global;
 use std::test::Fail;
@@ -47,6 +47,24 @@ fn any_pieces_give_the_same_commands(rt: HostRuntime) -> Result<(), Fail> {
         let mut commands = Vec::new(rt.alloc());
         assert_eq!(rt; read(rt.alloc(), REFLEXIVITY, size, &mut commands), Ok(43));
         assert!(rt; commands == whole, "in pieces of {size}");
+    }
+    Ok(())
+}
+
+#[test]
+fn only_the_open_line_is_held(rt: HostRuntime) -> Result<(), Fail> {
+    let alloc = rt.alloc();
+    let mut lines = Lines::new(alloc);
+    let mut out = Vec::new(alloc);
+    assert_eq!(rt; lines.held(), 0);
+    for (piece, commands, held) in [
+        (b"6\nver".as_slice(), 1, 3),
+        (b"sion\n".as_slice(), 2, 0),
+        (b"# a comment".as_slice(), 2, 11),
+        (b"\n\n".as_slice(), 2, 0),
+    ] {
+        assert!(rt; lines.feed(piece, &mut out).is_ok());
+        assert_eq!(rt; (out.len(), lines.held()), (commands, held));
     }
     Ok(())
 }
