@@ -1,0 +1,3 @@
+mod ChainLaws
+mod PlaceLaws
+mod PoolLaws
