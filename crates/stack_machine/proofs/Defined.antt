@@ -1,5 +1,5 @@
 -- What the words that define answer, by what their definitions make.
-use Rattle.std.proofs.Common.{◌≡◌, ℕ, ◌+◌, ◌<◌, ◌≤◌, refl, sym, ap, subst, ◌∙◌, arith, List, [], ◌∷◌, ◌++◌, length, map, drop, Result, Ok, Err, IfOk, IfErr, OnErr}
+use Rattle.std.proofs.Common.{◌≡◌, ℕ, ◌+◌, ◌<◌, refl, sym, ap, subst, ◌∙◌, arith, List, [], ◌∷◌, ◌++◌, length, append_assoc, map, drop, Result, Ok, Err, IfOk, IfErr, OnErr}
 use Rattle.std.specs.Result.{IsErrAnd}
 use Rattle.std.proofs.Math.Path.{ap₂}
 use Rattle.hol_spec.specs.Names.{Name}
@@ -11,9 +11,12 @@ use Rattle.bridge_base.specs.declared.faults.Kind.{Kind}
 use Rattle.article_spec.specs.declared.commands.Word.{Word}
 use Rattle.article_spec.specs.State.{State}
 use Rattle.article_spec.specs.State as state
-use Rattle.article_spec.specs.Results.{◌>>=◌, ◌>>◌, Fails}
-use Rattle.article_spec.specs.Changes.{with_theorem, with_symbols}
+use Rattle.article_spec.specs.Results.{◌>>=◌, Fails}
+use Rattle.article_spec.specs.Changes.{with_theorem}
 use Rattle.article_spec.specs.Step.{obey}
+use Rattle.proof_laws.specs.ProofLaws.{steps_of-push, steps_of-symbols}
+use Rattle.compose.specs.declared.pool.Said.{Said}
+use Rattle.compose.specs.Pools.{steps_in}
 use Rattle.hol_rules.specs.Kept.{Kept}
 use Rattle.hol_rules.specs.Kept as proof
 use Rattle.hol_rules.specs.Conclusions.{Defines, DefinesType, limited}
@@ -21,10 +24,10 @@ use Rattle.hol_rules.specs.Steps.{NewType}
 use Rattle.stack_machine.specs.declared.object.Object.{Object}
 use Rattle.stack_machine.specs.declared.object.Object.TheVariants as object
 use Rattle.stack_machine.specs.declared.object.Cell.{Cell}
-use Rattle.stack_machine.specs.Making.{Run, run_view}
+use Rattle.stack_machine.specs.Making.{run_view}
 use Rattle.stack_machine.specs.MakingLaws.{count-step, count-symbols}
 use Rattle.stack_machine.specs.declared.object.NameId.{NameId}
-use Rattle.stack_machine.specs.Stored.{Stored, IsName, IsStore, Grows, name_at, objects_view, store_view, AreKnown}
+use Rattle.stack_machine.specs.Stored.{Stored, IsFront, IsName, IsStore, Grows, name_at, objects_view, store_view, AreKnown}
 use Rattle.stack_machine.specs.StoredLaws.{Grows-trans, IsKnown-Grows, name_at-Grows}
 use Rattle.stack_machine.specs.Shown.{in_state, shown}
 use Rattle.stack_machine.specs.Obeying.{Obeys}
@@ -32,11 +35,14 @@ use Rattle.stack_machine.specs.Inferring.{Infers, InfersTwo, defining, defining_
 use Rattle.stack_machine.proofs.Passing.{IfOk-map, IfErr-map, OnErr-map}
 use Rattle.stack_machine.proofs.Obeyed.{failed, placed}
 use Rattle.stack_machine.proofs.Inferred.{limited-Ok, limited-fails}
-use Rattle.stack_machine.proofs.Stores.{IsMore, IsStore-more, Grows-more}
+use Rattle.stack_machine.proofs.Stores.{IsFront-same, IsMore, IsStore-more, Grows-more}
 
 -- as many steps where symbols are taken, and one more where a step is made
 count-defined : (made : List Made) (symbols : List Symbol) (x : Step) → length (steps_of ((made ++ map Made.symbol symbols) ++ Made.step x ∷ [])) ≡ length (steps_of made) + 1
 count-defined made symbols x = count-step (made ++ map Made.symbol symbols) x ∙ ap (λ n. n + 1) (count-symbols made symbols)
+
+steps_of-defined : (made : List Made) (symbols : List Symbol) (x : Step) → steps_of ((made ++ map Made.symbol symbols) ++ Made.step x ∷ []) ≡ steps_of made ++ x ∷ []
+steps_of-defined made symbols x = steps_of-push (made ++ map Made.symbol symbols) x ∙ ap (λ xs. xs ++ x ∷ []) (steps_of-symbols made symbols)
 
 -- a definition takes symbols and makes the next step, or nothing
 module _ {a b : Kept} {symbols : List Symbol} {rule : Result Step Kind} {r : Result ℕ Fault} (h : Defines a symbols rule b r) where
@@ -44,9 +50,9 @@ module _ {a b : Kept} {symbols : List Symbol} {rule : Result Step Kind} {r : Res
   Defines-more = record { trees = h.keeps; steps = by_answer r h.concluded h.unchanged }
     where
       by_answer : (r : Result ℕ Fault) → IfOk r (λ i. (i ≡ proof.step_count a) × ((x : Step) × (limited rule ≡ Ok x) × (b.made ≡ (a.made ++ map Made.symbol symbols) ++ Made.step x ∷ []))) → OnErr r (b.made ≡ a.made)
-          → length (steps_of a.made) ≤ length (steps_of b.made)
-      by_answer (Ok i) c u = let e = ap (λ made. length (steps_of made)) c.1.2 ∙ count-defined a.made symbols c.1.0 in omega (arith, e)
-      by_answer (Err x) c u = let e = ap (λ made. length (steps_of made)) u in omega (arith, e)
+          → IsFront (steps_of a.made) (steps_of b.made)
+      by_answer (Ok i) c u = record { more = c.1.0 ∷ []; is = ap steps_of c.1.2 ∙ steps_of-defined a.made symbols c.1.0 }
+      by_answer (Err x) c u = IsFront-same (ap steps_of u)
 
   pub Defines-made : IfOk r (λ i. i < length (steps_of b.made))
   Defines-made = IfOk-map r _ _ h.concluded (λ i c. let e = ap (λ made. length (steps_of made)) c.1.2 ∙ count-defined a.made symbols c.1.0 in omega (arith, e, c.0))
@@ -65,16 +71,16 @@ module _ {a b : Kept} {symbols : List Symbol} {rule : Result Step Kind} {r : Res
     pub Defines-run : OnErr r (run_view b.made us ws p ≡ run_view a.made us ws p)
     Defines-run = OnErr-map r _ _ h.unchanged (λ e. ap (λ made. run_view made us ws p) e)
 
-module _ {a b : Kept} {symbols : List Symbol} {rule : Result Step Kind} {r : Result ℕ Fault} {ns : List Name} {cs : List Cell} {us ws : List ℕ} {p : ℕ} (h : Defines a symbols rule b r) (i : IsStore a ns cs us ws p) where
+module _ {a b : Kept} {symbols : List Symbol} {rule : Result Step Kind} {r : Result ℕ Fault} {ns : List Name} {cs : List Cell} {us ws : List Said} {p : ℕ} (h : Defines a symbols rule b r) (i : IsStore a ns cs us ws p) where
   pub Defines-IsStore : IsStore b ns cs us ws p
   Defines-IsStore = IsStore-more (Defines-more h) i
 
   pub Defines-Infers : Infers (store_view a ns cs us ws p) (defining symbols rule) (store_view b ns cs us ws p) r
   Defines-Infers = record {
-    taken = Defines-taken h us ws p;
+    taken = Defines-taken h (steps_in us) (steps_in ws) p;
     made = Defines-made h;
-    refused = Defines-refused h us ws p;
-    run = Defines-run h us ws p;
+    refused = Defines-refused h (steps_in us) (steps_in ws) p;
+    run = Defines-run h (steps_in us) (steps_in ws) p;
     grows = Grows-more (Defines-more h) i;
   }
 
@@ -96,9 +102,15 @@ module _ {a b : Kept} {rule : Result NewType Kind} {r : Result (ℕ × ℕ) Faul
     where
       by_answer : (r : Result (ℕ × ℕ) Fault)
           → IfOk r (λ ids. (ids.0 ≡ proof.step_count a) × ((ids.1 ≡ proof.step_count a + 1) × ((x : NewType) × (rule ≡ Ok x) × (b.made ≡ ((a.made ++ Made.symbol x.symbol ∷ []) ++ Made.step x.first ∷ []) ++ Made.step x.second ∷ []))))
-          → OnErr r (b.made ≡ a.made) → length (steps_of a.made) ≤ length (steps_of b.made)
-      by_answer (Ok ids) c u = let e = two_steps c.1.1.0 c.1.1.2 in omega (arith, e)
-      by_answer (Err x) c u = let e = ap (λ made. length (steps_of made)) u in omega (arith, e)
+          → OnErr r (b.made ≡ a.made) → IsFront (steps_of a.made) (steps_of b.made)
+      by_answer (Ok ids) c u =
+          let x = c.1.1.0 in
+          record {
+            more = x.first ∷ x.second ∷ [];
+            is = ap steps_of c.1.1.2 ∙ steps_of-push ((a.made ++ Made.symbol x.symbol ∷ []) ++ Made.step x.first ∷ []) x.second
+                ∙ ap (λ xs. xs ++ x.second ∷ []) (steps_of-defined a.made (x.symbol ∷ []) x.first) ∙ append_assoc (steps_of a.made) (x.first ∷ []) (x.second ∷ []);
+          }
+      by_answer (Err x) c u = IsFront-same (ap steps_of u)
 
   pub DefinesType-made : IfOk r (λ ids. (ids.0 < length (steps_of b.made)) × (ids.1 < length (steps_of b.made)))
   DefinesType-made = IfOk-map r _ _ h.concluded (λ ids c. let e = two_steps c.1.1.0 c.1.1.2 in (omega (arith, e, c.0), omega (arith, e, c.1.0)))
@@ -124,16 +136,16 @@ module _ {a b : Kept} {rule : Result NewType Kind} {r : Result (ℕ × ℕ) Faul
     pub DefinesType-run : OnErr r (run_view b.made us ws p ≡ run_view a.made us ws p)
     DefinesType-run = OnErr-map r _ _ h.unchanged (λ e. ap (λ made. run_view made us ws p) e)
 
-module _ {a b : Kept} {rule : Result NewType Kind} {r : Result (ℕ × ℕ) Fault} {ns : List Name} {cs : List Cell} {us ws : List ℕ} {p : ℕ} (h : DefinesType a rule b r) (i : IsStore a ns cs us ws p) where
+module _ {a b : Kept} {rule : Result NewType Kind} {r : Result (ℕ × ℕ) Fault} {ns : List Name} {cs : List Cell} {us ws : List Said} {p : ℕ} (h : DefinesType a rule b r) (i : IsStore a ns cs us ws p) where
   pub DefinesType-IsStore : IsStore b ns cs us ws p
   DefinesType-IsStore = IsStore-more (DefinesType-more h) i
 
   pub DefinesType-InfersTwo : InfersTwo (store_view a ns cs us ws p) (defining_type rule) (store_view b ns cs us ws p) r
   DefinesType-InfersTwo = record {
-    taken = DefinesType-taken h us ws p;
+    taken = DefinesType-taken h (steps_in us) (steps_in ws) p;
     made = DefinesType-made h;
-    refused = DefinesType-refused h us ws p;
-    run = DefinesType-run h us ws p;
+    refused = DefinesType-refused h (steps_in us) (steps_in ws) p;
+    run = DefinesType-run h (steps_in us) (steps_in ws) p;
     grows = Grows-more (DefinesType-more h) i;
   }
 

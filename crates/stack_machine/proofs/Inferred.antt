@@ -1,5 +1,5 @@
 -- What the words of inference answer, by what their rules make.
-use Rattle.std.proofs.Common.{◌≡◌, ℕ, ◌<◌, ◌≤◌, refl, sym, ap, subst, ◌∙◌, arith, List, [], ◌∷◌, ◌++◌, length, drop, Result, Ok, Err, IfOk, IfErr, OnErr}
+use Rattle.std.proofs.Common.{◌≡◌, ℕ, ◌<◌, refl, sym, ap, subst, ◌∙◌, arith, List, [], ◌∷◌, ◌++◌, length, drop, Result, Ok, Err, IfOk, IfErr, OnErr}
 use Rattle.std.specs.Result.{IsErrAnd}
 use Rattle.std.proofs.Math.Path.{ap₂}
 use Rattle.hol_spec.specs.Names.{Name}
@@ -14,6 +14,9 @@ use Rattle.article_spec.specs.Results.{◌>>=◌, ◌>>◌, Fails}
 use Rattle.article_spec.specs.Conditions.{sequent_in_limits}
 use Rattle.article_spec.specs.Changes.{with_theorem}
 use Rattle.article_spec.specs.Step.{obey}
+use Rattle.proof_laws.specs.ProofLaws.{steps_of-push}
+use Rattle.compose.specs.declared.pool.Said.{Said}
+use Rattle.compose.specs.Pools.{steps_in}
 use Rattle.hol_rules.specs.Kept.{Kept}
 use Rattle.hol_rules.specs.Kept as proof
 use Rattle.hol_rules.specs.Conclusions.{Concludes, limited}
@@ -22,13 +25,13 @@ use Rattle.stack_machine.specs.declared.object.Object.TheVariants as object
 use Rattle.stack_machine.specs.declared.object.Cell.{Cell}
 use Rattle.stack_machine.specs.Making.{run_view}
 use Rattle.stack_machine.specs.MakingLaws.{count-step}
-use Rattle.stack_machine.specs.Stored.{Stored, IsStore, objects_view, store_view, AreKnown}
+use Rattle.stack_machine.specs.Stored.{Stored, IsFront, IsStore, objects_view, store_view, AreKnown}
 use Rattle.stack_machine.specs.Shown.{in_state, shown}
 use Rattle.stack_machine.specs.Obeying.{Obeys}
 use Rattle.stack_machine.specs.Inferring.{Exports, Infers, by_step}
 use Rattle.stack_machine.proofs.Passing.{IfOk-map, IfErr-map, OnErr-map}
 use Rattle.stack_machine.proofs.Obeyed.{failed, placed}
-use Rattle.stack_machine.proofs.Stores.{IsMore, IsStore-more, Grows-more}
+use Rattle.stack_machine.proofs.Stores.{IsFront-same, IsMore, IsStore-more, Grows-more}
 
 -- a rule's conditions, one after another, and then its step
 pub bind-by_step : {A : Type 0} (r : Result A Kind) (g : A → Result Step Kind) (f : A → Result State Kind) (s : State) → ((x : A) → f x ≡ by_step (g x) s) → (r >>= f) ≡ by_step (r >>= g) s
@@ -65,9 +68,9 @@ module _ {a b : Kept} {rule : Result Step Kind} {r : Result ℕ Fault} (h : Conc
   pub Concludes-more : IsMore a b
   Concludes-more = record { trees = h.keeps; steps = by_answer r h.concluded h.unchanged }
     where
-      by_answer : (r : Result ℕ Fault) → IfOk r (λ i. (i ≡ proof.step_count a) × ((x : Step) × (limited rule ≡ Ok x) × (b.made ≡ a.made ++ Made.step x ∷ []))) → OnErr r (b.made ≡ a.made) → length (steps_of a.made) ≤ length (steps_of b.made)
-      by_answer (Ok i) c u = let e = ap (λ made. length (steps_of made)) c.1.2 ∙ count-step a.made c.1.0 in omega (arith, e)
-      by_answer (Err x) c u = let e = ap (λ made. length (steps_of made)) u in omega (arith, e)
+      by_answer : (r : Result ℕ Fault) → IfOk r (λ i. (i ≡ proof.step_count a) × ((x : Step) × (limited rule ≡ Ok x) × (b.made ≡ a.made ++ Made.step x ∷ []))) → OnErr r (b.made ≡ a.made) → IsFront (steps_of a.made) (steps_of b.made)
+      by_answer (Ok i) c u = record { more = c.1.0 ∷ []; is = ap steps_of c.1.2 ∙ steps_of-push a.made c.1.0 }
+      by_answer (Err x) c u = IsFront-same (ap steps_of u)
 
   pub Concludes-made : IfOk r (λ i. i < length (steps_of b.made))
   Concludes-made = IfOk-map r _ _ h.concluded (λ i c. let e = ap (λ made. length (steps_of made)) c.1.2 ∙ count-step a.made c.1.0 in omega (arith, e, c.0))
@@ -83,16 +86,16 @@ module _ {a b : Kept} {rule : Result Step Kind} {r : Result ℕ Fault} (h : Conc
     pub Concludes-run : OnErr r (run_view b.made us ws p ≡ run_view a.made us ws p)
     Concludes-run = OnErr-map r _ _ h.unchanged (λ e. ap (λ made. run_view made us ws p) e)
 
-module _ {a b : Kept} {rule : Result Step Kind} {r : Result ℕ Fault} {ns : List Name} {cs : List Cell} {us ws : List ℕ} {p : ℕ} (h : Concludes a rule b r) (i : IsStore a ns cs us ws p) where
+module _ {a b : Kept} {rule : Result Step Kind} {r : Result ℕ Fault} {ns : List Name} {cs : List Cell} {us ws : List Said} {p : ℕ} (h : Concludes a rule b r) (i : IsStore a ns cs us ws p) where
   pub Concludes-IsStore : IsStore b ns cs us ws p
   Concludes-IsStore = IsStore-more (Concludes-more h) i
 
   pub Concludes-Infers : Infers (store_view a ns cs us ws p) (by_step rule) (store_view b ns cs us ws p) r
   Concludes-Infers = record {
-    taken = Concludes-taken h us ws p;
+    taken = Concludes-taken h (steps_in us) (steps_in ws) p;
     made = Concludes-made h;
-    refused = Concludes-refused h us ws p;
-    run = Concludes-run h us ws p;
+    refused = Concludes-refused h (steps_in us) (steps_in ws) p;
+    run = Concludes-run h (steps_in us) (steps_in ws) p;
     grows = Grows-more (Concludes-more h) i;
   }
 

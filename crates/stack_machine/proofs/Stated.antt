@@ -4,7 +4,8 @@ use Rattle.std.specs.Prelude.{IfSome, slice_get, slice_index_or, unwrap_or}
 use Rattle.std.specs.List.{AllByRecursion, find, list_all}
 use Rattle.std.specs.Option.{option_or}
 use Rattle.std.specs.Result.{IsErrAnd}
-use Rattle.std.proofs.lemmas.List.{take-append-le}
+use Rattle.std.proofs.lemmas.List.{map-append, take-append-le, take-map}
+use Rattle.std.proofs.Math.Seq.{get_or-append_seam}
 use Rattle.std.proofs.lemmas.Option.{slice_get_cases}
 use Rattle.std.proofs.Math.Path.{ap₂}
 use Rattle.hol_spec.specs.Lists.{IsIn, distinct, is_in}
@@ -15,8 +16,10 @@ use Rattle.hol_spec.specs.Rules.{Parameters}
 use Rattle.hol_spec.specs.Sequents.{Sequent, IsSequent, same, within}
 use Rattle.hol_spec.specs.Proofs.{Made, Step, steps_of, sequents_of, sequent_at, IsProof}
 use Rattle.hol_spec.specs.declared.StepKind.TheVariants as by_rule
-use Rattle.hol_laws.specs.Members.{All-at, is_in-IsIn, IsIn-distinct}
+use Rattle.hol_laws.specs.Members.{All-append, All-at, is_in-IsIn, IsIn-distinct}
+use Rattle.hol_laws.specs.RenamingLaws.{length_map}
 use Rattle.hol_laws.specs.TermLaws.{term_eq-Decides, type_eq-refl}
+use Rattle.proof_laws.specs.ProofLaws.{steps_of-push}
 use Rattle.proof_laws.specs.ProofGrowth.{All-get, proof-sequents}
 use Rattle.bridge_base.specs.declared.faults.Fault.{Fault}
 use Rattle.bridge_base.specs.declared.faults.Fault.TheVariants.{Memory, Refused}
@@ -25,13 +28,17 @@ use Rattle.bridge_base.specs.declared.faults.Kind.TheVariants.{NotBool, NotTheSe
 use Rattle.article_spec.specs.State.{State}
 use Rattle.article_spec.specs.State as state
 use Rattle.article_spec.specs.Results.{◌>>=◌, ◌>>◌, Fails}
-use Rattle.article_spec.specs.Conditions.{all_bool, demand, follows, has_type, is_of_type}
+use Rattle.article_spec.specs.Conditions.{all_bool, demand, follows, has_type, is_of_type, sequent_in_limits}
 use Rattle.article_spec.specs.Changes.{conclude, first_same, next_step, with_step}
 use Rattle.article_spec.specs.Inference.{step_by}
 use Rattle.article_spec.specs.Stating.{assume_or_meet, export, restatement, stated}
 use Rattle.hol_term.specs.declared.TermId.{TermId}
 use Rattle.hol_term.specs.Tables.{Trees, AreKnown, IsTermAt}
-use Rattle.hol_rules.specs.Premises.{AreTermsAt}
+use Rattle.sequent.specs.declared.Sequent.{Sequent as Numbered}
+use Rattle.sequent.specs.Sequents as numbers
+use Rattle.compose.specs.declared.pool.Said.{Said}
+use Rattle.compose.specs.Pools.{is_same_at, said, step_of, steps_in, AreSequentsKnown}
+use Rattle.hol_rules.specs.Premises.{AreTermsAt, IsStated}
 use Rattle.hol_rules.specs.Kept.{Kept}
 use Rattle.hol_rules.specs.Kept as proof
 use Rattle.hol_rules.specs.Conclusions.{Concludes, limited}
@@ -39,12 +46,12 @@ use Rattle.hol_rules.specs.Steps.{axiom_step, restate_step}
 use Rattle.stack_machine.specs.declared.object.Cell.{Cell}
 use Rattle.stack_machine.specs.Making.{AreSteps, run_view}
 use Rattle.stack_machine.specs.MakingLaws.{count-step, AreSteps-more, AreSteps-push}
-use Rattle.stack_machine.specs.Stored.{Stored, IsStore, Grows, store_view}
+use Rattle.stack_machine.specs.Stored.{Stored, AreSaid, IsSaid, IsStore, Grows, run_of, store_view}
 use Rattle.stack_machine.specs.StoredLaws.{IsFront-refl, Grows-refl}
 use Rattle.stack_machine.specs.Shown.{in_state}
 use Rattle.stack_machine.specs.Inferring.{Exports, Infers, by_step, assuming, exported, exporting, recording, restating}
-use Rattle.stack_machine.proofs.Passing.{IfOk-map, IfErr-map, OnOk-map, OnErr-map2}
-use Rattle.stack_machine.proofs.Stores.{IsStore-run, Grows-run}
+use Rattle.stack_machine.proofs.Passing.{IfOk-map, IfErr-map, OnOk-map, OnErr-map, OnErr-map2}
+use Rattle.stack_machine.proofs.Stores.{AreSaid-more, IsStore-run, Grows-run, more-steps, sequent-more}
 use Rattle.stack_machine.proofs.Inferred.{Concludes-made, Concludes-more, Concludes-refused, Concludes-taken, limited-Ok, limited-fails}
 
 -- what is found passes the test, and has what all have
@@ -91,12 +98,6 @@ pub option_or-Some : {A : Type 0} (a b : Option A) (x : A) → option_or a b ≡
 option_or-Some None b x e = inr e
 option_or-Some (Some y) b x e = inl e
 
-pub AreSteps-take : (made : List Made) (n : ℕ) (ids : List ℕ) → AreSteps made ids → AreSteps made (take n ids)
-AreSteps-take made zero [] h = tt
-AreSteps-take made zero (i ∷ ids) h = tt
-AreSteps-take made (suc n) [] h = tt
-AreSteps-take made (suc n) (i ∷ ids) h = (h.0, AreSteps-take made n ids h.1)
-
 first_half : (a b : Bool) → (a && b) ≡ true → a ≡ true
 first_half true b e = refl
 first_half false b e = absurd (cc)
@@ -105,26 +106,45 @@ second_half : (a b : Bool) → (a && b) ≡ true → b ≡ true
 second_half true b e = e
 second_half false b e = absurd (cc)
 
--- the rest is to be sought through for a step that says this
-pub record IsSought (made : List Made) (sequent : Sequent) (ids rest : List ℕ) : Type 0 where
-  pub steps : AreSteps made rest
-  pub decides : find (λ i. same (sequent_at made i) sequent) ids ≡ find (λ i. same (sequent_at made i) sequent) rest
+-- what the steps of a pool say
+module _ (kept : Kept) (sequent : Numbered) where
+  -- whether a step says the sequent
+  abbrev says : ℕ → Bool
+  says i = same (sequent_at kept.made i) (numbers.sequent_at kept.trees sequent)
 
-module _ (made : List Made) (sequent : Sequent) (ids : List ℕ) where
-  abbrev test : ℕ → Bool
-  test i = same (sequent_at made i) sequent
+  pub AreSaid-known : (pool : List Said) → AreSaid kept pool → AreSequentsKnown kept.trees pool
+  AreSaid-known [] h = tt
+  AreSaid-known (s ∷ pool) h = (h.0.known, AreSaid-known pool h.1)
 
-  pub seek_begins : AreSteps made ids → IsSought made sequent ids ids
-  seek_begins h = record { steps = h; decides = refl }
+  -- the first step that says the sequent is that of the pool's first that is the same
+  find-said : (pool : List Said) → AreSaid kept pool → step_of (find (is_same_at kept.trees sequent) pool) ≡ find says (steps_in pool)
+  find-said [] h = refl
+  find-said (s ∷ pool) h =
+      go (is_same_at kept.trees sequent s)
+      ∙ ap₂ (λ b o. cond b (Some s.step) o) (ap (λ t. same t (numbers.sequent_at kept.trees sequent)) (sym h.0.says)) (find-said pool h.1)
+    where
+      go : (b : Bool) → step_of (cond b (Some s) (find (is_same_at kept.trees sequent) pool)) ≡ cond b (Some s.step) (step_of (find (is_same_at kept.trees sequent) pool))
+      go true = refl
+      go false = refl
 
-  pub seek_goes_on : (i : ℕ) (rest : List ℕ) → IsSought made sequent ids (i ∷ rest) → same (sequent_at made i) sequent ≡ false → IsSought made sequent ids rest
-  seek_goes_on i rest h e = record { steps = h.steps.1; decides = h.decides ∙ find-later test i rest e }
+  AreSaid-take : (n : ℕ) (pool : List Said) → AreSaid kept pool → AreSaid kept (take n pool)
+  AreSaid-take zero [] h = tt
+  AreSaid-take zero (s ∷ pool) h = tt
+  AreSaid-take (suc n) [] h = tt
+  AreSaid-take (suc n) (s ∷ pool) h = (h.0, AreSaid-take n pool h.1)
 
-  pub seek_finds : (i : ℕ) (rest : List ℕ) → IsSought made sequent ids (i ∷ rest) → same (sequent_at made i) sequent ≡ true → Some i ≡ find test ids
-  seek_finds i rest h e = sym (h.decides ∙ find-here test i rest e)
+  module _ (pool : List Said) (h : AreSaid kept pool) (r : Option ℕ) where
+    pub found-first : r ≡ step_of (find (is_same_at kept.trees sequent) pool) → r ≡ find says (steps_in pool)
+    found-first e = e ∙ find-said pool h
 
-  pub seek_ends : IsSought made sequent ids [] → None ≡ find test ids
-  seek_ends h = sym h.decides
+    pub found_among-first : (n : ℕ) → r ≡ step_of (find (is_same_at kept.trees sequent) (take n pool)) → r ≡ find says (take n (steps_in pool))
+    found_among-first n e = e ∙ find-said (take n pool) (AreSaid-take n pool h) ∙ ap (find says) (sym (take-map (λ (s : Said). s.step) n pool))
+
+pub AreSteps-take : (made : List Made) (n : ℕ) (ids : List ℕ) → AreSteps made ids → AreSteps made (take n ids)
+AreSteps-take made zero [] h = tt
+AreSteps-take made zero (i ∷ ids) h = tt
+AreSteps-take made (suc n) [] h = tt
+AreSteps-take made (suc n) (i ∷ ids) h = (h.0, AreSteps-take made n ids h.1)
 
 -- what is the same says no more
 pub same-follows : (one s : Sequent) → same one s ≡ true → follows one s ≡ Ok tt
@@ -157,8 +177,8 @@ same-all_bool one hs c h e =
     (each-bool hs (λ t k. bool-is_of_type t (All-at (λ u. HasType u bool) one.hypotheses t h.hypotheses (is_in-IsIn term_eq term_eq-Decides one.hypotheses t (all-in (distinct term_eq hs) one.hypotheses among t (IsIn-distinct term_eq term_eq-Decides hs t k)))))))
 
 -- a step of a proof says a sequent
-pub said : (made : List Made) → IsProof made → (i : ℕ) → i < length (steps_of made) → IsSequent (sequent_at made i)
-said made p i l = All-get IsSequent (sequents_of made) i (sequent_at made i) (proof-sequents made p) (from (steps_of made) i l)
+IsSequent-at : (made : List Made) → IsProof made → (i : ℕ) → i < length (steps_of made) → IsSequent (sequent_at made i)
+IsSequent-at made p i l = All-get IsSequent (sequents_of made) i (sequent_at made i) (proof-sequents made p) (from (steps_of made) i l)
   where
     from : (xs : List Step) (i : ℕ) → i < length xs → slice_get (map (λ (y : Step). y.sequent) xs) i ≡ Some (slice_index_or (map (λ (y : Step). y.sequent) xs) i (record { hypotheses = []; conclusion = Term.bound 0 }))
     from [] i l = absurd (omega arith)
@@ -256,7 +276,7 @@ module _ {old : Stored} (n : ℕ) (hs : List Term) (c : Term) (q : Sequent) (is 
   Exports-known j proof steps first passes fails =
       let found : find (λ i. same (sequent_at old.run.made i) (stated hs c)) old.run.exports ≡ Some j = sym (subst (λ t. Some j ≡ find (λ i. same (sequent_at old.run.made i) t) old.run.exports) is first) in
       let says : same (sequent_at old.run.made j) (stated hs c) ≡ true = find-passes (λ i. same (sequent_at old.run.made i) (stated hs c)) old.run.exports j found in
-      let truths = same-all_bool (sequent_at old.run.made j) hs c (said old.run.made proof j (find-All (λ i. same (sequent_at old.run.made i) (stated hs c)) (λ i. i < length (steps_of old.run.made)) old.run.exports j steps found)) says in
+      let truths = same-all_bool (sequent_at old.run.made j) hs c (IsSequent-at old.run.made proof j (find-All (λ i. same (sequent_at old.run.made i) (stated hs c)) (λ i. i < length (steps_of old.run.made)) old.run.exports j steps found)) says in
       Exports-again (follows (sequent_at old.run.made n) (stated hs c)) r (λ s below. exporting-again (in_state s below old.run) hs c n j found truths)
       (subst (λ t. OnOk r (follows (sequent_at old.run.made n) t ≡ Ok tt)) is passes) (subst (λ t. IfErr r (λ x. Fails x (follows (sequent_at old.run.made n) t))) is fails)
 
@@ -268,92 +288,151 @@ pub Exports-handed : {old new : Stored} {f : State → Result State Kind} (r : R
 Exports-handed (Ok u) x h e = absurd h
 Exports-handed {old = old} {new = new} {f = f} (Err y) x h e = subst (λ z. Exports old f new (Err z)) (sym h) e
 
--- a step that is made and noted
-module _ {a b : Kept} {rule : Result Step Kind} {r : Result ℕ Fault} (h : Concludes a rule b r) (us vs : List ℕ) (noted : OnOk r (vs ≡ us ++ length (steps_of a.made) ∷ [])) (unchanged : OnErr r (vs ≡ us)) where
-  pub noted-AreSteps : AreSteps a.made us → AreSteps b.made vs
-  noted-AreSteps k = by_answer r h.concluded noted unchanged
-    where
-      more : AreSteps b.made us
-      more = AreSteps-more a.made b.made (Concludes-more h).steps us k
+-- a step's sequent is that of its rule
+limited-sequent : (r : Result (Unit {0}) Kind) (x y : Step) → limited (r >> Ok x) ≡ Ok y → y.sequent ≡ x.sequent
+limited-sequent (Ok u) x y e = go (sequent_in_limits x.sequent) e
+  where
+    go : (q : Result (Unit {0}) Kind) → ◌≡◌ {A = Result Step Kind} (q >> Ok x) (Ok y) → y.sequent ≡ x.sequent
+    go (Ok v) f = let same : y ≡ x = cc in ap (λ (z : Step). z.sequent) same
+    go (Err k) f = absurd (cc)
+limited-sequent (Err k) x y e = absurd (cc)
 
-      by_answer : (r : Result ℕ Fault) → IfOk r (λ i. (i ≡ proof.step_count a) × ((x : Step) × (limited rule ≡ Ok x) × (b.made ≡ a.made ++ Made.step x ∷ []))) → OnOk r (vs ≡ us ++ length (steps_of a.made) ∷ []) → OnErr r (vs ≡ us) → AreSteps b.made vs
-      by_answer (Ok i) c n u = let e = ap (λ made. length (steps_of made)) c.1.2 ∙ count-step a.made c.1.0 in subst (AreSteps b.made) (sym n) (AreSteps-push b.made us (length (steps_of a.made)) more (omega (arith, e)))
+pub axiom-sequent : (hs : List Term) (c : Term) (y : Step) → limited (axiom_step hs c) ≡ Ok y → y.sequent ≡ stated hs c
+axiom-sequent hs c y e = limited-sequent (all_bool (c ∷ hs)) (step_by by_rule.Axiom [] (Parameters.sequent (stated hs c)) (stated hs c)) y e
+
+pub restate-sequent : (made : List Made) (n : ℕ) (hs : List Term) (c : Term) (y : Step) → limited (restate_step made n hs c) ≡ Ok y → y.sequent ≡ stated hs c
+restate-sequent made n hs c y e = go (all_bool (c ∷ hs)) e
+  where
+    go : (r : Result (Unit {0}) Kind) → limited (r >> (follows (sequent_at made n) (stated hs c) >> Ok (restatement n (stated hs c)))) ≡ Ok y → y.sequent ≡ stated hs c
+    go (Ok u) f = limited-sequent (follows (sequent_at made n) (stated hs c)) (restatement n (stated hs c)) y f
+    go (Err k) f = absurd (cc)
+
+-- the last step says its sequent
+sequent_at-last : (made : List Made) (x : Step) → sequent_at (made ++ Made.step x ∷ []) (length (steps_of made)) ≡ x.sequent
+sequent_at-last made x =
+    ap (λ xs. slice_index_or (map (λ (y : Step). y.sequent) xs) (length (steps_of made)) none) (steps_of-push made x)
+    ∙ ap (λ ss. slice_index_or ss (length (steps_of made)) none) (map-append (λ (y : Step). y.sequent) (steps_of made) (x ∷ []))
+    ∙ ap (λ n. slice_index_or (sequents_of made ++ x.sequent ∷ []) n none) (sym (length_map (λ (y : Step). y.sequent) (steps_of made)))
+    ∙ get_or-append_seam (sequents_of made) x.sequent [] none
+  where
+    none : Sequent
+    none = record { hypotheses = []; conclusion = bound 0 }
+
+-- a step that is made, and noted with the sequent that it says
+module _ {a b : Kept} {rule : Result Step Kind} {r : Result ℕ Fault} (h : Concludes a rule b r) (sequent : Numbered) (us vs : List Said)
+    (noted : OnOk r (vs ≡ us ++ said sequent (length (steps_of a.made)) ∷ [])) (unchanged : OnErr r (vs ≡ us)) where
+  noted-steps : OnOk r (steps_in vs ≡ steps_in us ++ length (steps_of a.made) ∷ [])
+  noted-steps = OnOk-map r _ _ noted (λ e. ap steps_in e ∙ map-append (λ (s : Said). s.step) us (said sequent (length (steps_of a.made)) ∷ []))
+
+  same-steps : OnErr r (steps_in vs ≡ steps_in us)
+  same-steps = OnErr-map r _ _ unchanged (λ e. ap steps_in e)
+
+  noted-AreSteps : AreSteps a.made (steps_in us) → AreSteps b.made (steps_in vs)
+  noted-AreSteps k = by_answer r h.concluded noted-steps same-steps
+    where
+      more : AreSteps b.made (steps_in us)
+      more = AreSteps-more a.made b.made (more-steps (Concludes-more h)) (steps_in us) k
+
+      by_answer : (r : Result ℕ Fault) → IfOk r (λ i. (i ≡ proof.step_count a) × ((x : Step) × (limited rule ≡ Ok x) × (b.made ≡ a.made ++ Made.step x ∷ []))) → OnOk r (steps_in vs ≡ steps_in us ++ length (steps_of a.made) ∷ []) → OnErr r (steps_in vs ≡ steps_in us) → AreSteps b.made (steps_in vs)
+      by_answer (Ok i) c n u = let e = ap (λ made. length (steps_of made)) c.1.2 ∙ count-step a.made c.1.0 in subst (AreSteps b.made) (sym n) (AreSteps-push b.made (steps_in us) (length (steps_of a.made)) more (omega (arith, e)))
       by_answer (Err x) c n u = subst (AreSteps b.made) (sym u) more
 
-  pub noted-longer : (p : ℕ) → p ≤ length us → p ≤ length vs
-  noted-longer p l = by_answer r noted unchanged
+  noted-longer : (p : ℕ) → p ≤ length (steps_in us) → p ≤ length (steps_in vs)
+  noted-longer p l = by_answer r noted-steps same-steps
     where
-      by_answer : (r : Result ℕ Fault) → OnOk r (vs ≡ us ++ length (steps_of a.made) ∷ []) → OnErr r (vs ≡ us) → p ≤ length vs
-      by_answer (Ok i) n u = let e = ap length n ∙ length-append us (length (steps_of a.made) ∷ []) in omega (arith, l, e)
+      by_answer : (r : Result ℕ Fault) → OnOk r (steps_in vs ≡ steps_in us ++ length (steps_of a.made) ∷ []) → OnErr r (steps_in vs ≡ steps_in us) → p ≤ length (steps_in vs)
+      by_answer (Ok i) n u = let e = ap length n ∙ length-append (steps_in us) (length (steps_of a.made) ∷ []) in omega (arith, l, e)
       by_answer (Err x) n u = let e = ap length u in omega (arith, l, e)
 
-  -- an assumption
-  module _ {ns : List Name} {cs : List Cell} {ws : List ℕ} {p : ℕ} (i : IsStore a ns cs us ws p) where
-    pub assumed-IsStore : IsStore b ns cs vs ws p
-    assumed-IsStore = IsStore-run (Concludes-more h) i (IsFront-refl ns) (record {
-      assumed = noted-AreSteps i.run_known.assumed;
-      exported = AreSteps-more a.made b.made (Concludes-more h).steps ws i.run_known.exported;
-      earlier = i.run_known.earlier;
-    })
-
-    pub assumed-grows : Grows (store_view a ns cs us ws p) (store_view b ns cs vs ws p)
-    assumed-grows = Grows-run (Concludes-more h) i p (IsFront-refl ns)
-
-    pub assumed-run : OnErr r (run_view b.made vs ws p ≡ run_view a.made us ws p)
-    assumed-run = OnErr-map2 r _ _ _ unchanged h.unchanged (λ e f. ap₂ (λ l made. run_view made l ws p) e f)
-
-    pub assumed-taken : IfOk r (λ j. (s : State) (below : List state.Object) → by_step rule (in_state s below (run_view a.made (us ++ length (steps_of a.made) ∷ []) ws p)) ≡ Ok (in_state s (state.Object.theorem j ∷ below) (run_view b.made vs ws p)))
-    assumed-taken = by_answer r noted (Concludes-taken h (us ++ length (steps_of a.made) ∷ []) ws p)
+  -- the step that is noted says its sequent
+  module _ (t : Sequent) (is : IsStated a.trees sequent t) (rule_says : (x : Step) → limited rule ≡ Ok x → x.sequent ≡ t) where
+    noted-AreSaid : AreSteps a.made (steps_in us) → AreSaid a us → AreSaid b vs
+    noted-AreSaid l k = by_answer r h.concluded noted unchanged
       where
-        by_answer : (r : Result ℕ Fault) → OnOk r (vs ≡ us ++ length (steps_of a.made) ∷ [])
-            → IfOk r (λ j. (s : State) (below : List state.Object) → by_step rule (in_state s below (run_view a.made (us ++ length (steps_of a.made) ∷ []) ws p)) ≡ Ok (in_state s (state.Object.theorem j ∷ below) (run_view b.made (us ++ length (steps_of a.made) ∷ []) ws p)))
-            → IfOk r (λ j. (s : State) (below : List state.Object) → by_step rule (in_state s below (run_view a.made (us ++ length (steps_of a.made) ∷ []) ws p)) ≡ Ok (in_state s (state.Object.theorem j ∷ below) (run_view b.made vs ws p)))
-        by_answer (Ok j) n t = λ s below. t s below ∙ ap (λ l. Ok (in_state s (state.Object.theorem j ∷ below) (run_view b.made l ws p))) (sym n)
-        by_answer (Err x) n t = tt
+        more : AreSaid b us
+        more = AreSaid-more (Concludes-more h) us l k
 
-  -- an export
-  module _ {ns : List Name} {cs : List Cell} {ws : List ℕ} {p : ℕ} (i : IsStore a ns cs ws us p) where
-    pub exported-IsStore : IsStore b ns cs ws vs p
-    exported-IsStore = IsStore-run (Concludes-more h) i (IsFront-refl ns) (record {
-      assumed = AreSteps-more a.made b.made (Concludes-more h).steps ws i.run_known.assumed;
+        last : (x : Step) → limited rule ≡ Ok x → b.made ≡ a.made ++ Made.step x ∷ [] → IsSaid b (said sequent (length (steps_of a.made)))
+        last x e f = let w = sequent-more (Concludes-more h) sequent is.known in record {
+          known = w.0;
+          says = ap (λ made. sequent_at made (length (steps_of a.made))) f ∙ sequent_at-last a.made x ∙ rule_says x e ∙ sym is.is ∙ sym w.1;
+        }
+
+        by_answer : (r : Result ℕ Fault) → IfOk r (λ i. (i ≡ proof.step_count a) × ((x : Step) × (limited rule ≡ Ok x) × (b.made ≡ a.made ++ Made.step x ∷ []))) → OnOk r (vs ≡ us ++ said sequent (length (steps_of a.made)) ∷ []) → OnErr r (vs ≡ us) → AreSaid b vs
+        by_answer (Ok i) c n u = subst (AreSaid b) (sym n) (All-append (IsSaid b) us (said sequent (length (steps_of a.made)) ∷ []) more (last c.1.0 c.1.1 c.1.2, tt {0}))
+        by_answer (Err x) c n u = subst (AreSaid b) (sym u) more
+
+    -- an assumption
+    pub assumed-IsStore : {ns : List Name} {cs : List Cell} {ws : List Said} {p : ℕ} → IsStore a ns cs us ws p → IsStore b ns cs vs ws p
+    assumed-IsStore {ns = ns} {ws = ws} i = IsStore-run (Concludes-more h) i (IsFront-refl ns) (record {
+      assumed = noted-AreSteps i.run_known.assumed;
+      exported = AreSteps-more a.made b.made (more-steps (Concludes-more h)) (steps_in ws) i.run_known.exported;
+      earlier = i.run_known.earlier;
+    }) (noted-AreSaid i.run_known.assumed i.assumed) (AreSaid-more (Concludes-more h) ws i.run_known.exported i.exported)
+
+    -- an export
+    pub exported-IsStore : {ns : List Name} {cs : List Cell} {ws : List Said} {p : ℕ} → IsStore a ns cs ws us p → IsStore b ns cs ws vs p
+    exported-IsStore {ns = ns} {ws = ws} {p = p} i = IsStore-run (Concludes-more h) i (IsFront-refl ns) (record {
+      assumed = AreSteps-more a.made b.made (more-steps (Concludes-more h)) (steps_in ws) i.run_known.assumed;
       exported = noted-AreSteps i.run_known.exported;
       earlier = noted-longer p i.run_known.earlier;
-    })
+    }) (AreSaid-more (Concludes-more h) ws i.run_known.assumed i.assumed) (noted-AreSaid i.run_known.exported i.exported)
 
-    pub exported-grows : Grows (store_view a ns cs ws us p) (store_view b ns cs ws vs p)
-    exported-grows = Grows-run (Concludes-more h) i p (IsFront-refl ns)
+  module _ {ns : List Name} {cs : List Cell} {ws : List Said} {p : ℕ} (i : IsStore a ns cs us ws p) where
+    assumed-grows : Grows (store_view a ns cs us ws p) (store_view b ns cs vs ws p)
+    assumed-grows = Grows-run (Concludes-more h) i vs ws p (IsFront-refl ns)
 
-pub assumed-Infers : (hs : List Term) (c : Term) {a b : Kept} {r : Result ℕ Fault} (h : Concludes a (axiom_step hs c) b r) (us vs : List ℕ) → OnOk r (vs ≡ us ++ length (steps_of a.made) ∷ []) → OnErr r (vs ≡ us)
-    → {ns : List Name} {cs : List Cell} {ws : List ℕ} {p : ℕ} → IsStore a ns cs us ws p → Infers (store_view a ns cs us ws p) (recording hs c) (store_view b ns cs vs ws p) r
-assumed-Infers hs c {a = a} h us vs noted unchanged {ws = ws} {p = p} i = record {
-  taken = assumed-taken h us vs noted unchanged i;
+    assumed-run : OnErr r (run_of b vs ws p ≡ run_of a us ws p)
+    assumed-run = OnErr-map2 r _ _ _ same-steps h.unchanged (λ e f. ap₂ (λ l made. run_view made l (steps_in ws) p) e f)
+
+    assumed-taken : IfOk r (λ j. (s : State) (below : List state.Object)
+        → by_step rule (in_state s below (run_view a.made (steps_in us ++ length (steps_of a.made) ∷ []) (steps_in ws) p)) ≡ Ok (in_state s (state.Object.theorem j ∷ below) (run_of b vs ws p)))
+    assumed-taken = by_answer r noted-steps (Concludes-taken h (steps_in us ++ length (steps_of a.made) ∷ []) (steps_in ws) p)
+      where
+        by_answer : (r : Result ℕ Fault) → OnOk r (steps_in vs ≡ steps_in us ++ length (steps_of a.made) ∷ [])
+            → IfOk r (λ j. (s : State) (below : List state.Object)
+            → by_step rule (in_state s below (run_view a.made (steps_in us ++ length (steps_of a.made) ∷ []) (steps_in ws) p)) ≡ Ok (in_state s (state.Object.theorem j ∷ below) (run_view b.made (steps_in us ++ length (steps_of a.made) ∷ []) (steps_in ws) p)))
+            → IfOk r (λ j. (s : State) (below : List state.Object)
+            → by_step rule (in_state s below (run_view a.made (steps_in us ++ length (steps_of a.made) ∷ []) (steps_in ws) p)) ≡ Ok (in_state s (state.Object.theorem j ∷ below) (run_of b vs ws p)))
+        by_answer (Ok j) n t = λ s below. t s below ∙ ap (λ l. Ok (in_state s (state.Object.theorem j ∷ below) (run_view b.made l (steps_in ws) p))) (sym n)
+        by_answer (Err x) n t = tt
+
+  exported-grows : {ns : List Name} {cs : List Cell} {ws : List Said} {p : ℕ} → IsStore a ns cs ws us p → Grows (store_view a ns cs ws us p) (store_view b ns cs ws vs p)
+  exported-grows {ns = ns} {ws = ws} {p = p} i = Grows-run (Concludes-more h) i ws vs p (IsFront-refl ns)
+
+pub assumed-Infers : (hs : List Term) (c : Term) {a b : Kept} {r : Result ℕ Fault} (h : Concludes a (axiom_step hs c) b r) (sequent : Numbered) (us vs : List Said)
+    → OnOk r (vs ≡ us ++ said sequent (length (steps_of a.made)) ∷ []) → OnErr r (vs ≡ us)
+    → {ns : List Name} {cs : List Cell} {ws : List Said} {p : ℕ} → IsStore a ns cs us ws p → Infers (store_view a ns cs us ws p) (recording hs c) (store_view b ns cs vs ws p) r
+assumed-Infers hs c {a = a} h sequent us vs noted unchanged {ws = ws} {p = p} i = record {
+  taken = assumed-taken h sequent us vs noted unchanged i;
   made = Concludes-made h;
-  refused = Concludes-refused h (us ++ length (steps_of a.made) ∷ []) ws p;
-  run = assumed-run h us vs noted unchanged i;
-  grows = assumed-grows h us vs noted unchanged i;
+  refused = Concludes-refused h (steps_in us ++ length (steps_of a.made) ∷ []) (steps_in ws) p;
+  run = assumed-run h sequent us vs noted unchanged i;
+  grows = assumed-grows h sequent us vs noted unchanged i;
 }
 
 -- what an export does to a state
 abbrev with_export : State → Step → State
 with_export s x = record (with_step s x) { exports = s.exports ++ next_step s ∷ [] }
 
-pub exported-Exports : (n : ℕ) (hs : List Term) (c : Term) {a b : Kept} {j : ℕ} (h : Concludes a (restate_step a.made n hs c) b (Ok j)) (us vs : List ℕ) → vs ≡ us ++ length (steps_of a.made) ∷ []
-    → {ns : List Name} {cs : List Cell} {ws : List ℕ} {p : ℕ} → IsStore a ns cs ws us p → Exports (store_view a ns cs ws us p) (restating n hs c) (store_view b ns cs ws vs p) (Ok tt)
-exported-Exports n hs c {a = a} h us vs noted {ws = ws} {p = p} i =
-    let q : take p vs ≡ take p us = ap (take p) noted ∙ take-append-le p us (length (steps_of a.made) ∷ []) i.run_known.earlier in
+pub exported-Exports : (n : ℕ) (hs : List Term) (c : Term) {a b : Kept} {j : ℕ} (h : Concludes a (restate_step a.made n hs c) b (Ok j)) (sequent : Numbered) (us vs : List Said) → vs ≡ us ++ said sequent (length (steps_of a.made)) ∷ []
+    → {ns : List Name} {cs : List Cell} {ws : List Said} {p : ℕ} → IsStore a ns cs ws us p → Exports (store_view a ns cs ws us p) (restating n hs c) (store_view b ns cs ws vs p) (Ok tt)
+exported-Exports n hs c {a = a} h sequent us vs noted {ws = ws} {p = p} i =
+    let m : steps_in vs ≡ steps_in us ++ length (steps_of a.made) ∷ [] = noted-steps h sequent us vs noted tt in
+    let q : take p (steps_in vs) ≡ take p (steps_in us) = ap (take p) m ∙ take-append-le p (steps_in us) (length (steps_of a.made) ∷ []) i.run_known.earlier in
     record {
-      taken = λ s below. limited-Ok (with_export (in_state s below (run_view a.made ws us p))) (restate_step a.made n hs c) h.concluded.1.0 h.concluded.1.1
-          ∙ (λ t. Ok (in_state s below (record { made = sym h.concluded.1.2 t; assumptions = ws; exports = sym noted t; pool = sym q t })));
+      taken = λ s below. limited-Ok (with_export (in_state s below (run_of a ws us p))) (restate_step a.made n hs c) h.concluded.1.0 h.concluded.1.1
+          ∙ (λ t. Ok (in_state s below (record { made = sym h.concluded.1.2 t; assumptions = steps_in ws; exports = sym m t; pool = sym q t })));
       refused = tt;
       run = tt;
-      grows = exported-grows h us vs noted tt i;
+      grows = exported-grows h sequent us vs noted tt i;
     }
 
-pub exported-fails : (n : ℕ) (hs : List Term) (c : Term) {a b : Kept} {x : Fault} (h : Concludes a (restate_step a.made n hs c) b (Err x)) (us vs : List ℕ) → vs ≡ us
-    → {ns : List Name} {cs : List Cell} {ws : List ℕ} {p : ℕ} → IsStore a ns cs ws us p → Exports (store_view a ns cs ws us p) (restating n hs c) (store_view b ns cs ws vs p) (Err x)
-exported-fails n hs c {a = a} {x = x} h us vs unchanged {ws = ws} {p = p} i = record {
+pub exported-fails : (n : ℕ) (hs : List Term) (c : Term) {a b : Kept} {x : Fault} (h : Concludes a (restate_step a.made n hs c) b (Err x)) (sequent : Numbered) (us vs : List Said) → vs ≡ us
+    → {ns : List Name} {cs : List Cell} {ws : List Said} {p : ℕ} → IsStore a ns cs ws us p → Exports (store_view a ns cs ws us p) (restating n hs c) (store_view b ns cs ws vs p) (Err x)
+exported-fails n hs c {a = a} {x = x} h sequent us vs unchanged {ws = ws} {p = p} i = record {
   taken = tt;
-  refused = λ s below. limited-fails (with_export (in_state s below (run_view a.made ws us p))) (restate_step a.made n hs c) x h.refused;
-  run = ap₂ (λ l made. run_view made ws l p) unchanged h.unchanged;
-  grows = exported-grows h us vs tt unchanged i;
+  refused = λ s below. limited-fails (with_export (in_state s below (run_of a ws us p))) (restate_step a.made n hs c) x h.refused;
+  run = ap₂ (λ l made. run_view made (steps_in ws) (steps_in l) p) unchanged h.unchanged;
+  grows = exported-grows h sequent us vs tt unchanged i;
 }

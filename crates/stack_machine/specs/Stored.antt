@@ -5,11 +5,14 @@ use Rattle.std.specs.List.{AllByRecursion}
 use Rattle.hol_spec.specs.Names.{Name}
 use Rattle.hol_laws.specs.TypeLaws.{coded_name}
 use Rattle.hol_spec.specs.Symbols.{Symbol}
-use Rattle.hol_spec.specs.Proofs.{symbols_of}
+use Rattle.hol_spec.specs.Proofs.{sequent_at, symbols_of}
 use Rattle.hol_term.specs.Tables.{Trees, coded_trees, term_at, type_at, IsTermAt}
 use Rattle.hol_term.specs.Tables as table
 use Rattle.article_spec.specs.State as state
 use Rattle.article_laws.specs.StateLaws.{objects_code, objects_inj}
+use Rattle.sequent.specs.Sequents as numbers
+use Rattle.compose.specs.declared.pool.Said.{Said}
+use Rattle.compose.specs.Pools.{steps_in}
 use Rattle.hol_rules.specs.Kept.{Kept}
 use Rattle.stack_machine.specs.Making.{Run, coded_run, step_count, run_view, IsRunKnown}
 use Rattle.stack_machine.specs.declared.object.List.{List as AList}
@@ -122,13 +125,27 @@ abbrev pub AreCells : Stored → List Cell → Type 0
 AreCells m [] = Unit {0}
 AreCells m (c ∷ cs) = IsKnown m c.head × IsListKnown m c.tail × AreCells (record m { lists = m.lists ++ cell_view m c ∷ [] }) cs
 
--- what is kept over a proof, with the steps that are assumptions and exports
-abbrev pub store_view : Kept → List Name → List Cell → List ℕ → List ℕ → ℕ → Stored
-store_view proof names cells assumptions exports pool = stored proof.trees names (run_view proof.made assumptions exports pool) cells
+-- the run, with the steps that say the assumptions and the exports
+abbrev pub run_of : Kept → List Said → List Said → ℕ → Run
+run_of proof assumptions exports pool = run_view proof.made (steps_in assumptions) (steps_in exports) pool
 
-pub record IsStore (proof : Kept) (names : List Name) (cells : List Cell) (assumptions exports : List ℕ) (pool : ℕ) : Type 0 where
-  pub cells_known : AreCells (without_lists proof.trees names (run_view proof.made assumptions exports pool)) cells
-  pub run_known : IsRunKnown proof.made assumptions exports pool
+-- what is kept over a proof, with its assumptions and its exports
+abbrev pub store_view : Kept → List Name → List Cell → List Said → List Said → ℕ → Stored
+store_view proof names cells assumptions exports pool = stored proof.trees names (run_of proof assumptions exports pool) cells
+
+-- the numbers are of the table, and the step says the sequent
+pub record IsSaid (proof : Kept) (s : Said) : Type 0 where
+  pub known : numbers.IsKnown proof.trees s.sequent
+  pub says : sequent_at proof.made s.step ≡ numbers.sequent_at proof.trees s.sequent
+
+abbrev pub AreSaid : Kept → List Said → Type 0
+AreSaid proof pool = AllByRecursion (IsSaid proof) pool
+
+pub record IsStore (proof : Kept) (names : List Name) (cells : List Cell) (assumptions exports : List Said) (pool : ℕ) : Type 0 where
+  pub cells_known : AreCells (without_lists proof.trees names (run_of proof assumptions exports pool)) cells
+  pub run_known : IsRunKnown proof.made (steps_in assumptions) (steps_in exports) pool
+  pub assumed : AreSaid proof assumptions
+  pub exported : AreSaid proof exports
 
 -- one list is a front of another
 pub record IsFront {A : Type 0} (xs ys : List A) : Type 0 where

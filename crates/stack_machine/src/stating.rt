@@ -1,5 +1,5 @@
 //! The sequents that articles state: assumptions, which what was known may meet, and exports.
-ghost use Rattle.std.specs.Prelude.{◌≡◌, ◌<◌, ◌≤◌, ◌++◌, ◌∷◌, [], length, take, Ok, IfOk, IfErr, IfSome, OnOk, OnErr};
+ghost use Rattle.std.specs.Prelude.{◌≡◌, ◌<◌, ◌++◌, ◌∷◌, [], length, take, Ok, IfOk, IfErr, IfSome, OnOk, OnErr};
 ghost use Rattle.std.specs.List.{find};
 ghost use Rattle.std.specs.Option.{option_or};
 ghost use Rattle.article_spec.specs.Conditions.{follows};
@@ -9,16 +9,17 @@ ghost use Rattle.hol_spec.specs.Proofs.{sequent_at};
 ghost use Rattle.hol_spec.specs.Sequents.{same as is_same};
 ghost use Rattle.hol_term.specs.Tables.{term_at, terms_at, IsTermAt};
 ghost use Rattle.sequent.specs.Sequents as numbers;
+ghost use Rattle.compose.specs.Pools.{said, steps_in};
 ghost use Rattle.hol_rules.specs.Conclusions.{Concludes};
 ghost use Rattle.hol_rules.specs.Kept.{step_count};
 ghost use Rattle.hol_rules.specs.Premises.{AreTermsAt, IsStated};
 ghost use Rattle.hol_rules.specs.Steps.{axiom_step, restate_step};
 ghost use Rattle.stack_machine.specs.Inferring.{Exports, Infers, assuming, exporting, recording, restating, first_saying};
-ghost use Rattle.stack_machine.specs.Making.{AreSteps};
-ghost use Rattle.stack_machine.specs.Stored.{IsStep, IsTerm};
+ghost use Rattle.stack_machine.specs.Stored.{AreSaid, IsStep, IsTerm};
 
 use crate::store::Store;
 use bridge_base::{Fault, Kind, Memory};
+use compose::Pool;
 use hol_rules::{Proof, StepId};
 use hol_term::TermId;
 use sequent::{Hyps, Sequent};
@@ -33,16 +34,6 @@ fn stated(alloc: Global, proof: &Proof, hyps: &[TermId], concl: TermId) -> Resul
     let _head = proof.terms().view(concl);
     let hyps = Hyps::of(alloc, hyps)?;
     Ok(Sequent { hyps, concl })
-}
-
-// Whether a step says a sequent, with its hypotheses in any order.
-fn says(proof: &Proof, id: StepId, sequent: &Sequent) -> bool
-    requires step { id < step_count proof.now }
-    requires sequent { numbers.IsKnown proof.now.trees sequent.now }
-    ensures { result ≡ is_same (sequent_at proof.now.made id) (numbers.sequent_at proof.now.trees sequent.now) }
-{
-    let _head = proof.terms().view(sequent.concl);
-    Sequent::same(proof.sequent(id), sequent)
 }
 
 // Refuses a sequent that says other than a step, or more.
@@ -60,56 +51,55 @@ fn judge(proof: &Proof, id: StepId, sequent: &Sequent) -> Result<(), Fault>
     }
 }
 
-// The first of these steps that says a sequent.
-fn first_that_says(proof: &Proof, ids: &[StepId], sequent: &Sequent) -> Option<StepId>
-    requires steps { AreSteps proof.now.made ids.now }
+// The first of a pool's steps that says a sequent.
+fn first_of(proof: &Proof, pool: &Pool, sequent: &Sequent) -> Option<StepId>
+    requires pool { AreSaid proof.now pool.now }
     requires sequent { numbers.IsKnown proof.now.trees sequent.now }
-    ensures { result ≡ find (λ i. is_same (sequent_at proof.now.made i) (numbers.sequent_at proof.now.trees sequent.now)) ids.now }
+    ensures { result ≡ find (λ i. is_same (sequent_at proof.now.made i) (numbers.sequent_at proof.now.trees sequent.now)) (steps_in pool.now) }
 {
-    for id in ids {
-        if says(proof, *id, sequent) {
-            return Some(*id);
-        }
-    }
-    None
+    let _head = proof.terms().view(sequent.concl);
+    pool.find(sequent)
 }
 
-// Those of the exports that earlier articles made.
-fn earlier(exports: &[StepId], pool: usize) -> &[StepId]
-    requires { pool ≤ length exports.now }
-    ensures { result.now ≡ take pool exports.now }
+// The first of a pool's steps that says a sequent, among so many that were added first.
+fn first_among(proof: &Proof, pool: &Pool, count: usize, sequent: &Sequent) -> Option<StepId>
+    requires pool { AreSaid proof.now pool.now }
+    requires sequent { numbers.IsKnown proof.now.trees sequent.now }
+    ensures { result ≡ find (λ i. is_same (sequent_at proof.now.made i) (numbers.sequent_at proof.now.trees sequent.now)) (take count (steps_in pool.now)) }
 {
-    &exports[..pool]
+    let _head = proof.terms().view(sequent.concl);
+    pool.find_among(count, sequent)
 }
 
-// Makes an assumption, and notes its step.
+// Makes an assumption, and notes its sequent with its step.
 fn assume_into(
-    noted: &mut Vec<StepId>,
+    noted: &mut Pool,
     proof: &mut Proof,
+    sequent: Sequent,
     hyps: &[TermId],
     concl: TermId,
 ) -> Result<StepId, Fault>
     requires hyps { AreTermsAt proof.old.trees hyps.now }
     requires concl { IsTermAt proof.old.trees concl.0 }
     ensures concludes { Concludes proof.old (axiom_step (terms_at proof.old.trees hyps.now) (term_at proof.old.trees concl.0)) proof.new result }
-    ensures noted { OnOk result (noted.new.items ≡ noted.old.items ++ step_count proof.old ∷ []) }
-    ensures unchanged { OnErr result (noted.new.items ≡ noted.old.items) }
+    ensures noted { OnOk result (noted.new ≡ noted.old ++ said sequent (step_count proof.old) ∷ []) }
+    ensures unchanged { OnErr result (noted.new ≡ noted.old) }
 {
-    let count = noted.len();
-    noted.push(proof.len())?;
+    noted.add(sequent, proof.len())?;
     match proof.axiom(hyps, concl) {
         Ok(id) => Ok(id),
         Err(fault) => {
-            noted.truncate(count);
+            noted.forget_last();
             Err(fault)
         }
     }
 }
 
-// Restates a theorem, and notes the step.
+// Restates a theorem, and notes its sequent with the step.
 fn restate_into(
-    noted: &mut Vec<StepId>,
+    noted: &mut Pool,
     proof: &mut Proof,
+    sequent: Sequent,
     one: StepId,
     hyps: &[TermId],
     concl: TermId,
@@ -118,15 +108,14 @@ fn restate_into(
     requires hyps { AreTermsAt proof.old.trees hyps.now }
     requires concl { IsTermAt proof.old.trees concl.0 }
     ensures concludes { Concludes proof.old (restate_step proof.old.made one (terms_at proof.old.trees hyps.now) (term_at proof.old.trees concl.0)) proof.new result }
-    ensures noted { OnOk result (noted.new.items ≡ noted.old.items ++ step_count proof.old ∷ []) }
-    ensures unchanged { OnErr result (noted.new.items ≡ noted.old.items) }
+    ensures noted { OnOk result (noted.new ≡ noted.old ++ said sequent (step_count proof.old) ∷ []) }
+    ensures unchanged { OnErr result (noted.new ≡ noted.old) }
 {
-    let count = noted.len();
-    noted.push(proof.len())?;
+    noted.add(sequent, proof.len())?;
     match proof.restate(one, hyps, concl) {
         Ok(id) => Ok(id),
         Err(fault) => {
-            noted.truncate(count);
+            noted.forget_last();
             Err(fault)
         }
     }
@@ -148,7 +137,7 @@ impl Store {
         let sequent = stated(alloc, &self.proof, hyps, concl)?;
         match self.known(&sequent) {
             Some(id) => self.restate(id, hyps, concl),
-            None => self.assume_next(hyps, concl),
+            None => self.assume_next(sequent, hyps, concl),
         }
     }
 
@@ -170,8 +159,7 @@ impl Store {
         ensures first { result ≡ first_saying self.now (numbers.sequent_at self.now.trees sequent.now) self.now.run.pool }
         ensures step { IfSome result (λ id. IsStep self.now id) }
     {
-        let ids = earlier(&self.exports, self.pool);
-        first_that_says(&self.proof, ids, sequent)
+        first_among(&self.proof, &self.exports, self.pool, sequent)
     }
 
     // The first assumption that says a sequent.
@@ -180,16 +168,22 @@ impl Store {
         ensures first { result ≡ first_saying self.now (numbers.sequent_at self.now.trees sequent.now) self.now.run.assumptions }
         ensures step { IfSome result (λ id. IsStep self.now id) }
     {
-        first_that_says(&self.proof, &self.assumptions, sequent)
+        first_of(&self.proof, &self.assumptions, sequent)
     }
 
     // The sequent becomes the next assumption.
-    fn assume_next(&mut self, hyps: &[TermId], concl: TermId) -> Result<StepId, Fault>
+    fn assume_next(
+        &mut self,
+        sequent: Sequent,
+        hyps: &[TermId],
+        concl: TermId,
+    ) -> Result<StepId, Fault>
+        requires stated { IsStated self.old.trees sequent (stated_tree (terms_at self.old.trees hyps.now) (term_at self.old.trees concl.0)) }
         requires hyps { AreTermsAt self.old.trees hyps.now }
         requires concl { IsTerm self.old concl.0 }
         ensures { Infers self.old (recording (terms_at self.old.trees hyps.now) (term_at self.old.trees concl.0)) self.new result }
     {
-        assume_into(&mut self.assumptions, &mut self.proof, hyps, concl)
+        assume_into(&mut self.assumptions, &mut self.proof, sequent, hyps, concl)
     }
 
     // Restates a theorem as the next export, unless an export says the sequent already.
@@ -207,20 +201,34 @@ impl Store {
     {
         self.proof.is_proof();
         let sequent = stated(alloc, &self.proof, hyps, concl)?;
-        match first_that_says(&self.proof, &self.exports, &sequent) {
+        match first_of(&self.proof, &self.exports, &sequent) {
             Some(_known) => judge(&self.proof, one, &sequent),
-            None => self.export_next(one, hyps, concl),
+            None => self.export_next(sequent, one, hyps, concl),
         }
     }
 
     // The sequent becomes the next export.
-    fn export_next(&mut self, one: StepId, hyps: &[TermId], concl: TermId) -> Result<(), Fault>
+    fn export_next(
+        &mut self,
+        sequent: Sequent,
+        one: StepId,
+        hyps: &[TermId],
+        concl: TermId,
+    ) -> Result<(), Fault>
+        requires stated { IsStated self.old.trees sequent (stated_tree (terms_at self.old.trees hyps.now) (term_at self.old.trees concl.0)) }
         requires one { IsStep self.old one }
         requires hyps { AreTermsAt self.old.trees hyps.now }
         requires concl { IsTerm self.old concl.0 }
         ensures { Exports self.old (restating one (terms_at self.old.trees hyps.now) (term_at self.old.trees concl.0)) self.new result }
     {
-        let _step = restate_into(&mut self.exports, &mut self.proof, one, hyps, concl)?;
+        let _step = restate_into(
+            &mut self.exports,
+            &mut self.proof,
+            sequent,
+            one,
+            hyps,
+            concl,
+        )?;
         Ok(())
     }
 }

@@ -23,6 +23,7 @@ use crate::making::{make_constant, make_operator};
 use crate::object::{Cell, CellId, List, NameId, Object};
 use crate::operands::{term_in, type_in};
 use bridge_base::{Fault, Memory};
+use compose::Pool;
 use hol_name::Name;
 use hol_rules::{Proof, StepId};
 use hol_term::{TermId, Variable};
@@ -52,8 +53,8 @@ pub(crate) struct Store {
     pub(crate) proof: Proof,
     names: Vec<Name>,
     cells: Vec<Cell>,
-    pub(crate) assumptions: Vec<StepId>,
-    pub(crate) exports: Vec<StepId>,
+    pub(crate) assumptions: Pool,
+    pub(crate) exports: Pool,
     // how many exports earlier articles made
     pub(crate) pool: usize,
 }
@@ -65,9 +66,9 @@ impl Model for Store {
 
     ghost coded = { coded_stored };
 
-    ghost invariant = { λ s. IsStore s.proof s.names.items s.cells.items s.assumptions.items s.exports.items s.pool };
+    ghost invariant = { λ s. IsStore s.proof s.names.items s.cells.items s.assumptions s.exports s.pool };
 
-    ghost view = { λ s. store_view s.proof s.names.items s.cells.items s.assumptions.items s.exports.items s.pool };
+    ghost view = { λ s. store_view s.proof s.names.items s.cells.items s.assumptions s.exports s.pool };
 }
 
 impl Store {
@@ -78,8 +79,8 @@ impl Store {
             proof: Proof::new(alloc)?,
             names: Vec::new(alloc),
             cells: Vec::new(alloc),
-            assumptions: Vec::new(alloc),
-            exports: Vec::new(alloc),
+            assumptions: Pool::new(alloc),
+            exports: Pool::new(alloc),
             pool: 0,
         })
     }
@@ -97,7 +98,7 @@ impl Store {
         ensures numbers { result.now ≡ self.now.run.assumptions }
         ensures steps { AreSteps self.now.run.made result.now }
     {
-        &self.assumptions
+        self.assumptions.steps()
     }
 
     // The steps that are exports, in order.
@@ -105,7 +106,7 @@ impl Store {
         ensures numbers { result.now ≡ self.now.run.exports }
         ensures steps { AreSteps self.now.run.made result.now }
     {
-        &self.exports
+        self.exports.steps()
     }
 
     // What each step says derives from the definitions and the assumptions.

@@ -18,8 +18,8 @@ returns-in-Some c =
     Infers-as (λ s below. assuming-met (in_state s below m.run) (terms_at m.trees c.args.hyps.now) (term_at m.trees c.args.concl.0) c.in-Some.id
     (sym (subst (λ q. Some c.in-Some.id ≡ option_or (first_saying m q m.run.pool) (first_saying m q m.run.assumptions)) is c.in-Some.ensures.first))) c.restate.ensures
 
-pub returns : goal.returns
-returns c =
+pub returns-in-None : goal.returns-in-None
+returns-in-None c =
     let m = c.args.self.now in
     let is : numbers.sequent_at m.trees c.in_ok-sequent.sequent ≡ stated (terms_at m.trees c.args.hyps.now) (term_at m.trees c.args.concl.0) = subst (λ m. numbers.sequent_at m.trees c.in_ok-sequent.sequent ≡ stated (terms_at m.trees c.args.hyps.now) (term_at m.trees c.args.concl.0)) c.self.view_is c.in_ok-sequent.ensures.is in
     Infers-as (λ s below. assuming-new (in_state s below m.run) (terms_at m.trees c.args.hyps.now) (term_at m.trees c.args.concl.0)

@@ -1,8 +1,8 @@
 use Rattle.std.proofs.Common.{◌≡◌, subst, sym, ◌∙◌, ◌∷◌, [], ◌++◌, length}
 use Rattle.stack_machine.specs.declared.object.Cell.{Cell}
 use Rattle.stack_machine.specs.declared.object.List.TheVariants.{Cell as CellOf}
-use Rattle.stack_machine.specs.Making.{Run, run_view}
-use Rattle.stack_machine.specs.Stored.{stored, list_view, cell_view, IsKnown, IsListKnown}
+use Rattle.stack_machine.specs.Making.{Run}
+use Rattle.stack_machine.specs.Stored.{run_of, stored, list_view, cell_view, IsKnown, IsListKnown}
 use Rattle.stack_machine.proofs.Cells.{pushed-Grows, pushed-AreCells, pushed-known, pushed-list}
 use Rattle.stack_machine.proofs.store.Store.cons.Goals as goal
 
@@ -10,7 +10,7 @@ abbrev new_cell : goal.In_ok-push → Cell
 new_cell c = record { head = c.args.head; tail = c.args.tail }
 
 abbrev run : goal.In_ok-push → Run
-run c = run_view c.self.inside.proof.made c.self.inside.assumptions.items c.self.inside.exports.items c.self.inside.pool
+run c = run_of c.self.inside.proof c.self.inside.assumptions c.self.inside.exports c.self.inside.pool
 
 -- the new cell has the next number
 next : (c : goal.In_ok-push) → c.len.result ≡ length c.self.inside.cells.items
@@ -21,6 +21,8 @@ invariant_of-self-2 c = record {
   cells_known = rw c.in_ok-push.ensures.items (pushed-AreCells c.self.inside.proof.trees c.self.inside.names.items (run c) c.self.inside.cells.items (new_cell c) c.self.invariant.cells_known
       (subst (λ m. IsKnown m c.args.head) (sym c.self.view_is) c.requires.head) (subst (λ m. IsListKnown m c.args.tail) (sym c.self.view_is) c.requires.tail));
   run_known = c.self.invariant.run_known;
+  assumed = c.self.invariant.assumed;
+  exported = c.self.invariant.exported;
 }
 
 pub returns-clause-known : goal.returns-clause-known

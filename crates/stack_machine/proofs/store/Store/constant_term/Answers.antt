@@ -14,7 +14,7 @@ pub returns-clause-refused : goal.returns-clause-refused
 returns-clause-refused c = rw (← c.self.view_is, ← c.name_in-name.ensures) c.make_constant.ensures.refused
 
 pub returns-clause-takes : goal.returns-clause-takes
-returns-clause-takes c = rw (← c.self.view_is, ← c.name_in-name.ensures) (run-taken c.make_constant.result c.self.inside.proof c.make_constant.new.proof c.make_constant.ensures.keeps _ c.make_constant.ensures.takes c.make_constant.ensures.unchanged c.self.inside.assumptions.items c.self.inside.exports.items c.self.inside.pool)
+returns-clause-takes c = rw (← c.self.view_is, ← c.name_in-name.ensures) (run-taken c.make_constant.result c.self.inside.proof c.make_constant.new.proof c.make_constant.ensures.keeps _ c.make_constant.ensures.takes c.make_constant.ensures.unchanged c.self.inside.assumptions c.self.inside.exports c.self.inside.pool)
 
 pub returns-clause-unchanged : goal.returns-clause-unchanged
-returns-clause-unchanged c = rw (← c.self.view_is) (run-untaken c.make_constant.result c.self.inside.proof c.make_constant.new.proof c.make_constant.ensures.keeps _ c.make_constant.ensures.takes c.make_constant.ensures.unchanged c.self.inside.assumptions.items c.self.inside.exports.items c.self.inside.pool)
+returns-clause-unchanged c = rw (← c.self.view_is) (run-untaken c.make_constant.result c.self.inside.proof c.make_constant.new.proof c.make_constant.ensures.keeps _ c.make_constant.ensures.takes c.make_constant.ensures.unchanged c.self.inside.assumptions c.self.inside.exports c.self.inside.pool)

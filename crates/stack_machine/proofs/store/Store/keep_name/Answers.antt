@@ -7,7 +7,7 @@ longer : (c : goal.In_ok-push) → IsFront c.self.inside.names.items c.push.new.
 longer c = record { more = _; is = c.in_ok-push.ensures.items }
 
 pub invariant_of-self-2 : goal.invariant_of-self-2
-invariant_of-self-2 c = IsStore-run (IsMore-refl _) c.self.invariant (longer c) c.self.invariant.run_known
+invariant_of-self-2 c = IsStore-run (IsMore-refl _) c.self.invariant (longer c) c.self.invariant.run_known c.self.invariant.assumed c.self.invariant.exported
 
 pub returns-clause-grows : goal.returns-clause-grows
-returns-clause-grows c = rw (← c.self.view_is) (Grows-run (IsMore-refl _) c.self.invariant c.self.inside.pool (longer c))
+returns-clause-grows c = rw (← c.self.view_is) (Grows-run (IsMore-refl _) c.self.invariant c.self.inside.assumptions c.self.inside.exports c.self.inside.pool (longer c))

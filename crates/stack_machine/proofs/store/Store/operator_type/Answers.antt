@@ -19,7 +19,7 @@ pub returns-clause-refused : goal.returns-clause-refused
 returns-clause-refused c = subst (λ m. IfErr c.make_operator.result (λ fault. Fails fault (operator_fits (taken_symbols m) (name_at m c.args.name.0) (types_at m.trees.types c.args.args.now)))) c.self.view_is (rw (← c.name_in-name.ensures) c.make_operator.ensures.refused)
 
 pub returns-clause-takes : goal.returns-clause-takes
-returns-clause-takes c = rw (← c.self.view_is, ← c.name_in-name.ensures) (run-taken c.make_operator.result c.self.inside.proof c.make_operator.new.proof c.make_operator.ensures.keeps _ c.make_operator.ensures.takes c.make_operator.ensures.unchanged c.self.inside.assumptions.items c.self.inside.exports.items c.self.inside.pool)
+returns-clause-takes c = rw (← c.self.view_is, ← c.name_in-name.ensures) (run-taken c.make_operator.result c.self.inside.proof c.make_operator.new.proof c.make_operator.ensures.keeps _ c.make_operator.ensures.takes c.make_operator.ensures.unchanged c.self.inside.assumptions c.self.inside.exports c.self.inside.pool)
 
 pub returns-clause-unchanged : goal.returns-clause-unchanged
-returns-clause-unchanged c = rw (← c.self.view_is) (run-untaken c.make_operator.result c.self.inside.proof c.make_operator.new.proof c.make_operator.ensures.keeps _ c.make_operator.ensures.takes c.make_operator.ensures.unchanged c.self.inside.assumptions.items c.self.inside.exports.items c.self.inside.pool)
+returns-clause-unchanged c = rw (← c.self.view_is) (run-untaken c.make_operator.result c.self.inside.proof c.make_operator.new.proof c.make_operator.ensures.keeps _ c.make_operator.ensures.takes c.make_operator.ensures.unchanged c.self.inside.assumptions c.self.inside.exports c.self.inside.pool)

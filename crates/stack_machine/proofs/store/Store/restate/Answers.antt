@@ -11,5 +11,5 @@ invariant_of-self c = Concludes-IsStore c.restate.ensures c.self.invariant
 
 pub returns : goal.returns
 returns c =
-    subst (λ m. Infers m (by_step (restate_step m.run.made c.args.one (terms_at m.trees c.args.hyps.now) (term_at m.trees c.args.concl.0))) (store_view c.restate.new.self c.self.inside.names.items c.self.inside.cells.items c.self.inside.assumptions.items c.self.inside.exports.items c.self.inside.pool) c.restate.result)
+    subst (λ m. Infers m (by_step (restate_step m.run.made c.args.one (terms_at m.trees c.args.hyps.now) (term_at m.trees c.args.concl.0))) (store_view c.restate.new.self c.self.inside.names.items c.self.inside.cells.items c.self.inside.assumptions c.self.inside.exports c.self.inside.pool) c.restate.result)
     c.self.view_is (Concludes-Infers c.restate.ensures c.self.invariant)
