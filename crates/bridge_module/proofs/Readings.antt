@@ -9,7 +9,7 @@ use Rattle.lp_spec.specs.Modules.{Declaration}
 use Rattle.lp_spec.specs.ReadingFaults.{answer_within}
 use Rattle.dk_read.specs.declared.faults.DkFault.{DkFault}
 use Rattle.dk_read.specs.declared.faults.DkFault.TheVariants as fault
-use Rattle.dk_read.specs.Readers.{Reading, IsFed, fed_with, IsWithin, IsRead, IsJudged, Judges, Feeds, Answers}
+use Rattle.dk_read.specs.Readers.{Reading, IsFed, fed_with, IsWithin, IsRead, IsJudged, Judges, Feeds, GoesOn, Answers, place_of}
 use Rattle.dk_read.specs.Texts.{Refuses, Ends}
 use Rattle.bridge_spec.specs.FileChecks.{max_file, ReadsAs}
 use Rattle.bridge_module.specs.declared.reading.Stop.{Stop}
@@ -23,29 +23,36 @@ pub record IsReading (whole left : Option (List ℕ)) (r : Reading) : Type 0 whe
   pub fed : IsFed r text
   pub within : length text ≤ max_file
   pub given : Gives whole text left
+  pub place : r.fault ≡ None → place_of r.progress ≡ length text
 
 -- how many bytes the reader still takes, at most
-abbrev room_by : Option DkFault → List ℕ → ℕ
-room_by None text = max_file - length text
-room_by (Some f) text = max_file + 1
+abbrev room_by : Option DkFault → ℕ → ℕ
+room_by None n = max_file - n
+room_by (Some f) n = max_file + 1
 
 abbrev pub room : Reading → ℕ
-room r = room_by r.fault r.text
+room r = room_by r.fault (place_of r.progress)
 
 -- a reader that was fed nothing
 pub none_read : (whole : Option (List ℕ)) (r : Reading) → r.limit ≡ Some max_file → IsFed r [] → IsReading whole whole r
-none_read whole r limit fed = record { text = []; limit = limit; fed = fed; within = omega arith; given = gives_none whole }
+none_read whole r limit fed = record { text = []; limit = limit; fed = fed; within = omega arith; given = gives_none whole; place = λ going. ap place_of (subst (λ f. fed_with f r []) going fed).0 }
 
 -- a reader that took a piece goes on
-pub piece_read : (whole old left : Option (List ℕ)) (r s : Reading) (piece : List ℕ) (h : IsReading whole old r) → Gives old piece left → s.limit ≡ r.limit → Feeds r piece s
+pub piece_read : (whole old left : Option (List ℕ)) (r s : Reading) (piece : List ℕ) (h : IsReading whole old r) → Gives old piece left → s.limit ≡ r.limit → Feeds r piece s → GoesOn r piece s
     → IsWithin r.limit (h.text ++ piece) → IsReading whole left s
-piece_read whole old left r s piece h gives limit feeds within = record {
+piece_read whole old left r s piece h gives limit feeds goes within = record {
   text = h.text ++ piece;
   limit = limit ∙ h.limit;
   fed = feeds h.text h.fed;
   within = subst (λ n. IsWithin n (h.text ++ piece)) h.limit within;
   given = gives_both whole old left h.text piece h.given gives;
+  place = λ going. (goes going).1 ∙ ap (λ n. n + length piece) (h.place (goes going).0) ∙ sym (length-append h.text piece);
 }
+
+-- a text that isn't refused is within the limit
+pub judged-IsWithin : (limit : Option ℕ) (text : List ℕ) (r : Result (Unit {0}) DkFault) → ((f : DkFault) → r ≡ Err f → ⊥) → IsJudged limit text r → IsWithin limit text
+judged-IsWithin limit text (Ok u) h judged = judged
+judged-IsWithin limit text (Err f) h judged = absurd (h f refl)
 
 -- a reader that answers well has not stopped
 pub not_stopped : (f : Option DkFault) (u : Unit {0}) → Answers f (Ok u) → f ≡ None
@@ -53,15 +60,12 @@ not_stopped None u h = refl
 not_stopped (Some f) u h = absurd h
 
 -- and has less room
-pub room_less : (r s : Reading) (text piece : List ℕ) → IsFed r text → IsFed s (text ++ piece) → s.fault ≡ None → length (text ++ piece) ≤ max_file → 0 < length piece → room s < room r
-room_less r s text piece old new going within some =
-    let fed = subst (λ f. fed_with f s (text ++ piece)) going new in
-    let now : room s ≡ max_file - (length text + length piece) = ap (λ f. room_by f s.text) going ∙ ap (λ t. max_file - length t) fed.0 ∙ ap (λ n. max_file - n) (length-append text piece) in
-    before r.fault old now
-  where
-    before : (f : Option DkFault) → fed_with f r text → room s ≡ max_file - (length text + length piece) → room s < room_by f r.text
-    before None h now = omega (arith, now, some, ap length h.0, length-append text piece, within)
-    before (Some f) h now = omega (arith, now)
+pub room_less : (whole left : Option (List ℕ)) (r s : Reading) (piece : List ℕ) (h : IsReading whole left r) → GoesOn r piece s → s.fault ≡ None → length (h.text ++ piece) ≤ max_file → 0 < length piece → room s < room r
+room_less whole left r s piece h goes going within some =
+    let old : room r ≡ max_file - place_of r.progress = ap (λ f. room_by f (place_of r.progress)) (goes going).0 in
+    let new : room s ≡ max_file - (place_of r.progress + length piece) = ap (λ f. room_by f (place_of s.progress)) going ∙ ap (λ n. max_file - n) (goes going).1 in
+    let place : place_of r.progress ≡ length h.text = h.place (goes going).0 in
+    omega (arith, old, new, place, some, length-append h.text piece, within)
 
 -- a text that goes on is refused, whatever follows
 pub piece_refused : (whole left : Option (List ℕ)) (text : List ℕ) (f : DkFault) → Gives whole text left → IsJudged (Some max_file) text (Err f) → StopsText whole (stop_of f)

@@ -1,6 +1,7 @@
-//! Makes the text of a module, and reads it in pieces of 4,096 bytes: `dk_bench CALL COUNT`, where CALL is `make` or
-//! `read`, and each of COUNT lines has 100 bytes: a comment and two declarations. What reading takes is the time of a
-//! run of `read` less that of `make`.
+//! Makes the text of a module, and reads it in pieces of 4,096 bytes: `dk_bench CALL COUNT`. With `make` and `read` each
+//! of COUNT lines has 100 bytes: a comment and two declarations. With `open` and `deep` the text has forty types of
+//! COUNT binders, in each of whose domains the outermost is looked up. What reading takes is the time of a run of `read` less
+//! that of `make`, or of `deep` less that of `open`.
 #![tactic(auto)]
 
 use bridge_base::Memory;
@@ -29,6 +30,32 @@ fn made(alloc: Global, count: u32) -> Result<Vec<u8>, Memory> {
     Ok(text)
 }
 
+// How many types the text of `open` has.
+const TYPES: u32 = 40;
+
+// The text of a module with types of so many binders, each of which looks the outermost up.
+fn nested(alloc: Global, count: u32) -> Result<Vec<u8>, Memory> {
+    let mut text = Vec::from_slice(alloc, PRELUDE)?;
+    for number in 0..TYPES {
+        push_number(&mut text, b"q", number)?;
+        text.extend_from_slice(b" : v : type -> ")?;
+        for binder in 0..count {
+            push_number(&mut text, b"w", binder)?;
+            text.extend_from_slice(b" : term v -> ")?;
+        }
+        text.extend_from_slice(b"type.\n")?;
+    }
+    Ok(text)
+}
+
+// A name of this letter and number, of eight bytes.
+fn push_number(text: &mut Vec<u8>, letter: &[u8], number: u32) -> Result<(), Memory> {
+    let mut buffer = Buffer::new();
+    text.extend_from_slice(letter)?;
+    text.extend_from_slice(buffer.format(1000000 + u64::from(number)).as_bytes())?;
+    Ok(())
+}
+
 // How many declarations the text has.
 fn declarations(alloc: Global, text: &[u8]) -> Result<usize, DkFault> {
     let mut reader = Reader::new(alloc, Limit::Free);
@@ -41,9 +68,12 @@ fn declarations(alloc: Global, text: &[u8]) -> Result<usize, DkFault> {
 
 // How many bytes the text has that is made, or how many declarations are read in it.
 fn run(alloc: Global, call: &str, count: u32) -> Result<usize, DkFault> {
-    let text = made(alloc, count)?;
+    let text = match call {
+        "open" | "deep" => nested(alloc, count)?,
+        _ => made(alloc, count)?,
+    };
     match call {
-        "read" => declarations(alloc, &text),
+        "read" | "deep" => declarations(alloc, &text),
         _ => Ok(text.len()),
     }
 }

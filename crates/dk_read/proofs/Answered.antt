@@ -48,7 +48,7 @@ read_within limit text m h =
     record { within = reads_within limit text m h; reads = answer-Reads text m is; only = λ n reads. same_module text m n is (Reads-answer text n reads) }
 
 -- within the limit the answer is the whole text's
-within_answer : (limit : Option ℕ) (text : List ℕ) → IsWithin limit text → reading.answer_within limit text ≡ reading.answer text
+pub within_answer : (limit : Option ℕ) (text : List ℕ) → IsWithin limit text → reading.answer_within limit text ≡ reading.answer text
 within_answer None text h = refl
 within_answer (Some n) text h =
     let e : nat_le (length text) n ≡ true = grind (arith, common_steps, h) in

@@ -1,21 +1,37 @@
 -- The tokens that a byte ends, one after the other.
-use Rattle.std.proofs.Common.{◌≡◌, ℕ, sym, ap, subst, ◌∙◌, List, Result, Err}
+use Rattle.std.proofs.Common.{◌≡◌, ℕ, sym, ap, subst, ◌∙◌, List, Result, Ok, Err, OnOk}
 use Rattle.lp_spec.specs.Modules.{Declaration}
 use Rattle.lp_spec.specs.Tokens as tokens
 use Rattle.lp_spec.specs.ReadingFaults as reading
 use Rattle.text_laws.specs.ReadingOrder.{IsState, IsOrdered, advance-IsOrdered}
 use Rattle.dk_read.specs.declared.faults.DkFault.{DkFault}
 use Rattle.dk_read.specs.declared.faults.DkFault.TheVariants as fault
-use Rattle.dk_read.specs.declared.terms.State.{State}
-use Rattle.dk_read.specs.declared.terms.Token.{Token}
-use Rattle.dk_read.specs.declared.machine.Machine.{Machine}
+use Rattle.dk_read.specs.declared.parser.Parser.{Parser}
 use Rattle.dk_read.specs.declared.text.Text.{Text}
-use Rattle.dk_read.specs.States.{before, state_in, token_of, fault_of}
-use Rattle.dk_read.specs.Texts.{Advances, Takes}
+use Rattle.dk_read.specs.States.{before, state_of, fault_of, Becomes, IsReady, IsReading, Grows}
+use Rattle.dk_read.proofs.Grown.{known-Grows, state-Grows}
+use Rattle.dk_read.specs.Texts.{Takes}
 
-pub next_ordered : (old new : Machine) (state taken next : State) (p : ℕ) (t : Token) → IsState (before old) (state_in old state) → taken ≡ state → reading.advance (before old) (state_in old taken) p (token_of t) ≡ reading.Goes (before new) (state_in new next) → IsState (before new) (state_in new next)
-next_ordered old new state taken next p t h same e =
-    subst IsOrdered (ap (λ s. reading.advance (before old) (state_in old s) p (token_of t)) (sym same) ∙ e) (advance-IsOrdered (before old) (state_in old state) p (token_of t) h)
+-- a token leaves the reading in order
+pub next_ordered : (old new : Parser) (p : ℕ) (token : tokens.Token) → IsState (before old) (state_of old) → reading.advance (before old) (state_of old) p token ≡ reading.Goes (before new) (state_of new) → IsState (before new) (state_of new)
+next_ordered old new p token h e = subst IsOrdered e (advance-IsOrdered (before old) (state_of old) p token h)
+
+pub reading_ready : (old new : Parser) (p : ℕ) (token : tokens.Token) (r : Result (Unit {0}) DkFault) → IsState (before old) (state_of old) → Becomes (reading.advance (before old) (state_of old) p token) new r → OnOk r (IsReady new) → OnOk r (IsReading new)
+reading_ready old new p token (Ok u) h e k = record { ready = k; ordered = next_ordered old new p token h e }
+reading_ready old new p token (Err f) h e k = tt
+
+-- a reading goes on over names that have grown
+pub reading_grows : (old new : Parser) → Grows old new → IsReading old → IsReading new
+reading_grows old new g r = record {
+  ready = record { sound = g.sound r.ready.sound; known = known-Grows old new g r.ready.known };
+  ordered = subst (λ s. IsState (before new) s) (sym (state-Grows old new g r.ready.known)) (subst (λ m. IsState m (state_of old)) (sym g.declared) r.ordered);
+}
+
+pub advance_grows : (old new : Parser) (p : ℕ) (one two : tokens.Token) → Grows old new → IsReading old → one ≡ two → reading.advance (before old) (state_of old) p one ≡ reading.advance (before new) (state_of new) p two
+advance_grows old new p one two g r e =
+    ap (λ m. reading.advance m (state_of old) p one) (sym g.declared)
+    ∙ ap (λ s. reading.advance (before new) s p one) (sym (state-Grows old new g r.ready.known))
+    ∙ ap (reading.advance (before new) (state_of new) p) e
 
 pub after_then : (p q : ℕ) (m n : List Declaration) (s u : reading.State) (token : tokens.Token) (taken : tokens.Taken) → reading.advance m s q token ≡ reading.Goes n u → reading.after_byte p m s (tokens.after (tokens.at q token) taken) ≡ reading.after_byte p n u taken
 after_then p q m n s u token (tokens.goes ts pending) e = ap (λ o. reading.progress p pending (reading.advance_all o ts)) e
@@ -26,9 +42,9 @@ after_stops p q m s token (tokens.goes ts pending) r e = ap (λ o. reading.progr
 after_stops p q m s token (tokens.sticks ts x) r e = ap (λ o. reading.Refused (reading.broken (reading.advance_all o ts) x)) e
 
 -- a token that stops the reading
-pub token_stops : (p q : ℕ) (m : List Declaration) (s : reading.State) (token : tokens.Token) (taken : tokens.Taken) (t : Text) (e : DkFault) → Advances (reading.advance m s q token) t (Err e) → Takes (reading.after_byte p m s (tokens.after (tokens.at q token) taken)) t (Err e)
-token_stops p q m s token taken t (fault.Refused place k) h = after_stops p q m s token taken (reading.refusal place (fault_of k)) h
-token_stops p q m s token taken t fault.Memory h = tt
+pub token_stops : (p q : ℕ) (m : List Declaration) (s : reading.State) (token : tokens.Token) (taken : tokens.Taken) (parser : Parser) (t : Text) (e : DkFault) → Becomes (reading.advance m s q token) parser (Err e) → Takes (reading.after_byte p m s (tokens.after (tokens.at q token) taken)) t (Err e)
+token_stops p q m s token taken parser t (fault.Refused place k) h = after_stops p q m s token taken (reading.refusal place (fault_of k)) h
+token_stops p q m s token taken parser t fault.Memory h = tt
 
 -- what is taken under another name
 pub takes_as : (o n : reading.Progress) (t : Text) (r : Result (Unit {0}) DkFault) → o ≡ n → Takes n t r → Takes o t r

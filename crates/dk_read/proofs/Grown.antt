@@ -1,66 +1,119 @@
--- What stays where the table of a reading grows.
-use Rattle.std.proofs.Common.{◌≡◌, refl, sym, ap, subst, List, [], ◌∷◌, map, reverse, Option, None, Some, arith}
+-- What stays where the table of a reading grows, or its names do.
+use Rattle.std.proofs.Common.{◌≡◌, ℕ, refl, sym, ap, subst, ◌∙◌, List, [], ◌∷◌, ◌++◌, reverse, length, Option, None, Some, arith}
 use Rattle.lp_spec.specs.Trees.{Tree}
+use Rattle.lp_spec.specs.Modules.{Declaration, signature}
 use Rattle.lp_spec.specs.ModuleOrder.{IsModule}
+use Rattle.lp_spec.specs.Reading.{Scope}
+use Rattle.lp_spec.specs.ReadingFaults as reading
 use Rattle.lp_term.specs.declared.LpId.{LpId}
 use Rattle.lp_term.specs.Tables.{Keeps}
 use Rattle.lp_term.specs.TableLaws.{tree_at-Stays}
+use Rattle.holide_sig.specs.declared.module.Module.{Module}
+use Rattle.holide_sig.specs.Modules.{declarations_of}
 use Rattle.holide_sig.specs.ModuleLaws.{IsHeld-Keeps, declarations_of-Keeps}
+use Rattle.dk_read.specs.declared.terms.Meaning.{Meaning}
 use Rattle.dk_read.specs.declared.terms.Frame.{Frame}
 use Rattle.dk_read.specs.declared.terms.Frame.TheVariants as frame
 use Rattle.dk_read.specs.declared.terms.Head.{Head}
 use Rattle.dk_read.specs.declared.terms.Head.TheVariants as head
-use Rattle.dk_read.specs.declared.machine.Machine.{Machine}
-use Rattle.dk_read.specs.States.{tree_in, frame_in, head_in, IsIdKnown, IsFrameKnown, AreFramesKnown, IsHeadKnown, IsSound, Grows}
+use Rattle.dk_read.specs.declared.terms.State.{State}
+use Rattle.dk_read.specs.declared.terms.State.TheVariants as state
+use Rattle.dk_read.specs.declared.parser.Parser.{Parser}
+use Rattle.dk_read.specs.Names.{Named, name_at, looked, bound}
+use Rattle.dk_read.specs.Names as naming
+use Rattle.dk_read.specs.States.{tree_in, frame_in, frames_in, head_in, state_in, IsIdKnown, IsBinding, IsFrameKnown, AreFramesKnown, IsHeadKnown, IsStateKnown, IsSoundIn, IsSound, Grows}
 
-module _ (old new : List Tree) (k : Keeps old new) where
+module _ (old new : List Tree) (k : Keeps old new) (ns ms : List Named) (j : naming.Keeps ns ms) where
   pub tree_in-Keeps : (id : Option LpId) → IsIdKnown old id → tree_in new id ≡ tree_in old id
   tree_in-Keeps None h = refl
   tree_in-Keeps (Some id) h = ap Some (sym (tree_at-Stays k.stays id.0 h))
 
-  frame_in-Keeps : (f : Frame) → IsFrameKnown old f → frame_in new f ≡ frame_in old f
-  frame_in-Keeps (frame.Enclosing f) h = cc (tree_in-Keeps f h)
-  frame_in-Keeps (frame.Domain name) h = refl
-  frame_in-Keeps (frame.Product name a) h = cc (tree_at-Stays k.stays a.0 h)
-  frame_in-Keeps (frame.Abstraction name a) h = cc (tree_at-Stays k.stays a.0 h)
+  frame_in-Keeps : (ds : List Declaration) (scope : Scope) (f : Frame) → IsFrameKnown old ns ds scope f → frame_in new ms f ≡ frame_in old ns f
+  frame_in-Keeps ds scope (frame.Enclosing f) h = cc (tree_in-Keeps f h)
+  frame_in-Keeps ds scope (frame.Domain n) h = cc (j.stays n h)
+  frame_in-Keeps ds scope (frame.Product n a w) h = cc (j.stays n h.name, tree_at-Stays k.stays a.0 h.domain)
+  frame_in-Keeps ds scope (frame.Abstraction n a w) h = cc (j.stays n h.name, tree_at-Stays k.stays a.0 h.domain)
 
-  frames_in-Keeps : (fs : List Frame) → AreFramesKnown old fs → map (frame_in new) fs ≡ map (frame_in old) fs
-  frames_in-Keeps [] h = refl
-  frames_in-Keeps (f ∷ fs) h = cc (frame_in-Keeps f h.0, frames_in-Keeps fs h.1)
+  pub frames_in-Keeps : (ds : List Declaration) (fs : List Frame) → AreFramesKnown old ns ds fs → frames_in new ms fs ≡ frames_in old ns fs
+  frames_in-Keeps ds [] h = refl
+  frames_in-Keeps ds (f ∷ fs) h = cc (frame_in-Keeps ds (reading.scope_of (frames_in old ns fs)) f h.0, frames_in-Keeps ds fs h.1)
 
-  pub head_in-Keeps : (h : Head) → IsHeadKnown old h → head_in new h ≡ head_in old h
-  head_in-Keeps (head.TypeOf form name) h = refl
-  head_in-Keeps (head.BodyOf form name ty) h = cc (tree_at-Stays k.stays ty.0 h)
+  pub head_in-Keeps : (h : Head) → IsHeadKnown old ns h → head_in new ms h ≡ head_in old ns h
+  head_in-Keeps (head.TypeOf form n) h = cc (j.stays n h)
+  head_in-Keeps (head.BodyOf form n ty) h = cc (j.stays n h.0, tree_at-Stays k.stays ty.0 h.1)
 
   pub IsIdKnown-Keeps : (id : Option LpId) → IsIdKnown old id → IsIdKnown new id
   IsIdKnown-Keeps None h = tt
   IsIdKnown-Keeps (Some id) h = omega (arith, k.longer, h)
 
-  pub IsHeadKnown-Keeps : (h : Head) → IsHeadKnown old h → IsHeadKnown new h
-  IsHeadKnown-Keeps (head.TypeOf form name) h = tt
-  IsHeadKnown-Keeps (head.BodyOf form name ty) h = omega (arith, k.longer, h)
+  pub IsHeadKnown-Keeps : (h : Head) → IsHeadKnown old ns h → IsHeadKnown new ms h
+  IsHeadKnown-Keeps (head.TypeOf form n) h = omega (arith, j.longer, h)
+  IsHeadKnown-Keeps (head.BodyOf form n ty) h = (omega (arith, j.longer, h.0), omega (arith, k.longer, h.1))
 
-  IsFrameKnown-Keeps : (f : Frame) → IsFrameKnown old f → IsFrameKnown new f
-  IsFrameKnown-Keeps (frame.Enclosing f) h = IsIdKnown-Keeps f h
-  IsFrameKnown-Keeps (frame.Domain name) h = tt
-  IsFrameKnown-Keeps (frame.Product name a) h = omega (arith, k.longer, h)
-  IsFrameKnown-Keeps (frame.Abstraction name a) h = omega (arith, k.longer, h)
+  pub IsBinding-Keeps : (ds : List Declaration) (scope : Scope) (n : ℕ) (a : LpId) (w : Meaning) → IsBinding old ns ds scope n a w → IsBinding new ms ds scope n a w
+  IsBinding-Keeps ds scope n a w h = record { name = omega (arith, j.longer, h.name); domain = omega (arith, k.longer, h.domain); hides = h.hides ∙ ap (bound ds scope) (sym (j.stays n h.name)) }
 
-  AreFramesKnown-Keeps : (fs : List Frame) → AreFramesKnown old fs → AreFramesKnown new fs
-  AreFramesKnown-Keeps [] h = tt
-  AreFramesKnown-Keeps (f ∷ fs) h = (IsFrameKnown-Keeps f h.0, AreFramesKnown-Keeps fs h.1)
+  IsFrameKnown-Keeps : (ds : List Declaration) (scope : Scope) (f : Frame) → IsFrameKnown old ns ds scope f → IsFrameKnown new ms ds scope f
+  IsFrameKnown-Keeps ds scope (frame.Enclosing f) h = IsIdKnown-Keeps f h
+  IsFrameKnown-Keeps ds scope (frame.Domain n) h = omega (arith, j.longer, h)
+  IsFrameKnown-Keeps ds scope (frame.Product n a w) h = IsBinding-Keeps ds scope n a w h
+  IsFrameKnown-Keeps ds scope (frame.Abstraction n a w) h = IsBinding-Keeps ds scope n a w h
 
--- the same reading over a table that has grown
-pub grown : (m : Machine) (new : List Tree) → Keeps m.module.table new → IsSound m → Grows m (record { alloc = m.alloc; «module» = record { table = new; decls = m.module.decls }; frames = m.frames })
-grown m new k h =
-    let same = declarations_of-Keeps m.module new k h.held in
+  pub AreFramesKnown-Keeps : (ds : List Declaration) (fs : List Frame) → AreFramesKnown old ns ds fs → AreFramesKnown new ms ds fs
+  AreFramesKnown-Keeps ds [] h = tt
+  AreFramesKnown-Keeps ds (f ∷ fs) h =
+      (subst (λ s. IsFrameKnown new ms ds (reading.scope_of s) f) (sym (frames_in-Keeps ds fs h.1)) (IsFrameKnown-Keeps ds (reading.scope_of (frames_in old ns fs)) f h.0), AreFramesKnown-Keeps ds fs h.1)
+
+-- the same reading over a table or names that have grown
+pub grown_in : (m : Module) (new : List Tree) (ns ms : List Named) (z b : ℕ) (h : Head) (fs : List Frame) → Keeps m.table new → naming.Keeps ns ms → ((x : List ℕ) → looked ms x ≡ looked ns x) → IsSoundIn m ns z b h fs → IsSoundIn (record { table = new; decls = m.decls }) ms z b h fs
+grown_in m new ns ms z b h fs k j same s =
+    let ds = signature ++ declarations_of m in
+    let one : signature ++ declarations_of (record { table = new; decls = m.decls }) ≡ ds = ap (λ l. signature ++ l) (declarations_of-Keeps m new k s.held) in
+    let frames : frames_in new ms fs ≡ frames_in m.table ns fs = frames_in-Keeps m.table new k ns ms j ds fs s.frames in
+    record {
+      held = IsHeld-Keeps m new k s.held;
+      is_module = subst IsModule (sym (declarations_of-Keeps m new k s.held)) s.is_module;
+      frames = subst (λ l. AreFramesKnown new ms l fs) (sym one) (AreFramesKnown-Keeps m.table new k ns ms j ds fs s.frames);
+      head = IsHeadKnown-Keeps m.table new k ns ms j h s.head;
+      meanings = λ x. same x ∙ s.meanings x ∙ ap (λ l. bound l (reading.scope_of (frames_in m.table ns fs)) x) (sym one) ∙ ap (λ l. bound (signature ++ declarations_of (record { table = new; decls = m.decls })) (reading.scope_of l) x) (sym frames);
+      empty = (omega (arith, j.longer, s.empty.0), j.stays z s.empty.0 ∙ s.empty.1);
+      depth = s.depth ∙ ap (λ l. length (reading.scope_of l)) (sym frames);
+      few = s.few;
+    }
+
+pub grown : (p : Parser) (new : List Tree) (ms : List Named) → Keeps p.module.table new → naming.Keeps p.names ms → ((x : List ℕ) → looked ms x ≡ looked p.names x) → IsSound p
+    → Grows p (record { alloc = p.alloc; «module» = record { table = new; decls = p.module.decls }; names = ms; nameless = p.nameless; frames = p.frames; binders = p.binders; head = p.head; state = p.state })
+grown p new ms k j same s =
     record {
       keeps = k;
-      declared = same;
-      frames = frames_in-Keeps m.module.table new k (reverse m.frames.items) h.frames;
-      sound = λ s. record {
-        held = IsHeld-Keeps m.module new k s.held;
-        is_module = subst IsModule (sym same) s.is_module;
-        frames = AreFramesKnown-Keeps m.module.table new k (reverse m.frames.items) s.frames;
-      };
+      names = j;
+      declared = declarations_of-Keeps p.module new k s.held;
+      frames = frames_in-Keeps p.module.table new k p.names ms j (signature ++ declarations_of p.module) (reverse p.frames.items) s.frames;
+      head = head_in-Keeps p.module.table new k p.names ms j p.head s.head;
+      opened = refl;
+      state = refl;
+      sound = λ t. grown_in p.module new p.names ms p.nameless p.binders p.head (reverse p.frames.items) k j same t;
     }
+
+-- and its state
+IsStateKnown-Grows : (p q : Parser) (s : State) → Grows p q → IsStateKnown p s → IsStateKnown q s
+IsStateKnown-Grows p q state.Between g h = g.opened ∙ h
+IsStateKnown-Grows p q (state.AfterKeyword form) g h = g.opened ∙ h
+IsStateKnown-Grows p q (state.AfterName form n) g h = (omega (arith, g.names.longer, h.0), g.opened ∙ h.1)
+IsStateKnown-Grows p q state.AtTerm g h = tt
+IsStateKnown-Grows p q (state.AfterFirst place n) g h = omega (arith, g.names.longer, h)
+IsStateKnown-Grows p q (state.InApplication f) g h = IsIdKnown-Keeps p.module.table q.module.table g.keeps p.names q.names g.names f h
+
+pub state_in-Grows : (p q : Parser) (s : State) → Grows p q → IsStateKnown p s → state_in q s ≡ state_in p s
+state_in-Grows p q state.Between g h = refl
+state_in-Grows p q (state.AfterKeyword form) g h = refl
+state_in-Grows p q (state.AfterName form n) g h = ap (reading.AfterName form) (g.names.stays n h.0)
+state_in-Grows p q state.AtTerm g h = cc (g.head, g.frames)
+state_in-Grows p q (state.AfterFirst place n) g h = cc (g.head, g.frames, g.names.stays n h)
+state_in-Grows p q (state.InApplication f) g h = cc (g.head, g.frames, tree_in-Keeps p.module.table q.module.table g.keeps p.names q.names g.names f h)
+
+pub known-Grows : (p q : Parser) → Grows p q → IsStateKnown p p.state → IsStateKnown q q.state
+known-Grows p q g h = subst (IsStateKnown q) (sym g.state) (IsStateKnown-Grows p q p.state g h)
+
+pub state-Grows : (p q : Parser) → Grows p q → IsStateKnown p p.state → state_in q q.state ≡ state_in p p.state
+state-Grows p q g h = ap (state_in q) g.state ∙ state_in-Grows p q p.state g h

@@ -1,8 +1,13 @@
-pub mod Grown
+pub mod Named
 pub mod Places
+pub mod Grown
 pub mod Meanings
+pub mod Bindings
+pub mod Symbols
 pub mod Declared
 pub mod Bytes
+pub mod Runs
+pub mod Taken
 pub mod Openings
 pub mod Ended
 pub mod Unlimited

@@ -1,5 +1,5 @@
 -- Where a name is found.
-use Rattle.std.proofs.Common.{◌≡◌, ℕ, zero, suc, ◌+◌, ◌<◌, refl, ap, ◌∙◌, Bool, true, false, List, [], ◌∷◌, ◌++◌, length, get_or, Option, None, Some, position, arith}
+use Rattle.std.proofs.Common.{◌≡◌, ℕ, zero, suc, ◌<◌, refl, ap, Bool, true, false, List, [], ◌∷◌, ◌++◌, length, get_or, Option, None, Some, position, arith}
 use Rattle.std.specs.Prelude.{option_map, if◌then◌else◌}
 use Rattle.std.specs.List.{list_any}
 use Rattle.std.specs.Str.{bytes_eq}
@@ -9,13 +9,11 @@ use Rattle.lp_spec.specs.declared.form.Form.{Form}
 use Rattle.lp_spec.specs.Trees.{SortType}
 use Rattle.lp_spec.specs.Modules.{Declaration, signature, symbol}
 use Rattle.lp_spec.specs.ModuleOrder.{is_declared}
-use Rattle.lp_spec.specs.Reading.{variable_of}
 use Rattle.lp_spec.specs.ReadingFaults as reading
 use Rattle.holide_sig.specs.ModuleLaws.{symbol_number-None}
 use Rattle.holide_sig.specs.Modules.{symbol_number}
-use Rattle.dk_read.specs.States.{shifted}
 
-not_any : (p : Declaration → Bool) (ds : List Declaration) (k : ℕ) (d : Declaration) → list_any p ds ≡ false → k < length ds → p (get_or ds k d) ≡ false
+pub not_any : (p : Declaration → Bool) (ds : List Declaration) (k : ℕ) (d : Declaration) → list_any p ds ≡ false → k < length ds → p (get_or ds k d) ≡ false
 not_any p [] k d e h = absurd (omega arith)
 not_any p (x ∷ ds) zero d e h = grind (arith, e)
 not_any p (x ∷ ds) (suc k) d e h = not_any p ds k d (grind (arith, e)) (omega (arith, h))
@@ -24,7 +22,7 @@ found_any : (p : Declaration → Bool) (ds : List Declaration) (k : ℕ) (d : De
 found_any p ds k d h e true f = refl
 found_any p ds k d h e false f = absurd (cc (not_any p ds k d f h, e))
 
-declared : (m : List Declaration) (name : List ℕ) (s : ℕ) → symbol_number m name ≡ Some s → is_declared (signature ++ m) name ≡ true
+pub declared : (m : List Declaration) (name : List ℕ) (s : ℕ) → symbol_number m name ≡ Some s → is_declared (signature ++ m) name ≡ true
 declared m name s e =
     let none = symbol [] SortType in
     let t = position-Some (λ d. bytes_eq d.name name) (signature ++ m) s none e in
@@ -37,24 +35,9 @@ name_twice m form p name s e = ap (λ b. if b then reading.stops p (reading.Name
 pub name_new : (m : List Declaration) (form : Form) (p : ℕ) (name : List ℕ) → symbol_number m name ≡ None → reading.names m form p name ≡ reading.Goes m (reading.AfterName form name)
 name_new m form p name e = ap (λ b. if b then reading.stops p (reading.NameTwice name) else reading.Goes m (reading.AfterName form name)) (symbol_number-None m name e)
 
-position_here : {X : Type 0} (p : X → Bool) (x : X) (xs : List X) → p x ≡ true → position p (x ∷ xs) ≡ Some 0
+pub position_here : {X : Type 0} (p : X → Bool) (x : X) (xs : List X) → p x ≡ true → position p (x ∷ xs) ≡ Some 0
 position_here p x xs e = grind (arith, common_steps)
 
-position_later : {X : Type 0} (p : X → Bool) (x : X) (xs : List X) (o : Option ℕ) → p x ≡ false → position p xs ≡ o → position p (x ∷ xs) ≡ option_map suc o
+pub position_later : {X : Type 0} (p : X → Bool) (x : X) (xs : List X) (o : Option ℕ) → p x ≡ false → position p xs ≡ o → position p (x ∷ xs) ≡ option_map suc o
 position_later p x xs None e h = grind (arith, common_steps)
 position_later p x xs (Some n) e h = grind (arith, common_steps)
-
-shifted_suc : (d : ℕ) (o : Option ℕ) → shifted d (option_map suc o) ≡ shifted (d + 1) o
-shifted_suc d None = refl
-shifted_suc d (Some n) = ap Some (omega arith)
-
--- a binder that has the name, and one that has not
-pub binder_here : (d : ℕ) (b name : List ℕ) (scope : List (List ℕ)) → bytes_eq b name ≡ true → shifted d (variable_of (b ∷ scope) name) ≡ Some d
-binder_here d b name scope e = ap (shifted d) (position_here (λ x. bytes_eq x name) b scope e) ∙ ap Some (omega arith)
-
-pub binder_later : (d : ℕ) (b name : List ℕ) (scope : List (List ℕ)) → bytes_eq b name ≡ false → shifted d (variable_of (b ∷ scope) name) ≡ shifted (d + 1) (variable_of scope name)
-binder_later d b name scope e = ap (shifted d) (position_later (λ x. bytes_eq x name) b scope (variable_of scope name) e refl) ∙ shifted_suc d (variable_of scope name)
-
-pub shifted_zero : (o : Option ℕ) → shifted 0 o ≡ o
-shifted_zero None = refl
-shifted_zero (Some n) = ap Some (omega arith)

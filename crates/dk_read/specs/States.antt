@@ -1,17 +1,21 @@
--- A reading by numbers of trees, and what it stands for.
-use Rattle.std.specs.Prelude.{◌≡◌, ℕ, ◌<◌, ◌+◌, List, [], ◌∷◌, length, map, reverse, Option, None, Some, option_map, Result, Ok, Err}
+-- A reading by numbers of trees and of names, and what it stands for.
+use Rattle.std.specs.Prelude.{◌≡◌, ℕ, ◌<◌, ◌≤◌, List, [], ◌∷◌, ◌++◌, length, map, reverse, Option, None, Some, option_map, Result, Ok, Err}
 use Rattle.lp_spec.specs.Trees.{Tree}
-use Rattle.lp_spec.specs.Modules.{Declaration}
+use Rattle.lp_spec.specs.Modules.{Declaration, signature}
 use Rattle.lp_spec.specs.ModuleOrder.{IsModule}
+use Rattle.lp_spec.specs.Reading.{Scope}
 use Rattle.lp_spec.specs.Tokens as tokens
 use Rattle.lp_spec.specs.ReadingFaults as reading
+use Rattle.text_laws.specs.ReadingOrder.{IsState}
 use Rattle.lp_term.specs.declared.LpId.{LpId}
 use Rattle.lp_term.specs.Tables.{tree_at, Keeps}
+use Rattle.holide_sig.specs.declared.module.Module.{Module}
 use Rattle.holide_sig.specs.Modules.{declarations_of, IsHeld}
 use Rattle.dk_read.specs.declared.faults.DkKind.{DkKind}
 use Rattle.dk_read.specs.declared.faults.DkKind.TheVariants as kind
 use Rattle.dk_read.specs.declared.faults.DkFault.{DkFault}
 use Rattle.dk_read.specs.declared.faults.DkFault.TheVariants as fault
+use Rattle.dk_read.specs.declared.terms.Meaning.{Meaning}
 use Rattle.dk_read.specs.declared.terms.Frame.{Frame}
 use Rattle.dk_read.specs.declared.terms.Frame.TheVariants as frame
 use Rattle.dk_read.specs.declared.terms.Binder.{Binder}
@@ -22,46 +26,63 @@ use Rattle.dk_read.specs.declared.terms.State.{State}
 use Rattle.dk_read.specs.declared.terms.State.TheVariants as state
 use Rattle.dk_read.specs.declared.terms.Token.{Token}
 use Rattle.dk_read.specs.declared.terms.Token.TheVariants as token
-use Rattle.dk_read.specs.declared.machine.Machine.{Machine}
+use Rattle.dk_read.specs.declared.terms.Word.{Word}
+use Rattle.dk_read.specs.declared.terms.Word.TheVariants as word
+use Rattle.dk_read.specs.declared.parser.Parser.{Parser}
+use Rattle.dk_read.specs.Names.{Named, name_at, looked, bound, IsNameless}
+use Rattle.dk_read.specs.Names as naming
 
 -- the tree of a number, if there is one
 abbrev pub tree_in : List Tree → Option LpId → Option Tree
 tree_in trees id = option_map (λ i. tree_at trees i.0) id
 
-abbrev pub frame_in : List Tree → Frame → reading.Frame
-frame_in trees (frame.Enclosing f) = reading.Enclosing (tree_in trees f)
-frame_in trees (frame.Domain name) = reading.Domain name
-frame_in trees (frame.Product name a) = reading.Product name (tree_at trees a.0)
-frame_in trees (frame.Abstraction name a) = reading.Abstraction name (tree_at trees a.0)
+abbrev pub frame_in : List Tree → List Named → Frame → reading.Frame
+frame_in trees ns (frame.Enclosing f) = reading.Enclosing (tree_in trees f)
+frame_in trees ns (frame.Domain n) = reading.Domain (name_at ns n)
+frame_in trees ns (frame.Product n a hidden) = reading.Product (name_at ns n) (tree_at trees a.0)
+frame_in trees ns (frame.Abstraction n a hidden) = reading.Abstraction (name_at ns n) (tree_at trees a.0)
+
+abbrev pub frames_in : List Tree → List Named → List Frame → List reading.Frame
+frames_in trees ns fs = map (frame_in trees ns) fs
 
 -- what is open, the innermost first
-abbrev pub frames_of : Machine → List reading.Frame
-frames_of m = map (frame_in m.module.table) (reverse m.frames.items)
+abbrev pub frames_of : Parser → List reading.Frame
+frames_of p = frames_in p.module.table p.names (reverse p.frames.items)
 
-abbrev pub head_in : List Tree → Head → reading.Head
-head_in trees (head.TypeOf form name) = reading.TypeOf form name
-head_in trees (head.BodyOf form name ty) = reading.BodyOf form name (tree_at trees ty.0)
+-- the names of the binders that are open
+abbrev pub scope_of : Parser → Scope
+scope_of p = reading.scope_of (frames_of p)
 
-abbrev pub state_in : Machine → State → reading.State
-state_in m state.Between = reading.Between
-state_in m (state.AfterKeyword form) = reading.AfterKeyword form
-state_in m (state.AfterName form name) = reading.AfterName form name
-state_in m (state.AtTerm head) = reading.AtTerm (head_in m.module.table head) (frames_of m)
-state_in m (state.AfterFirst head p name) = reading.AfterFirst (head_in m.module.table head) (frames_of m) p name
-state_in m (state.InApplication head f) = reading.InApplication (head_in m.module.table head) (frames_of m) (tree_in m.module.table f)
+abbrev pub head_in : List Tree → List Named → Head → reading.Head
+head_in trees ns (head.TypeOf form n) = reading.TypeOf form (name_at ns n)
+head_in trees ns (head.BodyOf form n ty) = reading.BodyOf form (name_at ns n) (tree_at trees ty.0)
 
-abbrev pub token_of : Token → tokens.Token
-token_of (token.Name name) = tokens.Name name
-token_of token.TypeWord = tokens.TypeWord
-token_of token.DefWord = tokens.DefWord
-token_of token.ThmWord = tokens.ThmWord
-token_of token.Colon = tokens.Colon
-token_of token.Assign = tokens.Assign
-token_of token.Arrow = tokens.Arrow
-token_of token.FatArrow = tokens.FatArrow
-token_of token.Dot = tokens.Dot
-token_of token.LeftParen = tokens.LeftParen
-token_of token.RightParen = tokens.RightParen
+abbrev pub head_of : Parser → reading.Head
+head_of p = head_in p.module.table p.names p.head
+
+abbrev pub state_in : Parser → State → reading.State
+state_in p state.Between = reading.Between
+state_in p (state.AfterKeyword form) = reading.AfterKeyword form
+state_in p (state.AfterName form n) = reading.AfterName form (name_at p.names n)
+state_in p state.AtTerm = reading.AtTerm (head_of p) (frames_of p)
+state_in p (state.AfterFirst q n) = reading.AfterFirst (head_of p) (frames_of p) q (name_at p.names n)
+state_in p (state.InApplication f) = reading.InApplication (head_of p) (frames_of p) (tree_in p.module.table f)
+
+abbrev pub state_of : Parser → reading.State
+state_of p = state_in p p.state
+
+abbrev pub token_in : List Named → Token → tokens.Token
+token_in ns (token.Name n) = tokens.Name (name_at ns n)
+token_in ns token.TypeWord = tokens.TypeWord
+token_in ns token.DefWord = tokens.DefWord
+token_in ns token.ThmWord = tokens.ThmWord
+token_in ns token.Colon = tokens.Colon
+token_in ns token.Assign = tokens.Assign
+token_in ns token.Arrow = tokens.Arrow
+token_in ns token.FatArrow = tokens.FatArrow
+token_in ns token.Dot = tokens.Dot
+token_in ns token.LeftParen = tokens.LeftParen
+token_in ns token.RightParen = tokens.RightParen
 
 abbrev pub fault_of : DkKind → reading.Fault
 fault_of kind.NoPrelude = reading.NoPrelude
@@ -72,73 +93,129 @@ fault_of kind.DkTooDeep = reading.DkTooDeep
 fault_of kind.DkTooLong = reading.DkTooLong
 
 -- the declarations before a token
-abbrev pub before : Machine → List Declaration
-before m = declarations_of m.module
+abbrev pub before : Parser → List Declaration
+before p = declarations_of p.module
+
+-- and with the signature's
+abbrev pub declared : Parser → List Declaration
+declared p = signature ++ before p
 
 -- a number is of the table, where there is one
 abbrev pub IsIdKnown : List Tree → Option LpId → Type 0
 IsIdKnown trees None = Unit {0}
 IsIdKnown trees (Some id) = id.0 < length trees
 
-abbrev pub IsFrameKnown : List Tree → Frame → Type 0
-IsFrameKnown trees (frame.Enclosing f) = IsIdKnown trees f
-IsFrameKnown trees (frame.Domain name) = Unit {0}
-IsFrameKnown trees (frame.Product name a) = a.0 < length trees
-IsFrameKnown trees (frame.Abstraction name a) = a.0 < length trees
+-- a binder's numbers are known, and what it hides is what its name means outside it
+pub record IsBinding (trees : List Tree) (ns : List Named) (ds : List Declaration) (scope : Scope) (n : ℕ) (a : LpId) (hidden : Meaning) : Type 0 where
+  pub name : n < length ns
+  pub domain : a.0 < length trees
+  pub hides : hidden ≡ bound ds scope (name_at ns n)
 
-abbrev pub AreFramesKnown : List Tree → List Frame → Type 0
-AreFramesKnown trees [] = Unit {0}
-AreFramesKnown trees (f ∷ fs) = IsFrameKnown trees f × AreFramesKnown trees fs
+-- what is known of a frame inside these binders
+abbrev pub IsFrameKnown : List Tree → List Named → List Declaration → Scope → Frame → Type 0
+IsFrameKnown trees ns ds scope (frame.Enclosing f) = IsIdKnown trees f
+IsFrameKnown trees ns ds scope (frame.Domain n) = n < length ns
+IsFrameKnown trees ns ds scope (frame.Product n a hidden) = IsBinding trees ns ds scope n a hidden
+IsFrameKnown trees ns ds scope (frame.Abstraction n a hidden) = IsBinding trees ns ds scope n a hidden
 
-abbrev pub IsHeadKnown : List Tree → Head → Type 0
-IsHeadKnown trees (head.TypeOf form name) = Unit {0}
-IsHeadKnown trees (head.BodyOf form name ty) = ty.0 < length trees
+-- of each frame, the innermost first
+abbrev pub AreFramesKnown : List Tree → List Named → List Declaration → List Frame → Type 0
+AreFramesKnown trees ns ds [] = Unit {0}
+AreFramesKnown trees ns ds (f ∷ fs) = IsFrameKnown trees ns ds (reading.scope_of (frames_in trees ns fs)) f × AreFramesKnown trees ns ds fs
 
-abbrev pub IsStateKnown : List Tree → State → Type 0
-IsStateKnown trees state.Between = Unit {0}
-IsStateKnown trees (state.AfterKeyword form) = Unit {0}
-IsStateKnown trees (state.AfterName form name) = Unit {0}
-IsStateKnown trees (state.AtTerm head) = IsHeadKnown trees head
-IsStateKnown trees (state.AfterFirst head p name) = IsHeadKnown trees head
-IsStateKnown trees (state.InApplication head f) = IsHeadKnown trees head × IsIdKnown trees f
+abbrev pub IsHeadKnown : List Tree → List Named → Head → Type 0
+IsHeadKnown trees ns (head.TypeOf form n) = n < length ns
+IsHeadKnown trees ns (head.BodyOf form n ty) = (n < length ns) × (ty.0 < length trees)
 
--- the numbers of a reading are of its table, and its module is one
-pub record IsSound (m : Machine) : Type 0 where
-  pub held : IsHeld m.module
-  pub is_module : IsModule (declarations_of m.module)
-  pub frames : AreFramesKnown m.module.table (reverse m.frames.items)
+-- a state's numbers are known, and nothing is open between declarations
+abbrev pub IsStateKnown : Parser → State → Type 0
+IsStateKnown p state.Between = p.frames.items ≡ []
+IsStateKnown p (state.AfterKeyword form) = p.frames.items ≡ []
+IsStateKnown p (state.AfterName form n) = (n < length p.names) × (p.frames.items ≡ [])
+IsStateKnown p state.AtTerm = Unit {0}
+IsStateKnown p (state.AfterFirst q n) = n < length p.names
+IsStateKnown p (state.InApplication f) = IsIdKnown p.module.table f
 
--- the table has grown, and nothing else has changed
-pub record Grows (old new : Machine) : Type 0 where
+abbrev pub IsTokenKnown : List Named → Token → Type 0
+IsTokenKnown ns (token.Name n) = n < length ns
+IsTokenKnown ns _ = Unit {0}
+
+-- the numbers of a reading are of its table and of its names, its module is one, and each name means what it does inside the binders that are open
+pub record IsSoundIn (m : Module) (ns : List Named) (nameless binders : ℕ) (h : Head) (fs : List Frame) : Type 0 where
+  pub held : IsHeld m
+  pub is_module : IsModule (declarations_of m)
+  pub frames : AreFramesKnown m.table ns (signature ++ declarations_of m) fs
+  pub head : IsHeadKnown m.table ns h
+  pub meanings : (x : List ℕ) → looked ns x ≡ bound (signature ++ declarations_of m) (reading.scope_of (frames_in m.table ns fs)) x
+  pub empty : IsNameless ns nameless
+  pub depth : binders ≡ length (reading.scope_of (frames_in m.table ns fs))
+  pub few : binders ≤ length fs
+
+abbrev pub IsSound : Parser → Type 0
+IsSound p = IsSoundIn p.module p.names p.nameless p.binders p.head (reverse p.frames.items)
+
+-- and so are those of its state
+pub record IsReady (p : Parser) : Type 0 where
+  pub sound : IsSound p
+  pub known : IsStateKnown p p.state
+
+-- and the reading can go on
+pub record IsReading (p : Parser) : Type 0 where
+  pub ready : IsReady p
+  pub ordered : IsState (before p) (state_of p)
+
+-- the table or the names have grown, and nothing else has changed
+pub record Grows (old new : Parser) : Type 0 where
   pub keeps : Keeps old.module.table new.module.table
-  pub declared : declarations_of new.module ≡ declarations_of old.module
+  pub names : naming.Keeps old.names new.names
+  pub declared : before new ≡ before old
   pub frames : frames_of new ≡ frames_of old
+  pub head : head_of new ≡ head_of old
+  pub opened : new.frames.items ≡ old.frames.items
+  pub state : new.state ≡ old.state
   pub sound : IsSound old → IsSound new
 
 -- a reading has come to what is said
-abbrev pub Becomes : reading.Outcome → Machine → Result State DkFault → Type 0
-Becomes outcome m (Ok state) = outcome ≡ reading.Goes (declarations_of m.module) (state_in m state)
-Becomes outcome m (Err (fault.Refused place k)) = outcome ≡ reading.stops place (fault_of k)
-Becomes outcome m (Err fault.Memory) = Unit {0}
+abbrev pub Becomes : reading.Outcome → Parser → Result (Unit {0}) DkFault → Type 0
+Becomes outcome p (Ok _) = outcome ≡ reading.Goes (before p) (state_of p)
+Becomes outcome p (Err (fault.Refused place k)) = outcome ≡ reading.stops place (fault_of k)
+Becomes outcome p (Err fault.Memory) = Unit {0}
+
+-- the fault is this one at its place
+abbrev pub IsFault : DkKind → ℕ → DkFault → Type 0
+IsFault k place (fault.Refused q j) = (q ≡ place) × (j ≡ k)
+IsFault k place fault.Memory = Unit {0}
+
+-- the fault is this refusal
+abbrev pub Breaks : reading.Refusal → DkFault → Type 0
+Breaks r (fault.Refused q k) = r ≡ reading.refusal q (fault_of k)
+Breaks r fault.Memory = Unit {0}
 
 -- the number's tree is what an identifier means, or the identifier means none
-abbrev pub Means : Option Tree → ℕ → List ℕ → Machine → Result LpId DkFault → Type 0
-Means meaning place name m (Ok id) = meaning ≡ Some (tree_at m.module.table id.0)
-Means meaning place name m (Err (fault.Refused q k)) = (meaning ≡ None) × (q ≡ place) × (k ≡ kind.UnknownName name)
-Means meaning place name m (Err fault.Memory) = Unit {0}
-
--- what is found under so many binders more
-abbrev pub shifted : ℕ → Option ℕ → Option ℕ
-shifted d found = option_map (λ n. d + n) found
+abbrev pub Means : Option Tree → ℕ → List ℕ → Parser → Result LpId DkFault → Type 0
+Means meaning place name p (Ok id) = meaning ≡ Some (tree_at p.module.table id.0)
+Means meaning place name p (Err (fault.Refused q k)) = (meaning ≡ None) × (q ≡ place) × (k ≡ kind.UnknownName name)
+Means meaning place name p (Err fault.Memory) = Unit {0}
 
 -- the frame of a binder
-abbrev pub bound_frame : List Tree → Binder → reading.Frame
-bound_frame trees (binder.Product name a) = reading.Product name (tree_at trees a.0)
-bound_frame trees (binder.Abstraction name a) = reading.Abstraction name (tree_at trees a.0)
+abbrev pub bound_frame : List Tree → Binder → List ℕ → reading.Frame
+bound_frame trees (binder.Product a) name = reading.Product name (tree_at trees a.0)
+bound_frame trees (binder.Abstraction a) name = reading.Abstraction name (tree_at trees a.0)
 
 abbrev pub IsBinderKnown : List Tree → Binder → Type 0
-IsBinderKnown trees (binder.Product name a) = a.0 < length trees
-IsBinderKnown trees (binder.Abstraction name a) = a.0 < length trees
+IsBinderKnown trees (binder.Product a) = a.0 < length trees
+IsBinderKnown trees (binder.Abstraction a) = a.0 < length trees
+
+-- the innermost of the frames is this binder's
+pub record Binds (frames : List reading.Frame) (trees : List Tree) (b : Binder) (outer : List reading.Frame) : Type 0 where
+  pub name : List ℕ
+  pub is : frames ≡ bound_frame trees b name ∷ outer
+
+-- a frame of no binder whose domain has been read
+abbrev pub IsPlain : Frame → Type 0
+IsPlain (frame.Product n a hidden) = ⊥
+IsPlain (frame.Abstraction n a hidden) = ⊥
+IsPlain _ = Unit {0}
 
 -- no product and no abstraction is open at once
 abbrev pub IsUnwound : List reading.Frame → Type 0
@@ -168,7 +245,7 @@ NoEnclosing _ = Unit {0}
 
 -- a token that is no atom's first
 abbrev pub IsSign : Token → Type 0
-IsSign (token.Name name) = ⊥
+IsSign (token.Name n) = ⊥
 IsSign token.TypeWord = ⊥
 IsSign token.LeftParen = ⊥
 IsSign _ = Unit {0}
@@ -176,3 +253,10 @@ IsSign _ = Unit {0}
 abbrev pub NoColon : Token → Type 0
 NoColon token.Colon = ⊥
 NoColon _ = Unit {0}
+
+-- the word is this one of the key words, or an identifier
+abbrev pub IsWord : List ℕ → Word → Type 0
+IsWord bytes word.Type = tokens.word_token bytes ≡ tokens.TypeWord
+IsWord bytes word.Def = tokens.word_token bytes ≡ tokens.DefWord
+IsWord bytes word.Thm = tokens.word_token bytes ≡ tokens.ThmWord
+IsWord bytes word.Identifier = tokens.word_token bytes ≡ tokens.Name bytes

@@ -1,43 +1,36 @@
 -- A reading between two bytes, and what it stands for.
-use Rattle.std.specs.Prelude.{◌≡◌, ℕ, suc, ◌==◌, min, if◌then◌else◌, List, [], ◌∷◌, Option, None, Some, Result, Ok, Err}
+use Rattle.std.specs.Prelude.{◌≡◌, ℕ, suc, ◌+◌, ◌≤◌, ◌==◌, min, Bool, if◌then◌else◌, List, [], ◌∷◌, drop, length, Result, Ok, Err}
 use Rattle.lp_spec.specs.ModuleOrder.{IsModule}
 use Rattle.holide_sig.specs.declared.module.Module.{Module}
 use Rattle.holide_sig.specs.Modules.{declarations_of, IsHeld}
 use Rattle.dk_read.specs.declared.faults.DkKind.{DkKind}
 use Rattle.lp_spec.specs.Tokens as tokens
 use Rattle.lp_spec.specs.ReadingFaults as reading
-use Rattle.text_laws.specs.ReadingOrder.{IsState}
 use Rattle.dk_read.specs.declared.faults.DkFault.{DkFault}
 use Rattle.dk_read.specs.declared.faults.DkFault.TheVariants as fault
 use Rattle.dk_read.specs.declared.text.Pending.{Pending}
 use Rattle.dk_read.specs.declared.text.Pending.TheVariants as pending
 use Rattle.dk_read.specs.declared.text.Text.{Text}
-use Rattle.dk_read.specs.States.{before, state_in, fault_of, IsSound, IsStateKnown}
+use Rattle.dk_read.specs.States.{before, state_of, fault_of, IsReading}
 
-abbrev pub pending_in : Pending → tokens.Pending
-pending_in pending.Nothing = tokens.Nothing
-pending_in (pending.InWord q word) = tokens.InWord q word.items
-pending_in (pending.AfterColon q) = tokens.AfterColon q
-pending_in (pending.AfterMinus q) = tokens.AfterMinus q
-pending_in (pending.AfterEquals q) = tokens.AfterEquals q
-pending_in (pending.AfterParen q) = tokens.AfterParen q
-pending_in (pending.InComment q) = tokens.InComment q
-pending_in (pending.AfterSemicolon q) = tokens.AfterSemicolon q
+-- what is pending, with the bytes of the word that is open, if one is
+abbrev pub pending_in : List ℕ → Pending → tokens.Pending
+pending_in word pending.Nothing = tokens.Nothing
+pending_in word (pending.InWord q) = tokens.InWord q word
+pending_in word (pending.AfterColon q) = tokens.AfterColon q
+pending_in word (pending.AfterMinus q) = tokens.AfterMinus q
+pending_in word (pending.AfterEquals q) = tokens.AfterEquals q
+pending_in word (pending.AfterParen q) = tokens.AfterParen q
+pending_in word (pending.InComment q) = tokens.InComment q
+pending_in word (pending.AfterSemicolon q) = tokens.AfterSemicolon q
 
 abbrev pub inside : Text → reading.Progress
-inside t = reading.Inside t.place (pending_in t.pending) (before t.machine) (state_in t.machine t.state)
+inside t = reading.Inside t.place (pending_in t.word.items t.pending) (before t.parser) (state_of t.parser)
 
--- a reading that the machine can go on with
-pub record IsReading (t : Text) : Type 0 where
-  pub sound : IsSound t.machine
-  pub known : IsStateKnown t.machine.module.table t.state
-  pub ordered : IsState (before t.machine) (state_in t.machine t.state)
-
--- a reading has come to what is said of its tokens
-abbrev pub Advances : reading.Outcome → Text → Result (Unit {0}) DkFault → Type 0
-Advances outcome t (Ok _) = outcome ≡ reading.Goes (before t.machine) (state_in t.machine t.state)
-Advances outcome t (Err (fault.Refused p k)) = outcome ≡ reading.stops p (fault_of k)
-Advances outcome t (Err fault.Memory) = Unit {0}
+-- how many bytes a reading holds: those of the identifier or key word that is open
+abbrev pub held_of : reading.Progress → ℕ
+held_of (reading.Inside p (tokens.InWord q word) m s) = length word
+held_of _ = 0
 
 -- a reading has come to what is said of its bytes
 abbrev pub Takes : reading.Progress → Text → Result (Unit {0}) DkFault → Type 0
@@ -45,10 +38,24 @@ Takes progress t (Ok _) = progress ≡ inside t
 Takes progress t (Err (fault.Refused p k)) = progress ≡ reading.Refused (reading.refusal p (fault_of k))
 Takes progress t (Err fault.Memory) = Unit {0}
 
--- the fault is this refusal
-abbrev pub Breaks : reading.Refusal → DkFault → Type 0
-Breaks r (fault.Refused p k) = r ≡ reading.refusal p (fault_of k)
-Breaks r fault.Memory = Unit {0}
+-- the first n bytes of a piece have been read
+pub record TookSome (old : Text) (piece : List ℕ) (new : Text) (n : ℕ) : Type 0 where
+  pub some : 1 ≤ n
+  pub within : n ≤ length piece
+  pub taken : reading.read_bytes (inside old) piece ≡ reading.read_bytes (inside new) (drop n piece)
+  pub place : new.place ≡ old.place + n
+  pub reading : IsReading new.parser
+
+-- some bytes of a piece have been read, or one of them shows a fault
+abbrev pub TakesSome : Text → List ℕ → Text → Result ℕ DkFault → Type 0
+TakesSome old piece new (Ok n) = TookSome old piece new n
+TakesSome old piece new (Err (fault.Refused p k)) = reading.read_bytes (inside old) piece ≡ reading.Refused (reading.refusal p (fault_of k))
+TakesSome old piece new (Err fault.Memory) = Unit {0}
+
+-- how many bytes at the head pass a test
+abbrev pub run : (ℕ → Bool) → List ℕ → ℕ
+run test [] = 0
+run test (b ∷ bytes) = if test b then suc (run test bytes) else 0
 
 -- a refusal as it is answered: a place past what a number holds is the greatest
 pub record Refuses (a : reading.Answer) (p : ℕ) (k : DkKind) : Type 0 where
@@ -68,27 +75,8 @@ abbrev pub common : List ℕ → List ℕ → ℕ
 common (a ∷ x) (b ∷ y) = if a == b then suc (common x y) else 0
 common _ _ = 0
 
--- n bytes of the signature's text have been read, and not all
-abbrev pub IsOpening : ℕ → reading.Progress → Type 0
-IsOpening n (reading.Opening p []) = ⊥
-IsOpening n (reading.Opening p (c ∷ wanted)) = p ≡ n
-IsOpening n _ = ⊥
-
--- a reading has come so far: into the text after the signature's own, or not as far
-abbrev pub Comes : reading.Progress → ℕ → Result (Option Text) DkFault → Type 0
-Comes progress n (Ok (Some t)) = (progress ≡ inside t) × IsReading t × (t.place ≡ n)
-Comes progress n (Ok None) = IsOpening n progress
-Comes progress n (Err (fault.Refused p k)) = progress ≡ reading.Refused (reading.refusal p (fault_of k))
-Comes progress n (Err fault.Memory) = Unit {0}
-
 -- the tokens that the end of a text ends have been read, or the answer is this refusal
 abbrev pub EndsTokens : reading.Answer → Text → Result (Unit {0}) DkFault → Type 0
-EndsTokens a t (Ok _) = a ≡ reading.answers (reading.Goes (before t.machine) (state_in t.machine t.state)) (tokens.ended t.place)
+EndsTokens a t (Ok _) = a ≡ reading.answers (reading.Goes (before t.parser) (state_of t.parser)) (tokens.ended t.place)
 EndsTokens a t (Err (fault.Refused p k)) = a ≡ reading.refused (reading.refusal p (fault_of k))
 EndsTokens a t (Err fault.Memory) = Unit {0}
-
--- a reading inside the text has come so far
-abbrev pub IsInside : reading.Progress → ℕ → Result Text DkFault → Type 0
-IsInside progress n (Ok t) = (progress ≡ inside t) × IsReading t × (t.place ≡ n)
-IsInside progress n (Err (fault.Refused p k)) = progress ≡ reading.Refused (reading.refusal p (fault_of k))
-IsInside progress n (Err fault.Memory) = Unit {0}

@@ -11,8 +11,10 @@
 #![tactic(auto)]
 
 mod faults;
-mod machine;
+mod names;
+mod parser;
 mod reader;
+mod stage;
 mod terms;
 mod text;
 

@@ -1,12 +1,13 @@
 //! The reader of modules.
-ghost use Rattle.std.specs.Prelude.{◌≡◌, ◌<◌, ◌≤◌, ◌+◌, ◌^◌, ◌++◌, [], ◌∷◌, None, Some, length, IfOk, OnOk, OnErr, IfErr};
+ghost use Rattle.std.specs.Prelude.{◌≡◌, ◌<◌, ◌≤◌, ◌+◌, ◌-◌, ◌^◌, ◌++◌, [], ◌∷◌, None, Some, length, is_some, IfOk, OnOk, OnErr, IfErr};
+ghost use Rattle.dk_read.specs.declared.faults.DkFault.TheVariants as fault;
 ghost use Rattle.lp_spec.specs.ReadingFaults as reading;
 ghost use Rattle.holide_sig.specs.Modules.{declarations_of};
 ghost use Rattle.dk_read.specs.Texts.{Ends};
-ghost use Rattle.dk_read.specs.Readers.{Reading, IsFed, limit_of, EndsWith, ReadsAs, Accepts, NeverTooLong, EndsStopped, Feeds, Answers, StaysStopped, Judges, HasName, IsCut};
+ghost use Rattle.dk_read.specs.Readers.{Reading, IsStage, Comes, progress_of, place_of, held_of, HasRoom, IsFed, limit_of, EndsWith, ReadsAs, Accepts, NeverTooLong, EndsStopped, Feeds, GoesOn, Answers, StaysStopped, Judges, HasName, IsCut};
 
 use crate::faults::{DkFault, DkKind};
-use crate::text::read;
+use crate::stage::Stage;
 use bridge_base::Memory;
 use holide_sig::{Ident, Module};
 use std::alloc::Global;
@@ -26,16 +27,19 @@ pub enum Limit {
 pub struct Reader {
     alloc: Global,
     limit: Limit,
-    text: Vec<u8>,
-    fault: Option<DkFault>,
+    stage: Stage,
 }
 
 impl Model for Reader {
-    ghost use Rattle.dk_read.specs.Readers.{Reading, limit_of};
+    ghost use Rattle.dk_read.specs.Readers.{Reading, coded_reading, limit_of, progress_of, fault_in, IsStage};
 
     ghost Value = { Reading };
 
-    ghost view = { λ r. record { limit = limit_of r.limit; text = r.text.items; fault = r.fault } };
+    ghost coded = { coded_reading };
+
+    ghost view = { λ r. record { limit = limit_of r.limit; progress = progress_of r.stage; fault = fault_in r.stage } };
+
+    ghost invariant = { λ r. IsStage r.stage };
 }
 
 impl Reader {
@@ -47,8 +51,7 @@ impl Reader {
         Reader {
             alloc,
             limit,
-            text: Vec::new(alloc),
-            fault: None,
+            stage: Stage::Opening(0),
         }
     }
 
@@ -58,6 +61,7 @@ impl Reader {
     pub fn feed(&mut self, piece: &[u8]) -> Result<(), DkFault>
         ensures limit { self.new.limit ≡ self.old.limit }
         ensures feeds { Feeds self.old piece.now self.new }
+        ensures goes { GoesOn self.old piece.now self.new }
         ensures answer { Answers self.new.fault result }
         ensures stays { StaysStopped self.old self.new }
         ensures judges { Judges self.old piece.now result }
@@ -70,48 +74,141 @@ impl Reader {
     fn take(&mut self, piece: &[u8]) -> Result<(), DkFault>
         ensures limit { self.new.limit ≡ self.old.limit }
         ensures feeds { Feeds self.old piece.now self.new }
+        ensures goes { GoesOn self.old piece.now self.new }
         ensures answer { Answers self.new.fault result }
         ensures stays { StaysStopped self.old self.new }
     {
-        if self.fault.is_none() {
+        if !self.is_stopped() {
             self.append(piece);
         }
         self.answer()
     }
 
-    /// Takes the next piece, as far as the limit goes.
+    // Whether a fault has stopped the reader.
+    fn is_stopped(&self) -> bool
+        ensures { result ≡ is_some self.now.fault }
+    {
+        match &self.stage {
+            Stage::Stopped(_) => true,
+            _ => false,
+        }
+    }
+
+    // Takes the next piece, as far as the limit goes. A text of 2^64 bytes or more wants more memory than there is.
     fn append(&mut self, piece: &[u8])
         requires going { self.old.fault ≡ None }
         ensures limit { self.new.limit ≡ self.old.limit }
         ensures feeds { Feeds self.old piece.now self.new }
+        ensures goes { GoesOn self.old piece.now self.new }
     {
-        if let Limit::Bytes(most) = self.limit {
-            let room = most.saturating_sub(self.text.len() as u64);
-            if (piece.len() as u64) > room {
-                let (front, _back) = piece.split_at(room as usize);
-                self.fault = Some(last(self.alloc, &mut self.text, front, most));
-                return;
-            }
+        match self.limit {
+            Limit::Bytes(most) => self.append_within(piece, most),
+            Limit::Free => self.append_freely(piece),
         }
-        if self.text.extend_from_slice(piece).is_err() {
-            self.fault = Some(DkFault::Memory);
+    }
+
+    // Takes the next piece, as far as there is room.
+    fn append_within(&mut self, piece: &[u8], most: u64)
+        requires going { self.old.fault ≡ None }
+        requires limit { self.old.limit ≡ Some most }
+        ensures limit { self.new.limit ≡ self.old.limit }
+        ensures feeds { Feeds self.old piece.now self.new }
+        ensures goes { GoesOn self.old piece.now self.new }
+    {
+        let room = most.saturating_sub(self.place());
+        if (piece.len() as u64) <= room {
+            self.read(piece);
+        } else {
+            self.cut(piece, room, most);
         }
+    }
+
+    // Takes the next piece without a limit.
+    fn append_freely(&mut self, piece: &[u8])
+        requires going { self.old.fault ≡ None }
+        requires limit { self.old.limit ≡ None }
+        ensures limit { self.new.limit ≡ self.old.limit }
+        ensures feeds { Feeds self.old piece.now self.new }
+        ensures goes { GoesOn self.old piece.now self.new }
+    {
+        let room = u64::MAX.saturating_sub(self.place());
+        if (piece.len() as u64) <= room {
+            self.read(piece);
+        } else {
+            self.want_memory();
+        }
+    }
+
+    // How many bytes have been read, unless a fault has come.
+    fn place(&self) -> u64
+        ensures { result ≡ place_of self.now.progress }
+    {
+        self.stage.place()
+    }
+
+    // Stops for want of memory.
+    fn want_memory(&mut self)
+        ensures limit { self.new.limit ≡ self.old.limit }
+        ensures fault { self.new.fault ≡ Some fault.Memory }
+    {
+        self.stage = Stage::Stopped(DkFault::Memory);
+    }
+
+    // Takes a piece that there is room for.
+    fn read(&mut self, piece: &[u8])
+        requires going { self.old.fault ≡ None }
+        requires room { HasRoom self.old.limit (place_of self.old.progress) (length piece.now) }
+        requires few { place_of self.old.progress + length piece.now < 2 ^ 64 }
+        ensures limit { self.new.limit ≡ self.old.limit }
+        ensures feeds { Feeds self.old piece.now self.new }
+        ensures goes { GoesOn self.old piece.now self.new }
+    {
+        let stage = std::mem::replace(&mut self.stage, Stage::Stopped(DkFault::Memory));
+        self.stage = stage.read(self.alloc, piece);
+    }
+
+    // Takes the front of a piece that goes past the limit.
+    fn cut(&mut self, piece: &[u8], room: u64, most: u64)
+        requires going { self.old.fault ≡ None }
+        requires limit { self.old.limit ≡ Some most }
+        requires room { room ≡ most - place_of self.old.progress }
+        requires over { room < length piece.now }
+        ensures limit { self.new.limit ≡ self.old.limit }
+        ensures feeds { Feeds self.old piece.now self.new }
+        ensures goes { GoesOn self.old piece.now self.new }
+    {
+        // A place is a number of 64 bits, so the front ends at one.
+        let _place = self.place();
+        let (front, _back) = piece.split_at(room as usize);
+        let stage = std::mem::replace(&mut self.stage, Stage::Stopped(DkFault::Memory));
+        self.stage = Stage::Stopped(last(stage.read(self.alloc, front), most));
     }
 
     /// The fault that has stopped the reader, copied.
     fn answer(&self) -> Result<(), DkFault>
         ensures { Answers self.now.fault result }
     {
-        match &self.fault {
-            None => Ok(()),
-            Some(DkFault::Memory) => Err(DkFault::Memory),
-            Some(DkFault::Refused { place, kind }) => match copy(self.alloc, kind) {
+        match &self.stage {
+            Stage::Stopped(DkFault::Memory) => Err(DkFault::Memory),
+            Stage::Stopped(DkFault::Refused { place, kind }) => match copy(self.alloc, kind) {
                 Ok(kind) => Err(DkFault::Refused {
                     place: *place,
                     kind,
                 }),
                 Err(_) => Err(DkFault::Memory),
             },
+            _ => Ok(()),
+        }
+    }
+
+    /// How many bytes of the text the reader holds: those of the identifier or key word that is open. It takes no
+    /// memory.
+    pub fn held(&self) -> usize
+        ensures { result ≡ held_of self.now.progress }
+    {
+        match &self.stage {
+            Stage::Inside(text) => text.held(),
+            _ => 0,
         }
     }
 
@@ -124,30 +221,26 @@ impl Reader {
         ensures free { NeverTooLong self result }
         ensures again { EndsStopped self result }
     {
-        self.read_whole()
+        self.read_end()
     }
 
-    /// Reads the whole text.
-    fn read_whole(self) -> Result<Module, DkFault>
+    /// Ends the reading.
+    fn read_end(self) -> Result<Module, DkFault>
         ensures ends { EndsWith self result }
         ensures again { EndsStopped self result }
     {
         let Reader {
-            alloc,
+            alloc: _,
             limit: _,
-            text,
-            fault,
+            stage,
         } = self;
-        if let Some(fault) = fault {
-            return Err(fault);
-        }
-        let place = text.len() as u64;
-        match read(alloc, &text)? {
-            Some(inner) => inner.end(),
-            None => Err(DkFault::Refused {
-                place,
+        match stage {
+            Stage::Opening(count) => Err(DkFault::Refused {
+                place: count as u64,
                 kind: DkKind::NoPrelude,
             }),
+            Stage::Inside(text) => text.end(),
+            Stage::Stopped(fault) => Err(fault),
         }
     }
 }
@@ -173,26 +266,16 @@ fn copy(alloc: Global, kind: &DkKind) -> Result<DkKind, Memory>
     }
 }
 
-// Why a text is refused that goes on after these last bytes, up to the limit.
-fn last(alloc: Global, text: &mut Vec<u8>, front: &[u8], most: u64) -> DkFault
-    ensures { IsCut (reading.cut_at most (reading.read_bytes reading.unread (text.old.items ++ front.now))) result }
+// Why a text is refused that goes on where this stage has come to its limit.
+fn last(stage: Stage, most: u64) -> DkFault
+    requires { most < 2 ^ 64 }
+    ensures { (progress : reading.Progress) → Comes progress stage → IsCut (reading.cut_at most progress) result }
 {
-    match text.extend_from_slice(front) {
-        Ok(()) => cut(alloc, text, most),
-        Err(_) => DkFault::Memory,
-    }
-}
-
-// Why a text is refused that goes on after these bytes, as many as the limit has.
-fn cut(alloc: Global, text: &[u8], most: u64) -> DkFault
-    requires few { length text.now < 2 ^ 63 }
-    ensures { IsCut (reading.cut_at most (reading.read_bytes reading.unread text.now)) result }
-{
-    match read(alloc, text) {
-        Ok(_) => DkFault::Refused {
+    match stage {
+        Stage::Stopped(fault) => fault,
+        _ => DkFault::Refused {
             place: most,
             kind: DkKind::DkTooLong,
         },
-        Err(fault) => fault,
     }
 }

@@ -1,49 +1,58 @@
-//! What a reading is in, by numbers of the table's trees.
-use holide_sig::{Form, Ident};
+//! What a reading is in, by numbers of the table's trees and of the names that it has met.
+use holide_sig::Form;
 use lp_term::LpId;
 
-/// What is open round a place in a term.
-#[derive(Drop)]
+/// What a name means inside the binders that are open: nothing, a symbol by its number, or a binder by how many are
+/// round it.
+#[derive(Clone, Copy)]
+pub(crate) enum Meaning {
+    Nothing,
+    Symbol(usize),
+    Binder(usize),
+}
+
+/// What is open round a place in a term. A binder keeps what its name means outside it.
+#[derive(Clone, Copy)]
 pub(crate) enum Frame {
     /// A parenthesis, after what is applied to what it encloses.
     Enclosing(Option<LpId>),
     /// A binder whose domain is being read.
-    Domain(Ident),
+    Domain(usize),
     /// A product whose domain has been read.
-    Product(Ident, LpId),
+    Product(usize, LpId, Meaning),
     /// An abstraction whose domain has been read.
-    Abstraction(Ident, LpId),
+    Abstraction(usize, LpId, Meaning),
 }
 
-/// A binder whose domain has been read.
-#[derive(Drop)]
+/// A binder whose body has been read, by its domain.
+#[derive(Clone, Copy)]
 pub(crate) enum Binder {
-    Product(Ident, LpId),
-    Abstraction(Ident, LpId),
+    Product(LpId),
+    Abstraction(LpId),
 }
 
 /// What has been read of the declaration whose term is open.
-#[derive(Drop)]
+#[derive(Clone, Copy)]
 pub(crate) enum Head {
-    TypeOf(Form, Ident),
-    BodyOf(Form, Ident, LpId),
+    TypeOf(Form, usize),
+    BodyOf(Form, usize, LpId),
 }
 
 /// Where a reading is.
-#[derive(Drop)]
+#[derive(Clone, Copy)]
 pub(crate) enum State {
     Between,
     AfterKeyword(Form),
-    AfterName(Form, Ident),
-    AtTerm(Head),
-    AfterFirst(Head, u64, Ident),
-    InApplication(Head, Option<LpId>),
+    AfterName(Form, usize),
+    AtTerm,
+    AfterFirst(u64, usize),
+    InApplication(Option<LpId>),
 }
 
 /// A token.
-#[derive(Drop)]
+#[derive(Clone, Copy)]
 pub(crate) enum Token {
-    Name(Ident),
+    Name(usize),
     TypeWord,
     DefWord,
     ThmWord,
@@ -54,4 +63,13 @@ pub(crate) enum Token {
     Dot,
     LeftParen,
     RightParen,
+}
+
+/// A word: one of the key words, or an identifier.
+#[derive(Clone, Copy)]
+pub(crate) enum Word {
+    Type,
+    Def,
+    Thm,
+    Identifier,
 }

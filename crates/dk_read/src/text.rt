@@ -1,24 +1,25 @@
-//! The reading of bytes: each ends at most two tokens.
-ghost use Rattle.std.specs.Prelude.{◌≡◌, ◌<◌, ◌≤◌, ◌+◌, ◌^◌, ◌++◌, [], ◌∷◌, length, IfOk, OnOk, IfErr};
-ghost use Rattle.std.specs.Str.{bytes_eq};
+//! The reading of bytes. A word or a comment is taken whole, as far as the piece goes; each other byte ends at most two
+//! tokens.
+ghost use Rattle.std.specs.Prelude.{◌≡◌, ◌<◌, ◌≤◌, ◌+◌, ◌^◌, ◌++◌, [], ◌∷◌, not, ◌==◌, length, get_or, true, IfOk, OnOk, IfErr};
 ghost use Rattle.lp_spec.specs.Text.{prelude};
 ghost use Rattle.lp_spec.specs.Tokens as tokens;
 ghost use Rattle.dk_read.specs.declared.faults.DkFault.TheVariants as fault;
+ghost use Rattle.dk_read.specs.declared.text.Pending.TheVariants as pending;
 ghost use Rattle.lp_spec.specs.ReadingFaults as reading;
-ghost use Rattle.dk_read.specs.States.{before, state_in, token_of};
-ghost use Rattle.dk_read.specs.Texts.{IsReading, Advances, Takes, inside, pending_in, Breaks, EndsTokens, Ends, Comes, IsInside, common};
+ghost use Rattle.dk_read.specs.States.{before, state_of, token_in, IsReading, IsTokenKnown};
+ghost use Rattle.dk_read.specs.Texts.{run, Takes, TakesSome, inside, pending_in, EndsTokens, Ends, held_of};
 
-use crate::faults::{DkFault, DkKind, bad};
-use crate::machine::Machine;
+use crate::faults::DkFault;
+use crate::parser::Parser;
 use crate::terms::{State, Token};
-use holide_sig::{Ident, Module, PRELUDE};
+use holide_sig::{Module, PRELUDE};
 use std::alloc::Global;
 
 /// What the next byte may go on with, with the place at which it began.
-#[derive(Drop)]
+#[derive(Clone, Copy)]
 pub(crate) enum Pending {
     Nothing,
-    InWord(u64, Vec<u8>),
+    InWord(u64),
     AfterColon(u64),
     AfterMinus(u64),
     AfterEquals(u64),
@@ -27,49 +28,22 @@ pub(crate) enum Pending {
     AfterSemicolon(u64),
 }
 
-/// A reading between two bytes.
+/// A reading between two bytes, with the bytes of the word that is open.
 #[derive(Drop)]
 pub(crate) struct Text {
-    pub(crate) machine: Machine,
-    pub(crate) state: State,
+    pub(crate) parser: Parser,
     pub(crate) pending: Pending,
+    pub(crate) word: Vec<u8>,
     pub(crate) place: u64,
 }
 
 impl Text {
-    // A token that has been ended.
-    fn token(&mut self, place: u64, token: Token) -> Result<(), DkFault>
-        requires reading { IsReading self.old }
-        ensures advances { Advances (reading.advance (before self.old.machine) (state_in self.old.machine self.old.state) place (token_of token)) self.new result }
-        ensures reading { OnOk result (IsReading self.new) }
-        ensures place { self.new.place ≡ self.old.place }
-        ensures pending { self.new.pending ≡ self.old.pending }
-    {
-        let state = std::mem::replace(&mut self.state, State::Between);
-        self.state = self.machine.next_state(state, place, token)?;
-        Ok(())
-    }
-
-    // No token comes at this place.
-    fn stuck(&mut self, place: u64) -> DkFault
-        requires reading { IsReading self.old }
-        ensures { Breaks (reading.broken (reading.Goes (before self.old.machine) (state_in self.old.machine self.old.state)) place) result }
-    {
-        match std::mem::replace(&mut self.state, State::Between) {
-            State::AfterFirst(_, first, name) => match self.machine.meaning(first, name) {
-                Ok(_) => bad(place),
-                Err(fault) => fault,
-            },
-            _ => bad(place),
-        }
-    }
-
     // What the next byte may go on with.
     fn wait(&mut self, pending: Pending) -> Result<(), DkFault>
-        requires reading { IsReading self.old }
-        requires few { self.old.place < 2 ^ 63 }
-        ensures takes { Takes (reading.Inside (self.old.place + 1) (pending_in pending) (before self.old.machine) (state_in self.old.machine self.old.state)) self.new result }
-        ensures reading { OnOk result (IsReading self.new) }
+        requires reading { IsReading self.old.parser }
+        requires few { self.old.place + 1 < 2 ^ 64 }
+        ensures takes { Takes (reading.Inside (self.old.place + 1) (pending_in self.old.word.items pending) (before self.old.parser) (state_of self.old.parser)) self.new result }
+        ensures reading { OnOk result (IsReading self.new.parser) }
         ensures place { OnOk result (self.new.place ≡ self.old.place + 1) }
     {
         self.pending = pending;
@@ -79,33 +53,30 @@ impl Text {
 
     // A token that the byte ends, with nothing behind it.
     fn end_token(&mut self, first: u64, token: Token) -> Result<(), DkFault>
-        requires reading { IsReading self.old }
-        requires few { self.old.place < 2 ^ 63 }
-        ensures takes { Takes (reading.after_byte (self.old.place + 1) (before self.old.machine) (state_in self.old.machine self.old.state) (tokens.goes (tokens.at first (token_of token) ∷ []) tokens.Nothing)) self.new result }
-        ensures reading { OnOk result (IsReading self.new) }
+        requires reading { IsReading self.old.parser }
+        requires token { IsTokenKnown self.old.parser.names token }
+        requires few { self.old.place + 1 < 2 ^ 64 }
+        ensures takes { Takes (reading.after_byte (self.old.place + 1) (before self.old.parser) (state_of self.old.parser) (tokens.goes (tokens.at first (token_in self.old.parser.names token) ∷ []) tokens.Nothing)) self.new result }
+        ensures reading { OnOk result (IsReading self.new.parser) }
         ensures place { OnOk result (self.new.place ≡ self.old.place + 1) }
     {
-        self.token(first, token)?;
+        self.parser.advance(first, token)?;
         self.wait(Pending::Nothing)
     }
 
     // A byte where nothing is pending.
     fn begin(&mut self, byte: u8) -> Result<(), DkFault>
-        requires reading { IsReading self.old }
-        requires few { self.old.place < 2 ^ 63 }
-        ensures takes { Takes (reading.after_byte (self.old.place + 1) (before self.old.machine) (state_in self.old.machine self.old.state) (tokens.begins self.old.place byte)) self.new result }
-        ensures reading { OnOk result (IsReading self.new) }
+        requires reading { IsReading self.old.parser }
+        requires few { self.old.place + 1 < 2 ^ 64 }
+        ensures takes { Takes (reading.after_byte (self.old.place + 1) (before self.old.parser) (state_of self.old.parser) (tokens.begins self.old.place byte)) self.new result }
+        ensures reading { OnOk result (IsReading self.new.parser) }
         ensures place { OnOk result (self.new.place ≡ self.old.place + 1) }
     {
         let place = self.place;
         if is_space(byte) {
             self.wait(Pending::Nothing)
         } else if is_letter(byte) {
-            let mut word = Vec::new(self.machine.alloc);
-            if word.push(byte).is_err() {
-                return Err(DkFault::Memory);
-            }
-            self.wait(Pending::InWord(place, word))
+            self.begin_word(byte)
         } else if byte == 58 {
             self.wait(Pending::AfterColon(place))
         } else if byte == 45 {
@@ -119,33 +90,62 @@ impl Text {
         } else if byte == 41 {
             self.end_token(place, Token::RightParen)
         } else {
-            Err(self.stuck(place))
+            Err(self.parser.stuck(place))
         }
+    }
+
+    // The first byte of a word.
+    fn begin_word(&mut self, byte: u8) -> Result<(), DkFault>
+        requires reading { IsReading self.old.parser }
+        requires few { self.old.place + 1 < 2 ^ 64 }
+        ensures takes { Takes (reading.Inside (self.old.place + 1) (tokens.InWord self.old.place (byte ∷ [])) (before self.old.parser) (state_of self.old.parser)) self.new result }
+        ensures reading { OnOk result (IsReading self.new.parser) }
+        ensures place { OnOk result (self.new.place ≡ self.old.place + 1) }
+    {
+        let place = self.place;
+        self.word.clear();
+        if self.word.push(byte).is_err() {
+            return Err(DkFault::Memory);
+        }
+        self.wait(Pending::InWord(place))
     }
 
     // A token that the byte ends, and the byte behind it.
     fn end_and_begin(&mut self, first: u64, token: Token, byte: u8) -> Result<(), DkFault>
-        requires reading { IsReading self.old }
-        requires few { self.old.place < 2 ^ 63 }
-        ensures takes { Takes (reading.after_byte (self.old.place + 1) (before self.old.machine) (state_in self.old.machine self.old.state) (tokens.after (tokens.at first (token_of token)) (tokens.begins self.old.place byte))) self.new result }
-        ensures reading { OnOk result (IsReading self.new) }
+        requires reading { IsReading self.old.parser }
+        requires token { IsTokenKnown self.old.parser.names token }
+        requires few { self.old.place + 1 < 2 ^ 64 }
+        ensures takes { Takes (reading.after_byte (self.old.place + 1) (before self.old.parser) (state_of self.old.parser) (tokens.after (tokens.at first (token_in self.old.parser.names token)) (tokens.begins self.old.place byte))) self.new result }
+        ensures reading { OnOk result (IsReading self.new.parser) }
         ensures place { OnOk result (self.new.place ≡ self.old.place + 1) }
     {
-        self.token(first, token)?;
+        self.parser.advance(first, token)?;
+        self.begin(byte)
+    }
+
+    // The word that the byte ends, and the byte behind it.
+    fn end_word(&mut self, first: u64, byte: u8) -> Result<(), DkFault>
+        requires reading { IsReading self.old.parser }
+        requires few { self.old.place + 1 < 2 ^ 64 }
+        ensures takes { Takes (reading.after_byte (self.old.place + 1) (before self.old.parser) (state_of self.old.parser) (tokens.after (tokens.at first (tokens.word_token self.old.word.items)) (tokens.begins self.old.place byte))) self.new result }
+        ensures reading { OnOk result (IsReading self.new.parser) }
+        ensures place { OnOk result (self.new.place ≡ self.old.place + 1) }
+    {
+        self.parser.word(first, &self.word)?;
         self.begin(byte)
     }
 
     // The next byte.
-    pub(crate) fn take(&mut self, byte: u8) -> Result<(), DkFault>
-        requires reading { IsReading self.old }
-        requires few { self.old.place < 2 ^ 63 }
+    fn take(&mut self, byte: u8) -> Result<(), DkFault>
+        requires reading { IsReading self.old.parser }
+        requires few { self.old.place + 1 < 2 ^ 64 }
         ensures takes { Takes (reading.read_byte (inside self.old) byte) self.new result }
-        ensures reading { OnOk result (IsReading self.new) }
+        ensures reading { OnOk result (IsReading self.new.parser) }
         ensures place { OnOk result (self.new.place ≡ self.old.place + 1) }
     {
-        match std::mem::replace(&mut self.pending, Pending::Nothing) {
+        match self.pending {
             Pending::Nothing => self.begin(byte),
-            Pending::InWord(first, word) => self.in_word(first, word, byte),
+            Pending::InWord(first) => self.in_word(first, byte),
             Pending::AfterColon(first) => {
                 if byte == 61 {
                     self.end_token(first, Token::Assign)
@@ -157,14 +157,14 @@ impl Text {
                 if byte == 62 {
                     self.end_token(first, Token::Arrow)
                 } else {
-                    Err(self.stuck(first))
+                    Err(self.parser.stuck(first))
                 }
             }
             Pending::AfterEquals(first) => {
                 if byte == 62 {
                     self.end_token(first, Token::FatArrow)
                 } else {
-                    Err(self.stuck(first))
+                    Err(self.parser.stuck(first))
                 }
             }
             Pending::AfterParen(first) => {
@@ -194,148 +194,292 @@ impl Text {
     }
 
     // A byte in or behind a word.
-    fn in_word(&mut self, first: u64, word: Vec<u8>, byte: u8) -> Result<(), DkFault>
-        requires reading { IsReading self.old }
-        requires few { self.old.place < 2 ^ 63 }
-        ensures takes { Takes (reading.after_byte (self.old.place + 1) (before self.old.machine) (state_in self.old.machine self.old.state) (tokens.take_byte (tokens.InWord first word.items) self.old.place byte)) self.new result }
-        ensures reading { OnOk result (IsReading self.new) }
+    fn in_word(&mut self, first: u64, byte: u8) -> Result<(), DkFault>
+        requires reading { IsReading self.old.parser }
+        requires few { self.old.place + 1 < 2 ^ 64 }
+        ensures takes { Takes (reading.after_byte (self.old.place + 1) (before self.old.parser) (state_of self.old.parser) (tokens.take_byte (tokens.InWord first self.old.word.items) self.old.place byte)) self.new result }
+        ensures reading { OnOk result (IsReading self.new.parser) }
         ensures place { OnOk result (self.new.place ≡ self.old.place + 1) }
     {
         if is_word_byte(byte) {
-            let mut longer = word;
-            if longer.push(byte).is_err() {
+            if self.word.push(byte).is_err() {
                 return Err(DkFault::Memory);
             }
-            self.wait(Pending::InWord(first, longer))
+            self.wait(Pending::InWord(first))
         } else {
-            self.end_and_begin(first, word_token(word), byte)
+            self.end_word(first, byte)
         }
+    }
+
+    // The first byte of a piece.
+    fn take_first(&mut self, piece: &[u8]) -> Result<usize, DkFault>
+        requires reading { IsReading self.old.parser }
+        requires some { 1 ≤ length piece.now }
+        requires few { self.old.place + length piece.now < 2 ^ 64 }
+        ensures takes { TakesSome self.old piece.now self.new result }
+    {
+        match self.take(piece[0]) {
+            Ok(()) => Ok(1),
+            Err(fault) => Err(fault),
+        }
+    }
+
+    // The bytes of a piece with which what is pending goes on, or the first one.
+    fn take_some(&mut self, piece: &[u8]) -> Result<usize, DkFault>
+        requires reading { IsReading self.old.parser }
+        requires some { 1 ≤ length piece.now }
+        requires few { self.old.place + length piece.now < 2 ^ 64 }
+        ensures takes { TakesSome self.old piece.now self.new result }
+    {
+        match self.pending {
+            Pending::Nothing => {
+                if is_letter(piece[0]) {
+                    self.take_word(piece)
+                } else {
+                    self.take_blanks(piece)
+                }
+            }
+            Pending::InWord(first) => self.go_on(first, piece),
+            Pending::InComment(first) => self.take_comment(first, piece),
+            _ => self.take_first(piece),
+        }
+    }
+
+    // A word at the head of a piece. Where the piece ends it may go on.
+    fn take_word(&mut self, piece: &[u8]) -> Result<usize, DkFault>
+        requires reading { IsReading self.old.parser }
+        requires some { 1 ≤ length piece.now }
+        requires few { self.old.place + length piece.now < 2 ^ 64 }
+        requires pending { self.old.pending ≡ pending.Nothing }
+        requires letter { tokens.is_letter (get_or piece.now 0 0) ≡ true }
+        ensures takes { TakesSome self.old piece.now self.new result }
+    {
+        let count = word_len(piece);
+        if count < piece.len() {
+            self.take_whole(piece, count)
+        } else {
+            self.keep(piece)
+        }
+    }
+
+    // A word that ends inside the piece, by its length.
+    fn take_whole(&mut self, piece: &[u8], count: usize) -> Result<usize, DkFault>
+        requires reading { IsReading self.old.parser }
+        requires some { 1 ≤ length piece.now }
+        requires few { self.old.place + length piece.now < 2 ^ 64 }
+        requires pending { self.old.pending ≡ pending.Nothing }
+        requires letter { tokens.is_letter (get_or piece.now 0 0) ≡ true }
+        requires count { count ≡ run tokens.is_word_byte piece.now }
+        requires ends { count < length piece.now }
+        ensures takes { TakesSome self.old piece.now self.new result }
+    {
+        match self.parser.word(self.place, &piece[..count]) {
+            Ok(()) => {
+                self.place += count as u64;
+                Ok(count)
+            }
+            Err(fault) => Err(fault),
+        }
+    }
+
+    // A piece that is all of one word, which may go on.
+    fn keep(&mut self, piece: &[u8]) -> Result<usize, DkFault>
+        requires reading { IsReading self.old.parser }
+        requires some { 1 ≤ length piece.now }
+        requires few { self.old.place + length piece.now < 2 ^ 64 }
+        requires pending { self.old.pending ≡ pending.Nothing }
+        requires letter { tokens.is_letter (get_or piece.now 0 0) ≡ true }
+        requires all { run tokens.is_word_byte piece.now ≡ length piece.now }
+        ensures takes { TakesSome self.old piece.now self.new result }
+    {
+        self.word.clear();
+        match self.word.extend_from_slice(piece) {
+            Ok(()) => {
+                self.pending = Pending::InWord(self.place);
+                self.place += piece.len() as u64;
+                Ok(piece.len())
+            }
+            Err(_) => Err(DkFault::Memory),
+        }
+    }
+
+    // Blanks at the head of a piece, or another byte.
+    fn take_blanks(&mut self, piece: &[u8]) -> Result<usize, DkFault>
+        requires reading { IsReading self.old.parser }
+        requires some { 1 ≤ length piece.now }
+        requires few { self.old.place + length piece.now < 2 ^ 64 }
+        requires pending { self.old.pending ≡ pending.Nothing }
+        ensures takes { TakesSome self.old piece.now self.new result }
+    {
+        let count = blank_len(piece);
+        if count == 0 {
+            return self.take_first(piece);
+        }
+        self.place += count as u64;
+        Ok(count)
+    }
+
+    // The bytes with which a word goes on, or the byte behind it.
+    fn go_on(&mut self, first: u64, piece: &[u8]) -> Result<usize, DkFault>
+        requires reading { IsReading self.old.parser }
+        requires some { 1 ≤ length piece.now }
+        requires few { self.old.place + length piece.now < 2 ^ 64 }
+        requires pending { self.old.pending ≡ pending.InWord first }
+        ensures takes { TakesSome self.old piece.now self.new result }
+    {
+        let count = word_len(piece);
+        if count == 0 {
+            return self.take_first(piece);
+        }
+        match self.word.extend_from_slice(&piece[..count]) {
+            Ok(()) => {
+                self.place += count as u64;
+                Ok(count)
+            }
+            Err(_) => Err(DkFault::Memory),
+        }
+    }
+
+    // The bytes of a comment up to the next `;`, or that one.
+    fn take_comment(&mut self, first: u64, piece: &[u8]) -> Result<usize, DkFault>
+        requires reading { IsReading self.old.parser }
+        requires some { 1 ≤ length piece.now }
+        requires few { self.old.place + length piece.now < 2 ^ 64 }
+        requires pending { self.old.pending ≡ pending.InComment first }
+        ensures takes { TakesSome self.old piece.now self.new result }
+    {
+        let count = comment_len(piece);
+        if count == 0 {
+            return self.take_first(piece);
+        }
+        self.place += count as u64;
+        Ok(count)
+    }
+
+    /// The next piece.
+    pub(crate) fn take_all(&mut self, piece: &[u8]) -> Result<(), DkFault>
+        requires reading { IsReading self.old.parser }
+        requires few { self.old.place + length piece.now < 2 ^ 64 }
+        ensures takes { Takes (reading.read_bytes (inside self.old) piece.now) self.new result }
+        ensures reading { OnOk result (IsReading self.new.parser) }
+    {
+        let mut rest = piece;
+        while !rest.is_empty() {
+            let count = self.take_some(rest)?;
+            rest = &rest[count..];
+        }
+        Ok(())
     }
 
     // The tokens that the end of the text ends.
     fn end_tokens(&mut self) -> Result<(), DkFault>
-        requires reading { IsReading self.old }
-        ensures ends { EndsTokens (reading.answers (reading.advance_all (reading.Goes (before self.old.machine) (state_in self.old.machine self.old.state)) (tokens.last_tokens (pending_in self.old.pending))) (tokens.end_at (pending_in self.old.pending) self.old.place)) self.new result }
-        ensures reading { OnOk result (IsReading self.new) }
+        requires reading { IsReading self.old.parser }
+        ensures ends { EndsTokens (reading.answers (reading.advance_all (reading.Goes (before self.old.parser) (state_of self.old.parser)) (tokens.last_tokens (pending_in self.old.word.items self.old.pending))) (tokens.end_at (pending_in self.old.word.items self.old.pending) self.old.place)) self.new result }
+        ensures reading { OnOk result (IsReading self.new.parser) }
         ensures place { OnOk result (self.new.place ≡ self.old.place) }
     {
-        match std::mem::replace(&mut self.pending, Pending::Nothing) {
+        match self.pending {
             Pending::Nothing => Ok(()),
-            Pending::InWord(first, word) => self.token(first, word_token(word)),
-            Pending::AfterColon(first) => self.token(first, Token::Colon),
-            Pending::AfterParen(first) => self.token(first, Token::LeftParen),
+            Pending::InWord(first) => self.parser.word(first, &self.word),
+            Pending::AfterColon(first) => self.parser.advance(first, Token::Colon),
+            Pending::AfterParen(first) => self.parser.advance(first, Token::LeftParen),
             Pending::AfterMinus(first)
             | Pending::AfterEquals(first)
             | Pending::InComment(first)
-            | Pending::AfterSemicolon(first) => Err(self.stuck(first)),
+            | Pending::AfterSemicolon(first) => Err(self.parser.stuck(first)),
         }
     }
 
-    // The end of the text.
+    /// The end of the text.
     pub(crate) fn end(self) -> Result<Module, DkFault>
-        requires reading { IsReading self }
+        requires reading { IsReading self.parser }
+        requires few { self.place < 2 ^ 64 }
         ensures ends { Ends (reading.read_end (inside self)) result }
     {
         let mut text = self;
         text.end_tokens()?;
         let place = text.place;
-        match text.state {
-            State::Between => Ok(text.machine.module),
-            _ => Err(text.stuck(place)),
+        match text.parser.state {
+            State::Between => Ok(text.parser.module),
+            _ => Err(text.parser.stuck(place)),
         }
     }
 
-    // A reading of the text after the signature's own.
-    fn new(alloc: Global) -> Result<Text, DkFault>
+    /// A reading of the text after the signature's own.
+    pub(crate) fn new(alloc: Global) -> Result<Text, DkFault>
         ensures inside { IfOk result (λ t. inside t ≡ reading.Inside (length prelude) tokens.Nothing [] reading.Between) }
-        ensures reading { IfOk result IsReading }
+        ensures reading { IfOk result (λ t. IsReading t.parser) }
         ensures memory { IfErr result (λ e. e ≡ fault.Memory) }
     {
-        let module = Module::new(alloc)?;
-        let machine = Machine {
-            alloc,
-            module,
-            frames: Vec::new(alloc),
-        };
+        let parser = Parser::new(alloc)?;
         Ok(Text {
-            machine,
-            state: State::Between,
+            parser,
             pending: Pending::Nothing,
+            word: Vec::new(alloc),
             place: PRELUDE.len() as u64,
         })
     }
 
-    // The bytes, one after the other.
-    fn take_all(&mut self, bytes: &[u8]) -> Result<(), DkFault>
-        requires reading { IsReading self.old }
-        requires few { self.old.place + length bytes.now < 2 ^ 63 }
-        ensures takes { Takes (reading.read_bytes (inside self.old) bytes.now) self.new result }
-        ensures reading { OnOk result (IsReading self.new) }
-        ensures place { OnOk result (self.new.place ≡ self.old.place + length bytes.now) }
+    /// How many bytes the word has that is open.
+    pub(crate) fn held(&self) -> usize
+        ensures { result ≡ held_of (inside self.now) }
     {
-        let mut rest = bytes;
-        while let [byte, more @ ..] = rest {
-            match self.take(*byte) {
-                Ok(()) => rest = more,
-                Err(fault) => return Err(fault),
-            }
+        match self.pending {
+            Pending::InWord(_) => self.word.len(),
+            _ => 0,
         }
-        Ok(())
     }
 }
 
-// How many bytes two texts begin with alike.
-fn common(one: &[u8], two: &[u8]) -> usize
-    ensures is { result ≡ common one.now two.now }
-    ensures one { result ≤ length one.now }
-    ensures two { result ≤ length two.now }
+// How many bytes of a word stand at the head.
+fn word_len(bytes: &[u8]) -> usize
+    ensures run { result ≡ run tokens.is_word_byte bytes.now }
+    ensures within { result ≤ length bytes.now }
 {
     let mut count = 0;
-    let (mut left, mut right) = (one, two);
-    while let [a, more @ ..] = left {
-        match right {
-            [b, rest @ ..] if *a == *b => {
-                left = more;
-                right = rest;
-            }
-            _ => return count,
+    let mut rest = bytes;
+    while let [byte, more @ ..] = rest {
+        if !is_word_byte(*byte) {
+            return count;
         }
+        rest = more;
         count += 1;
     }
     count
 }
 
-/// Reads a text up to its last byte, not its end. There is no reading where all of it begins the signature's text.
-pub(crate) fn read(alloc: Global, text: &[u8]) -> Result<Option<Text>, DkFault>
-    requires few { length text.now < 2 ^ 63 }
-    ensures { Comes (reading.read_bytes reading.unread text.now) (length text.now) result }
+// How many blanks stand at the head.
+fn blank_len(bytes: &[u8]) -> usize
+    ensures run { result ≡ run tokens.is_space bytes.now }
+    ensures within { result ≤ length bytes.now }
 {
-    let count = common(text, PRELUDE);
-    if count < PRELUDE.len() {
-        if count < text.len() {
-            return Err(DkFault::Refused {
-                place: count as u64,
-                kind: DkKind::NoPrelude,
-            });
+    let mut count = 0;
+    let mut rest = bytes;
+    while let [byte, more @ ..] = rest {
+        if !is_space(*byte) {
+            return count;
         }
-        return Ok(None);
+        rest = more;
+        count += 1;
     }
-    match read_inside(alloc, &text[count..]) {
-        Ok(reading) => Ok(Some(reading)),
-        Err(fault) => Err(fault),
-    }
+    count
 }
 
-// Reads the bytes after the signature's text.
-fn read_inside(alloc: Global, bytes: &[u8]) -> Result<Text, DkFault>
-    requires few { length prelude + length bytes.now < 2 ^ 63 }
-    ensures { IsInside (reading.read_bytes (reading.Inside (length prelude) tokens.Nothing [] reading.Between) bytes.now) (length prelude + length bytes.now) result }
+// How many bytes stand before the first `;`.
+fn comment_len(bytes: &[u8]) -> usize
+    ensures run { result ≡ run (λ b. not (b == 59)) bytes.now }
+    ensures within { result ≤ length bytes.now }
 {
-    let mut inner = Text::new(alloc)?;
-    match inner.take_all(bytes) {
-        Ok(()) => Ok(inner),
-        Err(fault) => Err(fault),
+    let mut count = 0;
+    let mut rest = bytes;
+    while let [byte, more @ ..] = rest {
+        if *byte == 59 {
+            return count;
+        }
+        rest = more;
+        count += 1;
     }
+    count
 }
 
 // A letter.
@@ -357,16 +501,4 @@ fn is_space(byte: u8) -> bool
     ensures { result ≡ tokens.is_space byte }
 {
     byte == 32 || byte == 9 || byte == 10 || byte == 13
-}
-
-// The token that a word is.
-fn word_token(word: Vec<u8>) -> Token
-    ensures { token_of result ≡ tokens.word_token word.items }
-{
-    match word.as_slice() {
-        b"Type" => Token::TypeWord,
-        b"def" => Token::DefWord,
-        b"thm" => Token::ThmWord,
-        _ => Token::Name(Ident::new(word)),
-    }
 }

@@ -7,6 +7,8 @@
 #[cfg(test)]
 mod deep;
 #[cfg(test)]
+mod held;
+#[cfg(test)]
 mod limits;
 #[cfg(test)]
 mod readings;

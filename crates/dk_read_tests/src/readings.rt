@@ -52,6 +52,29 @@ fn reads_each_form_of_declaration_in_order(rt: HostRuntime) -> Result<(), Fail> 
 }
 
 #[test]
+fn reads_several_declarations_and_comments_in_any_pieces(rt: HostRuntime) -> Result<(), Fail> {
+    let alloc = rt.alloc();
+    let text = module_text(
+        alloc,
+        b"(; one ;)(;;)first_name:type.\ndef second : type -> type := v0 : type => first_name.(;;;)\nthm third:(a : type -> x : term a -> proof (eq a x x)):=a : type => x : term a => refl a x.",
+    )?;
+    for size in [1, 2, 3, 4096] {
+        match read(alloc, Limit::Bytes(4294967296), &text, size) {
+            Ok(module) => {
+                assert_eq!(rt; module.decls.len(), 3);
+                assert_eq!(rt; tells(module.decls.get(0)), (true, false, false));
+                assert_eq!(rt; tells(module.decls.get(1)), (false, true, false));
+                assert_eq!(rt; tells(module.decls.get(2)), (false, false, true));
+                assert_eq!(rt; module.find(b"first_name"), Some(SIGNATURE));
+                assert_eq!(rt; module.find(b"x"), None);
+            }
+            Err(_) => assert!(rt; false, "pieces of {size}"),
+        }
+    }
+    Ok(())
+}
+
+#[test]
 fn the_signature_alone_reads_as_no_declaration(rt: HostRuntime) -> Result<(), Fail> {
     let alloc = rt.alloc();
     match read(alloc, Limit::Free, PRELUDE, 1) {

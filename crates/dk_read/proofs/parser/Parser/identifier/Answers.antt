@@ -1,0 +1,14 @@
+use Rattle.std.proofs.Common.{sym, ap}
+use Rattle.lp_spec.specs.Tokens as tokens
+use Rattle.dk_read.proofs.Bytes.{reading_grows, advance_grows}
+use Rattle.dk_read.proofs.Declared.{becomes_as}
+use Rattle.dk_read.proofs.parser.Parser.identifier.Goals as goal
+
+pub advance-requires-clause-reading : goal.advance-requires-clause-reading
+advance-requires-clause-reading c = reading_grows c.args.self.now c.number.new.self c.number.ensures.grows c.requires.reading
+
+pub returns-clause-becomes : goal.returns-clause-becomes
+returns-clause-becomes c =
+    becomes_as _ _ c.advance.new.self c.advance.result
+    (advance_grows c.args.self.now c.number.new.self c.args.place (tokens.Name c.args.word.now) _ c.number.ensures.grows c.requires.reading (ap tokens.Name (sym c.in_ok-name.ensures.named)))
+    c.advance.ensures.becomes
