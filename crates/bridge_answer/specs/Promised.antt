@@ -14,13 +14,15 @@ use Rattle.lp_shape.specs.Check.{No, Check}
 use Rattle.article_spec.specs.Run.{Outcome, machine, accepted, refused_at, Run}
 use Rattle.article_laws.specs.RunLaws.{one_outcome}
 use Rattle.module_spec.specs.Image.{image}
-use Rattle.bridge_spec.specs.Forms.{Form, verify, translate, check, show, decode}
+use Rattle.vectors.specs.Trial.{trial_text}
+use Rattle.bridge_spec.specs.Forms.{Form, verify, translate, check, show, decode, trial}
 use Rattle.bridge_spec.specs.Headline.{Headline}
 use Rattle.headline_laws.specs.Headlines.{each_run_carries}
+use Rattle.headline_laws.specs.TrialBytes.{trial_text-bytes}
 use Rattle.bridge_spec.specs.Texts.{usage_line, module_bounds, module_text}
 use Rattle.bridge_spec.specs.Calls.{Shelved, Sunk, Call}
 use Rattle.bridge_spec.specs.FileChecks.{ReadsAs, IsAccepted, IsIllTyped, PassesWithin, ReadsWellTyped}
-use Rattle.bridge_spec.specs.Answers.{RunsTo, IsRunOf, FormRun, IsAnswerOfRun, answer_of, IsDue, ReadFailed, FormAnswers, articles}
+use Rattle.bridge_spec.specs.Answers.{RunsTo, IsRunOf, IsRunOfTrial, FormRun, IsAnswerOfRun, answer_of, IsDue, ReadFailed, FormAnswers, articles}
 use Rattle.bridge_spec.specs.Outputs.{Gained, Failed, Delivers, Outputs}
 use Rattle.bridge_spec.specs.Promises.{ReadWell, Aside, KeepsOut, WritesModule, HasModule, Promise}
 use Rattle.bridge_spec.specs.declared.status.Status.{Status}
@@ -281,6 +283,40 @@ decode-answers name shelf = record {
   quiet = decode-quiet name shelf;
 }
 
+-- `trial`: done is the one answer that is due.
+trial-done : (n : ℕ) (shelf : Shelved) (answer : Status) (out note : List ℕ) → FormAnswers (Some (trial n)) shelf answer out note → Aside answer (answer ≡ Done)
+trial-done n shelf Done out note h = refl
+trial-done n shelf (Refused article line kind) out note h = absurd h
+trial-done n shelf Usage out note h = absurd h
+trial-done n shelf ReadFault out note h = absurd h
+trial-done n shelf WriteFault out note h = tt
+trial-done n shelf Memory out note h = tt
+trial-done n shelf (DkRefused place kind) out note h = absurd h
+trial-done n shelf (IllTyped i) out note h = absurd h
+trial-done n shelf (OverBudget i) out note h = absurd h
+trial-done n shelf (NotSequent i) out note h = absurd h
+
+trial-quiet : (n : ℕ) (shelf : Shelved) (answer : Status) (out note : List ℕ) → FormAnswers (Some (trial n)) shelf answer out note → (answer ≡ Done → ⊥) → out ≡ []
+trial-quiet n shelf Done out note h differs = absurd (differs refl)
+trial-quiet n shelf (Refused article line kind) out note h differs = absurd h
+trial-quiet n shelf Usage out note h differs = absurd h
+trial-quiet n shelf ReadFault out note h differs = absurd h
+trial-quiet n shelf WriteFault out note h differs = absurd h
+trial-quiet n shelf Memory out note h differs = h.0
+trial-quiet n shelf (DkRefused place kind) out note h differs = absurd h
+trial-quiet n shelf (IllTyped i) out note h differs = absurd h
+trial-quiet n shelf (OverBudget i) out note h differs = absurd h
+trial-quiet n shelf (NotSequent i) out note h differs = absurd h
+
+trial-answers : (n : ℕ) (shelf : Shelved) → AreAnswers (Some (trial n)) shelf
+trial-answers n shelf = record {
+  exact = λ well answer due out note h d. subst (λ status. Aside answer (answer ≡ status)) (sym d) (trial-done n shelf answer out note h);
+  usage = λ out note h. absurd h;
+  read_fault = λ out note h. absurd h;
+  write_fault = λ out note h. h;
+  quiet = trial-quiet n shelf;
+}
+
 -- the answers of every form
 each-answers : (form : Option Form) (shelf : Shelved) → AreAnswers form shelf
 each-answers None shelf = no_form-answers shelf
@@ -289,6 +325,7 @@ each-answers (Some (translate names)) shelf = translate-answers names shelf
 each-answers (Some (check name budget)) shelf = check-answers name budget shelf
 each-answers (Some (show names)) shelf = show-answers names shelf
 each-answers (Some (decode name)) shelf = decode-answers name shelf
+each-answers (Some (trial n)) shelf = trial-answers n shelf
 
 -- The checker's law: what is accepted is well typed.
 accepted-well_typed : (told : Option Files) (name : List ℕ) (files : Files) (m : List Declaration) → told ≡ Some files → IsAccepted told name m → ReadsWellTyped (file files name)
@@ -360,6 +397,10 @@ outputs-KeepsOut call result h = by_cases result h
 run-headline : (told : Option Files) (names : List (List ℕ)) (run : Accepted) → IsRunOf told names run → Headline run
 run-headline told names run r = each_run_carries r.texts run r.bytes r.runs
 
+-- so it is with the run of a generated article
+pub trial-headline : (n : ℕ) (run : Accepted) → IsRunOfTrial n run → Headline run
+trial-headline n run r = each_run_carries (trial_text n ∷ []) run (trial_text-bytes n, tt) r
+
 form-headline : (form : Option Form) (told : Option Files) (run : Accepted) → FormRun form told run → Headline run
 form-headline None told run h = absurd h
 form-headline (Some (verify names)) told run h = run-headline told names run h
@@ -367,6 +408,7 @@ form-headline (Some (translate names)) told run h = run-headline told names run 
 form-headline (Some (check name budget)) told run h = absurd h
 form-headline (Some (show names)) told run h = run-headline told names run h
 form-headline (Some (decode name)) told run h = absurd h
+form-headline (Some (trial n)) told run h = trial-headline n run h
 
 -- The text of a run's module reads as one well-typed module.
 text-ReadsWellTyped : (run : Accepted) → Headline run → ReadsWellTyped (module_text run)
@@ -380,6 +422,7 @@ module-written (Some (translate names)) shelf out note w h = subst ReadsWellType
 module-written (Some (check name budget)) shelf out note w h = absurd w
 module-written (Some (show names)) shelf out note w h = absurd w
 module-written (Some (decode name)) shelf out note w h = absurd w
+module-written (Some (trial n)) shelf out note w h = absurd w
 
 delivered-Gained : (answer : Status) (out_text note_text : List ℕ) (out note : Sunk) (result : Status) → Delivers answer out_text note_text out note result
     → (result ≡ WriteFault → ⊥) → Gained out out_text
@@ -445,6 +488,8 @@ outputs-Promise call result h told shelf_count out_count note_count = record {
       module-passes call.shelf.told_before name i well.tells file
       (subst (λ f. FormAnswers f call.shelf (IllTyped i) h.out_text h.note_text) form (subst (λ status. FormAnswers call.form call.shelf status h.out_text h.note_text) (is ill (λ f. cc)) h.answers)).0;
   checked = λ name budget files form told_files done. of_check name budget files form told_files (subst (λ status. FormAnswers call.form call.shelf status h.out_text h.note_text) (is done (λ f. cc)) h.answers);
+  trial_done = λ n e. delivered-Aside (λ status. status ≡ Done) h.answer h.out_text h.note_text call.out call.note result h.delivered
+      (trial-done n call.shelf h.answer h.out_text h.note_text (subst (λ form. FormAnswers form call.shelf h.answer h.out_text h.note_text) e h.answers));
   usage = λ e. delivered-Aside (λ status. status ≡ Usage) h.answer h.out_text h.note_text call.out call.note result h.delivered
       (aside h.answer (h.answer ≡ Usage) (no_form-usage call.shelf h.answer h.out_text h.note_text (subst (λ form. FormAnswers form call.shelf h.answer h.out_text h.note_text) e h.answers)));
   usage_alone = λ e. facts.usage h.out_text h.note_text (subst (λ status. FormAnswers call.form call.shelf status h.out_text h.note_text) (is e (λ f. cc)) h.answers);

@@ -2,7 +2,7 @@
 use Rattle.bridge_spec.specs.Forms as forms
 use Rattle.bridge_spec.specs.Calls.{names_in}
 use Rattle.bridge_run.specs.declared.words.Form.{Form}
-use Rattle.bridge_run.specs.declared.words.Form.TheVariants.{Verify, Translate, Check, Show, Decode}
+use Rattle.bridge_run.specs.declared.words.Form.TheVariants.{Verify, Translate, Check, Show, Decode, Trial}
 
 abbrev pub asked : Form → forms.Form
 asked (Verify files) = forms.verify (names_in files.now)
@@ -10,3 +10,4 @@ asked (Translate files) = forms.translate (names_in files.now)
 asked (Check file budget) = forms.check file.now budget
 asked (Show files) = forms.show (names_in files.now)
 asked (Decode file) = forms.decode file.now
+asked (Trial n) = forms.trial n

@@ -2,8 +2,8 @@
 //!
 //! - [`bridge`] is all that the program does. Its contract is stated in the words of `bridge_spec`: the words decide the form,
 //!   each answer comes only by its cause, and the outputs then hold its texts.
-//! - [`verify`], [`translate`], [`check`], [`show`] and [`decode`] are its parts for the words `verify FILE..`, `translate FILE..`,
-//!   `check FILE`, `show FILE..` and `decode FILE`, each proved in a crate of its own.
+//! - [`verify`], [`translate`], [`check`], [`show`], [`decode`] and [`trial`] are its parts for the words `verify FILE..`,
+//!   `translate FILE..`, `check FILE`, `show FILE..`, `decode FILE` and `trial N`, each proved in a crate of its own.
 //!
 //! ```text
 //! let status = bridge(alloc, &words, &mut shelf, &mut out, &mut note);
@@ -20,4 +20,5 @@ pub use bridge_decode::decode;
 pub use bridge_show::show;
 pub use bridge_spec::Status;
 pub use bridge_translate::translate;
+pub use bridge_trial::trial;
 pub use bridge_verify::verify;

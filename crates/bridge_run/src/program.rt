@@ -10,6 +10,7 @@ use bridge_decode::decode;
 use bridge_show::show;
 use bridge_spec::Status;
 use bridge_translate::translate;
+use bridge_trial::trial;
 use bridge_verify::verify;
 use std::alloc::Global;
 
@@ -33,6 +34,7 @@ pub fn bridge<H: Shelf, O: Sink, N: Sink>(
         Some(Form::Check(file, budget)) => check(alloc, file, budget, shelf, out, note),
         Some(Form::Show(files)) => show(alloc, files, shelf, out, note),
         Some(Form::Decode(file)) => decode(alloc, file, shelf, out, note),
+        Some(Form::Trial(n)) => trial(alloc, n, out, note),
         None => deliver(Answer::Usage, out, note),
     }
 }

@@ -1,5 +1,5 @@
 //! The words of a command line.
-ghost use Rattle.std.specs.Prelude.{◌≡◌, min, string_bytes};
+ghost use Rattle.std.specs.Prelude.{◌≡◌, min, Some, string_bytes};
 ghost use Rattle.std.specs.List.{list_all};
 ghost use Rattle.std.specs.Option.{option_map};
 ghost use Rattle.article_spec.specs.Numbers.{digits_value};
@@ -20,12 +20,20 @@ pub enum Form<'a> {
     Show(&'a [String]),
     /// What the exports of the module in the file say.
     Decode(&'a str),
+    /// A trial with the generated article of so many blocks.
+    Trial(u64),
 }
 
 /// The budget of a declaration where the words give none.
 const DEFAULT_BUDGET: u64 = 100000000;
 
-/// Above each budget.
+/// The greatest budget.
+const GREATEST_BUDGET: u64 = 18446744073709551615;
+
+/// The most blocks of a trial.
+const GREATEST_TRIAL: u64 = 100000;
+
+/// Above each number that a word may say.
 const ABOVE: u128 = 18446744073709551616;
 
 /// The form of the words, of which the first is the program's name.
@@ -39,6 +47,7 @@ pub fn form_of(words: &[String]) -> Option<Form<'_>>
             "check" => check_form(rest),
             "show" => show_form(rest),
             "decode" => decode_form(rest),
+            "trial" => trial_form(rest),
             _ => None,
         },
         [] | [_] => None,
@@ -108,6 +117,19 @@ fn decode_form(words: &[String]) -> Option<Form<'_>>
     }
 }
 
+/// The form of the words after `trial`: a number of blocks.
+fn trial_form(words: &[String]) -> Option<Form<'_>>
+    ensures { option_map asked result ≡ forms.trial_form (names_in words.now) }
+{
+    match words {
+        [word] => match number_up_to(GREATEST_TRIAL, word.as_bytes()) {
+            Some(n) => Some(Form::Trial(n)),
+            None => None,
+        },
+        _ => None,
+    }
+}
+
 /// The form of the words after `check`: a file, and at most one budget, before it or behind it.
 fn check_form(words: &[String]) -> Option<Form<'_>>
     ensures { option_map asked result ≡ forms.check_form (names_in words.now) }
@@ -164,7 +186,7 @@ fn named_budget(word: &str) -> Option<u64>
     ensures { result ≡ forms.named_budget word.now }
 {
     match word.as_bytes().strip_prefix(b"--budget=") {
-        Some(number) => budget_of(number),
+        Some(number) => number_up_to(GREATEST_BUDGET, number),
         None => None,
     }
 }
@@ -174,23 +196,34 @@ fn budget_after(name: &str, word: &str) -> Option<u64>
     ensures { result ≡ forms.budget_after name.now word.now }
 {
     if name == "--budget" {
-        budget_of(word.as_bytes())
+        number_up_to(GREATEST_BUDGET, word.as_bytes())
     } else {
         None
     }
 }
 
-/// The budget that a word says: the digits of a number from 1 up, without a zero before them.
-fn budget_of(word: &[u8]) -> Option<u64>
-    ensures { result ≡ forms.budget_of word.now }
+/// The number from 1 to the most that a word says: its digits, without a zero before them.
+fn number_up_to(most: u64, word: &[u8]) -> Option<u64>
+    ensures { result ≡ forms.number_up_to most word.now }
 {
     match word {
         [] => None,
         [b'0', ..] => None,
         _ => match capped_value(word) {
-            Some(value) => u64::try_from(value).ok(),
+            Some(value) => up_to(most, value),
             None => None,
         },
+    }
+}
+
+/// A number that is no more than the most.
+fn up_to(most: u64, value: u128) -> Option<u64>
+    ensures { result ≡ forms.up_to most (Some value) }
+{
+    if value <= u128::from(most) {
+        Some(value as u64)
+    } else {
+        None
     }
 }
 

@@ -1,5 +1,5 @@
 -- When the program gives an answer, and the two texts that belong to it.
-use Rattle.std.specs.Prelude.{ℕ, ◌≡◌, List, [], map, length, Option, None, Some}
+use Rattle.std.specs.Prelude.{ℕ, ◌≡◌, List, [], ◌∷◌, map, length, Option, None, Some}
 use Rattle.std.specs.List.{AllByRecursion}
 use Rattle.lp_spec.specs.Modules.{Declaration}
 use Rattle.dk_read.specs.States.{fault_of}
@@ -8,7 +8,8 @@ use Rattle.hol_spec.specs.ClosedForm.{ClosedSequent}
 use Rattle.hol_spec.specs.Proofs.{Accepted}
 use Rattle.hol_spec.specs.Mangling.{AreBytes}
 use Rattle.article_spec.specs.Run.{Outcome, accepted, refused_at, Run}
-use Rattle.bridge_spec.specs.Forms.{Form, verify, translate, check, show, decode}
+use Rattle.vectors.specs.Trial.{trial_text}
+use Rattle.bridge_spec.specs.Forms.{Form, verify, translate, check, show, decode, trial}
 use Rattle.bridge_spec.specs.Calls.{Shelved, Call}
 use Rattle.bridge_spec.specs.FileChecks.{IsRefusedAt, IsAccepted, IsIllTyped, IsOverBudget, PassesWithin, FailsWithin}
 use Rattle.bridge_spec.specs.FileExports.{exports_of, Says, IsNotSequent}
@@ -38,6 +39,10 @@ pub record IsRunOf (told : Option Files) (names : List (List ℕ)) (run : Accept
   pub bytes : AllByRecursion AreBytes texts
   pub runs : Run texts (accepted run)
 
+-- the accepted run of the generated article of so many blocks
+abbrev pub IsRunOfTrial : ℕ → Accepted → Type 0
+IsRunOfTrial n run = Run (trial_text n ∷ []) (accepted run)
+
 -- the accepted run that a form asks for
 abbrev pub FormRun : Option Form → Option Files → Accepted → Type 0
 FormRun None told run = ⊥
@@ -46,6 +51,7 @@ FormRun (Some (translate names)) told run = IsRunOf told names run
 FormRun (Some (check name budget)) told run = ⊥
 FormRun (Some (show names)) told run = IsRunOf told names run
 FormRun (Some (decode name)) told run = ⊥
+FormRun (Some (trial n)) told run = IsRunOfTrial n run
 
 abbrev pub HasRun : Call → Accepted → Type 0
 HasRun call run = FormRun call.form call.shelf.told_before run
@@ -75,7 +81,7 @@ IsDueOfDecode told name (DkRefused place kind) = IsRefusedAt told name place kin
 IsDueOfDecode told name (NotSequent i) = IsNotSequent told name i
 IsDueOfDecode told name _ = ⊥
 
--- The files of the form must be answered so, where they are read without a fault.
+-- The files of the form must be answered so, where they are read without a fault; a trial, which reads none, is done.
 abbrev pub IsDue : Option Form → Option Files → Status → Type 0
 IsDue None told status = status ≡ Usage
 IsDue (Some (verify names)) told status = IsAnswerOfRun told names status
@@ -83,6 +89,7 @@ IsDue (Some (translate names)) told status = IsAnswerOfRun told names status
 IsDue (Some (check name budget)) told status = IsDueOfCheck told name budget status
 IsDue (Some (show names)) told status = IsAnswerOfRun told names status
 IsDue (Some (decode name)) told status = IsDueOfDecode told name status
+IsDue (Some (trial n)) told status = status ≡ Done
 
 -- the shelf failed
 abbrev pub ReadFailed : Shelved → Type 0
@@ -184,6 +191,20 @@ AnswersDecode name shelf (IllTyped i) out note = ⊥
 AnswersDecode name shelf (OverBudget i) out note = ⊥
 AnswersDecode name shelf (NotSequent i) out note = IsNotSequent shelf.told_before name i × NoteAlone (not_sequent_line i) out note
 
+-- `trial`: the counts of the accepted run of the generated article, whose module was checked; or want of memory. No file is read, and nothing is
+-- refused.
+abbrev pub AnswersTrial : ℕ → Status → List ℕ → List ℕ → Type 0
+AnswersTrial n Done out note = (run : Accepted) × IsRunOfTrial n run × (out ≡ six_lines (counts_of 1 run)) × (note ≡ [])
+AnswersTrial n (Refused article line kind) out note = ⊥
+AnswersTrial n Usage out note = ⊥
+AnswersTrial n ReadFault out note = ⊥
+AnswersTrial n WriteFault out note = ⊥
+AnswersTrial n Memory out note = NoteAlone memory_line out note
+AnswersTrial n (DkRefused place kind) out note = ⊥
+AnswersTrial n (IllTyped i) out note = ⊥
+AnswersTrial n (OverBudget i) out note = ⊥
+AnswersTrial n (NotSequent i) out note = ⊥
+
 -- The answers of each form, before anything is written.
 abbrev pub FormAnswers : Option Form → Shelved → Status → List ℕ → List ℕ → Type 0
 FormAnswers None shelf status out note = AnswersNoForm status out note
@@ -192,6 +213,7 @@ FormAnswers (Some (translate names)) shelf status out note = AnswersTranslate na
 FormAnswers (Some (check name budget)) shelf status out note = AnswersCheck name budget shelf status out note
 FormAnswers (Some (show names)) shelf status out note = AnswersShow names shelf status out note
 FormAnswers (Some (decode name)) shelf status out note = AnswersDecode name shelf status out note
+FormAnswers (Some (trial n)) shelf status out note = AnswersTrial n status out note
 
 -- The answer comes by its cause, with these texts on standard output and on standard error.
 abbrev pub Answers : Call → Status → List ℕ → List ℕ → Type 0

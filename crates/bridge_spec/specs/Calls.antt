@@ -29,6 +29,10 @@ pub record Call : Type 0 where
 abbrev pub shelved : {H : Type 0} → (H → Option Files) → (H → ℕ) → H → H → Shelved
 shelved told faults old new = record { told_before = told old; told = told new; faults_before = faults old; faults = faults new }
 
+-- a shelf that a call leaves alone: it tells the same and counts the same
+abbrev pub untouched : Option Files → ℕ → Shelved
+untouched told faults = record { told_before = told; told = told; faults_before = faults; faults = faults }
+
 -- a sink before a call and after it, by its meanings
 abbrev pub sunk : {S : Type 0} → (S → Option (List ℕ)) → (S → ℕ) → S → S → Sunk
 sunk got faults old new = record { got_before = got old; got = got new; faults_before = faults old; faults = faults new }

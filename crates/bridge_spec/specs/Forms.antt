@@ -1,17 +1,19 @@
 -- The forms of the command line.
-use Rattle.std.specs.Prelude.{ℕ, ◌==◌, not, nat_le, Bool, false, List, [], ◌∷◌, take, drop, Option, None, Some, codes, if◌then◌else◌}
+use Rattle.std.specs.Prelude.{ℕ, ◌==◌, not, nat_le, Bool, false, List, [], ◌∷◌, take, drop, Option, None, Some, option_map, codes, if◌then◌else◌}
 use Rattle.std.specs.List.{list_all}
 use Rattle.std.specs.Str.{bytes_eq}
 use Rattle.article_spec.specs.Numbers.{digits_value}
 
 -- what the words ask for: the module of the articles in these files, checked before it is written, or as it is; a check of the module in this
--- file, with this budget for each declaration; what the articles in these files assume and export; what the exports of the module in this file say
+-- file, with this budget for each declaration; what the articles in these files assume and export; what the exports of the module in this file
+-- say; a trial with the generated article of so many blocks
 pub data Form : Type 0 where
   verify : List (List ℕ) → Form
   translate : List (List ℕ) → Form
   check : List ℕ → ℕ → Form
   show : List (List ℕ) → Form
   decode : List ℕ → Form
+  trial : ℕ → Form
 
 -- a file is named by a word that isn't empty and doesn't begin with `-`
 abbrev pub is_file : List ℕ → Bool
@@ -25,15 +27,27 @@ default_budget = 100000000
 abbrev pub greatest_budget : ℕ
 greatest_budget = 18446744073709551615
 
--- a number as a budget
-abbrev pub as_budget : Option ℕ → Option ℕ
-as_budget None = None
-as_budget (Some n) = if nat_le n greatest_budget then Some n else None
+-- the most blocks of the generated article of a trial
+abbrev pub greatest_trial : ℕ
+greatest_trial = 100000
 
--- the budget that a word says: the decimal digits of a number from 1 up, without a zero before them
+-- a number that is no more than the most
+abbrev pub up_to : ℕ → Option ℕ → Option ℕ
+up_to most None = None
+up_to most (Some n) = if nat_le n most then Some n else None
+
+-- the number from 1 to the most that a word says: its decimal digits, without a sign or a zero before them
+abbrev pub number_up_to : ℕ → List ℕ → Option ℕ
+number_up_to most [] = None
+number_up_to most (b ∷ bs) = if b == 48 then None else up_to most (digits_value (b ∷ bs))
+
+-- the budget that a word says
 abbrev pub budget_of : List ℕ → Option ℕ
-budget_of [] = None
-budget_of (b ∷ bs) = if b == 48 then None else as_budget (digits_value (b ∷ bs))
+budget_of word = number_up_to greatest_budget word
+
+-- the number of blocks that a word says
+abbrev pub trial_of : List ℕ → Option ℕ
+trial_of word = number_up_to greatest_trial word
 
 -- the budget that a word says with its name: `--budget=N`
 abbrev pub named_budget : List ℕ → Option ℕ
@@ -69,6 +83,11 @@ abbrev pub decode_form : List (List ℕ) → Option Form
 decode_form (name ∷ []) = if is_file name then Some (decode name) else None
 decode_form words = None
 
+-- the form of the words after `trial`: a number of blocks
+abbrev pub trial_form : List (List ℕ) → Option Form
+trial_form (word ∷ []) = option_map trial (trial_of word)
+trial_form words = None
+
 -- the form of a word and those after it
 abbrev pub form_by : List ℕ → List (List ℕ) → Option Form
 form_by word words =
@@ -77,6 +96,7 @@ form_by word words =
     else if bytes_eq word (codes "check") then check_form words
     else if bytes_eq word (codes "show") then files_form show words
     else if bytes_eq word (codes "decode") then decode_form words
+    else if bytes_eq word (codes "trial") then trial_form words
     else None
 
 -- the form of the words after the program's name, if they have one

@@ -5,7 +5,7 @@ use Rattle.bridge_base.specs.Outside.{Files, file}
 use Rattle.hol_spec.specs.Mangling.{AreBytes}
 use Rattle.hol_spec.specs.Proofs.{Accepted}
 use Rattle.article_spec.specs.Run.{accepted, Run}
-use Rattle.bridge_spec.specs.Forms.{Form, verify, translate, check, show, decode}
+use Rattle.bridge_spec.specs.Forms.{Form, verify, translate, check, show, decode, trial}
 use Rattle.bridge_spec.specs.Calls.{Shelved, Sunk, Call}
 use Rattle.bridge_spec.specs.FileChecks.{IsReadOf, ReadsWellTyped, max_file}
 use Rattle.bridge_spec.specs.Answers.{HasRun, IsDue, ReadFailed}
@@ -54,6 +54,7 @@ WritesModule (Some (translate names)) = Unit {0}
 WritesModule (Some (check name budget)) = ⊥
 WritesModule (Some (show names)) = ⊥
 WritesModule (Some (decode name)) = ⊥
+WritesModule (Some (trial n)) = ⊥
 
 -- the sink gained a text that reads as one module, which is well typed
 pub record GainsModule (out : Sunk) : Type 0 where
@@ -75,9 +76,10 @@ pub record Promise (call : Call) (result : Status) : Type 0 where
   pub outputs : Outputs call result
   -- Where the shelf tells its files and didn't fail, the answer is the one that is due: that of the run of the articles, for `verify`,
   -- `translate` and `show`; of the check of a file that is refused, or whose declarations pass, or fail at the first that doesn't pass, within the budget; or of what
-  -- the exports of a file that `decode` is given say.
+  -- the exports of a file that `decode` is given say; or Done, for `trial`.
   pub exact : ReadWell call.shelf → (status : Status) → IsDue call.form call.shelf.told_before status → Aside result (result ≡ status)
-  -- The headline: the module of an accepted run of the files reads back, is well typed, is faithful to its run and accepted within its bounds.
+  -- The headline: the module of an accepted run of the files, or of the generated article of a trial, reads back, is well typed, is faithful to
+  -- its run and accepted within its bounds.
   pub headline : (run : Accepted) → HasRun call run → Headline run
   -- Whatever the shelf tells, at Done what was written as the module of the run reads as one well-typed module.
   pub written : WritesModule call.form → result ≡ Done → GainsModule call.out
@@ -88,6 +90,8 @@ pub record Promise (call : Call) (result : Status) : Type 0 where
   pub never_ill_typed : ReadWell call.shelf → (name : List ℕ) (budget i : ℕ) → call.form ≡ Some (check name budget) → HasModule call.shelf.told_before name → result ≡ IllTyped i → ⊥
   -- The checker's law: a file that is told and accepted reads as one module, and that module is well typed.
   pub checked : (name : List ℕ) (budget : ℕ) (files : Files) → call.form ≡ Some (check name budget) → call.shelf.told_before ≡ Some files → result ≡ Done → ReadsWellTyped (file files name)
+  -- A trial is done, whatever the shelf tells and does.
+  pub trial_done : (n : ℕ) → call.form ≡ Some (trial n) → Aside result (result ≡ Done)
   -- Words that are no form are answered with Usage ..
   pub usage : call.form ≡ None → Aside result (result ≡ Usage)
   -- .. and no others.

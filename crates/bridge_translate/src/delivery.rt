@@ -42,8 +42,8 @@ pub fn deliver_translation<O: Sink, N: Sink>(
     Status::Done
 }
 
-// Writes the lines of the counts, and a last line.
-fn write_counts<N: Sink>(note: &mut N, counts: &Counts, last: &[u8]) -> Result<(), Failed>
+/// Writes the lines of the counts, and a last line. It takes no memory.
+pub fn write_counts<N: Sink>(note: &mut N, counts: &Counts, last: &[u8]) -> Result<(), Failed>
     ensures ok { OnOk result (Gains (N.got note.old) (five_lines (counts_in counts.now) ++ last.now) (N.got note.new)) }
     ensures err { OnErr result (GainsFront (N.got note.old) (five_lines (counts_in counts.now) ++ last.now) (N.got note.new)) }
     ensures cause { HasCause (N.faults note.old) (N.faults note.new) result }

@@ -3,7 +3,7 @@
 //! [`translate`] is the call of these words. Its contract is that of the program for them, in the words of `bridge_spec`: it answers
 //! Done exactly where the stack machine accepts the articles, one after another, and then standard output has the one text of the
 //! module of the run, with its bounds, and standard error the counts. [`translation_of`] is the part before anything is written, and
-//! [`deliver_translation`] writes: `verify` checks the module in between.
+//! [`deliver_translation`] writes: `verify` checks the module in between. [`write_counts`] writes the counts alone, for `trial`.
 //!
 //! It stands on `bridge_reading` for the run, on `translate_rule` for the module, on `lp_weight` for the bounds and on `dk_write` for
 //! the text, which is never held whole.
@@ -18,7 +18,7 @@ mod delivery;
 mod program;
 mod translation;
 
-pub use crate::delivery::deliver_translation;
+pub use crate::delivery::{deliver_translation, write_counts};
 pub use crate::program::translate;
 pub use crate::translation::{Counts, Translation, translation_of};
 pub use bridge_spec::Status;

@@ -1,4 +1,4 @@
-//! Tests of the commands `translate` and `verify` under `bridge`, over shelves and sinks in memory: the whole modules and the counts of
+//! Tests of the commands `translate`, `verify` and `trial` under `bridge`, over shelves and sinks in memory: the whole modules and the counts of
 //! articles of a few commands, of several articles in a run, the line and the kind of a refused one, and faults of the outside.
 #![tactic(auto)]
 
@@ -16,3 +16,5 @@ mod refusals;
 mod runs;
 #[cfg(test)]
 mod stating;
+#[cfg(test)]
+mod trials;

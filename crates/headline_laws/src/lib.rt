@@ -5,6 +5,7 @@
 //! | File | Laws of |
 //! |---|---|
 //! | `PlainNames` | the names that a run's module declares are identifiers, unlike key words and binders |
+//! | `TrialBytes` | the text of a generated article is of bytes, as the headline asks of articles |
 //! | `Headlines` | the module's text reads as it alone; it is well typed and stands for its run, each check ends within its bound, and the exports derive |
 #![tactic(auto)]
 

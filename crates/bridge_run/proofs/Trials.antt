@@ -1,0 +1,117 @@
+-- A trial that words ask for has a number of blocks from 1 to the most.
+use Rattle.std.proofs.Common.{◌≡◌, ◌<◌, ◌≤◌, ◌+◌, ◌*◌, ◌-◌, ◌&&◌, ℕ, Bool, true, false, List, [], ◌∷◌, Option, None, Some, option_map, refl, sym, subst, arith}
+use Rattle.std.specs.Prelude.{◌==◌, nat_le, if◌then◌else◌, codes, String}
+use Rattle.std.specs.List.{fold, list_all}
+use Rattle.std.specs.Str.{bytes_eq}
+use Rattle.std.specs.declared.alloc.Global.{Global}
+use Rattle.std.proofs.lemmas.Bool.Decides.{nat_tests}
+use Rattle.article_spec.specs.Numbers.{is_digit, decimal}
+use Rattle.bridge_spec.specs.Calls.{form_in, names_in}
+use Rattle.bridge_spec.specs.Forms.{Form, verify, translate, check, show, decode, trial, greatest_trial, is_file, are_files, up_to, number_up_to, trial_of, check_with, check_form, named_budget, budget_after, default_budget, decode_form, trial_form, form_by, form_of}
+
+-- what is asked of a number that a word says
+abbrev IsNumber : ℕ → Option ℕ → Type 0
+IsNumber most None = Unit {0}
+IsNumber most (Some n) = (0 < n) × (n ≤ most)
+
+-- more digits make no number less
+digits-grow : (bs : List ℕ) (value : ℕ) → value ≤ fold (λ value digit. 10 * value + (digit - 48)) value bs
+digits-grow [] value = omega arith
+digits-grow (b ∷ bs) value = let more = digits-grow bs (10 * value + (b - 48)) in omega (arith, more)
+
+up_to-IsNumber : (most n : ℕ) → 0 < n → IsNumber most (up_to most (Some n))
+up_to-IsNumber most n some = go (nat_le n most) refl
+  where
+    go : (b : Bool) → nat_le n most ≡ b → IsNumber most (if b then Some n else None)
+    go true e = (some, grind (arith, nat_tests, e))
+    go false e = tt
+
+number_up_to-IsNumber : (most : ℕ) (word : List ℕ) → IsNumber most (number_up_to most word)
+number_up_to-IsNumber most [] = tt
+number_up_to-IsNumber most (b ∷ bs) = go (b == 48) refl (is_digit b) refl (list_all is_digit bs)
+  where
+    go : (zero : Bool) → (b == 48) ≡ zero → (digit : Bool) → is_digit b ≡ digit → (digits : Bool)
+        → IsNumber most (if zero then None else up_to most (if digit && digits then Some (decimal (b ∷ bs)) else None))
+    go true z digit e digits = tt
+    go false z true e true =
+        let first : 0 < b - 48 = grind (arith, nat_tests, z, e) in
+        let more = digits-grow bs (10 * 0 + (b - 48)) in
+        up_to-IsNumber most (decimal (b ∷ bs)) (omega (arith, first, more))
+    go false z true e false = tt
+    go false z false e digits = tt
+
+-- what is asked of a form
+abbrev HasBlocks : Option Form → Type 0
+HasBlocks None = Unit {0}
+HasBlocks (Some (verify names)) = Unit {0}
+HasBlocks (Some (translate names)) = Unit {0}
+HasBlocks (Some (check name budget)) = Unit {0}
+HasBlocks (Some (show names)) = Unit {0}
+HasBlocks (Some (decode name)) = Unit {0}
+HasBlocks (Some (trial n)) = (0 < n) × (n ≤ greatest_trial)
+
+check_with-HasBlocks : (name : List ℕ) (budget : Option ℕ) → HasBlocks (check_with name budget)
+check_with-HasBlocks name None = tt
+check_with-HasBlocks name (Some budget) = go (is_file name)
+  where
+    go : (b : Bool) → HasBlocks (if b then Some (check name budget) else None)
+    go true = tt
+    go false = tt
+
+check_form-HasBlocks : (words : List (List ℕ)) → HasBlocks (check_form words)
+check_form-HasBlocks [] = tt
+check_form-HasBlocks (name ∷ []) = check_with-HasBlocks name (Some default_budget)
+check_form-HasBlocks (one ∷ two ∷ []) = go (is_file one)
+  where
+    go : (b : Bool) → HasBlocks (if b then check_with one (named_budget two) else check_with two (named_budget one))
+    go true = check_with-HasBlocks one (named_budget two)
+    go false = check_with-HasBlocks two (named_budget one)
+check_form-HasBlocks (one ∷ two ∷ three ∷ []) = go (is_file one)
+  where
+    go : (b : Bool) → HasBlocks (if b then check_with one (budget_after two three) else check_with three (budget_after one two))
+    go true = check_with-HasBlocks one (budget_after two three)
+    go false = check_with-HasBlocks three (budget_after one two)
+check_form-HasBlocks (one ∷ two ∷ three ∷ four ∷ words) = tt
+
+decode_form-HasBlocks : (words : List (List ℕ)) → HasBlocks (decode_form words)
+decode_form-HasBlocks [] = tt
+decode_form-HasBlocks (name ∷ []) = go (is_file name)
+  where
+    go : (b : Bool) → HasBlocks (if b then Some (decode name) else None)
+    go true = tt
+    go false = tt
+decode_form-HasBlocks (one ∷ two ∷ words) = tt
+
+trial_form-HasBlocks : (words : List (List ℕ)) → HasBlocks (trial_form words)
+trial_form-HasBlocks [] = tt
+trial_form-HasBlocks (word ∷ []) = go (trial_of word) (number_up_to-IsNumber greatest_trial word)
+  where
+    go : (o : Option ℕ) → IsNumber greatest_trial o → HasBlocks (option_map trial o)
+    go None h = tt
+    go (Some n) h = h
+trial_form-HasBlocks (one ∷ two ∷ words) = tt
+
+form_by-HasBlocks : (word : List ℕ) (words : List (List ℕ)) → HasBlocks (form_by word words)
+form_by-HasBlocks word words = go (bytes_eq word (codes "verify")) (bytes_eq word (codes "translate")) (bytes_eq word (codes "check")) (bytes_eq word (codes "show")) (bytes_eq word (codes "decode")) (bytes_eq word (codes "trial")) (are_files words)
+  where
+    go : (v t c s d r files : Bool)
+        → HasBlocks (if v then (if files then Some (verify words) else None) else if t then (if files then Some (translate words) else None) else if c then check_form words else if s then (if files then Some (show words) else None) else if d then decode_form words else if r then trial_form words else None)
+    go true t c s d r true = tt
+    go true t c s d r false = tt
+    go false true c s d r true = tt
+    go false true c s d r false = tt
+    go false false true s d r files = check_form-HasBlocks words
+    go false false false true d r true = tt
+    go false false false true d r false = tt
+    go false false false false true r files = decode_form-HasBlocks words
+    go false false false false false true files = trial_form-HasBlocks words
+    go false false false false false false files = tt
+
+form_of-HasBlocks : (words : List (List ℕ)) → HasBlocks (form_of words)
+form_of-HasBlocks [] = tt
+form_of-HasBlocks (program ∷ []) = tt
+form_of-HasBlocks (program ∷ word ∷ words) = form_by-HasBlocks word words
+
+-- the number of blocks of a trial that words ask for
+pub asked-blocks : (words : List (String Global)) (n : ℕ) → Some (trial n) ≡ form_in words → (0 < n) × (n ≤ greatest_trial)
+asked-blocks words n e = subst HasBlocks (sym e) (form_of-HasBlocks (names_in words))
