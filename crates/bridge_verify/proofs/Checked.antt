@@ -8,6 +8,8 @@ use Rattle.lp_spec.specs.Reading.{Reads}
 use Rattle.lp_spec.specs.Text.{written}
 use Rattle.lp_spec.specs.Weight.{bound}
 use Rattle.lp_kernel.specs.Checks.{PassWithin}
+use Rattle.lp_kernel.specs.declared.checks.Verdict.{Verdict}
+use Rattle.lp_kernel.specs.declared.checks.Verdict.TheVariants as verdict
 use Rattle.holide_sig.specs.declared.module.Module.{Module}
 use Rattle.holide_sig.specs.Modules.{declaration_in, declarations_of}
 use Rattle.module_spec.specs.Image.{image}
@@ -33,6 +35,13 @@ image-PassWithin run h k l =
         within = e.within;
       },
     )
+
+-- two verdicts are not the third
+pub IllTyped-Accepted : (v : Verdict) (i : ℕ) → v ≡ verdict.IllTyped i → v ≡ verdict.Accepted → ⊥
+IllTyped-Accepted v i e f = absurd (cc)
+
+pub OverBudget-Accepted : (v : Verdict) (i : ℕ) → v ≡ verdict.OverBudget i → v ≡ verdict.Accepted → ⊥
+OverBudget-Accepted v i e f = absurd (cc)
 
 module _ (articles : ℕ) (run : Accepted) (t : Translation) (h : IsTranslationOf articles run t) (good : Headline run) where
   -- the text that was gathered reads as the run's module

@@ -1,11 +1,13 @@
 //! A module read back from its text, and checked.
-ghost use Rattle.std.specs.Prelude.{◌≡◌, ℕ, List, length, IfOk, IfErr};
+ghost use Rattle.std.specs.Prelude.{◌≡◌, ◌<◌, ◌++◌, [], ℕ, List, None, length, IfOk, IfErr, OnOk};
+ghost use Rattle.dk_read.specs.Readers.{Feeds, IsFed};
+ghost use Rattle.dk_write.specs.Lines.{line_at, text_before};
 ghost use Rattle.dk_write.specs.Shallow.{AreShallow};
 ghost use Rattle.hol_spec.specs.Proofs.{Accepted};
 ghost use Rattle.lp_spec.specs.Modules.{Declaration};
 ghost use Rattle.lp_spec.specs.ModuleOrder.{IsModule};
 ghost use Rattle.lp_spec.specs.Reading.{Reads};
-ghost use Rattle.lp_spec.specs.Text.{written};
+ghost use Rattle.lp_spec.specs.Text.{prelude, written};
 ghost use Rattle.holide_sig.specs.Modules.{declarations_of, IsHeld};
 ghost use Rattle.bridge_spec.specs.Headline.{Headline};
 ghost use Rattle.bridge_translate.specs.Translations.{IsTranslationOf};
@@ -14,19 +16,18 @@ use bridge_answer::Answer;
 use bridge_base::{MemSink, Memory};
 use bridge_translate::Translation;
 use dk_read::{DkFault, Limit, Reader};
-use dk_write::write;
+use dk_write::{write_decl, write_prelude};
 use holide_sig::Module;
 use lp_kernel::{Verdict, check_module};
 use std::alloc::Global;
 
-// Reads the text of a translation back, and checks the module that it reads as, each declaration within its bound. Only want of memory
-// is answered in place of a yes.
-pub(crate) fn check_back(alloc: Global, translation: &Translation) -> Result<(), Answer>
+/// Reads the text of a translation back, and checks the module that it reads as, each declaration within its bound. Only want of memory
+/// is answered in place of a yes. The text of one declaration is held at a time.
+pub fn check_back(alloc: Global, translation: &Translation) -> Result<(), Answer>
     requires { (articles : ℕ) × (run : Accepted) × IsTranslationOf articles run translation.now × Headline run }
     ensures { IfErr result (λ answer. answer ≡ Answer.Memory) }
 {
-    let text = gathered(alloc, translation)?;
-    let mut back = read_back(alloc, text.contents())?;
+    let mut back = read_back(alloc, translation)?;
     match check_module(alloc, &mut back, &translation.bounds) {
         Ok(Verdict::Accepted) => Ok(()),
         Ok(Verdict::IllTyped(i)) => Err(Answer::IllTyped(i as u64)),
@@ -35,34 +36,94 @@ pub(crate) fn check_back(alloc: Global, translation: &Translation) -> Result<(),
     }
 }
 
-// The text of a translation, in memory.
-fn gathered(alloc: Global, translation: &Translation) -> Result<MemSink, Answer>
+// The module that the text of a translation reads as. Only want of memory is answered in place of it.
+fn read_back(alloc: Global, translation: &Translation) -> Result<Module, Answer>
     requires held { IsHeld translation.now.module }
     requires bounds { length translation.now.bounds.items ≡ length translation.now.module.decls }
     requires shallow { AreShallow translation.now.module.table translation.now.module.decls }
-    ensures text { IfOk result (λ sink. sink.contents ≡ written (declarations_of translation.now.module) translation.now.bounds.items) }
-    ensures memory { IfErr result (λ answer. answer ≡ Answer.Memory) }
-{
-    let mut sink = MemSink::new(Vec::new(alloc), Vec::new(alloc));
-    match write(&translation.module, &translation.bounds, &mut sink) {
-        Ok(()) => Ok(sink),
-        Err(_) => Err(Answer::Memory),
-    }
-}
-
-// The module that a text reads as. Only want of memory is answered in place of it.
-fn read_back(alloc: Global, text: &[u8]) -> Result<Module, Answer>
-    requires { (m : List Declaration) × Reads text.now m }
-    ensures read { IfOk result (λ back. (m : List Declaration) → Reads text.now m → declarations_of back ≡ m) }
+    requires reads { (m : List Declaration) × Reads (written (declarations_of translation.now.module) translation.now.bounds.items) m }
+    ensures read { IfOk result (λ back. (m : List Declaration) → Reads (written (declarations_of translation.now.module) translation.now.bounds.items) m → declarations_of back ≡ m) }
     ensures held { IfOk result IsHeld }
     ensures is_module { IfOk result (λ back. IsModule (declarations_of back)) }
     ensures memory { IfErr result (λ answer. answer ≡ Answer.Memory) }
 {
     let mut reader = Reader::new(alloc, Limit::Free);
-    let _ = reader.feed(text);
+    let mut text = MemSink::new(Vec::new(alloc), Vec::new(alloc));
+    prelude_into(&mut text)?;
+    hand(&mut text, &mut reader)?;
+    for i in 0..translation.bounds.len() {
+        line_into(translation, i, &mut text)?;
+        hand(&mut text, &mut reader)?;
+    }
+    ended(reader)
+}
+
+// Gathers the prelude.
+fn prelude_into(text: &mut MemSink) -> Result<(), Answer>
+    requires empty { text.old.contents ≡ [] }
+    ensures text { OnOk result (text.new.contents ≡ prelude) }
+    ensures memory { IfErr result (λ answer. answer ≡ Answer.Memory) }
+{
+    match write_prelude(text) {
+        Ok(()) => Ok(()),
+        Err(_) => Err(Answer::Memory),
+    }
+}
+
+// Gathers what a declaration adds to the text of a translation.
+fn line_into(translation: &Translation, i: usize, text: &mut MemSink) -> Result<(), Answer>
+    requires held { IsHeld translation.now.module }
+    requires bounds { length translation.now.bounds.items ≡ length translation.now.module.decls }
+    requires shallow { AreShallow translation.now.module.table translation.now.module.decls }
+    requires declared { i < length translation.now.bounds.items }
+    requires empty { text.old.contents ≡ [] }
+    ensures text { OnOk result (text.new.contents ≡ line_at (declarations_of translation.now.module) translation.now.bounds.items i) }
+    ensures memory { IfErr result (λ answer. answer ≡ Answer.Memory) }
+{
+    match write_decl(&translation.module, &translation.bounds, i, text) {
+        Ok(()) => Ok(()),
+        Err(_) => Err(Answer::Memory),
+    }
+}
+
+// Lets the reader read on in a text that reads as a module, and gives up what was gathered of it. Only want of memory is answered.
+fn hand(text: &mut MemSink, reader: &mut Reader) -> Result<(), Answer>
+    requires free { reader.old.limit ≡ None }
+    requires reads { (before rest : List ℕ) × (m : List Declaration) × IsFed reader.old before × Reads ((before ++ text.old.contents) ++ rest) m }
+    ensures feeds { Feeds reader.old text.old.contents reader.new }
+    ensures limit { reader.new.limit ≡ reader.old.limit }
+    ensures empty { text.new.contents ≡ [] }
+    ensures memory { IfErr result (λ answer. answer ≡ Answer.Memory) }
+{
+    let fed = reader.feed(text.contents());
+    text.clear();
+    match fed {
+        Ok(()) => Ok(()),
+        Err(fault) => Err(answer_of(fault)),
+    }
+}
+
+// The module that was read, at the end of a text that reads as one. Only want of memory is answered in place of it.
+fn ended(reader: Reader) -> Result<Module, Answer>
+    requires free { reader.limit ≡ None }
+    requires reads { (text : List ℕ) × (m : List Declaration) × IsFed reader text × Reads text m }
+    ensures read { IfOk result (λ back. (text : List ℕ) (m : List Declaration) → IsFed reader text → Reads text m → declarations_of back ≡ m) }
+    ensures held { IfOk result IsHeld }
+    ensures is_module { IfOk result (λ back. IsModule (declarations_of back)) }
+    ensures memory { IfErr result (λ answer. answer ≡ Answer.Memory) }
+{
     match reader.finish() {
         Ok(back) => Ok(back),
-        Err(DkFault::Refused { place, kind }) => Err(Answer::DkRefused(place, kind)),
-        Err(DkFault::Memory) => Err(Answer::Memory),
+        Err(fault) => Err(answer_of(fault)),
+    }
+}
+
+// What is answered for a fault of the reader.
+fn answer_of(fault: DkFault) -> Answer
+    ensures { (fault ≡ DkFault.Memory) → result ≡ Answer.Memory }
+{
+    match fault {
+        DkFault::Refused { place, kind } => Answer::DkRefused(place, kind),
+        DkFault::Memory => Answer::Memory,
     }
 }

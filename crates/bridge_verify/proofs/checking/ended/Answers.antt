@@ -1,0 +1,11 @@
+use Rattle.std.proofs.Common.{sym}
+use Rattle.bridge_verify.proofs.Handed.{IsWithin-None}
+use Rattle.bridge_verify.proofs.checking.ended.Goals as goal
+
+pub returns-in-Ok-clause-read : goal.returns-in-Ok-clause-read
+returns-in-Ok-clause-read c text m fed reads = sym ((c.in-Ok.ensures.reads text fed).only m reads)
+
+pub returns-in-Err-clause-memory : goal.returns-in-Err-clause-memory
+returns-in-Err-clause-memory c =
+    let text = c.requires.reads.0 in
+    c.answer_of.ensures (c.in-Err.ensures.accepts text c.requires.reads.1 c.requires.reads.2 (IsWithin-None c.args.reader.limit text c.requires.free) c.requires.reads.3)
