@@ -102,8 +102,8 @@ fn first_other(alloc: Global, words: &[&str]) -> Result<Option<u64>, AllocError>
 fn output_that_fails_while_translated(rt: HostRuntime) -> Result<(), Fail> {
     assert_eq!(rt;
         calls_for(rt.alloc(), TRANSLATE)?,
-        4,
-        "a call for each declaration"
+        5,
+        "a call for the prelude, and one for each declaration"
     );
     assert_eq!(rt; first_other(rt.alloc(), TRANSLATE)?, None);
     Ok(())
@@ -111,7 +111,7 @@ fn output_that_fails_while_translated(rt: HostRuntime) -> Result<(), Fail> {
 
 #[test]
 fn output_that_fails_while_verified(rt: HostRuntime) -> Result<(), Fail> {
-    assert_eq!(rt; calls_for(rt.alloc(), VERIFY)?, 4);
+    assert_eq!(rt; calls_for(rt.alloc(), VERIFY)?, 5);
     assert_eq!(rt; first_other(rt.alloc(), VERIFY)?, None);
     Ok(())
 }
