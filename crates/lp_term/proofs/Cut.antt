@@ -4,7 +4,8 @@ use Rattle.std.specs.Prelude.{slice_get, take, drop}
 use Rattle.std.proofs.lemmas.List.{append-nil, length-take-le, take-append-drop}
 use Rattle.std.proofs.Math.Seq.{take-append_seam}
 use Rattle.lp_spec.specs.Trees.{Tree}
-use Rattle.lp_term.specs.declared.Entry.{Entry}
+use Rattle.lp_term.specs.declared.entry.Entry.{Entry}
+use Rattle.lp_term.specs.Shapes.{node_of}
 use Rattle.lp_term.specs.Tables.{Holds, tree_of_node}
 use Rattle.lp_binding.specs.LookUps.{slice_get-append}
 use Rattle.lp_term.specs.Entries.{trees_from, trees_of, IsTable}
@@ -12,11 +13,11 @@ use Rattle.lp_term.proofs.EntryLaws.{length-trees_of, Stays-trees_from}
 
 trees_from-two : (ts : List Tree) (a b : List Entry) → trees_from ts (a ++ b) ≡ trees_from (trees_from ts a) b
 trees_from-two ts [] b = refl
-trees_from-two ts (n ∷ a) b = trees_from-two (ts ++ tree_of_node ts n.node ∷ []) a b
+trees_from-two ts (n ∷ a) b = trees_from-two (ts ++ tree_of_node ts (node_of n.shape) ∷ []) a b
 
 goes_on : (ts : List Tree) (es : List Entry) → (l : List Tree) × (ts ++ l ≡ trees_from ts es)
 goes_on ts [] = ([], append-nil ts)
-goes_on ts (n ∷ es) = let h = goes_on (ts ++ tree_of_node ts n.node ∷ []) es in (tree_of_node ts n.node ∷ h.0, sym (append_assoc ts (tree_of_node ts n.node ∷ []) h.0) ∙ h.1)
+goes_on ts (n ∷ es) = let h = goes_on (ts ++ tree_of_node ts (node_of n.shape) ∷ []) es in (tree_of_node ts (node_of n.shape) ∷ h.0, sym (append_assoc ts (tree_of_node ts (node_of n.shape) ∷ []) h.0) ∙ h.1)
 
 split : (n : ℕ) (es : List Entry) → trees_of es ≡ trees_from (trees_of (take n es)) (drop n es)
 split n es = ap trees_of (sym (take-append-drop n es)) ∙ trees_from-two [] (take n es) (drop n es)

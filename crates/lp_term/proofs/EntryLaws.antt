@@ -7,27 +7,31 @@ use Rattle.lp_spec.specs.Trees.{Tree, SortType, App, Lam, Pi}
 use Rattle.lp_term.specs.declared.LpId.{LpId}
 use Rattle.lp_term.specs.declared.LpNode.{LpNode}
 use Rattle.lp_term.specs.declared.LpNode.TheVariants as node
-use Rattle.lp_term.specs.declared.Entry.{Entry}
-use Rattle.lp_term.specs.contracts.EntryPartialEq.TheImpl as entry_eq
-use Rattle.lp_term.specs.contracts.LpNodePartialEq.TheImpl as node_eq
+use Rattle.lp_term.specs.declared.entry.Shape.{Shape}
+use Rattle.lp_term.specs.declared.entry.Shape.TheVariants as shape
+use Rattle.lp_term.specs.declared.entry.Entry.{Entry}
+use Rattle.lp_term.specs.Shapes.{node_of}
+use Rattle.lp_term.specs.ShapeLaws.{same_shape}
+use Rattle.lp_term.specs.contracts.entry.EntryPartialEq.TheImpl as entry_eq
+use Rattle.lp_term.specs.contracts.entry.ShapePartialEq.TheImpl as shape_eq
 use Rattle.lp_term.specs.Tables.{tree_at, Holds, tree_of_node, PartsBelow, IsDistinct, Stays}
 use Rattle.lp_term.specs.TableLaws.{tree_at-Holds, Stays-refl, Stays-trans, Stays-append, tree_of_node-Stays}
 use Rattle.lp_term.specs.Entries.{trees_from, trees_of}
 
-pub trees_from-append : (ts : List Tree) (es : List Entry) (e : Entry) → trees_from ts (es ++ e ∷ []) ≡ trees_from ts es ++ tree_of_node (trees_from ts es) e.node ∷ []
+pub trees_from-append : (ts : List Tree) (es : List Entry) (e : Entry) → trees_from ts (es ++ e ∷ []) ≡ trees_from ts es ++ tree_of_node (trees_from ts es) (node_of e.shape) ∷ []
 trees_from-append ts [] e = refl
-trees_from-append ts (m ∷ es) e = trees_from-append (ts ++ tree_of_node ts m.node ∷ []) es e
+trees_from-append ts (m ∷ es) e = trees_from-append (ts ++ tree_of_node ts (node_of m.shape) ∷ []) es e
 
 pub length-trees_from : (ts : List Tree) (es : List Entry) → length (trees_from ts es) ≡ length ts + length es
 length-trees_from ts [] = omega arith
-length-trees_from ts (e ∷ es) = omega (arith, length-trees_from (ts ++ tree_of_node ts e.node ∷ []) es, length-append ts (tree_of_node ts e.node ∷ []))
+length-trees_from ts (e ∷ es) = omega (arith, length-trees_from (ts ++ tree_of_node ts (node_of e.shape) ∷ []) es, length-append ts (tree_of_node ts (node_of e.shape) ∷ []))
 
 pub length-trees_of : (es : List Entry) → length (trees_of es) ≡ length es
 length-trees_of es = omega (arith, length-trees_from [] es)
 
 pub Stays-trees_from : (ts : List Tree) (es : List Entry) → Stays ts (trees_from ts es)
 Stays-trees_from ts [] = Stays-refl ts
-Stays-trees_from ts (e ∷ es) = Stays-trans (Stays-append ts (tree_of_node ts e.node ∷ [])) (Stays-trees_from (ts ++ tree_of_node ts e.node ∷ []) es)
+Stays-trees_from ts (e ∷ es) = Stays-trans (Stays-append ts (tree_of_node ts (node_of e.shape) ∷ [])) (Stays-trees_from (ts ++ tree_of_node ts (node_of e.shape) ∷ []) es)
 
 pub slice_get-last : {X : Type 0} (xs : List X) (x : X) → slice_get (xs ++ x ∷ []) (length xs) ≡ Some x
 slice_get-last [] x = refl
@@ -41,55 +45,68 @@ slice_get-one_more (z ∷ xs) x y zero e = inl e
 slice_get-one_more (z ∷ xs) x y (suc i) e = ⊎_elim (λ h. inl h) (λ h. inr (ap suc h.0, h.1)) (slice_get-one_more xs x y i e)
 
 -- the tree of each entry is that of its parts among all trees
-node_from : (ts : List Tree) (es : List Entry) (j : ℕ) (m : Entry) → slice_get es j ≡ Some m → PartsBelow (length ts + j) m.node → slice_get (trees_from ts es) (length ts + j) ≡ Some (tree_of_node (trees_from ts es) m.node)
+node_from : (ts : List Tree) (es : List Entry) (j : ℕ) (m : Entry) → slice_get es j ≡ Some m → PartsBelow (length ts + j) (node_of m.shape) → slice_get (trees_from ts es) (length ts + j) ≡ Some (tree_of_node (trees_from ts es) (node_of m.shape))
 node_from ts [] j m e h = absurd (let h = slice_get_within [] j m e in omega arith)
 node_from ts (n ∷ es) zero m e h =
     let z : length ts + 0 ≡ length ts = omega arith in
     let same : n ≡ m = same_Some _ _ e in
-    let us = ts ++ tree_of_node ts n.node ∷ [] in
-    let hn = subst (λ w. PartsBelow w n.node) z (subst (λ w. PartsBelow (length ts + 0) w.node) (sym same) h) in
+    let us = ts ++ tree_of_node ts (node_of n.shape) ∷ [] in
+    let hn = subst (λ w. PartsBelow w (node_of n.shape)) z (subst (λ w. PartsBelow (length ts + 0) (node_of w.shape)) (sym same) h) in
     ap (slice_get (trees_from ts (n ∷ es))) z
-    ∙ (Stays-trees_from us es).each (length ts) (tree_of_node ts n.node) (slice_get-last ts (tree_of_node ts n.node))
-    ∙ ap Some (tree_of_node-Stays (Stays-trees_from ts (n ∷ es)) n.node hn)
-    ∙ ap (λ w. Some (tree_of_node (trees_from ts (n ∷ es)) w.node)) same
+    ∙ (Stays-trees_from us es).each (length ts) (tree_of_node ts (node_of n.shape)) (slice_get-last ts (tree_of_node ts (node_of n.shape)))
+    ∙ ap Some (tree_of_node-Stays (Stays-trees_from ts (n ∷ es)) (node_of n.shape) hn)
+    ∙ ap (λ w. Some (tree_of_node (trees_from ts (n ∷ es)) (node_of w.shape))) same
 node_from ts (n ∷ es) (suc j) m e h =
-    let us = ts ++ tree_of_node ts n.node ∷ [] in
-    let z : length us + j ≡ length ts + suc j = omega (arith, length-append ts (tree_of_node ts n.node ∷ [])) in
-    subst (λ w. slice_get (trees_from us es) w ≡ Some (tree_of_node (trees_from us es) m.node)) z (node_from us es j m e (subst (λ w. PartsBelow w m.node) (sym z) h))
+    let us = ts ++ tree_of_node ts (node_of n.shape) ∷ [] in
+    let z : length us + j ≡ length ts + suc j = omega (arith, length-append ts (tree_of_node ts (node_of n.shape) ∷ [])) in
+    subst (λ w. slice_get (trees_from us es) w ≡ Some (tree_of_node (trees_from us es) (node_of m.shape))) z (node_from us es j m e (subst (λ w. PartsBelow w (node_of m.shape)) (sym z) h))
 
 -- the tree of each entry of a table
-pub trees_of-Holds : (es : List Entry) (i : ℕ) (e : Entry) → PartsBelow i e.node → slice_get es i ≡ Some e → Holds (trees_of es) i (tree_of_node (trees_of es) e.node)
+pub trees_of-Holds : (es : List Entry) (i : ℕ) (e : Entry) → PartsBelow i (node_of e.shape) → slice_get es i ≡ Some e → Holds (trees_of es) i (tree_of_node (trees_of es) (node_of e.shape))
 trees_of-Holds es i e low at =
-    let r = node_from [] es i e at (subst (λ w. PartsBelow w e.node) (let z : i ≡ 0 + i = omega arith in z) low) in
-    subst (λ w. slice_get (trees_of es) w ≡ Some (tree_of_node (trees_of es) e.node)) (let z : 0 + i ≡ i = omega arith in z) r
+    let r = node_from [] es i e at (subst (λ w. PartsBelow w (node_of e.shape)) (let z : i ≡ 0 + i = omega arith in z) low) in
+    subst (λ w. slice_get (trees_of es) w ≡ Some (tree_of_node (trees_of es) (node_of e.shape))) (let z : 0 + i ≡ i = omega arith in z) r
 
--- nodes that are equal by their test are one
-pub node_eq-true : (x y : LpNode) → node_eq.eq-value.it x y ≡ true → x ≡ y
-node_eq-true node.SortType node.SortType h = refl
-node_eq-true node.SortKind node.SortKind h = refl
-node_eq-true (node.Var n) (node.Var m) h = grind arith
-node_eq-true (node.Sym n) (node.Sym m) h = grind arith
-node_eq-true (node.App f x) (node.App g y) h = grind arith
-node_eq-true (node.Lam f x) (node.Lam g y) h = grind arith
-node_eq-true (node.Pi f x) (node.Pi g y) h = grind arith
-node_eq-true _ _ h = absurd (cc)
+-- a shape is equal to itself by the test
+shape_eq-refl : (s : Shape) → shape_eq.eq-value.it s s ≡ true
+shape_eq-refl shape.SortType = refl
+shape_eq-refl shape.SortKind = refl
+shape_eq-refl (shape.Var n) = grind arith
+shape_eq-refl (shape.Sym n) = grind arith
+shape_eq-refl (shape.App f x) = grind arith
+shape_eq-refl (shape.Lam f x) = grind arith
+shape_eq-refl (shape.Pi f x) = grind arith
 
-pub node_eq-refl : (n : LpNode) → node_eq.eq-value.it n n ≡ true
-node_eq-refl node.SortType = refl
-node_eq-refl node.SortKind = refl
-node_eq-refl (node.Var n) = grind arith
-node_eq-refl (node.Sym n) = grind arith
-node_eq-refl (node.App f x) = grind arith
-node_eq-refl (node.Lam f x) = grind arith
-node_eq-refl (node.Pi f x) = grind arith
+-- a shape is known by its node
+shape_of : LpNode → Shape
+shape_of node.SortType = shape.SortType
+shape_of node.SortKind = shape.SortKind
+shape_of (node.Var n) = shape.Var n
+shape_of (node.Sym n) = shape.Sym n
+shape_of (node.App f x) = shape.App f.0 x.0
+shape_of (node.Lam a b) = shape.Lam a.0 b.0
+shape_of (node.Pi a b) = shape.Pi a.0 b.0
 
--- entries that are equal by their test have one node
-pub entry_eq-true : (x y : Entry) → entry_eq.eq-value.it x y ≡ true → x.node ≡ y.node
-entry_eq-true x y h = node_eq-true x.node y.node h
+shape_of-node_of : (s : Shape) → shape_of (node_of s) ≡ s
+unfolding shape_of
+shape_of-node_of shape.SortType = refl
+shape_of-node_of shape.SortKind = refl
+shape_of-node_of (shape.Var n) = refl
+shape_of-node_of (shape.Sym n) = refl
+shape_of-node_of (shape.App f x) = refl
+shape_of-node_of (shape.Lam a b) = refl
+shape_of-node_of (shape.Pi a b) = refl
 
--- entries with one node are equal by their test
-pub entry_eq-same : (x y : Entry) → x.node ≡ y.node → entry_eq.eq-value.it x y ≡ true
-entry_eq-same x y e = subst (λ n. node_eq.eq-value.it x.node n ≡ true) e (node_eq-refl x.node)
+pub node_of-same : (x y : Shape) → node_of x ≡ node_of y → x ≡ y
+node_of-same x y e = sym (shape_of-node_of x) ∙ ap shape_of e ∙ shape_of-node_of y
+
+-- entries that are equal by their test have one shape
+pub entry_eq-true : (x y : Entry) → entry_eq.eq-value.it x y ≡ true → x.shape ≡ y.shape
+entry_eq-true x y h = same_shape x.shape y.shape h
+
+-- entries with one shape are equal by their test
+pub entry_eq-same : (x y : Entry) → x.shape ≡ y.shape → entry_eq.eq-value.it x y ≡ true
+entry_eq-same x y e = subst (λ s. shape_eq.eq-value.it x.shape s ≡ true) e (shape_eq-refl x.shape)
 
 -- a node is known by its tree
 left_of : Tree → Tree

@@ -6,33 +6,34 @@ use Rattle.std.proofs.lemmas.Option.{slice_get_within, slice_get-get_or, same_So
 use Rattle.std.proofs.Math.Path.{subst₂}
 use Rattle.indexmap.specs.IndexSet.{insert_key}
 use Rattle.lp_spec.specs.Trees.{Tree}
-use Rattle.lp_term.specs.declared.Entry.{Entry}
-use Rattle.lp_term.specs.contracts.EntryPartialEq.TheImpl as entry_eq
+use Rattle.lp_term.specs.declared.entry.Entry.{Entry}
+use Rattle.lp_term.specs.Shapes.{node_of}
+use Rattle.lp_term.specs.contracts.entry.EntryPartialEq.TheImpl as entry_eq
 use Rattle.lp_term.specs.Tables.{Holds, tree_of_node, PartsBelow, Keeps, Adds}
 use Rattle.lp_term.specs.TableLaws.{Holds-within, Adds-Keeps, tree_of_node-Stays, PartsBelow-more}
 use Rattle.lp_term.specs.Measured.{IsMeasured}
 use Rattle.lp_term.specs.Entries.{trees_of, IsTable}
-use Rattle.lp_term.proofs.EntryLaws.{trees_from-append, length-trees_of, slice_get-one_more, trees_of-Holds, entry_eq-true, entry_eq-same, tree_of_node-same}
+use Rattle.lp_term.proofs.EntryLaws.{trees_from-append, length-trees_of, slice_get-one_more, trees_of-Holds, entry_eq-true, entry_eq-same, node_of-same, tree_of_node-same}
 
 -- an entry whose node the table lacks
-module _ (es : List Entry) (e : Entry) (t : IsTable es) (p : PartsBelow (length (trees_of es)) e.node) (m : IsMeasured e (tree_of_node (trees_of es) e.node)) (absent : (j : ℕ) (o : Entry) → slice_get es j ≡ Some o → o.node ≡ e.node → ⊥) where
-  low : (i : ℕ) (o : Entry) → slice_get (es ++ e ∷ []) i ≡ Some o → PartsBelow i o.node
-  low i o at = ⊎_elim (λ h. t.lower i o h) (λ h. subst₂ (λ n w. PartsBelow n w.node) (length-trees_of es ∙ sym h.0) h.1 p) (slice_get-one_more es e o i at)
+module _ (es : List Entry) (e : Entry) (t : IsTable es) (p : PartsBelow (length (trees_of es)) (node_of e.shape)) (m : IsMeasured e (tree_of_node (trees_of es) (node_of e.shape))) (absent : (j : ℕ) (o : Entry) → slice_get es j ≡ Some o → o.shape ≡ e.shape → ⊥) where
+  low : (i : ℕ) (o : Entry) → slice_get (es ++ e ∷ []) i ≡ Some o → PartsBelow i (node_of o.shape)
+  low i o at = ⊎_elim (λ h. t.lower i o h) (λ h. subst₂ (λ n w. PartsBelow n (node_of w.shape)) (length-trees_of es ∙ sym h.0) h.1 p) (slice_get-one_more es e o i at)
 
-  clash : (i : ℕ) → Holds (trees_of es) i (tree_of_node (trees_of es) e.node) → ⊥
+  clash : (i : ℕ) → Holds (trees_of es) i (tree_of_node (trees_of es) (node_of e.shape)) → ⊥
   clash i held =
-      let lt : i < length es = omega (arith, length-trees_of es, Holds-within (trees_of es) i (tree_of_node (trees_of es) e.node) held) in
+      let lt : i < length es = omega (arith, length-trees_of es, Holds-within (trees_of es) i (tree_of_node (trees_of es) (node_of e.shape)) held) in
       let at = slice_get-get_or es i e lt in
       let o = get_or es i e in
       let below = t.lower i o at in
-      let same = tree_of_node-same t.distinct o.node e.node (PartsBelow-more (omega (arith, length-trees_of es)) o.node below) p (same_Some _ _ (sym (trees_of-Holds es i o below at) ∙ held)) in
+      let same = node_of-same o.shape e.shape (tree_of_node-same t.distinct (node_of o.shape) (node_of e.shape) (PartsBelow-more (omega (arith, length-trees_of es)) (node_of o.shape) below) p (same_Some _ _ (sym (trees_of-Holds es i o below at) ∙ held))) in
       absent i o at same
 
   distinct : (i j : ℕ) (u : Tree) → Holds (trees_of (es ++ e ∷ [])) i u → Holds (trees_of (es ++ e ∷ [])) j u → i ≡ j
   distinct i j u hi hj =
       let g = trees_from-append [] es e in
-      let wi = slice_get-one_more (trees_of es) (tree_of_node (trees_of es) e.node) u i (ap (λ w. slice_get w i) (sym g) ∙ hi) in
-      let wj = slice_get-one_more (trees_of es) (tree_of_node (trees_of es) e.node) u j (ap (λ w. slice_get w j) (sym g) ∙ hj) in
+      let wi = slice_get-one_more (trees_of es) (tree_of_node (trees_of es) (node_of e.shape)) u i (ap (λ w. slice_get w i) (sym g) ∙ hi) in
+      let wj = slice_get-one_more (trees_of es) (tree_of_node (trees_of es) (node_of e.shape)) u j (ap (λ w. slice_get w j) (sym g) ∙ hj) in
       ⊎_elim
       (λ a. ⊎_elim (λ b. t.distinct.each i j u a b) (λ b. absurd (clash i (a ∙ ap Some (sym b.1)))) wj)
       (λ a. ⊎_elim (λ b. absurd (clash j (b ∙ ap Some (sym a.1)))) (λ b. a.0 ∙ sym b.0) wj)
@@ -41,7 +42,7 @@ module _ (es : List Entry) (e : Entry) (t : IsTable es) (p : PartsBelow (length 
   measured : (i : ℕ) (o : Entry) (u : Tree) → slice_get (es ++ e ∷ []) i ≡ Some o → Holds (trees_of (es ++ e ∷ [])) i u → IsMeasured o u
   measured i o u at held =
       let g = trees_from-append [] es e in
-      let w = slice_get-one_more (trees_of es) (tree_of_node (trees_of es) e.node) u i (ap (λ w. slice_get w i) (sym g) ∙ held) in
+      let w = slice_get-one_more (trees_of es) (tree_of_node (trees_of es) (node_of e.shape)) u i (ap (λ w. slice_get w i) (sym g) ∙ held) in
       ⊎_elim
       (λ a. ⊎_elim (λ b. t.measured i o u a b) (λ b. absurd (let h = slice_get_within es i o a in omega (arith, h, b.0, length-trees_of es))) w)
       (λ a. ⊎_elim (λ b. absurd (let h = Holds-within (trees_of es) i u b in omega (arith, h, a.0, length-trees_of es))) (λ b. subst₂ IsMeasured a.1 b.1 m) w)
@@ -62,27 +63,27 @@ any_at p (y ∷ ys) (suc j) x e h = go (p y) (any_at p ys j x e h)
 -- a set's insertion
 pub record Inserted (es new : List Entry) (e : Entry) : Type 0 where
   pub table : IsTable new
-  pub adds : Adds (trees_of es) (trees_of new) (tree_of_node (trees_of es) e.node)
+  pub adds : Adds (trees_of es) (trees_of new) (tree_of_node (trees_of es) (node_of e.shape))
 
 pub unchanged : (es new : List Entry) (e : Entry) → IsTable es → new ≡ es → Inserted es new e
 unchanged es new e t same = subst (λ w. Inserted es w e) (sym same) (record { table = t; adds = inl refl })
 
-pub inserted : (es new : List Entry) (e : Entry) → IsTable es → PartsBelow (length (trees_of es)) e.node → IsMeasured e (tree_of_node (trees_of es) e.node) → new ≡ insert_key entry_eq.eq-value.it es e → Inserted es new e
+pub inserted : (es new : List Entry) (e : Entry) → IsTable es → PartsBelow (length (trees_of es)) (node_of e.shape) → IsMeasured e (tree_of_node (trees_of es) (node_of e.shape)) → new ≡ insert_key entry_eq.eq-value.it es e → Inserted es new e
 inserted es new e t p m q = go (list_any (entry_eq.eq-value.it e) es) refl
   where
     go : (b : Bool) → list_any (entry_eq.eq-value.it e) es ≡ b → Inserted es new e
     go true h = unchanged es new e t (q ∙ ap (λ b. if b then es else es ++ e ∷ []) h)
     go false h =
         let n = q ∙ ap (λ b. if b then es else es ++ e ∷ []) h in
-        let absent : (j : ℕ) (o : Entry) → slice_get es j ≡ Some o → o.node ≡ e.node → ⊥ = λ j o at same. let y = any_at (entry_eq.eq-value.it e) es j o at (entry_eq-same e o (sym same)) in let w = sym y ∙ h in cc in
+        let absent : (j : ℕ) (o : Entry) → slice_get es j ≡ Some o → o.shape ≡ e.shape → ⊥ = λ j o at same. let y = any_at (entry_eq.eq-value.it e) es j o at (entry_eq-same e o (sym same)) in let w = sym y ∙ h in cc in
         subst (λ w. Inserted es w e) (sym n) (record { table = grown_table es e t p m absent; adds = inr (trees_from-append [] es e) })
 
 pub inserted_keeps : (es new : List Entry) (e : Entry) → Inserted es new e → Keeps (trees_of es) (trees_of new)
-inserted_keeps es new e ins = Adds-Keeps (trees_of es) (trees_of new) (tree_of_node (trees_of es) e.node) ins.adds ins.table.distinct
+inserted_keeps es new e ins = Adds-Keeps (trees_of es) (trees_of new) (tree_of_node (trees_of es) (node_of e.shape)) ins.adds ins.table.distinct
 
 -- the tree that is stored at the number given
-pub stored_tree : (es new : List Entry) (e k : Entry) (r : ℕ) → Inserted es new e → PartsBelow (length (trees_of es)) e.node → slice_get new r ≡ Some k → entry_eq.eq-value.it e k ≡ true → Holds (trees_of new) r (tree_of_node (trees_of es) e.node)
+pub stored_tree : (es new : List Entry) (e k : Entry) (r : ℕ) → Inserted es new e → PartsBelow (length (trees_of es)) (node_of e.shape) → slice_get new r ≡ Some k → entry_eq.eq-value.it e k ≡ true → Holds (trees_of new) r (tree_of_node (trees_of es) (node_of e.shape))
 stored_tree es new e k r ins p at same =
     trees_of-Holds new r k (ins.table.lower r k at) at
-    ∙ ap (λ w. Some (tree_of_node (trees_of new) w)) (sym (entry_eq-true e k same))
-    ∙ ap Some (sym (tree_of_node-Stays (inserted_keeps es new e ins).stays e.node p))
+    ∙ ap (λ w. Some (tree_of_node (trees_of new) (node_of w))) (sym (entry_eq-true e k same))
+    ∙ ap Some (sym (tree_of_node-Stays (inserted_keeps es new e ins).stays (node_of e.shape) p))

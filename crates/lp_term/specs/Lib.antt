@@ -1,5 +1,7 @@
 pub mod Tables
 pub mod TableLaws
+pub mod Shapes
+pub mod ShapeLaws
 pub mod Measured
 pub mod Entries
 pub mod Noted

@@ -15,14 +15,17 @@ ghost use Rattle.std.specs.Prelude.{◌≡◌, ◌<◌, ◌≤◌, ◌^◌, ◌-
 ghost use Rattle.std.specs.Bool.{OnTrue};
 ghost use Rattle.lp_spec.specs.Trees.{size as size_of, depth as depth_of, loose as loose_of, lift as lift_tree, put as put_tree, put_all as put_all_trees};
 ghost use Rattle.lp_term.specs.Tables.{tree_at, trees_at, tree_of_node, AreKnown, PartsBelow, Holds, Keeps, Adds, IsDistinct};
+ghost use Rattle.lp_term.specs.Shapes.{node_of};
 ghost use Rattle.lp_term.specs.Measured.{IsMeasured};
 
 mod binding;
+mod entry;
 mod memo;
 #[cfg(test)]
 mod tests;
 mod walk;
 
+use crate::entry::{Entry, Shape, under_binder};
 use crate::memo::{Change, Place};
 use bridge_base::Memory;
 use indexmap::IndexSet;
@@ -50,20 +53,6 @@ pub enum LpNode {
     Lam(LpId, LpId),
     /// A product: its variable's type and its body.
     Pi(LpId, LpId),
-}
-
-/// A node with the measures of its tree. Entries are equal where their nodes are.
-#[derive(Clone, Copy)]
-#[derive_where(PartialEq, Eq, Hash)]
-struct Entry {
-    node: LpNode,
-    #[derive_where(skip)]
-    size: u128,
-    #[derive_where(skip)]
-    depth: u64,
-    // How many binders round the tree leave it no loose variable; at the greatest number of the type, unknown.
-    #[derive_where(skip)]
-    loose: u128,
 }
 
 /// A table of trees.
@@ -101,7 +90,8 @@ impl LpTable {
         }
     }
 
-    /// The tree of this node, which has a number already, or else gets the next one.
+    /// The tree of this node, which has a number already, or else gets the next one. A node with a number of 2^32 or
+    /// more is want of memory.
     pub fn node(&mut self, node: LpNode) -> Result<LpId, Memory>
         requires { PartsBelow (length self.old) node }
         ensures known { IfOk result (λ id. id.0 < length self.new) }
@@ -111,7 +101,10 @@ impl LpTable {
         ensures distinct { IsDistinct self.new }
         ensures unchanged { OnErr result (self.new ≡ self.old) }
     {
-        let entry = self.measured(node);
+        // A node that is refused leaves a table in which no tree stands twice: its entries tell.
+        let _ = &self.entries;
+        let shape = Shape::of(node)?;
+        let entry = self.measured(shape);
         match self.entries.insert_full(entry) {
             Ok((index, _)) => Ok(LpId(index)),
             Err(_) => Err(Memory),
@@ -126,7 +119,7 @@ impl LpTable {
         ensures distinct { IsDistinct self.now }
         ensures small { length self.now < 2 ^ 63 }
     {
-        self.entry(id).node
+        self.entry(id).shape.node()
     }
 
     /// How many nodes the tree has, or the greatest number of the type if they are more.
@@ -134,7 +127,7 @@ impl LpTable {
         requires { id.0 < length self.now }
         ensures { result ≡ min (size_of (tree_at self.now id.0)) (2 ^ 128 - 1) }
     {
-        self.entry(id).size
+        self.entry(id).size.count()
     }
 
     /// How many nodes the tree's longest path has, or the greatest number of the type if they are more.
@@ -189,39 +182,41 @@ impl LpTable {
         requires { id.0 < length self.now }
         ensures closed { OnTrue result (depth < 2 ^ 64 → loose_of (tree_at self.now id.0) ≤ depth) }
     {
-        self.entry(id).loose <= depth
+        let loose = self.entry(id).loose;
+        loose < u32::MAX && loose as u128 <= depth
     }
 
     // The entry of a tree.
-    fn entry(&self, id: LpId) -> Entry
+    fn entry(&self, id: LpId) -> &Entry
         requires { id.0 < length self.now }
-        ensures is { Holds self.now id.0 (tree_of_node self.now result.node) }
-        ensures lower { PartsBelow id.0 result.node }
-        ensures measured { IsMeasured result (tree_at self.now id.0) }
+        ensures is { Holds self.now id.0 (tree_of_node self.now (node_of result.now.shape)) }
+        ensures lower { PartsBelow id.0 (node_of result.now.shape) }
+        ensures measured { IsMeasured result.now (tree_at self.now id.0) }
         ensures distinct { IsDistinct self.now }
         ensures small { length self.now < 2 ^ 63 }
     {
         let _count = self.entries.len();
-        let entry = self.entries.get_index(id.0).unwrap();
-        *entry
+        self.entries.get_index(id.0).unwrap()
     }
 
-    // The entry of this node.
-    fn measured(&self, node: LpNode) -> Entry
-        requires { PartsBelow (length self.now) node }
-        ensures node { result.node ≡ node }
-        ensures measured { IsMeasured result (tree_of_node self.now node) }
+    // The entry of the node of this shape.
+    fn measured(&self, shape: Shape) -> Entry
+        requires { PartsBelow (length self.now) (node_of shape) }
+        ensures shape { result.shape ≡ shape }
+        ensures measured { IsMeasured result (tree_of_node self.now (node_of shape)) }
     {
-        match node {
-            LpNode::SortType | LpNode::SortKind | LpNode::Sym(_) => leaf(node, 0),
-            LpNode::Var(n) => leaf(node, n.saturating_add(1)),
-            LpNode::App(f, x) => {
-                let (function, argument) = (self.entry(f), self.entry(x));
-                joined(node, &function, &argument, argument.loose)
+        match shape {
+            Shape::SortType | Shape::SortKind | Shape::Sym(_) => Entry::leaf(shape, 0),
+            Shape::Var(n) => Entry::leaf(shape, n.saturating_add(1)),
+            Shape::App(f, x) => {
+                let function = self.entry(LpId(f as usize));
+                let argument = self.entry(LpId(x as usize));
+                Entry::joined(shape, function, argument, argument.loose)
             }
-            LpNode::Lam(a, b) | LpNode::Pi(a, b) => {
-                let (domain, body) = (self.entry(a), self.entry(b));
-                joined(node, &domain, &body, under_binder(body.loose))
+            Shape::Lam(a, b) | Shape::Pi(a, b) => {
+                let domain = self.entry(LpId(a as usize));
+                let body = self.entry(LpId(b as usize));
+                Entry::joined(shape, domain, body, under_binder(body.loose))
             }
         }
     }
@@ -250,47 +245,5 @@ fn root(id: LpId, change: Change) -> Place
         id,
         depth: 0,
         change,
-    }
-}
-
-// The entry of a node without parts.
-fn leaf(node: LpNode, loose: u128) -> Entry
-    ensures node { result.node ≡ node }
-    ensures size { result.size ≡ 1 }
-    ensures depth { result.depth ≡ 1 }
-    ensures loose { result.loose ≡ loose }
-{
-    Entry {
-        node,
-        size: 1,
-        depth: 1,
-        loose,
-    }
-}
-
-// The entry of a node with two parts, where the second's loose variables are these.
-fn joined(node: LpNode, first: &Entry, second: &Entry, loose: u128) -> Entry
-    ensures node { result.node ≡ node }
-    ensures size { result.size ≡ min (1 + first.now.size + second.now.size) (2 ^ 128 - 1) }
-    ensures depth { result.depth ≡ min (1 + max first.now.depth second.now.depth) (2 ^ 64 - 1) }
-    ensures loose { result.loose ≡ max first.now.loose loose }
-{
-    Entry {
-        node,
-        size: first.size.saturating_add(second.size).saturating_add(1),
-        depth: first.depth.max(second.depth).saturating_add(1),
-        loose: first.loose.max(loose),
-    }
-}
-
-// The loose variables of a body, outside its binder.
-fn under_binder(loose: u128) -> u128
-    ensures known { result < 2 ^ 128 - 1 → result ≡ loose - 1 }
-    ensures unknown { loose ≡ 2 ^ 128 - 1 → result ≡ loose }
-{
-    if loose == u128::MAX {
-        loose
-    } else {
-        loose.saturating_sub(1)
     }
 }

@@ -4,20 +4,20 @@ use Rattle.lp_term.specs.TableLaws.{tree_at-Holds}
 use Rattle.lp_term.proofs.EntryLaws.{length-trees_of, trees_of-Holds}
 use Rattle.lp_term.proofs.LpTable.entry.Goals as goal
 
-pub unwrap-entry-requires : goal.unwrap-entry-requires
-unwrap-entry-requires c =
+pub unwrap-requires : goal.unwrap-requires
+unwrap-requires c =
     let h = rw (← c.self.view_is) at c.requires in
     c.get_index.ensures.found.1 (omega (arith, length-trees_of c.self.inside.entries.keys, c.len-count.ensures.len, h))
 
 pub returns-clause-is : goal.returns-clause-is
 returns-clause-is c =
-    let at = sym c.get_index.ensures.key ∙ ap option_copied c.unwrap-entry.ensures in
+    let at = sym c.get_index.ensures.key ∙ ap option_copied c.unwrap.ensures in
     rw (← c.self.view_is) (trees_of-Holds _ _ _ (c.self.invariant.lower _ _ at) at)
 
 pub returns-clause-measured : goal.returns-clause-measured
 returns-clause-measured c =
     let h = rw (← c.self.view_is) at c.requires in
-    rw (← c.self.view_is) (c.self.invariant.measured _ _ _ (sym c.get_index.ensures.key ∙ ap option_copied c.unwrap-entry.ensures) (tree_at-Holds _ _ h))
+    rw (← c.self.view_is) (c.self.invariant.measured _ _ _ (sym c.get_index.ensures.key ∙ ap option_copied c.unwrap.ensures) (tree_at-Holds _ _ h))
 
 pub returns-clause-small : goal.returns-clause-small
 returns-clause-small c = rw (← c.self.view_is) (omega (arith, length-trees_of c.self.inside.entries.keys, c.len-count.ensures.len, c.len-count.ensures.small))
