@@ -22,10 +22,11 @@ use Rattle.dk_read.specs.declared.terms.Meaning.TheVariants as meaning
 use Rattle.dk_read.specs.declared.terms.Frame.{Frame}
 use Rattle.dk_read.specs.declared.terms.Frame.TheVariants as frame
 use Rattle.dk_read.specs.declared.terms.Binder.{Binder}
+use Rattle.dk_read.specs.declared.terms.Atoms.{Atoms}
 use Rattle.dk_read.specs.declared.terms.Head.{Head}
 use Rattle.dk_read.specs.Names.{Named, name_at, looked, bound, symbol_meaning, first_meaning, Puts}
 use Rattle.dk_read.specs.Names as naming
-use Rattle.dk_read.specs.States.{frame_in, frames_in, IsBinding, IsFrameKnown, AreFramesKnown, IsHeadKnown, IsPlain, IsSoundIn, Binds, bound_frame}
+use Rattle.dk_read.specs.States.{frame_in, frames_in, IsBinding, IsFrameKnown, AreFramesKnown, AreAtoms, IsHeadKnown, IsPlain, IsSoundIn, Binds, bound_frame}
 use Rattle.holide_sig.proofs.Positions.{first, position-first, first-append-Some, first-append-None}
 use Rattle.dk_read.proofs.Named.{bytes_eq-refl, bytes_eq-symm}
 use Rattle.dk_read.proofs.Places.{not_any}
@@ -39,7 +40,7 @@ scope_length ts ns (frame.Domain n ∷ fs) = let h = scope_length ts ns fs in om
 scope_length ts ns (frame.Product n a w ∷ fs) = let h = scope_length ts ns fs in omega (arith, h)
 scope_length ts ns (frame.Abstraction n a w ∷ fs) = let h = scope_length ts ns fs in omega (arith, h)
 
-module _ (m : Module) (ns : List Named) (z b : ℕ) (h : Head) (fs : List Frame) where
+module _ (m : Module) (ns : List Named) (z : ℕ) (vs : Atoms) (b : ℕ) (h : Head) (fs : List Frame) where
   plain_scope : (f : Frame) → IsPlain f → reading.scope_of (frames_in m.table ns (f ∷ fs)) ≡ reading.scope_of (frames_in m.table ns fs)
   plain_scope (frame.Enclosing f) p = refl
   plain_scope (frame.Domain n) p = refl
@@ -47,7 +48,7 @@ module _ (m : Module) (ns : List Named) (z b : ℕ) (h : Head) (fs : List Frame)
   plain_scope (frame.Abstraction n a w) p = absurd p
 
   -- a frame of no binder opens
-  pub plain_in : (f : Frame) → IsPlain f → IsFrameKnown m.table ns (signature ++ declarations_of m) (reading.scope_of (frames_in m.table ns fs)) f → IsSoundIn m ns z b h fs → IsSoundIn m ns z b h (f ∷ fs)
+  pub plain_in : (f : Frame) → IsPlain f → IsFrameKnown m.table ns (signature ++ declarations_of m) (reading.scope_of (frames_in m.table ns fs)) f → IsSoundIn m ns z vs b h fs → IsSoundIn m ns z vs b h (f ∷ fs)
   plain_in f p k s =
       let e = plain_scope f p in
       record {
@@ -59,10 +60,11 @@ module _ (m : Module) (ns : List Named) (z b : ℕ) (h : Head) (fs : List Frame)
         empty = s.empty;
         depth = s.depth ∙ ap length (sym e);
         few = omega (arith, s.few);
+        atoms = s.atoms;
       }
 
   -- and closes
-  pub plain_out : (f : Frame) → IsPlain f → IsSoundIn m ns z b h (f ∷ fs) → IsSoundIn m ns z b h fs
+  pub plain_out : (f : Frame) → IsPlain f → IsSoundIn m ns z vs b h (f ∷ fs) → IsSoundIn m ns z vs b h fs
   plain_out f p s =
       let e = plain_scope f p in
       let depth : b ≡ length (reading.scope_of (frames_in m.table ns fs)) = s.depth ∙ ap length e in
@@ -75,6 +77,7 @@ module _ (m : Module) (ns : List Named) (z b : ℕ) (h : Head) (fs : List Frame)
         empty = s.empty;
         depth = depth;
         few = omega (arith, depth, scope_length m.table ns fs);
+        atoms = s.atoms;
       }
 
   module _ (ms : List Named) (j : naming.Keeps ns ms) (n : ℕ) where
@@ -88,7 +91,7 @@ module _ (m : Module) (ns : List Named) (z b : ℕ) (h : Head) (fs : List Frame)
     outer-Keeps k = ap reading.scope_of (frames_in-Keeps m.table m.table (Keeps-refl m.table) ns ms j ds fs k)
 
     -- a binder opens
-    pub bind_in : (f : Frame) (a : LpId) (w : Meaning) → ((ts : List Tree) (l : List Named) (scope : Scope) → IsBinding ts l ds scope n a w → IsFrameKnown ts l ds scope f) → ((l : List Named) → reading.scope_of (frames_in m.table l (f ∷ fs)) ≡ name_at l n ∷ reading.scope_of (frames_in m.table l fs)) → n < length ns → a.0 < length m.table → w ≡ looked ns (name_at ns n) → Puts ns (name_at ns n) (meaning.Binder b) ms → IsSoundIn m ns z b h fs → IsSoundIn m ms z (b + 1) h (f ∷ fs)
+    pub bind_in : (f : Frame) (a : LpId) (w : Meaning) → ((ts : List Tree) (l : List Named) (scope : Scope) → IsBinding ts l ds scope n a w → IsFrameKnown ts l ds scope f) → ((l : List Named) → reading.scope_of (frames_in m.table l (f ∷ fs)) ≡ name_at l n ∷ reading.scope_of (frames_in m.table l fs)) → n < length ns → a.0 < length m.table → w ≡ looked ns (name_at ns n) → Puts ns (name_at ns n) (meaning.Binder b) ms → IsSoundIn m ns z vs b h fs → IsSoundIn m ms z vs (b + 1) h (f ∷ fs)
     bind_in f a w known scope name domain hidden puts s =
         let same = outer-Keeps s.frames in
         let one : reading.scope_of (frames_in m.table ms (f ∷ fs)) ≡ name_at ns n ∷ outer = scope ms ∙ cc (j.stays n name, same) in
@@ -106,6 +109,7 @@ module _ (m : Module) (ns : List Named) (z b : ℕ) (h : Head) (fs : List Frame)
           empty = (omega (arith, j.longer, s.empty.0), j.stays z s.empty.0 ∙ s.empty.1);
           depth = omega (arith, s.depth, ap length one);
           few = omega (arith, s.few);
+          atoms = s.atoms;
         }
 
     -- and closes: its name means again what it hid
@@ -113,7 +117,7 @@ module _ (m : Module) (ns : List Named) (z b : ℕ) (h : Head) (fs : List Frame)
     out_by f w b2 x true e hides means = hides ∙ ap (bound ds outer) (sym (same_text x (name_at ns n) (sym e)))
     out_by f w b2 x false e hides means = means ∙ ap (λ (c : Bool). if c then meaning.Binder (length outer) else bound ds outer x) e
 
-    pub bind_out : (f : Frame) (a : LpId) (w : Meaning) → IsBinding m.table ns ds outer n a w → reading.scope_of (frames_in m.table ns (f ∷ fs)) ≡ name_at ns n ∷ outer → Puts ns (name_at ns n) w ms → IsSoundIn m ns z b h (f ∷ fs) → IsSoundIn m ms z (b - 1) h fs
+    pub bind_out : (f : Frame) (a : LpId) (w : Meaning) → IsBinding m.table ns ds outer n a w → reading.scope_of (frames_in m.table ns (f ∷ fs)) ≡ name_at ns n ∷ outer → Puts ns (name_at ns n) w ms → IsSoundIn m ns z vs b h (f ∷ fs) → IsSoundIn m ms z vs (b - 1) h fs
     bind_out f a w binding one puts s =
         let same = outer-Keeps s.frames.1 in
         let depth : b - 1 ≡ length outer = omega (arith, s.depth, ap length one) in
@@ -129,6 +133,7 @@ module _ (m : Module) (ns : List Named) (z b : ℕ) (h : Head) (fs : List Frame)
           empty = (omega (arith, j.longer, s.empty.0), j.stays z s.empty.0 ∙ s.empty.1);
           depth = depth ∙ ap length (sym same);
           few = omega (arith, depth, scope_length m.table ns fs);
+          atoms = s.atoms;
         }
 
 -- the meaning of a symbol's name where one more symbol is declared
@@ -161,7 +166,7 @@ first_nothing meaning.Nothing = refl
 first_nothing (meaning.Symbol s) = refl
 first_nothing (meaning.Binder d) = refl
 
-module _ (m m2 : Module) (ns ms : List Named) (z b : ℕ) (h : Head) (j : naming.Keeps ns ms) (n : ℕ) (d : Declaration) (is : d.name ≡ name_at ns n) where
+module _ (m m2 : Module) (ns ms : List Named) (z : ℕ) (vs : Atoms) (b : ℕ) (h : Head) (j : naming.Keeps ns ms) (n : ℕ) (d : Declaration) (is : d.name ≡ name_at ns n) where
   declared_by : (x : List ℕ) (t : Bool) (v : Meaning) → bytes_eq x (name_at ns n) ≡ t → IsFalse (is_declared (signature ++ declarations_of m) d.name) → v ≡ bound (signature ++ declarations_of m) [] x
       → (if t then meaning.Symbol (length (signature ++ declarations_of m)) else v) ≡ bound ((signature ++ declarations_of m) ++ d ∷ []) [] x
   declared_by x true v e new f =
@@ -178,7 +183,7 @@ module _ (m m2 : Module) (ns ms : List Named) (z b : ℕ) (h : Head) (j : naming
       ∙ first_nothing (symbol_meaning (position (λ y. bytes_eq y.name x) (signature ++ declarations_of m))))
 
   -- a declaration ends
-  pub declared_in : m2.table ≡ m.table → IsHeld m2 → IsModule (declarations_of m2) → declarations_of m2 ≡ declarations_of m ++ d ∷ [] → IsFalse (is_declared (signature ++ declarations_of m) d.name) → (s : ℕ) → s ≡ length (signature ++ declarations_of m) → Puts ns (name_at ns n) (meaning.Symbol s) ms → IsSoundIn m ns z b h [] → IsSoundIn m2 ms z b h []
+  pub declared_in : m2.table ≡ m.table → IsHeld m2 → IsModule (declarations_of m2) → declarations_of m2 ≡ declarations_of m ++ d ∷ [] → IsFalse (is_declared (signature ++ declarations_of m) d.name) → (s : ℕ) → s ≡ length (signature ++ declarations_of m) → Puts ns (name_at ns n) (meaning.Symbol s) ms → IsSoundIn m ns z vs b h [] → IsSoundIn m2 ms z vs b h []
   declared_in table held module_is declared new s number puts k =
       let all : signature ++ declarations_of m2 ≡ (signature ++ declarations_of m) ++ d ∷ [] = ap (λ l. signature ++ l) declared ∙ sym (append_assoc signature (declarations_of m) (d ∷ [])) in
       record {
@@ -194,6 +199,7 @@ module _ (m m2 : Module) (ns ms : List Named) (z b : ℕ) (h : Head) (j : naming
         empty = (omega (arith, j.longer, k.empty.0), j.stays z k.empty.0 ∙ k.empty.1);
         depth = k.depth;
         few = k.few;
+        atoms = subst (λ t. AreAtoms t vs) (sym table) k.atoms;
       }
 
 decls_length : (ts : List Tree) (ds : List Decl) → length (map (declaration_in ts) ds) ≡ length ds

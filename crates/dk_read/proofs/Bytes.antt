@@ -1,14 +1,14 @@
 -- The tokens that a byte ends, one after the other.
-use Rattle.std.proofs.Common.{◌≡◌, ℕ, sym, ap, subst, ◌∙◌, List, Result, Ok, Err, OnOk}
+use Rattle.std.proofs.Common.{◌≡◌, ℕ, sym, ap, subst, ◌∙◌, List, Option, None, Some, Result, Ok, Err, OnOk}
 use Rattle.lp_spec.specs.Modules.{Declaration}
 use Rattle.lp_spec.specs.Tokens as tokens
 use Rattle.lp_spec.specs.ReadingFaults as reading
 use Rattle.text_laws.specs.ReadingOrder.{IsState, IsOrdered, advance-IsOrdered}
-use Rattle.dk_read.specs.declared.faults.DkFault.{DkFault}
-use Rattle.dk_read.specs.declared.faults.DkFault.TheVariants as fault
+use Rattle.dk_read.specs.declared.faults.Stop.{Stop}
 use Rattle.dk_read.specs.declared.parser.Parser.{Parser}
 use Rattle.dk_read.specs.declared.text.Text.{Text}
-use Rattle.dk_read.specs.States.{before, state_of, fault_of, Becomes, IsReady, IsReading, Grows}
+use Rattle.dk_read.specs.Names.{Named}
+use Rattle.dk_read.specs.States.{before, state_of, refused_by, OnRefusal, Becomes, IsReady, IsReading, Grows}
 use Rattle.dk_read.proofs.Grown.{known-Grows, state-Grows}
 use Rattle.dk_read.specs.Texts.{Takes}
 
@@ -16,7 +16,7 @@ use Rattle.dk_read.specs.Texts.{Takes}
 pub next_ordered : (old new : Parser) (p : ℕ) (token : tokens.Token) → IsState (before old) (state_of old) → reading.advance (before old) (state_of old) p token ≡ reading.Goes (before new) (state_of new) → IsState (before new) (state_of new)
 next_ordered old new p token h e = subst IsOrdered e (advance-IsOrdered (before old) (state_of old) p token h)
 
-pub reading_ready : (old new : Parser) (p : ℕ) (token : tokens.Token) (r : Result (Unit {0}) DkFault) → IsState (before old) (state_of old) → Becomes (reading.advance (before old) (state_of old) p token) new r → OnOk r (IsReady new) → OnOk r (IsReading new)
+pub reading_ready : (old new : Parser) (p : ℕ) (token : tokens.Token) (r : Result (Unit {0}) Stop) → IsState (before old) (state_of old) → Becomes (reading.advance (before old) (state_of old) p token) new r → OnOk r (IsReady new) → OnOk r (IsReading new)
 reading_ready old new p token (Ok u) h e k = record { ready = k; ordered = next_ordered old new p token h e }
 reading_ready old new p token (Err f) h e k = tt
 
@@ -41,11 +41,17 @@ pub after_stops : (p q : ℕ) (m : List Declaration) (s : reading.State) (token 
 after_stops p q m s token (tokens.goes ts pending) r e = ap (λ o. reading.progress p pending (reading.advance_all o ts)) e
 after_stops p q m s token (tokens.sticks ts x) r e = ap (λ o. reading.Refused (reading.broken (reading.advance_all o ts) x)) e
 
+-- what holds of a refusal for one reason holds for another that follows
+pub OnRefusal-map : {P Q : reading.Refusal → Type 0} → (o : Option reading.Refusal) → ((r : reading.Refusal) → P r → Q r) → OnRefusal o P → OnRefusal o Q
+OnRefusal-map None f h = tt
+OnRefusal-map (Some r) f h = f r h
+
 -- a token that stops the reading
-pub token_stops : (p q : ℕ) (m : List Declaration) (s : reading.State) (token : tokens.Token) (taken : tokens.Taken) (parser : Parser) (t : Text) (e : DkFault) → Becomes (reading.advance m s q token) parser (Err e) → Takes (reading.after_byte p m s (tokens.after (tokens.at q token) taken)) t (Err e)
-token_stops p q m s token taken parser t (fault.Refused place k) h = after_stops p q m s token taken (reading.refusal place (fault_of k)) h
-token_stops p q m s token taken parser t fault.Memory h = tt
+pub token_stops : (p q : ℕ) (m : List Declaration) (s : reading.State) (token : tokens.Token) (taken : tokens.Taken) (parser : Parser) (t : Text) (e : Stop) → t.parser.names ≡ parser.names → Becomes (reading.advance m s q token) parser (Err e) → Takes (reading.after_byte p m s (tokens.after (tokens.at q token) taken)) t (Err e)
+token_stops p q m s token taken parser t e same h =
+    OnRefusal-map (refused_by t.parser.names e) (λ r k. after_stops p q m s token taken r k)
+    (subst (λ (ns : List Named). OnRefusal (refused_by ns e) (λ r. reading.advance m s q token ≡ reading.Stops r)) (sym same) h)
 
 -- what is taken under another name
-pub takes_as : (o n : reading.Progress) (t : Text) (r : Result (Unit {0}) DkFault) → o ≡ n → Takes n t r → Takes o t r
+pub takes_as : (o n : reading.Progress) (t : Text) (r : Result (Unit {0}) Stop) → o ≡ n → Takes n t r → Takes o t r
 takes_as o n t r e h = subst (λ w. Takes w t r) (sym e) h

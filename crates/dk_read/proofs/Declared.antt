@@ -13,7 +13,7 @@ use Rattle.lp_term.specs.declared.LpId.{LpId}
 use Rattle.lp_term.specs.Tables.{tree_at, Holds}
 use Rattle.holide_sig.specs.declared.module.Module.{Module}
 use Rattle.holide_sig.specs.Modules.{declarations_of}
-use Rattle.dk_read.specs.declared.faults.DkFault.{DkFault}
+use Rattle.dk_read.specs.declared.faults.Stop.{Stop}
 use Rattle.dk_read.specs.declared.terms.Head.{Head}
 use Rattle.dk_read.specs.declared.terms.Head.TheVariants as head
 use Rattle.dk_read.specs.declared.terms.State.{State}
@@ -26,7 +26,7 @@ use Rattle.dk_read.specs.States.{before, frames_of, head_in, head_of, state_in, 
 use Rattle.dk_read.proofs.Grown.{tree_in-Keeps}
 
 -- an outcome under another name
-pub becomes_as : (o n : reading.Outcome) (p : Parser) (r : Result (Unit {0}) DkFault) → o ≡ n → Becomes n p r → Becomes o p r
+pub becomes_as : (o n : reading.Outcome) (p : Parser) (r : Result (Unit {0}) Stop) → o ≡ n → Becomes n p r → Becomes o p r
 becomes_as o n p r e h = subst (λ w. Becomes w p r) (sym e) h
 
 -- a parenthesis that closes

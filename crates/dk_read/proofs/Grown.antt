@@ -1,19 +1,21 @@
 -- What stays where the table of a reading grows, or its names do.
-use Rattle.std.proofs.Common.{◌≡◌, ℕ, refl, sym, ap, subst, ◌∙◌, List, [], ◌∷◌, ◌++◌, reverse, length, Option, None, Some, arith}
-use Rattle.lp_spec.specs.Trees.{Tree}
+use Rattle.std.proofs.Common.{inl, inr, ◌⊎◌, ◌≡◌, ℕ, zero, suc, refl, sym, ap, subst, ◌∙◌, List, [], ◌∷◌, ◌++◌, reverse, length, slice_get, Option, None, Some, arith}
+use Rattle.lp_spec.specs.Trees.{Tree, Var, Sym}
+use Rattle.std.proofs.lemmas.Option.{same_Some}
 use Rattle.lp_spec.specs.Modules.{Declaration, signature}
 use Rattle.lp_spec.specs.ModuleOrder.{IsModule}
 use Rattle.lp_spec.specs.Reading.{Scope}
 use Rattle.lp_spec.specs.ReadingFaults as reading
 use Rattle.lp_term.specs.declared.LpId.{LpId}
-use Rattle.lp_term.specs.Tables.{Keeps}
-use Rattle.lp_term.specs.TableLaws.{tree_at-Stays}
+use Rattle.lp_term.specs.Tables.{Holds, Keeps}
+use Rattle.lp_term.specs.TableLaws.{tree_at-Stays, Keeps-refl, Keeps-trans}
 use Rattle.holide_sig.specs.declared.module.Module.{Module}
 use Rattle.holide_sig.specs.Modules.{declarations_of}
 use Rattle.holide_sig.specs.ModuleLaws.{IsHeld-Keeps, declarations_of-Keeps}
 use Rattle.dk_read.specs.declared.terms.Meaning.{Meaning}
 use Rattle.dk_read.specs.declared.terms.Frame.{Frame}
 use Rattle.dk_read.specs.declared.terms.Frame.TheVariants as frame
+use Rattle.dk_read.specs.declared.terms.Atoms.{Atoms}
 use Rattle.dk_read.specs.declared.terms.Head.{Head}
 use Rattle.dk_read.specs.declared.terms.Head.TheVariants as head
 use Rattle.dk_read.specs.declared.terms.State.{State}
@@ -21,7 +23,7 @@ use Rattle.dk_read.specs.declared.terms.State.TheVariants as state
 use Rattle.dk_read.specs.declared.parser.Parser.{Parser}
 use Rattle.dk_read.specs.Names.{Named, name_at, looked, bound}
 use Rattle.dk_read.specs.Names as naming
-use Rattle.dk_read.specs.States.{tree_in, frame_in, frames_in, head_in, state_in, IsIdKnown, IsBinding, IsFrameKnown, AreFramesKnown, IsHeadKnown, IsStateKnown, IsSoundIn, IsSound, Grows}
+use Rattle.dk_read.specs.States.{tree_in, frame_in, frames_in, head_in, state_in, IsIdKnown, IsBinding, IsFrameKnown, AreFramesKnown, AreOf, AreAtoms, IsHeadKnown, IsStateKnown, IsSoundIn, IsSound, Grows}
 
 module _ (old new : List Tree) (k : Keeps old new) (ns ms : List Named) (j : naming.Keeps ns ms) where
   pub tree_in-Keeps : (id : Option LpId) → IsIdKnown old id → tree_in new id ≡ tree_in old id
@@ -64,9 +66,26 @@ module _ (old new : List Tree) (k : Keeps old new) (ns ms : List Named) (j : nam
   AreFramesKnown-Keeps ds (f ∷ fs) h =
       (subst (λ s. IsFrameKnown new ms ds (reading.scope_of s) f) (sym (frames_in-Keeps ds fs h.1)) (IsFrameKnown-Keeps ds (reading.scope_of (frames_in old ns fs)) f h.0), AreFramesKnown-Keeps ds fs h.1)
 
+-- kept numbers stay those of their trees
+AreOf-Keeps : (tree : ℕ → Tree) (old new : List Tree) → Keeps old new → (ids : List LpId) → AreOf tree old ids → AreOf tree new ids
+AreOf-Keeps tree old new k ids h = λ n id e. k.stays.each id.0 (tree n) (h n id e)
+
+AreAtoms-Keeps : (old new : List Tree) → Keeps old new → (atoms : Atoms) → AreAtoms old atoms → AreAtoms new atoms
+AreAtoms-Keeps old new k atoms h = (AreOf-Keeps Var old new k atoms.variables.items h.0, AreOf-Keeps Sym old new k atoms.symbols.items h.1)
+
+-- one more of them
+push_at : (vs : List LpId) (id x : LpId) (n : ℕ) → slice_get (vs ++ id ∷ []) n ≡ Some x → (slice_get vs n ≡ Some x) ⊎ ((n ≡ length vs) × (id ≡ x))
+push_at [] id x zero e = inr (refl, same_Some id x e)
+push_at [] id x (suc n) e = absurd (cc)
+push_at (v ∷ vs) id x zero e = inl e
+push_at (v ∷ vs) id x (suc n) e = elim (push_at vs id x n e) [ inl f ↦ inl f | inr f ↦ inr (ap suc f.0, f.1) ]
+
+pub AreOf-push : (tree : ℕ → Tree) (trees : List Tree) (ids : List LpId) (id : LpId) → AreOf tree trees ids → Holds trees id.0 (tree (length ids)) → AreOf tree trees (ids ++ id ∷ [])
+AreOf-push tree trees ids id h k = λ n x e. elim (push_at ids id x n e) [ inl f ↦ h n x f | inr f ↦ subst (λ (y : LpId). Holds trees y.0 (tree n)) f.1 (subst (λ i. Holds trees id.0 (tree i)) (sym f.0) k) ]
+
 -- the same reading over a table or names that have grown
-pub grown_in : (m : Module) (new : List Tree) (ns ms : List Named) (z b : ℕ) (h : Head) (fs : List Frame) → Keeps m.table new → naming.Keeps ns ms → ((x : List ℕ) → looked ms x ≡ looked ns x) → IsSoundIn m ns z b h fs → IsSoundIn (record { table = new; decls = m.decls }) ms z b h fs
-grown_in m new ns ms z b h fs k j same s =
+pub grown_in : (m : Module) (new : List Tree) (ns ms : List Named) (z : ℕ) (vs : Atoms) (b : ℕ) (h : Head) (fs : List Frame) → Keeps m.table new → naming.Keeps ns ms → ((x : List ℕ) → looked ms x ≡ looked ns x) → IsSoundIn m ns z vs b h fs → IsSoundIn (record { table = new; decls = m.decls }) ms z vs b h fs
+grown_in m new ns ms z vs b h fs k j same s =
     let ds = signature ++ declarations_of m in
     let one : signature ++ declarations_of (record { table = new; decls = m.decls }) ≡ ds = ap (λ l. signature ++ l) (declarations_of-Keeps m new k s.held) in
     let frames : frames_in new ms fs ≡ frames_in m.table ns fs = frames_in-Keeps m.table new k ns ms j ds fs s.frames in
@@ -79,10 +98,11 @@ grown_in m new ns ms z b h fs k j same s =
       empty = (omega (arith, j.longer, s.empty.0), j.stays z s.empty.0 ∙ s.empty.1);
       depth = s.depth ∙ ap (λ l. length (reading.scope_of l)) (sym frames);
       few = s.few;
+      atoms = AreAtoms-Keeps m.table new k vs s.atoms;
     }
 
 pub grown : (p : Parser) (new : List Tree) (ms : List Named) → Keeps p.module.table new → naming.Keeps p.names ms → ((x : List ℕ) → looked ms x ≡ looked p.names x) → IsSound p
-    → Grows p (record { alloc = p.alloc; «module» = record { table = new; decls = p.module.decls }; names = ms; nameless = p.nameless; frames = p.frames; binders = p.binders; head = p.head; state = p.state })
+    → Grows p (record { alloc = p.alloc; «module» = record { table = new; decls = p.module.decls }; names = ms; nameless = p.nameless; frames = p.frames; atoms = p.atoms; binders = p.binders; head = p.head; state = p.state })
 grown p new ms k j same s =
     record {
       keeps = k;
@@ -92,8 +112,45 @@ grown p new ms k j same s =
       head = head_in-Keeps p.module.table new k p.names ms j p.head s.head;
       opened = refl;
       state = refl;
-      sound = λ t. grown_in p.module new p.names ms p.nameless p.binders p.head (reverse p.frames.items) k j same t;
+      sound = λ t. grown_in p.module new p.names ms p.nameless p.atoms p.binders p.head (reverse p.frames.items) k j same t;
     }
+
+-- and with other nodes that are kept
+pub grown_atoms : (p : Parser) (atoms : Atoms) → (IsSound p → AreAtoms p.module.table atoms)
+    → Grows p (record { alloc = p.alloc; «module» = p.module; names = p.names; nameless = p.nameless; frames = p.frames; atoms = atoms; binders = p.binders; head = p.head; state = p.state })
+grown_atoms p atoms h = record {
+  keeps = Keeps-refl p.module.table;
+  names = record { longer = omega arith; stays = λ n k. refl };
+  declared = refl;
+  frames = refl;
+  head = refl;
+  opened = refl;
+  state = refl;
+  sound = λ s. record {
+    held = s.held;
+    is_module = s.is_module;
+    frames = s.frames;
+    head = s.head;
+    meanings = s.meanings;
+    empty = s.empty;
+    depth = s.depth;
+    few = s.few;
+    atoms = h s;
+  };
+}
+
+-- one after the other
+pub Grows-then : (p q r : Parser) → Grows p q → Grows q r → Grows p r
+Grows-then p q r g h = record {
+  keeps = Keeps-trans g.keeps h.keeps;
+  names = record { longer = omega (arith, g.names.longer, h.names.longer); stays = λ n k. h.names.stays n (omega (arith, k, g.names.longer)) ∙ g.names.stays n k };
+  declared = h.declared ∙ g.declared;
+  frames = h.frames ∙ g.frames;
+  head = h.head ∙ g.head;
+  opened = h.opened ∙ g.opened;
+  state = h.state ∙ g.state;
+  sound = λ s. h.sound (g.sound s);
+}
 
 -- and its state
 IsStateKnown-Grows : (p q : Parser) (s : State) → Grows p q → IsStateKnown p s → IsStateKnown q s

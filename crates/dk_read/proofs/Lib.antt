@@ -6,6 +6,8 @@ pub mod Bindings
 pub mod Symbols
 pub mod Declared
 pub mod Bytes
+pub mod Signs
+pub mod WordBytes
 pub mod Runs
 pub mod Taken
 pub mod Openings

@@ -10,17 +10,17 @@ use Rattle.lp_spec.specs.Reading.{Scope, variable_of, symbol_of}
 use Rattle.lp_spec.specs.ReadingFaults as reading
 use Rattle.lp_term.specs.declared.LpId.{LpId}
 use Rattle.lp_term.specs.Tables.{Holds}
-use Rattle.dk_read.specs.declared.faults.DkFault.{DkFault}
-use Rattle.dk_read.specs.declared.faults.DkFault.TheVariants as fault
-use Rattle.dk_read.specs.declared.faults.DkKind.TheVariants as kind
+use Rattle.dk_read.specs.declared.faults.Stop.{Stop}
+use Rattle.dk_read.specs.declared.faults.Stop.TheVariants as stop
 use Rattle.dk_read.specs.declared.terms.Meaning.{Meaning}
 use Rattle.dk_read.specs.declared.terms.Meaning.TheVariants as meaning
 use Rattle.dk_read.specs.declared.terms.Frame.{Frame}
 use Rattle.dk_read.specs.declared.terms.State.TheVariants as state
 use Rattle.dk_read.specs.declared.parser.Parser.{Parser}
 use Rattle.dk_read.specs.Names.{name_at, looked, bound, symbol_meaning, meaning_tree}
-use Rattle.dk_read.specs.States.{Means, IsFault, Breaks, state_in, state_of, head_of, IsSound, Becomes, IsUnwound, NoEnclosing, before, frames_in, frames_of, scope_of}
+use Rattle.dk_read.specs.States.{Means, refused_by, OnRefusal, Breaks, state_in, state_of, head_of, IsSound, Becomes, IsUnwound, NoEnclosing, before, frames_in, frames_of, scope_of}
 use Rattle.dk_read.proofs.Named.{bytes_eq-symm}
+use Rattle.dk_read.proofs.Bytes.{OnRefusal-map}
 use Rattle.dk_read.proofs.Places.{position_here, position_later, name_twice, name_new}
 
 -- the meaning of a variable, by the binders round it
@@ -68,14 +68,9 @@ meaning_is p n w s e =
     sym (ap (λ d. meaning_tree d w) s.depth ∙ ap (meaning_tree (length (scope_of p))) (e ∙ s.meanings x) ∙ meaning-bound (before p) (scope_of p) x)
 
 -- a tree that was made for what is meant
-pub means_made : (means : Option Tree) (place : ℕ) (name : List ℕ) (p : Parser) (t : Tree) (r : Result LpId DkFault) → means ≡ Some t → IfOk r (λ id. Holds p.module.table id.0 t) → IfErr r (λ e. e ≡ fault.Memory) → Means means place name p r
+pub means_made : (means : Option Tree) (place : ℕ) (name : List ℕ) (p : Parser) (t : Tree) (r : Result LpId Stop) → means ≡ Some t → IfOk r (λ id. Holds p.module.table id.0 t) → IfErr r (λ e. e ≡ stop.Memory) → Means means place name p r
 means_made means place name p t (Ok id) e h k = e ∙ ap Some (sym (ap (λ o. unwrap_or o SortType) h))
-means_made means place name p t (Err fault.Memory) e h k = tt
-means_made means place name p t (Err (fault.Refused q kind)) e h k = absurd (cc)
-
-pub means_none : (means : Option Tree) (place : ℕ) (name : List ℕ) (p : Parser) (f : DkFault) → means ≡ None → IsFault (kind.UnknownName name) place f → Means means place name p (Err f)
-means_none means place name p (fault.Refused q k) e h = (e, h.0, h.1)
-means_none means place name p fault.Memory e h = tt
+means_made means place name p t (Err f) e h k = subst (λ s. OnRefusal (refused_by p.names s) (λ r. (means ≡ None) × (r ≡ reading.refusal place (reading.UnknownName name)))) (sym k) tt
 
 -- the name of a declaration, where nothing is open
 symbol_none : (o : Option ℕ) → meaning.Nothing ≡ symbol_meaning o → o ≡ None
@@ -100,13 +95,9 @@ closed_meaning p n w s e f = f ∙ s.meanings (name_at p.names n) ∙ ap (λ c. 
 pub names_new : (p : Parser) (form : Form) (place n : ℕ) → IsSound p → p.frames.items ≡ [] → meaning.Nothing ≡ looked p.names (name_at p.names n) → reading.names (before p) form place (name_at p.names n) ≡ reading.Goes (before p) (reading.AfterName form (name_at p.names n))
 names_new p form place n s e f = name_new (before p) form place (name_at p.names n) (symbol_none _ (closed_meaning p n meaning.Nothing s e f))
 
-names_stop : (o : reading.Outcome) (place : ℕ) (x : List ℕ) (p : Parser) (f : DkFault) → o ≡ reading.stops place (reading.NameTwice x) → IsFault (kind.NameTwice x) place f → Becomes o p (Err f)
-names_stop o place x p (fault.Refused q k) e h = e ∙ cc (h.0, h.1)
-names_stop o place x p fault.Memory e h = tt
-
-pub names_twice : (p q : Parser) (form : Form) (place n s : ℕ) (f : DkFault) → IsSound p → p.frames.items ≡ [] → meaning.Symbol s ≡ looked p.names (name_at p.names n) → IsFault (kind.NameTwice (name_at p.names n)) place f → Becomes (reading.names (before p) form place (name_at p.names n)) q (Err f)
-names_twice p q form place n s f sound e h k =
-    names_stop _ place (name_at p.names n) q f (name_twice (before p) form place (name_at p.names n) s (symbol_some _ s (closed_meaning p n (meaning.Symbol s) sound e h))) k
+pub names_twice : (p : Parser) (form : Form) (place n s : ℕ) → IsSound p → p.frames.items ≡ [] → meaning.Symbol s ≡ looked p.names (name_at p.names n) → Becomes (reading.names (before p) form place (name_at p.names n)) p (Err (stop.NameTwice place n))
+names_twice p form place n s sound e h =
+    name_twice (before p) form place (name_at p.names n) s (symbol_some _ s (closed_meaning p n (meaning.Symbol s) sound e h))
 
 pub names_bound : (p : Parser) (n d : ℕ) → IsSound p → p.frames.items ≡ [] → meaning.Binder d ≡ looked p.names (name_at p.names n) → ⊥
 names_bound p n d sound e h = no_binder _ d (closed_meaning p n (meaning.Binder d) sound e h)
@@ -120,16 +111,15 @@ encloses_stops m head (reading.Product name a ∷ frames) t p h k = absurd h
 encloses_stops m head (reading.Abstraction name a ∷ frames) t p h k = absurd h
 
 -- a name that a symbol or a binder has
-pub names_taken : (p q : Parser) (form : Form) (place n : ℕ) (w : Meaning) (f : DkFault) → IsSound p → p.frames.items ≡ [] → w ≡ looked p.names (name_at p.names n) → ((x : ℕ) × (w ≡ meaning.Symbol x)) ⊎ ((x : ℕ) × (w ≡ meaning.Binder x)) → IsFault (kind.NameTwice (name_at p.names n)) place f → Becomes (reading.names (before p) form place (name_at p.names n)) q (Err f)
-names_taken p q form place n w f sound e h (inl s) k = names_twice p q form place n s.0 f sound e (sym s.1 ∙ h) k
-names_taken p q form place n w f sound e h (inr b) k = absurd (names_bound p n b.0 sound e (sym b.1 ∙ h))
+pub names_taken : (p : Parser) (form : Form) (place n : ℕ) (w : Meaning) → IsSound p → p.frames.items ≡ [] → w ≡ looked p.names (name_at p.names n) → ((x : ℕ) × (w ≡ meaning.Symbol x)) ⊎ ((x : ℕ) × (w ≡ meaning.Binder x)) → Becomes (reading.names (before p) form place (name_at p.names n)) p (Err (stop.NameTwice place n))
+names_taken p form place n w sound e h (inl s) = names_twice p form place n s.0 sound e (sym s.1 ∙ h)
+names_taken p form place n w sound e h (inr b) = absurd (names_bound p n b.0 sound e (sym b.1 ∙ h))
 
 -- no token comes after an identifier that begins a term and means nothing
-stuck_by : (m : List Declaration) (h : reading.Head) (frames : List reading.Frame) (first place : ℕ) (name : List ℕ) (q : Parser) (f : DkFault) → Means (reading.meaning m frames name) first name q (Err f) → Breaks (reading.broken (reading.Goes m (reading.AfterFirst h frames first name)) place) f
-stuck_by m h frames first place name q (fault.Refused r k) means =
-    ap (λ o. reading.broken_after first name o place) means.0 ∙ cc (means.1, means.2)
-stuck_by m h frames first place name q fault.Memory means = tt
+stuck_by : (m : List Declaration) (h : reading.Head) (frames : List reading.Frame) (first place : ℕ) (name : List ℕ) (r : reading.Refusal) → (reading.meaning m frames name ≡ None) × (r ≡ reading.refusal first (reading.UnknownName name)) → reading.broken (reading.Goes m (reading.AfterFirst h frames first name)) place ≡ r
+stuck_by m h frames first place name r means = ap (λ o. reading.broken_after first name o place) means.0 ∙ sym means.1
 
-pub stuck_after : (p q : Parser) (first place n : ℕ) (f : DkFault) → p.state ≡ state.AfterFirst first n → Means (reading.meaning (before p) (frames_of p) (name_at p.names n)) first (name_at p.names n) q (Err f) → Breaks (reading.broken (reading.Goes (before p) (state_of p)) place) f
+pub stuck_after : (p q : Parser) (first place n : ℕ) (f : Stop) → p.state ≡ state.AfterFirst first n → Means (reading.meaning (before p) (frames_of p) (name_at p.names n)) first (name_at p.names n) q (Err f) → Breaks (reading.broken (reading.Goes (before p) (state_of p)) place) q.names f
 stuck_after p q first place n f e means =
-    subst (λ s. Breaks (reading.broken (reading.Goes (before p) (state_in p s)) place) f) (sym e) (stuck_by (before p) (head_of p) (frames_of p) first place (name_at p.names n) q f means)
+    subst (λ s. Breaks (reading.broken (reading.Goes (before p) (state_in p s)) place) q.names f) (sym e)
+    (OnRefusal-map (refused_by q.names f) (λ r h. stuck_by (before p) (head_of p) (frames_of p) first place (name_at p.names n) r h) means)

@@ -185,3 +185,9 @@ pub name_at-entry : (es : List Entry) (n : ℕ) (k : Vec ℕ Global) (w : Meanin
 name_at-entry [] n k w e = absurd (cc)
 name_at-entry (x ∷ es) zero k w e = ap (λ (y : Entry). y.0.items) (same_Some x (k, w) e)
 name_at-entry (x ∷ es) (suc n) k w e = name_at-entry es n k w e
+
+-- a number that no entry has, has no name
+pub name_at-none : (entries : List Entry) (n : ℕ) → slice_get entries n ≡ None → [] ≡ name_at (names_of entries) n
+name_at-none [] n e = refl
+name_at-none (x ∷ xs) zero e = absurd (cc)
+name_at-none (x ∷ xs) (suc n) e = name_at-none xs n e

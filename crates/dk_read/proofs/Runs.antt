@@ -1,5 +1,5 @@
 -- Bytes that are taken several at a time.
-use Rattle.std.proofs.Common.{◌≡◌, ℕ, suc, ◌+◌, ◌<◌, ◌≤◌, ◌==◌, refl, sym, ap, ◌∙◌, Bool, true, false, List, [], ◌∷◌, ◌++◌, length, get_or, take, drop, append_assoc, Err, arith}
+use Rattle.std.proofs.Common.{◌≡◌, ℕ, suc, ◌+◌, ◌<◌, ◌≤◌, ◌==◌, refl, sym, ap, subst, ◌∙◌, Bool, true, false, List, [], ◌∷◌, ◌++◌, length, get_or, take, drop, append_assoc, Err, arith}
 use Rattle.std.specs.Prelude.{if◌then◌else◌, not}
 use Rattle.std.proofs.lemmas.List.{append-nil}
 use Rattle.std.proofs.lemmas.Grind.{common_steps}
@@ -7,12 +7,14 @@ use Rattle.lp_spec.specs.Modules.{Declaration}
 use Rattle.lp_spec.specs.Tokens as tokens
 use Rattle.lp_spec.specs.ReadingFaults as reading
 use Rattle.text_laws.specs.ReadingLaws.{read_bytes-Refused}
-use Rattle.dk_read.specs.declared.faults.DkFault.{DkFault}
-use Rattle.dk_read.specs.declared.faults.DkFault.TheVariants as fault
+use Rattle.dk_read.specs.declared.faults.Stop.{Stop}
+use Rattle.dk_read.specs.declared.text.Pending.{Pending}
+use Rattle.dk_read.specs.declared.text.Pending.TheVariants as pending
 use Rattle.dk_read.specs.declared.text.Text.{Text}
-use Rattle.dk_read.specs.States.{fault_of}
-use Rattle.dk_read.proofs.Bytes.{after_then, after_stops}
-use Rattle.dk_read.specs.Texts.{run, inside, Takes, TakesSome}
+use Rattle.dk_read.specs.Names.{Named}
+use Rattle.dk_read.specs.States.{before, state_of, refused_by, OnRefusal}
+use Rattle.dk_read.proofs.Bytes.{after_then, after_stops, takes_as, OnRefusal-map}
+use Rattle.dk_read.specs.Texts.{run, inside, pending_in, Takes, TakesSome}
 
 -- a run is no longer than the bytes
 pub run_within : (test : ℕ → Bool) (bytes : List ℕ) → run test bytes ≤ length bytes
@@ -22,6 +24,11 @@ run_within test (b ∷ bytes) = by (test b) (run_within test bytes)
     by : (t : Bool) → run test bytes ≤ length bytes → (if t then suc (run test bytes) else 0) ≤ length (b ∷ bytes)
     by true h = omega (arith, h)
     by false h = omega arith
+
+-- a run whose first byte is of it has one
+pub run_some : (test : ℕ → Bool) (bytes : List ℕ) → 1 ≤ length bytes → test (get_or bytes 0 0) ≡ true → 1 ≤ run test bytes
+run_some test [] some h = absurd (omega arith)
+run_some test (b ∷ bytes) some h = subst (λ (t : Bool). 1 ≤ (if t then suc (run test bytes) else 0)) (sym h) (omega arith)
 
 -- behind a run that ends before the bytes do stands a byte that is not of it
 pub record Stops (test : ℕ → Bool) (bytes : List ℕ) (n : ℕ) : Type 0 where
@@ -140,12 +147,19 @@ pub first_taken : (done new : reading.Progress) (piece : List ℕ) → 1 ≤ len
 first_taken done new [] h e = absurd (omega arith)
 first_taken done new (b ∷ bytes) h e = ap (λ d. reading.read_bytes d bytes) e
 
-pub first_stops : (old new t : Text) (piece : List ℕ) (e : DkFault) → 1 ≤ length piece → Takes (reading.read_byte (inside old) (get_or piece 0 0)) t (Err e) → TakesSome old piece new (Err e)
-first_stops old new t [] e h k = absurd (omega arith)
-first_stops old new t (b ∷ bytes) (fault.Refused p k0) h k = ap (λ d. reading.read_bytes d bytes) k ∙ read_bytes-Refused (reading.refusal p (fault_of k0)) bytes
-first_stops old new t (b ∷ bytes) fault.Memory h k = tt
+bytes_stop : (done : reading.Progress) (r : reading.Refusal) (piece : List ℕ) → 1 ≤ length piece → reading.read_byte done (get_or piece 0 0) ≡ reading.Refused r → reading.read_bytes done piece ≡ reading.Refused r
+bytes_stop done r [] h e = absurd (omega arith)
+bytes_stop done r (b ∷ bytes) h e = ap (λ d. reading.read_bytes d bytes) e ∙ read_bytes-Refused r bytes
+
+pub first_stops : (old new : Text) (piece : List ℕ) (e : Stop) → 1 ≤ length piece → Takes (reading.read_byte (inside old) (get_or piece 0 0)) new (Err e) → TakesSome old piece new (Err e)
+first_stops old new piece e h k = OnRefusal-map (refused_by new.parser.names e) (λ r x. bytes_stop (inside old) r piece h x) k
+
+pub begin_stops : (old new : Text) (piece : List ℕ) (e : Stop) → old.pending ≡ pending.Nothing → 1 ≤ length piece → Takes (reading.after_byte (old.place + 1) (before old.parser) (state_of old.parser) (tokens.begins old.place (get_or piece 0 0))) new (Err e) → TakesSome old piece new (Err e)
+begin_stops old new piece e p h k =
+    first_stops old new piece e h (takes_as _ _ new (Err e) (ap (λ (x : Pending). reading.read_byte (reading.Inside old.place (pending_in old.word.items x) (before old.parser) (state_of old.parser)) (get_or piece 0 0)) p) k)
 
 -- a piece that was read as far as a fault
-pub all_stops : (old new t : Text) (all : reading.Progress) (piece : List ℕ) (e : DkFault) → reading.read_bytes (inside old) piece ≡ all → TakesSome old piece new (Err e) → Takes all t (Err e)
-all_stops old new t all piece (fault.Refused p k) same h = sym same ∙ h
-all_stops old new t all piece fault.Memory same h = tt
+pub all_stops : (old new t : Text) (all : reading.Progress) (piece : List ℕ) (e : Stop) → t.parser.names ≡ new.parser.names → reading.read_bytes (inside old) piece ≡ all → TakesSome old piece new (Err e) → Takes all t (Err e)
+all_stops old new t all piece e names same h =
+    OnRefusal-map (refused_by t.parser.names e) (λ r k. sym same ∙ k)
+    (subst (λ (ns : List Named). OnRefusal (refused_by ns e) (λ r. reading.read_bytes (inside old) piece ≡ reading.Refused r)) (sym names) h)

@@ -6,7 +6,7 @@ use Rattle.std.specs.Str.{bytes_eq}
 use Rattle.std.specs.Cmp.Lexicographic.{same_text}
 use Rattle.std.proofs.lemmas.List.{take_more, length-take-le}
 use Rattle.std.proofs.lemmas.Option.{slice_get-get_or}
-use Rattle.lp_spec.specs.Trees.{SortType}
+use Rattle.lp_spec.specs.Trees.{SortType, Var, Sym}
 use Rattle.lp_spec.specs.Modules.{Declaration, signature, symbol, symbol_name}
 use Rattle.dk_read.specs.declared.terms.Meaning.{Meaning}
 use Rattle.dk_read.specs.declared.terms.Meaning.TheVariants as meaning
@@ -19,7 +19,7 @@ use Rattle.holide_sig.specs.Modules.{IsHeld}
 use Rattle.dk_read.specs.declared.terms.Head.TheVariants as head
 use Rattle.dk_read.specs.declared.terms.State.TheVariants as state
 use Rattle.dk_read.specs.declared.parser.Parser.{Parser}
-use Rattle.dk_read.specs.States.{before, state_of, state_in, IsHeadKnown, IsStateKnown, IsSoundIn, IsReading}
+use Rattle.dk_read.specs.States.{before, state_of, state_in, IsHeadKnown, IsStateKnown, AreOf, IsSoundIn, IsReading}
 use Rattle.dk_read.proofs.Named.{bytes_eq-symm}
 use Rattle.dk_read.proofs.Bindings.{position_last}
 
@@ -84,12 +84,12 @@ not_free w v (inl s) e f = absurd (cc (s.1, e, f))
 not_free w v (inr s) e f = absurd (cc (s.1, e, f))
 
 -- a reading before the first token
-pub first_reading : (p : Parser) → IsHeld p.module → IsModule (before p) → before p ≡ [] → IsNameless p.names p.nameless → HasSymbols p.names 13 → p.frames.items ≡ [] → p.binders ≡ 0 → p.head ≡ head.TypeOf Symbol p.nameless → p.state ≡ state.Between → IsReading p
-first_reading p held is none nameless symbols frames binders h s =
+pub first_reading : (p : Parser) → IsHeld p.module → IsModule (before p) → before p ≡ [] → IsNameless p.names p.nameless → HasSymbols p.names 13 → p.frames.items ≡ [] → p.atoms.variables.items ≡ [] → p.atoms.symbols.items ≡ [] → p.binders ≡ 0 → p.head ≡ head.TypeOf Symbol p.nameless → p.state ≡ state.Between → IsReading p
+first_reading p held is none nameless symbols frames variables names binders h s =
     let open_none : reverse p.frames.items ≡ [] = ap reverse frames in
     let known : IsStateKnown p p.state = subst (IsStateKnown p) (sym s) frames in
     let ordered : IsState (before p) (state_of p) = subst (λ x. IsState (before p) (state_in p x)) (sym s) tt in
-    let base : IsSoundIn p.module p.names p.nameless p.binders p.head [] = record {
+    let base : IsSoundIn p.module p.names p.nameless p.atoms p.binders p.head [] = record {
       held = held;
       is_module = is;
       frames = tt;
@@ -98,5 +98,6 @@ first_reading p held is none nameless symbols frames binders h s =
       empty = nameless;
       depth = binders;
       few = omega (arith, binders);
+      atoms = (subst (AreOf Var p.module.table) (sym variables) (λ n id e. absurd (cc)), subst (AreOf Sym p.module.table) (sym names) (λ n id e. absurd (cc)));
     } in
-    record { ready = record { sound = subst (IsSoundIn p.module p.names p.nameless p.binders p.head) (sym open_none) base; known = known }; ordered = ordered }
+    record { ready = record { sound = subst (IsSoundIn p.module p.names p.nameless p.atoms p.binders p.head) (sym open_none) base; known = known }; ordered = ordered }

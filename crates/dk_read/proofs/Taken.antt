@@ -3,14 +3,17 @@ use Rattle.std.proofs.Common.{◌≡◌, ℕ, ◌+◌, ◌<◌, ◌≤◌, ◌==
 use Rattle.std.specs.Prelude.{not}
 use Rattle.lp_spec.specs.Tokens as tokens
 use Rattle.lp_spec.specs.ReadingFaults as reading
-use Rattle.dk_read.specs.declared.faults.DkFault.{DkFault}
-use Rattle.dk_read.specs.declared.faults.DkFault.TheVariants as fault
+use Rattle.dk_read.specs.declared.faults.Stop.{Stop}
 use Rattle.dk_read.specs.declared.parser.Parser.{Parser}
 use Rattle.dk_read.specs.declared.text.Pending.{Pending}
 use Rattle.dk_read.specs.declared.text.Pending.TheVariants as pending
 use Rattle.dk_read.specs.declared.text.Text.{Text}
-use Rattle.dk_read.specs.States.{before, state_of, fault_of, Becomes, IsReading}
-use Rattle.dk_read.specs.Texts.{run, inside, pending_in, TakesSome, TookSome}
+use Rattle.dk_read.specs.Names.{Named}
+use Rattle.dk_read.specs.States.{before, state_of, refused_by, OnRefusal, Becomes, IsReading, token_in}
+use Rattle.dk_read.proofs.Bytes.{OnRefusal-map}
+use Rattle.dk_read.specs.declared.terms.Token.{Token}
+use Rattle.dk_read.specs.Texts.{run, inside, pending_in, TakesSome, TookSome, Signs}
+use Rattle.dk_read.proofs.Signs.{token_in-sign}
 use Rattle.dk_read.proofs.Runs.{run_within, run_stops, skip, blank_goes, comment_goes, words, word_starts, word_read, word_stops, Starts, Stops}
 
 -- a text by its parts
@@ -109,6 +112,32 @@ module _ (old : Text) (piece : List ℕ) (n : ℕ) (p : old.pending ≡ pending.
     reading = r;
   }
 
-  pub failed_word : (new : Text) (q : Parser) (f : DkFault) → Becomes (reading.advance (before old.parser) (state_of old.parser) old.place (tokens.word_token (take n piece))) q (Err f) → TakesSome old piece new (Err f)
-  failed_word new q (fault.Refused place k) h = started ∙ word_stops (before old.parser) (state_of old.parser) old.place piece n begun stops_here (reading.refusal place (fault_of k)) h
-  failed_word new q fault.Memory h = tt
+  pub failed_word : (new : Text) (q : Parser) (f : Stop) → new.parser.names ≡ q.names → Becomes (reading.advance (before old.parser) (state_of old.parser) old.place (tokens.word_token (take n piece))) q (Err f) → TakesSome old piece new (Err f)
+  failed_word new q f same h =
+      OnRefusal-map (refused_by new.parser.names f) (λ r k. started ∙ word_stops (before old.parser) (state_of old.parser) old.place piece n begun stops_here r k)
+      (subst (λ (ns : List Named). OnRefusal (refused_by ns f) (λ r. reading.advance (before old.parser) (state_of old.parser) old.place (tokens.word_token (take n piece)) ≡ reading.Stops r)) (sym same) h)
+
+-- a sign at the head of a piece
+module _ (old : Text) (piece : List ℕ) (n : ℕ) (t : Token) (p : old.pending ≡ pending.Nothing) (signs : Signs piece n t) where
+  sign_begins : reading.read_bytes (inside old) piece ≡ reading.read_bytes (reading.Inside old.place tokens.Nothing (before old.parser) (state_of old.parser)) piece
+  sign_begins = ap (λ d. reading.read_bytes d piece) (inside_with old old.place pending.Nothing old.word.items old.parser refl p refl refl)
+
+  as_sign : reading.advance (before old.parser) (state_of old.parser) old.place (token_in [] t) ≡ reading.advance (before old.parser) (state_of old.parser) old.place (token_in old.parser.names t)
+  as_sign = ap (reading.advance (before old.parser) (state_of old.parser) old.place) (sym (token_in-sign old.parser.names t signs.known))
+
+  pub took_sign : (new : Text) → reading.advance (before old.parser) (state_of old.parser) old.place (token_in old.parser.names t) ≡ reading.Goes (before new.parser) (state_of new.parser) → new.pending ≡ pending.Nothing → new.place ≡ old.place + n → IsReading new.parser → TookSome old piece new n
+  took_sign new goes q place r = record {
+    some = signs.some;
+    within = signs.within;
+    taken =
+        sign_begins
+        ∙ signs.goes old.place (before old.parser) (before new.parser) (state_of old.parser) (state_of new.parser) (as_sign ∙ goes)
+        ∙ ap (λ d. reading.read_bytes d (drop n piece)) (sym (inside_with new (old.place + n) pending.Nothing new.word.items new.parser place q refl refl));
+    place = place;
+    reading = r;
+  }
+
+  pub failed_sign : (new : Text) (q : Parser) (f : Stop) → new.parser.names ≡ q.names → Becomes (reading.advance (before old.parser) (state_of old.parser) old.place (token_in old.parser.names t)) q (Err f) → TakesSome old piece new (Err f)
+  failed_sign new q f same h =
+      OnRefusal-map (refused_by new.parser.names f) (λ r k. sign_begins ∙ signs.stops old.place (before old.parser) (state_of old.parser) r (as_sign ∙ k))
+      (subst (λ (ns : List Named). OnRefusal (refused_by ns f) (λ r. reading.advance (before old.parser) (state_of old.parser) old.place (token_in old.parser.names t) ≡ reading.Stops r)) (sym same) h)

@@ -1,6 +1,6 @@
 -- A reading by numbers of trees and of names, and what it stands for.
-use Rattle.std.specs.Prelude.{◌≡◌, ℕ, ◌<◌, ◌≤◌, List, [], ◌∷◌, ◌++◌, length, map, reverse, Option, None, Some, option_map, Result, Ok, Err}
-use Rattle.lp_spec.specs.Trees.{Tree}
+use Rattle.std.specs.Prelude.{◌≡◌, ℕ, ◌<◌, ◌≤◌, List, [], ◌∷◌, ◌++◌, length, map, reverse, slice_get, Option, None, Some, option_map, Result, Ok, Err}
+use Rattle.lp_spec.specs.Trees.{Tree, Var, Sym}
 use Rattle.lp_spec.specs.Modules.{Declaration, signature}
 use Rattle.lp_spec.specs.ModuleOrder.{IsModule}
 use Rattle.lp_spec.specs.Reading.{Scope}
@@ -8,14 +8,17 @@ use Rattle.lp_spec.specs.Tokens as tokens
 use Rattle.lp_spec.specs.ReadingFaults as reading
 use Rattle.text_laws.specs.ReadingOrder.{IsState}
 use Rattle.lp_term.specs.declared.LpId.{LpId}
-use Rattle.lp_term.specs.Tables.{tree_at, Keeps}
+use Rattle.lp_term.specs.Tables.{tree_at, Holds, Keeps}
 use Rattle.holide_sig.specs.declared.module.Module.{Module}
 use Rattle.holide_sig.specs.Modules.{declarations_of, IsHeld}
 use Rattle.dk_read.specs.declared.faults.DkKind.{DkKind}
 use Rattle.dk_read.specs.declared.faults.DkKind.TheVariants as kind
 use Rattle.dk_read.specs.declared.faults.DkFault.{DkFault}
 use Rattle.dk_read.specs.declared.faults.DkFault.TheVariants as fault
+use Rattle.dk_read.specs.declared.faults.Stop.{Stop}
+use Rattle.dk_read.specs.declared.faults.Stop.TheVariants as stop
 use Rattle.dk_read.specs.declared.terms.Meaning.{Meaning}
+use Rattle.dk_read.specs.declared.terms.Atoms.{Atoms}
 use Rattle.dk_read.specs.declared.terms.Frame.{Frame}
 use Rattle.dk_read.specs.declared.terms.Frame.TheVariants as frame
 use Rattle.dk_read.specs.declared.terms.Binder.{Binder}
@@ -140,8 +143,16 @@ abbrev pub IsTokenKnown : List Named → Token → Type 0
 IsTokenKnown ns (token.Name n) = n < length ns
 IsTokenKnown ns _ = Unit {0}
 
+-- each number of the list is that of the tree that its place has
+abbrev pub AreOf : (ℕ → Tree) → List Tree → List LpId → Type 0
+AreOf tree trees ids = (n : ℕ) (id : LpId) → slice_get ids n ≡ Some id → Holds trees id.0 (tree n)
+
+-- the nodes that are kept are those of the first variables and of the first symbols, by number
+abbrev pub AreAtoms : List Tree → Atoms → Type 0
+AreAtoms trees atoms = AreOf Var trees atoms.variables.items × AreOf Sym trees atoms.symbols.items
+
 -- the numbers of a reading are of its table and of its names, its module is one, and each name means what it does inside the binders that are open
-pub record IsSoundIn (m : Module) (ns : List Named) (nameless binders : ℕ) (h : Head) (fs : List Frame) : Type 0 where
+pub record IsSoundIn (m : Module) (ns : List Named) (nameless : ℕ) (kept : Atoms) (binders : ℕ) (h : Head) (fs : List Frame) : Type 0 where
   pub held : IsHeld m
   pub is_module : IsModule (declarations_of m)
   pub frames : AreFramesKnown m.table ns (signature ++ declarations_of m) fs
@@ -150,9 +161,10 @@ pub record IsSoundIn (m : Module) (ns : List Named) (nameless binders : ℕ) (h 
   pub empty : IsNameless ns nameless
   pub depth : binders ≡ length (reading.scope_of (frames_in m.table ns fs))
   pub few : binders ≤ length fs
+  pub atoms : AreAtoms m.table kept
 
 abbrev pub IsSound : Parser → Type 0
-IsSound p = IsSoundIn p.module p.names p.nameless p.binders p.head (reverse p.frames.items)
+IsSound p = IsSoundIn p.module p.names p.nameless p.atoms p.binders p.head (reverse p.frames.items)
 
 -- and so are those of its state
 pub record IsReady (p : Parser) : Type 0 where
@@ -175,27 +187,37 @@ pub record Grows (old new : Parser) : Type 0 where
   pub state : new.state ≡ old.state
   pub sound : IsSound old → IsSound new
 
+-- where a stop refuses the text, and for which fault; none for want of memory
+abbrev pub refused_by : List Named → Stop → Option reading.Refusal
+refused_by ns (stop.BadText p) = Some (reading.refusal p reading.BadText)
+refused_by ns (stop.UnknownName p n) = Some (reading.refusal p (reading.UnknownName (name_at ns n)))
+refused_by ns (stop.NameTwice p n) = Some (reading.refusal p (reading.NameTwice (name_at ns n)))
+refused_by ns (stop.TooDeep p) = Some (reading.refusal p reading.DkTooDeep)
+refused_by ns stop.Memory = None
+
+-- the refusal has the property, if there is one
+abbrev pub OnRefusal : Option reading.Refusal → (reading.Refusal → Type 0) → Type 0
+OnRefusal None P = Unit {0}
+OnRefusal (Some r) P = P r
+
+-- the fault that is answered is the stop's; want of memory says nothing
+abbrev pub Tells : List Named → Stop → DkFault → Type 0
+Tells ns s (fault.Refused p k) = refused_by ns s ≡ Some (reading.refusal p (fault_of k))
+Tells ns s fault.Memory = Unit {0}
+
 -- a reading has come to what is said
-abbrev pub Becomes : reading.Outcome → Parser → Result (Unit {0}) DkFault → Type 0
+abbrev pub Becomes : reading.Outcome → Parser → Result (Unit {0}) Stop → Type 0
 Becomes outcome p (Ok _) = outcome ≡ reading.Goes (before p) (state_of p)
-Becomes outcome p (Err (fault.Refused place k)) = outcome ≡ reading.stops place (fault_of k)
-Becomes outcome p (Err fault.Memory) = Unit {0}
+Becomes outcome p (Err s) = OnRefusal (refused_by p.names s) (λ r. outcome ≡ reading.Stops r)
 
--- the fault is this one at its place
-abbrev pub IsFault : DkKind → ℕ → DkFault → Type 0
-IsFault k place (fault.Refused q j) = (q ≡ place) × (j ≡ k)
-IsFault k place fault.Memory = Unit {0}
-
--- the fault is this refusal
-abbrev pub Breaks : reading.Refusal → DkFault → Type 0
-Breaks r (fault.Refused q k) = r ≡ reading.refusal q (fault_of k)
-Breaks r fault.Memory = Unit {0}
+-- the stop is this refusal
+abbrev pub Breaks : reading.Refusal → List Named → Stop → Type 0
+Breaks refusal ns s = OnRefusal (refused_by ns s) (λ r. refusal ≡ r)
 
 -- the number's tree is what an identifier means, or the identifier means none
-abbrev pub Means : Option Tree → ℕ → List ℕ → Parser → Result LpId DkFault → Type 0
+abbrev pub Means : Option Tree → ℕ → List ℕ → Parser → Result LpId Stop → Type 0
 Means meaning place name p (Ok id) = meaning ≡ Some (tree_at p.module.table id.0)
-Means meaning place name p (Err (fault.Refused q k)) = (meaning ≡ None) × (q ≡ place) × (k ≡ kind.UnknownName name)
-Means meaning place name p (Err fault.Memory) = Unit {0}
+Means meaning place name p (Err s) = OnRefusal (refused_by p.names s) (λ r. (meaning ≡ None) × (r ≡ reading.refusal place (reading.UnknownName name)))
 
 -- the frame of a binder
 abbrev pub bound_frame : List Tree → Binder → List ℕ → reading.Frame

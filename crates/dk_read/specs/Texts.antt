@@ -11,7 +11,10 @@ use Rattle.dk_read.specs.declared.faults.DkFault.TheVariants as fault
 use Rattle.dk_read.specs.declared.text.Pending.{Pending}
 use Rattle.dk_read.specs.declared.text.Pending.TheVariants as pending
 use Rattle.dk_read.specs.declared.text.Text.{Text}
-use Rattle.dk_read.specs.States.{before, state_of, fault_of, IsReading}
+use Rattle.dk_read.specs.declared.faults.Stop.{Stop}
+use Rattle.dk_read.specs.declared.terms.Token.{Token}
+use Rattle.lp_spec.specs.Modules.{Declaration}
+use Rattle.dk_read.specs.States.{before, state_of, fault_of, refused_by, OnRefusal, token_in, IsTokenKnown, IsReading}
 
 -- what is pending, with the bytes of the word that is open, if one is
 abbrev pub pending_in : List ℕ → Pending → tokens.Pending
@@ -33,10 +36,9 @@ held_of (reading.Inside p (tokens.InWord q word) m s) = length word
 held_of _ = 0
 
 -- a reading has come to what is said of its bytes
-abbrev pub Takes : reading.Progress → Text → Result (Unit {0}) DkFault → Type 0
+abbrev pub Takes : reading.Progress → Text → Result (Unit {0}) Stop → Type 0
 Takes progress t (Ok _) = progress ≡ inside t
-Takes progress t (Err (fault.Refused p k)) = progress ≡ reading.Refused (reading.refusal p (fault_of k))
-Takes progress t (Err fault.Memory) = Unit {0}
+Takes progress t (Err s) = OnRefusal (refused_by t.parser.names s) (λ r. progress ≡ reading.Refused r)
 
 -- the first n bytes of a piece have been read
 pub record TookSome (old : Text) (piece : List ℕ) (new : Text) (n : ℕ) : Type 0 where
@@ -47,15 +49,22 @@ pub record TookSome (old : Text) (piece : List ℕ) (new : Text) (n : ℕ) : Typ
   pub reading : IsReading new.parser
 
 -- some bytes of a piece have been read, or one of them shows a fault
-abbrev pub TakesSome : Text → List ℕ → Text → Result ℕ DkFault → Type 0
+abbrev pub TakesSome : Text → List ℕ → Text → Result ℕ Stop → Type 0
 TakesSome old piece new (Ok n) = TookSome old piece new n
-TakesSome old piece new (Err (fault.Refused p k)) = reading.read_bytes (inside old) piece ≡ reading.Refused (reading.refusal p (fault_of k))
-TakesSome old piece new (Err fault.Memory) = Unit {0}
+TakesSome old piece new (Err s) = OnRefusal (refused_by new.parser.names s) (λ r. reading.read_bytes (inside old) piece ≡ reading.Refused r)
 
 -- how many bytes at the head pass a test
 abbrev pub run : (ℕ → Bool) → List ℕ → ℕ
 run test [] = 0
 run test (b ∷ bytes) = if test b then suc (run test bytes) else 0
+
+-- the first n bytes of a piece are a sign, which is this token: so they are read, wherever the piece begins
+pub record Signs (piece : List ℕ) (n : ℕ) (token : Token) : Type 0 where
+  pub some : 1 ≤ n
+  pub within : n ≤ length piece
+  pub known : IsTokenKnown [] token
+  pub goes : (p : ℕ) (m m2 : List Declaration) (s s2 : reading.State) → reading.advance m s p (token_in [] token) ≡ reading.Goes m2 s2 → reading.read_bytes (reading.Inside p tokens.Nothing m s) piece ≡ reading.read_bytes (reading.Inside (p + n) tokens.Nothing m2 s2) (drop n piece)
+  pub stops : (p : ℕ) (m : List Declaration) (s : reading.State) (r : reading.Refusal) → reading.advance m s p (token_in [] token) ≡ reading.Stops r → reading.read_bytes (reading.Inside p tokens.Nothing m s) piece ≡ reading.Refused r
 
 -- a refusal as it is answered: a place past what a number holds is the greatest
 pub record Refuses (a : reading.Answer) (p : ℕ) (k : DkKind) : Type 0 where
@@ -76,7 +85,6 @@ common (a ∷ x) (b ∷ y) = if a == b then suc (common x y) else 0
 common _ _ = 0
 
 -- the tokens that the end of a text ends have been read, or the answer is this refusal
-abbrev pub EndsTokens : reading.Answer → Text → Result (Unit {0}) DkFault → Type 0
+abbrev pub EndsTokens : reading.Answer → Text → Result (Unit {0}) Stop → Type 0
 EndsTokens a t (Ok _) = a ≡ reading.answers (reading.Goes (before t.parser) (state_of t.parser)) (tokens.ended t.place)
-EndsTokens a t (Err (fault.Refused p k)) = a ≡ reading.refused (reading.refusal p (fault_of k))
-EndsTokens a t (Err fault.Memory) = Unit {0}
+EndsTokens a t (Err s) = OnRefusal (refused_by t.parser.names s) (λ r. a ≡ reading.refused r)

@@ -1,7 +1,7 @@
 //! Why a text is refused.
 ghost use Rattle.std.specs.Prelude.{◌≡◌};
 ghost use Rattle.dk_read.specs.declared.faults.DkFault.TheVariants as variant;
-ghost use Rattle.dk_read.specs.declared.faults.DkKind.TheVariants as kind;
+ghost use Rattle.dk_read.specs.declared.faults.Stop.TheVariants as stop;
 
 use bridge_base::Memory;
 use holide_sig::Ident;
@@ -49,12 +49,26 @@ impl From<Memory> for DkFault {
     }
 }
 
-/// A token that can't follow.
-pub(crate) fn bad(place: u64) -> DkFault
-    ensures { result ≡ variant.Refused place kind.BadText }
-{
-    DkFault::Refused {
-        place,
-        kind: DkKind::BadText,
+/// Why a reading stops: at a place, or for want of memory. A name is told by its number, so that a stop is copied at no
+/// cost.
+#[derive(Clone, Copy)]
+pub(crate) enum Stop {
+    /// A token can't follow here, or a byte begins none.
+    BadText(u64),
+    /// The name of this number means nothing here.
+    UnknownName(u64, usize),
+    /// The name of this number is a symbol's already.
+    NameTwice(u64, usize),
+    /// A type or a body that ends here is too deep.
+    TooDeep(u64),
+    /// Memory ran out.
+    Memory,
+}
+
+impl From<Memory> for Stop {
+    ghost from_gives = { λ _ made. made ≡ stop.Memory };
+
+    fn from(_memory: Memory) -> Stop {
+        Stop::Memory
     }
 }

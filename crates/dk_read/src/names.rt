@@ -67,13 +67,14 @@ impl Names {
         Ok(number)
     }
 
-    /// The bytes of a name.
+    /// The bytes of a name: none for a number that no name has.
     pub(crate) fn bytes(&self, number: usize) -> &[u8]
-        requires { number < length self.now }
         ensures { result.now ≡ name_at self.now number }
     {
-        let (name, _) = self.meanings.get_index(number).unwrap();
-        name
+        match self.meanings.get_index(number) {
+            Some((name, _)) => name,
+            None => &[],
+        }
     }
 
     /// What a name means.

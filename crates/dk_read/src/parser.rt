@@ -2,21 +2,21 @@
 ghost use Rattle.lp_spec.specs.Modules.{symbol_name};
 ghost use Rattle.std.specs.Prelude.{ℕ, ◌≡◌, ◌<◌, ◌+◌, ◌++◌, [], ◌∷◌, length, None, Some, IfOk, IfSome, IfNone, OnOk, IfErr};
 ghost use Rattle.lp_spec.specs.ModuleOrder.{MayFollow};
+ghost use Rattle.lp_spec.specs.Trees.{Var, Sym};
 ghost use Rattle.lp_spec.specs.Tokens as tokens;
 ghost use Rattle.lp_spec.specs.ReadingFaults as reading;
 ghost use Rattle.text_laws.specs.ReadingOrder.{IsState};
 ghost use Rattle.lp_term.specs.Tables.{tree_at, tree_of_node, Holds, Keeps, PartsBelow};
 ghost use Rattle.holide_sig.specs.Modules.{declarations_of, declaration_in, IsKnown, IsBodyKnown};
-ghost use Rattle.dk_read.specs.declared.faults.DkKind.TheVariants as kind;
 ghost use Rattle.dk_read.specs.declared.terms.State.TheVariants as state;
-ghost use Rattle.dk_read.specs.declared.faults.DkFault.TheVariants as fault;
+ghost use Rattle.dk_read.specs.declared.faults.Stop.TheVariants as stop;
 ghost use Rattle.dk_read.specs.Names.{name_at, looked, IsNameless, HasSymbols};
 ghost use Rattle.dk_read.specs.Names as naming;
-ghost use Rattle.dk_read.specs.States.{state_in, state_of, head_of, token_in, frames_of, scope_of, declared, IsSound, IsReady, IsReading, IsStateKnown, IsTokenKnown, IsIdKnown, Becomes, IsFault, Breaks, Means, Grows, before, tree_in, frame_in, IsFrameKnown, IsBinderKnown, IsUnwound, bound_frame, Binds, IsPlain, Unwinds, NoDomain, NoEnclosing, IsSign, NoColon, IsWord};
+ghost use Rattle.dk_read.specs.States.{state_in, state_of, head_of, token_in, frames_of, scope_of, declared, IsSound, IsReady, IsReading, IsStateKnown, IsTokenKnown, IsIdKnown, Becomes, Tells, Breaks, Means, Grows, before, tree_in, frame_in, IsFrameKnown, IsBinderKnown, IsUnwound, bound_frame, Binds, IsPlain, Unwinds, NoDomain, NoEnclosing, IsSign, NoColon, IsWord};
 
-use crate::faults::{DkFault, DkKind, bad};
+use crate::faults::{DkFault, DkKind, Stop};
 use crate::names::Names;
-use crate::terms::{Binder, Frame, Head, Meaning, State, Token, Word};
+use crate::terms::{Atoms, Binder, Frame, Head, Meaning, State, Token, Word};
 use bridge_base::Memory;
 use holide_sig::{Decl, Form, Ident, Module, SIGNATURE};
 use lp_term::{LpId, LpNode};
@@ -35,52 +35,60 @@ pub(crate) struct Parser {
     pub(crate) nameless: usize,
     pub(crate) frames: Vec<Frame>,
     pub(crate) binders: usize,
+    pub(crate) atoms: Atoms,
     pub(crate) head: Head,
     pub(crate) state: State,
 }
 
 impl Parser {
     /// A reading before the first token.
-    pub(crate) fn new(alloc: Global) -> Result<Parser, DkFault>
+    pub(crate) fn new(alloc: Global) -> Result<Parser, Memory>
         ensures reading { IfOk result IsReading }
         ensures none { IfOk result (λ p. before p ≡ []) }
         ensures state { IfOk result (λ p. state_of p ≡ reading.Between) }
-        ensures memory { IfErr result (λ e. e ≡ fault.Memory) }
     {
         let module = Module::new(alloc)?;
         let (names, nameless) = first_names(alloc, &module)?;
-        Ok(Parser {
+        let mut parser = Parser {
             alloc,
             module,
             names,
             nameless,
             frames: Vec::new(alloc),
             binders: 0,
+            atoms: Atoms {
+                variables: Vec::new(alloc),
+                symbols: Vec::new(alloc),
+            },
             head: Head::TypeOf(Form::Symbol, nameless),
             state: State::Between,
-        })
+        };
+        match parser.keep_signature() {
+            Ok(()) => Ok(parser),
+            Err(_) => Err(Memory),
+        }
     }
 
     // The tree of this node.
-    fn node(&mut self, node: LpNode) -> Result<LpId, DkFault>
+    fn node(&mut self, node: LpNode) -> Result<LpId, Stop>
         requires sound { IsSound self.old }
         requires parts { PartsBelow (length self.old.module.table) node }
         ensures known { IfOk result (λ id. id.0 < length self.new.module.table) }
         ensures made { IfOk result (λ id. Holds self.new.module.table id.0 (tree_of_node self.old.module.table node)) }
         ensures grows { Grows self.old self.new }
-        ensures memory { IfErr result (λ e. e ≡ fault.Memory) }
+        ensures memory { IfErr result (λ e. e ≡ stop.Memory) }
     {
         let id = self.module.table.node(node)?;
         Ok(id)
     }
 
     /// The number of a name.
-    pub(crate) fn number(&mut self, name: &[u8]) -> Result<usize, DkFault>
+    pub(crate) fn number(&mut self, name: &[u8]) -> Result<usize, Stop>
         requires sound { IsSound self.old }
         ensures known { IfOk result (λ n. n < length self.new.names) }
         ensures named { IfOk result (λ n. name_at self.new.names n ≡ name.now) }
         ensures grows { Grows self.old self.new }
-        ensures memory { IfErr result (λ e. e ≡ fault.Memory) }
+        ensures memory { IfErr result (λ e. e ≡ stop.Memory) }
     {
         let number = self.names.number(name)?;
         Ok(number)
@@ -88,43 +96,138 @@ impl Parser {
 
     // A name, copied.
     fn ident(&self, name: usize) -> Result<Ident, Memory>
-        requires known { name < length self.now.names }
         ensures { IfOk result (λ ident. ident ≡ name_at self.now.names name) }
     {
         let bytes = Vec::from_slice(self.alloc, self.names.bytes(name))?;
         Ok(Ident::new(bytes))
     }
 
-    // A name that means nothing.
-    fn unknown(&self, place: u64, name: usize) -> DkFault
-        requires known { name < length self.now.names }
-        ensures { IsFault (kind.UnknownName (name_at self.now.names name)) place result }
+    /// A stop as the fault that is answered, with a copy of the name that it tells.
+    pub(crate) fn fault(&self, stop: Stop) -> DkFault
+        ensures { Tells self.now.names stop result }
     {
-        match self.ident(name) {
-            Ok(ident) => DkFault::Refused {
+        match stop {
+            Stop::BadText(place) => DkFault::Refused {
                 place,
-                kind: DkKind::UnknownName(ident),
+                kind: DkKind::BadText,
             },
-            Err(_) => DkFault::Memory,
+            Stop::UnknownName(place, name) => match self.ident(name) {
+                Ok(ident) => DkFault::Refused {
+                    place,
+                    kind: DkKind::UnknownName(ident),
+                },
+                Err(_) => DkFault::Memory,
+            },
+            Stop::NameTwice(place, name) => match self.ident(name) {
+                Ok(ident) => DkFault::Refused {
+                    place,
+                    kind: DkKind::NameTwice(ident),
+                },
+                Err(_) => DkFault::Memory,
+            },
+            Stop::TooDeep(place) => DkFault::Refused {
+                place,
+                kind: DkKind::DkTooDeep,
+            },
+            Stop::Memory => DkFault::Memory,
         }
     }
 
-    // A name that is a symbol's already.
-    fn twice(&self, place: u64, name: usize) -> DkFault
-        requires known { name < length self.now.names }
-        ensures { IsFault (kind.NameTwice (name_at self.now.names name)) place result }
+    // The tree of a variable, by its number.
+    fn variable(&mut self, number: usize) -> Result<LpId, Stop>
+        requires sound { IsSound self.old }
+        ensures known { IfOk result (λ id. id.0 < length self.new.module.table) }
+        ensures made { IfOk result (λ id. Holds self.new.module.table id.0 (Var number)) }
+        ensures grows { Grows self.old self.new }
+        ensures memory { IfErr result (λ e. e ≡ stop.Memory) }
     {
-        match self.ident(name) {
-            Ok(ident) => DkFault::Refused {
-                place,
-                kind: DkKind::NameTwice(ident),
-            },
-            Err(_) => DkFault::Memory,
+        match self.atoms.variables.get(number) {
+            Some(id) => Ok(*id),
+            None => self.add_variable(number),
+        }
+    }
+
+    // The tree of a variable whose number isn't kept. It is from now on where those of all lower numbers are.
+    fn add_variable(&mut self, number: usize) -> Result<LpId, Stop>
+        requires sound { IsSound self.old }
+        ensures known { IfOk result (λ id. id.0 < length self.new.module.table) }
+        ensures made { IfOk result (λ id. Holds self.new.module.table id.0 (Var number)) }
+        ensures grows { Grows self.old self.new }
+        ensures memory { IfErr result (λ e. e ≡ stop.Memory) }
+    {
+        let id = self.node(LpNode::Var(number as u128))?;
+        if number == self.atoms.variables.len() {
+            self.keep_variable(id)?;
+        }
+        Ok(id)
+    }
+
+    // Keeps the node of the next variable.
+    fn keep_variable(&mut self, id: LpId) -> Result<(), Stop>
+        requires variable { Holds self.old.module.table id.0 (Var (length self.old.atoms.variables.items)) }
+        ensures same { self.new.module ≡ self.old.module }
+        ensures grows { Grows self.old self.new }
+        ensures memory { IfErr result (λ e. e ≡ stop.Memory) }
+    {
+        match self.atoms.variables.push(id) {
+            Ok(()) => Ok(()),
+            Err(_) => Err(Stop::Memory),
+        }
+    }
+
+    // The tree of a symbol, by its number.
+    fn symbol(&mut self, number: usize) -> Result<LpId, Stop>
+        requires sound { IsSound self.old }
+        ensures known { IfOk result (λ id. id.0 < length self.new.module.table) }
+        ensures made { IfOk result (λ id. Holds self.new.module.table id.0 (Sym number)) }
+        ensures grows { Grows self.old self.new }
+        ensures memory { IfErr result (λ e. e ≡ stop.Memory) }
+    {
+        match self.atoms.symbols.get(number) {
+            Some(id) => Ok(*id),
+            None => self.node(LpNode::Sym(number)),
+        }
+    }
+
+    // Makes the node of the next symbol, and keeps it.
+    fn keep_symbol(&mut self) -> Result<(), Stop>
+        requires sound { IsSound self.old }
+        ensures grows { Grows self.old self.new }
+        ensures memory { IfErr result (λ e. e ≡ stop.Memory) }
+    {
+        let number = self.atoms.symbols.len();
+        let id = self.node(LpNode::Sym(number))?;
+        if number == self.atoms.symbols.len() {
+            self.push_symbol(id)?;
+        }
+        Ok(())
+    }
+
+    // Keeps the nodes of the signature's symbols.
+    fn keep_signature(&mut self) -> Result<(), Stop>
+        requires sound { IsSound self.old }
+        ensures grows { Grows self.old self.new }
+    {
+        for _symbol in 0..SIGNATURE {
+            self.keep_symbol()?;
+        }
+        Ok(())
+    }
+
+    // Keeps the node of the next symbol.
+    fn push_symbol(&mut self, id: LpId) -> Result<(), Stop>
+        requires symbol { Holds self.old.module.table id.0 (Sym (length self.old.atoms.symbols.items)) }
+        ensures grows { Grows self.old self.new }
+        ensures memory { IfErr result (λ e. e ≡ stop.Memory) }
+    {
+        match self.atoms.symbols.push(id) {
+            Ok(()) => Ok(()),
+            Err(_) => Err(Stop::Memory),
         }
     }
 
     /// The tree that an identifier means.
-    pub(crate) fn meaning(&mut self, place: u64, name: usize) -> Result<LpId, DkFault>
+    pub(crate) fn meaning(&mut self, place: u64, name: usize) -> Result<LpId, Stop>
         requires sound { IsSound self.old }
         requires known { name < length self.old.names }
         ensures means { Means (reading.meaning (before self.old) (frames_of self.old) (name_at self.old.names name)) place (name_at self.old.names name) self.new result }
@@ -134,15 +237,15 @@ impl Parser {
         match self.names.meaning(name) {
             Meaning::Binder(level) => {
                 let number = self.binders.saturating_sub(level).saturating_sub(1);
-                self.node(LpNode::Var(number as u128))
+                self.variable(number)
             }
-            Meaning::Symbol(symbol) => self.node(LpNode::Sym(symbol)),
-            Meaning::Nothing => Err(self.unknown(place, name)),
+            Meaning::Symbol(symbol) => self.symbol(symbol),
+            Meaning::Nothing => Err(Stop::UnknownName(place, name)),
         }
     }
 
     // An atom after what is applied to it, if anything.
-    fn argue(&mut self, function: Option<LpId>, atom: LpId) -> Result<(), DkFault>
+    fn argue(&mut self, function: Option<LpId>, atom: LpId) -> Result<(), Stop>
         requires sound { IsSound self.old }
         requires function { IsIdKnown self.old.module.table function }
         requires atom { atom.0 < length self.old.module.table }
@@ -163,7 +266,7 @@ impl Parser {
     }
 
     // The name of a declaration.
-    fn name(&mut self, form: Form, place: u64, name: usize) -> Result<(), DkFault>
+    fn name(&mut self, form: Form, place: u64, name: usize) -> Result<(), Stop>
         requires sound { IsSound self.old }
         requires known { name < length self.old.names }
         requires closed { self.old.frames.items ≡ [] }
@@ -175,28 +278,28 @@ impl Parser {
                 self.state = State::AfterName(form, name);
                 Ok(())
             }
-            Meaning::Symbol(_) | Meaning::Binder(_) => Err(self.twice(place, name)),
+            Meaning::Symbol(_) | Meaning::Binder(_) => Err(Stop::NameTwice(place, name)),
         }
     }
 
     // Opens one more frame, of no binder whose domain has been read.
-    fn open(&mut self, frame: Frame) -> Result<(), DkFault>
+    fn open(&mut self, frame: Frame) -> Result<(), Stop>
         requires sound { IsSound self.old }
         requires known { IsFrameKnown self.old.module.table self.old.names (declared self.old) (scope_of self.old) frame }
         requires plain { IsPlain frame }
         ensures same { (self.new.module ≡ self.old.module) × (self.new.names ≡ self.old.names) × (self.new.head ≡ self.old.head) }
         ensures frames { OnOk result (frames_of self.new ≡ frame_in self.old.module.table self.old.names frame ∷ frames_of self.old) }
         ensures sound { OnOk result (IsSound self.new) }
-        ensures memory { IfErr result (λ e. e ≡ fault.Memory) }
+        ensures memory { IfErr result (λ e. e ≡ stop.Memory) }
     {
         match self.frames.push(frame) {
             Ok(()) => Ok(()),
-            Err(_) => Err(DkFault::Memory),
+            Err(_) => Err(Stop::Memory),
         }
     }
 
     // Opens the body of a binder, whose name means it there.
-    fn bind(&mut self, binder: Binder, name: usize) -> Result<(), DkFault>
+    fn bind(&mut self, binder: Binder, name: usize) -> Result<(), Stop>
         requires sound { IsSound self.old }
         requires known { name < length self.old.names }
         requires binder { IsBinderKnown self.old.module.table binder }
@@ -204,7 +307,7 @@ impl Parser {
         ensures head { head_of self.new ≡ head_of self.old }
         ensures frames { OnOk result (frames_of self.new ≡ bound_frame self.old.module.table binder (name_at self.old.names name) ∷ frames_of self.old) }
         ensures sound { OnOk result (IsSound self.new) }
-        ensures memory { IfErr result (λ e. e ≡ fault.Memory) }
+        ensures memory { IfErr result (λ e. e ≡ stop.Memory) }
     {
         let hidden = self.names.put(name, Meaning::Binder(self.binders));
         let _few = self.frames.len();
@@ -213,13 +316,13 @@ impl Parser {
             Binder::Product(domain) => {
                 match self.frames.push(Frame::Product(name, domain, hidden)) {
                     Ok(()) => Ok(()),
-                    Err(_) => Err(DkFault::Memory),
+                    Err(_) => Err(Stop::Memory),
                 }
             }
             Binder::Abstraction(domain) => {
                 match self.frames.push(Frame::Abstraction(name, domain, hidden)) {
                     Ok(()) => Ok(()),
-                    Err(_) => Err(DkFault::Memory),
+                    Err(_) => Err(Stop::Memory),
                 }
             }
         }
@@ -256,13 +359,13 @@ impl Parser {
     }
 
     // The term whose body has been read, with the binders that end with it.
-    fn unwind(&mut self, body: LpId) -> Result<LpId, DkFault>
+    fn unwind(&mut self, body: LpId) -> Result<LpId, Stop>
         requires sound { IsSound self.old }
         requires body { body.0 < length self.old.module.table }
         ensures known { IfOk result (λ id. id.0 < length self.new.module.table) }
         ensures unwinds { IfOk result (λ id. Unwinds (frames_of self.old) (tree_at self.old.module.table body.0) (frames_of self.new) (tree_at self.new.module.table id.0)) }
         ensures same { IfOk result (λ id. (before self.new ≡ before self.old) × (head_of self.new ≡ head_of self.old) × IsSound self.new) }
-        ensures memory { IfErr result (λ e. e ≡ fault.Memory) }
+        ensures memory { IfErr result (λ e. e ≡ stop.Memory) }
     {
         let mut tree = body;
         while let Some(binder) = self.last_binder() {
@@ -276,7 +379,7 @@ impl Parser {
     }
 
     // An application that is the domain of a binder.
-    fn arrow(&mut self, domain: LpId) -> Result<(), DkFault>
+    fn arrow(&mut self, domain: LpId) -> Result<(), Stop>
         requires sound { IsSound self.old }
         requires domain { domain.0 < length self.old.module.table }
         ensures becomes { Becomes (reading.arrow (before self.old) (head_of self.old) (frames_of self.old) (tree_at self.old.module.table domain.0)) self.new result }
@@ -292,7 +395,7 @@ impl Parser {
     }
 
     // An application that is the domain of an abstraction, if it has a binder.
-    fn fat_arrow(&mut self, domain: LpId, place: u64) -> Result<(), DkFault>
+    fn fat_arrow(&mut self, domain: LpId, place: u64) -> Result<(), Stop>
         requires sound { IsSound self.old }
         requires domain { domain.0 < length self.old.module.table }
         ensures becomes { Becomes (reading.fat_arrow (before self.old) (head_of self.old) (frames_of self.old) (tree_at self.old.module.table domain.0) place) self.new result }
@@ -304,7 +407,7 @@ impl Parser {
                 self.state = State::AtTerm;
                 Ok(())
             }
-            None => Err(bad(place)),
+            None => Err(Stop::BadText(place)),
         }
     }
 
@@ -347,7 +450,7 @@ impl Parser {
     }
 
     // A term that ends by a parenthesis.
-    fn close(&mut self, body: LpId, place: u64) -> Result<(), DkFault>
+    fn close(&mut self, body: LpId, place: u64) -> Result<(), Stop>
         requires sound { IsSound self.old }
         requires body { body.0 < length self.old.module.table }
         ensures becomes { Becomes (reading.encloses (before self.old) (head_of self.old) (frames_of self.old) (tree_at self.old.module.table body.0) place) self.new result }
@@ -356,19 +459,19 @@ impl Parser {
         let tree = self.unwind(body)?;
         match self.last_enclosing() {
             Some(function) => self.argue(function, tree),
-            None => Err(bad(place)),
+            None => Err(Stop::BadText(place)),
         }
     }
 
     // The whole type or body that ends here, unless a parenthesis or a domain is open.
-    fn whole(&mut self, body: LpId) -> Result<Option<LpId>, DkFault>
+    fn whole(&mut self, body: LpId) -> Result<Option<LpId>, Stop>
         requires sound { IsSound self.old }
         requires body { body.0 < length self.old.module.table }
         ensures is { IfOk result (λ o. reading.whole (frames_of self.old) (tree_at self.old.module.table body.0) ≡ tree_in self.new.module.table o) }
         ensures known { IfOk result (λ o. IsIdKnown self.new.module.table o) }
         ensures closed { IfOk result (λ o. IfSome o (λ id. self.new.frames.items ≡ [])) }
         ensures same { IfOk result (λ o. (before self.new ≡ before self.old) × (head_of self.new ≡ head_of self.old) × IsSound self.new) }
-        ensures memory { IfErr result (λ e. e ≡ fault.Memory) }
+        ensures memory { IfErr result (λ e. e ≡ stop.Memory) }
     {
         let tree = self.unwind(body)?;
         if self.frames.is_empty() {
@@ -379,7 +482,7 @@ impl Parser {
     }
 
     // A declaration whose last tree has been read.
-    fn push(&mut self, name: usize, decl: Decl, tree: LpId, place: u64) -> Result<(), DkFault>
+    fn push(&mut self, name: usize, decl: Decl, tree: LpId, place: u64) -> Result<(), Stop>
         requires sound { IsSound self.old }
         requires closed { self.old.frames.items ≡ [] }
         requires name { (name < length self.old.names) × (decl.name ≡ name_at self.old.names name) }
@@ -390,7 +493,7 @@ impl Parser {
         ensures ready { OnOk result (IsReady self.new) }
     {
         if self.module.table.depth(tree) > MAX_DEPTH {
-            return Err(deep(place));
+            return Err(Stop::TooDeep(place));
         }
         let symbol = SIGNATURE + self.module.decls.len();
         self.module.push(decl)?;
@@ -400,7 +503,7 @@ impl Parser {
     }
 
     // A declaration that ends.
-    fn declare(&mut self, body: LpId, place: u64) -> Result<(), DkFault>
+    fn declare(&mut self, body: LpId, place: u64) -> Result<(), Stop>
         requires sound { IsSound self.old }
         requires body { body.0 < length self.old.module.table }
         requires ordered { IsState (before self.old) (state_in self.old (state.InApplication (Some body))) }
@@ -408,7 +511,7 @@ impl Parser {
         ensures ready { OnOk result (IsReady self.new) }
     {
         let Some(tree) = self.whole(body)? else {
-            return Err(bad(place));
+            return Err(Stop::BadText(place));
         };
         match self.head {
             Head::TypeOf(form, number) => match form {
@@ -422,7 +525,7 @@ impl Parser {
                     };
                     self.push(number, decl, tree, place)
                 }
-                Form::Def | Form::Thm => Err(bad(place)),
+                Form::Def | Form::Thm => Err(Stop::BadText(place)),
             },
             Head::BodyOf(form, number, ty) => {
                 let name = self.ident(number)?;
@@ -438,20 +541,20 @@ impl Parser {
     }
 
     // A type that ends, after which a body comes.
-    fn assign(&mut self, body: LpId, place: u64) -> Result<(), DkFault>
+    fn assign(&mut self, body: LpId, place: u64) -> Result<(), Stop>
         requires sound { IsSound self.old }
         requires body { body.0 < length self.old.module.table }
         ensures becomes { Becomes (reading.assigns (before self.old) (head_of self.old) (reading.whole (frames_of self.old) (tree_at self.old.module.table body.0)) place) self.new result }
         ensures ready { OnOk result (IsReady self.new) }
     {
         let Some(tree) = self.whole(body)? else {
-            return Err(bad(place));
+            return Err(Stop::BadText(place));
         };
         match self.head {
-            Head::TypeOf(Form::Symbol, _) | Head::BodyOf(_, _, _) => Err(bad(place)),
+            Head::TypeOf(Form::Symbol, _) | Head::BodyOf(_, _, _) => Err(Stop::BadText(place)),
             Head::TypeOf(form, name) => {
                 if self.module.table.depth(tree) > MAX_DEPTH {
-                    Err(deep(place))
+                    Err(Stop::TooDeep(place))
                 } else {
                     self.head = Head::BodyOf(form, name, tree);
                     self.state = State::AtTerm;
@@ -462,7 +565,7 @@ impl Parser {
     }
 
     // The token after what the application so far is, if anything.
-    fn apply(&mut self, function: Option<LpId>, place: u64, token: Token) -> Result<(), DkFault>
+    fn apply(&mut self, function: Option<LpId>, place: u64, token: Token) -> Result<(), Stop>
         requires sound { IsSound self.old }
         requires function { IsIdKnown self.old.module.table function }
         requires ordered { IsState (before self.old) (state_in self.old (state.InApplication function)) }
@@ -486,13 +589,13 @@ impl Parser {
             }
             sign => match function {
                 Some(tree) => self.end_application(tree, place, sign),
-                None => Err(bad(place)),
+                None => Err(Stop::BadText(place)),
             },
         }
     }
 
     // The sign after an application.
-    fn end_application(&mut self, tree: LpId, place: u64, sign: Token) -> Result<(), DkFault>
+    fn end_application(&mut self, tree: LpId, place: u64, sign: Token) -> Result<(), Stop>
         requires sound { IsSound self.old }
         requires tree { tree.0 < length self.old.module.table }
         requires ordered { IsState (before self.old) (state_in self.old (state.InApplication (Some tree))) }
@@ -506,18 +609,12 @@ impl Parser {
             Token::FatArrow => self.fat_arrow(tree, place),
             Token::Dot => self.declare(tree, place),
             Token::Assign => self.assign(tree, place),
-            _ => Err(bad(place)),
+            _ => Err(Stop::BadText(place)),
         }
     }
 
     // The token after an identifier that begins a term, where it is no binder's.
-    fn after_first(
-        &mut self,
-        first: u64,
-        name: usize,
-        place: u64,
-        token: Token,
-    ) -> Result<(), DkFault>
+    fn after_first(&mut self, first: u64, name: usize, place: u64, token: Token) -> Result<(), Stop>
         requires sound { IsSound self.old }
         requires known { name < length self.old.names }
         requires ordered { IsState (before self.old) (reading.AfterFirst (head_of self.old) (frames_of self.old) first (name_at self.old.names name)) }
@@ -531,7 +628,7 @@ impl Parser {
     }
 
     // The token between two declarations.
-    fn begin(&mut self, place: u64, token: Token) -> Result<(), DkFault>
+    fn begin(&mut self, place: u64, token: Token) -> Result<(), Stop>
         requires sound { IsSound self.old }
         requires closed { self.old.frames.items ≡ [] }
         requires token { IsTokenKnown self.old.names token }
@@ -548,12 +645,12 @@ impl Parser {
                 self.state = State::AfterKeyword(Form::Thm);
                 Ok(())
             }
-            _ => Err(bad(place)),
+            _ => Err(Stop::BadText(place)),
         }
     }
 
     /// The next token.
-    pub(crate) fn advance(&mut self, place: u64, token: Token) -> Result<(), DkFault>
+    pub(crate) fn advance(&mut self, place: u64, token: Token) -> Result<(), Stop>
         requires reading { IsReading self.old }
         requires token { IsTokenKnown self.old.names token }
         ensures becomes { Becomes (reading.advance (before self.old) (state_of self.old) place (token_in self.old.names token)) self.new result }
@@ -563,7 +660,7 @@ impl Parser {
     }
 
     /// The next token, a word.
-    pub(crate) fn word(&mut self, place: u64, word: &[u8]) -> Result<(), DkFault>
+    pub(crate) fn word(&mut self, place: u64, word: &[u8]) -> Result<(), Stop>
         requires reading { IsReading self.old }
         ensures becomes { Becomes (reading.advance (before self.old) (state_of self.old) place (tokens.word_token word.now)) self.new result }
         ensures reading { OnOk result (IsReading self.new) }
@@ -577,7 +674,7 @@ impl Parser {
     }
 
     // The next token, an identifier.
-    fn identifier(&mut self, place: u64, word: &[u8]) -> Result<(), DkFault>
+    fn identifier(&mut self, place: u64, word: &[u8]) -> Result<(), Stop>
         requires reading { IsReading self.old }
         ensures becomes { Becomes (reading.advance (before self.old) (state_of self.old) place (tokens.Name word.now)) self.new result }
         ensures reading { OnOk result (IsReading self.new) }
@@ -587,21 +684,21 @@ impl Parser {
     }
 
     /// No token comes at this place.
-    pub(crate) fn stuck(&mut self, place: u64) -> DkFault
+    pub(crate) fn stuck(&mut self, place: u64) -> Stop
         requires reading { IsReading self.old }
-        ensures { Breaks (reading.broken (reading.Goes (before self.old) (state_of self.old)) place) result }
+        ensures { Breaks (reading.broken (reading.Goes (before self.old) (state_of self.old)) place) self.new.names result }
     {
         match self.state {
             State::AfterFirst(first, name) => match self.meaning(first, name) {
-                Ok(_) => bad(place),
-                Err(fault) => fault,
+                Ok(_) => Stop::BadText(place),
+                Err(stop) => stop,
             },
-            _ => bad(place),
+            _ => Stop::BadText(place),
         }
     }
 
     // The state after a token.
-    fn next_state(&mut self, place: u64, token: Token) -> Result<(), DkFault>
+    fn next_state(&mut self, place: u64, token: Token) -> Result<(), Stop>
         requires reading { IsReading self.old }
         requires token { IsTokenKnown self.old.names token }
         ensures becomes { Becomes (reading.advance (before self.old) (state_of self.old) place (token_in self.old.names token)) self.new result }
@@ -627,7 +724,7 @@ impl Parser {
             State::Between => self.begin(place, token),
             State::AfterKeyword(form) => match token {
                 Token::Name(name) => self.name(form, place, name),
-                _ => Err(bad(place)),
+                _ => Err(Stop::BadText(place)),
             },
             State::AfterName(form, name) => match token {
                 Token::Colon => {
@@ -635,19 +732,9 @@ impl Parser {
                     self.state = State::AtTerm;
                     Ok(())
                 }
-                _ => Err(bad(place)),
+                _ => Err(Stop::BadText(place)),
             },
         }
-    }
-}
-
-// A tree that is too deep.
-fn deep(place: u64) -> DkFault
-    ensures { result ≡ fault.Refused place kind.DkTooDeep }
-{
-    DkFault::Refused {
-        place,
-        kind: DkKind::DkTooDeep,
     }
 }
 
@@ -686,9 +773,9 @@ fn kind_of(word: &[u8]) -> Word
     ensures { IsWord word.now result }
 {
     match word {
-        b"Type" => Word::Type,
-        b"def" => Word::Def,
-        b"thm" => Word::Thm,
+        [b'T', b'y', b'p', b'e'] => Word::Type,
+        [b'd', b'e', b'f'] => Word::Def,
+        [b't', b'h', b'm'] => Word::Thm,
         _ => Word::Identifier,
     }
 }

@@ -22,7 +22,7 @@ pub enum Limit {
     Free,
 }
 
-/// A reader of the text of a module.
+/// A reader of the text of a module. A place is a number of 64 bits, so a text of 2^64 bytes or more is want of memory.
 #[derive(Drop)]
 pub struct Reader {
     alloc: Global,

@@ -77,7 +77,7 @@ fn begin(alloc: Global, bytes: &[u8]) -> Stage
 {
     match Text::new(alloc) {
         Ok(text) => read_inside(text, bytes),
-        Err(fault) => Stage::Stopped(fault),
+        Err(_) => Stage::Stopped(DkFault::Memory),
     }
 }
 
@@ -91,7 +91,7 @@ fn read_inside(text: Text, piece: &[u8]) -> Stage
     let mut inner = text;
     match inner.take_all(piece) {
         Ok(()) => Stage::Inside(inner),
-        Err(fault) => Stage::Stopped(fault),
+        Err(stop) => Stage::Stopped(inner.parser.fault(stop)),
     }
 }
 

@@ -11,6 +11,14 @@ pub(crate) enum Meaning {
     Binder(usize),
 }
 
+/// The nodes that most terms have, so that they need not be looked up: those of the first variables and of the signature's
+/// symbols, by number.
+#[derive(Drop)]
+pub(crate) struct Atoms {
+    pub(crate) variables: Vec<LpId>,
+    pub(crate) symbols: Vec<LpId>,
+}
+
 /// What is open round a place in a term. A binder keeps what its name means outside it.
 #[derive(Clone, Copy)]
 pub(crate) enum Frame {

@@ -1,17 +1,17 @@
 //! The reading of bytes. A word or a comment is taken whole, as far as the piece goes; each other byte ends at most two
 //! tokens.
-ghost use Rattle.std.specs.Prelude.{◌≡◌, ◌<◌, ◌≤◌, ◌+◌, ◌^◌, ◌++◌, [], ◌∷◌, not, ◌==◌, length, get_or, true, IfOk, OnOk, IfErr};
+ghost use Rattle.std.specs.Prelude.{◌≡◌, ℕ, List, ◌<◌, ◌≤◌, ◌+◌, ◌^◌, ◌++◌, [], ◌∷◌, not, ◌==◌, length, get_or, true, IfOk, OnOk, IfSome};
 ghost use Rattle.lp_spec.specs.Text.{prelude};
 ghost use Rattle.lp_spec.specs.Tokens as tokens;
-ghost use Rattle.dk_read.specs.declared.faults.DkFault.TheVariants as fault;
 ghost use Rattle.dk_read.specs.declared.text.Pending.TheVariants as pending;
 ghost use Rattle.lp_spec.specs.ReadingFaults as reading;
 ghost use Rattle.dk_read.specs.States.{before, state_of, token_in, IsReading, IsTokenKnown};
-ghost use Rattle.dk_read.specs.Texts.{run, Takes, TakesSome, inside, pending_in, EndsTokens, Ends, held_of};
+ghost use Rattle.dk_read.specs.Texts.{run, Takes, TakesSome, inside, pending_in, Signs, EndsTokens, Ends, held_of};
 
-use crate::faults::DkFault;
+use crate::faults::{DkFault, Stop};
 use crate::parser::Parser;
 use crate::terms::{State, Token};
+use bridge_base::Memory;
 use holide_sig::{Module, PRELUDE};
 use std::alloc::Global;
 
@@ -39,7 +39,7 @@ pub(crate) struct Text {
 
 impl Text {
     // What the next byte may go on with.
-    fn wait(&mut self, pending: Pending) -> Result<(), DkFault>
+    fn wait(&mut self, pending: Pending) -> Result<(), Stop>
         requires reading { IsReading self.old.parser }
         requires few { self.old.place + 1 < 2 ^ 64 }
         ensures takes { Takes (reading.Inside (self.old.place + 1) (pending_in self.old.word.items pending) (before self.old.parser) (state_of self.old.parser)) self.new result }
@@ -52,7 +52,7 @@ impl Text {
     }
 
     // A token that the byte ends, with nothing behind it.
-    fn end_token(&mut self, first: u64, token: Token) -> Result<(), DkFault>
+    fn end_token(&mut self, first: u64, token: Token) -> Result<(), Stop>
         requires reading { IsReading self.old.parser }
         requires token { IsTokenKnown self.old.parser.names token }
         requires few { self.old.place + 1 < 2 ^ 64 }
@@ -65,7 +65,7 @@ impl Text {
     }
 
     // A byte where nothing is pending.
-    fn begin(&mut self, byte: u8) -> Result<(), DkFault>
+    fn begin(&mut self, byte: u8) -> Result<(), Stop>
         requires reading { IsReading self.old.parser }
         requires few { self.old.place + 1 < 2 ^ 64 }
         ensures takes { Takes (reading.after_byte (self.old.place + 1) (before self.old.parser) (state_of self.old.parser) (tokens.begins self.old.place byte)) self.new result }
@@ -73,29 +73,21 @@ impl Text {
         ensures place { OnOk result (self.new.place ≡ self.old.place + 1) }
     {
         let place = self.place;
-        if is_space(byte) {
-            self.wait(Pending::Nothing)
-        } else if is_letter(byte) {
-            self.begin_word(byte)
-        } else if byte == 58 {
-            self.wait(Pending::AfterColon(place))
-        } else if byte == 45 {
-            self.wait(Pending::AfterMinus(place))
-        } else if byte == 61 {
-            self.wait(Pending::AfterEquals(place))
-        } else if byte == 40 {
-            self.wait(Pending::AfterParen(place))
-        } else if byte == 46 {
-            self.end_token(place, Token::Dot)
-        } else if byte == 41 {
-            self.end_token(place, Token::RightParen)
-        } else {
-            Err(self.parser.stuck(place))
+        match byte {
+            b'a'..=b'z' | b'A'..=b'Z' => self.begin_word(byte),
+            b' ' | b'\n' | b'\t' | b'\r' => self.wait(Pending::Nothing),
+            b'(' => self.wait(Pending::AfterParen(place)),
+            b')' => self.end_token(place, Token::RightParen),
+            b':' => self.wait(Pending::AfterColon(place)),
+            b'-' => self.wait(Pending::AfterMinus(place)),
+            b'=' => self.wait(Pending::AfterEquals(place)),
+            b'.' => self.end_token(place, Token::Dot),
+            _ => Err(self.parser.stuck(place)),
         }
     }
 
     // The first byte of a word.
-    fn begin_word(&mut self, byte: u8) -> Result<(), DkFault>
+    fn begin_word(&mut self, byte: u8) -> Result<(), Stop>
         requires reading { IsReading self.old.parser }
         requires few { self.old.place + 1 < 2 ^ 64 }
         ensures takes { Takes (reading.Inside (self.old.place + 1) (tokens.InWord self.old.place (byte ∷ [])) (before self.old.parser) (state_of self.old.parser)) self.new result }
@@ -105,13 +97,13 @@ impl Text {
         let place = self.place;
         self.word.clear();
         if self.word.push(byte).is_err() {
-            return Err(DkFault::Memory);
+            return Err(Stop::Memory);
         }
         self.wait(Pending::InWord(place))
     }
 
     // A token that the byte ends, and the byte behind it.
-    fn end_and_begin(&mut self, first: u64, token: Token, byte: u8) -> Result<(), DkFault>
+    fn end_and_begin(&mut self, first: u64, token: Token, byte: u8) -> Result<(), Stop>
         requires reading { IsReading self.old.parser }
         requires token { IsTokenKnown self.old.parser.names token }
         requires few { self.old.place + 1 < 2 ^ 64 }
@@ -124,7 +116,7 @@ impl Text {
     }
 
     // The word that the byte ends, and the byte behind it.
-    fn end_word(&mut self, first: u64, byte: u8) -> Result<(), DkFault>
+    fn end_word(&mut self, first: u64, byte: u8) -> Result<(), Stop>
         requires reading { IsReading self.old.parser }
         requires few { self.old.place + 1 < 2 ^ 64 }
         ensures takes { Takes (reading.after_byte (self.old.place + 1) (before self.old.parser) (state_of self.old.parser) (tokens.after (tokens.at first (tokens.word_token self.old.word.items)) (tokens.begins self.old.place byte))) self.new result }
@@ -136,7 +128,7 @@ impl Text {
     }
 
     // The next byte.
-    fn take(&mut self, byte: u8) -> Result<(), DkFault>
+    fn take(&mut self, byte: u8) -> Result<(), Stop>
         requires reading { IsReading self.old.parser }
         requires few { self.old.place + 1 < 2 ^ 64 }
         ensures takes { Takes (reading.read_byte (inside self.old) byte) self.new result }
@@ -194,7 +186,7 @@ impl Text {
     }
 
     // A byte in or behind a word.
-    fn in_word(&mut self, first: u64, byte: u8) -> Result<(), DkFault>
+    fn in_word(&mut self, first: u64, byte: u8) -> Result<(), Stop>
         requires reading { IsReading self.old.parser }
         requires few { self.old.place + 1 < 2 ^ 64 }
         ensures takes { Takes (reading.after_byte (self.old.place + 1) (before self.old.parser) (state_of self.old.parser) (tokens.take_byte (tokens.InWord first self.old.word.items) self.old.place byte)) self.new result }
@@ -203,7 +195,7 @@ impl Text {
     {
         if is_word_byte(byte) {
             if self.word.push(byte).is_err() {
-                return Err(DkFault::Memory);
+                return Err(Stop::Memory);
             }
             self.wait(Pending::InWord(first))
         } else {
@@ -212,7 +204,7 @@ impl Text {
     }
 
     // The first byte of a piece.
-    fn take_first(&mut self, piece: &[u8]) -> Result<usize, DkFault>
+    fn take_first(&mut self, piece: &[u8]) -> Result<usize, Stop>
         requires reading { IsReading self.old.parser }
         requires some { 1 ≤ length piece.now }
         requires few { self.old.place + length piece.now < 2 ^ 64 }
@@ -220,12 +212,12 @@ impl Text {
     {
         match self.take(piece[0]) {
             Ok(()) => Ok(1),
-            Err(fault) => Err(fault),
+            Err(stop) => Err(stop),
         }
     }
 
     // The bytes of a piece with which what is pending goes on, or the first one.
-    fn take_some(&mut self, piece: &[u8]) -> Result<usize, DkFault>
+    fn take_some(&mut self, piece: &[u8]) -> Result<usize, Stop>
         requires reading { IsReading self.old.parser }
         requires some { 1 ≤ length piece.now }
         requires few { self.old.place + length piece.now < 2 ^ 64 }
@@ -233,10 +225,13 @@ impl Text {
     {
         match self.pending {
             Pending::Nothing => {
-                if is_letter(piece[0]) {
+                let byte = piece[0];
+                if is_letter(byte) {
                     self.take_word(piece)
-                } else {
+                } else if is_space(byte) {
                     self.take_blanks(piece)
+                } else {
+                    self.take_sign(piece)
                 }
             }
             Pending::InWord(first) => self.go_on(first, piece),
@@ -246,7 +241,7 @@ impl Text {
     }
 
     // A word at the head of a piece. Where the piece ends it may go on.
-    fn take_word(&mut self, piece: &[u8]) -> Result<usize, DkFault>
+    fn take_word(&mut self, piece: &[u8]) -> Result<usize, Stop>
         requires reading { IsReading self.old.parser }
         requires some { 1 ≤ length piece.now }
         requires few { self.old.place + length piece.now < 2 ^ 64 }
@@ -263,7 +258,7 @@ impl Text {
     }
 
     // A word that ends inside the piece, by its length.
-    fn take_whole(&mut self, piece: &[u8], count: usize) -> Result<usize, DkFault>
+    fn take_whole(&mut self, piece: &[u8], count: usize) -> Result<usize, Stop>
         requires reading { IsReading self.old.parser }
         requires some { 1 ≤ length piece.now }
         requires few { self.old.place + length piece.now < 2 ^ 64 }
@@ -278,12 +273,12 @@ impl Text {
                 self.place += count as u64;
                 Ok(count)
             }
-            Err(fault) => Err(fault),
+            Err(stop) => Err(stop),
         }
     }
 
     // A piece that is all of one word, which may go on.
-    fn keep(&mut self, piece: &[u8]) -> Result<usize, DkFault>
+    fn keep(&mut self, piece: &[u8]) -> Result<usize, Stop>
         requires reading { IsReading self.old.parser }
         requires some { 1 ≤ length piece.now }
         requires few { self.old.place + length piece.now < 2 ^ 64 }
@@ -299,28 +294,72 @@ impl Text {
                 self.place += piece.len() as u64;
                 Ok(piece.len())
             }
-            Err(_) => Err(DkFault::Memory),
+            Err(_) => Err(Stop::Memory),
         }
     }
 
-    // Blanks at the head of a piece, or another byte.
-    fn take_blanks(&mut self, piece: &[u8]) -> Result<usize, DkFault>
+    // The sign at the head of a piece, where nothing is pending. Where the piece ends it may go on.
+    fn take_sign(&mut self, piece: &[u8]) -> Result<usize, Stop>
         requires reading { IsReading self.old.parser }
         requires some { 1 ≤ length piece.now }
         requires few { self.old.place + length piece.now < 2 ^ 64 }
         requires pending { self.old.pending ≡ pending.Nothing }
         ensures takes { TakesSome self.old piece.now self.new result }
     {
-        let count = blank_len(piece);
-        if count == 0 {
-            return self.take_first(piece);
+        match sign_of(piece) {
+            Some((token, count)) => self.take_token(piece, token, count),
+            None => self.begin_first(piece),
         }
+    }
+
+    // The sign of so many bytes at the head of a piece, which is this token.
+    fn take_token(&mut self, piece: &[u8], token: Token, count: usize) -> Result<usize, Stop>
+        requires reading { IsReading self.old.parser }
+        requires few { self.old.place + length piece.now < 2 ^ 64 }
+        requires pending { self.old.pending ≡ pending.Nothing }
+        requires signs { Signs piece.now count token }
+        ensures takes { TakesSome self.old piece.now self.new result }
+    {
+        let _whole = piece.len();
+        match self.parser.advance(self.place, token) {
+            Ok(()) => {
+                self.place += count as u64;
+                Ok(count)
+            }
+            Err(stop) => Err(stop),
+        }
+    }
+
+    // The first byte of a piece, where nothing is pending.
+    fn begin_first(&mut self, piece: &[u8]) -> Result<usize, Stop>
+        requires reading { IsReading self.old.parser }
+        requires some { 1 ≤ length piece.now }
+        requires few { self.old.place + length piece.now < 2 ^ 64 }
+        requires pending { self.old.pending ≡ pending.Nothing }
+        ensures takes { TakesSome self.old piece.now self.new result }
+    {
+        match self.begin(piece[0]) {
+            Ok(()) => Ok(1),
+            Err(stop) => Err(stop),
+        }
+    }
+
+    // Blanks at the head of a piece.
+    fn take_blanks(&mut self, piece: &[u8]) -> Result<usize, Stop>
+        requires reading { IsReading self.old.parser }
+        requires some { 1 ≤ length piece.now }
+        requires few { self.old.place + length piece.now < 2 ^ 64 }
+        requires pending { self.old.pending ≡ pending.Nothing }
+        requires blank { tokens.is_space (get_or piece.now 0 0) ≡ true }
+        ensures takes { TakesSome self.old piece.now self.new result }
+    {
+        let count = blank_len(piece);
         self.place += count as u64;
         Ok(count)
     }
 
     // The bytes with which a word goes on, or the byte behind it.
-    fn go_on(&mut self, first: u64, piece: &[u8]) -> Result<usize, DkFault>
+    fn go_on(&mut self, first: u64, piece: &[u8]) -> Result<usize, Stop>
         requires reading { IsReading self.old.parser }
         requires some { 1 ≤ length piece.now }
         requires few { self.old.place + length piece.now < 2 ^ 64 }
@@ -336,12 +375,12 @@ impl Text {
                 self.place += count as u64;
                 Ok(count)
             }
-            Err(_) => Err(DkFault::Memory),
+            Err(_) => Err(Stop::Memory),
         }
     }
 
     // The bytes of a comment up to the next `;`, or that one.
-    fn take_comment(&mut self, first: u64, piece: &[u8]) -> Result<usize, DkFault>
+    fn take_comment(&mut self, first: u64, piece: &[u8]) -> Result<usize, Stop>
         requires reading { IsReading self.old.parser }
         requires some { 1 ≤ length piece.now }
         requires few { self.old.place + length piece.now < 2 ^ 64 }
@@ -357,7 +396,7 @@ impl Text {
     }
 
     /// The next piece.
-    pub(crate) fn take_all(&mut self, piece: &[u8]) -> Result<(), DkFault>
+    pub(crate) fn take_all(&mut self, piece: &[u8]) -> Result<(), Stop>
         requires reading { IsReading self.old.parser }
         requires few { self.old.place + length piece.now < 2 ^ 64 }
         ensures takes { Takes (reading.read_bytes (inside self.old) piece.now) self.new result }
@@ -372,7 +411,7 @@ impl Text {
     }
 
     // The tokens that the end of the text ends.
-    fn end_tokens(&mut self) -> Result<(), DkFault>
+    fn end_tokens(&mut self) -> Result<(), Stop>
         requires reading { IsReading self.old.parser }
         ensures ends { EndsTokens (reading.answers (reading.advance_all (reading.Goes (before self.old.parser) (state_of self.old.parser)) (tokens.last_tokens (pending_in self.old.word.items self.old.pending))) (tokens.end_at (pending_in self.old.word.items self.old.pending) self.old.place)) self.new result }
         ensures reading { OnOk result (IsReading self.new.parser) }
@@ -397,19 +436,22 @@ impl Text {
         ensures ends { Ends (reading.read_end (inside self)) result }
     {
         let mut text = self;
-        text.end_tokens()?;
-        let place = text.place;
+        if let Err(stop) = text.end_tokens() {
+            return Err(text.parser.fault(stop));
+        }
         match text.parser.state {
             State::Between => Ok(text.parser.module),
-            _ => Err(text.parser.stuck(place)),
+            _ => {
+                let stop = text.parser.stuck(text.place);
+                Err(text.parser.fault(stop))
+            }
         }
     }
 
     /// A reading of the text after the signature's own.
-    pub(crate) fn new(alloc: Global) -> Result<Text, DkFault>
+    pub(crate) fn new(alloc: Global) -> Result<Text, Memory>
         ensures inside { IfOk result (λ t. inside t ≡ reading.Inside (length prelude) tokens.Nothing [] reading.Between) }
         ensures reading { IfOk result (λ t. IsReading t.parser) }
-        ensures memory { IfErr result (λ e. e ≡ fault.Memory) }
     {
         let parser = Parser::new(alloc)?;
         Ok(Text {
@@ -428,6 +470,56 @@ impl Text {
             Pending::InWord(_) => self.word.len(),
             _ => 0,
         }
+    }
+}
+
+// The sign at the head of a piece, with how many bytes it has. None where the piece ends before it is known, and where none
+// stands there.
+fn sign_of(piece: &[u8]) -> Option<(Token, usize)>
+    ensures signs { IfSome result (λ s. Signs piece.now s.1 s.0) }
+{
+    if piece.len() < 2 {
+        return None;
+    }
+    sign_by(piece[0], piece[1])
+}
+
+// The sign that begins by these two bytes, with how many bytes it has, if it is known by them.
+fn sign_by(first: u8, second: u8) -> Option<(Token, usize)>
+    ensures signs { IfSome result (λ s. (more : List ℕ) → Signs (first ∷ second ∷ more) s.1 s.0) }
+{
+    match first {
+        b'(' => {
+            if second == b';' {
+                None
+            } else {
+                Some((Token::LeftParen, 1))
+            }
+        }
+        b')' => Some((Token::RightParen, 1)),
+        b':' => {
+            if second == b'=' {
+                Some((Token::Assign, 2))
+            } else {
+                Some((Token::Colon, 1))
+            }
+        }
+        b'-' => {
+            if second == b'>' {
+                Some((Token::Arrow, 2))
+            } else {
+                None
+            }
+        }
+        b'=' => {
+            if second == b'>' {
+                Some((Token::FatArrow, 2))
+            } else {
+                None
+            }
+        }
+        b'.' => Some((Token::Dot, 1)),
+        _ => None,
     }
 }
 
@@ -486,19 +578,48 @@ fn comment_len(bytes: &[u8]) -> usize
 fn is_letter(byte: u8) -> bool
     ensures { result ≡ tokens.is_letter byte }
 {
-    (65 <= byte && byte <= 90) || (97 <= byte && byte <= 122)
+    match byte {
+        b'a'..=b'z' | b'A'..=b'Z' => true,
+        _ => false,
+    }
 }
+
+// Which bytes are a letter, a digit or `_`.
+const WORD_BYTES: [bool; 256] = [
+    false, false, false, false, false, false, false, false, false, false, false, false, false,
+    false, false, false, false, false, false, false, false, false, false, false, false, false,
+    false, false, false, false, false, false, false, false, false, false, false, false, false,
+    false, false, false, false, false, false, false, false, false, true, true, true, true, true,
+    true, true, true, true, true, false, false, false, false, false, false, false, true, true,
+    true, true, true, true, true, true, true, true, true, true, true, true, true, true, true, true,
+    true, true, true, true, true, true, true, true, false, false, false, false, true, false, true,
+    true, true, true, true, true, true, true, true, true, true, true, true, true, true, true, true,
+    true, true, true, true, true, true, true, true, true, false, false, false, false, false, false,
+    false, false, false, false, false, false, false, false, false, false, false, false, false,
+    false, false, false, false, false, false, false, false, false, false, false, false, false,
+    false, false, false, false, false, false, false, false, false, false, false, false, false,
+    false, false, false, false, false, false, false, false, false, false, false, false, false,
+    false, false, false, false, false, false, false, false, false, false, false, false, false,
+    false, false, false, false, false, false, false, false, false, false, false, false, false,
+    false, false, false, false, false, false, false, false, false, false, false, false, false,
+    false, false, false, false, false, false, false, false, false, false, false, false, false,
+    false, false, false, false, false, false, false, false, false, false, false, false, false,
+    false, false, false, false, false, false, false, false, false, false,
+];
 
 // A letter, a digit or `_`.
 fn is_word_byte(byte: u8) -> bool
     ensures { result ≡ tokens.is_word_byte byte }
 {
-    is_letter(byte) || (48 <= byte && byte <= 57) || byte == 95
+    WORD_BYTES[byte as usize]
 }
 
 // A blank, a tab, a line feed or a carriage return.
 fn is_space(byte: u8) -> bool
     ensures { result ≡ tokens.is_space byte }
 {
-    byte == 32 || byte == 9 || byte == 10 || byte == 13
+    match byte {
+        b' ' | b'\n' | b'\t' | b'\r' => true,
+        _ => false,
+    }
 }

@@ -20,8 +20,8 @@ returns-in-Ok-clause-frames c =
 pub returns-in-Ok-clause-sound : goal.returns-in-Ok-clause-sound
 returns-in-Ok-clause-sound c =
     let p = c.args.self.now in
-    subst (IsSoundIn p.module c.put-hidden.new.self p.nameless (p.binders + 1) p.head) (sym (split-Product c))
-    (bind_in p.module p.names p.nameless p.binders p.head (reverse p.frames.items) c.put-hidden.new.self c.put-hidden.ensures.keeps c.args.name
+    subst (IsSoundIn p.module c.put-hidden.new.self p.nameless p.atoms (p.binders + 1) p.head) (sym (split-Product c))
+    (bind_in p.module p.names p.nameless p.atoms p.binders p.head (reverse p.frames.items) c.put-hidden.new.self c.put-hidden.ensures.keeps c.args.name
     (frame.Product c.args.name c.in-Product.domain c.put-hidden.result) c.in-Product.domain c.put-hidden.result (λ ts l scope b. b) (λ l. refl) c.requires.known (subst (IsBinderKnown p.module.table) c.in-Product.is c.requires.binder) c.put-hidden.ensures.old c.put-hidden.ensures.puts c.requires.sound)
 
 split-Abstraction : (c : goal.In-Ok-push) → reverse c.push-in-Abstraction.new.self.items ≡ frame.Abstraction c.args.name c.in-Abstraction.domain c.put-hidden.result ∷ reverse c.args.self.now.frames.items
@@ -37,6 +37,6 @@ returns-in-Ok-push-clause-frames c =
 pub returns-in-Ok-push-clause-sound : goal.returns-in-Ok-push-clause-sound
 returns-in-Ok-push-clause-sound c =
     let p = c.args.self.now in
-    subst (IsSoundIn p.module c.put-hidden.new.self p.nameless (p.binders + 1) p.head) (sym (split-Abstraction c))
-    (bind_in p.module p.names p.nameless p.binders p.head (reverse p.frames.items) c.put-hidden.new.self c.put-hidden.ensures.keeps c.args.name
+    subst (IsSoundIn p.module c.put-hidden.new.self p.nameless p.atoms (p.binders + 1) p.head) (sym (split-Abstraction c))
+    (bind_in p.module p.names p.nameless p.atoms p.binders p.head (reverse p.frames.items) c.put-hidden.new.self c.put-hidden.ensures.keeps c.args.name
     (frame.Abstraction c.args.name c.in-Abstraction.domain c.put-hidden.result) c.in-Abstraction.domain c.put-hidden.result (λ ts l scope b. b) (λ l. refl) c.requires.known (subst (IsBinderKnown p.module.table) c.in-Abstraction.is c.requires.binder) c.put-hidden.ensures.old c.put-hidden.ensures.puts c.requires.sound)

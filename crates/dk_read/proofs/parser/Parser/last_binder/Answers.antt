@@ -20,16 +20,16 @@ returns-in-Some-Product-clause-sound c =
     let p = c.args.self.now in
     let fs = reverse c.pop.new.self.items in
     let f = frame.Product c.in-Some-Product.name c.in-Some-Product.domain c.in-Some-Product.hidden in
-    let sound : IsSoundIn p.module p.names p.nameless p.binders p.head (f ∷ fs) = subst (IsSoundIn p.module p.names p.nameless p.binders p.head) (split-Product c) c.requires.sound in
-    subst (λ b. IsSoundIn p.module c.put.new.self p.nameless b p.head fs) (sym c.saturating_sub-self.ensures)
-    (bind_out p.module p.names p.nameless p.binders p.head fs c.put.new.self c.put.ensures.keeps c.in-Some-Product.name f c.in-Some-Product.domain c.in-Some-Product.hidden sound.frames.0 refl c.put.ensures.puts sound)
+    let sound : IsSoundIn p.module p.names p.nameless p.atoms p.binders p.head (f ∷ fs) = subst (IsSoundIn p.module p.names p.nameless p.atoms p.binders p.head) (split-Product c) c.requires.sound in
+    subst (λ b. IsSoundIn p.module c.put.new.self p.nameless p.atoms b p.head fs) (sym c.saturating_sub-self.ensures)
+    (bind_out p.module p.names p.nameless p.atoms p.binders p.head fs c.put.new.self c.put.ensures.keeps c.in-Some-Product.name f c.in-Some-Product.domain c.in-Some-Product.hidden sound.frames.0 refl c.put.ensures.puts sound)
 
 pub returns-in-Some-Product-clause-binds : goal.returns-in-Some-Product-clause-binds
 returns-in-Some-Product-clause-binds c =
     let p = c.args.self.now in
     let fs = reverse c.pop.new.self.items in
     let f = frame.Product c.in-Some-Product.name c.in-Some-Product.domain c.in-Some-Product.hidden in
-    let sound : IsSoundIn p.module p.names p.nameless p.binders p.head (f ∷ fs) = subst (IsSoundIn p.module p.names p.nameless p.binders p.head) (split-Product c) c.requires.sound in
+    let sound : IsSoundIn p.module p.names p.nameless p.atoms p.binders p.head (f ∷ fs) = subst (IsSoundIn p.module p.names p.nameless p.atoms p.binders p.head) (split-Product c) c.requires.sound in
     binds_out p.module.table p.names c.put.new.self c.put.ensures.keeps (declared p) fs (reverse p.frames.items) f (binder.Product c.in-Some-Product.domain) (name_at p.names c.in-Some-Product.name) refl sound.frames.1 (split-Product c)
 
 split-Abstraction : (c : goal.After-self-in-Some-Abstraction-1) → reverse c.args.self.now.frames.items ≡ frame.Abstraction c.in-Some-Abstraction.name c.in-Some-Abstraction.domain c.in-Some-Abstraction.hidden ∷ reverse c.pop-in-Some-Abstraction.new.self.items
@@ -43,14 +43,14 @@ returns-in-Some-Abstraction-clause-sound c =
     let p = c.args.self.now in
     let fs = reverse c.pop-in-Some-Abstraction.new.self.items in
     let f = frame.Abstraction c.in-Some-Abstraction.name c.in-Some-Abstraction.domain c.in-Some-Abstraction.hidden in
-    let sound : IsSoundIn p.module p.names p.nameless p.binders p.head (f ∷ fs) = subst (IsSoundIn p.module p.names p.nameless p.binders p.head) (split-Abstraction c) c.requires.sound in
-    subst (λ b. IsSoundIn p.module c.put-in-Some-Abstraction.new.self p.nameless b p.head fs) (sym c.saturating_sub-self-in-Some-Abstraction.ensures)
-    (bind_out p.module p.names p.nameless p.binders p.head fs c.put-in-Some-Abstraction.new.self c.put-in-Some-Abstraction.ensures.keeps c.in-Some-Abstraction.name f c.in-Some-Abstraction.domain c.in-Some-Abstraction.hidden sound.frames.0 refl c.put-in-Some-Abstraction.ensures.puts sound)
+    let sound : IsSoundIn p.module p.names p.nameless p.atoms p.binders p.head (f ∷ fs) = subst (IsSoundIn p.module p.names p.nameless p.atoms p.binders p.head) (split-Abstraction c) c.requires.sound in
+    subst (λ b. IsSoundIn p.module c.put-in-Some-Abstraction.new.self p.nameless p.atoms b p.head fs) (sym c.saturating_sub-self-in-Some-Abstraction.ensures)
+    (bind_out p.module p.names p.nameless p.atoms p.binders p.head fs c.put-in-Some-Abstraction.new.self c.put-in-Some-Abstraction.ensures.keeps c.in-Some-Abstraction.name f c.in-Some-Abstraction.domain c.in-Some-Abstraction.hidden sound.frames.0 refl c.put-in-Some-Abstraction.ensures.puts sound)
 
 pub returns-in-Some-Abstraction-clause-binds : goal.returns-in-Some-Abstraction-clause-binds
 returns-in-Some-Abstraction-clause-binds c =
     let p = c.args.self.now in
     let fs = reverse c.pop-in-Some-Abstraction.new.self.items in
     let f = frame.Abstraction c.in-Some-Abstraction.name c.in-Some-Abstraction.domain c.in-Some-Abstraction.hidden in
-    let sound : IsSoundIn p.module p.names p.nameless p.binders p.head (f ∷ fs) = subst (IsSoundIn p.module p.names p.nameless p.binders p.head) (split-Abstraction c) c.requires.sound in
+    let sound : IsSoundIn p.module p.names p.nameless p.atoms p.binders p.head (f ∷ fs) = subst (IsSoundIn p.module p.names p.nameless p.atoms p.binders p.head) (split-Abstraction c) c.requires.sound in
     binds_out p.module.table p.names c.put-in-Some-Abstraction.new.self c.put-in-Some-Abstraction.ensures.keeps (declared p) fs (reverse p.frames.items) f (binder.Abstraction c.in-Some-Abstraction.domain) (name_at p.names c.in-Some-Abstraction.name) refl sound.frames.1 (split-Abstraction c)

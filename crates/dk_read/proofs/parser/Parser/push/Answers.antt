@@ -10,9 +10,9 @@ returns-clause-ready c =
     let none : reverse p.frames.items ≡ [] = ap reverse c.requires.closed in
     let e = c.in_ok-push.ensures in
     record {
-      sound = subst (IsSoundIn c.push.new.self c.put.new.self p.nameless p.binders p.head) (sym none)
-          (declared_in p.module c.push.new.self p.names c.put.new.self p.nameless p.binders p.head c.put.ensures.keeps c.args.name (declaration_in p.module.table c.args.decl) c.requires.name.1
+      sound = subst (IsSoundIn c.push.new.self c.put.new.self p.nameless p.atoms p.binders p.head) (sym none)
+          (declared_in p.module c.push.new.self p.names c.put.new.self p.nameless p.atoms p.binders p.head c.put.ensures.keeps c.args.name (declaration_in p.module.table c.args.decl) c.requires.name.1
           e.table e.held (e.is_module c.requires.sound.is_module) e.declared c.requires.follows.new_name (13 + c.len-symbol.result) (omega (arith, symbols_length p.module, c.len-symbol.ensures.count)) c.put.ensures.puts
-          (subst (IsSoundIn p.module p.names p.nameless p.binders p.head) none c.requires.sound));
+          (subst (IsSoundIn p.module p.names p.nameless p.atoms p.binders p.head) none c.requires.sound));
       known = c.requires.closed;
     }

@@ -13,4 +13,4 @@ returns-in-Ok c =
 pub returns-in-Err : goal.returns-in-Err
 returns-in-Err c =
     let r = c.requires in
-    record { takes = failed_word c.args.self.now c.args.piece.now c.args.count r.pending r.count r.some r.letter r.ends c.args.self.now c.word.new.self c.in-Err.fault c.in-Err.ensures.becomes }
+    record { takes = failed_word c.args.self.now c.args.piece.now c.args.count r.pending r.count r.some r.letter r.ends (record { parser = c.word.new.self; pending = c.args.self.now.pending; word = c.args.self.now.word; place = c.args.self.now.place }) c.word.new.self c.in-Err.stop refl c.in-Err.ensures.becomes }
