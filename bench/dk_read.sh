@@ -1,9 +1,10 @@
 #!/bin/sh
-# Megabytes a second of `feed` and `finish` on the texts of modules of 12.5 and 25 million bytes, in pieces of 4,096 bytes,
-# by processor time, the peak memory, and the ratios of 25 to 12.5; then the seconds of forty types with 8,000 and with
-# 16,000 binders open, at each of which the outermost is looked up, and their ratio. Each ratio is to be at most 2.5. Run `rt run`
-# in crates/dk_bench first, which builds the program. On a machine of four processors of 2.5 GHz it gave: 0.41 and 0.93 seconds,
-# 30.5 and 26.9 MB/s, 72 and 143 MiB, ratios 2.27 and 1.98; 0.19 and 0.48 seconds with open binders, ratio 2.53.
+# Megabytes a second of `feed` and `finish` on the texts of modules of 12.5 and 25 million bytes, of a generated run and of short
+# declarations, in pieces of 4,096 bytes, by processor time, the peak memory, and the ratios of 25 to 12.5; then the seconds of forty
+# types with 8,000 and with 16,000 binders open, at each of which the outermost is looked up, and their ratio. Each ratio is to be at
+# most 2.5. Run `rt run` in crates/dk_bench first, which builds the program. On a shared machine of four processors of 2.5 GHz it gave:
+# of a generated run 0.31 and 0.68 seconds, 41 and 37 MB/s, ratio 2.24; of short declarations 0.24 and 0.53 seconds, 53 and 47 MB/s,
+# ratio 2.24, memory 72 and 143 MiB, ratio 1.98; 0.07 and 0.18 seconds with open binders.
 cd "$(dirname "$0")/../crates/dk_bench" || exit 1
 # Processor time in seconds and peak memory in KiB, of the quickest of five runs.
 quickest() {
@@ -11,16 +12,22 @@ quickest() {
         { /usr/bin/time -f '%U %S %M' ./out/dk_bench "$1" "$2" >/dev/null; } 2>&1 | awk '{ print $1 + $2, $3 }'
     done | sort -n | head -1
 }
-made_half=$(quickest make 125000)
-made_whole=$(quickest make 250000)
-half=$(quickest read 125000)
-whole=$(quickest read 250000)
-echo "$made_half $made_whole $half $whole" | awk '{
-    one = $5 - $1; two = $7 - $3
-    printf "12.5 MB: %.2f s, %.1f MB/s, %d MiB, %d of them the text\n", one, 12.5 / one, $6 / 1024, $2 / 1024
-    printf "25 MB: %.2f s, %.1f MB/s, %d MiB, %d of them the text\n", two, 25 / two, $8 / 1024, $4 / 1024
-    printf "ratio of time %.2f, of memory %.2f\n", two / one, $8 / $6
-}'
+# What a call makes of a text of so many units and of twice as many, less what making the text takes: the text's name, the call that
+# makes it, the call that reads it, the units and the millions of bytes.
+compare() {
+    made_half=$(quickest "$2" "$4")
+    made_whole=$(quickest "$2" $(($4 * 2)))
+    half=$(quickest "$3" "$4")
+    whole=$(quickest "$3" $(($4 * 2)))
+    echo "$made_half $made_whole $half $whole" | awk -v name="$1" -v size="$5" '{
+        one = $5 - $1; two = $7 - $3
+        printf "%s, %.1f MB: %.2f s, %.1f MB/s, %d MiB, %d of them the text\n", name, size, one, size / one, $6 / 1024, $2 / 1024
+        printf "%s, %.1f MB: %.2f s, %.1f MB/s, %d MiB, %d of them the text\n", name, size * 2, two, size * 2 / two, $8 / 1024, $4 / 1024
+        printf "ratio of time %.2f, of memory %.2f\n", two / one, $8 / $6
+    }'
+}
+compare "generated run" write run 12278 12.5
+compare "short declarations" make read 125000 12.5
 opened_half=$(quickest open 8000)
 opened_whole=$(quickest open 16000)
 deep_half=$(quickest deep 8000)
