@@ -17,3 +17,7 @@ mod Stated
 mod TwoObjects
 mod Dictionaries
 mod Frames
+mod Holdings
+mod Kept
+mod Moved
+mod Collected

@@ -7,3 +7,5 @@ pub mod Shown
 pub mod Reading
 pub mod Obeying
 pub mod Inferring
+pub mod Collecting
+pub mod Moves

@@ -11,7 +11,7 @@
 //! The machine owns a `Proof` of `hol_rules`, which has the types and terms, the symbols and the steps. What stands on
 //! the stack are numbers of what the machine keeps once: types, terms and steps of the proof, names, and lists by their
 //! cells. So to keep an object, or to give it back, copies one number, however large it is, and lists may nest without
-//! limit.
+//! limit. Names and cells that neither the stack nor the dictionary holds any more are given up while an article runs.
 //!
 //! ```text
 //! let mut machine = Machine::new(alloc)?;
@@ -22,6 +22,7 @@
 //! ```
 #![tactic(auto)]
 
+mod collect;
 mod commands;
 mod defining;
 mod definitions;

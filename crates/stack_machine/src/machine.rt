@@ -94,7 +94,7 @@ impl Machine {
         match self.progress {
             Progress::Begun => self.begin(&command.item),
             Progress::Numbered => self.version(&command.item),
-            Progress::Running => self.run(&command.item),
+            Progress::Running => self.body(&command.item),
         }
     }
 
@@ -198,6 +198,39 @@ impl Machine {
                 Err(Fault::Refused(Kind::VersionPlace))
             }
         }
+    }
+
+    // A command of the body, once there is room.
+    fn body(&mut self, item: &Item) -> Result<(), Fault>
+        ensures taken { OnOk result (step_at Place.body self.old item.now ≡ Ok self.new) }
+        ensures refused { IfErr result (λ fault. Fails fault (step_at Place.body self.old item.now)) }
+        ensures unchanged { OnErr result (self.new ≡ self.old) }
+    {
+        self.make_room();
+        self.run(item)
+    }
+
+    // Gives up names and cells that nothing holds, where there are many. Without memory for that all stays as it is.
+    fn make_room(&mut self)
+        ensures { self.new ≡ self.old }
+    {
+        let objects = self.stack.len().saturating_add(self.dictionary.len());
+        if self.store.is_crowded(objects) {
+            let _done = self.collect();
+        }
+    }
+
+    // Gives up names and cells that nothing holds.
+    fn collect(&mut self) -> Result<(), Memory>
+        ensures { self.new ≡ self.old }
+    {
+        let mut held = self.store.none_held(self.alloc)?;
+        self.stack.hold(&mut held);
+        held.hold_values(&self.dictionary);
+        let numbers = self.store.give_up(self.alloc, held)?;
+        self.stack.renumber(&numbers);
+        numbers.rewrite_values(&mut self.dictionary);
+        Ok(())
     }
 
     // A command of the body.

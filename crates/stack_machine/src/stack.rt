@@ -1,6 +1,9 @@
 //! The stack of an article.
-ghost use Rattle.std.specs.Prelude.{◌≡◌, ◌<◌, ◌≤◌, ◌∷◌, [], length, drop, slice_get, slice_set, OnOk, OnErr};
+ghost use Rattle.std.specs.Prelude.{◌≡◌, ◌<◌, ◌≤◌, ◌∷◌, [], length, map, reverse, drop, slice_get, slice_set, OnOk, OnErr};
+ghost use Rattle.std.specs.List.{fold};
+ghost use Rattle.stack_machine.specs.Collecting.{holding, numbered};
 
+use crate::collect::{Held, Numbers};
 use crate::object::Object;
 use bridge_base::Memory;
 use std::alloc::Global;
@@ -29,6 +32,13 @@ impl Stack {
         Stack {
             items: Vec::new(alloc),
         }
+    }
+
+    /// How many objects there are.
+    pub(crate) fn len(&self) -> usize
+        ensures { result ≡ length self.now }
+    {
+        self.items.len()
     }
 
     /// The object at a depth below the top.
@@ -107,6 +117,20 @@ impl Stack {
         self.set(2, third);
         self.set(1, fourth);
         self.set(0, fifth);
+    }
+
+    /// Holds what the objects hold themselves.
+    pub(crate) fn hold(&self, held: &mut Held)
+        ensures { held.new ≡ fold holding held.old (reverse self.now) }
+    {
+        held.hold_all(&self.items);
+    }
+
+    /// Rewrites the objects by new numbers.
+    pub(crate) fn renumber(&mut self, numbers: &Numbers)
+        ensures { self.new ≡ map (numbered numbers.now) self.old }
+    {
+        numbers.rewrite_all(&mut self.items);
     }
 
     /// Takes all objects off.

@@ -47,12 +47,14 @@ fn cell_in(cells: &Vec<Cell>, id: CellId) -> Cell
     cells[id.0]
 }
 
-/// What the machine keeps. What has a number keeps it.
+/// What the machine keeps. What has a number keeps it, until names and cells are given up.
 #[derive(Drop)]
 pub(crate) struct Store {
     pub(crate) proof: Proof,
-    names: Vec<Name>,
-    cells: Vec<Cell>,
+    pub(crate) names: Vec<Name>,
+    pub(crate) cells: Vec<Cell>,
+    // how many names and cells were left when some were last given up
+    pub(crate) kept: usize,
     pub(crate) assumptions: Pool,
     pub(crate) exports: Pool,
     // how many exports earlier articles made
@@ -79,6 +81,7 @@ impl Store {
             proof: Proof::new(alloc)?,
             names: Vec::new(alloc),
             cells: Vec::new(alloc),
+            kept: 0,
             assumptions: Pool::new(alloc),
             exports: Pool::new(alloc),
             pool: 0,
@@ -123,6 +126,7 @@ impl Store {
     {
         self.names.clear();
         self.cells.clear();
+        self.kept = 0;
         self.pool = self.exports.len();
     }
 
