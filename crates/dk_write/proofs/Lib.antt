@@ -1,4 +1,3 @@
 pub mod GainedLaws
 pub mod FrameTexts
 pub mod DeclarationTexts
-pub mod Defined

@@ -23,8 +23,6 @@ ghost use Rattle.dk_write.specs.Writing.{Writes};
 
 mod gathered;
 mod path;
-#[cfg(test)]
-mod tests;
 mod tree;
 
 use crate::gathered::Gathered;

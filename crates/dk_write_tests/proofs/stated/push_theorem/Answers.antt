@@ -5,8 +5,8 @@ use Rattle.lp_spec.specs.Modules.{signature}
 use Rattle.lp_term.specs.TableLaws.{Keeps-trans}
 use Rattle.holide_sig.specs.Modules.{declarations_of}
 use Rattle.holide_sig.specs.ModuleLaws.{IsHeld-Keeps, symbol_number-None}
-use Rattle.dk_write.proofs.Defined.{may_state, no_some, AreShallow-Keeps, pushed_shallow}
-use Rattle.dk_write.proofs.tests.push_theorem.Goals as goal
+use Rattle.dk_write_tests.proofs.Defined.{may_state, no_some, AreShallow-Keeps, pushed_shallow}
+use Rattle.dk_write_tests.proofs.stated.push_theorem.Goals as goal
 
 pub push-requires-clause-held : goal.push-requires-clause-held
 push-requires-clause-held c = IsHeld-Keeps c.args.into.now c.tree_of-2.new.table (Keeps-trans c.tree_of.ensures.keeps c.tree_of-2.ensures.keeps) c.requires.held

@@ -1,8 +1,8 @@
 use Rattle.std.proofs.Common.{sym, subst}
 use Rattle.lp_term.specs.Tables.{AreKnown}
 use Rattle.lp_term.specs.TableLaws.{Keeps-trans}
-use Rattle.dk_write.proofs.Defined.{AreKnown-Keeps}
-use Rattle.dk_write.proofs.tests.tree_of.Goals as goal
+use Rattle.dk_write_tests.proofs.Defined.{AreKnown-Keeps}
+use Rattle.dk_write_tests.proofs.stated.tree_of.Goals as goal
 
 pub loop-letter-preserved : goal.loop-letter-preserved
 loop-letter-preserved c = record {

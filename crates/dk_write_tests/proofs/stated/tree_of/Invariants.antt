@@ -1,5 +1,5 @@
 use Rattle.lp_term.specs.Tables.{AreKnown, Keeps}
-use Rattle.dk_write.proofs.tests.tree_of.Given as goal
+use Rattle.dk_write_tests.proofs.stated.tree_of.Given as goal
 
 abbrev pub invariant-loop-letter : goal.invariant-loop-letter
 invariant-loop-letter l = record {

@@ -6,8 +6,8 @@ use Rattle.lp_spec.specs.ModuleOrder.{MayFollow}
 use Rattle.lp_term.specs.TableLaws.{Holds-tree_at, Keeps-trans}
 use Rattle.holide_sig.specs.Modules.{declaration_in, declarations_of}
 use Rattle.holide_sig.specs.ModuleLaws.{IsHeld-Keeps, declarations_of-Keeps}
-use Rattle.dk_write.proofs.Defined.{may_define, AreShallow-Keeps, pushed_shallow, shallow_type, shallow_by}
-use Rattle.dk_write.proofs.tests.push_nest.Goals as goal
+use Rattle.dk_write_tests.proofs.Defined.{may_define, AreShallow-Keeps, pushed_shallow, shallow_type, shallow_by}
+use Rattle.dk_write_tests.proofs.nested.push_nest.Goals as goal
 
 pub push-requires-clause-held : goal.push-requires-clause-held
 push-requires-clause-held c = IsHeld-Keeps c.args.into.now c.nest.new.table (Keeps-trans c.node.ensures.keeps c.nest.ensures.keeps) c.requires.held

@@ -1,7 +1,7 @@
 use Rattle.std.proofs.Common.{◌<◌, length}
 use Rattle.lp_spec.specs.ModuleOrder.{IsOver}
 use Rattle.lp_term.specs.Tables.{tree_at, Keeps}
-use Rattle.dk_write.proofs.tests.nest.Given as goal
+use Rattle.dk_write_tests.proofs.nested.nest.Given as goal
 
 abbrev pub invariant-loop : goal.invariant-loop
 invariant-loop l = record {
