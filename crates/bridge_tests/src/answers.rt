@@ -79,8 +79,8 @@ pub(crate) struct Answered {
     pub(crate) note: Vec<u8>,
 }
 
-/// What it answers to these words, where `a` is this file, which gives so many bytes a read.
-pub(crate) fn answer_in_pieces(
+// What it answers to these words, where `a` is this file, which gives so many bytes a read.
+fn answer_in_pieces(
     alloc: Global,
     words: &[&str],
     file: &[u8],
@@ -100,7 +100,28 @@ pub(crate) fn answer_in_pieces(
     })
 }
 
-/// Whether it ends well for these words and this file, with these texts.
+// Whether it ends with this number for these words and this file, with these texts, in whatever pieces the file is given.
+fn is_answered(
+    alloc: Global,
+    words: &[&str],
+    file: &[u8],
+    number: u8,
+    out: &[u8],
+    note: &[u8],
+) -> Result<bool, AllocError> {
+    for most in [1, 2, 3, 7, 4096] {
+        let answer = answer_in_pieces(alloc, words, file, most)?;
+        if answer.number != number
+            || answer.out.as_slice() != out
+            || answer.note.as_slice() != note
+        {
+            return Ok(false);
+        }
+    }
+    Ok(true)
+}
+
+/// Whether it ends well for these words and this file, with these texts, in whatever pieces the file is given.
 pub(crate) fn is_done(
     alloc: Global,
     words: &[&str],
@@ -108,11 +129,10 @@ pub(crate) fn is_done(
     out: &[u8],
     note: &[u8],
 ) -> Result<bool, AllocError> {
-    let answer = answer_in_pieces(alloc, words, file, 4096)?;
-    Ok(answer.number == 0 && answer.out.as_slice() == out && answer.note.as_slice() == note)
+    is_answered(alloc, words, file, 0, out, note)
 }
 
-/// Whether it ends with this number for these words and this file, and says this alone, on standard error.
+/// Whether it ends with this number for these words and this file, and says this alone, on standard error, in whatever pieces the file is given.
 pub(crate) fn is_refused(
     alloc: Global,
     words: &[&str],
@@ -120,6 +140,5 @@ pub(crate) fn is_refused(
     number: u8,
     note: &[u8],
 ) -> Result<bool, AllocError> {
-    let answer = answer_in_pieces(alloc, words, file, 4096)?;
-    Ok(answer.number == number && answer.out.is_empty() && answer.note.as_slice() == note)
+    is_answered(alloc, words, file, number, b"", note)
 }

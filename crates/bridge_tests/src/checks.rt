@@ -1,9 +1,5 @@
 //! Checks of modules in files in memory: what is accepted, what is refused, and within which budget.
-ghost use Rattle.std.specs.Prelude.{◌<◌};
-
-use crate::answers::{
-    BEGINNING, THEOREMS, answer_in_pieces, is_done, is_refused, joined, shelf, sink,
-};
+use crate::answers::{BEGINNING, THEOREMS, is_done, is_refused, joined, shelf, sink};
 use bridge_run::{Status, check};
 use holide_sig::PRELUDE;
 use std::alloc::{AllocError, Global};
@@ -88,6 +84,7 @@ fn stops_at_the_budget(rt: HostRuntime) -> Result<(), Fail> {
     assert!(rt; refuses(rt.alloc(), two, b"def y : type := bool.", 8, first)?);
     assert!(rt; refuses(rt.alloc(), three, b"x : type. y : term bool.", 8, second)?);
     assert!(rt; refuses(rt.alloc(), one, UNFOLDED, 8, first)?);
+    assert!(rt; refuses(rt.alloc(), one, NOT_UNFOLDED, 8, first)?);
     Ok(())
 }
 
@@ -113,27 +110,17 @@ fn refuses_what_reads_as_no_module(rt: HostRuntime) -> Result<(), Fail> {
     Ok(())
 }
 
-// Whether what a translation wrote is accepted, where its file gives so many bytes a read.
-fn accepts_in_pieces(
-    alloc: Global,
-    lines: &[u8],
-    most: usize,
-    said: &[u8],
-) -> Result<bool, AllocError>
-    requires { 0 < most }
-{
-    let module = joined(alloc, BEGINNING, lines)?;
-    let answer = answer_in_pieces(alloc, CHECK, &module, most)?;
-    Ok(answer.number == 0 && answer.out.as_slice() == said && answer.note.is_empty())
+// Whether what a translation wrote is accepted.
+fn accepts_written(alloc: Global, lines: &[u8], said: &[u8]) -> Result<bool, AllocError> {
+    is_done(alloc, CHECK, &joined(alloc, BEGINNING, lines)?, said, b"")
 }
 
 #[test]
 fn accepts_what_translations_write(rt: HostRuntime) -> Result<(), Fail> {
     let four: &[u8] = b"accepted 4, unproved 0\n";
     let six: &[u8] = b"accepted 6, unproved 3\n";
-    assert!(rt; accepts_in_pieces(rt.alloc(), THEOREMS, 1, four)?);
-    assert!(rt; accepts_in_pieces(rt.alloc(), THEOREMS, 7, four)?);
-    assert!(rt; accepts_in_pieces(rt.alloc(), NAMES, 4096, six)?);
+    assert!(rt; accepts_written(rt.alloc(), THEOREMS, four)?);
+    assert!(rt; accepts_written(rt.alloc(), NAMES, six)?);
     Ok(())
 }
 

@@ -1,9 +1,6 @@
 //! Translations of articles in memory, with the module checked before it is written, and as it is.
-ghost use Rattle.std.specs.Prelude.{◌<◌};
-
 use crate::answers::{
-    BEGINNING, REFLEXIVITY, THEOREMS, answer_in_pieces, is_done, is_refused, joined, shelf, sink,
-    texts,
+    BEGINNING, REFLEXIVITY, THEOREMS, is_done, is_refused, joined, shelf, sink, texts,
 };
 use bridge_run::{Status, translate, verify};
 use std::alloc::{AllocError, Global};
@@ -13,40 +10,21 @@ const WORDS: &[&str] = &["bridge", "translate", "a"];
 
 const VERIFY: &[&str] = &["bridge", "verify", "a"];
 
-// Whether reflexivity is translated where its file gives so many bytes a read.
-fn translates_in_pieces(alloc: Global, most: usize) -> Result<bool, AllocError>
-    requires { 0 < most }
-{
-    let module = joined(alloc, BEGINNING, THEOREMS)?;
-    let counts: &[u8] =
-        b"articles 1\nassumptions 0\nexports 1\ndeclarations 4\nbounds 16240151168\n";
-    let answer = answer_in_pieces(alloc, WORDS, REFLEXIVITY, most)?;
-    Ok(answer.number == 0 && answer.out == module && answer.note.as_slice() == counts)
-}
-
 #[test]
 fn translates_reflexivity_in_any_pieces(rt: HostRuntime) -> Result<(), Fail> {
-    assert!(rt; translates_in_pieces(rt.alloc(), 1)?);
-    assert!(rt; translates_in_pieces(rt.alloc(), 7)?);
-    assert!(rt; translates_in_pieces(rt.alloc(), 4096)?);
-    Ok(())
-}
-
-// Whether reflexivity is verified where its file gives so many bytes a read.
-fn verifies_in_pieces(alloc: Global, most: usize) -> Result<bool, AllocError>
-    requires { 0 < most }
-{
-    let module = joined(alloc, BEGINNING, THEOREMS)?;
+    let module = joined(rt.alloc(), BEGINNING, THEOREMS)?;
     let counts: &[u8] =
-        b"articles 1\nassumptions 0\nexports 1\ndeclarations 4\nbounds 16240151168\nverified\n";
-    let answer = answer_in_pieces(alloc, VERIFY, REFLEXIVITY, most)?;
-    Ok(answer.number == 0 && answer.out == module && answer.note.as_slice() == counts)
+        b"articles 1\nassumptions 0\nexports 1\ndeclarations 4\nbounds 16240151168\n";
+    assert!(rt; is_done(rt.alloc(), WORDS, REFLEXIVITY, module.as_slice(), counts)?);
+    Ok(())
 }
 
 #[test]
 fn verifies_reflexivity_in_any_pieces(rt: HostRuntime) -> Result<(), Fail> {
-    assert!(rt; verifies_in_pieces(rt.alloc(), 1)?);
-    assert!(rt; verifies_in_pieces(rt.alloc(), 4096)?);
+    let module = joined(rt.alloc(), BEGINNING, THEOREMS)?;
+    let counts: &[u8] =
+        b"articles 1\nassumptions 0\nexports 1\ndeclarations 4\nbounds 16240151168\nverified\n";
+    assert!(rt; is_done(rt.alloc(), VERIFY, REFLEXIVITY, module.as_slice(), counts)?);
     Ok(())
 }
 
@@ -68,9 +46,9 @@ fn translates_an_article_without_exports(rt: HostRuntime) -> Result<(), Fail> {
     Ok(())
 }
 
-// Whether an article is refused with this line.
+// Whether an article is refused with this line, as it is translated and as it is verified.
 fn refuses(alloc: Global, article: &[u8], line: &[u8]) -> Result<bool, AllocError> {
-    is_refused(alloc, WORDS, article, 1, line)
+    Ok(is_refused(alloc, WORDS, article, 1, line)? && is_refused(alloc, VERIFY, article, 1, line)?)
 }
 
 #[test]

@@ -1,4 +1,6 @@
 //! Articles of a few commands, and what the program answers to `translate` and `verify` of them.
+ghost use Rattle.std.specs.Prelude.{◌<◌};
+
 use bridge_base::{MemShelf, MemSink};
 use bridge_run::bridge;
 use std::alloc::{AllocError, Global};
@@ -114,12 +116,14 @@ pub(crate) struct Files<'a> {
     pub(crate) b: &'a [&'a str],
 }
 
-/// A shelf with these files.
-pub(crate) fn shelf(alloc: Global, files: Files<'_>) -> Result<MemShelf, AllocError> {
+/// A shelf with these files, which gives so many bytes a read.
+pub(crate) fn shelf(alloc: Global, files: Files<'_>, most: usize) -> Result<MemShelf, AllocError>
+    requires { 0 < most }
+{
     let mut held = Vec::new(alloc);
     held.push((String::from_str(alloc, "a")?, article(alloc, files.a)?))?;
     held.push((String::from_str(alloc, "b")?, article(alloc, files.b)?))?;
-    Ok(MemShelf::new(held, 4096, Vec::new(alloc)))
+    Ok(MemShelf::new(held, most, Vec::new(alloc)))
 }
 
 /// A sink that fails at these calls.
@@ -135,14 +139,17 @@ pub(crate) struct Answered {
     pub(crate) note: Vec<u8>,
 }
 
-/// What it answers to these words over these files.
-pub(crate) fn answer_to(
+// What it answers to these words over these files, which are given in pieces of so many bytes.
+fn answer_in_pieces(
     alloc: Global,
     words: &[&str],
     files: Files<'_>,
-) -> Result<Answered, AllocError> {
+    most: usize,
+) -> Result<Answered, AllocError>
+    requires { 0 < most }
+{
     let words = texts(alloc, words)?;
-    let mut shelf = shelf(alloc, files)?;
+    let mut shelf = shelf(alloc, files, most)?;
     let mut out = sink(alloc, &[])?;
     let mut note = sink(alloc, &[])?;
     let status = bridge(alloc, &words, &mut shelf, &mut out, &mut note);
@@ -153,20 +160,29 @@ pub(crate) fn answer_to(
     })
 }
 
-/// Whether it ends well for these words and files, with this module and these counts.
-pub(crate) fn is_done(
+/// Whether it ends with this number for these words and files, with these texts, in whatever pieces the files are given.
+pub(crate) fn is_answered(
     alloc: Global,
     words: &[&str],
     files: Files<'_>,
-    module: &[u8],
-    counts: &[u8],
+    number: u8,
+    out: &[u8],
+    note: &[u8],
 ) -> Result<bool, AllocError> {
-    let answer = answer_to(alloc, words, files)?;
-    Ok(answer.number == 0 && answer.out.as_slice() == module && answer.note.as_slice() == counts)
+    for most in [1, 2, 3, 4096] {
+        let answer = answer_in_pieces(alloc, words, files, most)?;
+        if answer.number != number
+            || answer.out.as_slice() != out
+            || answer.note.as_slice() != note
+        {
+            return Ok(false);
+        }
+    }
+    Ok(true)
 }
 
 /// Whether `translate` and `verify`, called by these words over these files, write the module with these lines after the lemmas, and tell
-/// these counts.
+/// these counts, in whatever pieces the files are given.
 pub(crate) fn is_run(
     alloc: Global,
     translate: &[&str],
@@ -177,8 +193,15 @@ pub(crate) fn is_run(
 ) -> Result<bool, AllocError> {
     let module = joined(alloc, BEGINNING, lines)?;
     let checked = joined(alloc, counts, b"verified\n")?;
-    let translated = is_done(alloc, translate, files, module.as_slice(), counts)?;
-    let verified = is_done(alloc, verify, files, module.as_slice(), checked.as_slice())?;
+    let translated = is_answered(alloc, translate, files, 0, module.as_slice(), counts)?;
+    let verified = is_answered(
+        alloc,
+        verify,
+        files,
+        0,
+        module.as_slice(),
+        checked.as_slice(),
+    )?;
     Ok(translated && verified)
 }
 
@@ -195,7 +218,7 @@ pub(crate) fn is_made(
     is_run(alloc, &translate, &verify, files, lines, counts)
 }
 
-/// Whether it ends with this number for these words and files, says this alone, and writes nothing.
+/// Whether it ends with this number for these words and files, says this alone, and writes nothing, in whatever pieces the files are given.
 pub(crate) fn is_stopped(
     alloc: Global,
     words: &[&str],
@@ -203,6 +226,5 @@ pub(crate) fn is_stopped(
     number: u8,
     said: &[u8],
 ) -> Result<bool, AllocError> {
-    let answer = answer_to(alloc, words, files)?;
-    Ok(answer.number == number && answer.out.is_empty() && answer.note.as_slice() == said)
+    is_answered(alloc, words, files, number, b"", said)
 }

@@ -64,7 +64,7 @@ const COUNTS: &[u8] =
 // How often standard output is called for these words, where it doesn't fail.
 fn calls_for(alloc: Global, words: &[&str]) -> Result<u64, AllocError> {
     let words = texts(alloc, words)?;
-    let mut shelf = shelf(alloc, FILES)?;
+    let mut shelf = shelf(alloc, FILES, 4096)?;
     let mut out = sink(alloc, &[])?;
     let mut note = sink(alloc, &[])?;
     let _ = bridge(alloc, &words, &mut shelf, &mut out, &mut note);
@@ -74,7 +74,7 @@ fn calls_for(alloc: Global, words: &[&str]) -> Result<u64, AllocError> {
 // Whether it is a write fault that standard output fails at this call, which then holds a part of the module, from its beginning.
 fn stops_at(alloc: Global, words: &[&str], module: &[u8], call: u64) -> Result<bool, AllocError> {
     let words = texts(alloc, words)?;
-    let mut shelf = shelf(alloc, FILES)?;
+    let mut shelf = shelf(alloc, FILES, 4096)?;
     let mut out = sink(alloc, &[call])?;
     let mut note = sink(alloc, &[])?;
     let status = bridge(alloc, &words, &mut shelf, &mut out, &mut note);
@@ -120,7 +120,7 @@ fn output_that_fails_while_verified(rt: HostRuntime) -> Result<(), Fail> {
 // a part of the counts, from their beginning.
 fn stops_note_at(alloc: Global, module: &[u8], call: u64) -> Result<bool, AllocError> {
     let words = texts(alloc, VERIFY)?;
-    let mut shelf = shelf(alloc, FILES)?;
+    let mut shelf = shelf(alloc, FILES, 4096)?;
     let mut out = sink(alloc, &[])?;
     let mut note = sink(alloc, &[call])?;
     let status = bridge(alloc, &words, &mut shelf, &mut out, &mut note);

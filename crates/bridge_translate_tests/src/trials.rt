@@ -1,5 +1,5 @@
 //! Trials with generated articles: their six lines, and words that ask for none.
-use crate::answers::{Files, answer_to, is_stopped, shelf, sink, texts};
+use crate::answers::{Files, is_answered, is_stopped, shelf, sink, texts};
 use bridge_run::bridge;
 use std::alloc::{AllocError, Global};
 use std::test::Fail;
@@ -12,10 +12,8 @@ const LINES: &[u8] =
 
 #[test]
 fn trial_of_two_blocks(rt: HostRuntime) -> Result<(), Fail> {
-    let answer = answer_to(rt.alloc(), &["bridge", "trial", "2"], FILES)?;
-    assert_eq!(rt; answer.number, 0);
-    assert_eq!(rt; answer.out.as_slice(), LINES);
-    assert!(rt; answer.note.is_empty());
+    let words: &[&str] = &["bridge", "trial", "2"];
+    assert!(rt; is_answered(rt.alloc(), words, FILES, 0, LINES, b"")?);
     Ok(())
 }
 
@@ -50,7 +48,7 @@ fn no_number_of_blocks(rt: HostRuntime) -> Result<(), Fail> {
 fn output_that_fails_at_a_trial(rt: HostRuntime) -> Result<(), Fail> {
     let alloc = rt.alloc();
     let words = texts(alloc, &["bridge", "trial", "1"])?;
-    let mut shelf = shelf(alloc, FILES)?;
+    let mut shelf = shelf(alloc, FILES, 4096)?;
     let mut out = sink(alloc, &[1])?;
     let mut note = sink(alloc, &[])?;
     let status = bridge(alloc, &words, &mut shelf, &mut out, &mut note);
