@@ -2,8 +2,8 @@
 # Where the time of `verify` goes, on a generated article and on one of twice its length: the machine alone (`show`), with the
 # translation and the writing (`translate`), the reading of the module with its decoding (`decode`), the reading with the kernel
 # (`check`), and all (`verify`). The ratios are of `verify`, and are to be at most 2.5. Run `./bridge verify` on any article first. On a
-# machine of four processors of 2.5 GHz it gave: show 0.01, translate 0.21, decode 0.05, check 0.21 and verify 0.51 seconds, 21 MiB; then
-# 0.04, 0.51, 0.16, 0.42 and 1.03, 41 MiB; ratio 2.02.
+# machine of four processors of 2.5 GHz it gave: show 0.02, translate 0.20, decode 0.02, check 0.33 and verify 0.58 seconds, 16 MiB; then
+# 0.04, 0.47, 0.06, 0.32 and 0.92, 31 MiB; ratio 1.59.
 . "$(dirname "$0")/chain.sh"
 report() {
     article "$1" >"$folder/article"
