@@ -4,7 +4,7 @@
 # types with 8,000 and with 16,000 binders open, at each of which the outermost is looked up, and their ratio. Each ratio is to be at
 # most 2.5. Run `rt run` in crates/dk_bench first, which builds the program. On a shared machine of four processors of 2.5 GHz it gave:
 # of a generated run 0.31 and 0.68 seconds, 41 and 37 MB/s, ratio 2.24; of short declarations 0.24 and 0.53 seconds, 53 and 47 MB/s,
-# ratio 2.24, memory 72 and 143 MiB, ratio 1.98; 0.07 and 0.18 seconds with open binders.
+# ratio 2.24, memory 72 and 143 MiB, ratio 1.98; 0.08 and 0.21 seconds with open binders, ratios of 2.4 to 3.0 from run to run.
 cd "$(dirname "$0")/../crates/dk_bench" || exit 1
 # Processor time in seconds and peak memory in KiB, of the quickest of five runs.
 quickest() {
