@@ -22,7 +22,8 @@ pub enum Limit {
     Free,
 }
 
-/// A reader of the text of a module. A place is a number of 64 bits, so a text of 2^64 bytes or more is want of memory.
+/// A reader of the text of a module. A place is a number of 64 bits: without a limit a text of 2^64 bytes or more is want of
+/// memory, and a limit is less.
 #[derive(Drop)]
 pub struct Reader {
     alloc: Global,
