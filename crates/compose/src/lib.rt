@@ -18,7 +18,5 @@
 
 mod chains;
 mod pool;
-#[cfg(test)]
-mod tests;
 
 pub use pool::{Pool, Said};

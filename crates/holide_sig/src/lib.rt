@@ -15,8 +15,6 @@ mod decls;
 mod ident;
 mod module;
 mod signature;
-#[cfg(test)]
-mod tests;
 
 pub use decls::{Decl, Decls};
 pub use ident::Ident;

@@ -21,8 +21,6 @@ ghost use Rattle.lp_term.specs.Measured.{IsMeasured};
 mod binding;
 mod entry;
 mod memo;
-#[cfg(test)]
-mod tests;
 mod walk;
 
 use crate::entry::{Entry, Shape, under_binder};

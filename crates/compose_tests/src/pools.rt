@@ -1,6 +1,6 @@
 //! Pools by their public calls.
-use crate::Pool;
 use bridge_base::Memory;
+use compose::Pool;
 use hol_term::TermId;
 use sequent::{Hyps, Sequent};
 use std::alloc::Global;

@@ -9,7 +9,7 @@ use Rattle.lp_term.specs.Tables.{Holds, tree_at}
 use Rattle.lp_term.specs.TableLaws.{Holds-tree_at}
 use Rattle.holide_sig.specs.Modules.{declaration_in, declarations_of}
 use Rattle.holide_sig.specs.ModuleLaws.{IsHeld-Keeps, declarations_of-Keeps}
-use Rattle.holide_sig.proofs.tests.push_type.Goals as goal
+use Rattle.holide_sig_tests.proofs.modules.push_type.Goals as goal
 
 follows : (before : List Declaration) (name : List ℕ) → 1 ≤ length before → IsFalse (is_declared before name) → MayFollow before (symbol name types)
 follows before name h new = record { new_name = new; ty = record { closed = refl; kindless = refl; known = h }; body = refl }

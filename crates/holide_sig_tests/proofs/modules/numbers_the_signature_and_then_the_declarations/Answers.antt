@@ -1,7 +1,7 @@
 use Rattle.std.proofs.Common.{[], ◌∷◌, ◌++◌, ap, sym, ◌∙◌, refl, subst, IsFalse}
 use Rattle.lp_spec.specs.Modules.{signature, symbol, types}
 use Rattle.lp_spec.specs.ModuleOrder.{is_declared}
-use Rattle.holide_sig.proofs.tests.numbers_the_signature_and_then_the_declarations.Goals as goal
+use Rattle.holide_sig_tests.proofs.modules.numbers_the_signature_and_then_the_declarations.Goals as goal
 
 pub push_type-requires : goal.push_type-requires
 push_type-requires g c = record {

@@ -1,7 +1,7 @@
 use Rattle.std.proofs.Common.{arith, ◌<◌, length}
 use Rattle.lp_term.specs.Tables.{tree_at}
 use Rattle.lp_term.specs.TableLaws.{tree_at-Holds}
-use Rattle.lp_term.proofs.tests.puts_for_one_variable.Goals as goal
+use Rattle.lp_term_tests.proofs.trees.puts_for_one_variable.Goals as goal
 
 pub put-requires-clause-body : goal.put-requires-clause-body
 put-requires-clause-body g c =

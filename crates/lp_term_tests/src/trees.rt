@@ -1,8 +1,8 @@
 //! Lifting and putting in small trees.
 ghost use Rattle.std.specs.Prelude.{◌<◌, ◌≤◌, length, IfOk};
 
-use crate::{LpId, LpNode, LpTable};
 use bridge_base::{Binding, Memory};
+use lp_term::{LpId, LpNode, LpTable};
 use std::test::Fail;
 
 #[test]

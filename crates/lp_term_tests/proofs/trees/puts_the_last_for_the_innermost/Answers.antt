@@ -1,7 +1,7 @@
 use Rattle.std.proofs.Common.{arith, ◌<◌, length, [], ◌∷◌}
 use Rattle.lp_term.specs.Tables.{tree_at}
 use Rattle.lp_term.specs.TableLaws.{tree_at-Holds}
-use Rattle.lp_term.proofs.tests.puts_the_last_for_the_innermost.Goals as goal
+use Rattle.lp_term_tests.proofs.trees.puts_the_last_for_the_innermost.Goals as goal
 
 pub put_all-requires-clause-args : goal.put_all-requires-clause-args
 put_all-requires-clause-args g c =
