@@ -1,89 +1,82 @@
--- A table into which an entry is put.
-use Rattle.std.proofs.Common.{◌≡◌, ℕ, zero, suc, ◌<◌, refl, sym, ap, ◌∙◌, subst, arith, List, [], ◌∷◌, ◌++◌, length, get_or, Some, ⊎_elim, inl, inr, Bool, true, false}
-use Rattle.std.specs.Prelude.{slice_get, if◌then◌else◌, ◌||◌}
+-- A table into which a shape is put.
+use Rattle.std.proofs.Common.{◌≡◌, ℕ, ◌<◌, refl, sym, ap, ◌∙◌, subst, arith, List, [], ◌∷◌, ◌++◌, length, get_or, Some, ⊎_elim, Bool, true, false}
+use Rattle.std.specs.Prelude.{slice_get, if◌then◌else◌, not}
 use Rattle.std.specs.List.{list_any}
-use Rattle.std.proofs.lemmas.Option.{slice_get_within, slice_get-get_or, same_Some}
-use Rattle.std.proofs.Math.Path.{subst₂}
+use Rattle.std.proofs.lemmas.List.Folds.{list_any_at}
+use Rattle.std.proofs.lemmas.Option.{slice_get_within, slice_get-get_or, get_or_from_slice_get, same_Some}
+use Rattle.std.proofs.Math.Path.{ap₂, subst₂}
 use Rattle.indexmap.specs.IndexSet.{insert_key}
 use Rattle.lp_spec.specs.Trees.{Tree}
-use Rattle.lp_term.specs.declared.entry.Entry.{Entry}
+use Rattle.lp_term.specs.declared.measures.Measures.{Measures}
+use Rattle.lp_term.specs.declared.shape.Shape.{Shape}
 use Rattle.lp_term.specs.Shapes.{node_of}
-use Rattle.lp_term.specs.contracts.entry.EntryPartialEq.TheImpl as entry_eq
-use Rattle.lp_term.specs.Tables.{Holds, tree_of_node, PartsBelow, Keeps, Adds}
-use Rattle.lp_term.specs.TableLaws.{Holds-within, Adds-Keeps, tree_of_node-Stays, PartsBelow-more}
-use Rattle.lp_term.specs.Measured.{IsMeasured}
-use Rattle.lp_term.specs.Entries.{trees_of, IsTable}
-use Rattle.lp_term.proofs.EntryLaws.{trees_from-append, length-trees_of, slice_get-one_more, trees_of-Holds, entry_eq-true, entry_eq-same, node_of-same, tree_of_node-same}
+use Rattle.lp_term.specs.ShapeLaws.{same_shape}
+use Rattle.lp_term.specs.contracts.shape.ShapePartialEq.TheImpl as shape_eq
+use Rattle.lp_term.specs.Tables.{Holds, tree_of_node, PartsBelow, IsDistinct}
+use Rattle.lp_term.specs.TableLaws.{Holds-within, PartsBelow-more}
+use Rattle.lp_term.specs.Measured.{AreMeasured}
+use Rattle.lp_term.specs.Columns.{trees_of, IsInserted, IsTable}
+use Rattle.lp_term.proofs.ColumnLaws.{trees_from-append, length-trees_of, slice_get-last, slice_get-one_more, trees_of-Holds, shape_eq-refl, node_of-same, tree_of_node-same}
 
--- an entry whose node the table lacks
-module _ (es : List Entry) (e : Entry) (t : IsTable es) (p : PartsBelow (length (trees_of es)) (node_of e.shape)) (m : IsMeasured e (tree_of_node (trees_of es) (node_of e.shape))) (absent : (j : ℕ) (o : Entry) → slice_get es j ≡ Some o → o.shape ≡ e.shape → ⊥) where
-  low : (i : ℕ) (o : Entry) → slice_get (es ++ e ∷ []) i ≡ Some o → PartsBelow i (node_of o.shape)
-  low i o at = ⊎_elim (λ h. t.lower i o h) (λ h. subst₂ (λ n w. PartsBelow n (node_of w.shape)) (length-trees_of es ∙ sym h.0) h.1 p) (slice_get-one_more es e o i at)
+-- a tree that the table lacks may stand last
+IsDistinct-more : (ts : List Tree) (u : Tree) → IsDistinct ts → ((i : ℕ) → Holds ts i u → ⊥) → IsDistinct (ts ++ u ∷ [])
+IsDistinct-more ts u d absent = record {
+  each = λ i j t hi hj. ⊎_elim
+      (λ a. ⊎_elim (λ b. d.each i j t a b) (λ b. absurd (absent i (a ∙ ap Some (sym b.1)))) (slice_get-one_more ts u t j hj))
+      (λ a. ⊎_elim (λ b. absurd (absent j (b ∙ ap Some (sym a.1)))) (λ b. a.0 ∙ sym b.0) (slice_get-one_more ts u t j hj))
+      (slice_get-one_more ts u t i hi);
+}
 
-  clash : (i : ℕ) → Holds (trees_of es) i (tree_of_node (trees_of es) (node_of e.shape)) → ⊥
+-- a set that lacks a shape by the test has it nowhere
+list_any-absent : (ss : List Shape) (s : Shape) → list_any (shape_eq.eq-value.it s) ss ≡ false → (j : ℕ) → slice_get ss j ≡ Some s → ⊥
+list_any-absent ss s none j at =
+    let any = list_any_at (shape_eq.eq-value.it s) ss j s (slice_get_within ss j s at) (ap (shape_eq.eq-value.it s) (get_or_from_slice_get ss j s s at) ∙ shape_eq-refl s) in
+    let clash : true ≡ false = sym any ∙ none in
+    cc
+
+-- what a set says of a shape that was put into it
+pub IsInserted-insert_key : (ss new : List Shape) (s : Shape) (i : ℕ) (is_new : Bool) → is_new ≡ not (list_any (shape_eq.eq-value.it s) ss) → new ≡ insert_key shape_eq.eq-value.it ss s → (k : Shape) × (slice_get new i ≡ Some k) × (shape_eq.eq-value.it s k ≡ true) → IsInserted ss new s i is_new
+IsInserted-insert_key ss new s i is_new added keys stored = go is_new (list_any (shape_eq.eq-value.it s) ss) refl added
+  where
+    at : slice_get new i ≡ Some s
+    at = stored.1 ∙ ap Some (sym (same_shape s stored.0 stored.2))
+
+    after : (b : Bool) → list_any (shape_eq.eq-value.it s) ss ≡ b → new ≡ (if b then ss else ss ++ s ∷ [])
+    after b h = keys ∙ ap (λ b. if b then ss else ss ++ s ∷ []) h
+
+    go : (x b : Bool) → list_any (shape_eq.eq-value.it s) ss ≡ b → x ≡ not b → IsInserted ss new s i x
+    go true true h e = absurd (cc)
+    go true false h e =
+        let none = list_any-absent ss s h in
+        let last = slice_get-one_more ss s s i (ap (λ l. slice_get l i) (sym (after false h)) ∙ at) in
+        (after false h, ⊎_elim (λ old. absurd (none i old)) (λ l. l.0) last, none)
+    go false true h e = (after true h, ap (λ l. slice_get l i) (sym (after true h)) ∙ at)
+    go false false h e = absurd (cc)
+
+-- a shape of a table is under the number of its tree
+pub Holds-found : (ss : List Shape) (ms : List Measures) (s : Shape) (i : ℕ) → IsTable ss ms → slice_get ss i ≡ Some s → Holds (trees_of ss) i (tree_of_node (trees_of ss) (node_of s))
+Holds-found ss ms s i t at = trees_of-Holds ss i s (t.lower i s at) at
+
+-- a shape that the table lacks, over parts that it has
+module _ (ss : List Shape) (ms : List Measures) (s : Shape) (t : IsTable ss ms) (p : PartsBelow (length (trees_of ss)) (node_of s)) (none : (j : ℕ) → slice_get ss j ≡ Some s → ⊥) where
+  lower : (i : ℕ) (o : Shape) → slice_get (ss ++ s ∷ []) i ≡ Some o → PartsBelow i (node_of o)
+  lower i o at = ⊎_elim (λ h. t.lower i o h) (λ h. subst₂ (λ n w. PartsBelow n (node_of w)) (length-trees_of ss ∙ sym h.0) h.1 p) (slice_get-one_more ss s o i at)
+
+  clash : (i : ℕ) → Holds (trees_of ss) i (tree_of_node (trees_of ss) (node_of s)) → ⊥
   clash i held =
-      let lt : i < length es = omega (arith, length-trees_of es, Holds-within (trees_of es) i (tree_of_node (trees_of es) (node_of e.shape)) held) in
-      let at = slice_get-get_or es i e lt in
-      let o = get_or es i e in
+      let lt : i < length ss = omega (arith, length-trees_of ss, Holds-within (trees_of ss) i (tree_of_node (trees_of ss) (node_of s)) held) in
+      let at = slice_get-get_or ss i s lt in
+      let o = get_or ss i s in
       let below = t.lower i o at in
-      let same = node_of-same o.shape e.shape (tree_of_node-same t.distinct (node_of o.shape) (node_of e.shape) (PartsBelow-more (omega (arith, length-trees_of es)) (node_of o.shape) below) p (same_Some _ _ (sym (trees_of-Holds es i o below at) ∙ held))) in
-      absent i o at same
+      let same = node_of-same o s (tree_of_node-same t.distinct (node_of o) (node_of s) (PartsBelow-more (omega (arith, length-trees_of ss)) (node_of o) below) p (same_Some _ _ (sym (trees_of-Holds ss i o below at) ∙ held))) in
+      none i (at ∙ ap Some same)
 
-  distinct : (i j : ℕ) (u : Tree) → Holds (trees_of (es ++ e ∷ [])) i u → Holds (trees_of (es ++ e ∷ [])) j u → i ≡ j
-  distinct i j u hi hj =
-      let g = trees_from-append [] es e in
-      let wi = slice_get-one_more (trees_of es) (tree_of_node (trees_of es) (node_of e.shape)) u i (ap (λ w. slice_get w i) (sym g) ∙ hi) in
-      let wj = slice_get-one_more (trees_of es) (tree_of_node (trees_of es) (node_of e.shape)) u j (ap (λ w. slice_get w j) (sym g) ∙ hj) in
-      ⊎_elim
-      (λ a. ⊎_elim (λ b. t.distinct.each i j u a b) (λ b. absurd (clash i (a ∙ ap Some (sym b.1)))) wj)
-      (λ a. ⊎_elim (λ b. absurd (clash j (b ∙ ap Some (sym a.1)))) (λ b. a.0 ∙ sym b.0) wj)
-      wi
+  -- with the measures of its tree it leaves a table
+  pub IsTable-more : (more : List Measures) → AreMeasured more (trees_of ss ++ tree_of_node (trees_of ss) (node_of s) ∷ []) → IsTable (ss ++ s ∷ []) more
+  IsTable-more more a =
+      let g = sym (trees_from-append [] ss s) in
+      record { lower = lower; distinct = subst IsDistinct g (IsDistinct-more (trees_of ss) (tree_of_node (trees_of ss) (node_of s)) t.distinct clash); measured = subst (AreMeasured more) g a }
 
-  measured : (i : ℕ) (o : Entry) (u : Tree) → slice_get (es ++ e ∷ []) i ≡ Some o → Holds (trees_of (es ++ e ∷ [])) i u → IsMeasured o u
-  measured i o u at held =
-      let g = trees_from-append [] es e in
-      let w = slice_get-one_more (trees_of es) (tree_of_node (trees_of es) (node_of e.shape)) u i (ap (λ w. slice_get w i) (sym g) ∙ held) in
-      ⊎_elim
-      (λ a. ⊎_elim (λ b. t.measured i o u a b) (λ b. absurd (let h = slice_get_within es i o a in omega (arith, h, b.0, length-trees_of es))) w)
-      (λ a. ⊎_elim (λ b. absurd (let h = Holds-within (trees_of es) i u b in omega (arith, h, a.0, length-trees_of es))) (λ b. subst₂ IsMeasured a.1 b.1 m) w)
-      (slice_get-one_more es e o i at)
-
-  pub grown_table : IsTable (es ++ e ∷ [])
-  grown_table = record { lower = low; distinct = record { each = distinct }; measured = measured }
-
-any_at : {X : Type 0} (p : X → Bool) (xs : List X) (j : ℕ) (x : X) → slice_get xs j ≡ Some x → p x ≡ true → list_any p xs ≡ true
-any_at p [] j x e h = absurd (cc)
-any_at p (y ∷ ys) zero x e h = let q = ap p (same_Some _ _ e) ∙ h in ap (λ b. b || list_any p ys) q
-any_at p (y ∷ ys) (suc j) x e h = go (p y) (any_at p ys j x e h)
-  where
-    go : (b : Bool) → list_any p ys ≡ true → (b || list_any p ys) ≡ true
-    go true q = refl
-    go false q = q
-
--- a set's insertion
-pub record Inserted (es new : List Entry) (e : Entry) : Type 0 where
-  pub table : IsTable new
-  pub adds : Adds (trees_of es) (trees_of new) (tree_of_node (trees_of es) (node_of e.shape))
-
-pub unchanged : (es new : List Entry) (e : Entry) → IsTable es → new ≡ es → Inserted es new e
-unchanged es new e t same = subst (λ w. Inserted es w e) (sym same) (record { table = t; adds = inl refl })
-
-pub inserted : (es new : List Entry) (e : Entry) → IsTable es → PartsBelow (length (trees_of es)) (node_of e.shape) → IsMeasured e (tree_of_node (trees_of es) (node_of e.shape)) → new ≡ insert_key entry_eq.eq-value.it es e → Inserted es new e
-inserted es new e t p m q = go (list_any (entry_eq.eq-value.it e) es) refl
-  where
-    go : (b : Bool) → list_any (entry_eq.eq-value.it e) es ≡ b → Inserted es new e
-    go true h = unchanged es new e t (q ∙ ap (λ b. if b then es else es ++ e ∷ []) h)
-    go false h =
-        let n = q ∙ ap (λ b. if b then es else es ++ e ∷ []) h in
-        let absent : (j : ℕ) (o : Entry) → slice_get es j ≡ Some o → o.shape ≡ e.shape → ⊥ = λ j o at same. let y = any_at (entry_eq.eq-value.it e) es j o at (entry_eq-same e o (sym same)) in let w = sym y ∙ h in cc in
-        subst (λ w. Inserted es w e) (sym n) (record { table = grown_table es e t p m absent; adds = inr (trees_from-append [] es e) })
-
-pub inserted_keeps : (es new : List Entry) (e : Entry) → Inserted es new e → Keeps (trees_of es) (trees_of new)
-inserted_keeps es new e ins = Adds-Keeps (trees_of es) (trees_of new) (tree_of_node (trees_of es) (node_of e.shape)) ins.adds ins.table.distinct
-
--- the tree that is stored at the number given
-pub stored_tree : (es new : List Entry) (e k : Entry) (r : ℕ) → Inserted es new e → PartsBelow (length (trees_of es)) (node_of e.shape) → slice_get new r ≡ Some k → entry_eq.eq-value.it e k ≡ true → Holds (trees_of new) r (tree_of_node (trees_of es) (node_of e.shape))
-stored_tree es new e k r ins p at same =
-    trees_of-Holds new r k (ins.table.lower r k at) at
-    ∙ ap (λ w. Some (tree_of_node (trees_of new) (node_of w))) (sym (entry_eq-true e k same))
-    ∙ ap Some (sym (tree_of_node-Stays (inserted_keeps es new e ins).stays (node_of e.shape) p))
+-- the last tree of a table that grew
+pub Holds-last : (ss : List Shape) (s : Shape) → Holds (trees_of (ss ++ s ∷ [])) (length ss) (tree_of_node (trees_of ss) (node_of s))
+Holds-last ss s = ap₂ slice_get (trees_from-append [] ss s) (sym (length-trees_of ss)) ∙ slice_get-last (trees_of ss) (tree_of_node (trees_of ss) (node_of s))

@@ -1,4 +1,5 @@
-mod EntryLaws
+mod ColumnLaws
+mod MeasuredLaws
 mod Inserted
 mod Cut
 mod NotedLaws

@@ -3,7 +3,7 @@ pub mod TableLaws
 pub mod Shapes
 pub mod ShapeLaws
 pub mod Measured
-pub mod Entries
+pub mod Columns
 pub mod Noted
 pub mod Walks
 pub mod BindingLaws

@@ -1,8 +1,8 @@
 -- What the test of two shapes says.
 use Rattle.std.proofs.Common.{◌≡◌, refl, arith, true}
-use Rattle.lp_term.specs.declared.entry.Shape.{Shape}
-use Rattle.lp_term.specs.declared.entry.Shape.TheVariants as shape
-use Rattle.lp_term.specs.contracts.entry.ShapePartialEq.TheImpl as shape_eq
+use Rattle.lp_term.specs.declared.shape.Shape.{Shape}
+use Rattle.lp_term.specs.declared.shape.Shape.TheVariants as shape
+use Rattle.lp_term.specs.contracts.shape.ShapePartialEq.TheImpl as shape_eq
 
 -- shapes that are equal by their test are one
 pub same_shape : (x y : Shape) → shape_eq.eq-value.it x y ≡ true → x ≡ y

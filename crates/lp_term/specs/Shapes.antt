@@ -2,8 +2,8 @@
 use Rattle.std.specs.Prelude.{ℕ, ◌+◌, ◌*◌, ◌^◌}
 use Rattle.lp_term.specs.declared.LpNode.{LpNode}
 use Rattle.lp_term.specs.declared.LpNode.TheVariants as node
-use Rattle.lp_term.specs.declared.entry.Shape.{Shape}
-use Rattle.lp_term.specs.declared.entry.Shape.TheVariants as shape
+use Rattle.lp_term.specs.declared.shape.Shape.{Shape}
+use Rattle.lp_term.specs.declared.shape.Shape.TheVariants as shape
 
 -- the node of a shape
 abbrev pub node_of : Shape → LpNode

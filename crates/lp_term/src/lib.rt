@@ -19,12 +19,14 @@ ghost use Rattle.lp_term.specs.Shapes.{node_of};
 ghost use Rattle.lp_term.specs.Measured.{IsMeasured};
 
 mod binding;
-mod entry;
+mod measures;
 mod memo;
+mod shape;
 mod walk;
 
-use crate::entry::{Entry, Shape, under_binder};
+use crate::measures::{Measures, push_measures};
 use crate::memo::{Change, Place};
+use crate::shape::{Shape, insert};
 use bridge_base::Memory;
 use indexmap::IndexSet;
 use std::alloc::Global;
@@ -57,7 +59,8 @@ pub enum LpNode {
 #[derive(Drop)]
 pub struct LpTable {
     alloc: Global,
-    entries: IndexSet<Entry>,
+    shapes: IndexSet<Shape>,
+    measures: Vec<Measures>,
 }
 
 impl Model for LpTable {
@@ -70,11 +73,11 @@ impl Model for LpTable {
 
     ghost coded = { coded_list coded_tree };
 
-    ghost use Rattle.lp_term.specs.Entries.{trees_of, IsTable};
+    ghost use Rattle.lp_term.specs.Columns.{trees_of, IsTable};
 
-    ghost view = { λ t. trees_of t.entries.keys };
+    ghost view = { λ t. trees_of t.shapes.keys };
 
-    ghost invariant = { λ t. IsTable t.entries.keys };
+    ghost invariant = { λ t. IsTable t.shapes.keys t.measures.items };
 }
 
 impl LpTable {
@@ -84,12 +87,13 @@ impl LpTable {
     {
         LpTable {
             alloc,
-            entries: IndexSet::new(alloc),
+            shapes: IndexSet::new(alloc),
+            measures: Vec::new(alloc),
         }
     }
 
-    /// The tree of this node, which has a number already, or else gets the next one. A node with a number of 2^32 or
-    /// more is want of memory.
+    /// The tree of this node, which has a number already, or else gets the next one. A number or a depth of 2^32 or more
+    /// is want of memory.
     pub fn node(&mut self, node: LpNode) -> Result<LpId, Memory>
         requires { PartsBelow (length self.old) node }
         ensures known { IfOk result (λ id. id.0 < length self.new) }
@@ -99,14 +103,18 @@ impl LpTable {
         ensures distinct { IsDistinct self.new }
         ensures unchanged { OnErr result (self.new ≡ self.old) }
     {
-        // A node that is refused leaves a table in which no tree stands twice: its entries tell.
-        let _ = &self.entries;
+        // A node that is refused leaves a table in which no tree stands twice: its shapes tell.
+        let _ = &self.shapes;
         let shape = Shape::of(node)?;
-        let entry = self.measured(shape);
-        match self.entries.insert_full(entry) {
-            Ok((index, _)) => Ok(LpId(index)),
-            Err(_) => Err(Memory),
+        let (index, is_new) = insert(&mut self.shapes, shape)?;
+        if !is_new {
+            return Ok(LpId(index));
         }
+        if let Err(memory) = push_measures(&mut self.measures, shape) {
+            self.shapes.truncate(index);
+            return Err(memory);
+        }
+        Ok(LpId(index))
     }
 
     /// The node of a tree. Its parts have lower numbers.
@@ -117,7 +125,7 @@ impl LpTable {
         ensures distinct { IsDistinct self.now }
         ensures small { length self.now < 2 ^ 63 }
     {
-        self.entry(id).shape.node()
+        self.shape_of(id).node()
     }
 
     /// How many nodes the tree has, or the greatest number of the type if they are more.
@@ -125,7 +133,7 @@ impl LpTable {
         requires { id.0 < length self.now }
         ensures { result ≡ min (size_of (tree_at self.now id.0)) (2 ^ 128 - 1) }
     {
-        self.entry(id).size.count()
+        self.measures_of(id).size.count()
     }
 
     /// How many nodes the tree's longest path has, or the greatest number of the type if they are more.
@@ -133,7 +141,7 @@ impl LpTable {
         requires { id.0 < length self.now }
         ensures { result ≡ min (depth_of (tree_at self.now id.0)) (2 ^ 64 - 1) }
     {
-        self.entry(id).depth
+        self.measures_of(id).depth as u64
     }
 
     /// The tree with its loose variables raised by `k`. A number that does not fit its type is want of memory.
@@ -180,43 +188,28 @@ impl LpTable {
         requires { id.0 < length self.now }
         ensures closed { OnTrue result (depth < 2 ^ 64 → loose_of (tree_at self.now id.0) ≤ depth) }
     {
-        let loose = self.entry(id).loose;
+        let loose = self.measures_of(id).loose;
         loose < u32::MAX && loose as u128 <= depth
     }
 
-    // The entry of a tree.
-    fn entry(&self, id: LpId) -> &Entry
+    // The shape of a tree's node.
+    fn shape_of(&self, id: LpId) -> Shape
         requires { id.0 < length self.now }
-        ensures is { Holds self.now id.0 (tree_of_node self.now (node_of result.now.shape)) }
-        ensures lower { PartsBelow id.0 (node_of result.now.shape) }
-        ensures measured { IsMeasured result.now (tree_at self.now id.0) }
+        ensures is { Holds self.now id.0 (tree_of_node self.now (node_of result)) }
+        ensures lower { PartsBelow id.0 (node_of result) }
         ensures distinct { IsDistinct self.now }
         ensures small { length self.now < 2 ^ 63 }
     {
-        let _count = self.entries.len();
-        self.entries.get_index(id.0).unwrap()
+        let _count = self.shapes.len();
+        *self.shapes.get_index(id.0).unwrap()
     }
 
-    // The entry of the node of this shape.
-    fn measured(&self, shape: Shape) -> Entry
-        requires { PartsBelow (length self.now) (node_of shape) }
-        ensures shape { result.shape ≡ shape }
-        ensures measured { IsMeasured result (tree_of_node self.now (node_of shape)) }
+    // The measures of a tree.
+    fn measures_of(&self, id: LpId) -> &Measures
+        requires { id.0 < length self.now }
+        ensures { IsMeasured result.now (tree_at self.now id.0) }
     {
-        match shape {
-            Shape::SortType | Shape::SortKind | Shape::Sym(_) => Entry::leaf(shape, 0),
-            Shape::Var(n) => Entry::leaf(shape, n.saturating_add(1)),
-            Shape::App(f, x) => {
-                let function = self.entry(LpId(f as usize));
-                let argument = self.entry(LpId(x as usize));
-                Entry::joined(shape, function, argument, argument.loose)
-            }
-            Shape::Lam(a, b) | Shape::Pi(a, b) => {
-                let domain = self.entry(LpId(a as usize));
-                let body = self.entry(LpId(b as usize));
-                Entry::joined(shape, domain, body, under_binder(body.loose))
-            }
-        }
+        &self.measures[id.0]
     }
 
     // Gives up all trees from the number `len` on.
@@ -224,14 +217,15 @@ impl LpTable {
         requires { len ≤ length self.old }
         ensures { self.new ≡ take len self.old }
     {
-        self.entries.truncate(len);
+        self.shapes.truncate(len);
+        self.measures.truncate(len);
     }
 
     pub(crate) fn count(&self) -> usize
         ensures count { result ≡ length self.now }
         ensures distinct { IsDistinct self.now }
     {
-        self.entries.len()
+        self.shapes.len()
     }
 }
 

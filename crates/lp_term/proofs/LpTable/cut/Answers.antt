@@ -1,12 +1,14 @@
 use Rattle.std.proofs.Common.{arith}
-use Rattle.lp_term.proofs.EntryLaws.{length-trees_of}
+use Rattle.lp_term.proofs.ColumnLaws.{length-trees_of}
 use Rattle.lp_term.proofs.Cut.{trees_of-take, IsTable-take}
 use Rattle.lp_term.proofs.LpTable.cut.Goals as goal
 
 pub invariant_of-self : goal.invariant_of-self
-invariant_of-self c = rw c.truncate.ensures.keys (IsTable-take c.args.len c.self.inside.entries.keys c.self.invariant)
+invariant_of-self c =
+    let h = rw (← c.self.view_is) at c.requires in
+    rw (c.truncate.ensures.keys, c.truncate-2.ensures.items) (IsTable-take c.args.len c.self.inside.shapes.keys c.self.inside.measures.items (omega (arith, h, length-trees_of c.self.inside.shapes.keys)) c.self.invariant)
 
 pub returns : goal.returns
 returns c =
     let h = rw (← c.self.view_is) at c.requires in
-    rw (← c.self.view_is, c.truncate.ensures.keys) (trees_of-take c.args.len c.self.inside.entries.keys (omega (arith, h, length-trees_of c.self.inside.entries.keys)))
+    rw (← c.self.view_is, c.truncate.ensures.keys) (trees_of-take c.args.len c.self.inside.shapes.keys (omega (arith, h, length-trees_of c.self.inside.shapes.keys)))

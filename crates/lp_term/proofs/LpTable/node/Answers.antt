@@ -1,53 +1,63 @@
-use Rattle.std.proofs.Common.{◌≡◌, ◌∙◌, ap, subst, sym, length}
-use Rattle.lp_term.specs.Tables.{tree_of_node, PartsBelow}
-use Rattle.lp_term.specs.TableLaws.{Holds-within}
-use Rattle.lp_term.specs.Shapes.{node_of}
-use Rattle.lp_term.specs.Measured.{IsMeasured}
-use Rattle.lp_term.specs.Entries.{trees_of}
-use Rattle.lp_term.proofs.Inserted.{Inserted, inserted, inserted_keeps, stored_tree, unchanged}
+use Rattle.std.proofs.Common.{◌≡◌, ◌∙◌, ◌∷◌, [], ap, subst, sym, inl, inr, true, false}
+use Rattle.std.proofs.Math.Seq.{take-append_seam}
+use Rattle.lp_term.specs.Tables.{Keeps}
+use Rattle.lp_term.specs.TableLaws.{Holds-within, Keeps-refl, Adds-Keeps}
+use Rattle.lp_term.specs.Columns.{trees_of, IsInserted}
+use Rattle.lp_term.proofs.ColumnLaws.{trees_from-append}
+use Rattle.lp_term.proofs.Inserted.{Holds-found, IsTable-more, Holds-last}
 use Rattle.lp_term.proofs.LpTable.node.Goals as goal
-use Rattle.lp_term.proofs.LpTable.node.Goals.{in-Ok, in-Err}
 
--- the entry is the node's
-is_node : (c : goal.Joined-insert_full) → node_of c.measured-entry.result.shape ≡ c.args.node
-is_node c = ap node_of c.measured-entry.ensures.shape ∙ c.in_ok-shape.ensures
+-- the shape was there
+found : (c : goal.Then-not-is_new) → IsInserted c.self.inside.shapes.keys c.insert.new.shapes.keys c.in_ok-shape.shape c.in_ok-index.index false
+found c = rw c.if-not-is_new.true at c.in_ok-index.ensures.inserted
 
--- what the node's tree takes, of the entries
-parts_below : (c : goal.Joined-insert_full) → PartsBelow (length (trees_of c.self.inside.entries.keys)) (node_of c.measured-entry.result.shape)
-parts_below c = rw (is_node c, c.self.view_is) c.requires
+pub returns-then-not-is_new-clause-made : goal.returns-then-not-is_new-clause-made
+returns-then-not-is_new-clause-made c = rw ((found c).0, ← c.self.view_is, ← c.in_ok-shape.ensures) (Holds-found _ _ _ _ c.self.invariant (found c).1)
 
-measured : (c : goal.Joined-insert_full) → IsMeasured c.measured-entry.result (tree_of_node (trees_of c.self.inside.entries.keys) (node_of c.measured-entry.result.shape))
-measured c =
-    let h = rw (← c.self.view_is) at c.measured-entry.ensures.measured in
-    subst (λ s. IsMeasured c.measured-entry.result (tree_of_node (trees_of c.self.inside.entries.keys) (node_of s))) (sym c.measured-entry.ensures.shape) h
+pub returns-then-not-is_new-clause-known : goal.returns-then-not-is_new-clause-known
+returns-then-not-is_new-clause-known c = rw (found c).0 (Holds-within _ _ _ (Holds-found _ _ _ _ c.self.invariant (found c).1))
 
--- the new entries, whatever was answered
-after : (c : goal.Joined-insert_full) → Inserted c.self.inside.entries.keys c.insert_full.new.self.keys c.measured-entry.result
-after c = elim c.match-insert_full.branch [
-  | in-Ok w ↦ inserted _ _ _ c.self.invariant (parts_below c) (measured c) w.in-Ok.ensures.keys
-  | in-Err w ↦ unchanged _ _ _ c.self.invariant w.in-Err.ensures.err
-]
+-- the shape was new, and its measures found no memory: the set is cut back
+back : (c : goal.After-truncate) → c.truncate.new.self.keys ≡ c.self.inside.shapes.keys
+back c =
+    let new = rw c.if-not-is_new.false at c.in_ok-index.ensures.inserted in
+    rw (c.truncate.ensures.keys, new.0, new.1) (take-append_seam c.self.inside.shapes.keys (c.in_ok-shape.shape ∷ []))
 
-pub invariant_of-self : goal.invariant_of-self
-invariant_of-self c = (after c).table
+pub invariant_of-self-in-Err : goal.invariant_of-self-in-Err
+invariant_of-self-in-Err c = rw (back c, c.in-Err.ensures.unchanged) c.self.invariant
+
+pub returns-in-Err-clause-unchanged : goal.returns-in-Err-clause-unchanged
+returns-in-Err-clause-unchanged c = ap trees_of (back c) ∙ c.self.view_is
+
+pub returns-in-Err-clause-adds : goal.returns-in-Err-clause-adds
+returns-in-Err-clause-adds c = inl (returns-in-Err-clause-unchanged c)
+
+pub returns-in-Err-clause-keeps : goal.returns-in-Err-clause-keeps
+returns-in-Err-clause-keeps c = subst (Keeps c.args.self.now) (sym (returns-in-Err-clause-unchanged c)) (Keeps-refl c.args.self.now)
+
+pub returns-in-Err-clause-distinct : goal.returns-in-Err-clause-distinct
+returns-in-Err-clause-distinct c = (invariant_of-self-in-Err c).distinct
+
+-- the shape was new, and has its measures
+new : (c : goal.In_default) → IsInserted c.self.inside.shapes.keys c.insert.new.shapes.keys c.in_ok-shape.shape c.in_ok-index.index true
+new c = rw c.if-not-is_new.false at c.in_ok-index.ensures.inserted
+
+pub invariant_of-self-in_default : goal.invariant_of-self-in_default
+invariant_of-self-in_default c =
+    let t = c.self.invariant in
+    rw (new c).0 (IsTable-more _ _ _ t (rw (c.in_ok-shape.ensures, c.self.view_is) c.requires) (new c).2 _ (c.in_default.ensures.pushed _ t.measured))
 
 pub returns-clause-made : goal.returns-clause-made
-returns-clause-made c = elim c.match-insert_full.branch [
-  | in-Ok w ↦ let s = w.in-Ok.ensures.stored in rw (w.result-is, ← c.self.view_is, ← is_node c) (stored_tree _ _ _ s.0 w.in-Ok.index (after c) (parts_below c) s.1 s.2)
-  | in-Err w ↦ rw w.result-is tt
-]
-
-pub returns-clause-adds : goal.returns-clause-adds
-returns-clause-adds c = rw (← c.self.view_is, ← is_node c) (after c).adds
-
-pub returns-clause-keeps : goal.returns-clause-keeps
-returns-clause-keeps c = rw (← c.self.view_is) (inserted_keeps _ _ _ (after c))
-
-pub returns-clause-distinct : goal.returns-clause-distinct
-returns-clause-distinct c = (after c).table.distinct
+returns-clause-made c = rw ((new c).0, (new c).1, ← c.self.view_is, ← c.in_ok-shape.ensures) (Holds-last c.self.inside.shapes.keys c.in_ok-shape.shape)
 
 pub returns-clause-known : goal.returns-clause-known
-returns-clause-known c = elim c.match-insert_full.branch [
-  | in-Ok w ↦ let s = w.in-Ok.ensures.stored in rw w.result-is (Holds-within _ _ _ (stored_tree _ _ _ s.0 w.in-Ok.index (after c) (parts_below c) s.1 s.2))
-  | in-Err w ↦ rw w.result-is tt
-]
+returns-clause-known c = Holds-within _ _ _ (returns-clause-made c)
+
+pub returns-clause-adds : goal.returns-clause-adds
+returns-clause-adds c = inr (rw ((new c).0, ← c.self.view_is, ← c.in_ok-shape.ensures) (trees_from-append [] c.self.inside.shapes.keys c.in_ok-shape.shape))
+
+pub returns-clause-distinct : goal.returns-clause-distinct
+returns-clause-distinct c = (invariant_of-self-in_default c).distinct
+
+pub returns-clause-keeps : goal.returns-clause-keeps
+returns-clause-keeps c = Adds-Keeps _ _ _ (returns-clause-adds c) (returns-clause-distinct c)

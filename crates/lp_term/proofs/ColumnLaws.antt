@@ -1,4 +1,4 @@
--- The trees of a list of entries.
+-- The trees of a list of shapes.
 use Rattle.std.proofs.Common.{◌≡◌, ℕ, zero, suc, ◌+◌, ◌<◌, refl, sym, ap, ◌∙◌, subst, arith, List, [], ◌∷◌, ◌++◌, length, Some, length-append, ◌⊎◌, ⊎_elim, inl, inr, true}
 use Rattle.std.specs.Prelude.{slice_get}
 use Rattle.std.proofs.lemmas.Option.{slice_get_within, same_Some}
@@ -7,31 +7,29 @@ use Rattle.lp_spec.specs.Trees.{Tree, SortType, App, Lam, Pi}
 use Rattle.lp_term.specs.declared.LpId.{LpId}
 use Rattle.lp_term.specs.declared.LpNode.{LpNode}
 use Rattle.lp_term.specs.declared.LpNode.TheVariants as node
-use Rattle.lp_term.specs.declared.entry.Shape.{Shape}
-use Rattle.lp_term.specs.declared.entry.Shape.TheVariants as shape
-use Rattle.lp_term.specs.declared.entry.Entry.{Entry}
+use Rattle.lp_term.specs.declared.shape.Shape.{Shape}
+use Rattle.lp_term.specs.declared.shape.Shape.TheVariants as shape
 use Rattle.lp_term.specs.Shapes.{node_of}
-use Rattle.lp_term.specs.ShapeLaws.{same_shape}
-use Rattle.lp_term.specs.contracts.entry.EntryPartialEq.TheImpl as entry_eq
-use Rattle.lp_term.specs.contracts.entry.ShapePartialEq.TheImpl as shape_eq
+use Rattle.lp_term.specs.contracts.shape.ShapePartialEq.TheImpl as shape_eq
 use Rattle.lp_term.specs.Tables.{tree_at, Holds, tree_of_node, PartsBelow, IsDistinct, Stays}
 use Rattle.lp_term.specs.TableLaws.{tree_at-Holds, Stays-refl, Stays-trans, Stays-append, tree_of_node-Stays}
-use Rattle.lp_term.specs.Entries.{trees_from, trees_of}
+use Rattle.lp_term.specs.Columns.{trees_from, trees_of}
 
-pub trees_from-append : (ts : List Tree) (es : List Entry) (e : Entry) → trees_from ts (es ++ e ∷ []) ≡ trees_from ts es ++ tree_of_node (trees_from ts es) (node_of e.shape) ∷ []
-trees_from-append ts [] e = refl
-trees_from-append ts (m ∷ es) e = trees_from-append (ts ++ tree_of_node ts (node_of m.shape) ∷ []) es e
+-- a shape more is a tree more
+pub trees_from-append : (ts : List Tree) (ss : List Shape) (s : Shape) → trees_from ts (ss ++ s ∷ []) ≡ trees_from ts ss ++ tree_of_node (trees_from ts ss) (node_of s) ∷ []
+trees_from-append ts [] s = refl
+trees_from-append ts (m ∷ ss) s = trees_from-append (ts ++ tree_of_node ts (node_of m) ∷ []) ss s
 
-pub length-trees_from : (ts : List Tree) (es : List Entry) → length (trees_from ts es) ≡ length ts + length es
+pub length-trees_from : (ts : List Tree) (ss : List Shape) → length (trees_from ts ss) ≡ length ts + length ss
 length-trees_from ts [] = omega arith
-length-trees_from ts (e ∷ es) = omega (arith, length-trees_from (ts ++ tree_of_node ts (node_of e.shape) ∷ []) es, length-append ts (tree_of_node ts (node_of e.shape) ∷ []))
+length-trees_from ts (s ∷ ss) = omega (arith, length-trees_from (ts ++ tree_of_node ts (node_of s) ∷ []) ss, length-append ts (tree_of_node ts (node_of s) ∷ []))
 
-pub length-trees_of : (es : List Entry) → length (trees_of es) ≡ length es
-length-trees_of es = omega (arith, length-trees_from [] es)
+pub length-trees_of : (ss : List Shape) → length (trees_of ss) ≡ length ss
+length-trees_of ss = omega (arith, length-trees_from [] ss)
 
-pub Stays-trees_from : (ts : List Tree) (es : List Entry) → Stays ts (trees_from ts es)
+pub Stays-trees_from : (ts : List Tree) (ss : List Shape) → Stays ts (trees_from ts ss)
 Stays-trees_from ts [] = Stays-refl ts
-Stays-trees_from ts (e ∷ es) = Stays-trans (Stays-append ts (tree_of_node ts (node_of e.shape) ∷ [])) (Stays-trees_from (ts ++ tree_of_node ts (node_of e.shape) ∷ []) es)
+Stays-trees_from ts (s ∷ ss) = Stays-trans (Stays-append ts (tree_of_node ts (node_of s) ∷ [])) (Stays-trees_from (ts ++ tree_of_node ts (node_of s) ∷ []) ss)
 
 pub slice_get-last : {X : Type 0} (xs : List X) (x : X) → slice_get (xs ++ x ∷ []) (length xs) ≡ Some x
 slice_get-last [] x = refl
@@ -44,31 +42,31 @@ slice_get-one_more [] x y (suc i) e = inl e
 slice_get-one_more (z ∷ xs) x y zero e = inl e
 slice_get-one_more (z ∷ xs) x y (suc i) e = ⊎_elim (λ h. inl h) (λ h. inr (ap suc h.0, h.1)) (slice_get-one_more xs x y i e)
 
--- the tree of each entry is that of its parts among all trees
-node_from : (ts : List Tree) (es : List Entry) (j : ℕ) (m : Entry) → slice_get es j ≡ Some m → PartsBelow (length ts + j) (node_of m.shape) → slice_get (trees_from ts es) (length ts + j) ≡ Some (tree_of_node (trees_from ts es) (node_of m.shape))
+-- the tree of each shape is that of its parts among all trees
+node_from : (ts : List Tree) (ss : List Shape) (j : ℕ) (m : Shape) → slice_get ss j ≡ Some m → PartsBelow (length ts + j) (node_of m) → slice_get (trees_from ts ss) (length ts + j) ≡ Some (tree_of_node (trees_from ts ss) (node_of m))
 node_from ts [] j m e h = absurd (let h = slice_get_within [] j m e in omega arith)
-node_from ts (n ∷ es) zero m e h =
+node_from ts (n ∷ ss) zero m e h =
     let z : length ts + 0 ≡ length ts = omega arith in
     let same : n ≡ m = same_Some _ _ e in
-    let us = ts ++ tree_of_node ts (node_of n.shape) ∷ [] in
-    let hn = subst (λ w. PartsBelow w (node_of n.shape)) z (subst (λ w. PartsBelow (length ts + 0) (node_of w.shape)) (sym same) h) in
-    ap (slice_get (trees_from ts (n ∷ es))) z
-    ∙ (Stays-trees_from us es).each (length ts) (tree_of_node ts (node_of n.shape)) (slice_get-last ts (tree_of_node ts (node_of n.shape)))
-    ∙ ap Some (tree_of_node-Stays (Stays-trees_from ts (n ∷ es)) (node_of n.shape) hn)
-    ∙ ap (λ w. Some (tree_of_node (trees_from ts (n ∷ es)) (node_of w.shape))) same
-node_from ts (n ∷ es) (suc j) m e h =
-    let us = ts ++ tree_of_node ts (node_of n.shape) ∷ [] in
-    let z : length us + j ≡ length ts + suc j = omega (arith, length-append ts (tree_of_node ts (node_of n.shape) ∷ [])) in
-    subst (λ w. slice_get (trees_from us es) w ≡ Some (tree_of_node (trees_from us es) (node_of m.shape))) z (node_from us es j m e (subst (λ w. PartsBelow w (node_of m.shape)) (sym z) h))
+    let us = ts ++ tree_of_node ts (node_of n) ∷ [] in
+    let hn = subst (λ w. PartsBelow w (node_of n)) z (subst (λ w. PartsBelow (length ts + 0) (node_of w)) (sym same) h) in
+    ap (slice_get (trees_from ts (n ∷ ss))) z
+    ∙ (Stays-trees_from us ss).each (length ts) (tree_of_node ts (node_of n)) (slice_get-last ts (tree_of_node ts (node_of n)))
+    ∙ ap Some (tree_of_node-Stays (Stays-trees_from ts (n ∷ ss)) (node_of n) hn)
+    ∙ ap (λ w. Some (tree_of_node (trees_from ts (n ∷ ss)) (node_of w))) same
+node_from ts (n ∷ ss) (suc j) m e h =
+    let us = ts ++ tree_of_node ts (node_of n) ∷ [] in
+    let z : length us + j ≡ length ts + suc j = omega (arith, length-append ts (tree_of_node ts (node_of n) ∷ [])) in
+    subst (λ w. slice_get (trees_from us ss) w ≡ Some (tree_of_node (trees_from us ss) (node_of m))) z (node_from us ss j m e (subst (λ w. PartsBelow w (node_of m)) (sym z) h))
 
--- the tree of each entry of a table
-pub trees_of-Holds : (es : List Entry) (i : ℕ) (e : Entry) → PartsBelow i (node_of e.shape) → slice_get es i ≡ Some e → Holds (trees_of es) i (tree_of_node (trees_of es) (node_of e.shape))
-trees_of-Holds es i e low at =
-    let r = node_from [] es i e at (subst (λ w. PartsBelow w (node_of e.shape)) (let z : i ≡ 0 + i = omega arith in z) low) in
-    subst (λ w. slice_get (trees_of es) w ≡ Some (tree_of_node (trees_of es) (node_of e.shape))) (let z : 0 + i ≡ i = omega arith in z) r
+-- the tree of each shape of a table
+pub trees_of-Holds : (ss : List Shape) (i : ℕ) (s : Shape) → PartsBelow i (node_of s) → slice_get ss i ≡ Some s → Holds (trees_of ss) i (tree_of_node (trees_of ss) (node_of s))
+trees_of-Holds ss i s low at =
+    let r = node_from [] ss i s at (subst (λ w. PartsBelow w (node_of s)) (let z : i ≡ 0 + i = omega arith in z) low) in
+    subst (λ w. slice_get (trees_of ss) w ≡ Some (tree_of_node (trees_of ss) (node_of s))) (let z : 0 + i ≡ i = omega arith in z) r
 
 -- a shape is equal to itself by the test
-shape_eq-refl : (s : Shape) → shape_eq.eq-value.it s s ≡ true
+pub shape_eq-refl : (s : Shape) → shape_eq.eq-value.it s s ≡ true
 shape_eq-refl shape.SortType = refl
 shape_eq-refl shape.SortKind = refl
 shape_eq-refl (shape.Var n) = grind arith
@@ -99,14 +97,6 @@ shape_of-node_of (shape.Pi a b) = refl
 
 pub node_of-same : (x y : Shape) → node_of x ≡ node_of y → x ≡ y
 node_of-same x y e = sym (shape_of-node_of x) ∙ ap shape_of e ∙ shape_of-node_of y
-
--- entries that are equal by their test have one shape
-pub entry_eq-true : (x y : Entry) → entry_eq.eq-value.it x y ≡ true → x.shape ≡ y.shape
-entry_eq-true x y h = same_shape x.shape y.shape h
-
--- entries with one shape are equal by their test
-pub entry_eq-same : (x y : Entry) → x.shape ≡ y.shape → entry_eq.eq-value.it x y ≡ true
-entry_eq-same x y e = subst (λ s. shape_eq.eq-value.it x.shape s ≡ true) e (shape_eq-refl x.shape)
 
 -- a node is known by its tree
 left_of : Tree → Tree

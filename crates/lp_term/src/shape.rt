@@ -1,14 +1,15 @@
-//! What a table keeps of a tree: its node, with numbers that are narrow, and its measures.
-ghost use Rattle.std.specs.Prelude.{◌≡◌, ◌<◌, ◌+◌, ◌-◌, ◌^◌, max, min, IfOk};
+//! What a table keeps of a tree: its node, with numbers that are narrow.
+ghost use Rattle.std.specs.Prelude.{◌≡◌, IfOk, OnErr};
 ghost use Rattle.std.specs.Hash as fed;
 ghost use Rattle.std.proofs.Common.{ap};
 ghost use Rattle.lp_term.specs.Shapes.{node_of, placed as placed_at, word_of};
 ghost use Rattle.lp_term.specs.ShapeLaws.{same_shape};
+ghost use Rattle.lp_term.specs.Columns.{IsInserted};
 
 use crate::{LpId, LpNode};
 use bridge_base::Memory;
+use indexmap::IndexSet;
 use std::hash::{Hash, Hasher};
-use std::marker::Model;
 
 /// A node whose numbers are below 2^32.
 #[derive(Clone, Copy, PartialEq, Eq)]
@@ -21,6 +22,9 @@ pub(crate) enum Shape {
     Lam(u32, u32),
     Pi(u32, u32),
 }
+
+// Most of the memory of a large module is shapes and their measures.
+const _: () = prove!(size_of::<Shape>() == 12);
 
 impl Shape {
     /// The shape of a node. A greater number is want of memory.
@@ -94,99 +98,24 @@ fn narrow(number: u128) -> Result<u32, Memory>
     u32::try_from(number).map_err(|_| Memory)
 }
 
-/// How many nodes a tree has. In two halves, which lie closer than a `u128` does.
-#[derive(Drop)]
-pub(crate) struct Size {
-    low: u64,
-    high: u64,
-}
-
-impl Model for Size {
-    ghost use Rattle.std.specs.Prelude.{ℕ, ◌+◌, ◌*◌, ◌^◌};
-    ghost use Rattle.std.specs.Coded.{coded_ℕ};
-
-    ghost Value = { ℕ };
-
-    ghost coded = { coded_ℕ };
-
-    ghost view = { λ s. s.high * 2 ^ 64 + s.low };
-}
-
-impl Size {
-    fn of(count: u128) -> Size
-        ensures { result ≡ count }
-    {
-        Size {
-            low: (count % (1 << 64)) as u64,
-            high: (count / (1 << 64)) as u64,
-        }
-    }
-
-    pub(crate) fn count(&self) -> u128
-        ensures { result ≡ self.now }
-    {
-        self.high as u128 * (1 << 64) + self.low as u128
-    }
-}
-
-/// A node with the measures of its tree. Entries are equal where their nodes are.
-#[derive(Drop)]
-#[derive_where(PartialEq, Eq, Hash)]
-pub(crate) struct Entry {
-    pub(crate) shape: Shape,
-    // How many binders round the tree leave it no loose variable; at the greatest number of the type, unknown.
-    #[derive_where(skip)]
-    pub(crate) loose: u32,
-    #[derive_where(skip)]
-    pub(crate) size: Size,
-    #[derive_where(skip)]
-    pub(crate) depth: u64,
-}
-
-// Most of the memory of a large module is entries.
-const _: () = prove!(size_of::<Entry>() == 40);
-
-impl Entry {
-    /// The entry of a node without parts.
-    pub(crate) fn leaf(shape: Shape, loose: u32) -> Entry
-        ensures shape { result.shape ≡ shape }
-        ensures size { result.size ≡ 1 }
-        ensures depth { result.depth ≡ 1 }
-        ensures loose { result.loose ≡ loose }
-    {
-        Entry {
-            shape,
-            loose,
-            size: Size::of(1),
-            depth: 1,
-        }
-    }
-
-    /// The entry of a node with two parts, where the second's loose variables are these.
-    pub(crate) fn joined(shape: Shape, first: &Entry, second: &Entry, loose: u32) -> Entry
-        ensures shape { result.shape ≡ shape }
-        ensures size { result.size ≡ min (1 + first.now.size + second.now.size) (2 ^ 128 - 1) }
-        ensures depth { result.depth ≡ min (1 + max first.now.depth second.now.depth) (2 ^ 64 - 1) }
-        ensures loose { result.loose ≡ max first.now.loose loose }
-    {
-        let parts = first.size.count().saturating_add(second.size.count());
-        Entry {
-            shape,
-            loose: first.loose.max(loose),
-            size: Size::of(parts.saturating_add(1)),
-            depth: first.depth.max(second.depth).saturating_add(1),
-        }
-    }
-}
-
-/// The loose variables of a body, outside its binder.
-pub(crate) fn under_binder(loose: u32) -> u32
-    ensures known { result < 2 ^ 32 - 1 → result ≡ loose - 1 }
-    ensures unknown { loose ≡ 2 ^ 32 - 1 → result ≡ loose }
+/// Puts a shape into a set: its number there, and whether it is new.
+pub(crate) fn insert(shapes: &mut IndexSet<Shape>, shape: Shape) -> Result<(usize, bool), Memory>
+    ensures inserted { IfOk result (λ r. IsInserted shapes.old.keys shapes.new.keys shape r.0 r.1) }
+    ensures unchanged { OnErr result (shapes.new.keys ≡ shapes.old.keys) }
 {
-    if loose == u32::MAX {
-        loose
-    } else {
-        loose.saturating_sub(1)
+    grow(shapes);
+    Ok(shapes.insert_full(shape)?)
+}
+
+// The room of a full set grows by this factor.
+const GROWTH: usize = 4;
+
+// Makes room in a full set, where there is memory for it: with doubling, rehashing was 16 % of the time of reading 25 MB.
+fn grow(shapes: &mut IndexSet<Shape>)
+    ensures { shapes.new.keys ≡ shapes.old.keys }
+{
+    let len = shapes.len();
+    if len == shapes.capacity() {
+        let _ = shapes.reserve(len.saturating_mul(GROWTH - 1));
     }
 }
