@@ -27,32 +27,6 @@ IsDistinct-more ts u d absent = record {
       (slice_get-one_more ts u t i hi);
 }
 
--- a set that lacks a shape by the test has it nowhere
-list_any-absent : (ss : List Shape) (s : Shape) → list_any (shape_eq.eq-value.it s) ss ≡ false → (j : ℕ) → slice_get ss j ≡ Some s → ⊥
-list_any-absent ss s none j at =
-    let any = list_any_at (shape_eq.eq-value.it s) ss j s (slice_get_within ss j s at) (ap (shape_eq.eq-value.it s) (get_or_from_slice_get ss j s s at) ∙ shape_eq-refl s) in
-    let clash : true ≡ false = sym any ∙ none in
-    cc
-
--- what a set says of a shape that was put into it
-pub IsInserted-insert_key : (ss new : List Shape) (s : Shape) (i : ℕ) (is_new : Bool) → is_new ≡ not (list_any (shape_eq.eq-value.it s) ss) → new ≡ insert_key shape_eq.eq-value.it ss s → (k : Shape) × (slice_get new i ≡ Some k) × (shape_eq.eq-value.it s k ≡ true) → IsInserted ss new s i is_new
-IsInserted-insert_key ss new s i is_new added keys stored = go is_new (list_any (shape_eq.eq-value.it s) ss) refl added
-  where
-    at : slice_get new i ≡ Some s
-    at = stored.1 ∙ ap Some (sym (same_shape s stored.0 stored.2))
-
-    after : (b : Bool) → list_any (shape_eq.eq-value.it s) ss ≡ b → new ≡ (if b then ss else ss ++ s ∷ [])
-    after b h = keys ∙ ap (λ b. if b then ss else ss ++ s ∷ []) h
-
-    go : (x b : Bool) → list_any (shape_eq.eq-value.it s) ss ≡ b → x ≡ not b → IsInserted ss new s i x
-    go true true h e = absurd (cc)
-    go true false h e =
-        let none = list_any-absent ss s h in
-        let last = slice_get-one_more ss s s i (ap (λ l. slice_get l i) (sym (after false h)) ∙ at) in
-        (after false h, ⊎_elim (λ old. absurd (none i old)) (λ l. l.0) last, none)
-    go false true h e = (after true h, ap (λ l. slice_get l i) (sym (after true h)) ∙ at)
-    go false false h e = absurd (cc)
-
 -- a shape of a table is under the number of its tree
 pub Holds-found : (ss : List Shape) (ms : List Measures) (s : Shape) (i : ℕ) → IsTable ss ms → slice_get ss i ≡ Some s → Holds (trees_of ss) i (tree_of_node (trees_of ss) (node_of s))
 Holds-found ss ms s i t at = trees_of-Holds ss i s (t.lower i s at) at

@@ -2,5 +2,6 @@ mod ColumnLaws
 mod MeasuredLaws
 mod Inserted
 mod Cut
+mod Indexing
 mod NotedLaws
 mod Turns

@@ -4,6 +4,7 @@ pub mod Shapes
 pub mod ShapeLaws
 pub mod Measured
 pub mod Columns
+pub mod Indexed
 pub mod Noted
 pub mod Walks
 pub mod BindingLaws

@@ -22,13 +22,14 @@ mod binding;
 mod measures;
 mod memo;
 mod shape;
+mod shapes;
 mod walk;
 
 use crate::measures::{Measures, push_measures};
 use crate::memo::{Change, Place};
-use crate::shape::{Shape, insert};
+use crate::shape::Shape;
+use crate::shapes::Shapes;
 use bridge_base::Memory;
-use indexmap::IndexSet;
 use std::alloc::Global;
 use std::marker::Model;
 
@@ -59,7 +60,7 @@ pub enum LpNode {
 #[derive(Drop)]
 pub struct LpTable {
     alloc: Global,
-    shapes: IndexSet<Shape>,
+    shapes: Shapes,
     measures: Vec<Measures>,
 }
 
@@ -75,9 +76,9 @@ impl Model for LpTable {
 
     ghost use Rattle.lp_term.specs.Columns.{trees_of, IsTable};
 
-    ghost view = { λ t. trees_of t.shapes.keys };
+    ghost view = { λ t. trees_of t.shapes };
 
-    ghost invariant = { λ t. IsTable t.shapes.keys t.measures.items };
+    ghost invariant = { λ t. IsTable t.shapes t.measures.items };
 }
 
 impl LpTable {
@@ -87,7 +88,7 @@ impl LpTable {
     {
         LpTable {
             alloc,
-            shapes: IndexSet::new(alloc),
+            shapes: Shapes::new(alloc),
             measures: Vec::new(alloc),
         }
     }
@@ -106,7 +107,7 @@ impl LpTable {
         // A node that is refused leaves a table in which no tree stands twice: its shapes tell.
         let _ = &self.shapes;
         let shape = Shape::of(node)?;
-        let (index, is_new) = insert(&mut self.shapes, shape)?;
+        let (index, is_new) = self.shapes.insert(shape)?;
         if !is_new {
             return Ok(LpId(index));
         }
@@ -201,7 +202,7 @@ impl LpTable {
         ensures small { length self.now < 2 ^ 63 }
     {
         let _count = self.shapes.len();
-        *self.shapes.get_index(id.0).unwrap()
+        self.shapes.get(id.0)
     }
 
     // The measures of a tree.

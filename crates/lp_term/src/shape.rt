@@ -1,14 +1,12 @@
 //! What a table keeps of a tree: its node, with numbers that are narrow.
-ghost use Rattle.std.specs.Prelude.{◌≡◌, IfOk, OnErr};
+ghost use Rattle.std.specs.Prelude.{◌≡◌, IfOk};
 ghost use Rattle.std.specs.Hash as fed;
 ghost use Rattle.std.proofs.Common.{ap};
 ghost use Rattle.lp_term.specs.Shapes.{node_of, placed as placed_at, word_of};
 ghost use Rattle.lp_term.specs.ShapeLaws.{same_shape};
-ghost use Rattle.lp_term.specs.Columns.{IsInserted};
 
 use crate::{LpId, LpNode};
 use bridge_base::Memory;
-use indexmap::IndexSet;
 use std::hash::{Hash, Hasher};
 
 /// A node whose numbers are below 2^32.
@@ -96,26 +94,4 @@ fn narrow(number: u128) -> Result<u32, Memory>
     ensures { IfOk result (λ n. n ≡ number) }
 {
     u32::try_from(number).map_err(|_| Memory)
-}
-
-/// Puts a shape into a set: its number there, and whether it is new.
-pub(crate) fn insert(shapes: &mut IndexSet<Shape>, shape: Shape) -> Result<(usize, bool), Memory>
-    ensures inserted { IfOk result (λ r. IsInserted shapes.old.keys shapes.new.keys shape r.0 r.1) }
-    ensures unchanged { OnErr result (shapes.new.keys ≡ shapes.old.keys) }
-{
-    grow(shapes);
-    Ok(shapes.insert_full(shape)?)
-}
-
-// The room of a full set grows by this factor.
-const GROWTH: usize = 4;
-
-// Makes room in a full set, where there is memory for it: with doubling, rehashing was 16 % of the time of reading 25 MB.
-fn grow(shapes: &mut IndexSet<Shape>)
-    ensures { shapes.new.keys ≡ shapes.old.keys }
-{
-    let len = shapes.len();
-    if len == shapes.capacity() {
-        let _ = shapes.reserve(len.saturating_mul(GROWTH - 1));
-    }
 }
