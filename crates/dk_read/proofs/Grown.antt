@@ -1,5 +1,6 @@
 -- What stays where the table of a reading grows, or its names do.
 use Rattle.std.proofs.Common.{inl, inr, ◌⊎◌, ◌≡◌, ℕ, zero, suc, refl, sym, ap, subst, ◌∙◌, List, [], ◌∷◌, ◌++◌, reverse, length, slice_get, Option, None, Some, arith}
+use Rattle.std.specs.Prelude.{slice_set}
 use Rattle.lp_spec.specs.Trees.{Tree, Var, Sym}
 use Rattle.std.proofs.lemmas.Option.{same_Some}
 use Rattle.lp_spec.specs.Modules.{Declaration, signature}
@@ -23,7 +24,7 @@ use Rattle.dk_read.specs.declared.terms.State.TheVariants as state
 use Rattle.dk_read.specs.declared.parser.Parser.{Parser}
 use Rattle.dk_read.specs.Names.{Named, name_at, looked, bound}
 use Rattle.dk_read.specs.Names as naming
-use Rattle.dk_read.specs.States.{tree_in, frame_in, frames_in, head_in, state_in, IsIdKnown, IsBinding, IsFrameKnown, AreFramesKnown, AreOf, AreAtoms, IsHeadKnown, IsStateKnown, IsSoundIn, IsSound, Grows}
+use Rattle.dk_read.specs.States.{tree_in, frame_in, frames_in, head_in, state_in, IsIdKnown, IsBinding, IsFrameKnown, AreFramesKnown, AreOf, AreOfSymbols, AreAtoms, IsHeadKnown, IsStateKnown, IsSoundIn, IsSound, Grows}
 
 module _ (old new : List Tree) (k : Keeps old new) (ns ms : List Named) (j : naming.Keeps ns ms) where
   pub tree_in-Keeps : (id : Option LpId) → IsIdKnown old id → tree_in new id ≡ tree_in old id
@@ -71,10 +72,10 @@ AreOf-Keeps : (tree : ℕ → Tree) (old new : List Tree) → Keeps old new → 
 AreOf-Keeps tree old new k ids h = λ n id e. k.stays.each id.0 (tree n) (h n id e)
 
 AreAtoms-Keeps : (old new : List Tree) → Keeps old new → (atoms : Atoms) → AreAtoms old atoms → AreAtoms new atoms
-AreAtoms-Keeps old new k atoms h = (AreOf-Keeps Var old new k atoms.variables.items h.0, AreOf-Keeps Sym old new k atoms.symbols.items h.1)
+AreAtoms-Keeps old new k atoms h = (AreOf-Keeps Var old new k atoms.variables.items h.0, λ n id e. k.stays.each id.0 (Sym n) (h.1 n id e))
 
 -- one more of them
-push_at : (vs : List LpId) (id x : LpId) (n : ℕ) → slice_get (vs ++ id ∷ []) n ≡ Some x → (slice_get vs n ≡ Some x) ⊎ ((n ≡ length vs) × (id ≡ x))
+push_at : {X : Type 0} (vs : List X) (id x : X) (n : ℕ) → slice_get (vs ++ id ∷ []) n ≡ Some x → (slice_get vs n ≡ Some x) ⊎ ((n ≡ length vs) × (id ≡ x))
 push_at [] id x zero e = inr (refl, same_Some id x e)
 push_at [] id x (suc n) e = absurd (cc)
 push_at (v ∷ vs) id x zero e = inl e
@@ -82,6 +83,20 @@ push_at (v ∷ vs) id x (suc n) e = elim (push_at vs id x n e) [ inl f ↦ inl f
 
 pub AreOf-push : (tree : ℕ → Tree) (trees : List Tree) (ids : List LpId) (id : LpId) → AreOf tree trees ids → Holds trees id.0 (tree (length ids)) → AreOf tree trees (ids ++ id ∷ [])
 AreOf-push tree trees ids id h k = λ n x e. elim (push_at ids id x n e) [ inl f ↦ h n x f | inr f ↦ subst (λ (y : LpId). Holds trees y.0 (tree n)) f.1 (subst (λ i. Holds trees id.0 (tree i)) (sym f.0) k) ]
+
+-- one more place for a symbol, and a place that is filled
+pub AreOfSymbols-push : (trees : List Tree) (ids : List (Option LpId)) → AreOfSymbols trees ids → AreOfSymbols trees (ids ++ None ∷ [])
+AreOfSymbols-push trees ids h = λ n x e. elim (push_at ids None (Some x) n e) [ inl f ↦ h n x f | inr f ↦ absurd (let g = f.1 in cc) ]
+
+set_at : (ids : List (Option LpId)) (k n : ℕ) (id x : LpId) → slice_get (slice_set ids k (Some id)) n ≡ Some (Some x) → (slice_get ids n ≡ Some (Some x)) ⊎ ((n ≡ k) × (id ≡ x))
+set_at [] k n id x e = inl e
+set_at (v ∷ ids) zero zero id x e = inr (refl, same_Some id x (same_Some (Some id) (Some x) e))
+set_at (v ∷ ids) zero (suc n) id x e = inl e
+set_at (v ∷ ids) (suc k) zero id x e = inl e
+set_at (v ∷ ids) (suc k) (suc n) id x e = elim (set_at ids k n id x e) [ inl f ↦ inl f | inr f ↦ inr (ap suc f.0, f.1) ]
+
+pub AreOfSymbols-set : (trees : List Tree) (ids : List (Option LpId)) (k : ℕ) (id : LpId) → AreOfSymbols trees ids → Holds trees id.0 (Sym k) → AreOfSymbols trees (slice_set ids k (Some id))
+AreOfSymbols-set trees ids k id h at = λ n x e. elim (set_at ids k n id x e) [ inl f ↦ h n x f | inr f ↦ subst (λ (y : LpId). Holds trees y.0 (Sym n)) f.1 (subst (λ i. Holds trees id.0 (Sym i)) (sym f.0) at) ]
 
 -- the same reading over a table or names that have grown
 pub grown_in : (m : Module) (new : List Tree) (ns ms : List Named) (z : ℕ) (vs : Atoms) (b : ℕ) (h : Head) (fs : List Frame) → Keeps m.table new → naming.Keeps ns ms → ((x : List ℕ) → looked ms x ≡ looked ns x) → IsSoundIn m ns z vs b h fs → IsSoundIn (record { table = new; decls = m.decls }) ms z vs b h fs
@@ -116,6 +131,19 @@ grown p new ms k j same s =
     }
 
 -- and with other nodes that are kept
+pub with_atoms : (m : Module) (ns : List Named) (z : ℕ) (vs ws : Atoms) (b : ℕ) (h : Head) (fs : List Frame) → AreAtoms m.table ws → IsSoundIn m ns z vs b h fs → IsSoundIn m ns z ws b h fs
+with_atoms m ns z vs ws b h fs are s = record {
+  held = s.held;
+  is_module = s.is_module;
+  frames = s.frames;
+  head = s.head;
+  meanings = s.meanings;
+  empty = s.empty;
+  depth = s.depth;
+  few = s.few;
+  atoms = are;
+}
+
 pub grown_atoms : (p : Parser) (atoms : Atoms) → (IsSound p → AreAtoms p.module.table atoms)
     → Grows p (record { alloc = p.alloc; «module» = p.module; names = p.names; nameless = p.nameless; frames = p.frames; atoms = atoms; binders = p.binders; head = p.head; state = p.state })
 grown_atoms p atoms h = record {
@@ -126,17 +154,7 @@ grown_atoms p atoms h = record {
   head = refl;
   opened = refl;
   state = refl;
-  sound = λ s. record {
-    held = s.held;
-    is_module = s.is_module;
-    frames = s.frames;
-    head = s.head;
-    meanings = s.meanings;
-    empty = s.empty;
-    depth = s.depth;
-    few = s.few;
-    atoms = h s;
-  };
+  sound = λ s. with_atoms p.module p.names p.nameless p.atoms atoms p.binders p.head (reverse p.frames.items) (h s) s;
 }
 
 -- one after the other

@@ -1,4 +1,5 @@
 pub mod Named
+pub mod Packing
 pub mod Places
 pub mod Grown
 pub mod Meanings

@@ -1,18 +1,16 @@
 -- Names by number: what stays where one is added, and where one gets another meaning.
-use Rattle.std.proofs.Common.{◌≡◌, ℕ, zero, suc, ◌<◌, Bool, true, false, refl, sym, ap, subst, ◌∙◌, List, [], ◌∷◌, ◌++◌, length, map, position, None, Some, slice_get, length-append, arith}
-use Rattle.std.specs.Prelude.{◌||◌, if◌then◌else◌, Vec}
-use Rattle.std.specs.List.{position_or_len}
-use Rattle.std.specs.Map.{keys_of}
+use Rattle.std.proofs.Common.{◌≡◌, ℕ, zero, suc, ◌<◌, Bool, true, false, refl, sym, ap, subst, ◌∙◌, List, [], ◌∷◌, ◌++◌, length, None, Some, slice_get, length-append, arith}
+use Rattle.std.specs.Prelude.{not, ◌||◌, if◌then◌else◌, slice_set}
+use Rattle.std.specs.List.{list_any, position_or_len}
 use Rattle.std.specs.Str.{bytes_eq}
 use Rattle.std.specs.Cmp.Lexicographic.{same_text}
-use Rattle.std.specs.declared.alloc.Global.{Global}
 use Rattle.std.proofs.lemmas.Cmp.{nat_list_eq_equiv}
 use Rattle.std.proofs.lemmas.Grind.{common_steps}
-use Rattle.std.proofs.lemmas.Option.{same_Some}
-use Rattle.indexmap.specs.IndexMap.{insert_entry, set_value_at}
+use Rattle.std.proofs.lemmas.Option.{same_Some, slice_get_within}
+use Rattle.indexmap.specs.IndexSet.{insert_key}
 use Rattle.dk_read.specs.declared.terms.Meaning.{Meaning}
 use Rattle.dk_read.specs.declared.terms.Meaning.TheVariants as meaning
-use Rattle.dk_read.specs.Names.{Named, Entry, named, names_of, name_at, looked, is_named, AreDistinct, Keeps, Puts}
+use Rattle.dk_read.specs.Names.{Named, names_of, name_at, looked, is_named, AreDistinct, AreNames, Keeps, Puts}
 
 pub bytes_eq-symm : (xs ys : List ℕ) → bytes_eq xs ys ≡ bytes_eq ys xs
 bytes_eq-symm xs ys = nat_list_eq_equiv.symm xs ys
@@ -60,47 +58,75 @@ AreDistinct-push (y ∷ es) e h k =
     let t = neither (bytes_eq e.0 y.0) (is_named es e.0) k in
     (is_named-push es e y.0 h.0 (bytes_eq-symm y.0 e.0 ∙ t.0), AreDistinct-push es e h.1 t.1)
 
--- the entries of the map
-pub names_of-push : (es : List Entry) (e : Entry) → names_of (es ++ e ∷ []) ≡ names_of es ++ named e ∷ []
-names_of-push [] e = refl
-names_of-push (x ∷ es) e = ap (λ l. named x ∷ l) (names_of-push es e)
+-- the names of a set with their meanings
+pub names_of-push : (xs : List (List ℕ)) (ms : List Meaning) (x : List ℕ) (m : Meaning) → length ms ≡ length xs → names_of (xs ++ x ∷ []) (ms ++ m ∷ []) ≡ names_of xs ms ++ (x, m) ∷ []
+names_of-push [] [] x m h = refl
+names_of-push [] (n ∷ ms) x m h = absurd (omega (arith, h))
+names_of-push (y ∷ xs) [] x m h = absurd (omega (arith, h))
+names_of-push (y ∷ xs) (n ∷ ms) x m h = ap (λ l. (y, n) ∷ l) (names_of-push xs ms x m (omega (arith, h)))
 
-pub length-names_of : (es : List Entry) → length (names_of es) ≡ length es
-length-names_of [] = refl
-length-names_of (x ∷ es) = ap suc (length-names_of es)
+pub length-names_of : (xs : List (List ℕ)) (ms : List Meaning) → length ms ≡ length xs → length (names_of xs ms) ≡ length xs
+length-names_of [] ms h = refl
+length-names_of (x ∷ xs) [] h = absurd (omega (arith, h))
+length-names_of (x ∷ xs) (m ∷ ms) h = ap suc (length-names_of xs ms (omega (arith, h)))
 
-pub insert_entry-new : (es : List Entry) (k : Vec ℕ Global) (w : Meaning) → is_named (names_of es) k.items ≡ false → insert_entry (λ x y. bytes_eq x.items y.items) es k w ≡ es ++ (k, w) ∷ []
-insert_entry-new [] k w h = refl
-insert_entry-new (x ∷ es) k w h =
-    let t = neither (bytes_eq k.items x.0.items) (is_named (names_of es) k.items) h in
-    ap (λ b. if b then (x.0, w) ∷ es else x ∷ insert_entry (λ y z. bytes_eq y.items z.items) es k w) t.0
-    ∙ ap (λ l. x ∷ l) (insert_entry-new es k w t.1)
+-- whether a name is among those of the set
+pub is_named-names_of : (xs : List (List ℕ)) (ms : List Meaning) (x : List ℕ) → length ms ≡ length xs → is_named (names_of xs ms) x ≡ list_any (bytes_eq x) xs
+is_named-names_of [] ms x h = refl
+is_named-names_of (y ∷ xs) [] x h = absurd (omega (arith, h))
+is_named-names_of (y ∷ xs) (m ∷ ms) x h = ap (λ b. bytes_eq x y || b) (is_named-names_of xs ms x (omega (arith, h)))
 
-pub insert_index-new : (es : List Entry) (x : List ℕ) → is_named (names_of es) x ≡ false → position_or_len (λ k. bytes_eq x k.items) (keys_of es) ≡ length (names_of es)
-insert_index-new [] x h = refl
-insert_index-new (e ∷ es) x h =
-    let t = neither (bytes_eq x e.0.items) (is_named (names_of es) x) h in
-    grind (arith, common_steps, t.0, insert_index-new es x t.1)
+-- the name of a number is the set's key
+pub name_at-key : (xs : List (List ℕ)) (ms : List Meaning) (n : ℕ) (x : List ℕ) → length ms ≡ length xs → slice_get xs n ≡ Some x → name_at (names_of xs ms) n ≡ x
+name_at-key [] ms n x h e = absurd (cc)
+name_at-key (y ∷ xs) [] n x h e = absurd (omega (arith, h))
+name_at-key (y ∷ xs) (m ∷ ms) zero x h e = same_Some y x e
+name_at-key (y ∷ xs) (m ∷ ms) (suc n) x h e = name_at-key xs ms n x (omega (arith, h)) e
 
--- where a name is found
-position_by : (x : List ℕ) (e : Entry) (es : List Entry) (n : ℕ) (b : Bool) → bytes_eq x e.0.items ≡ b → position (λ k. bytes_eq x k.items) (keys_of (e ∷ es)) ≡ Some n
-    → ((m : ℕ) → position (λ k. bytes_eq x k.items) (keys_of es) ≡ Some m → (m < length es) × (name_at (names_of es) m ≡ x)) → (n < length (e ∷ es)) × (name_at (names_of (e ∷ es)) n ≡ x)
-position_by x e es zero true h f k = (omega arith, sym (same_text x e.0.items (sym h)))
-position_by x e es (suc n) true h f k = absurd (grind (arith, common_steps, h, f))
-position_by x e es zero false h f k = absurd (grind (arith, common_steps, h, f))
-position_by x e es (suc n) false h f k = let t = k n (grind (arith, common_steps, h, f)) in (omega (arith, t.0), t.1)
+-- a number that no key has, has no name
+pub name_at-none : (xs : List (List ℕ)) (ms : List Meaning) (n : ℕ) → slice_get xs n ≡ None → [] ≡ name_at (names_of xs ms) n
+name_at-none [] ms n e = refl
+name_at-none (x ∷ xs) [] n e = refl
+name_at-none (x ∷ xs) (m ∷ ms) zero e = absurd (cc)
+name_at-none (x ∷ xs) (m ∷ ms) (suc n) e = name_at-none xs ms n e
 
-pub found_named : (x : List ℕ) (es : List Entry) (n : ℕ) → position (λ k. bytes_eq x k.items) (keys_of es) ≡ Some n → (n < length es) × (name_at (names_of es) n ≡ x)
-found_named x [] n f = absurd (cc)
-found_named x (e ∷ es) n f = position_by x e es n (bytes_eq x e.0.items) refl f (λ m g. found_named x es m g)
+-- a name that is put into a set of names, which has it or lacks it
+pub insert_key-old : (xs : List (List ℕ)) (x : List ℕ) → list_any (bytes_eq x) xs ≡ true → insert_key bytes_eq xs x ≡ xs
+insert_key-old xs x h = ap (λ b. if b then xs else xs ++ x ∷ []) h
 
-none_by : (x : List ℕ) (e : Entry) (es : List Entry) (b : Bool) → bytes_eq x e.0.items ≡ b → position (λ k. bytes_eq x k.items) (keys_of (e ∷ es)) ≡ None → (b ≡ false) × (position (λ k. bytes_eq x k.items) (keys_of es) ≡ None)
-none_by x e es true h f = absurd (grind (arith, common_steps, h, f))
-none_by x e es false h f = (refl, grind (arith, common_steps, h, f))
+pub insert_key-new : (xs : List (List ℕ)) (x : List ℕ) → list_any (bytes_eq x) xs ≡ false → insert_key bytes_eq xs x ≡ xs ++ x ∷ []
+insert_key-new xs x h = ap (λ b. if b then xs else xs ++ x ∷ []) h
 
-pub none_named : (x : List ℕ) (es : List Entry) → position (λ k. bytes_eq x k.items) (keys_of es) ≡ None → is_named (names_of es) x ≡ false
-none_named x [] f = refl
-none_named x (e ∷ es) f = let t = none_by x e es (bytes_eq x e.0.items) refl f in ap (λ b. b || is_named (names_of es) x) t.0 ∙ none_named x es t.1
+pub position_or_len-new : (xs : List (List ℕ)) (x : List ℕ) → list_any (bytes_eq x) xs ≡ false → position_or_len (bytes_eq x) xs ≡ length xs
+position_or_len-new [] x h = refl
+position_or_len-new (y ∷ xs) x h =
+    let t = neither (bytes_eq x y) (list_any (bytes_eq x) xs) h in
+    grind (arith, common_steps, t.0, position_or_len-new xs x t.1)
+
+pub AreNames-push : (xs : List (List ℕ)) (ms : List Meaning) (x : List ℕ) (m : Meaning) → AreNames xs ms → list_any (bytes_eq x) xs ≡ false → AreNames (xs ++ x ∷ []) (ms ++ m ∷ [])
+AreNames-push xs ms x m n h = record {
+  each = omega (arith, n.each, length-append xs (x ∷ []), length-append ms (m ∷ []));
+  distinct = subst AreDistinct (sym (names_of-push xs ms x m n.each)) (AreDistinct-push (names_of xs ms) (x, m) n.distinct (is_named-names_of xs ms x n.each ∙ h));
+}
+
+-- a set of names into which a new one was put: the set lacked it, and it goes last
+pub record GoesLast (xs new : List (List ℕ)) (x : List ℕ) (n : ℕ) : Type 0 where
+  pub lacks : list_any (bytes_eq x) xs ≡ false
+  pub added : new ≡ xs ++ x ∷ []
+  pub last : n ≡ length xs
+
+not-true : (b : Bool) → true ≡ not b → b ≡ false
+not-true true h = absurd (cc)
+not-true false h = refl
+
+pub goes_last : (xs new : List (List ℕ)) (x : List ℕ) (n : ℕ) → true ≡ not (list_any (bytes_eq x) xs) → new ≡ insert_key bytes_eq xs x → n ≡ position_or_len (bytes_eq x) xs → GoesLast xs new x n
+goes_last xs new x n h k i =
+    let lacks = not-true (list_any (bytes_eq x) xs) h in
+    record { lacks = lacks; added = k ∙ insert_key-new xs x lacks; last = i ∙ position_or_len-new xs x lacks }
+
+-- a number of a name is one of a meaning
+pub within_meanings : (xs : List (List ℕ)) (ms : List Meaning) (now : List Named) (n : ℕ) → names_of xs ms ≡ now → n < length now → length ms ≡ length xs → n < length ms
+within_meanings xs ms now n e h l = omega (arith, ap length e, h, l, length-names_of xs ms l)
 
 -- a name that gets another meaning
 abbrev pub put_at : List Named → ℕ → Meaning → List Named
@@ -108,10 +134,11 @@ put_at [] n w = []
 put_at (e ∷ es) zero w = (e.0, w) ∷ es
 put_at (e ∷ es) (suc n) w = e ∷ put_at es n w
 
-pub names_of-set : (es : List Entry) (n : ℕ) (w : Meaning) → names_of (set_value_at es n w) ≡ put_at (names_of es) n w
-names_of-set [] n w = refl
-names_of-set (e ∷ es) zero w = refl
-names_of-set (e ∷ es) (suc n) w = ap (λ l. named e ∷ l) (names_of-set es n w)
+pub names_of-set : (xs : List (List ℕ)) (ms : List Meaning) (n : ℕ) (w : Meaning) → names_of xs (slice_set ms n w) ≡ put_at (names_of xs ms) n w
+names_of-set [] ms n w = refl
+names_of-set (x ∷ xs) [] n w = refl
+names_of-set (x ∷ xs) (m ∷ ms) zero w = refl
+names_of-set (x ∷ xs) (m ∷ ms) (suc n) w = ap (λ l. (x, m) ∷ l) (names_of-set xs ms n w)
 
 length-put : (es : List Named) (n : ℕ) (w : Meaning) → length (put_at es n w) ≡ length es
 length-put [] n w = refl
@@ -173,21 +200,13 @@ past : (a : Bool) (v m : Meaning) → a ≡ false → (if a then v else m) ≡ m
 past true v m h = absurd (cc)
 past false v m h = refl
 
-pub looked-at : (es : List Entry) (n : ℕ) (w : Meaning) → AreDistinct (names_of es) → n < length es → slice_get (map (λ e. e.1) es) n ≡ Some w → looked (names_of es) (name_at (names_of es) n) ≡ w
-looked-at [] n w h l e = absurd (omega arith)
-looked-at (x ∷ es) zero w h l e = here (bytes_eq x.0.items x.0.items) x.1 (looked (names_of es) x.0.items) (bytes_eq-refl x.0.items) ∙ same_Some x.1 w e
-looked-at (x ∷ es) (suc n) w h l e =
-    let y = name_at (names_of es) n in
-    past (bytes_eq y x.0.items) x.1 (looked (names_of es) y) (bytes_eq-symm y x.0.items ∙ not_named (names_of es) x.0.items n h.0 (omega (arith, l, length-names_of es)))
-    ∙ looked-at es n w h.1 (omega (arith, l)) e
-
-pub name_at-entry : (es : List Entry) (n : ℕ) (k : Vec ℕ Global) (w : Meaning) → slice_get es n ≡ Some (k, w) → name_at (names_of es) n ≡ k.items
-name_at-entry [] n k w e = absurd (cc)
-name_at-entry (x ∷ es) zero k w e = ap (λ (y : Entry). y.0.items) (same_Some x (k, w) e)
-name_at-entry (x ∷ es) (suc n) k w e = name_at-entry es n k w e
-
--- a number that no entry has, has no name
-pub name_at-none : (entries : List Entry) (n : ℕ) → slice_get entries n ≡ None → [] ≡ name_at (names_of entries) n
-name_at-none [] n e = refl
-name_at-none (x ∷ xs) zero e = absurd (cc)
-name_at-none (x ∷ xs) (suc n) e = name_at-none xs n e
+pub looked-at : (xs : List (List ℕ)) (ms : List Meaning) (n : ℕ) (w : Meaning) → length ms ≡ length xs → AreDistinct (names_of xs ms) → slice_get ms n ≡ Some w → looked (names_of xs ms) (name_at (names_of xs ms) n) ≡ w
+looked-at [] [] n w l h e = absurd (cc)
+looked-at [] (m ∷ ms) n w l h e = absurd (omega (arith, l))
+looked-at (x ∷ xs) [] n w l h e = absurd (cc)
+looked-at (x ∷ xs) (m ∷ ms) zero w l h e = here (bytes_eq x x) m (looked (names_of xs ms) x) (bytes_eq-refl x) ∙ same_Some m w e
+looked-at (x ∷ xs) (m ∷ ms) (suc n) w l h e =
+    let y = name_at (names_of xs ms) n in
+    let within : n < length (names_of xs ms) = omega (arith, l, slice_get_within ms n w e, length-names_of xs ms (omega (arith, l))) in
+    past (bytes_eq y x) m (looked (names_of xs ms) y) (bytes_eq-symm y x ∙ not_named (names_of xs ms) x n h.0 within)
+    ∙ looked-at xs ms n w (omega (arith, l)) h.1 e

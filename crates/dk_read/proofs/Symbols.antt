@@ -1,6 +1,7 @@
 -- The names of the signature's symbols.
-use Rattle.std.proofs.Common.{inl, inr, ◌⊎◌, ◌≡◌, ℕ, ◌<◌, ◌+◌, refl, sym, ap, subst, ◌∙◌, Bool, true, false, List, [], ◌++◌, length, reverse, take, get_or, arith}
-use Rattle.std.specs.Prelude.{if◌then◌else◌}
+use Rattle.std.proofs.Common.{inl, inr, ◌⊎◌, ◌≡◌, ℕ, zero, suc, ◌<◌, ◌+◌, refl, sym, ap, subst, ◌∙◌, Bool, true, false, List, [], ◌++◌, length, reverse, take, get_or, arith}
+use Rattle.std.specs.Prelude.{if◌then◌else◌, replicate, slice_get, None, Some}
+use Rattle.lp_term.specs.declared.LpId.{LpId}
 use Rattle.std.specs.Option.{option_map_or}
 use Rattle.std.specs.Str.{bytes_eq}
 use Rattle.std.specs.Cmp.Lexicographic.{same_text}
@@ -19,7 +20,7 @@ use Rattle.holide_sig.specs.Modules.{IsHeld}
 use Rattle.dk_read.specs.declared.terms.Head.TheVariants as head
 use Rattle.dk_read.specs.declared.terms.State.TheVariants as state
 use Rattle.dk_read.specs.declared.parser.Parser.{Parser}
-use Rattle.dk_read.specs.States.{before, state_of, state_in, IsHeadKnown, IsStateKnown, AreOf, IsSoundIn, IsReading}
+use Rattle.dk_read.specs.States.{before, state_of, state_in, IsHeadKnown, IsStateKnown, AreOf, AreOfSymbols, IsSoundIn, IsReading}
 use Rattle.dk_read.proofs.Named.{bytes_eq-symm}
 use Rattle.dk_read.proofs.Bindings.{position_last}
 
@@ -83,8 +84,14 @@ pub not_free : (w v : Meaning) → ((x : ℕ) × (w ≡ meaning.Symbol x)) ⊎ (
 not_free w v (inl s) e f = absurd (cc (s.1, e, f))
 not_free w v (inr s) e f = absurd (cc (s.1, e, f))
 
+-- at no place a node is kept yet
+no_node : (count n : ℕ) (id : LpId) → slice_get (replicate count None) n ≡ Some (Some id) → ⊥
+no_node zero n id e = absurd (cc)
+no_node (suc count) zero id e = absurd (cc)
+no_node (suc count) (suc n) id e = no_node count n id e
+
 -- a reading before the first token
-pub first_reading : (p : Parser) → IsHeld p.module → IsModule (before p) → before p ≡ [] → IsNameless p.names p.nameless → HasSymbols p.names 13 → p.frames.items ≡ [] → p.atoms.variables.items ≡ [] → p.atoms.symbols.items ≡ [] → p.binders ≡ 0 → p.head ≡ head.TypeOf Symbol p.nameless → p.state ≡ state.Between → IsReading p
+pub first_reading : (p : Parser) → IsHeld p.module → IsModule (before p) → before p ≡ [] → IsNameless p.names p.nameless → HasSymbols p.names 13 → p.frames.items ≡ [] → p.atoms.variables.items ≡ [] → p.atoms.symbols.items ≡ replicate 13 None → p.binders ≡ 0 → p.head ≡ head.TypeOf Symbol p.nameless → p.state ≡ state.Between → IsReading p
 first_reading p held is none nameless symbols frames variables names binders h s =
     let open_none : reverse p.frames.items ≡ [] = ap reverse frames in
     let known : IsStateKnown p p.state = subst (IsStateKnown p) (sym s) frames in
@@ -98,6 +105,6 @@ first_reading p held is none nameless symbols frames variables names binders h s
       empty = nameless;
       depth = binders;
       few = omega (arith, binders);
-      atoms = (subst (AreOf Var p.module.table) (sym variables) (λ n id e. absurd (cc)), subst (AreOf Sym p.module.table) (sym names) (λ n id e. absurd (cc)));
+      atoms = (subst (AreOf Var p.module.table) (sym variables) (λ n id e. absurd (cc)), subst (AreOfSymbols p.module.table) (sym names) (λ n id e. absurd (no_node 13 n id e)));
     } in
     record { ready = record { sound = subst (IsSoundIn p.module p.names p.nameless p.atoms p.binders p.head) (sym open_none) base; known = known }; ordered = ordered }

@@ -1,3 +1,5 @@
+pub mod Spellings
+pub mod SpellingViews
 pub mod Names
 pub mod States
 pub mod ProgressCode

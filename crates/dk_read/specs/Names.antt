@@ -1,6 +1,5 @@
 -- Names by number, and what each means.
-use Rattle.std.specs.Prelude.{◌≡◌, ℕ, zero, suc, ◌-◌, ◌<◌, ◌≤◌, Bool, if◌then◌else◌, IsFalse, List, [], ◌∷◌, length, map, take, Option, None, Some, position, Vec, refl}
-use Rattle.std.specs.declared.alloc.Global.{Global}
+use Rattle.std.specs.Prelude.{◌≡◌, ℕ, zero, suc, ◌-◌, ◌<◌, ◌≤◌, Bool, if◌then◌else◌, IsFalse, List, [], ◌∷◌, length, take, Option, None, Some, position, refl}
 use Rattle.std.specs.List.{list_any}
 use Rattle.std.specs.Coded.{Coded, code_by, coded×, coded_list, coded_ℕ}
 use Rattle.std.specs.Str.{bytes_eq}
@@ -14,15 +13,11 @@ use Rattle.dk_read.specs.declared.terms.Meaning.TheVariants as meaning
 abbrev pub Named : Type 0
 Named = List ℕ × Meaning
 
-abbrev pub Entry : Type 0
-Entry = Vec ℕ Global × Meaning
-
-abbrev pub named : Entry → Named
-named e = (e.0.items, e.1)
-
--- the names of a map's entries
-abbrev pub names_of : List Entry → List Named
-names_of entries = map named entries
+-- each name with what it means
+abbrev pub names_of : List (List ℕ) → List Meaning → List Named
+names_of [] ms = []
+names_of (x ∷ xs) [] = []
+names_of (x ∷ xs) (m ∷ ms) = (x, m) ∷ names_of xs ms
 
 -- the name of a number; the empty one for a number that no name has
 abbrev pub name_at : List Named → ℕ → List ℕ
@@ -43,6 +38,11 @@ is_named es x = list_any (λ e. bytes_eq x e.0) es
 abbrev pub AreDistinct : List Named → Type 0
 AreDistinct [] = Unit {0}
 AreDistinct (e ∷ es) = IsFalse (is_named es e.0) × AreDistinct es
+
+-- each of these names has a meaning, and none stands twice
+pub record AreNames (names : List (List ℕ)) (meanings : List Meaning) : Type 0 where
+  pub each : length meanings ≡ length names
+  pub distinct : AreDistinct (names_of names meanings)
 
 -- every number keeps its name
 pub record Keeps (old new : List Named) : Type 0 where

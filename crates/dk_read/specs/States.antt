@@ -147,9 +147,13 @@ IsTokenKnown ns _ = Unit {0}
 abbrev pub AreOf : (ℕ → Tree) → List Tree → List LpId → Type 0
 AreOf tree trees ids = (n : ℕ) (id : LpId) → slice_get ids n ≡ Some id → Holds trees id.0 (tree n)
 
--- the nodes that are kept are those of the first variables and of the first symbols, by number
+-- each number that stands at a place is that of the symbol of that number
+abbrev pub AreOfSymbols : List Tree → List (Option LpId) → Type 0
+AreOfSymbols trees ids = (n : ℕ) (id : LpId) → slice_get ids n ≡ Some (Some id) → Holds trees id.0 (Sym n)
+
+-- the nodes that are kept are those of the first variables and of symbols, by number
 abbrev pub AreAtoms : List Tree → Atoms → Type 0
-AreAtoms trees atoms = AreOf Var trees atoms.variables.items × AreOf Sym trees atoms.symbols.items
+AreAtoms trees atoms = AreOf Var trees atoms.variables.items × AreOfSymbols trees atoms.symbols.items
 
 -- the numbers of a reading are of its table and of its names, its module is one, and each name means what it does inside the binders that are open
 pub record IsSoundIn (m : Module) (ns : List Named) (nameless : ℕ) (kept : Atoms) (binders : ℕ) (h : Head) (fs : List Frame) : Type 0 where

@@ -14,6 +14,7 @@ mod faults;
 mod names;
 mod parser;
 mod reader;
+mod spelling;
 mod stage;
 mod terms;
 mod text;

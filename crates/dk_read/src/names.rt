@@ -1,12 +1,13 @@
 //! The names that a reading has met, by number, and what each means.
-ghost use Rattle.std.specs.Prelude.{◌≡◌, ◌<◌, ℕ, List, [], ◌∷◌, length, if◌then◌else◌, IfOk, IsFalse};
+ghost use Rattle.std.specs.Prelude.{◌≡◌, ◌<◌, ℕ, List, [], ◌∷◌, length, if◌then◌else◌, IfOk};
 ghost use Rattle.std.specs.Str.{bytes_eq};
 ghost use Rattle.dk_read.specs.declared.terms.Meaning.TheVariants as meaning;
-ghost use Rattle.dk_read.specs.Names.{name_at, looked, is_named, Keeps, Puts};
+ghost use Rattle.dk_read.specs.Names.{name_at, looked, Keeps, Puts};
 
+use crate::spelling::Spelling;
 use crate::terms::Meaning;
 use bridge_base::Memory;
-use indexmap::IndexMap;
+use indexmap::IndexSet;
 use std::alloc::Global;
 use std::marker::Model;
 
@@ -14,20 +15,21 @@ use std::marker::Model;
 #[derive(Drop)]
 pub(crate) struct Names {
     alloc: Global,
-    meanings: IndexMap<Vec<u8>, Meaning>,
+    spellings: IndexSet<Spelling>,
+    meanings: Vec<Meaning>,
 }
 
 impl Model for Names {
-    ghost use Rattle.dk_read.specs.Names.{Named, coded_names, names_of, AreDistinct};
+    ghost use Rattle.dk_read.specs.Names.{Named, coded_names, names_of, AreNames};
     ghost use Rattle.std.specs.Prelude.{List};
 
     ghost Value = { List Named };
 
     ghost coded = { coded_names };
 
-    ghost view = { λ n. names_of n.meanings.entries };
+    ghost view = { λ n. names_of n.spellings.keys n.meanings.items };
 
-    ghost invariant = { λ n. AreDistinct (names_of n.meanings.entries) };
+    ghost invariant = { λ n. AreNames n.spellings.keys n.meanings.items };
 }
 
 impl Names {
@@ -37,7 +39,8 @@ impl Names {
     {
         Names {
             alloc,
-            meanings: IndexMap::new(alloc),
+            spellings: IndexSet::new(alloc),
+            meanings: Vec::new(alloc),
         }
     }
 
@@ -48,32 +51,27 @@ impl Names {
         ensures keeps { Keeps self.old self.new }
         ensures same { (x : List ℕ) → looked self.new x ≡ looked self.old x }
     {
-        match self.meanings.get_index_of(name) {
-            Some(number) => Ok(number),
-            None => self.add(name),
+        let spelling = Spelling::of(self.alloc, name)?;
+        let (number, is_new) = self.spellings.insert_full(spelling)?;
+        if !is_new {
+            return Ok(number);
+        }
+        match self.meanings.push(Meaning::Nothing) {
+            Ok(()) => Ok(number),
+            Err(_) => {
+                self.spellings.truncate(number);
+                Err(Memory)
+            }
         }
     }
 
-    // The number of a new name.
-    fn add(&mut self, name: &[u8]) -> Result<usize, Memory>
-        requires new { IsFalse (is_named self.old name.now) }
-        ensures known { IfOk result (λ n. n < length self.new) }
-        ensures named { IfOk result (λ n. name_at self.new n ≡ name.now) }
-        ensures keeps { Keeps self.old self.new }
-        ensures same { (x : List ℕ) → looked self.new x ≡ looked self.old x }
+    /// The bytes of a name, copied: none for a number that no name has.
+    pub(crate) fn copied(&self, number: usize) -> Result<Vec<u8>, Memory>
+        ensures { IfOk result (λ bytes. bytes.items ≡ name_at self.now number) }
     {
-        let key = Vec::from_slice(self.alloc, name)?;
-        let (number, _) = self.meanings.insert_full(key, Meaning::Nothing)?;
-        Ok(number)
-    }
-
-    /// The bytes of a name: none for a number that no name has.
-    pub(crate) fn bytes(&self, number: usize) -> &[u8]
-        ensures { result.now ≡ name_at self.now number }
-    {
-        match self.meanings.get_index(number) {
-            Some((name, _)) => name,
-            None => &[],
+        match self.spellings.get_index(number) {
+            Some(spelling) => spelling.copied(self.alloc),
+            None => Ok(Vec::new(self.alloc)),
         }
     }
 

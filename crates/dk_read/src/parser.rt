@@ -49,24 +49,18 @@ impl Parser {
     {
         let module = Module::new(alloc)?;
         let (names, nameless) = first_names(alloc, &module)?;
-        let mut parser = Parser {
+        let atoms = Atoms::new(alloc)?;
+        Ok(Parser {
             alloc,
             module,
             names,
             nameless,
             frames: Vec::new(alloc),
             binders: 0,
-            atoms: Atoms {
-                variables: Vec::new(alloc),
-                symbols: Vec::new(alloc),
-            },
+            atoms,
             head: Head::TypeOf(Form::Symbol, nameless),
             state: State::Between,
-        };
-        match parser.keep_signature() {
-            Ok(()) => Ok(parser),
-            Err(_) => Err(Memory),
-        }
+        })
     }
 
     // The tree of this node.
@@ -98,7 +92,7 @@ impl Parser {
     fn ident(&self, name: usize) -> Result<Ident, Memory>
         ensures { IfOk result (λ ident. ident ≡ name_at self.now.names name) }
     {
-        let bytes = Vec::from_slice(self.alloc, self.names.bytes(name))?;
+        let bytes = self.names.copied(name)?;
         Ok(Ident::new(bytes))
     }
 
@@ -183,47 +177,32 @@ impl Parser {
         ensures grows { Grows self.old self.new }
         ensures memory { IfErr result (λ e. e ≡ stop.Memory) }
     {
-        match self.atoms.symbols.get(number) {
-            Some(id) => Ok(*id),
-            None => self.node(LpNode::Sym(number)),
+        match self.atoms.symbol(number) {
+            Some(id) => Ok(id),
+            None => self.add_symbol(number),
         }
     }
 
-    // Makes the node of the next symbol, and keeps it.
-    fn keep_symbol(&mut self) -> Result<(), Stop>
+    // The tree of a symbol whose node isn't kept. It is from now on.
+    fn add_symbol(&mut self, number: usize) -> Result<LpId, Stop>
         requires sound { IsSound self.old }
+        ensures known { IfOk result (λ id. id.0 < length self.new.module.table) }
+        ensures made { IfOk result (λ id. Holds self.new.module.table id.0 (Sym number)) }
         ensures grows { Grows self.old self.new }
         ensures memory { IfErr result (λ e. e ≡ stop.Memory) }
     {
-        let number = self.atoms.symbols.len();
         let id = self.node(LpNode::Sym(number))?;
-        if number == self.atoms.symbols.len() {
-            self.push_symbol(id)?;
-        }
-        Ok(())
+        self.keep_symbol(number, id);
+        Ok(id)
     }
 
-    // Keeps the nodes of the signature's symbols.
-    fn keep_signature(&mut self) -> Result<(), Stop>
-        requires sound { IsSound self.old }
+    // Keeps the node of a symbol.
+    fn keep_symbol(&mut self, number: usize, id: LpId)
+        requires symbol { Holds self.old.module.table id.0 (Sym number) }
+        ensures same { self.new.module ≡ self.old.module }
         ensures grows { Grows self.old self.new }
     {
-        for _symbol in 0..SIGNATURE {
-            self.keep_symbol()?;
-        }
-        Ok(())
-    }
-
-    // Keeps the node of the next symbol.
-    fn push_symbol(&mut self, id: LpId) -> Result<(), Stop>
-        requires symbol { Holds self.old.module.table id.0 (Sym (length self.old.atoms.symbols.items)) }
-        ensures grows { Grows self.old self.new }
-        ensures memory { IfErr result (λ e. e ≡ stop.Memory) }
-    {
-        match self.atoms.symbols.push(id) {
-            Ok(()) => Ok(()),
-            Err(_) => Err(Stop::Memory),
-        }
+        self.atoms.keep(number, id);
     }
 
     /// The tree that an identifier means.
@@ -498,6 +477,7 @@ impl Parser {
         let symbol = SIGNATURE + self.module.decls.len();
         self.module.push(decl)?;
         self.names.put(name, Meaning::Symbol(symbol));
+        self.atoms.make_place()?;
         self.state = State::Between;
         Ok(())
     }

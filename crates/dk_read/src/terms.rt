@@ -1,6 +1,10 @@
 //! What a reading is in, by numbers of the table's trees and of the names that it has met.
-use holide_sig::Form;
+ghost use Rattle.std.specs.Prelude.{◌≡◌, [], ◌∷◌, ◌++◌, None, Some, replicate, slice_get, slice_set, IfOk, IfSome, OnOk};
+
+use bridge_base::Memory;
+use holide_sig::{Form, SIGNATURE};
 use lp_term::LpId;
+use std::alloc::Global;
 
 /// What a name means inside the binders that are open: nothing, a symbol by its number, or a binder by how many are
 /// round it.
@@ -11,12 +15,54 @@ pub(crate) enum Meaning {
     Binder(usize),
 }
 
-/// The nodes that most terms have, so that they need not be looked up: those of the first variables and of the signature's
-/// symbols, by number.
+/// The nodes that most terms have, by number, so that they need not be looked up: those of the first variables, and of
+/// the symbols that have stood in a term.
 #[derive(Drop)]
 pub(crate) struct Atoms {
     pub(crate) variables: Vec<LpId>,
-    pub(crate) symbols: Vec<LpId>,
+    pub(crate) symbols: Vec<Option<LpId>>,
+}
+
+impl Atoms {
+    /// No node. There is a place for each symbol of the signature.
+    pub(crate) fn new(alloc: Global) -> Result<Atoms, Memory>
+        ensures variables { IfOk result (λ a. a.variables.items ≡ []) }
+        ensures symbols { IfOk result (λ a. a.symbols.items ≡ replicate 13 None) }
+    {
+        Ok(Atoms {
+            variables: Vec::new(alloc),
+            symbols: vec![in alloc; None; SIGNATURE]?,
+        })
+    }
+
+    /// The node of a symbol, if it is kept.
+    pub(crate) fn symbol(&self, symbol: usize) -> Option<LpId>
+        ensures { IfSome result (λ id. slice_get self.now.symbols.items symbol ≡ Some (Some id)) }
+    {
+        match self.symbols.get(symbol) {
+            Some(id) => *id,
+            None => None,
+        }
+    }
+
+    /// Keeps the node of a symbol that has a place.
+    pub(crate) fn keep(&mut self, symbol: usize, id: LpId)
+        ensures variables { self.new.variables ≡ self.old.variables }
+        ensures symbols { self.new.symbols.items ≡ slice_set self.old.symbols.items symbol (Some id) }
+    {
+        if symbol < self.symbols.len() {
+            self.symbols[symbol] = Some(id);
+        }
+    }
+
+    /// Makes a place for one more symbol.
+    pub(crate) fn make_place(&mut self) -> Result<(), Memory>
+        ensures variables { self.new.variables ≡ self.old.variables }
+        ensures symbols { OnOk result (self.new.symbols.items ≡ self.old.symbols.items ++ None ∷ []) }
+    {
+        self.symbols.push(None)?;
+        Ok(())
+    }
 }
 
 /// What is open round a place in a term. A binder keeps what its name means outside it.

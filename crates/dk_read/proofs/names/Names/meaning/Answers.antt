@@ -1,10 +1,16 @@
-use Rattle.std.proofs.Common.{◌<◌, ◌∙◌, length, sym, ap, subst, arith}
-use Rattle.dk_read.specs.Names.{names_of, name_at, looked}
-use Rattle.dk_read.proofs.Named.{looked-at, length-names_of}
+use Rattle.std.proofs.Common.{◌∙◌, Some, sym, ap, arith}
+use Rattle.std.proofs.lemmas.Option.{slice_get-get_or}
+use Rattle.dk_read.specs.Names.{name_at, looked}
+use Rattle.dk_read.proofs.Named.{looked-at, within_meanings}
 use Rattle.dk_read.proofs.names.Names.meaning.Goals as goal
+
+pub index-requires : goal.index-requires
+index-requires c = omega (arith, c.self.inside.meanings.ok, within_meanings c.self.inside.spellings.keys c.self.inside.meanings.items c.args.self.now c.args.number c.self.view_is c.requires c.self.invariant.each)
 
 pub returns : goal.returns
 returns c =
-    let es = c.self.inside.meanings.entries in
-    let within : c.args.number < length (names_of es) = subst (λ l. c.args.number < length l) (sym c.self.view_is) c.requires in
-    sym (looked-at es c.args.number c.index.result.now c.self.invariant (omega (arith, within, length-names_of es)) c.index.ensures) ∙ ap (λ l. looked l (name_at l c.args.number)) c.self.view_is
+    let xs = c.self.inside.spellings.keys in
+    let ms = c.self.inside.meanings.items in
+    let within = within_meanings xs ms c.args.self.now c.args.number c.self.view_is c.requires c.self.invariant.each in
+    sym (looked-at xs ms c.args.number c.index.result.now c.self.invariant.each c.self.invariant.distinct (slice_get-get_or ms c.args.number c.index.result.now within ∙ ap Some (sym c.index.ensures)))
+    ∙ ap (λ l. looked l (name_at l c.args.number)) c.self.view_is
