@@ -1,6 +1,7 @@
 -- Bytes of a piece that are taken at once: what a text becomes.
-use Rattle.std.proofs.Common.{◌≡◌, ℕ, ◌+◌, ◌<◌, ◌≤◌, ◌==◌, refl, sym, ap, subst, ◌∙◌, true, List, [], ◌∷◌, ◌++◌, length, get_or, take, drop, Err, arith}
-use Rattle.std.specs.Prelude.{not}
+use Rattle.std.proofs.Common.{◌≡◌, ℕ, zero, suc, ◌+◌, ◌<◌, ◌≤◌, ◌==◌, refl, sym, ap, subst, ◌∙◌, true, List, [], ◌∷◌, ◌++◌, length, get_or, take, drop, length-drop, Err, arith}
+use Rattle.std.specs.Prelude.{not, ◌-◌}
+use Rattle.std.proofs.Math.Seq.{take-length}
 use Rattle.lp_spec.specs.Tokens as tokens
 use Rattle.lp_spec.specs.ReadingFaults as reading
 use Rattle.dk_read.specs.declared.faults.Stop.{Stop}
@@ -12,7 +13,7 @@ use Rattle.dk_read.specs.Names.{Named}
 use Rattle.dk_read.specs.States.{before, state_of, refused_by, OnRefusal, Becomes, IsReading, token_in}
 use Rattle.dk_read.proofs.Bytes.{OnRefusal-map}
 use Rattle.dk_read.specs.declared.terms.Token.{Token}
-use Rattle.dk_read.specs.Texts.{run, inside, pending_in, TakesSome, TookSome, Signs}
+use Rattle.dk_read.specs.Texts.{run, inside, pending_in, TakesSome, TookSome, Passed, Signs}
 use Rattle.dk_read.proofs.Signs.{token_in-sign}
 use Rattle.dk_read.proofs.Runs.{run_within, run_stops, skip, blank_goes, comment_goes, words, word_starts, word_read, word_stops, Starts, Stops}
 
@@ -23,6 +24,42 @@ inside_with t place pd w q a b c d =
     ∙ ap (λ (x : Pending). reading.Inside place (pending_in t.word.items x) (before t.parser) (state_of t.parser)) b
     ∙ ap (λ l. reading.Inside place (pending_in l pd) (before t.parser) (state_of t.parser)) c
     ∙ ap (λ (x : Parser). reading.Inside place (pending_in w pd) (before x) (state_of x)) d
+
+-- blanks, if any
+pub passed_blanks : (old new : Text) (piece : List ℕ) (n : ℕ) → new.parser ≡ old.parser → new.place ≡ old.place + n → IsReading old.parser → old.pending ≡ pending.Nothing → new.pending ≡ pending.Nothing → n ≡ run tokens.is_space piece → Passed old piece new n
+passed_blanks old new piece n parser place r p q e = record {
+  within = subst (λ k. k ≤ length piece) (sym e) (run_within tokens.is_space piece);
+  taken =
+      ap (λ d. reading.read_bytes d piece) (inside_with old old.place pending.Nothing old.word.items old.parser refl p refl refl)
+      ∙ skip tokens.is_space tokens.Nothing (before old.parser) (state_of old.parser) (blank_goes (before old.parser) (state_of old.parser)) old.place piece
+      ∙ ap (λ k. reading.read_bytes (reading.Inside (old.place + k) tokens.Nothing (before old.parser) (state_of old.parser)) (drop k piece)) (sym e)
+      ∙ ap (λ d. reading.read_bytes d (drop n piece)) (sym (inside_with new (old.place + n) pending.Nothing new.word.items old.parser place q refl parser));
+  place = place;
+  reading = subst IsReading (sym parser) r;
+}
+
+drop-none : (m : ℕ) → drop {A = ℕ} m [] ≡ []
+drop-none zero = refl
+drop-none (suc m) = refl
+
+drop-more : (n m : ℕ) (xs : List ℕ) → drop m (drop n xs) ≡ drop (n + m) xs
+drop-more zero m xs = ap (λ k. drop k xs) (let z : m ≡ 0 + m = omega arith in z)
+drop-more (suc n) m [] = drop-none m ∙ ap (λ k. drop {A = ℕ} k []) (let z : suc (n + m) ≡ suc n + m = omega arith in z)
+drop-more (suc n) m (x ∷ xs) = drop-more n m xs ∙ ap (λ k. drop k (x ∷ xs)) (let z : suc (n + m) ≡ suc n + m = omega arith in z)
+
+-- what is behind the first n bytes, as a slice
+pub rest-drop : (xs : List ℕ) (n : ℕ) → n ≤ length xs → take (length xs - n) (drop n xs) ≡ drop n xs
+rest-drop xs n h = ap (λ k. take k (drop n xs)) (let z : length xs - n ≡ length (drop n xs) = omega (arith, length-drop n xs, h) in z) ∙ take-length (drop n xs)
+
+-- some bytes, and then more of the piece
+pub took_more : (old mid new : Text) (piece : List ℕ) (n m : ℕ) → TookSome old piece mid n → Passed mid (drop n piece) new m → TookSome old piece new (n + m)
+took_more old mid new piece n m t p = record {
+  some = omega (arith, t.some);
+  within = omega (arith, t.within, p.within, length-drop n piece);
+  taken = t.taken ∙ p.taken ∙ ap (reading.read_bytes (inside new)) (drop-more n m piece);
+  place = omega (arith, t.place, p.place);
+  reading = p.reading;
+}
 
 module _ (old new : Text) (piece : List ℕ) (n : ℕ) (some : 1 ≤ n) (parser : new.parser ≡ old.parser) (place : new.place ≡ old.place + n) (r : IsReading old.parser) where
   going_on : IsReading new.parser
@@ -44,17 +81,7 @@ module _ (old new : Text) (piece : List ℕ) (n : ℕ) (some : 1 ≤ n) (parser 
 
   -- blanks
   pub took_blanks : old.pending ≡ pending.Nothing → new.pending ≡ pending.Nothing → n ≡ run tokens.is_space piece → TookSome old piece new n
-  took_blanks p q e = record {
-    some = some;
-    within = subst (λ k. k ≤ length piece) (sym e) (run_within tokens.is_space piece);
-    taken =
-        ap (λ d. reading.read_bytes d piece) (inside_with old old.place pending.Nothing old.word.items old.parser refl p refl refl)
-        ∙ skip tokens.is_space tokens.Nothing (before old.parser) (state_of old.parser) (blank_goes (before old.parser) (state_of old.parser)) old.place piece
-        ∙ ap (λ k. reading.read_bytes (reading.Inside (old.place + k) tokens.Nothing (before old.parser) (state_of old.parser)) (drop k piece)) (sym e)
-        ∙ ap (λ d. reading.read_bytes d (drop n piece)) (sym (inside_with new (old.place + n) pending.Nothing new.word.items old.parser place q refl parser));
-    place = place;
-    reading = going_on;
-  }
+  took_blanks p q e = let b = passed_blanks old new piece n parser place r p q e in record { some = some; within = b.within; taken = b.taken; place = place; reading = going_on }
 
   -- bytes of a comment
   pub took_comment : (first : ℕ) → old.pending ≡ pending.InComment first → new.pending ≡ pending.InComment first → n ≡ run (λ b. not (b == 59)) piece → TookSome old piece new n

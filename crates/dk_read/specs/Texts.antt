@@ -48,6 +48,13 @@ pub record TookSome (old : Text) (piece : List ℕ) (new : Text) (n : ℕ) : Typ
   pub place : new.place ≡ old.place + n
   pub reading : IsReading new.parser
 
+-- the first n bytes of a piece, if any, have been read
+pub record Passed (old : Text) (piece : List ℕ) (new : Text) (n : ℕ) : Type 0 where
+  pub within : n ≤ length piece
+  pub taken : reading.read_bytes (inside old) piece ≡ reading.read_bytes (inside new) (drop n piece)
+  pub place : new.place ≡ old.place + n
+  pub reading : IsReading new.parser
+
 -- some bytes of a piece have been read, or one of them shows a fault
 abbrev pub TakesSome : Text → List ℕ → Text → Result ℕ Stop → Type 0
 TakesSome old piece new (Ok n) = TookSome old piece new n

@@ -545,6 +545,7 @@ impl Parser {
     }
 
     // The token after what the application so far is, if anything.
+    #[inline(always)]
     fn apply(&mut self, function: Option<LpId>, place: u64, token: Token) -> Result<(), Stop>
         requires sound { IsSound self.old }
         requires function { IsIdKnown self.old.module.table function }
@@ -630,6 +631,7 @@ impl Parser {
     }
 
     /// The next token.
+    #[inline(always)]
     pub(crate) fn advance(&mut self, place: u64, token: Token) -> Result<(), Stop>
         requires reading { IsReading self.old }
         requires token { IsTokenKnown self.old.names token }
@@ -678,6 +680,7 @@ impl Parser {
     }
 
     // The state after a token.
+    #[inline(always)]
     fn next_state(&mut self, place: u64, token: Token) -> Result<(), Stop>
         requires reading { IsReading self.old }
         requires token { IsTokenKnown self.old.names token }

@@ -6,7 +6,7 @@ ghost use Rattle.lp_spec.specs.Tokens as tokens;
 ghost use Rattle.dk_read.specs.declared.text.Pending.TheVariants as pending;
 ghost use Rattle.lp_spec.specs.ReadingFaults as reading;
 ghost use Rattle.dk_read.specs.States.{before, state_of, token_in, IsReading, IsTokenKnown};
-ghost use Rattle.dk_read.specs.Texts.{run, Takes, TakesSome, inside, pending_in, Signs, EndsTokens, Ends, held_of};
+ghost use Rattle.dk_read.specs.Texts.{run, Takes, TakesSome, Passed, inside, pending_in, Signs, EndsTokens, Ends, held_of};
 
 use crate::faults::{DkFault, Stop};
 use crate::parser::Parser;
@@ -224,19 +224,57 @@ impl Text {
         ensures takes { TakesSome self.old piece.now self.new result }
     {
         match self.pending {
-            Pending::Nothing => {
-                let byte = piece[0];
-                if is_letter(byte) {
-                    self.take_word(piece)
-                } else if is_space(byte) {
-                    self.take_blanks(piece)
-                } else {
-                    self.take_sign(piece)
-                }
-            }
+            Pending::Nothing => self.take_next(piece),
             Pending::InWord(first) => self.go_on(first, piece),
             Pending::InComment(first) => self.take_comment(first, piece),
             _ => self.take_first(piece),
+        }
+    }
+
+    // What stands at the head of a piece, where nothing is pending, and the blanks behind it.
+    fn take_next(&mut self, piece: &[u8]) -> Result<usize, Stop>
+        requires reading { IsReading self.old.parser }
+        requires some { 1 ≤ length piece.now }
+        requires few { self.old.place + length piece.now < 2 ^ 64 }
+        requires pending { self.old.pending ≡ pending.Nothing }
+        ensures takes { TakesSome self.old piece.now self.new result }
+    {
+        let count = self.take_one(piece)?;
+        let blanks = self.pass_blanks(&piece[count..]);
+        Ok(count + blanks)
+    }
+
+    // The word, the blanks or the sign at the head of a piece, where nothing is pending.
+    fn take_one(&mut self, piece: &[u8]) -> Result<usize, Stop>
+        requires reading { IsReading self.old.parser }
+        requires some { 1 ≤ length piece.now }
+        requires few { self.old.place + length piece.now < 2 ^ 64 }
+        requires pending { self.old.pending ≡ pending.Nothing }
+        ensures takes { TakesSome self.old piece.now self.new result }
+    {
+        let byte = piece[0];
+        if is_letter(byte) {
+            self.take_word(piece)
+        } else if is_space(byte) {
+            self.take_blanks(piece)
+        } else {
+            self.take_sign(piece)
+        }
+    }
+
+    // The blanks at the head of a piece, if nothing is pending.
+    fn pass_blanks(&mut self, piece: &[u8]) -> usize
+        requires reading { IsReading self.old.parser }
+        requires few { self.old.place + length piece.now < 2 ^ 64 }
+        ensures { Passed self.old piece.now self.new result }
+    {
+        match self.pending {
+            Pending::Nothing => {
+                let count = blank_len(piece);
+                self.place += count as u64;
+                count
+            }
+            _ => 0,
         }
     }
 
