@@ -1,5 +1,5 @@
 pub mod Positions
 pub mod Added
-pub mod Named
+pub mod Placed
 pub mod Pushed
 pub mod SignatureNodes

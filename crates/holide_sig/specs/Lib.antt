@@ -1,4 +1,4 @@
 pub mod Modules
 pub mod ModuleLaws
-pub mod Names
+pub mod Places
 pub mod Nodes

@@ -1,7 +1,10 @@
 //! Declarations, and the list of a module's.
-ghost use Rattle.std.specs.Prelude.{◌≡◌, ◌↔◌, ◌<◌, ◌^◌, ◌++◌, ◌∷◌, [], length, slice_get, Some, IsTrue, IsFalse, IfSome, OnOk, OnErr, position};
+ghost use Rattle.std.specs.Prelude.{ℕ, ◌≡◌, ◌↔◌, ◌<◌, ◌^◌, ◌++◌, ◌∷◌, [], length, slice_get, Some, IsTrue, IsFalse, IfSome, OnOk, OnErr, position, nat_eq};
 ghost use Rattle.std.specs.List.{list_any};
+ghost use Rattle.std.specs.Bool.{OnTrue};
 ghost use Rattle.std.specs.Str.{bytes_eq};
+ghost use Rattle.indexmap.specs.IndexMap.{get};
+ghost use Rattle.holide_sig.specs.Places.{fingerprint as fingerprint_of, placed_with, IsNamed};
 
 use crate::ident::Ident;
 use bridge_base::Memory;
@@ -24,22 +27,23 @@ pub struct Decl {
 /// The declarations of a module, in order.
 #[derive(Drop)]
 pub struct Decls {
-    alloc: Global,
-    // Each by a copy of its name, by which it is looked up.
-    by_name: IndexMap<Vec<u8>, Decl>,
+    decls: Vec<Decl>,
+    // By the fingerprint of a name, the place of the first declaration that has it.
+    places: IndexMap<u64, usize>,
 }
 
 impl Model for Decls {
-    ghost use Rattle.std.specs.Prelude.{List};
+    ghost use Rattle.std.specs.Prelude.{List, nat_eq};
     ghost use Rattle.holide_sig.specs.declared.decls.Decl.{Decl as ADecl};
+    ghost use Rattle.indexmap.specs.IndexMap.{get};
 
     ghost Value = { List ADecl };
 
-    ghost use Rattle.holide_sig.specs.Names.{decls_of, AreNamed};
+    ghost use Rattle.holide_sig.specs.Places.{ArePlaced};
 
-    ghost view = { λ d. decls_of d.by_name.entries };
+    ghost view = { λ d. d.decls.items };
 
-    ghost invariant = { λ d. AreNamed d.by_name.entries };
+    ghost invariant = { λ d. ArePlaced d.decls.items (get nat_eq d.places) };
 }
 
 impl Decls {
@@ -48,8 +52,8 @@ impl Decls {
         ensures { result ≡ [] }
     {
         Decls {
-            alloc,
-            by_name: IndexMap::new(alloc),
+            decls: Vec::new(alloc),
+            places: IndexMap::new(alloc),
         }
     }
 
@@ -58,7 +62,7 @@ impl Decls {
         ensures count { result ≡ length self.now }
         ensures small { result < 2 ^ 63 }
     {
-        self.by_name.len()
+        self.decls.len()
     }
 
     pub fn is_empty(&self) -> bool
@@ -72,8 +76,7 @@ impl Decls {
         requires { index < length self.now }
         ensures { slice_get self.now index ≡ Some result.now }
     {
-        let (_, decl) = self.by_name.get_index(index).unwrap();
-        decl
+        &self.decls[index]
     }
 
     /// The place of the declaration of that name.
@@ -81,8 +84,14 @@ impl Decls {
         ensures place { result ≡ position (λ d. bytes_eq d.name name.now) self.now }
         ensures small { IfSome result (λ place. place < 2 ^ 63) }
     {
-        let _count = self.by_name.len();
-        self.by_name.get_index_of(name)
+        let _count = self.len();
+        let Some(place) = self.places.get(&fingerprint(name)) else {
+            return None;
+        };
+        if is_named(&self.decls, *place, name) {
+            return Some(*place);
+        }
+        position_of(&self.decls, name)
     }
 
     /// Adds a declaration of a new name at the end.
@@ -91,8 +100,58 @@ impl Decls {
         ensures ok { OnOk result (self.new ≡ self.old ++ decl ∷ []) }
         ensures unchanged { OnErr result (self.new ≡ self.old) }
     {
-        let name = Vec::from_slice(self.alloc, decl.name.as_bytes())?;
-        self.by_name.insert(name, decl)?;
+        let number = fingerprint(decl.name.as_bytes());
+        let place = self.decls.len();
+        note(&mut self.places, number, place)?;
+        self.decls.push(decl)?;
         Ok(())
     }
+}
+
+// What a fingerprint is multiplied by for each byte: the prime of the hash function FNV-1 for 64 bits.
+const PRIME: u64 = 1_099_511_628_211;
+
+// A number for a name. Two names may have one.
+fn fingerprint(name: &[u8]) -> u64
+    ensures { result ≡ fingerprint_of name.now }
+{
+    let mut number: u64 = 0;
+    let mut left = name;
+    while let [byte, more @ ..] = left {
+        number = number.wrapping_mul(PRIME).wrapping_add(u64::from(*byte));
+        left = more;
+    }
+    number
+}
+
+// Whether the declaration at a place has the name.
+fn is_named(decls: &[Decl], place: usize, name: &[u8]) -> bool
+    ensures { OnTrue result (IsNamed decls.now place name.now) }
+{
+    match decls.get(place) {
+        Some(decl) => decl.name.as_bytes() == name,
+        None => false,
+    }
+}
+
+// The place of the declaration of that name, where its fingerprint is another's too.
+fn position_of(decls: &[Decl], name: &[u8]) -> Option<usize>
+    ensures { result ≡ position (λ d. bytes_eq d.name name.now) decls.now }
+{
+    decls.iter().position(
+        |decl: &Decl| -> bool
+            ensures { result ≡ bytes_eq decl.now.name name.entry.now }
+        { decl.name.as_bytes() == name },
+    )
+}
+
+// Notes a place for a fingerprint, unless it has one.
+fn note(places: &mut IndexMap<u64, usize>, number: u64, place: usize) -> Result<(), Memory>
+    ensures noted { OnOk result ((m : ℕ) → get nat_eq places.new m ≡ placed_with (get nat_eq places.old) number place m) }
+    ensures unchanged { OnErr result ((m : ℕ) → get nat_eq places.new m ≡ get nat_eq places.old m) }
+{
+    if places.get(&number).is_none() {
+        places.insert(number, place)?;
+    }
+    Ok(())
 }

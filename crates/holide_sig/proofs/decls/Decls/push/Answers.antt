@@ -1,21 +1,14 @@
-use Rattle.std.proofs.Common.{◌≡◌, ◌++◌, ◌∷◌, [], ◌∙◌, ap}
-use Rattle.holide_sig.specs.Names.{decls_of}
-use Rattle.holide_sig.proofs.Named.{insert_entry-named, AreNamed-push, decls_of-push}
+use Rattle.std.proofs.Common.{◌≡◌, ◌∙◌, ℕ, ap, length, nat_eq, arith}
+use Rattle.indexmap.specs.IndexMap.{get}
+use Rattle.holide_sig.specs.Places.{fingerprint, placed_with}
+use Rattle.holide_sig.proofs.Placed.{ArePlaced-push}
 use Rattle.holide_sig.proofs.decls.Decls.push.Goals as goal
 
--- the copy is of the declaration's name
-copied : (c : goal.Joined-branch-3) → c.in_ok-name.name.items ≡ c.args.decl.name
-copied c = c.in_ok-name.ensures.items ∙ c.as_bytes.ensures
-
--- the declaration went last
-inserted : (c : goal.Joined-branch-3) → c.insert.new.self.entries ≡ c.self.inside.by_name.entries ++ (c.in_ok-name.name, c.args.decl) ∷ []
-inserted c =
-    c.in_ok-insert.ensures.entries
-    ∙ insert_entry-named c.self.inside.by_name.entries c.in_ok-name.name c.args.decl c.self.invariant (copied c) (rw (← c.self.view_is) at c.requires)
-
 pub invariant_of-self-2 : goal.invariant_of-self-2
-invariant_of-self-2 c = rw (inserted c) (AreNamed-push c.self.inside.by_name.entries (c.in_ok-name.name, c.args.decl) c.self.invariant (copied c))
-
-pub returns-clause-ok : goal.returns-clause-ok
-returns-clause-ok c =
-    ap decls_of (inserted c) ∙ decls_of-push c.self.inside.by_name.entries (c.in_ok-name.name, c.args.decl) ∙ ap (λ l. l ++ c.args.decl ∷ []) c.self.view_is
+invariant_of-self-2 c =
+    let decls = c.self.inside.decls.items in
+    let placed = get nat_eq c.self.inside.places in
+    let number : c.fingerprint-number.result ≡ fingerprint c.args.decl.name = c.fingerprint-number.ensures ∙ ap fingerprint c.as_bytes.ensures in
+    let len : c.len-place.result ≡ length decls = omega (arith, c.len-place.ensures, c.self.inside.decls.ok) in
+    let noted : (m : ℕ) → get nat_eq c.note.new.places m ≡ placed_with placed (fingerprint c.args.decl.name) (length decls) m = λ m. c.in_ok-note.ensures.noted m ∙ ap (λ n. placed_with placed n c.len-place.result m) number ∙ ap (λ l. placed_with placed (fingerprint c.args.decl.name) l m) len in
+    rw c.in_ok-push.ensures.items (ArePlaced-push decls placed (get nat_eq c.note.new.places) c.args.decl c.self.invariant noted)

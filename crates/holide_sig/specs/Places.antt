@@ -1,0 +1,25 @@
+-- Where a declaration is found by its name.
+use Rattle.std.specs.Prelude.{◌≡◌, ℕ, ◌+◌, ◌*◌, ◌%◌, ◌^◌, ◌≤◌, nat_eq, if◌then◌else◌, unwrap_or, List, [], ◌∷◌, length, Option, Some, slice_get}
+use Rattle.holide_sig.specs.declared.decls.Decl.{Decl}
+
+-- the number of bytes behind those that gave this number
+abbrev pub fingerprint_from : ℕ → List ℕ → ℕ
+fingerprint_from n [] = n
+fingerprint_from n (b ∷ bytes) = fingerprint_from ((n * 1099511628211 % 2 ^ 64 + b) % 2 ^ 64) bytes
+
+-- a number for a name
+abbrev pub fingerprint : List ℕ → ℕ
+fingerprint name = fingerprint_from 0 name
+
+-- the declaration at a place has the name
+abbrev pub IsNamed : List Decl → ℕ → List ℕ → Type 0
+IsNamed decls place name = (d : Decl) × (slice_get decls place ≡ Some d) × (d.name ≡ name)
+
+-- the places of numbers, once the number n has one
+abbrev pub placed_with : (ℕ → Option ℕ) → ℕ → ℕ → ℕ → Option ℕ
+placed_with placed n place m = if nat_eq n m then Some (unwrap_or (placed n) place) else placed m
+
+-- each name's number has a place, at most that of its declaration
+pub record ArePlaced (decls : List Decl) (placed : ℕ → Option ℕ) : Type 0 where
+  pub each : (n : ℕ) (d : Decl) → slice_get decls n ≡ Some d → (p : ℕ) × (placed (fingerprint d.name) ≡ Some p) × (p ≤ n)
+  pub within : (m p : ℕ) → placed m ≡ Some p → p ≤ length decls
