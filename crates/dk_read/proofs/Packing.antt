@@ -6,7 +6,7 @@ use Rattle.std.specs.Cmp.Lexicographic.{same_text}
 use Rattle.std.proofs.Math.Path.{ap₂}
 use Rattle.std.proofs.Math.Nat.{mod-lt, pow-le-pow_right}
 use Rattle.std.proofs.lemmas.Nat.{div-mul-add, mod-mul-add}
-use Rattle.dk_read.specs.Spellings.{packed, digits, unpacked}
+use Rattle.dk_read.specs.Spellings.{packed, digits}
 use Rattle.dk_read.proofs.Named.{bytes_eq-refl}
 
 -- each number is that of a byte

@@ -7,7 +7,7 @@ use Rattle.std.specs.Str.{bytes_eq}
 use Rattle.std.specs.Cmp.Lexicographic.{same_text}
 use Rattle.std.proofs.lemmas.List.{take_more, length-take-le}
 use Rattle.std.proofs.lemmas.Option.{slice_get-get_or}
-use Rattle.lp_spec.specs.Trees.{SortType, Var, Sym}
+use Rattle.lp_spec.specs.Trees.{SortType, Var}
 use Rattle.lp_spec.specs.Modules.{Declaration, signature, symbol, symbol_name}
 use Rattle.dk_read.specs.declared.terms.Meaning.{Meaning}
 use Rattle.dk_read.specs.declared.terms.Meaning.TheVariants as meaning

@@ -1,9 +1,9 @@
 -- Where a shape is found as shapes come and go.
-use Rattle.std.proofs.Common.{◌≡◌, ◌≢◌, ℕ, zero, suc, ◌+◌, ◌<◌, ◌≤◌, refl, sym, ap, ◌∙◌, subst, arith, Bool, true, false, List, [], ◌∷◌, ◌++◌, length, Option, None, Some, length-append, take, drop, ◌⊎◌, ⊎_elim, inl, inr}
-use Rattle.std.specs.Prelude.{◌-◌, ◌^◌, ◌==◌, max, eqb, if◌then◌else◌, slice_get, slice_set}
+use Rattle.std.proofs.Common.{◌≡◌, ◌≢◌, ℕ, zero, suc, ◌<◌, refl, sym, ap, ◌∙◌, subst, arith, Bool, true, false, List, [], ◌∷◌, ◌++◌, length, Option, None, Some, length-append, take, drop, ◌⊎◌, ⊎_elim, inl, inr}
+use Rattle.std.specs.Prelude.{◌-◌, ◌^◌, ◌==◌, max, if◌then◌else◌, slice_get, slice_set}
 use Rattle.std.proofs.lemmas.Bool.{eqb-true}
 use Rattle.std.proofs.lemmas.Bool.Decides.{eqb_tells}
-use Rattle.std.proofs.lemmas.List.{length-set, length-take, length-take-le, take-append-drop}
+use Rattle.std.proofs.lemmas.List.{length-set, length-take, take-append-drop}
 use Rattle.std.proofs.lemmas.Option.{slice_get_within, same_Some}
 use Rattle.lp_binding.specs.LookUps.{slice_get-append}
 use Rattle.lp_term.specs.declared.shape.Shape.{Shape}
@@ -14,7 +14,7 @@ use Rattle.lp_term.specs.declared.shapes.Place.TheVariants as place
 use Rattle.lp_term.specs.Shapes.{node_of}
 use Rattle.lp_term.specs.Tables.{PartsBelow}
 use Rattle.lp_term.specs.Indexed.{greater_part, nothing, no_children, with_child, IsChild, HasRoom, Has, Lacks, IsFull, IsWith, IsApart, IsIndexed, Finds, FindsOther}
-use Rattle.lp_term.proofs.ColumnLaws.{slice_get-one_more, slice_get-last}
+use Rattle.lp_term.proofs.ColumnLaws.{slice_get-one_more}
 
 -- an item of a list in which one was set
 slice_get-set : {X : Type 0} (xs : List X) (p : ℕ) (x : X) → p < length xs → slice_get (slice_set xs p x) p ≡ Some x

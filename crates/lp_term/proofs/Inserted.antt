@@ -1,22 +1,17 @@
 -- A table into which a shape is put.
-use Rattle.std.proofs.Common.{◌≡◌, ℕ, ◌<◌, refl, sym, ap, ◌∙◌, subst, arith, List, [], ◌∷◌, ◌++◌, length, get_or, Some, ⊎_elim, Bool, true, false}
-use Rattle.std.specs.Prelude.{slice_get, if◌then◌else◌, not}
-use Rattle.std.specs.List.{list_any}
-use Rattle.std.proofs.lemmas.List.Folds.{list_any_at}
-use Rattle.std.proofs.lemmas.Option.{slice_get_within, slice_get-get_or, get_or_from_slice_get, same_Some}
+use Rattle.std.proofs.Common.{◌≡◌, ℕ, ◌<◌, sym, ap, ◌∙◌, subst, arith, List, [], ◌∷◌, ◌++◌, length, get_or, Some, ⊎_elim}
+use Rattle.std.specs.Prelude.{slice_get}
+use Rattle.std.proofs.lemmas.Option.{slice_get-get_or, same_Some}
 use Rattle.std.proofs.Math.Path.{ap₂, subst₂}
-use Rattle.indexmap.specs.IndexSet.{insert_key}
 use Rattle.lp_spec.specs.Trees.{Tree}
 use Rattle.lp_term.specs.declared.measures.Measures.{Measures}
 use Rattle.lp_term.specs.declared.shape.Shape.{Shape}
 use Rattle.lp_term.specs.Shapes.{node_of}
-use Rattle.lp_term.specs.ShapeLaws.{same_shape}
-use Rattle.lp_term.specs.contracts.shape.ShapePartialEq.TheImpl as shape_eq
 use Rattle.lp_term.specs.Tables.{Holds, tree_of_node, PartsBelow, IsDistinct}
 use Rattle.lp_term.specs.TableLaws.{Holds-within, PartsBelow-more}
 use Rattle.lp_term.specs.Measured.{AreMeasured}
-use Rattle.lp_term.specs.Columns.{trees_of, IsInserted, IsTable}
-use Rattle.lp_term.proofs.ColumnLaws.{trees_from-append, length-trees_of, slice_get-last, slice_get-one_more, trees_of-Holds, shape_eq-refl, node_of-same, tree_of_node-same}
+use Rattle.lp_term.specs.Columns.{trees_of, IsTable}
+use Rattle.lp_term.proofs.ColumnLaws.{trees_from-append, length-trees_of, slice_get-last, slice_get-one_more, trees_of-Holds, node_of-same, tree_of_node-same}
 
 -- a tree that the table lacks may stand last
 IsDistinct-more : (ts : List Tree) (u : Tree) → IsDistinct ts → ((i : ℕ) → Holds ts i u → ⊥) → IsDistinct (ts ++ u ∷ [])

@@ -1,6 +1,6 @@
 use Rattle.std.proofs.Common.{◌≡◌, ◌<◌, ◌≤◌, ◌+◌, ◌*◌, ◌-◌, ◌^◌, ◌∙◌, [], ◌∷◌, ap, sym, refl, arith, length, get_or, append-nil}
 use Rattle.dk_read.specs.Spellings.{packed, unpacked}
-use Rattle.dk_read.proofs.Packing.{AreBytes, get_or-AreBytes, room, move_last, nothing_left, digits-packed}
+use Rattle.dk_read.proofs.Packing.{get_or-AreBytes, room, move_last, nothing_left, digits-packed}
 use Rattle.dk_read.proofs.spelling.packed.Goals as goal
 
 -- what is known where one more byte is read

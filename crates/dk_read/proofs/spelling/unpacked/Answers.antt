@@ -1,7 +1,6 @@
-use Rattle.std.proofs.Common.{◌≡◌, ◌<◌, ◌-◌, ◌∙◌, [], ◌∷◌, ◌++◌, ap, sym, subst, arith}
-use Rattle.std.specs.Prelude.{◌%◌, ◌/◌}
-use Rattle.dk_read.specs.Spellings.{packed, unpacked}
-use Rattle.dk_read.proofs.Packing.{AreBytes, digits-AreBytes, digits_left, no_digits_left}
+use Rattle.std.proofs.Common.{◌∙◌, ◌++◌, ap, sym, arith}
+use Rattle.dk_read.specs.Spellings.{unpacked}
+use Rattle.dk_read.proofs.Packing.{digits_left, no_digits_left}
 use Rattle.dk_read.proofs.spelling.unpacked.Goals as goal
 
 pub loop-left-preserved : goal.loop-left-preserved

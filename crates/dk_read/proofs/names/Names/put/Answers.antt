@@ -1,8 +1,8 @@
-use Rattle.std.proofs.Common.{◌≡◌, ◌<◌, ◌∙◌, Some, length, sym, ap, subst, arith}
+use Rattle.std.proofs.Common.{◌<◌, ◌∙◌, Some, length, sym, ap, subst, arith}
 use Rattle.std.specs.Prelude.{slice_set}
 use Rattle.std.proofs.lemmas.List.{length-set}
 use Rattle.std.proofs.lemmas.Option.{slice_get-get_or}
-use Rattle.dk_read.specs.Names.{names_of, name_at, looked, AreDistinct, AreNames, Keeps, Puts}
+use Rattle.dk_read.specs.Names.{names_of, name_at, looked, AreDistinct, Keeps, Puts}
 use Rattle.dk_read.proofs.Named.{names_of-set, within_meanings, Keeps-put, Puts-put, AreDistinct-put, looked-at}
 use Rattle.dk_read.proofs.names.Names.put.Goals as goal
 

@@ -1,4 +1,4 @@
-use Rattle.std.proofs.Common.{◌≡◌, ◌+◌, ◌++◌, ◌∷◌, [], None, sym, ap, subst, reverse, arith}
+use Rattle.std.proofs.Common.{◌≡◌, ◌+◌, [], sym, ap, subst, reverse, arith}
 use Rattle.std.specs.Prelude.{Vec}
 use Rattle.std.specs.declared.alloc.Global.{Global}
 use Rattle.lp_spec.specs.Trees.{Var}
@@ -15,13 +15,14 @@ returns-clause-ready c =
     let none : reverse p.frames.items ≡ [] = ap reverse c.requires.closed in
     let e = c.in_ok-push.ensures in
     let declared = declared_in p.module c.push.new.self p.names c.put.new.self p.nameless p.atoms p.binders p.head c.put.ensures.keeps c.args.name (declaration_in p.module.table c.args.decl) c.requires.name.1
-        e.table e.held (e.is_module c.requires.sound.is_module) e.declared c.requires.follows.new_name (13 + c.len-symbol.result) (omega (arith, symbols_length p.module, c.len-symbol.ensures.count)) c.put.ensures.puts
-        (subst (IsSoundIn p.module p.names p.nameless p.atoms p.binders p.head) none c.requires.sound) in
+    e.table e.held (e.is_module c.requires.sound.is_module) e.declared c.requires.follows.new_name (13 + c.len-symbol.result) (omega (arith, symbols_length p.module, c.len-symbol.ensures.count)) c.put.ensures.puts
+    (subst (IsSoundIn p.module p.names p.nameless p.atoms p.binders p.head) none c.requires.sound) in
     let place = c.in_ok-make_place.ensures in
     let trees = c.push.new.self.table in
     let atoms : AreAtoms trees c.make_place.new.self = (
       subst (λ (v : Vec LpId Global). AreOf Var trees v.items) (sym place.variables) declared.atoms.0,
-      subst (AreOfSymbols trees) (sym place.symbols) (AreOfSymbols-push trees p.atoms.symbols.items declared.atoms.1)) in
+      subst (AreOfSymbols trees) (sym place.symbols) (AreOfSymbols-push trees p.atoms.symbols.items declared.atoms.1),
+    ) in
     record {
       sound = subst (IsSoundIn c.push.new.self c.put.new.self p.nameless c.make_place.new.self p.binders p.head) (sym none)
           (with_atoms c.push.new.self c.put.new.self p.nameless p.atoms c.make_place.new.self p.binders p.head [] atoms declared);

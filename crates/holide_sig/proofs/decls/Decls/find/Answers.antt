@@ -1,4 +1,4 @@
-use Rattle.std.proofs.Common.{◌≡◌, ◌∙◌, sym, ap, subst, nat_eq}
+use Rattle.std.proofs.Common.{◌∙◌, sym, ap, subst, nat_eq}
 use Rattle.std.specs.Option.{option_copied}
 use Rattle.indexmap.specs.IndexMap.{get}
 use Rattle.holide_sig.specs.Places.{IsNamed}
@@ -14,4 +14,4 @@ pub returns-then-is_named-clause-place : goal.returns-then-is_named-clause-place
 returns-then-is_named-clause-place c =
     let places = c.self.inside.places in
     rw (← c.self.view_is) (sym (position-placed c.self.inside.decls.items (get nat_eq places) c.self.invariant c.args.name.now c.in-Some.place.now (ap (get nat_eq places) (sym c.fingerprint.ensures) ∙ sym c.get.ensures.value ∙ ap option_copied c.in-Some.is)
-        (subst (λ l. IsNamed l c.in-Some.place.now c.args.name.now) c.deref.ensures.value c.if-is_named.ensures)))
+    (subst (λ l. IsNamed l c.in-Some.place.now c.args.name.now) c.deref.ensures.value c.if-is_named.ensures)))

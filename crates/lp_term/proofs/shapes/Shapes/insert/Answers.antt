@@ -1,4 +1,4 @@
-use Rattle.std.proofs.Common.{◌≡◌, ◌<◌, ◌+◌, ◌^◌, ◌∙◌, ◌++◌, ◌∷◌, [], ℕ, Some, length, sym, ap, subst, arith}
+use Rattle.std.proofs.Common.{◌≡◌, ◌<◌, ◌^◌, ◌∙◌, ◌++◌, ◌∷◌, [], ℕ, Some, length, sym, ap, subst, arith}
 use Rattle.std.specs.Prelude.{◌-◌, slice_set}
 use Rattle.lp_term.specs.Indexed.{greater_part, kept_in, no_children, with_child, IsIndexed}
 use Rattle.lp_term.proofs.Indexing.{IsIndexed-with, IsIndexed-apart, IsIndexed-more}
