@@ -1,9 +1,11 @@
 //! Constants, at types over truth values.
-ghost use Rattle.std.specs.Prelude.{◌<◌, length, IfOk};
+ghost use Rattle.hol_term.specs.Tables.{Trees};
+ghost use Rattle.hol_defs.specs.Symbols.{AreKnownSymbols};
 
+use crate::cases::{Answer, Case, comes};
+use crate::made::{is_type, name};
 use bridge_base::{Fault, Kind};
 use hol_defs::{Generic, SymbolKind, Symbols};
-use hol_name::Name;
 use hol_term::TermTable;
 use hol_type::TypeId;
 use std::alloc::Global;
@@ -11,7 +13,7 @@ use std::test::Fail;
 
 /// A type that a constant is used at.
 #[derive(Clone, Copy)]
-enum Shape {
+pub(crate) enum Shape {
     /// `bool`
     Truth,
     /// `bool -> bool`
@@ -22,18 +24,8 @@ enum Shape {
     Choice,
 }
 
-fn name(alloc: Global, text: &[u8]) -> Result<Name, Fault> {
-    match Name::single(alloc, text) {
-        Ok(name) => Ok(name),
-        Err(_) => Err(Fault::Memory),
-    }
-}
-
-fn truth(table: &mut TermTable, alloc: Global) -> Result<TypeId, Fault>
-    ensures { IfOk result (λ id. id.0 < length table.new.types) }
-{
-    let name = name(alloc, b"bool")?;
-    table.ty_op(&name, &[])
+fn truth(table: &mut TermTable, alloc: Global) -> Result<TypeId, Fault> {
+    table.ty_op(&name(alloc, b"bool")?, &[])
 }
 
 fn function(
@@ -41,80 +33,77 @@ fn function(
     alloc: Global,
     domain: TypeId,
     codomain: TypeId,
-) -> Result<TypeId, Fault>
-    ensures { IfOk result (λ id. id.0 < length table.new.types) }
-{
-    let name = name(alloc, b"->")?;
-    let count = table.types().count();
-    if domain.0 < count && codomain.0 < count {
-        table.ty_op(&name, &[domain, codomain])
+) -> Result<TypeId, Fault> {
+    let arrow = name(alloc, b"->")?;
+    if is_type(table, domain) && is_type(table, codomain) {
+        table.ty_op(&arrow, &[domain, codomain])
     } else {
         Err(Fault::Refused(Kind::WrongKind))
     }
 }
 
-fn make(table: &mut TermTable, alloc: Global, shape: Shape) -> Result<TypeId, Fault>
-    ensures { IfOk result (λ id. id.0 < length table.new.types) }
-{
+fn make(table: &mut TermTable, alloc: Global, shape: Shape) -> Result<TypeId, Fault> {
     let truth = truth(table, alloc)?;
+    let endo = function(table, alloc, truth, truth)?;
     match shape {
         Shape::Truth => Ok(truth),
-        Shape::Endo => function(table, alloc, truth, truth),
-        Shape::Relation => {
-            let endo = function(table, alloc, truth, truth)?;
-            function(table, alloc, truth, endo)
-        }
-        Shape::Choice => {
-            let endo = function(table, alloc, truth, truth)?;
-            function(table, alloc, endo, truth)
-        }
+        Shape::Endo => Ok(endo),
+        Shape::Relation => function(table, alloc, truth, endo),
+        Shape::Choice => function(table, alloc, endo, truth),
     }
 }
 
-// Uses a constant of this name at a type, where no symbol is taken.
-fn use_first(alloc: Global, text: &[u8], shape: Shape) -> Result<(), Fault> {
-    let mut symbols = Symbols::new(alloc)?;
-    let mut table = TermTable::new(alloc);
-    let ty = make(&mut table, alloc, shape)?;
+/// Uses a constant of this name at a type.
+pub(crate) fn use_at(
+    symbols: &mut Symbols,
+    table: &mut TermTable,
+    alloc: Global,
+    text: &[u8],
+    shape: Shape,
+) -> Result<Answer, Fault>
+    requires { (trees : Trees) → AreKnownSymbols trees symbols.old }
+{
+    let ty = make(table, alloc, shape)?;
     let name = name(alloc, text)?;
-    symbols.use_const(&mut table, &name, ty)
+    if is_type(table, ty) {
+        symbols.use_const(table, &name, ty)?;
+        Ok(Answer::Done)
+    } else {
+        Err(Fault::Refused(Kind::WrongKind))
+    }
 }
 
 #[test]
 fn types_of_primitive_constants_are_judged(rt: HostRuntime) -> Result<(), Fail> {
+    let alloc = rt.alloc();
+    let done = Ok(Answer::Done);
     let refused = Err(Fault::Refused(Kind::BadConstType));
-    assert!(rt; use_first(rt.alloc(), b"=", Shape::Relation) == Ok(()));
-    assert!(rt; use_first(rt.alloc(), b"=", Shape::Choice) == refused);
-    assert!(rt; use_first(rt.alloc(), b"=", Shape::Endo) == refused);
-    assert!(rt; use_first(rt.alloc(), b"select", Shape::Choice) == Ok(()));
-    assert!(rt; use_first(rt.alloc(), b"select", Shape::Relation) == refused);
-    assert!(rt; use_first(rt.alloc(), b"select", Shape::Truth) == refused);
-    assert!(rt; use_first(rt.alloc(), b"list", Shape::Endo) == Ok(()));
+    assert!(rt; comes(alloc, Case::Constant(b"=", Shape::Relation), done));
+    assert!(rt; comes(alloc, Case::Constant(b"=", Shape::Choice), refused));
+    assert!(rt; comes(alloc, Case::Constant(b"=", Shape::Endo), refused));
+    assert!(rt; comes(alloc, Case::Constant(b"select", Shape::Choice), done));
+    assert!(rt; comes(alloc, Case::Constant(b"select", Shape::Relation), refused));
+    assert!(rt; comes(alloc, Case::Constant(b"select", Shape::Truth), refused));
+    assert!(rt; comes(alloc, Case::Constant(b"list", Shape::Endo), done));
     Ok(())
 }
 
-// The kind of a constant of this name, where no symbol is taken.
-fn kind_of(alloc: Global, text: &[u8]) -> Result<Option<SymbolKind>, Fault> {
-    let symbols = Symbols::new(alloc)?;
+/// The kind and the generic type of a constant of this name.
+pub(crate) fn kind_of(symbols: &Symbols, alloc: Global, text: &[u8]) -> Result<Answer, Fault> {
     let name = name(alloc, text)?;
-    Ok(symbols.const_kind(&name))
-}
-
-// The generic type of a constant of this name, where no symbol is taken.
-fn generic_of(alloc: Global, text: &[u8]) -> Result<Option<Generic>, Fault> {
-    let symbols = Symbols::new(alloc)?;
-    let name = name(alloc, text)?;
-    Ok(symbols.generic(&name))
+    Ok(Answer::Kind(symbols.const_kind(&name), symbols.generic(&name)))
 }
 
 #[test]
 fn constants_have_kinds(rt: HostRuntime) -> Result<(), Fail> {
-    assert!(rt; kind_of(rt.alloc(), b"=")? == Some(SymbolKind::Primitive));
-    assert!(rt; kind_of(rt.alloc(), b"select")? == Some(SymbolKind::Primitive));
-    assert!(rt; kind_of(rt.alloc(), b"list")?.is_none());
-    assert!(rt; kind_of(rt.alloc(), b"bool")?.is_none());
-    assert!(rt; generic_of(rt.alloc(), b"=")? == Some(Generic::Eq));
-    assert!(rt; generic_of(rt.alloc(), b"select")? == Some(Generic::Select));
-    assert!(rt; generic_of(rt.alloc(), b"list")?.is_none());
+    let alloc = rt.alloc();
+    let primitive = Some(SymbolKind::Primitive);
+    let equality = Ok(Answer::Kind(primitive, Some(Generic::Eq)));
+    let choice = Ok(Answer::Kind(primitive, Some(Generic::Select)));
+    let none = Ok(Answer::Kind(None, None));
+    assert!(rt; comes(alloc, Case::KindOf(b"="), equality));
+    assert!(rt; comes(alloc, Case::KindOf(b"select"), choice));
+    assert!(rt; comes(alloc, Case::KindOf(b"list"), none));
+    assert!(rt; comes(alloc, Case::KindOf(b"bool"), none));
     Ok(())
 }

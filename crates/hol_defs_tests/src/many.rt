@@ -3,6 +3,8 @@ ghost use Rattle.std.specs.Prelude.{◌≡◌, ◌<◌, length};
 ghost use Rattle.hol_term.specs.Tables.{Trees};
 ghost use Rattle.hol_defs.specs.Symbols.{AreKnownSymbols};
 
+use crate::cases::{Answer, Case, comes};
+use crate::made::name;
 use bridge_base::Fault;
 use hol_defs::{SymbolKind, Symbols};
 use hol_name::Name;
@@ -16,10 +18,7 @@ const COUNT: u32 = 50_000;
 
 // The name of one component that is this number's bytes.
 fn numbered(alloc: Global, number: u32) -> Result<Name, Fault> {
-    match Name::single(alloc, &number.to_le_bytes()) {
-        Ok(name) => Ok(name),
-        Err(_) => Err(Fault::Memory),
-    }
+    name(alloc, &number.to_le_bytes())
 }
 
 // Uses the name of a number as an operator and as a constant.
@@ -75,22 +74,22 @@ fn first_free(symbols: &Symbols, alloc: Global) -> Result<u32, Fault> {
     Ok(u32::MAX)
 }
 
-// Uses all the names, and gives the first number whose name is not taken then.
-fn taken(symbols: &mut Symbols, alloc: Global) -> Result<u32, Fault>
+/// Uses all the names, and gives the first number whose name is not taken then, and how many symbols are.
+pub(crate) fn taken(
+    symbols: &mut Symbols,
+    table: &mut TermTable,
+    alloc: Global,
+) -> Result<Answer, Fault>
     requires { (trees : Trees) → AreKnownSymbols trees symbols.old }
 {
-    let mut table = TermTable::new(alloc);
-    let name = numbered(alloc, 0)?;
-    let ty = table.ty_var(&name)?;
-    take_all(symbols, &mut table, alloc, ty)?;
-    first_free(symbols, alloc)
+    let ty = table.ty_var(&numbered(alloc, 0)?)?;
+    take_all(symbols, table, alloc, ty)?;
+    let free = first_free(symbols, alloc)?;
+    Ok(Answer::Free(free, symbols.count()))
 }
 
 #[test]
 fn many_symbols_are_found(rt: HostRuntime) -> Result<(), Fail> {
-    let mut symbols = Symbols::new(rt.alloc())?;
-    let free = taken(&mut symbols, rt.alloc())?;
-    assert_eq!(rt; free, 50_000);
-    assert_eq!(rt; symbols.count(), 100_000);
+    assert!(rt; comes(rt.alloc(), Case::Many, Ok(Answer::Free(50_000, 100_000))));
     Ok(())
 }
