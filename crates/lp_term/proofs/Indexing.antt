@@ -9,8 +9,8 @@ use Rattle.lp_binding.specs.LookUps.{slice_get-append}
 use Rattle.lp_term.specs.declared.shape.Shape.{Shape}
 use Rattle.lp_term.specs.declared.shape.Shape.TheVariants as shape
 use Rattle.lp_term.specs.declared.shapes.Children.{Children}
-use Rattle.lp_term.specs.declared.shapes.Place.{Place}
-use Rattle.lp_term.specs.declared.shapes.Place.TheVariants as place
+use Rattle.lp_term.specs.declared.shapes.Slot.{Slot}
+use Rattle.lp_term.specs.declared.shapes.Slot.TheVariants as slot
 use Rattle.lp_term.specs.Shapes.{node_of}
 use Rattle.lp_term.specs.Tables.{PartsBelow}
 use Rattle.lp_term.specs.Indexed.{greater_part, nothing, no_children, with_child, IsChild, HasRoom, Has, Lacks, IsFull, IsWith, IsApart, IsIndexed, Finds, FindsOther}
@@ -65,12 +65,12 @@ with_child-new c n = new_by c n (c.first == nothing) (c.second == nothing)
 -- what a search finds
 module _ (shapes : List Shape) (children : List Children) (kept : Shape → Option ℕ) (s : Shape) (t : IsIndexed shapes children kept) where
   -- a shape that does not stand with its greater part is told by the hash table
-  pub finds_other : (p : Place) → ((n : ℕ) → Has shapes n s → IsWith children s n → ⊥) → IsFull children s → FindsOther shapes kept s p → Finds shapes children s p
-  finds_other (place.At n) apart full f = f
-  finds_other (place.With p) apart full f = absurd f
-  finds_other place.Apart apart full f = (λ n h. ⊎_elim (λ w. apart n h w) (λ a. f n h a.found) (t.each n s h), full)
+  pub finds_other : (p : Slot) → ((n : ℕ) → Has shapes n s → IsWith children s n → ⊥) → IsFull children s → FindsOther shapes kept s p → Finds shapes children s p
+  finds_other (slot.At n) apart full f = f
+  finds_other (slot.With p) apart full f = absurd f
+  finds_other slot.Apart apart full f = (λ n h. ⊎_elim (λ w. apart n h w) (λ a. f n h a.found) (t.each n s h), full)
 
-  pub finds_leaf : (p : Place) → greater_part s ≡ None → FindsOther shapes kept s p → Finds shapes children s p
+  pub finds_leaf : (p : Slot) → greater_part s ≡ None → FindsOther shapes kept s p → Finds shapes children s p
   finds_leaf p none f = finds_other p (λ n h w. absurd (let e = sym none ∙ w.greater in cc)) (λ q c g at room. absurd (let e = sym none ∙ g in cc)) f
 
   -- no child is the shape
@@ -81,11 +81,11 @@ module _ (shapes : List Shape) (children : List Children) (kept : Shape → Opti
       let child : IsChild c n = subst (λ (d : Children). IsChild d n) with w.child in
       ⊎_elim (λ e. one (subst (λ k. Has shapes k s) (sym e) h)) (λ r. ⊎_elim (λ e. two (subst (λ k. Has shapes k s) (sym e) h)) (λ e. three (subst (λ k. Has shapes k s) (sym e) h)) r) child
 
-  pub finds_room : (p : ℕ) (c : Children) → greater_part s ≡ Some p → slice_get children p ≡ Some c → (Has shapes c.first s → ⊥) → (Has shapes c.second s → ⊥) → (Has shapes c.third s → ⊥) → HasRoom c → Finds shapes children s (place.With p)
+  pub finds_room : (p : ℕ) (c : Children) → greater_part s ≡ Some p → slice_get children p ≡ Some c → (Has shapes c.first s → ⊥) → (Has shapes c.second s → ⊥) → (Has shapes c.third s → ⊥) → HasRoom c → Finds shapes children s (slot.With p)
   finds_room p c greater at one two three room =
       (λ n h. ⊎_elim (λ w. no_child p c greater at one two three n h w) (λ a. a.full p c greater at room) (t.each n s h), greater, (c, at, room))
 
-  pub finds_full : (p : ℕ) (c : Children) (r : Place) → greater_part s ≡ Some p → slice_get children p ≡ Some c → (Has shapes c.first s → ⊥) → (Has shapes c.second s → ⊥) → (Has shapes c.third s → ⊥) → (HasRoom c → ⊥) → FindsOther shapes kept s r → Finds shapes children s r
+  pub finds_full : (p : ℕ) (c : Children) (r : Slot) → greater_part s ≡ Some p → slice_get children p ≡ Some c → (Has shapes c.first s → ⊥) → (Has shapes c.second s → ⊥) → (Has shapes c.third s → ⊥) → (HasRoom c → ⊥) → FindsOther shapes kept s r → Finds shapes children s r
   finds_full p c r greater at one two three full f =
       finds_other r (no_child p c greater at one two three)
       (λ q d g k room. full (let same : q ≡ p = same_Some q p (sym g ∙ greater) in subst (λ (e : Children). HasRoom e) (same_Some d c (sym k ∙ ap (slice_get children) same ∙ at)) room)) f
@@ -95,7 +95,7 @@ module _ (shapes : List Shape) (children : List Children) (kept : Shape → Opti
   lower_more : (n : ℕ) (u : Shape) (p : ℕ) → Has (shapes ++ s ∷ []) n u → greater_part u ≡ Some p → p < n
   lower_more n u p h g = ⊎_elim (λ k. t.lower n u p k g) (λ k. let b = below p (ap greater_part k.1 ∙ g) in omega (arith, b, k.0)) (slice_get-one_more shapes s u n h)
 
-  -- a place among the children that is an old one's stays, where the list is longer
+  -- a slot among the children that is an old one's stays, where the list is longer
   old_full : (i : ℕ) (u : Shape) → Has shapes i u → IsFull children u → IsFull (children ++ no_children ∷ []) u
   old_full i u h full q d g at room = ⊎_elim (λ k. full q d g k room) (λ k. absurd (let l = t.lower i u q h g in let w = slice_get_within shapes i u h in omega (arith, l, w, k.0, t.count))) (slice_get-one_more children no_children d q at)
 

@@ -4,8 +4,8 @@ use Rattle.indexmap.specs.IndexMap.{IndexMap, get}
 use Rattle.lp_term.specs.declared.shape.Shape.{Shape}
 use Rattle.lp_term.specs.declared.shape.Shape.TheVariants as shape
 use Rattle.lp_term.specs.declared.shapes.Children.{Children}
-use Rattle.lp_term.specs.declared.shapes.Place.{Place}
-use Rattle.lp_term.specs.declared.shapes.Place.TheVariants as place
+use Rattle.lp_term.specs.declared.shapes.Slot.{Slot}
+use Rattle.lp_term.specs.declared.shapes.Slot.TheVariants as slot
 use Rattle.lp_term.specs.contracts.shape.ShapePartialEq.TheImpl as shape_eq
 
 -- the greater part of a shape, if it has parts
@@ -29,7 +29,7 @@ nothing = 2 ^ 32 - 1
 abbrev pub no_children : Children
 no_children = record { first = nothing; second = nothing; third = nothing }
 
--- one more child, in the first place that is free, or else in the last
+-- one more child, in the first slot that is free, or else in the last
 abbrev pub with_child : Children → ℕ → Children
 with_child c n =
     if c.first == nothing then record { first = n; second = c.second; third = c.third }
@@ -77,13 +77,13 @@ pub record IsIndexed (shapes : List Shape) (children : List Children) (kept : Sh
   pub few : length shapes < 2 ^ 32
 
 -- where a shape is, or where it is to be put: with a part that has room, or else apart
-abbrev pub Finds : List Shape → List Children → Shape → Place → Type 0
-Finds shapes children s (place.At n) = Has shapes n s
-Finds shapes children s (place.With p) = Lacks shapes s × (greater_part s ≡ Some p) × ((c : Children) × (slice_get children p ≡ Some c) × HasRoom c)
-Finds shapes children s place.Apart = Lacks shapes s × IsFull children s
+abbrev pub Finds : List Shape → List Children → Shape → Slot → Type 0
+Finds shapes children s (slot.At n) = Has shapes n s
+Finds shapes children s (slot.With p) = Lacks shapes s × (greater_part s ≡ Some p) × ((c : Children) × (slice_get children p ≡ Some c) × HasRoom c)
+Finds shapes children s slot.Apart = Lacks shapes s × IsFull children s
 
 -- the number that the hash table has for the shape, or that it has none
-abbrev pub FindsOther : List Shape → (Shape → Option ℕ) → Shape → Place → Type 0
-FindsOther shapes kept s (place.At n) = Has shapes n s
-FindsOther shapes kept s (place.With p) = ⊥
-FindsOther shapes kept s place.Apart = (n : ℕ) → Has shapes n s → kept s ≡ Some n → ⊥
+abbrev pub FindsOther : List Shape → (Shape → Option ℕ) → Shape → Slot → Type 0
+FindsOther shapes kept s (slot.At n) = Has shapes n s
+FindsOther shapes kept s (slot.With p) = ⊥
+FindsOther shapes kept s slot.Apart = (n : ℕ) → Has shapes n s → kept s ≡ Some n → ⊥

@@ -29,7 +29,7 @@ pub(crate) struct Children {
 
 /// Where a shape is, or where it is to be put.
 #[derive(Clone, Copy)]
-pub(crate) enum Place {
+pub(crate) enum Slot {
     /// It has this number.
     At(u32),
     /// With this part of its own.
@@ -94,12 +94,12 @@ impl Shapes {
         ensures unchanged { OnErr result (self.new ≡ self.old) }
     {
         match find(&self.shapes, &self.children, &self.others, shape) {
-            Place::At(number) => Ok((number as usize, false)),
-            Place::With(part) => {
+            Slot::At(number) => Ok((number as usize, false)),
+            Slot::With(part) => {
                 let number = put_with(&mut self.shapes, &mut self.children, shape, part)?;
                 Ok((number as usize, true))
             }
-            Place::Apart => {
+            Slot::Apart => {
                 let number = put_apart(
                     &mut self.shapes,
                     &mut self.children,
@@ -153,12 +153,12 @@ fn find_apart(shapes: &[Shape], others: &IndexMap<Shape, u32>, shape: Shape) -> 
 }
 
 // Where a shape is that does not stand with its greater part, or is to be put.
-fn find_other(shapes: &[Shape], others: &IndexMap<Shape, u32>, shape: Shape) -> Place
+fn find_other(shapes: &[Shape], others: &IndexMap<Shape, u32>, shape: Shape) -> Slot
     ensures { FindsOther shapes.now (kept_in others.now) shape result }
 {
     match find_apart(shapes, others, shape) {
-        Some(number) => Place::At(number),
-        None => Place::Apart,
+        Some(number) => Slot::At(number),
+        None => Slot::Apart,
     }
 }
 
@@ -169,7 +169,7 @@ fn find_with(
     others: &IndexMap<Shape, u32>,
     shape: Shape,
     part: u32,
-) -> Place
+) -> Slot
     requires indexed { IsIndexed shapes.now children.now (kept_in others.now) }
     requires part { greater_part_of shape ≡ Some part }
     ensures { Finds shapes.now children.now shape result }
@@ -179,16 +179,16 @@ fn find_with(
     };
     let with = *with;
     if has(shapes, with.first, shape) {
-        return Place::At(with.first);
+        return Slot::At(with.first);
     }
     if has(shapes, with.second, shape) {
-        return Place::At(with.second);
+        return Slot::At(with.second);
     }
     if has(shapes, with.third, shape) {
-        return Place::At(with.third);
+        return Slot::At(with.third);
     }
     if with.third == NONE {
-        return Place::With(part);
+        return Slot::With(part);
     }
     find_other(shapes, others, shape)
 }
@@ -199,7 +199,7 @@ fn find(
     children: &[Children],
     others: &IndexMap<Shape, u32>,
     shape: Shape,
-) -> Place
+) -> Slot
     requires { IsIndexed shapes.now children.now (kept_in others.now) }
     ensures { Finds shapes.now children.now shape result }
 {
