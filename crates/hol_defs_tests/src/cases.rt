@@ -71,7 +71,10 @@ fn tried_over(
 pub(crate) fn tried(alloc: Global, case: Case) -> Result<Answer, Fault> {
     let mut symbols = Symbols::new(alloc)?;
     let mut table = TermTable::new(alloc);
-    tried_over(&mut symbols, &mut table, alloc, case)
+    let answer = tried_over(&mut symbols, &mut table, alloc, case);
+    drop(table);
+    drop(symbols);
+    answer
 }
 
 /// Whether this comes of a case.
