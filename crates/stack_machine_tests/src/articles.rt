@@ -1,41 +1,6 @@
 //! Articles that a machine reads and obeys.
-use crate::bench::told;
-use article_read::{LineFault, Lines};
-use article_spec::Command;
-use stack_machine::Machine;
-use std::alloc::Global;
+use crate::trials::{Trial, comes_out};
 use std::test::Fail;
-
-// Obeys commands up to the first that is refused.
-fn obey_all(machine: &mut Machine, commands: &[Command]) -> Result<(), LineFault> {
-    for command in commands {
-        machine
-            .step(command)
-            .map_err(|fault| told(command.line, fault))?;
-    }
-    Ok(())
-}
-
-/// Runs an article that comes in pieces of this size.
-pub(crate) fn run(
-    machine: &mut Machine,
-    alloc: Global,
-    text: &[u8],
-    size: usize,
-) -> Result<(), LineFault> {
-    let mut lines = Lines::new(alloc);
-    let mut commands = Vec::new(alloc);
-    for piece in text.chunks(size.max(1)) {
-        let fed = lines.feed(piece, &mut commands);
-        obey_all(machine, &commands)?;
-        fed?;
-        commands.clear();
-    }
-    let ended = lines.finish(&mut commands);
-    obey_all(machine, &commands)?;
-    let line = ended?;
-    machine.finish().map_err(|fault| told(line, fault))
-}
 
 // An article of every command that builds.
 const BUILDING: &[u8] =
@@ -44,16 +9,9 @@ const BUILDING: &[u8] =
 #[test]
 fn every_command_is_obeyed(rt: HostRuntime) -> Result<(), Fail> {
     for size in [1, 2, 3, 4096] {
-        let mut machine = Machine::new(rt.alloc())?;
-        assert_eq!(rt;
-            run(&mut machine, rt.alloc(), BUILDING, size),
-            Ok(()),
+        assert!(rt;
+            comes_out(rt.alloc(), Trial::Twice(BUILDING, size))?,
             "pieces of {size}"
-        );
-        assert_eq!(rt;
-            run(&mut machine, rt.alloc(), BUILDING, size),
-            Ok(()),
-            "again of {size}"
         );
     }
     Ok(())

@@ -1,4 +1,4 @@
-//! A machine in the body of an article, with the few objects that the tests speak of, and what it made.
+//! A machine that obeys articles, with the few objects that the tests speak of, and what it made.
 use article_read::{LineFault, Lines};
 use article_spec::Command;
 use bridge_base::{Fault, Kind};
@@ -24,28 +24,56 @@ const TERMS: &[u8] =
 /// How a name is taken, as a constant and as an operator.
 pub(crate) type Kinds = (Option<SymbolKind>, Option<SymbolKind>);
 
-/// A machine, and the lines of its article.
+/// What articles made: the assumptions, the exports, and how many steps.
+#[derive(Clone, Copy)]
+pub(crate) struct Made<'a>(
+    pub(crate) &'a [StepId],
+    pub(crate) &'a [StepId],
+    pub(crate) usize,
+);
+
+/// A step: its number, the rule that made it, the steps of which, and how many hypotheses it has.
+#[derive(Clone, Copy)]
+pub(crate) struct By<'a>(
+    pub(crate) StepId,
+    pub(crate) StepKind,
+    pub(crate) &'a [StepId],
+    pub(crate) usize,
+);
+
+/// A text, and how often it stands.
+pub(crate) type Part<'a> = (u32, &'a [u8]);
+
+/// How an article ran: how many lines it has, and how it ended.
+#[derive(Clone, Copy)]
+pub(crate) struct Ran {
+    pub(crate) lines: u64,
+    pub(crate) end: Result<(), LineFault>,
+}
+
+/// A machine, the lines of its article, and the text and the commands that were read last.
 #[derive(Drop)]
 pub(crate) struct Bench {
     machine: Machine,
     lines: Lines,
+    text: Vec<u8>,
+    commands: Vec<Command>,
     alloc: Global,
 }
 
 impl Bench {
-    /// A machine that has obeyed the beginning of its first article.
+    /// A machine before its first article.
     pub(crate) fn new(alloc: Global) -> Result<Bench, LineFault> {
-        let Ok(machine) = Machine::new(alloc) else {
-            return Err(LineFault::Memory);
-        };
-        let lines = Lines::new(alloc);
-        let mut bench = Bench {
-            machine,
-            lines,
-            alloc,
-        };
-        bench.begin()?;
-        Ok(bench)
+        match Machine::new(alloc) {
+            Ok(machine) => Ok(Bench {
+                machine,
+                lines: Lines::new(alloc),
+                text: Vec::new(alloc),
+                commands: Vec::new(alloc),
+                alloc,
+            }),
+            Err(_) => Err(LineFault::Memory),
+        }
     }
 
     /// Obeys the beginning of an article.
@@ -57,40 +85,53 @@ impl Bench {
 
     /// Obeys commands, up to the first that is refused. Blanks stand for the ends of lines.
     pub(crate) fn obey(&mut self, words: &[u8]) -> Result<(), LineFault> {
-        let commands = self.read(words)?;
-        for command in &commands {
-            self.step(command)?;
-        }
-        Ok(())
+        self.read(words)?;
+        obey_all(&mut self.machine, &self.commands)
     }
 
     /// Ends the article.
     pub(crate) fn end(&mut self) -> Result<(), LineFault> {
-        let mut commands = Vec::new(self.alloc);
-        let line = self.lines.finish(&mut commands)?;
-        match self.machine.finish() {
-            Ok(()) => Ok(()),
-            Err(fault) => Err(told(line, fault)),
-        }
+        self.commands.clear();
+        let line = self.lines.finish(&mut self.commands)?;
+        end_at(&mut self.machine, line)
     }
 
     /// Whether the commands but the last are obeyed, and the last is refused for this reason, at its line.
     pub(crate) fn is_refused(&mut self, words: &[u8], kind: Kind) -> Result<bool, LineFault> {
-        let commands = self.read(words)?;
-        let Some((last, front)) = commands.split_last() else {
-            return Ok(false);
-        };
-        for command in front {
-            self.step(command)?;
-        }
-        let steps = self.machine.proof().len();
-        match self.step(last) {
-            Ok(()) => Ok(false),
-            Err(LineFault::Memory) => Err(LineFault::Memory),
-            Err(LineFault::Refused { line, kind: own }) => {
-                Ok(line == last.line && own == kind && self.machine.proof().len() == steps)
-            }
-        }
+        self.read(words)?;
+        is_last_refused(&mut self.machine, &self.commands, kind)
+    }
+
+    /// Runs an article that comes in pieces of this size.
+    pub(crate) fn run(&mut self, text: &[u8], size: usize) -> Result<(), LineFault> {
+        run(
+            &mut self.machine,
+            &mut self.lines,
+            &mut self.commands,
+            text,
+            size,
+        )
+    }
+
+    /// Runs an article of these parts, one after another, and says how many lines it has.
+    pub(crate) fn run_parts(&mut self, parts: &[Part]) -> Result<Ran, LineFault> {
+        write_parts(&mut self.text, parts)?;
+        let lines = line_count(&self.text);
+        let end = run(
+            &mut self.machine,
+            &mut self.lines,
+            &mut self.commands,
+            &self.text,
+            4096,
+        );
+        Ok(Ran { lines, end })
+    }
+
+    /// Whether the rest of an article makes this, and this step.
+    pub(crate) fn makes(&mut self, words: &[u8], made: Made, by: By) -> Result<bool, LineFault> {
+        self.obey(words)?;
+        self.end()?;
+        Ok(self.has_made(made.0, made.1, made.2) && self.is_by(by.0, by.1, by.2, by.3))
     }
 
     /// Whether the assumptions and the exports are these, and there are so many steps.
@@ -124,38 +165,115 @@ impl Bench {
 
     /// How a name is taken, as a constant and as an operator.
     pub(crate) fn kinds(&self, text: &[u8]) -> Result<Kinds, LineFault> {
-        let Ok(name) = Name::single(self.alloc, text) else {
-            return Err(LineFault::Memory);
-        };
-        let symbols = self.machine.symbols();
-        Ok((symbols.const_kind(&name), symbols.op_kind(&name)))
+        match Name::single(self.alloc, text) {
+            Ok(name) => Ok(kinds_of(&self.machine, &name)),
+            Err(_) => Err(LineFault::Memory),
+        }
     }
 
-    // The commands in these lines.
-    fn read(&mut self, words: &[u8]) -> Result<Vec<Command>, LineFault> {
-        let text = text_of(self.alloc, words)?;
-        let mut commands = Vec::new(self.alloc);
-        self.lines.feed(&text, &mut commands)?;
-        Ok(commands)
+    // Reads the commands in these lines.
+    fn read(&mut self, words: &[u8]) -> Result<(), LineFault> {
+        write_lines(&mut self.text, words)?;
+        self.commands.clear();
+        self.lines.feed(&self.text, &mut self.commands)
     }
+}
 
-    // Obeys a command.
-    fn step(&mut self, command: &Command) -> Result<(), LineFault> {
-        match self.machine.step(command) {
-            Ok(()) => Ok(()),
-            Err(fault) => Err(told(command.line, fault)),
+fn kinds_of(machine: &Machine, name: &Name) -> Kinds {
+    let symbols = machine.symbols();
+    (symbols.const_kind(name), symbols.op_kind(name))
+}
+
+// Obeys a command.
+fn step(machine: &mut Machine, command: &Command) -> Result<(), LineFault> {
+    match machine.step(command) {
+        Ok(()) => Ok(()),
+        Err(fault) => Err(told(command.line, fault)),
+    }
+}
+
+// Obeys commands up to the first that is refused.
+fn obey_all(machine: &mut Machine, commands: &[Command]) -> Result<(), LineFault> {
+    for command in commands {
+        step(machine, command)?;
+    }
+    Ok(())
+}
+
+// Ends an article that has so many lines.
+fn end_at(machine: &mut Machine, line: u64) -> Result<(), LineFault> {
+    match machine.finish() {
+        Ok(()) => Ok(()),
+        Err(fault) => Err(told(line, fault)),
+    }
+}
+
+// Whether the commands but the last are obeyed, and the last is refused for this reason, at its line.
+fn is_last_refused(
+    machine: &mut Machine,
+    commands: &[Command],
+    kind: Kind,
+) -> Result<bool, LineFault> {
+    let Some((last, front)) = commands.split_last() else {
+        return Ok(false);
+    };
+    obey_all(machine, front)?;
+    let steps = machine.proof().len();
+    match step(machine, last) {
+        Ok(()) => Ok(false),
+        Err(LineFault::Memory) => Err(LineFault::Memory),
+        Err(LineFault::Refused { line, kind: own }) => {
+            Ok(line == last.line && own == kind && machine.proof().len() == steps)
         }
     }
 }
 
-// The text whose lines these words are.
-fn text_of(alloc: Global, words: &[u8]) -> Result<Vec<u8>, LineFault> {
-    let mut text = Vec::new(alloc);
-    for byte in words {
-        write_byte(&mut text, if *byte == b' ' { b'\n' } else { *byte })?;
+// Obeys the commands in a piece of an article, and then what its reader says of it.
+fn obey_piece(
+    machine: &mut Machine,
+    lines: &mut Lines,
+    commands: &mut Vec<Command>,
+    piece: &[u8],
+) -> Result<(), LineFault> {
+    commands.clear();
+    let fed = lines.feed(piece, commands);
+    obey_all(machine, commands)?;
+    fed
+}
+
+// Obeys the commands in the last line of an article, and ends it.
+fn finish(
+    machine: &mut Machine,
+    lines: &mut Lines,
+    commands: &mut Vec<Command>,
+) -> Result<(), LineFault> {
+    commands.clear();
+    let ended = lines.finish(commands);
+    obey_all(machine, commands)?;
+    end_at(machine, ended?)
+}
+
+// Runs an article that comes in pieces of this size.
+fn run(
+    machine: &mut Machine,
+    lines: &mut Lines,
+    commands: &mut Vec<Command>,
+    text: &[u8],
+    size: usize,
+) -> Result<(), LineFault> {
+    for piece in text.chunks(size.max(1)) {
+        obey_piece(machine, lines, commands, piece)?;
     }
-    write_byte(&mut text, b'\n')?;
-    Ok(text)
+    finish(machine, lines, commands)
+}
+
+// Writes the text whose lines these words are.
+fn write_lines(text: &mut Vec<u8>, words: &[u8]) -> Result<(), LineFault> {
+    text.clear();
+    for byte in words {
+        write_byte(text, if *byte == b' ' { b'\n' } else { *byte })?;
+    }
+    write_byte(text, b'\n')
 }
 
 fn write_byte(text: &mut Vec<u8>, byte: u8) -> Result<(), LineFault> {
@@ -165,8 +283,36 @@ fn write_byte(text: &mut Vec<u8>, byte: u8) -> Result<(), LineFault> {
     }
 }
 
-/// A fault at a line.
-pub(crate) fn told(line: u64, fault: Fault) -> LineFault {
+// Writes the parts, one after another.
+fn write_parts(text: &mut Vec<u8>, parts: &[Part]) -> Result<(), LineFault> {
+    text.clear();
+    for part in parts {
+        write_part(text, *part)?;
+    }
+    Ok(())
+}
+
+fn write_part(text: &mut Vec<u8>, (times, part): Part) -> Result<(), LineFault> {
+    for _ in 0..times {
+        let Ok(()) = text.extend_from_slice(part) else {
+            return Err(LineFault::Memory);
+        };
+    }
+    Ok(())
+}
+
+fn line_count(text: &[u8]) -> u64 {
+    let mut count: u64 = 0;
+    for byte in text {
+        if *byte == b'\n' {
+            count = count.saturating_add(1);
+        }
+    }
+    count
+}
+
+// A fault at a line.
+fn told(line: u64, fault: Fault) -> LineFault {
     match fault {
         Fault::Refused(kind) => LineFault::Refused { line, kind },
         Fault::Memory => LineFault::Memory,

@@ -1,13 +1,15 @@
-//! The cases of symbols, of inference, of definitions and of what is stated, each over a machine of its own.
+//! The cases of symbols, of inference, of definitions, of what is stated and of what is held, each over a machine of its
+//! own.
 use crate::bench::Bench;
-use crate::{definitions, inference, stating, symbols};
+use crate::trials::{Trial, comes_out};
+use crate::{collecting, definitions, inference, stating, symbols};
 use article_read::LineFault;
 use std::alloc::Global;
 use std::test::Fail;
 
 /// What is tried.
 #[derive(Clone, Copy, Debug)]
-enum Case {
+pub(crate) enum Case {
     Constant,
     Operator,
     Primitive,
@@ -60,10 +62,12 @@ enum Case {
     NewTypeWithATypeVariable,
     NewTypeOfTwiceAName,
     NewTypeUnderAHypothesis,
+    FewHeld,
+    ManyHeld,
 }
 
-// Whether a case comes out as it must.
-fn holds(case: Case, bench: &mut Bench) -> Result<bool, LineFault> {
+/// Whether a case comes out as it must.
+pub(crate) fn holds(case: Case, bench: &mut Bench) -> Result<bool, LineFault> {
     match case {
         Case::Constant => symbols::constant(bench),
         Case::Operator => symbols::operator(bench),
@@ -117,18 +121,15 @@ fn holds(case: Case, bench: &mut Bench) -> Result<bool, LineFault> {
         Case::NewTypeWithATypeVariable => definitions::new_type_with_a_type_variable(bench),
         Case::NewTypeOfTwiceAName => definitions::new_type_of_twice_a_name(bench),
         Case::NewTypeUnderAHypothesis => definitions::new_type_under_a_hypothesis(bench),
+        Case::FewHeld => collecting::few_held(bench),
+        Case::ManyHeld => collecting::many_held(bench),
     }
-}
-
-fn comes_out(alloc: Global, case: Case) -> Result<bool, LineFault> {
-    let mut bench = Bench::new(alloc)?;
-    holds(case, &mut bench)
 }
 
 // The first case that comes out otherwise.
 fn first_wrong(alloc: Global, cases: &[Case]) -> Result<Option<Case>, LineFault> {
     for case in cases {
-        let right = comes_out(alloc, *case)?;
+        let right = comes_out(alloc, Trial::Case(*case))?;
         if !right {
             return Ok(Some(*case));
         }
@@ -191,6 +192,8 @@ fn symbols_and_theorems_are_made_or_refused(rt: HostRuntime) -> Result<(), Fail>
         Case::NewTypeWithATypeVariable,
         Case::NewTypeOfTwiceAName,
         Case::NewTypeUnderAHypothesis,
+        Case::FewHeld,
+        Case::ManyHeld,
     ];
     let wrong = first_wrong(rt.alloc(), &cases)?;
     assert!(rt; wrong.is_none(), "{wrong:?}");

@@ -1,5 +1,5 @@
 //! The words that define: each takes its symbols, and makes theorems that the article then states; or it is refused.
-use crate::bench::Bench;
+use crate::bench::{Bench, By, Made};
 use article_read::LineFault;
 use bridge_base::Kind;
 use hol_defs::SymbolKind;
@@ -13,18 +13,22 @@ fn is_constant(bench: &mut Bench, name: &[u8]) -> Result<bool, LineFault> {
 /// c as the identity.
 pub(crate) fn definition(bench: &mut Bench) -> Result<bool, LineFault> {
     bench.obey(b"\"c\" 9 ref defineConst")?;
-    bench.obey(b"nil 5 ref \"c\" const 6 ref constTerm appTerm 9 ref appTerm thm")?;
-    bench.end()?;
-    let made = bench.has_made(&[], &[1], 2) && bench.is_by(0, StepKind::DefineConst, &[], 0);
+    let made = bench.makes(
+        b"nil 5 ref \"c\" const 6 ref constTerm appTerm 9 ref appTerm thm",
+        Made(&[], &[1], 2),
+        By(0, StepKind::DefineConst, &[], 0),
+    )?;
     Ok(made && is_constant(bench, b"c")?)
 }
 
 /// c as the identity, and then d as c.
 pub(crate) fn newer_constant(bench: &mut Bench) -> Result<bool, LineFault> {
     bench.obey(b"\"c\" 9 ref defineConst \"d\" \"c\" const 6 ref constTerm 20 def defineConst")?;
-    bench.obey(b"nil 5 ref \"d\" const 6 ref constTerm appTerm 20 ref appTerm thm")?;
-    bench.end()?;
-    let made = bench.has_made(&[], &[2], 3) && bench.is_by(1, StepKind::DefineConst, &[], 0);
+    let made = bench.makes(
+        b"nil 5 ref \"d\" const 6 ref constTerm appTerm 20 ref appTerm thm",
+        Made(&[], &[2], 3),
+        By(1, StepKind::DefineConst, &[], 0),
+    )?;
     Ok(made && is_constant(bench, b"d")?)
 }
 
@@ -76,11 +80,11 @@ pub(crate) fn constant_list(bench: &mut Bench) -> Result<bool, LineFault> {
     bench.obey(EQUATIONS)?;
     bench.obey(b"\"c\" 20 ref nil cons cons \"d\" 21 ref nil cons cons nil cons cons")?;
     bench.obey(b"22 ref 23 ref nil cons cons 22 ref axiom defineConstList 24 def pop")?;
-    bench.obey(
+    let made = bench.makes(
         b"hdTl pop 6 ref constTerm 25 def 24 ref nil 5 ref 25 ref appTerm 9 ref appTerm thm",
+        Made(&[0], &[2], 3),
+        By(1, StepKind::DefineConstList, &[0], 0),
     )?;
-    bench.end()?;
-    let made = bench.has_made(&[0], &[2], 3) && bench.is_by(1, StepKind::DefineConstList, &[0], 0);
     Ok(made && is_constant(bench, b"c")? && is_constant(bench, b"d")?)
 }
 
@@ -96,9 +100,11 @@ pub(crate) fn constant_list_too_short(bench: &mut Bench) -> Result<bool, LineFau
 
 /// No constants, for a theorem without variables.
 pub(crate) fn no_constants(bench: &mut Bench) -> Result<bool, LineFault> {
-    bench.obey(b"nil 9 ref refl defineConstList nil 5 ref 9 ref appTerm 9 ref appTerm thm")?;
-    bench.end()?;
-    Ok(bench.has_made(&[], &[2], 3) && bench.is_by(1, StepKind::DefineConstList, &[0], 0))
+    bench.makes(
+        b"nil 9 ref refl defineConstList nil 5 ref 9 ref appTerm 9 ref appTerm thm",
+        Made(&[], &[2], 3),
+        By(1, StepKind::DefineConstList, &[0], 0),
+    )
 }
 
 /// A type with an element for each truth value that is itself.

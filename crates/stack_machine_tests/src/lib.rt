@@ -1,5 +1,5 @@
 //! Tests of the stack machine by its public calls: every command, the kind and the line of each refusal, assumptions that
-//! exports meet, and the limits.
+//! exports meet, what is held while much is given up, and the limits.
 #![tactic(auto)]
 
 #[cfg(test)]
@@ -8,6 +8,8 @@ mod articles;
 mod bench;
 #[cfg(test)]
 mod cases;
+#[cfg(test)]
+mod collecting;
 #[cfg(test)]
 mod definitions;
 #[cfg(test)]
@@ -20,3 +22,5 @@ mod refusals;
 mod stating;
 #[cfg(test)]
 mod symbols;
+#[cfg(test)]
+mod trials;

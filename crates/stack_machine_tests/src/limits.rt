@@ -1,14 +1,10 @@
 //! Types and terms have at most 1,048,576 nodes and a depth of at most 1,024, whatever command makes them.
-use crate::articles::run;
-use crate::refusals::stops;
+use crate::bench::Part;
+use crate::trials::{Trial, comes_out};
 use article_read::LineFault;
 use bridge_base::Kind;
-use stack_machine::Machine;
 use std::alloc::Global;
 use std::test::Fail;
-
-/// A text, and how often it stands.
-type Part<'a> = (u32, &'a [u8]);
 
 // The beginning of an article.
 const BEGIN: Part = (1, b"6\nversion\n");
@@ -65,42 +61,14 @@ const GROW_TERM: Part = (
 
 const TWICE: Part = (1, b"2\nref\n3\nref\nappTerm\n3\nref\nappTerm\n");
 
-// The parts, one after another.
-fn article(alloc: Global, parts: &[Part]) -> Result<Vec<u8>, LineFault> {
-    let mut text = Vec::new(alloc);
-    for (times, part) in parts {
-        for _ in 0..*times {
-            let Ok(()) = text.extend_from_slice(part) else {
-                return Err(LineFault::Memory);
-            };
-        }
-    }
-    Ok(text)
-}
-
-fn line_count(text: &[u8]) -> u64 {
-    let mut count: u64 = 0;
-    for byte in text {
-        if *byte == b'\n' {
-            count = count.saturating_add(1);
-        }
-    }
-    count
-}
-
 // Whether an article is obeyed.
 fn passes(alloc: Global, parts: &[Part]) -> Result<bool, LineFault> {
-    let Ok(mut machine) = Machine::new(alloc) else {
-        return Err(LineFault::Memory);
-    };
-    let text = article(alloc, parts)?;
-    Ok(run(&mut machine, alloc, &text, 4096) == Ok(()))
+    comes_out(alloc, Trial::Passes(parts))
 }
 
 // Whether the last line of an article is refused for this reason.
 fn ends(alloc: Global, parts: &[Part], kind: Kind) -> Result<bool, LineFault> {
-    let text = article(alloc, parts)?;
-    stops(alloc, &text, line_count(&text), kind)
+    comes_out(alloc, Trial::Ends(parts, kind))
 }
 
 fn largest_type(alloc: Global) -> Result<bool, LineFault> {

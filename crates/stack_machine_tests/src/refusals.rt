@@ -1,17 +1,13 @@
 //! Each refusal names a line and a kind.
-use crate::articles::run;
+use crate::trials::{Trial, comes_out};
 use article_read::LineFault;
 use bridge_base::Kind;
-use stack_machine::Machine;
 use std::alloc::Global;
 use std::test::Fail;
 
-/// Whether an article is refused at this line, for this reason.
-pub(crate) fn stops(alloc: Global, text: &[u8], line: u64, kind: Kind) -> Result<bool, LineFault> {
-    let Ok(mut machine) = Machine::new(alloc) else {
-        return Err(LineFault::Memory);
-    };
-    Ok(run(&mut machine, alloc, text, 4096) == Err(LineFault::Refused { line, kind }))
+// Whether an article is refused at this line, for this reason.
+fn stops(alloc: Global, text: &[u8], line: u64, kind: Kind) -> Result<bool, LineFault> {
+    comes_out(alloc, Trial::Stops(text, line, kind))
 }
 
 // The first two commands.
