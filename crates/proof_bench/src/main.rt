@@ -260,10 +260,17 @@ impl Work {
 }
 
 // How many steps and terms a proof of so many chains has.
-fn run(alloc: Global, count: u32) -> Result<(usize, usize), Fault> {
-    let mut work = Work::new(alloc)?;
+fn counted(work: &mut Work, count: u32) -> Result<(usize, usize), Fault> {
     work.chains(count)?;
     Ok((work.proof.len(), work.proof.terms().count()))
+}
+
+// The same, of a proof of its own.
+fn run(alloc: Global, count: u32) -> Result<(usize, usize), Fault> {
+    let mut work = Work::new(alloc)?;
+    let counts = counted(&mut work, count);
+    drop(work);
+    counts
 }
 
 fn main(rt: HostRuntime) -> io::Result<()> {
