@@ -30,8 +30,8 @@ use std::alloc::Global;
 // The number of the symbol of the types of terms.
 pub(crate) const TERM: usize = 4;
 
-// The greatest depth of a type.
-pub(crate) const GREATEST_DEPTH: usize = 1024;
+// The greatest depth of a type, as the count of a walk.
+pub(crate) const GREATEST_DEPTH: usize = hol_spec::GREATEST_DEPTH as usize;
 
 /// A constant: its name, how many variables its generic type has, and that type, in which they have the names of parameters.
 #[derive(Drop)]

@@ -32,6 +32,7 @@ use crate::terms::decode_term;
 use crate::types::decode_type;
 use bridge_base::{Fault, Memory};
 use hol_name::Name;
+use hol_spec::{GREATEST_PARAMETER_COUNT, GREATEST_SIZE};
 use hol_term::{TermId, TermTable, TermView, Variable};
 use holide_sig::Module;
 use lp_term::{LpId, LpNode, LpTable};
@@ -40,12 +41,6 @@ use std::alloc::Global;
 
 // The number of the symbol of proofs.
 const PROOF: usize = 7;
-
-// The greatest size of a sequent.
-const GREATEST_SIZE: u64 = 1_048_576;
-
-// The greatest number of parameters of a sequent.
-const GREATEST_COUNT: usize = 1024;
 
 // A type with more nodes stands for no sequent within the limits.
 const GREATEST_TREE: u128 = 4_196_353;
@@ -150,9 +145,9 @@ fn decode_parts(alloc: Global, source: &Module, parts: &Parts) -> Result<Option<
 fn are_few(type_variables: usize, variables: usize, hypotheses: usize) -> bool
     ensures { IsTrue result ↔ (type_variables + variables + hypotheses ≤ greatest_parameter_count) }
 {
-    type_variables <= GREATEST_COUNT
-        && variables <= GREATEST_COUNT - type_variables
-        && hypotheses <= GREATEST_COUNT - type_variables - variables
+    type_variables <= GREATEST_PARAMETER_COUNT
+        && variables <= GREATEST_PARAMETER_COUNT - type_variables
+        && hypotheses <= GREATEST_PARAMETER_COUNT - type_variables - variables
 }
 
 // The closed sequent for which the parts of a product stand, with the terms of its free variables.

@@ -22,14 +22,10 @@ use crate::judging::{are_among, copied, is_closed};
 use crate::tables::{Arities, Generics, NameSet};
 use bridge_base::{Fault, Kind, Memory};
 use hol_name::Name;
+use hol_spec::{GREATEST_DEPTH, GREATEST_SIZE};
 use hol_term::{TermId, TermTable, TermView};
 use hol_type::{TypeId, TypeTable};
 use std::alloc::Global;
-
-// The limits of what a definition makes.
-const GREATEST_SIZE: u64 = 1_048_576;
-
-const GREATEST_DEPTH: u64 = 1_024;
 
 /// The numbers of the types of two constants.
 #[derive(Clone, Copy)]

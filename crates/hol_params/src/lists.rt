@@ -6,11 +6,9 @@ ghost use Rattle.hol_params.specs.Lists.{list_in, HasUnion, IsThere, KeepsLists}
 
 use crate::numbers::Numbers;
 use bridge_base::Memory;
+use hol_spec::GREATEST_PARAMETER_COUNT;
 use std::alloc::Global;
 use std::marker::Model;
-
-// How many numbers a list has at most.
-const MOST: usize = 1_024;
 
 /// The number of a list. The empty list has 0.
 #[derive(Clone, Copy, PartialEq, Eq)]
@@ -112,7 +110,7 @@ impl Lists {
             return Ok(Some(second));
         }
         let whole = self.whole(first, second)?;
-        if whole.numbers().len() > MOST {
+        if whole.numbers().len() > GREATEST_PARAMETER_COUNT {
             return Ok(None);
         }
         Ok(Some(self.push(whole)?))

@@ -8,15 +8,9 @@ ghost use Rattle.sequent.specs.Sequents.{sequent_at, IsKnown};
 
 use bridge_base::{Fault, Kind};
 use hol_params::ParamMemo;
+use hol_spec::{GREATEST_DEPTH, GREATEST_PARAMETER_COUNT, GREATEST_SIZE};
 use hol_term::TermTable;
 use sequent::Sequent;
-
-// The limits of what a rule concludes.
-pub(crate) const GREATEST_SIZE: u64 = 1_048_576;
-
-pub(crate) const GREATEST_DEPTH: u64 = 1_024;
-
-pub(crate) const GREATEST_PARAMETER_COUNT: usize = 1_024;
 
 // Refuses what passes a limit: that of size, or else that of depth, or else that of the number of parameters.
 pub(crate) fn judge(

@@ -22,14 +22,13 @@ ghost use Rattle.hol_rules.specs.Kept.{step_count, Grows};
 ghost use Rattle.hol_rules.specs.Laws.{larger_law_size, second_law_depth, AreLaws, AreLawSteps, AreSmall, AreTypeParts, IsLawPushed, IsLawStep, IsWithoutVariables};
 ghost use Rattle.hol_rules.specs.Steps.{made_of_type, type_laws, type_measures};
 
-use crate::judge::{GREATEST_DEPTH, GREATEST_PARAMETER_COUNT, GREATEST_SIZE};
 use crate::laws::{first_law, new_types, second_law};
 use crate::made::{Made, Parameters, Step, StepId};
 use crate::proof::Proof;
 use bridge_base::{Fault, Kind, Memory};
 use hol_defs::Symbols;
 use hol_name::Name;
-use hol_spec::StepKind;
+use hol_spec::{GREATEST_DEPTH, GREATEST_PARAMETER_COUNT, GREATEST_SIZE, StepKind};
 use hol_term::{TermId, TermTable, TermView};
 use hol_type::TypeId;
 use sequent::{Hyps, Sequent};

@@ -1,8 +1,8 @@
 //! What higher-order logic means here, as definitions: its names, types, terms and sequents, its inference
 //! rules, and what derives from what.
 //!
-//! There is no code beyond the type `StepKind`, of which definitions speak, and no law: whoever wants to trust what stands
-//! above reads this crate and meets no proof. The definitions stand in `specs/`, one notion a file, to be read in this order:
+//! There is no code beyond the type `StepKind`, of which definitions speak, and the limits as numbers that code compares with
+//! (`limits.rt`), and no law: whoever wants to trust what stands above reads this crate and meets no proof. The definitions stand in `specs/`, one notion a file, to be read in this order:
 //!
 //! | File | Notion |
 //! |---|---|
@@ -32,6 +32,10 @@
 //! ensures typed { IfOk result (λ id. type_of (tree_at self.new id) ≡ Some bool) }
 //! ```
 #![tactic(auto)]
+
+mod limits;
+
+pub use limits::{GREATEST_DEPTH, GREATEST_PARAMETER_COUNT, GREATEST_SIZE};
 
 /// The inference rule by which a step of a proof was made.
 #[derive(Clone, Copy, Debug, PartialEq, Eq)]

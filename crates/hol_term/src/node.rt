@@ -7,12 +7,8 @@ ghost use Rattle.hol_type.specs.Refusals.{Refuses};
 use crate::TermId;
 use bridge_base::{Fault, Kind};
 use hol_name::Name;
+use hol_spec::{GREATEST_DEPTH, GREATEST_SIZE};
 use hol_type::TypeId;
-
-// The limits of what a call makes.
-const GREATEST_SIZE: u64 = 1_048_576;
-
-const GREATEST_DEPTH: u64 = 1_024;
 
 /// The head of a tree, with the numbers of its parts.
 #[derive(PartialEq, Eq, Hash, Drop)]

@@ -9,11 +9,7 @@ ghost use Rattle.hol_type.specs.Measured.{IsMeasured};
 use crate::TypeId;
 use bridge_base::{Fault, Kind};
 use hol_name::Name;
-
-// The limits of what a call makes.
-const GREATEST_SIZE: u64 = 1_048_576;
-
-const GREATEST_DEPTH: u64 = 1_024;
+use hol_spec::{GREATEST_DEPTH, GREATEST_SIZE};
 
 /// A type's head, with the numbers of its arguments.
 #[derive(PartialEq, Eq, Hash, Drop)]
