@@ -6,7 +6,7 @@ use Rattle.hol_spec.specs.ClosedForm.{ClosedType, ClosedTerm, ClosedSequent}
 use Rattle.lp_spec.specs.Trees.{Tree, SortType, SortKind, Var, Sym, App, Lam, Pi}
 use Rattle.lp_spec.specs.Modules.{Declaration, term_symbol, proof_symbol, products, types, term_of, proof_of}
 use Rattle.module_spec.specs.TypeEnc.{place}
-use Rattle.module_spec.specs.Enc.{StandsForTerm, StandForVariables, StandForHypotheses, domains, IsClosedForm, Enc}
+use Rattle.module_spec.specs.Enc.{StandsForTerm, StandForVariables, StandForHypotheses, domains, IsClosedForm, Enc, OneEncoding}
 use Rattle.decode_spec.specs.Options.{bind, both, provided}
 use Rattle.decode_laws.specs.OptionLaws.{some-injective, bind-is, both-is, provided-is, provided-true, there}
 use Rattle.decode_spec.specs.Opened.{own_name, AreApart}
@@ -219,3 +219,7 @@ module _ (d : List Declaration) where
 
 pub decoded_exactly : DecodedExactly
 decoded_exactly d A = (λ s. (decode-is d A s, decode-Enc d A s), decode-None d A, None-decode d A)
+
+-- a type stands for the one closed sequent that it is decoded to
+pub one_encoding : OneEncoding
+one_encoding d s t A p q = some-injective (sym (decode-Enc d A s p) ∙ decode-Enc d A t q)

@@ -7,7 +7,6 @@ pub mod ComputingBodies
 pub mod ComputingRows
 pub mod DeepScopes
 pub mod DefinitionsHeld
-pub mod EncLaws
 pub mod ExportNames
 pub mod ItemConditions
 pub mod ItemShapes

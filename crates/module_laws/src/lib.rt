@@ -1,5 +1,5 @@
-//! Laws of the translation and of modules, over the definitions of `module_spec`: what translation does to substitution, that what is
-//! translated is shaped and so well typed, and that a type stands for at most one sequent.
+//! Laws of the translation and of modules, over the definitions of `module_spec`: what translation does to substitution, and that what is
+//! translated is shaped and so well typed.
 //!
 //! There is no code: what is shown beyond lemmas is a function that does nothing, whose contract is the law.
 //!
@@ -7,7 +7,7 @@
 //! |---|---|
 //! | `ScopeLaws`, `TermScopeLaws`, `DeepScopes`, `PuttingLaws`, `SimultaneousArguments`, `SubstitutionTranslated` | translation under lifting, putting and substitution |
 //! | `ListedScopes`, `ToldParameters` | scopes that lists tell: those of the parameters of a sequent |
-//! | `MeaningLaws`, `SequentEncoding`, `EncLaws` | what symbols and types stand for |
+//! | `MeaningLaws`, `SequentEncoding` | what symbols and types stand for |
 //! | `ScopeTyping`, `TheoremTyping`, `SequentScope`, `Bodies`, `BodyTyping` | what a scope and a premise must be |
 //! | `ShapeLaws`, `ShapedScopes`, `ShapedTheorems`, `ShapedSequents` | translated terms, theorems and sequents are shaped |
 //! | `ShapedRows`, `AbstractionBody`, `AbstractionRow`, `SubstitutionBody`, `SubstitutionRow`, `ComputingBodies`, `ComputingRows`, `RuleShapes` | every rule's proof is shaped |
@@ -18,7 +18,6 @@
 //! | `TranslationStatements`, `TranslationShown`, `ShapeStatements`, `NameStatements` | the statements of the functions below |
 #![tactic(auto)]
 
-ghost use Rattle.module_spec.specs.Enc.{OneEncoding};
 ghost use Rattle.module_laws.specs.NameStatements.{ExportNamesTold, NumeralsDiffer};
 ghost use Rattle.module_laws.specs.TranslationStatements.{SequentSubstitutionTranslated, SequentsEncoded, TermSubstitutionTranslated, TypeSubstitutionTranslated};
 ghost use Rattle.module_laws.specs.ShapeStatements.{ModulesPriced, ModulesShaped, ModulesTyped, RulesShaped, SequentsShaped, TermsShaped, TheoremsShaped};
@@ -42,11 +41,6 @@ pub fn sequent_substitution_translated()
 /// The law of encodings: the tree of a sequent stands for its closed form.
 pub fn sequents_encoded()
     ensures { SequentsEncoded }
-{}
-
-/// A type of a module stands for at most one closed sequent.
-pub fn one_encoding()
-    ensures { OneEncoding }
 {}
 
 /// Numbers are written differently in names, however large they are.
