@@ -166,9 +166,11 @@ impl Bench {
     }
 
     fn put(&mut self) -> Result<TypeId, Fault> {
-        let name = self.name(b"A")?;
         let (by, id) = self.take_two()?;
-        self.table.subst(&[(name, by)], id)
+        let pairs = [(self.name(b"A")?, by)];
+        let made = self.table.subst(&pairs, id);
+        drop(pairs);
+        made
     }
 
     fn swap(&mut self) -> Result<TypeId, Fault> {
@@ -195,7 +197,11 @@ impl Bench {
     fn matched(&mut self) -> Result<TypeId, Fault> {
         let (general, instance) = self.take_two()?;
         match self.table.match_to(general, instance)? {
-            Some(map) => Ok(self.table.instance(map.pairs(), general)?),
+            Some(map) => {
+                let made = self.table.instance(map.pairs(), general);
+                drop(map);
+                Ok(made?)
+            }
             None => Err(Fault::Refused(Kind::NotAlike)),
         }
     }
@@ -210,13 +216,9 @@ impl Bench {
     pub(crate) fn has_variables(&mut self, steps: &[Step], letters: &[u8]) -> Result<bool, Fault> {
         let id = self.make(steps)?;
         let names = self.table.vars(id)?;
-        Ok(
-            names.len() == letters.len()
-                && names
-                    .iter()
-                    .zip(letters)
-                    .all(|(name, letter)| name.is_single(&[*letter])),
-        )
+        let right = are_letters(&names, letters);
+        drop(names);
+        Ok(right)
     }
 
     /// The argument's and the result's type of the type that the steps make, as its head and as its parts show them.
@@ -234,4 +236,13 @@ impl Bench {
             TypeView::Op(..) | TypeView::Var(_) => Ok(sides),
         }
     }
+}
+
+// Whether the names are these letters.
+fn are_letters(names: &[Name], letters: &[u8]) -> bool {
+    names.len() == letters.len()
+        && names
+            .iter()
+            .zip(letters)
+            .all(|(name, letter)| name.is_single(&[*letter]))
 }

@@ -1,7 +1,21 @@
 //! What passes a limit is refused for that limit, size before depth, and takes no number.
 use crate::bench::{Bench, Step};
+use crate::trials::{Trial, comes_out};
 use bridge_base::{Fault, Kind};
 use std::test::Fail;
+
+/// Whether a last step is refused for this reason, and takes no number.
+pub(crate) fn is_refused(
+    bench: &mut Bench,
+    steps: &[Step],
+    last: Step,
+    kind: Kind,
+) -> Result<bool, Fault> {
+    bench.set_out(steps)?;
+    let count = bench.table.count();
+    let refused = bench.obey(last) == Err(Fault::Refused(kind));
+    Ok(refused && bench.table.count() == count)
+}
 
 #[test]
 fn refusals_name_the_limit(rt: HostRuntime) -> Result<(), Fail> {
@@ -27,15 +41,8 @@ fn refusals_name_the_limit(rt: HostRuntime) -> Result<(), Fail> {
         (&[a, a, Step::Doubled(100_000)], Step::Put, Kind::TooLarge),
     ];
     for (index, (steps, last, kind)) in cases.iter().enumerate() {
-        let mut bench = Bench::new(rt.alloc());
-        bench.set_out(steps)?;
-        let count = bench.table.count();
-        assert_eq!(rt;
-            bench.obey(*last),
-            Err(Fault::Refused(*kind)),
-            "case {index}"
-        );
-        assert_eq!(rt; bench.table.count(), count, "case {index} takes no number");
+        let trial = Trial::Refused(steps, *last, *kind);
+        assert!(rt; comes_out(rt.alloc(), trial)?, "case {index}");
     }
     Ok(())
 }

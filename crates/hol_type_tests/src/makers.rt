@@ -1,22 +1,25 @@
 //! One type has one number, however it is made: by its parts, by substitution or as an instance.
 use crate::bench::{Bench, Step};
+use crate::trials::{Trial, comes_out};
 use bridge_base::{Fault, Kind};
 use std::test::Fail;
 
-#[test]
-fn a_type_has_one_number(rt: HostRuntime) -> Result<(), Fail> {
-    let mut bench = Bench::new(rt.alloc());
+/// Whether a type that is made twice has one number, and the type turned round another.
+pub(crate) fn one_number(bench: &mut Bench) -> Result<bool, Fault> {
     let arrow = bench.make(&[Step::Variable(b'A'), Step::Bool, Step::Function])?;
     let again = bench.make(&[Step::Variable(b'A'), Step::Bool, Step::Function])?;
     let turned = bench.make(&[Step::Bool, Step::Variable(b'A'), Step::Function])?;
-    assert_eq!(rt; again, arrow);
-    assert_ne!(rt; turned, arrow);
-    Ok(())
+    Ok(again == arrow && turned != arrow)
 }
 
 #[test]
-fn substitution_is_all_at_once(rt: HostRuntime) -> Result<(), Fail> {
-    let mut bench = Bench::new(rt.alloc());
+fn a_type_has_one_number(rt: HostRuntime) -> Result<(), Fail> {
+    assert!(rt; comes_out(rt.alloc(), Trial::OneNumber)?);
+    Ok(())
+}
+
+/// Whether variables that are put for each other change places.
+pub(crate) fn all_at_once(bench: &mut Bench) -> Result<bool, Fault> {
     let made = bench.make(&[
         Step::Variable(b'A'),
         Step::Variable(b'B'),
@@ -30,8 +33,31 @@ fn substitution_is_all_at_once(rt: HostRuntime) -> Result<(), Fail> {
         Step::Function,
         Step::List,
     ])?;
-    assert_eq!(rt; made, wanted);
+    Ok(made == wanted)
+}
+
+#[test]
+fn substitution_is_all_at_once(rt: HostRuntime) -> Result<(), Fail> {
+    assert!(rt; comes_out(rt.alloc(), Trial::AllAtOnce)?);
     Ok(())
+}
+
+/// Whether the second type is found as an instance of the first, or refused as one, as is wanted.
+pub(crate) fn matches(
+    bench: &mut Bench,
+    general: &[Step],
+    instance: &[Step],
+    is_instance: bool,
+) -> Result<bool, Fault> {
+    let wanted = bench.make(instance)?;
+    bench.set_out(general)?;
+    bench.set_out(instance)?;
+    let found = bench.make(&[Step::Match]);
+    if is_instance {
+        Ok(found == Ok(wanted))
+    } else {
+        Ok(found == Err(Fault::Refused(Kind::NotAlike)))
+    }
 }
 
 // The steps that match two types, and whether the second is an instance of the first.
@@ -59,16 +85,8 @@ fn instances_alone_match(rt: HostRuntime) -> Result<(), Fail> {
         (huge_endo, huge, false),
     ];
     for (index, (general, instance, is_instance)) in cases.iter().enumerate() {
-        let mut bench = Bench::new(rt.alloc());
-        let wanted = bench.make(instance)?;
-        bench.set_out(general)?;
-        bench.set_out(instance)?;
-        let found = bench.make(&[Step::Match]);
-        if *is_instance {
-            assert_eq!(rt; found, Ok(wanted), "case {index}");
-        } else {
-            assert_eq!(rt; found, Err(Fault::Refused(Kind::NotAlike)), "case {index}");
-        }
+        let trial = Trial::Matches(general, instance, *is_instance);
+        assert!(rt; comes_out(rt.alloc(), trial)?, "case {index}");
     }
     Ok(())
 }

@@ -1,6 +1,17 @@
 //! What the table tells of a type: its measures, its head and its variables.
 use crate::bench::{Bench, Step};
+use crate::trials::{Trial, comes_out};
+use bridge_base::Fault;
 use std::test::Fail;
+
+/// Whether the type that the steps make has this size and this depth.
+pub(crate) fn has_measures(
+    bench: &mut Bench,
+    steps: &[Step],
+    wanted: (u64, u64),
+) -> Result<bool, Fault> {
+    Ok(bench.measures(steps)? == wanted)
+}
 
 #[test]
 fn types_have_a_size_and_a_depth(rt: HostRuntime) -> Result<(), Fail> {
@@ -36,15 +47,14 @@ fn types_have_a_size_and_a_depth(rt: HostRuntime) -> Result<(), Fail> {
         ),
     ];
     for (index, (steps, wanted)) in cases.iter().enumerate() {
-        let mut bench = Bench::new(rt.alloc());
-        assert_eq!(rt; bench.measures(steps), Ok(*wanted), "case {index}");
+        let trial = Trial::Measures(steps, *wanted);
+        assert!(rt; comes_out(rt.alloc(), trial)?, "case {index}");
     }
     Ok(())
 }
 
-#[test]
-fn types_of_functions_show_their_sides(rt: HostRuntime) -> Result<(), Fail> {
-    let mut bench = Bench::new(rt.alloc());
+/// Whether types of functions show their sides, and others none.
+pub(crate) fn show_sides(bench: &mut Bench) -> Result<bool, Fault> {
     let a = bench.make(&[Step::Variable(b'A')])?;
     let truth = bench.make(&[Step::Bool])?;
     let cases: [(&[Step], Option<_>); 4] = [
@@ -60,8 +70,16 @@ fn types_of_functions_show_their_sides(rt: HostRuntime) -> Result<(), Fail> {
         (&[Step::Variable(b'A')], None),
     ];
     for (steps, wanted) in cases {
-        assert_eq!(rt; bench.sides(steps), Ok(wanted));
+        if bench.sides(steps)? != wanted {
+            return Ok(false);
+        }
     }
+    Ok(true)
+}
+
+#[test]
+fn types_of_functions_show_their_sides(rt: HostRuntime) -> Result<(), Fail> {
+    assert!(rt; comes_out(rt.alloc(), Trial::Sides)?);
     Ok(())
 }
 
@@ -91,12 +109,8 @@ fn variables_come_in_order(rt: HostRuntime) -> Result<(), Fail> {
         ),
     ];
     for (steps, letters) in cases {
-        let mut bench = Bench::new(rt.alloc());
-        assert_eq!(rt;
-            bench.has_variables(steps, letters),
-            Ok(true),
-            "{letters:?}"
-        );
+        let trial = Trial::Variables(steps, letters);
+        assert!(rt; comes_out(rt.alloc(), trial)?, "{letters:?}");
     }
     Ok(())
 }
