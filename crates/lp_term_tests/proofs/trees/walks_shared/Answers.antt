@@ -1,7 +1,7 @@
 use Rattle.std.proofs.Common.{arith, ◌<◌, length}
 use Rattle.lp_term.specs.Tables.{tree_at}
 use Rattle.lp_term.specs.TableLaws.{tree_at-Holds}
-use Rattle.lp_term_tests.proofs.trees.walks_a_shared_tree_once.Goals as goal
+use Rattle.lp_term_tests.proofs.trees.walks_shared.Goals as goal
 
 pub lifted_by-requires : goal.lifted_by-requires
 lifted_by-requires g c =

@@ -1,9 +1,0 @@
-use Rattle.std.proofs.Common.{arith, ◌<◌, length}
-use Rattle.lp_term.specs.Tables.{tree_at}
-use Rattle.lp_term.specs.TableLaws.{tree_at-Holds}
-use Rattle.lp_term_tests.proofs.trees.puts_for_one_variable.Goals as goal
-
-pub put-requires-clause-body : goal.put-requires-clause-body
-put-requires-clause-body g c =
-    let known : c.in_ok-abstraction.abstraction.0 < length c.node-9.new.self = omega (arith, c.in_ok-abstraction.ensures.known, c.node-8.ensures.keeps.longer, c.node-9.ensures.keeps.longer) in
-    (tree_at c.node-9.new.self c.in_ok-abstraction.abstraction.0, tree_at-Holds _ _ known)
