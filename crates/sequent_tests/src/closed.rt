@@ -1,6 +1,11 @@
 //! The closed form of a sequent, with numbers for its parameters.
-use crate::sample::make_sample;
-use sequent::{ClosedTerm, ClosedType};
+ghost use Rattle.sequent.specs.Sequents.{IsKnown};
+
+use crate::trials::{Trial, comes_out};
+use bridge_base::Memory;
+use hol_term::TermTable;
+use sequent::{Closed, ClosedTerm, ClosedType, Sequent};
+use std::alloc::Global;
 use std::test::Fail;
 
 fn is_type_parameter(ty: &ClosedType, number: usize) -> bool {
@@ -99,13 +104,26 @@ fn are_equations(terms: &[ClosedTerm], wanted: &[(usize, usize, usize)]) -> bool
             .all(|(term, numbers)| is_equation(term, *numbers))
 }
 
+// Whether the closed form is that of the sample.
+fn is_the_sample(closed: &Closed) -> bool {
+    closed.type_vars == 2
+        && are_type_parameters(&closed.free_vars, &[0, 0, 1, 1, 1])
+        && are_equations(&closed.hyps, &[(0, 0, 1), (1, 2, 3)])
+        && is_equation(&closed.concl, (1, 3, 4))
+}
+
+/// Whether the closed form of the sample has the right numbers.
+pub(crate) fn closes(sequent: &Sequent, table: &TermTable, alloc: Global) -> Result<bool, Memory>
+    requires { IsKnown table.now sequent.now }
+{
+    let closed = sequent.closed(alloc, table)?;
+    let right = is_the_sample(&closed);
+    drop(closed);
+    Ok(right)
+}
+
 #[test]
 fn closes_by_number(rt: HostRuntime) -> Result<(), Fail> {
-    let sample = make_sample(rt.alloc())?;
-    let closed = sample.sequent.closed(rt.alloc(), &sample.table)?;
-    assert_eq!(rt; closed.type_vars, 2);
-    assert!(rt; are_type_parameters(&closed.free_vars, &[0, 0, 1, 1, 1]));
-    assert!(rt; are_equations(&closed.hyps, &[(0, 0, 1), (1, 2, 3)]));
-    assert!(rt; is_equation(&closed.concl, (1, 3, 4)));
+    assert!(rt; comes_out(rt.alloc(), Trial::Closed)?);
     Ok(())
 }

@@ -9,3 +9,5 @@ mod hyps;
 mod params;
 #[cfg(test)]
 mod sample;
+#[cfg(test)]
+mod trials;

@@ -9,10 +9,9 @@ use hol_type::TypeId;
 use sequent::{Hyps, Sequent};
 use std::alloc::Global;
 
-/// A sequent over a table, and the types of its variables.
+/// A sequent, and the types of its variables.
 #[derive(Drop)]
 pub(crate) struct Sample {
-    pub(crate) table: TermTable,
     pub(crate) sequent: Sequent,
     pub(crate) a: TypeId,
     pub(crate) b: TypeId,
@@ -69,21 +68,15 @@ fn equation_of(
 }
 
 /// `z = x` over B and `y = x` over A, and from them `x = z` over A.
-pub(crate) fn make_sample(alloc: Global) -> Result<Sample, Fault>
-    ensures { IfOk result (λ sample. IsKnown sample.table sample.sequent) }
+pub(crate) fn make_sample(table: &mut TermTable, alloc: Global) -> Result<Sample, Fault>
+    ensures { IfOk result (λ sample. IsKnown table.new sample.sequent) }
 {
-    let mut table = TermTable::new(alloc);
-    let a = variable(&mut table, alloc, b'A')?;
-    let b = variable(&mut table, alloc, b'B')?;
-    let first = equation(&mut table, alloc, b'z', b'x', b)?;
-    let second = equation(&mut table, alloc, b'y', b'x', a)?;
-    let concl = equation(&mut table, alloc, b'x', b'z', a)?;
+    let a = variable(table, alloc, b'A')?;
+    let b = variable(table, alloc, b'B')?;
+    let first = equation(table, alloc, b'z', b'x', b)?;
+    let second = equation(table, alloc, b'y', b'x', a)?;
+    let concl = equation(table, alloc, b'x', b'z', a)?;
     let hyps = Hyps::of(alloc, &[first, second])?;
     let sequent = Sequent { hyps, concl };
-    Ok(Sample {
-        table,
-        sequent,
-        a,
-        b,
-    })
+    Ok(Sample { sequent, a, b })
 }
