@@ -1,5 +1,6 @@
 //! A table of terms with two stacks, and the steps that make types and terms on them.
 ghost use Rattle.std.specs.Prelude.{◌≡◌, ◌<◌, length, IfOk, IsTrue};
+ghost use Rattle.hol_type.specs.Tables as type;
 ghost use Rattle.hol_term.specs.Tables.{IsTermAt};
 
 use bridge_base::{Fault, Kind, Stack};
@@ -284,12 +285,24 @@ impl Bench {
 
     fn type_variable(&mut self, letter: u8) -> Result<TypeId, Fault> {
         let name = self.name(&[letter])?;
-        self.table.ty_var(&name)
+        let made = self.table.ty_var(&name);
+        drop(name);
+        made
+    }
+
+    // The type of an operator over these types.
+    fn operator(&mut self, text: &[u8], args: &[TypeId]) -> Result<TypeId, Fault>
+        requires { type.AreKnown self.old.table.types args.now }
+        ensures { IfOk result (λ id. id.0 < length self.new.table.types) }
+    {
+        let name = self.name(text)?;
+        let made = self.table.ty_op(&name, args);
+        drop(name);
+        made
     }
 
     fn base(&mut self, text: &[u8]) -> Result<TypeId, Fault> {
-        let name = self.name(text)?;
-        self.table.ty_op(&name, &[])
+        self.operator(text, &[])
     }
 
     fn function(&mut self) -> Result<TypeId, Fault> {
@@ -302,16 +315,14 @@ impl Bench {
         requires codomain { codomain.0 < length self.old.table.types }
         ensures { IfOk result (λ id. id.0 < length self.new.table.types) }
     {
-        let name = self.name(b"->")?;
-        self.table.ty_op(&name, &[domain, codomain])
+        self.operator(b"->", &[domain, codomain])
     }
 
     fn list_of(&mut self, element: TypeId) -> Result<TypeId, Fault>
         requires { element.0 < length self.old.table.types }
         ensures { IfOk result (λ id. id.0 < length self.new.table.types) }
     {
-        let name = self.name(b"list")?;
-        self.table.ty_op(&name, &[element])
+        self.operator(b"list", &[element])
     }
 
     fn lists(&mut self, times: u32) -> Result<TypeId, Fault> {
@@ -331,21 +342,27 @@ impl Bench {
     }
 
     fn put_type(&mut self) -> Result<TypeId, Fault> {
-        let name = self.name(b"A")?;
         let (by, id) = self.take_two_types()?;
-        self.table.ty_subst(&[(name, by)], id)
+        let pairs = [(self.name(b"A")?, by)];
+        let made = self.table.ty_subst(&pairs, id);
+        drop(pairs);
+        made
     }
 
     fn free(&mut self, letter: u8) -> Result<TermId, Fault> {
-        let name = self.name(&[letter])?;
         let ty = self.take_type()?;
-        self.table.free(&name, ty)
+        let name = self.name(&[letter])?;
+        let made = self.table.free(&name, ty);
+        drop(name);
+        made
     }
 
     fn constant(&mut self, letter: u8) -> Result<TermId, Fault> {
-        let name = self.name(&[letter])?;
         let ty = self.take_type()?;
-        self.table.constant(&name, ty)
+        let name = self.name(&[letter])?;
+        let made = self.table.constant(&name, ty);
+        drop(name);
+        made
     }
 
     fn app(&mut self) -> Result<TermId, Fault> {
@@ -362,10 +379,13 @@ impl Bench {
     }
 
     fn abs(&mut self, letter: u8) -> Result<TermId, Fault> {
-        let name = self.name(&[letter])?;
         let ty = self.take_type()?;
         let id = self.take_term()?;
-        self.table.abs(&Variable { name, ty }, id)
+        let name = self.name(&[letter])?;
+        let variable = Variable { name, ty };
+        let made = self.table.abs(&variable, id);
+        drop(variable);
+        made
     }
 
     fn equation(&mut self) -> Result<TermId, Fault> {
@@ -442,24 +462,73 @@ impl Bench {
     }
 
     fn subst(&mut self) -> Result<TermId, Fault> {
-        let a = self.name(b"A")?;
         let ty = self.take_type()?;
         let id = self.take_term()?;
-        let second = self.take_pair()?;
-        let first = self.take_pair()?;
-        self.table.subst(&[(a, ty)], &[first, second], id)
+        let second = self.take_put()?;
+        let first = self.take_put()?;
+        self.substituted(ty, id, first, second)
     }
 
-    // A variable and the term that is put for it, from the top of the stack.
-    fn take_pair(&mut self) -> Result<(Variable, TermId), Fault>
-        ensures variable { IfOk result (λ pair. pair.0.ty.0 < length self.new.table.types) }
-        ensures term { IfOk result (λ pair. IsTermAt self.new.table pair.1.0) }
+    // A variable's tree and the term that is put for it, from the top of the stack.
+    fn take_put(&mut self) -> Result<(TermId, TermId), Fault>
+        ensures variable { IfOk result (λ ids. ids.0.0 < length self.new.table.terms) }
+        ensures term { IfOk result (λ ids. IsTermAt self.new.table ids.1.0) }
         ensures table { self.new.table ≡ self.old.table }
     {
         let by = self.take_term()?;
         let id = self.take_tree()?;
-        let variable = self.variable(id)?;
-        Ok((variable, by))
+        Ok((id, by))
+    }
+
+    // A term with a type for the variable A, and then with two terms for two variables.
+    fn substituted(
+        &mut self,
+        ty: TypeId,
+        id: TermId,
+        first: (TermId, TermId),
+        second: (TermId, TermId),
+    ) -> Result<TermId, Fault>
+        requires ty { ty.0 < length self.old.table.types }
+        requires id { IsTermAt self.old.table id.0 }
+        requires first { first.0.0 < length self.old.table.terms }
+        requires first_by { IsTermAt self.old.table first.1.0 }
+        requires second { second.0.0 < length self.old.table.terms }
+        requires second_by { IsTermAt self.old.table second.1.0 }
+    {
+        let types = [(self.name(b"A")?, ty)];
+        let made = self.substituted_by(&types, id, first, second);
+        drop(types);
+        made
+    }
+
+    // The same, with a name for the variable A.
+    fn substituted_by(
+        &mut self,
+        types: &[(Name, TypeId)],
+        id: TermId,
+        first: (TermId, TermId),
+        second: (TermId, TermId),
+    ) -> Result<TermId, Fault>
+        requires types { type.ArePairsKnown self.old.table.types types.now }
+        requires id { IsTermAt self.old.table id.0 }
+        requires first { first.0.0 < length self.old.table.terms }
+        requires first_by { IsTermAt self.old.table first.1.0 }
+        requires second { second.0.0 < length self.old.table.terms }
+        requires second_by { IsTermAt self.old.table second.1.0 }
+    {
+        let front = self.variable(first.0)?;
+        match self.variable(second.0) {
+            Ok(back) => {
+                let pairs = [(front, first.1), (back, second.1)];
+                let made = self.table.subst(types, &pairs, id);
+                drop(pairs);
+                made
+            }
+            Err(fault) => {
+                drop(front);
+                Err(fault)
+            }
+        }
     }
 
     // The name and the type of a free variable.
@@ -487,7 +556,10 @@ impl Bench {
         self.set_out(general)?;
         self.set_out(instance)?;
         let (general, instance) = self.take_two_types()?;
-        Ok(self.table.ty_match(general, instance)?.is_some())
+        let found = self.table.ty_match(general, instance)?;
+        let right = found.is_some();
+        drop(found);
+        Ok(right)
     }
 
     /// The type of the term that the steps make.
@@ -522,6 +594,12 @@ impl Bench {
     ) -> Result<bool, Fault> {
         let id = self.make(parts)?;
         let variables = self.table.free_vars(id)?;
+        let right = self.are_variables(&variables, wanted);
+        drop(variables);
+        right
+    }
+
+    fn are_variables(&mut self, variables: &[Variable], wanted: &[&[Step]]) -> Result<bool, Fault> {
         if variables.len() != wanted.len() {
             return Ok(false);
         }
@@ -537,7 +615,9 @@ impl Bench {
         self.obey(steps)?;
         let id = self.take_tree()?;
         let wanted = self.variable(id)?;
-        Ok(wanted == *variable)
+        let right = wanted == *variable;
+        drop(wanted);
+        Ok(right)
     }
 
     /// Whether the type variables of the tree that the steps make are these in this order.
@@ -548,12 +628,17 @@ impl Bench {
     ) -> Result<bool, Fault> {
         let id = self.make(parts)?;
         let names = self.table.type_vars(id)?;
-        Ok(
-            names.len() == letters.len()
-                && names
-                    .iter()
-                    .zip(letters)
-                    .all(|(name, letter)| name.is_single(&[*letter])),
-        )
+        let right = are_letters(&names, letters);
+        drop(names);
+        Ok(right)
     }
+}
+
+// Whether the names are these letters.
+fn are_letters(names: &[Name], letters: &[u8]) -> bool {
+    names.len() == letters.len()
+        && names
+            .iter()
+            .zip(letters)
+            .all(|(name, letter)| name.is_single(&[*letter]))
 }

@@ -1,6 +1,7 @@
 //! What is refused, is refused for the reason that is named, and takes no number.
 use crate::bench::{Bench, Step};
 use crate::samples::*;
+use crate::trials::{Trial, comes_out};
 use bridge_base::{Fault, Kind};
 use std::alloc::Global;
 use std::process::Abort;
@@ -9,18 +10,24 @@ use std::test::Fail;
 /// What is made first, the step that is refused, and why.
 type Refusal<'a> = (&'a [&'a [Step]], &'a [Step], Kind);
 
+/// Whether the last step is refused so, and leaves as many types and trees.
+pub(crate) fn is_refused(
+    bench: &mut Bench,
+    given: &[&[Step]],
+    last: &[Step],
+    kind: Kind,
+) -> Result<bool, Fault> {
+    bench.set_out(given)?;
+    let counts = bench.counts();
+    let refused = bench.obey(last) == Err(Fault::Refused(kind));
+    Ok(refused && bench.counts() == counts)
+}
+
 // That in each case the last step is refused so, and leaves as many types and trees.
 fn assert_refused(rt: &impl Abort, alloc: Global, cases: &[Refusal]) -> Result<(), Fail> {
     for (index, (given, last, kind)) in cases.iter().enumerate() {
-        let mut bench = Bench::new(alloc);
-        bench.set_out(given)?;
-        let counts = bench.counts();
-        assert_eq!(rt;
-            bench.obey(last),
-            Err(Fault::Refused(*kind)),
-            "case {index}"
-        );
-        assert_eq!(rt; bench.counts(), counts, "case {index} takes no number");
+        let trial = Trial::Refused(given, last, *kind);
+        assert!(rt; comes_out(alloc, trial)?, "case {index}");
     }
     Ok(())
 }

@@ -1,12 +1,34 @@
 //! One type and one term has one number, however it is made.
 use crate::bench::{Bench, Step};
 use crate::samples::*;
+use crate::trials::{Trial, comes_out};
+use bridge_base::Fault;
 use std::alloc::Global;
 use std::process::Abort;
 use std::test::Fail;
 
 /// What a case makes, and the same made otherwise.
 type Same<'a> = (&'a [&'a [Step]], &'a [&'a [Step]]);
+
+/// Whether a type is the same made otherwise.
+pub(crate) fn is_same_type(
+    bench: &mut Bench,
+    made: &[&[Step]],
+    wanted: &[&[Step]],
+) -> Result<bool, Fault> {
+    let wanted = bench.make_type(wanted)?;
+    Ok(bench.make_type(made)? == wanted)
+}
+
+/// Whether a tree is the same made otherwise.
+pub(crate) fn is_same(
+    bench: &mut Bench,
+    made: &[&[Step]],
+    wanted: &[&[Step]],
+) -> Result<bool, Fault> {
+    let wanted = bench.make(wanted)?;
+    Ok(bench.make(made)? == wanted)
+}
 
 #[test]
 fn types_have_one_number(rt: HostRuntime) -> Result<(), Fail> {
@@ -15,10 +37,8 @@ fn types_have_one_number(rt: HostRuntime) -> Result<(), Fail> {
         (&[BOOL, BOOL, PUT_TYPE], &[BOOL]),
     ];
     for (index, (made, wanted)) in cases.iter().enumerate() {
-        let mut bench = Bench::new(rt.alloc());
-        let wanted = bench.make_type(wanted);
-        assert!(rt; wanted.is_ok());
-        assert_eq!(rt; bench.make_type(made), wanted, "case {index}");
+        let trial = Trial::SameType(made, wanted);
+        assert!(rt; comes_out(rt.alloc(), trial)?, "case {index}");
     }
     Ok(())
 }
@@ -26,10 +46,8 @@ fn types_have_one_number(rt: HostRuntime) -> Result<(), Fail> {
 // That in each case the same is made twice.
 fn assert_same(rt: &impl Abort, alloc: Global, cases: &[Same]) {
     for (index, (made, wanted)) in cases.iter().enumerate() {
-        let mut bench = Bench::new(alloc);
-        let wanted = bench.make(wanted);
-        assert!(rt; wanted.is_ok(), "case {index}");
-        assert_eq!(rt; bench.make(made), wanted, "case {index}");
+        let right = comes_out(alloc, Trial::Same(made, wanted));
+        assert_eq!(rt; right, Ok(true), "case {index}");
     }
 }
 

@@ -1,7 +1,19 @@
 //! What the table tells of a type and of a term.
 use crate::bench::{Bench, Step};
 use crate::samples::*;
+use crate::trials::{Trial, comes_out};
+use bridge_base::Fault;
 use std::test::Fail;
+
+/// Whether a type may become another, or may not, as is wanted.
+pub(crate) fn is_instance(
+    bench: &mut Bench,
+    general: &[&[Step]],
+    instance: &[&[Step]],
+    wanted: bool,
+) -> Result<bool, Fault> {
+    Ok(bench.is_instance(general, instance)? == wanted)
+}
 
 #[test]
 fn types_match_their_instances(rt: HostRuntime) -> Result<(), Fail> {
@@ -10,14 +22,16 @@ fn types_match_their_instances(rt: HostRuntime) -> Result<(), Fail> {
         (&[PREDICATE], &[ENDO], false),
     ];
     for (index, (general, instance, wanted)) in cases.iter().enumerate() {
-        let mut bench = Bench::new(rt.alloc());
-        assert_eq!(rt;
-            bench.is_instance(general, instance)?,
-            *wanted,
-            "case {index}"
-        );
+        let trial = Trial::Instance(general, instance, *wanted);
+        assert!(rt; comes_out(rt.alloc(), trial)?, "case {index}");
     }
     Ok(())
+}
+
+/// Whether the term that the steps make has the type that others make.
+pub(crate) fn has_type(bench: &mut Bench, term: &[&[Step]], ty: &[&[Step]]) -> Result<bool, Fault> {
+    let wanted = bench.make_type(ty)?;
+    Ok(bench.type_of(term)? == wanted)
 }
 
 #[test]
@@ -51,11 +65,19 @@ fn terms_have_types(rt: HostRuntime) -> Result<(), Fail> {
         ),
     ];
     for (index, (term, ty)) in cases.iter().enumerate() {
-        let mut bench = Bench::new(rt.alloc());
-        let wanted = bench.make_type(ty)?;
-        assert_eq!(rt; bench.type_of(term)?, wanted, "case {index}");
+        let trial = Trial::Type(term, ty);
+        assert!(rt; comes_out(rt.alloc(), trial)?, "case {index}");
     }
     Ok(())
+}
+
+/// Whether the tree that the steps make has this size and this depth.
+pub(crate) fn has_measures(
+    bench: &mut Bench,
+    term: &[&[Step]],
+    wanted: (u64, u64),
+) -> Result<bool, Fault> {
+    Ok(bench.measures(term)? == wanted)
 }
 
 #[test]
@@ -68,20 +90,30 @@ fn terms_have_a_size_and_a_depth(rt: HostRuntime) -> Result<(), Fail> {
         (&[LARGE_DEEP], (660_282, 1_024)),
     ];
     for (index, (term, wanted)) in cases.iter().enumerate() {
-        let mut bench = Bench::new(rt.alloc());
-        assert_eq!(rt; bench.measures(term)?, *wanted, "case {index}");
+        let trial = Trial::Measures(term, *wanted);
+        assert!(rt; comes_out(rt.alloc(), trial)?, "case {index}");
     }
     Ok(())
 }
 
-#[test]
-fn equations_have_sides(rt: HostRuntime) -> Result<(), Fail> {
-    let mut bench = Bench::new(rt.alloc());
+/// Whether an equation has its sides, and a variable none.
+pub(crate) fn has_sides(bench: &mut Bench) -> Result<bool, Fault> {
     let p = bench.make(&[P])?;
     let q = bench.make(&[Q])?;
-    assert_eq!(rt; bench.sides(&[P, Q, EQUALS])?, Some((p, q)));
-    assert_eq!(rt; bench.sides(&[P])?, None);
+    let sides = bench.sides(&[P, Q, EQUALS])?;
+    let none = bench.sides(&[P])?;
+    Ok(sides == Some((p, q)) && none.is_none())
+}
+
+#[test]
+fn equations_have_sides(rt: HostRuntime) -> Result<(), Fail> {
+    assert!(rt; comes_out(rt.alloc(), Trial::Sides)?);
     Ok(())
+}
+
+/// Whether the steps make an abstraction applied to an argument, or do not, as is wanted.
+pub(crate) fn is_redex(bench: &mut Bench, term: &[&[Step]], wanted: bool) -> Result<bool, Fault> {
+    Ok(bench.is_redex(term)? == wanted)
 }
 
 #[test]
@@ -91,8 +123,8 @@ fn redexes_are_told(rt: HostRuntime) -> Result<(), Fail> {
         (&[UNARY_X, Y, APP], false),
     ];
     for (index, (term, wanted)) in cases.iter().enumerate() {
-        let mut bench = Bench::new(rt.alloc());
-        assert_eq!(rt; bench.is_redex(term)?, *wanted, "case {index}");
+        let trial = Trial::Redex(term, *wanted);
+        assert!(rt; comes_out(rt.alloc(), trial)?, "case {index}");
     }
     Ok(())
 }
@@ -107,8 +139,8 @@ fn free_variables_come_in_order(rt: HostRuntime) -> Result<(), Fail> {
         (&[K], &[]),
     ];
     for (index, (term, wanted)) in cases.iter().enumerate() {
-        let mut bench = Bench::new(rt.alloc());
-        assert!(rt; bench.has_variables(term, wanted)?, "case {index}");
+        let trial = Trial::Variables(term, wanted);
+        assert!(rt; comes_out(rt.alloc(), trial)?, "case {index}");
     }
     Ok(())
 }
@@ -122,8 +154,8 @@ fn type_variables_come_in_order(rt: HostRuntime) -> Result<(), Fail> {
         (&[K], b""),
     ];
     for (index, (term, wanted)) in cases.iter().enumerate() {
-        let mut bench = Bench::new(rt.alloc());
-        assert!(rt; bench.has_type_variables(term, wanted)?, "case {index}");
+        let trial = Trial::TypeVariables(term, wanted);
+        assert!(rt; comes_out(rt.alloc(), trial)?, "case {index}");
     }
     Ok(())
 }
