@@ -1,11 +1,14 @@
 -- What the verdict on a module says under one budget for each declaration.
-use Rattle.std.specs.Prelude.{ℕ, ◌<◌, List, length}
+use Rattle.std.specs.Prelude.{◌≡◌, ℕ, ◌<◌, List, length}
 use Rattle.lp_spec.specs.Modules.{Declaration}
 use Rattle.lp_spec.specs.Typing.{WellTyped}
 use Rattle.lp_shape.specs.Check.{Reply, No, Check}
 use Rattle.lp_kernel.specs.declared.checks.Verdict.{Verdict}
 use Rattle.lp_kernel.specs.declared.checks.Verdict.TheVariants as verdict
 use Rattle.bridge_spec.specs.FileChecks.{PassFirst}
+use Rattle.bridge_spec.specs.Texts.{checked_of, accepted_line}
+use Rattle.bridge_answer.specs.declared.answer.Answer.{Answer}
+use Rattle.bridge_answer.specs.declared.answer.Answer.TheVariants as answer
 
 -- each passes, and the module is well typed
 pub record Passes (m : List Declaration) : Type 0 where
@@ -28,3 +31,11 @@ abbrev pub IsJudged : List Declaration → ℕ → Verdict → Type 0
 IsJudged m budget verdict.Accepted = Passes m
 IsJudged m budget (verdict.IllTyped i) = Fails m i
 IsJudged m budget (verdict.OverBudget i) = RunsOver m budget i
+
+-- what is answered for a module: want of memory aside, its verdict, and with a yes the line that counts its declarations
+abbrev pub IsAnswer : List Declaration → ℕ → Answer → Type 0
+IsAnswer m budget (answer.Told text) = Passes m × (text.items ≡ accepted_line (checked_of m))
+IsAnswer m budget (answer.IllTyped i) = Fails m i
+IsAnswer m budget (answer.OverBudget i) = RunsOver m budget i
+IsAnswer m budget answer.Memory = Unit {0}
+IsAnswer m budget _ = ⊥

@@ -6,7 +6,7 @@ ghost use Rattle.bridge_spec.specs.Calls.{shelved};
 ghost use Rattle.bridge_spec.specs.Answers.{AnswersCheck};
 ghost use Rattle.bridge_spec.specs.Texts.{checked_of, accepted_line};
 ghost use Rattle.bridge_answer.specs.AnswerTexts.{status_of, text_of, note_of};
-ghost use Rattle.bridge_check.specs.Verdicts.{IsJudged};
+ghost use Rattle.bridge_check.specs.Verdicts.{IsAnswer, IsJudged};
 
 use bridge_answer::Answer;
 use bridge_base::{Memory, Shelf};
@@ -23,18 +23,31 @@ pub fn checked<H: Shelf>(alloc: Global, file: &str, budget: u64, shelf: &mut H) 
     ensures count { H.faults shelf.old ≤ H.faults shelf.new }
 {
     match read_module(alloc, file, shelf) {
-        Ok(mut module) => match judged(alloc, &mut module, budget) {
-            Ok(Verdict::Accepted) => match counts(alloc, &module) {
-                Ok(text) => Answer::Told(text),
-                Err(Memory) => Answer::Memory,
-            },
-            Ok(Verdict::IllTyped(i)) => Answer::IllTyped(i as u64),
-            Ok(Verdict::OverBudget(i)) => Answer::OverBudget(i as u64),
-            Err(Memory) => Answer::Memory,
-        },
+        Ok(mut module) => {
+            let answer = answered(alloc, &mut module, budget);
+            drop(module);
+            answer
+        }
         Err(Stop::Refused(place, kind)) => Answer::DkRefused(place, kind),
         Err(Stop::ReadFault) => Answer::ReadFault,
         Err(Stop::Memory) => Answer::Memory,
+    }
+}
+
+/// What is to be answered for a module, each declaration of which has the budget.
+fn answered(alloc: Global, module: &mut Module, budget: u64) -> Answer
+    requires held { IsHeld module.old }
+    requires is_module { IsModule (declarations_of module.old) }
+    ensures { IsAnswer (declarations_of module.old) budget result }
+{
+    match judged(alloc, module, budget) {
+        Ok(Verdict::Accepted) => match counts(alloc, module) {
+            Ok(text) => Answer::Told(text),
+            Err(Memory) => Answer::Memory,
+        },
+        Ok(Verdict::IllTyped(i)) => Answer::IllTyped(i as u64),
+        Ok(Verdict::OverBudget(i)) => Answer::OverBudget(i as u64),
+        Err(Memory) => Answer::Memory,
     }
 }
 
