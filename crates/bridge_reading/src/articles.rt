@@ -60,7 +60,10 @@ pub fn read_articles<H: Shelf>(
     };
     match run_articles(alloc, files, shelf, &mut machine) {
         Ok(()) => Ok(machine),
-        Err(stop) => Err(stop),
+        Err(stop) => {
+            drop(machine);
+            Err(stop)
+        }
     }
 }
 

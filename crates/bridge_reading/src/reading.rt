@@ -2,6 +2,7 @@
 ghost use Rattle.std.specs.Prelude.{◌≡◌, ◌≢◌, ◌≤◌, [], Ok, OnOk, IfOk, IfErr};
 ghost use Rattle.bridge_base.specs.Outside.{Rose};
 ghost use Rattle.hol_spec.specs.Mangling.{AreBytes};
+ghost use Rattle.article_read.specs.Reading.{fresh};
 ghost use Rattle.article_spec.specs.Results.{Fails};
 ghost use Rattle.article_spec.specs.Run.{machine as the_machine, obey_all};
 ghost use Rattle.article_spec.specs.Step.{step};
@@ -65,6 +66,26 @@ fn read_commands<H: Shelf>(alloc: Global, shelf: &mut H, machine: &mut Machine) 
 {
     let mut lines = Lines::new(alloc);
     let mut commands = Vec::new(alloc);
+    let read = read_lines(shelf, machine, &mut lines, &mut commands);
+    drop(commands);
+    drop(lines);
+    read
+}
+
+// The same by lines that were fed nothing, with a list for the commands of a piece.
+fn read_lines<H: Shelf>(
+    shelf: &mut H,
+    machine: &mut Machine,
+    lines: &mut Lines,
+    commands: &mut Vec<Command>,
+) -> Result<u64, Halt>
+    requires { lines.old ≡ fresh }
+    ensures read { IfOk result (λ line. OfText (H.left shelf.old) (λ text. ReadsTo text machine.old line machine.new)) }
+    ensures refused { IfErr result (λ halt. HaltsText halt (H.left shelf.old) machine.old) }
+    ensures read_fault { IfErr result (λ halt. halt ≡ Halt.ReadFault → Rose (H.faults shelf.old) (H.faults shelf.new)) }
+    ensures told_kept { H.told shelf.new ≡ H.told shelf.old }
+    ensures count { H.faults shelf.old ≤ H.faults shelf.new }
+{
     let mut buffer = [0u8; 4096];
     loop {
         let count = match shelf.read(&mut buffer) {
@@ -77,15 +98,15 @@ fn read_commands<H: Shelf>(alloc: Global, shelf: &mut H, machine: &mut Machine) 
         let piece = &buffer[..count];
         of_bytes(piece);
         commands.clear();
-        let fed = lines.feed(piece, &mut commands);
-        run_all(machine, &commands)?;
+        let fed = lines.feed(piece, commands);
+        run_all(machine, commands)?;
         if let Err(fault) = fed {
             return Err(halt_of(fault));
         }
     }
     commands.clear();
-    let ended = lines.finish(&mut commands);
-    run_all(machine, &commands)?;
+    let ended = lines.finish(commands);
+    run_all(machine, commands)?;
     match ended {
         Ok(line) => Ok(line),
         Err(fault) => Err(halt_of(fault)),

@@ -1,7 +1,7 @@
 use Rattle.std.proofs.Common.{◌≡◌, ◌≤◌, ◌+◌, ◌-◌, length}
 use Rattle.article_spec.specs.Lines.{max_article}
 use Rattle.bridge_reading.proofs.Readings.{IsRead}
-use Rattle.bridge_reading.proofs.reading.read_commands.Given as goal
+use Rattle.bridge_reading.proofs.reading.read_lines.Given as goal
 
 abbrev pub invariant-loop-count : goal.invariant-loop-count
 invariant-loop-count g l = record {

@@ -5,14 +5,14 @@ use Rattle.article_spec.specs.Run.{machine, obey_all}
 use Rattle.bridge_reading.specs.Halts.{Halts, HaltsText}
 use Rattle.bridge_reading.proofs.Outcomes.{handed_on}
 use Rattle.bridge_reading.proofs.Readings.{IsRead, none_read, piece_read, piece_obeyed, piece_halted, piece_faulty, last_obeyed, last_halted, last_faulty}
-use Rattle.bridge_reading.proofs.reading.read_commands.Goals as goal
+use Rattle.bridge_reading.proofs.reading.read_lines.Goals as goal
 
 pub loop-count-init : goal.loop-count-init
 loop-count-init g c = record {
   count = grind (arith, common_steps);
   told = grind (arith, common_steps);
   within = grind (arith, common_steps);
-  read = subst (IsRead (g.H.Shelf.left c.args.shelf.now) (g.H.Shelf.left c.args.shelf.now) c.args.machine.now c.args.machine.now) (sym c.new-lines.ensures.value) (none_read (g.H.Shelf.left c.args.shelf.now) c.args.machine.now);
+  read = subst (IsRead (g.H.Shelf.left c.args.shelf.now) (g.H.Shelf.left c.args.shelf.now) c.args.machine.now c.args.machine.now) (sym c.requires) (none_read (g.H.Shelf.left c.args.shelf.now) c.args.machine.now);
 }
 
 pub loop-count-preserved : goal.loop-count-preserved
@@ -54,8 +54,8 @@ returns-in-Ok-ended-clause-read g c =
     (subst (λ cleared. EndsWith c.loop-count.lines cleared c.finish-ended.new.out.items (Ok c.in-Ok-ended.line)) c.clear-2.ensures.items c.in-Ok-ended.ensures.ends)
     (subst (λ commands. obey_all machine c.loop-count.machine commands ≡ Ok c.run_all-2.new.machine) c.deref-2.ensures.value c.in_ok-run_all-2.ensures.obeyed)
 
-pub returns-clause-refused : goal.returns-clause-refused
-returns-clause-refused g c =
+pub returns-in-Err-ended-clause-refused : goal.returns-in-Err-ended-clause-refused
+returns-in-Err-ended-clause-refused g c =
     subst (λ why. HaltsText why (g.H.Shelf.left c.args.shelf.now) c.args.machine.now) (sym c.halt_of-in-Err-ended.ensures.halt)
     (last_faulty _ (g.H.Shelf.left c.loop-count.shelf) c.args.machine.now c.loop-count.machine c.run_all-2.new.machine c.loop-count.lines c.finish-ended.new.out.items c.in-Err-ended.fault c.loop-count.invariant.read
     (let z : c.in-Ok.count ≡ 0 = grind (arith, common_steps) in c.in-Ok.ensures.end (ap Ok z) (grind (arith, common_steps)))
