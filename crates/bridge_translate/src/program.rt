@@ -23,7 +23,11 @@ pub fn translate<H: Shelf, O: Sink, N: Sink>(
     ensures { Promise (call (Some (translate (names_in files.now))) (shelved H.told H.faults shelf.old shelf.new) (sunk O.got O.faults out.old out.new) (sunk N.got N.faults note.old note.new)) result }
 {
     match translation_of(alloc, files, shelf) {
-        Ok(translation) => deliver_translation(&translation, b"", out, note),
+        Ok(translation) => {
+            let status = deliver_translation(&translation, b"", out, note);
+            drop(translation);
+            status
+        }
         Err(stop) => deliver(stop.into_answer(), out, note),
     }
 }

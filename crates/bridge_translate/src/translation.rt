@@ -56,7 +56,9 @@ pub fn translation_of<H: Shelf>(
     ensures count { H.faults shelf.old ≤ H.faults shelf.new }
 {
     let machine = read_articles(alloc, files, shelf)?;
-    match translated(alloc, files, &machine) {
+    let made = translated(alloc, files, &machine);
+    drop(machine);
+    match made {
         Ok(translation) => Ok(translation),
         Err(Memory) => Err(Stop::Memory),
     }
@@ -70,19 +72,26 @@ fn translated(alloc: Global, files: &[String], machine: &Machine) -> Result<Tran
     let assumptions = machine.assumptions();
     let exports = machine.exports();
     let made = module(alloc, machine.proof(), assumptions, exports)?;
-    let bounds = bounds_of(alloc, &made)?;
-    let counts = Counts {
-        articles: files.len() as u64,
-        assumptions: assumptions.len() as u64,
-        exports: exports.len() as u64,
-        declarations: made.decls.len() as u64,
-        bounds: total(&made, &bounds),
-    };
-    Ok(Translation {
-        module: made,
-        bounds,
-        counts,
-    })
+    match bounds_of(alloc, &made) {
+        Ok(bounds) => {
+            let counts = Counts {
+                articles: files.len() as u64,
+                assumptions: assumptions.len() as u64,
+                exports: exports.len() as u64,
+                declarations: made.decls.len() as u64,
+                bounds: total(&made, &bounds),
+            };
+            Ok(Translation {
+                module: made,
+                bounds,
+                counts,
+            })
+        }
+        Err(Memory) => {
+            drop(made);
+            Err(Memory)
+        }
+    }
 }
 
 // The bound of each declaration.

@@ -14,8 +14,8 @@ use Rattle.bridge_translate.specs.TranslationLaws.{written-module_text, length-b
 use Rattle.bridge_translate.specs.Translations.{counts_in}
 use Rattle.bridge_translate.proofs.program.translate.Goals as goal
 
-pub deliver_translation-requires-clause-bounds : goal.deliver_translation-requires-clause-bounds
-deliver_translation-requires-clause-bounds g c =
+pub deliver_translation-status-requires-clause-bounds : goal.deliver_translation-status-requires-clause-bounds
+deliver_translation-status-requires-clause-bounds g c =
     let t = c.in-Ok.ensures.translated in
     length-bounds (length (names_in c.args.files.now)) t.0 c.in-Ok.translation t.2
 
@@ -25,16 +25,16 @@ returns-in-Ok g c =
     let names = names_in c.args.files.now in
     let made = c.in-Ok.translation in
     outputs-Promise
-    (call (Some (translate names)) (shelved g.H.Shelf.told g.H.Shelf.faults c.args.shelf.now c.translation_of.new.shelf) (sunk g.O.Sink.got g.O.Sink.faults c.args.out.now c.deliver_translation.new.out) (sunk g.N.Sink.got g.N.Sink.faults c.args.note.now c.deliver_translation.new.note))
-    c.deliver_translation.result
+    (call (Some (translate names)) (shelved g.H.Shelf.told g.H.Shelf.faults c.args.shelf.now c.translation_of.new.shelf) (sunk g.O.Sink.got g.O.Sink.faults c.args.out.now c.deliver_translation-status.new.out) (sunk g.N.Sink.got g.N.Sink.faults c.args.note.now c.deliver_translation-status.new.note))
+    c.deliver_translation-status.result
     (record {
       answer = Done;
       out_text = written (declarations_of made.module) made.bounds.items;
       note_text = five_lines (counts_in made.counts) ++ [];
       answers = (t.0, t.1, written-module_text (length names) t.0 made t.2, append-nil (five_lines (counts_in made.counts)) ∙ ap five_lines t.2.counts);
-      delivered = c.deliver_translation.ensures.delivered;
+      delivered = c.deliver_translation-status.ensures.delivered;
     })
-    c.in-Ok.ensures.told_kept c.in-Ok.ensures.count c.deliver_translation.ensures.out_count c.deliver_translation.ensures.note_count
+    c.in-Ok.ensures.told_kept c.in-Ok.ensures.count c.deliver_translation-status.ensures.out_count c.deliver_translation-status.ensures.note_count
 
 pub returns-in-Err : goal.returns-in-Err
 returns-in-Err g c =

@@ -25,13 +25,13 @@ module-requires-clause-named c =
     λ i. record { made = sym c.proof.ensures i; assumptions = sym c.assumptions-assumptions.ensures.numbers i; exports = sym c.exports-exports.ensures.numbers i } in
     subst HasNames same (run-named c.requires.0 _ (accepted_state c.args.machine.now) c.requires.1)
 
-pub returns : goal.returns
-returns c =
+pub returns-in-Ok : goal.returns-in-Ok
+returns-in-Ok c =
     let run : Accepted = accepted_state c.args.machine.now in
     let same : run_of c.proof.result.now c.assumptions-assumptions.result.now c.exports-exports.result.now ≡ run =
     λ i. record { made = c.proof.ensures i; assumptions = c.assumptions-assumptions.ensures.numbers i; exports = c.exports-exports.ensures.numbers i } in
     let declared : declarations_of c.in_ok-made.made ≡ image run = c.in_ok-made.ensures.module ∙ ap image same in
-    let bounds : c.in_ok-bounds.bounds.items ≡ module_bounds run = c.in_ok-bounds.ensures ∙ ap (λ m. map (bound m) m) declared in
+    let bounds : c.in-Ok.bounds.items ≡ module_bounds run = c.in-Ok.ensures ∙ ap (λ m. map (bound m) m) declared in
     record {
       held = c.in_ok-made.ensures.held;
       declared = declared;
