@@ -28,10 +28,14 @@ pub fn shown<H: Shelf>(alloc: Global, files: &[String], shelf: &mut H) -> Answer
     ensures count { H.faults shelf.old ≤ H.faults shelf.new }
 {
     match read_articles(alloc, files, shelf) {
-        Ok(machine) => match lines_of(alloc, &machine) {
-            Ok(text) => Answer::Told(text),
-            Err(Memory) => Answer::Memory,
-        },
+        Ok(machine) => {
+            let lines = lines_of(alloc, &machine);
+            drop(machine);
+            match lines {
+                Ok(text) => Answer::Told(text),
+                Err(Memory) => Answer::Memory,
+            }
+        }
         Err(stop) => stop.into_answer(),
     }
 }
@@ -79,7 +83,9 @@ fn add_theorem(
     ensures { OnOk result (text.new.items ≡ text.old.items ++ theorem_line what.now number (closed_form (sequent_at proof.now.made step))) }
 {
     let closed = closed_of(alloc, proof, step)?;
-    add_line(alloc, text, what, number, &closed)
+    let added = add_line(alloc, text, what, number, &closed);
+    drop(closed);
+    added
 }
 
 /// Adds the line for a theorem: what it is, its number, and its closed text.
