@@ -23,8 +23,13 @@ pub(crate) fn verified(alloc: Global, n: u64) -> Result<Counts, Answer>
     ensures memory { IfErr result (λ answer. answer ≡ Answer.Memory) }
 {
     let translation = translated(alloc, n)?;
-    check_back(alloc, &translation)?;
-    Ok(translation.counts)
+    let checked = check_back(alloc, &translation);
+    let counts = translation.counts;
+    drop(translation);
+    match checked {
+        Ok(()) => Ok(counts),
+        Err(answer) => Err(answer),
+    }
 }
 
 // The module of the run of the article of `n` blocks.
@@ -35,10 +40,29 @@ fn translated(alloc: Global, n: u64) -> Result<Translation, Answer>
     ensures memory { IfErr result (λ answer. answer ≡ Answer.Memory) }
 {
     match article_words(alloc) {
-        Ok(words) => match article_shelf(alloc, n) {
-            Ok(mut shelf) => translated_from(alloc, n, &words, &mut shelf),
-            Err(Memory) => Err(Answer::Memory),
-        },
+        Ok(words) => {
+            let made = translated_under(alloc, n, &words);
+            drop(words);
+            made
+        }
+        Err(Memory) => Err(Answer::Memory),
+    }
+}
+
+// The same, where these words name the file.
+fn translated_under(alloc: Global, n: u64, words: &[String]) -> Result<Translation, Answer>
+    requires some { 0 < n }
+    requires within { n ≤ greatest_trial }
+    requires name { names_in words.now ≡ article_name ∷ [] }
+    ensures translated { IfOk result (λ translation. (run : Accepted) × IsRunOfTrial n run × IsTranslationOf 1 run translation) }
+    ensures memory { IfErr result (λ answer. answer ≡ Answer.Memory) }
+{
+    match article_shelf(alloc, n) {
+        Ok(mut shelf) => {
+            let made = translated_from(alloc, n, words, &mut shelf);
+            drop(shelf);
+            made
+        }
         Err(Memory) => Err(Answer::Memory),
     }
 }

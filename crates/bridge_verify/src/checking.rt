@@ -28,7 +28,9 @@ pub fn check_back(alloc: Global, translation: &Translation) -> Result<(), Answer
     ensures { IfErr result (λ answer. answer ≡ Answer.Memory) }
 {
     let mut back = read_back(alloc, translation)?;
-    match check_module(alloc, &mut back, &translation.bounds) {
+    let verdict = check_module(alloc, &mut back, &translation.bounds);
+    drop(back);
+    match verdict {
         Ok(Verdict::Accepted) => Ok(()),
         Ok(Verdict::IllTyped(i)) => Err(Answer::IllTyped(i as u64)),
         Ok(Verdict::OverBudget(i)) => Err(Answer::OverBudget(i as u64)),
@@ -49,13 +51,42 @@ fn read_back(alloc: Global, translation: &Translation) -> Result<Module, Answer>
 {
     let mut reader = Reader::new(alloc, Limit::Free);
     let mut text = MemSink::new(Vec::new(alloc), Vec::new(alloc));
-    prelude_into(&mut text)?;
-    hand(&mut text, &mut reader)?;
-    for i in 0..translation.bounds.len() {
-        line_into(translation, i, &mut text)?;
-        hand(&mut text, &mut reader)?;
+    let handed = hand_all(translation, &mut text, &mut reader);
+    drop(text);
+    match handed {
+        Ok(()) => ended(reader),
+        Err(answer) => {
+            drop(reader);
+            Err(answer)
+        }
     }
-    ended(reader)
+}
+
+// Hands the text of a translation to a reader that was fed nothing, the prelude and then declaration by declaration. Only want of memory
+// is answered.
+fn hand_all(
+    translation: &Translation,
+    text: &mut MemSink,
+    reader: &mut Reader,
+) -> Result<(), Answer>
+    requires held { IsHeld translation.now.module }
+    requires bounds { length translation.now.bounds.items ≡ length translation.now.module.decls }
+    requires shallow { AreShallow translation.now.module.table translation.now.module.decls }
+    requires reads { (m : List Declaration) × Reads (written (declarations_of translation.now.module) translation.now.bounds.items) m }
+    requires fed { IsFed reader.old [] }
+    requires free { reader.old.limit ≡ None }
+    requires empty { text.old.contents ≡ [] }
+    ensures fed { OnOk result (IsFed reader.new (written (declarations_of translation.now.module) translation.now.bounds.items)) }
+    ensures free { OnOk result (reader.new.limit ≡ None) }
+    ensures memory { IfErr result (λ answer. answer ≡ Answer.Memory) }
+{
+    prelude_into(text)?;
+    hand(text, reader)?;
+    for i in 0..translation.bounds.len() {
+        line_into(translation, i, text)?;
+        hand(text, reader)?;
+    }
+    Ok(())
 }
 
 // Gathers the prelude.

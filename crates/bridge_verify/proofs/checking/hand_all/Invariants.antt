@@ -2,7 +2,7 @@ use Rattle.std.proofs.Common.{◌≡◌, [], None}
 use Rattle.holide_sig.specs.Modules.{declarations_of}
 use Rattle.dk_read.specs.Readers.{IsFed}
 use Rattle.dk_write.specs.Lines.{text_before}
-use Rattle.bridge_verify.proofs.checking.read_back.Given as goal
+use Rattle.bridge_verify.proofs.checking.hand_all.Given as goal
 
 -- the reader was fed the text up to the declaration, and nothing is gathered
 abbrev pub invariant-loop-i : goal.invariant-loop-i
