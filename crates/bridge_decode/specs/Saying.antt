@@ -1,4 +1,4 @@
--- What the exports of a module say, and what one declaration adds to the lines.
+-- What the exports of a module say, what is answered for it, and what one declaration adds to the lines.
 use Rattle.std.specs.Prelude.{◌≡◌, ℕ, ◌++◌, List, Bool, true, false, Some, slice_get}
 use Rattle.hol_spec.specs.ClosedForm.{ClosedSequent}
 use Rattle.lp_spec.specs.Modules.{Declaration}
@@ -6,6 +6,8 @@ use Rattle.module_spec.specs.Enc.{Enc}
 use Rattle.module_spec.specs.Stands.{is_export_name}
 use Rattle.bridge_spec.specs.FileExports.{exports_of, AreDecoded, SaysNothing, SayBefore}
 use Rattle.bridge_spec.specs.Texts.{export_line, export_lines}
+use Rattle.bridge_answer.specs.declared.answer.Answer.{Answer}
+use Rattle.bridge_answer.specs.declared.answer.Answer.TheVariants as answer
 use Rattle.bridge_decode.specs.declared.exports.Said.{Said}
 use Rattle.bridge_decode.specs.declared.exports.Said.TheVariants.{Lines, Nothing}
 
@@ -23,6 +25,13 @@ pub record StopsAt (m : List Declaration) (i : ℕ) : Type 0 where
 abbrev pub IsSaid : List Declaration → Said → Type 0
 IsSaid m (Lines text) = HasLines m (exports_of m) text.items
 IsSaid m (Nothing i) = StopsAt m i
+
+-- what is answered for a module: want of memory aside, what its exports say
+abbrev pub IsAnswer : List Declaration → Answer → Type 0
+IsAnswer m (answer.Told text) = HasLines m (exports_of m) text.items
+IsAnswer m (answer.NotSequent i) = StopsAt m i
+IsAnswer m answer.Memory = Unit {0}
+IsAnswer m _ = ⊥
 
 -- the text has the line of a declaration more, where it is an export
 pub data AddsLine (m : List Declaration) (d : Declaration) (old new : List ℕ) : Type 0 where

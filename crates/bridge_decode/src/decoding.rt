@@ -1,13 +1,16 @@
 //! What the exports of the module in a file say, as an answer.
 ghost use Rattle.std.specs.Prelude.{◌≡◌, ◌≤◌};
+ghost use Rattle.holide_sig.specs.Modules.{declarations_of, IsHeld};
 ghost use Rattle.bridge_spec.specs.Calls.{shelved};
 ghost use Rattle.bridge_spec.specs.Answers.{AnswersDecode};
 ghost use Rattle.bridge_answer.specs.AnswerTexts.{status_of, text_of, note_of};
+ghost use Rattle.bridge_decode.specs.Saying.{IsAnswer};
 
 use crate::exports::{Said, exports_said};
 use bridge_answer::Answer;
 use bridge_base::{Memory, Shelf};
 use bridge_module::{Stop, read_module};
+use holide_sig::Module;
 use std::alloc::Global;
 
 /// What is to be answered for the module in a file.
@@ -17,13 +20,28 @@ pub fn decoded<H: Shelf>(alloc: Global, file: &str, shelf: &mut H) -> Answer
     ensures count { H.faults shelf.old ≤ H.faults shelf.new }
 {
     match read_module(alloc, file, shelf) {
-        Ok(module) => match exports_said(alloc, &module) {
-            Ok(Said::Lines(text)) => Answer::Told(text),
-            Ok(Said::Nothing(i)) => Answer::NotSequent(i as u64),
-            Err(Memory) => Answer::Memory,
-        },
+        Ok(module) => {
+            let answer = answered(alloc, &module);
+            let_go(module);
+            answer
+        }
         Err(Stop::Refused(place, kind)) => Answer::DkRefused(place, kind),
         Err(Stop::ReadFault) => Answer::ReadFault,
         Err(Stop::Memory) => Answer::Memory,
     }
 }
+
+/// What is to be answered for a module.
+fn answered(alloc: Global, module: &Module) -> Answer
+    requires { IsHeld module.now }
+    ensures { IsAnswer (declarations_of module.now) result }
+{
+    match exports_said(alloc, module) {
+        Ok(Said::Lines(text)) => Answer::Told(text),
+        Ok(Said::Nothing(i)) => Answer::NotSequent(i as u64),
+        Err(Memory) => Answer::Memory,
+    }
+}
+
+/// Lets a module go.
+fn let_go(_module: Module) {}

@@ -14,7 +14,7 @@ use Rattle.dk_read.specs.Texts.{Refuses, Ends}
 use Rattle.bridge_spec.specs.FileChecks.{max_file, ReadsAs}
 use Rattle.bridge_module.specs.declared.reading.Stop.{Stop}
 use Rattle.bridge_module.specs.declared.reading.Stop.TheVariants.{Refused, ReadFault, Memory}
-use Rattle.bridge_module.specs.Stops.{stop_of, bytes_told, IsModuleOf, StopsText, StopsFile}
+use Rattle.bridge_module.specs.Stops.{stop_of, bytes_told, IsModuleOf, IsFedWhole, StopsText, StopsFile}
 
 -- of the whole this is left, and the reader was fed what came before it
 pub record IsReading (whole left : Option (List ℕ)) (r : Reading) : Type 0 where
@@ -85,14 +85,18 @@ whole_read : (whole left : Option (List ℕ)) (text : List ℕ) → Gives whole 
 whole_read None left text gives end = tt
 whole_read (Some whole) left text gives end = sym (given_whole (Some whole) left text gives end)
 
--- at the end of a file: the module of its text
-pub ended_well : (whole left : Option (List ℕ)) (r : Reading) (h : IsReading whole left r) (m : List Declaration) → IfSome left (λ rest. rest ≡ []) → IsRead r.limit h.text m → IsModuleOf whole m
-ended_well whole left r h m end is = record { text = h.text; is = whole_read whole left h.text h.given end; within = h.within; reads = is.reads; only = is.only }
+-- at the end of a file the reader was fed it whole
+pub fed_whole : (whole left : Option (List ℕ)) (r : Reading) → IsReading whole left r → IfSome left (λ rest. rest ≡ []) → IsFedWhole whole r
+fed_whole whole left r h end = record { text = h.text; is = whole_read whole left h.text h.given end; within = h.within; limit = h.limit; fed = h.fed }
+
+-- what comes of it: the module of its text
+pub ended_well : (whole : Option (List ℕ)) (r : Reading) (h : IsFedWhole whole r) (m : List Declaration) → IsRead r.limit h.text m → IsModuleOf whole m
+ended_well whole r h m is = record { text = h.text; is = h.is; within = h.within; reads = is.reads; only = is.only }
 
 -- or its refusal
-pub ended_badly : (whole left : Option (List ℕ)) (r : Reading) (h : IsReading whole left r) (f : DkFault) → IfSome left (λ rest. rest ≡ []) → Ends (answer_within r.limit h.text) (Err f) → StopsText whole (stop_of f)
-ended_badly whole left r h (fault.Refused p k) end is = record { text = h.text; is = whole_read whole left h.text h.given end; refused = subst (λ n. Refuses (answer_within n h.text) p k) h.limit is }
-ended_badly whole left r h fault.Memory end is = tt
+pub ended_badly : (whole : Option (List ℕ)) (r : Reading) (h : IsFedWhole whole r) (f : DkFault) → Ends (answer_within r.limit h.text) (Err f) → StopsText whole (stop_of f)
+ended_badly whole r h (fault.Refused p k) is = record { text = h.text; is = h.is; refused = subst (λ n. Refuses (answer_within n h.text) p k) h.limit is }
+ended_badly whole r h fault.Memory is = tt
 
 -- the module of the bytes that are told of a file is that of the file
 pub file_module : (told : Option Files) (name : List ℕ) (m : List Declaration) → IsModuleOf (bytes_told told name) m → ReadsAs told name m

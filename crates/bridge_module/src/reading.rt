@@ -3,8 +3,9 @@ ghost use Rattle.std.specs.Prelude.{◌≡◌, ◌≢◌, ◌≤◌, [], None, S
 ghost use Rattle.bridge_base.specs.Outside.{Rose};
 ghost use Rattle.lp_spec.specs.ModuleOrder.{IsModule};
 ghost use Rattle.holide_sig.specs.Modules.{declarations_of, IsHeld};
+ghost use Rattle.dk_read.specs.Readers.{IsFed};
 ghost use Rattle.bridge_spec.specs.FileChecks.{max_file, ReadsAs};
-ghost use Rattle.bridge_module.specs.Stops.{bytes_told, IsModuleOf, StopsText, StopsFile, stop_of};
+ghost use Rattle.bridge_module.specs.Stops.{bytes_told, IsModuleOf, IsFedWhole, EndsWhole, StopsText, StopsFile, stop_of};
 
 use bridge_base::{Failed, Shelf};
 use dk_read::{DkFault, DkKind, Limit, Reader};
@@ -50,6 +51,25 @@ fn read_text<H: Shelf>(alloc: Global, shelf: &mut H) -> Result<Module, Stop>
     ensures count { H.faults shelf.old ≤ H.faults shelf.new }
 {
     let mut reader = Reader::new(alloc, Limit::Bytes(MAX_FILE));
+    match feed_text(shelf, &mut reader) {
+        Ok(()) => finished(reader),
+        Err(stop) => {
+            let_go(reader);
+            Err(stop)
+        }
+    }
+}
+
+/// Feeds the file begun to a reader, to its end.
+fn feed_text<H: Shelf>(shelf: &mut H, reader: &mut Reader) -> Result<(), Stop>
+    requires limit { reader.old.limit ≡ Some max_file }
+    requires fed { IsFed reader.old [] }
+    ensures fed { OnOk result (IsFedWhole (H.left shelf.old) reader.new) }
+    ensures refused { IfErr result (StopsText (H.left shelf.old)) }
+    ensures read_fault { IfErr result (λ stop. stop ≡ Stop.ReadFault → Rose (H.faults shelf.old) (H.faults shelf.new)) }
+    ensures told_kept { H.told shelf.new ≡ H.told shelf.old }
+    ensures count { H.faults shelf.old ≤ H.faults shelf.new }
+{
     let mut buffer = [0u8; 4096];
     loop {
         let count = match shelf.read(&mut buffer) {
@@ -57,12 +77,21 @@ fn read_text<H: Shelf>(alloc: Global, shelf: &mut H) -> Result<Module, Stop>
             Err(Failed) => return Err(Stop::ReadFault),
         };
         if count == 0 {
-            break;
+            return Ok(());
         }
         if let Err(fault) = reader.feed(&buffer[..count]) {
             return Err(stop_of(fault));
         }
     }
+}
+
+/// Lets a reader go.
+fn let_go(_reader: Reader) {}
+
+/// What the reader of a whole file comes to.
+fn finished(reader: Reader) -> Result<Module, Stop>
+    ensures { EndsWhole reader result }
+{
     match reader.finish() {
         Ok(module) => Ok(module),
         Err(fault) => Err(stop_of(fault)),

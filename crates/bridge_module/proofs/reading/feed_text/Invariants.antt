@@ -1,6 +1,6 @@
 use Rattle.std.proofs.Common.{◌≡◌, ◌≤◌}
 use Rattle.bridge_module.proofs.Readings.{IsReading, room}
-use Rattle.bridge_module.proofs.reading.read_text.Given as goal
+use Rattle.bridge_module.proofs.reading.feed_text.Given as goal
 
 abbrev pub invariant-loop-count : goal.invariant-loop-count
 invariant-loop-count g l = record {
