@@ -36,7 +36,7 @@ use hol_spec::{GREATEST_PARAMETER_COUNT, GREATEST_SIZE};
 use hol_term::{TermId, TermTable, TermView, Variable};
 use holide_sig::Module;
 use lp_term::{LpId, LpNode, LpTable};
-use sequent::{Closed, Hyps, Sequent};
+use sequent::{Closed, Hyps, Params, Sequent};
 use std::alloc::Global;
 
 // The number of the symbol of proofs.
@@ -119,6 +119,23 @@ fn decode_parts(alloc: Global, source: &Module, parts: &Parts) -> Result<Option<
     requires known { ArePartsKnown source.now.table parts.now }
     ensures found { IfOk result (λ found. (p : AParts) → AreParts source.now.table p parts.now → IsSequentFound (declarations_of source.now) p found) }
 {
+    let mut table = TermTable::new(alloc);
+    let found = decode_in(alloc, source, parts, &mut table);
+    drop(table);
+    found
+}
+
+// The same, with the table in which the terms of the parts are made.
+fn decode_in(
+    alloc: Global,
+    source: &Module,
+    parts: &Parts,
+    table: &mut TermTable,
+) -> Result<Option<Closed>, Memory>
+    requires held { IsHeld source.now }
+    requires known { ArePartsKnown source.now.table parts.now }
+    ensures found { IfOk result (λ found. (p : AParts) → AreParts source.now.table p parts.now → IsSequentFound (declarations_of source.now) p found) }
+{
     if !are_few(
         parts.type_variables,
         parts.variables.len(),
@@ -126,19 +143,20 @@ fn decode_parts(alloc: Global, source: &Module, parts: &Parts) -> Result<Option<
     ) {
         return Ok(None);
     }
-    let mut table = TermTable::new(alloc);
-    let innermost = innermost(alloc, &mut table)?;
+    let innermost = innermost(alloc, table)?;
     let Some(variables) = free_variables(
         alloc,
         source,
         parts.type_variables,
         &parts.variables,
-        &mut table,
+        table,
     )?
     else {
         return Ok(None);
     };
-    decode_terms(alloc, source, parts, &variables, innermost, &mut table)
+    let found = decode_terms(alloc, source, parts, &variables, innermost, table);
+    drop(variables);
+    found
 }
 
 // Whether parameters are no more than a sequent may have.
@@ -332,7 +350,27 @@ fn judge(
     let _distinct = table.view(concl);
     let hyps = Hyps::of(alloc, ids)?;
     let sequent = Sequent { hyps, concl };
-    let open = is_open(alloc, table, count, variables, ids, &sequent)?;
+    let found = judge_sequent(alloc, table, count, variables, ids, &sequent);
+    drop(sequent);
+    found
+}
+
+// The same, for the sequent with these hypotheses, once each.
+fn judge_sequent(
+    alloc: Global,
+    table: &TermTable,
+    count: usize,
+    variables: &[TermId],
+    ids: &[TermId],
+    sequent: &Sequent,
+) -> Result<Option<Closed>, Memory>
+    requires few { count ≤ greatest_number }
+    requires variables { AreKnown table.now variables.now }
+    requires ids { AreKnown table.now ids.now }
+    requires known { IsKnown table.now sequent.now }
+    ensures judged { IfOk result (λ found. (s : ClosedSequent) → IsMade table.now count variables.now ids.now sequent.now.concl s → terms_at table.now sequent.now.hyps ≡ distinct term_eq (terms_at table.now ids.now) → IsJudged s found) }
+{
+    let open = is_open(alloc, table, count, variables, ids, sequent)?;
     if !open {
         return Ok(None);
     }
@@ -388,6 +426,24 @@ fn are_parameters(
     ensures { IfOk result (λ told. Decides told ((type_variables_of (sequent_at table.now sequent.now) ≡ map the_name (numbers 0 count)) × (map free_of (free_variables_of (sequent_at table.now sequent.now)) ≡ terms_at table.now variables.now))) }
 {
     let params = sequent.params(alloc, table)?;
+    let told = are_in_order(alloc, table, count, variables, &params);
+    drop(params);
+    told
+}
+
+// Whether parameters are so many type variables and these free variables, in order.
+fn are_in_order(
+    alloc: Global,
+    table: &TermTable,
+    count: usize,
+    variables: &[TermId],
+    params: &Params,
+) -> Result<bool, Memory>
+    requires few { count ≤ greatest_number }
+    requires variables { AreKnown table.now variables.now }
+    requires known { HaveTypes table.now params.now.free_vars }
+    ensures { IfOk result (λ told. Decides told ((params.now.type_vars ≡ map the_name (numbers 0 count)) × (map free_of (variables_of table.now params.now.free_vars) ≡ terms_at table.now variables.now))) }
+{
     let numbered = are_numbered(alloc, params.type_vars.names(), count)?;
     if !numbered {
         return Ok(false);

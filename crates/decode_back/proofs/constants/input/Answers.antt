@@ -13,3 +13,9 @@ returns-in-Ok-clause-found c = (
   input-found (declarations_of c.args.source.now) c.args.symbol c.in-Some.name (tree_at c.args.source.now.table c.symbol_type.result.0) c.is_input_type.result (sym c.in-Some.is ∙ c.in_ok-name.ensures) c.symbol_type.ensures.is c.is_input_type.ensures c.if-not-is_input_type.false,
   subst (λ n. Holds c.ty_var.new.self.types c.in-Ok.generic.0 (variable n)) c.in_ok-variable.ensures c.in-Ok.ensures.made,
 )
+
+pub returns-in-Ok-clause-keeps : goal.returns-in-Ok-clause-keeps
+returns-in-Ok-clause-keeps c = c.ty_var.ensures.keeps
+
+pub returns-in-Err-clause-keeps : goal.returns-in-Err-clause-keeps
+returns-in-Err-clause-keeps c = c.ty_var.ensures.keeps

@@ -1,19 +1,16 @@
-use Rattle.std.proofs.Common.{◌≡◌, map, sym, ap, subst, ◌∙◌}
+use Rattle.std.proofs.Common.{◌≡◌, List, map, subst}
 use Rattle.std.specs.Bool.{Decides}
+use Rattle.hol_spec.specs.Names.{Name}
+use Rattle.hol_spec.specs.Terms.{Variable}
 use Rattle.hol_term.specs.Tables.{terms_at}
-use Rattle.hol_term.specs.Subterms.{variables_of, HaveTypes}
+use Rattle.module_spec.specs.ConstantMeaning.{numbers}
+use Rattle.decode_back.specs.Walks.{parameter_name}
 use Rattle.decode_back.specs.TermWalks.{free_of}
-use Rattle.decode_back.proofs.JudgeLemmas.{not-told, first-fails, second-told, terms_eq-Decides}
+use Rattle.decode_back.proofs.TypeWalk.{IfOk-weaker}
 use Rattle.decode_back.proofs.sequents.are_parameters.Goals as goal
-
-pub returns-then-not-numbered : goal.returns-then-not-numbered
-returns-then-not-numbered c = first-fails (λ e. not-told c.in_ok-numbered.numbered c.in_ok-numbered.ensures c.if-not-numbered.true (c.names.ensures ∙ c.in_ok-params.ensures.type_vars ∙ e))
 
 pub returns : goal.returns
 returns c =
-    second-told c.are_these.result (sym (c.names.ensures ∙ c.in_ok-params.ensures.type_vars) ∙ c.in_ok-numbered.ensures.0 c.if-not-numbered.false)
-    (subst (λ vs. Decides c.are_these.result (map free_of vs ≡ terms_at c.args.table.now c.args.variables.now)) (ap (variables_of c.args.table.now) c.variables.ensures ∙ c.in_ok-params.ensures.free_vars)
-    (subst (λ b. Decides b (map free_of (variables_of c.args.table.now c.variables.result.now) ≡ terms_at c.args.table.now c.args.variables.now)) (sym c.are_these.ensures) (terms_eq-Decides _ _)))
-
-pub are_these-requires-clause-found : goal.are_these-requires-clause-found
-are_these-requires-clause-found c = subst (HaveTypes c.args.table.now) (sym c.variables.ensures) c.in_ok-params.ensures.known
+    IfOk-weaker _ _ c.are_in_order-told.result c.are_in_order-told.ensures (λ told h.
+    subst (λ (p : List Name × List Variable). Decides told ((p.0 ≡ map parameter_name (numbers 0 c.args.count)) × (map free_of p.1 ≡ terms_at c.args.table.now c.args.variables.now)))
+    (λ i. (c.in_ok-params.ensures.type_vars i, c.in_ok-params.ensures.free_vars i)) h)

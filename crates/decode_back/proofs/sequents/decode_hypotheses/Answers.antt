@@ -54,3 +54,33 @@ decode_term-requires-clause-variables c = AreKnown-Keeps c.loop-number.invariant
 
 pub decode_term-requires-clause-known : goal.decode_term-requires-clause-known
 decode_term-requires-clause-known c = tree-known-at c.args.source.now.table c.args.trees.now c.loop-number.number _ c.requires.known c.loop-number-test.true
+
+pub returns-in_err-found-clause-keeps : goal.returns-in_err-found-clause-keeps
+returns-in_err-found-clause-keeps c = Keeps-trans c.loop-number.invariant.keeps c.decode_term.ensures.keeps
+
+pub returns-in_default-clause-keeps : goal.returns-in_default-clause-keeps
+returns-in_default-clause-keeps c = Keeps-trans c.loop-number.invariant.keeps c.decode_term.ensures.keeps
+
+pub returns-in_err-push-clause-keeps : goal.returns-in_err-push-clause-keeps
+returns-in_err-push-clause-keeps c = Keeps-trans c.loop-number.invariant.keeps c.decode_term.ensures.keeps
+
+pub returns-clause-keeps : goal.returns-clause-keeps
+returns-clause-keeps c = c.loop-number.invariant.keeps
+
+pub returns-clause-known : goal.returns-clause-known
+returns-clause-known c = c.loop-number.invariant.ids
+
+pub returns-in_err-found-clause-budget : goal.returns-in_err-found-clause-budget
+returns-in_err-found-clause-budget c = omega (arith, c.loop-number.invariant.budget, c.decode_term.ensures.budget)
+
+pub returns-in_default-clause-budget : goal.returns-in_default-clause-budget
+returns-in_default-clause-budget c = omega (arith, c.loop-number.invariant.budget, c.decode_term.ensures.budget)
+
+pub returns-in_err-push-clause-budget : goal.returns-in_err-push-clause-budget
+returns-in_err-push-clause-budget c = omega (arith, c.loop-number.invariant.budget, c.decode_term.ensures.budget)
+
+pub decode_term-requires-clause-innermost : goal.decode_term-requires-clause-innermost
+decode_term-requires-clause-innermost c = c.loop-number.invariant.keeps.stays.each _ _ c.requires.innermost
+
+pub decode_term-requires-clause-budget : goal.decode_term-requires-clause-budget
+decode_term-requires-clause-budget c = omega (arith, c.loop-number.invariant.budget, c.requires.budget)

@@ -56,3 +56,30 @@ returns-clause-found c =
 
 pub decode_type-requires-clause-known : goal.decode_type-requires-clause-known
 decode_type-requires-clause-known c = tree-known-at c.args.source.now.table c.args.trees.now c.loop-number.number _ c.requires.known c.loop-number-test.true
+
+pub returns-in_err-ty-clause-keeps : goal.returns-in_err-ty-clause-keeps
+returns-in_err-ty-clause-keeps c = Keeps-trans c.loop-number.invariant.keeps c.decode_type.ensures.keeps
+
+pub returns-in_default-clause-keeps : goal.returns-in_default-clause-keeps
+returns-in_default-clause-keeps c = Keeps-trans c.loop-number.invariant.keeps c.decode_type.ensures.keeps
+
+pub returns-in_err-name-clause-keeps : goal.returns-in_err-name-clause-keeps
+returns-in_err-name-clause-keeps c = Keeps-trans c.loop-number.invariant.keeps c.decode_type.ensures.keeps
+
+pub returns-in_err-push-in-Ok-clause-keeps : goal.returns-in_err-push-in-Ok-clause-keeps
+returns-in_err-push-in-Ok-clause-keeps c = Keeps-trans (Keeps-trans c.loop-number.invariant.keeps c.decode_type.ensures.keeps) c.free.ensures.keeps
+
+pub returns-in-Err-Memory-clause-keeps : goal.returns-in-Err-Memory-clause-keeps
+returns-in-Err-Memory-clause-keeps c = Keeps-trans (Keeps-trans c.loop-number.invariant.keeps c.decode_type.ensures.keeps) c.free.ensures.keeps
+
+pub returns-in-Err-Refused-clause-keeps : goal.returns-in-Err-Refused-clause-keeps
+returns-in-Err-Refused-clause-keeps c = Keeps-trans (Keeps-trans c.loop-number.invariant.keeps c.decode_type.ensures.keeps) c.free.ensures.keeps
+
+pub returns-clause-keeps : goal.returns-clause-keeps
+returns-clause-keeps c = c.loop-number.invariant.keeps
+
+pub returns-clause-known : goal.returns-clause-known
+returns-clause-known c = c.loop-number.invariant.ids
+
+pub returns-clause-many : goal.returns-clause-many
+returns-clause-many c = omega (arith, c.loop-number.invariant.many, c.loop-number-test.false)

@@ -312,3 +312,36 @@ pub apply_rest-returns-clause-decoded : goal.apply_rest-returns-clause-decoded
 apply_rest-returns-clause-decoded t c types F f whole vs e h s =
     applied-end (declarations_of c.args.source.now) (at_place c.args.place) types c.args.level (applied F (trees_at c.args.source.now.table c.args.args.now)) c.loop-arg.made c.loop-arg.table c.loop-arg.budget whole
     (subst (λ ids. IsApplied (declarations_of c.args.source.now) (at_place c.args.place) types (applied F (trees_at c.args.source.now.table c.args.args.now)) c.loop-arg.made (trees_at c.args.source.now.table ids) c.loop-arg.table c.loop-arg.budget whole) c.in_default.ensures.popped (c.loop-arg.invariant.goes types F f whole vs e h s))
+
+pub decode_term-returns-then-level-eq0-clause-keeps : goal.decode_term-returns-then-level-eq0-clause-keeps
+decode_term-returns-then-level-eq0-clause-keeps t c = Keeps-refl c.args.table.now
+
+pub decode_term-returns-in_err-head-clause-keeps : goal.decode_term-returns-in_err-head-clause-keeps
+decode_term-returns-in_err-head-clause-keeps t c = Keeps-refl c.args.table.now
+
+pub decode_term-returns-in_err-found-clause-keeps : goal.decode_term-returns-in_err-found-clause-keeps
+decode_term-returns-in_err-found-clause-keeps t c = c.decode_head.ensures.keeps
+
+pub decode_term-returns-in_default-clause-keeps : goal.decode_term-returns-in_default-clause-keeps
+decode_term-returns-in_default-clause-keeps t c = c.decode_head.ensures.keeps
+
+pub decode_head-returns-in-Sym-clause-keeps : goal.decode_head-returns-in-Sym-clause-keeps
+decode_head-returns-in-Sym-clause-keeps t c = c.constant.ensures.keeps
+
+pub decode_head-returns-in-Var-clause-keeps : goal.decode_head-returns-in-Var-clause-keeps
+decode_head-returns-in-Var-clause-keeps t c = c.variable.ensures.keeps
+
+pub decode_head-returns-in_default-clause-keeps : goal.decode_head-returns-in_default-clause-keeps
+decode_head-returns-in_default-clause-keeps t c = Keeps-refl c.args.table.now
+
+pub decode_head-returns-in_default-2-clause-keeps : goal.decode_head-returns-in_default-2-clause-keeps
+decode_head-returns-in_default-2-clause-keeps t c = c.decode_type.ensures.keeps
+
+pub decode_head-returns-in_err-ty-in-Lam-clause-keeps : goal.decode_head-returns-in_err-ty-in-Lam-clause-keeps
+decode_head-returns-in_err-ty-in-Lam-clause-keeps t c = c.decode_type.ensures.keeps
+
+pub decode_head-returns-in_err-found-in-Lam-clause-keeps : goal.decode_head-returns-in_err-found-in-Lam-clause-keeps
+decode_head-returns-in_err-found-in-Lam-clause-keeps t c = Keeps-trans c.decode_type.ensures.keeps c.decode_term.ensures.keeps
+
+pub apply_rest-returns-clause-keeps : goal.apply_rest-returns-clause-keeps
+apply_rest-returns-clause-keeps t c = c.loop-arg.invariant.keeps

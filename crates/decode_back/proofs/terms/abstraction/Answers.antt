@@ -5,6 +5,7 @@ use Rattle.hol_type.specs.Refusals.{PassesLimit}
 use Rattle.hol_spec.specs.Terms as term
 use Rattle.hol_type.specs.Tables.{tree_at}
 use Rattle.hol_term.specs.Tables.{term_at, type_at}
+use Rattle.hol_term.specs.TableLaws.{Keeps-refl, Keeps-trans}
 use Rattle.hol_term.specs.Refusals.{RefusesTerm}
 use Rattle.decode_back.specs.TermWalks.{outside_name}
 use Rattle.decode_back.proofs.AbstractionLemmas.{lam-made, lam-short, lam-refused, lam-held}
@@ -37,3 +38,30 @@ returns-clause-made c fresh =
     (lam-held c.args.table.now c.free.new.self c.instance.new.self c.abstraction.new.self c.args.ty c.in-Ok.name c.args.body c.in-Ok-free.outside c.in_ok-open.open c.in_ok-made.made c.in-Ok-free.ensures.keeps c.in_ok-open.ensures.keeps
     c.requires.ty c.requires.body c.in-Ok.ensures.name c.in-Ok-free.ensures.made c.in_ok-open.ensures.made c.in_ok-made.ensures.made)
     (omega (arith, c.spend.ensures.paid c.if-not-spend.false, c.spend-2.ensures.paid c.if-not-spend-2.false, cost, c.requires.budget))
+
+pub returns-then-not-spend-clause-keeps : goal.returns-then-not-spend-clause-keeps
+returns-then-not-spend-clause-keeps c = Keeps-refl c.args.table.now
+
+pub returns-then-not-spend-2-clause-keeps : goal.returns-then-not-spend-2-clause-keeps
+returns-then-not-spend-2-clause-keeps c = Keeps-refl c.args.table.now
+
+pub returns-in_default-clause-keeps : goal.returns-in_default-clause-keeps
+returns-in_default-clause-keeps c = Keeps-refl c.args.table.now
+
+pub returns-in-Err-Memory-clause-keeps : goal.returns-in-Err-Memory-clause-keeps
+returns-in-Err-Memory-clause-keeps c = c.free.ensures.keeps
+
+pub returns-in-Err-Refused-clause-keeps : goal.returns-in-Err-Refused-clause-keeps
+returns-in-Err-Refused-clause-keeps c = c.free.ensures.keeps
+
+pub returns-in_err-open-clause-keeps : goal.returns-in_err-open-clause-keeps
+returns-in_err-open-clause-keeps c = Keeps-trans c.free.ensures.keeps c.instance.ensures.keeps
+
+pub returns-in_err-made-clause-keeps : goal.returns-in_err-made-clause-keeps
+returns-in_err-made-clause-keeps c = Keeps-trans (Keeps-trans c.free.ensures.keeps c.instance.ensures.keeps) c.abstraction.ensures.keeps
+
+pub returns-clause-keeps : goal.returns-clause-keeps
+returns-clause-keeps c = Keeps-trans (Keeps-trans c.free.ensures.keeps c.instance.ensures.keeps) c.abstraction.ensures.keeps
+
+pub returns-clause-known : goal.returns-clause-known
+returns-clause-known c = c.in_ok-made.ensures.known

@@ -8,7 +8,7 @@ use Rattle.hol_type.specs.Tables.{pairs_at}
 use Rattle.hol_type.specs.TableLaws.{Holds-tree_at}
 use Rattle.hol_type.specs.Refusals.{RefusesType, PassesLimit}
 use Rattle.hol_term.specs.Tables.{type_at}
-use Rattle.hol_term.specs.TableLaws.{Keeps-trans, Some-term_in}
+use Rattle.hol_term.specs.TableLaws.{Keeps-refl, Keeps-trans, Some-term_in}
 use Rattle.hol_term.specs.Refusals.{RefusesTerm}
 use Rattle.lp_term.specs.Tables.{trees_at}
 use Rattle.holide_sig.specs.Modules.{declaration_in, declarations_of}
@@ -109,3 +109,36 @@ returns-clause-decoded c types =
 
 pub returns-in-Err-Refused-constant-clause-keeps : goal.returns-in-Err-Refused-constant-clause-keeps
 returns-in-Err-Refused-constant-clause-keeps c = Keeps-trans (Keeps-trans (Keeps-trans c.constant_at.ensures.keeps c.type_arguments.ensures.keeps) c.ty_subst.ensures.keeps) c.constant.ensures.keeps
+
+pub returns-then-symbol-len-clause-keeps : goal.returns-then-symbol-len-clause-keeps
+returns-then-symbol-len-clause-keeps c = Keeps-refl c.args.table.now
+
+pub returns-in_err-constant-clause-keeps : goal.returns-in_err-constant-clause-keeps
+returns-in_err-constant-clause-keeps c = c.constant_at.ensures.keeps
+
+pub returns-in_default-clause-keeps : goal.returns-in_default-clause-keeps
+returns-in_default-clause-keeps c = c.constant_at.ensures.keeps
+
+pub returns-in_err-pairs-clause-keeps : goal.returns-in_err-pairs-clause-keeps
+returns-in_err-pairs-clause-keeps c = Keeps-trans c.constant_at.ensures.keeps c.type_arguments.ensures.keeps
+
+pub returns-in_default-2-clause-keeps : goal.returns-in_default-2-clause-keeps
+returns-in_default-2-clause-keeps c = Keeps-trans c.constant_at.ensures.keeps c.type_arguments.ensures.keeps
+
+pub returns-in-Err-Memory-clause-keeps : goal.returns-in-Err-Memory-clause-keeps
+returns-in-Err-Memory-clause-keeps c = Keeps-trans (Keeps-trans c.constant_at.ensures.keeps c.type_arguments.ensures.keeps) c.ty_subst.ensures.keeps
+
+pub returns-in-Err-Refused-clause-keeps : goal.returns-in-Err-Refused-clause-keeps
+returns-in-Err-Refused-clause-keeps c = Keeps-trans (Keeps-trans c.constant_at.ensures.keeps c.type_arguments.ensures.keeps) c.ty_subst.ensures.keeps
+
+pub returns-in-Err-Memory-constant-clause-keeps : goal.returns-in-Err-Memory-constant-clause-keeps
+returns-in-Err-Memory-constant-clause-keeps c = Keeps-trans (Keeps-trans (Keeps-trans c.constant_at.ensures.keeps c.type_arguments.ensures.keeps) c.ty_subst.ensures.keeps) c.constant.ensures.keeps
+
+pub returns-then-not-spend-clause-keeps : goal.returns-then-not-spend-clause-keeps
+returns-then-not-spend-clause-keeps c = Keeps-trans (Keeps-trans (Keeps-trans c.constant_at.ensures.keeps c.type_arguments.ensures.keeps) c.ty_subst.ensures.keeps) c.constant.ensures.keeps
+
+pub returns-clause-keeps : goal.returns-clause-keeps
+returns-clause-keeps c = Keeps-trans (Keeps-trans (Keeps-trans c.constant_at.ensures.keeps c.type_arguments.ensures.keeps) c.ty_subst.ensures.keeps) c.constant.ensures.keeps
+
+pub returns-clause-known : goal.returns-clause-known
+returns-clause-known c = c.in-Ok-constant.ensures.known

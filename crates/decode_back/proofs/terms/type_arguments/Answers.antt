@@ -54,3 +54,30 @@ pub returns-clause-types : goal.returns-clause-types
 returns-clause-types c =
     taken-all (declarations_of c.args.source.now) (at_place c.args.place) c.loop-number.number c.args.count (trees_at c.args.source.now.table c.args.args.now) (trees_at c.args.source.now.table c.loop-number.args) (pairs_at c.loop-number.table.types c.loop-number.pairs.items)
     c.loop-number.invariant.taken (omega (arith, c.loop-number.invariant.within, c.loop-number-test.false))
+
+pub returns-in_default-clause-keeps : goal.returns-in_default-clause-keeps
+returns-in_default-clause-keeps c = c.loop-number.invariant.keeps
+
+pub returns-in_err-ty-clause-keeps : goal.returns-in_err-ty-clause-keeps
+returns-in_err-ty-clause-keeps c = Keeps-trans c.loop-number.invariant.keeps c.decode_type.ensures.keeps
+
+pub returns-in_default-2-clause-keeps : goal.returns-in_default-2-clause-keeps
+returns-in_default-2-clause-keeps c = Keeps-trans c.loop-number.invariant.keeps c.decode_type.ensures.keeps
+
+pub returns-in_err-parameter_name-clause-keeps : goal.returns-in_err-parameter_name-clause-keeps
+returns-in_err-parameter_name-clause-keeps c = Keeps-trans c.loop-number.invariant.keeps c.decode_type.ensures.keeps
+
+pub returns-in_err-push-clause-keeps : goal.returns-in_err-push-clause-keeps
+returns-in_err-push-clause-keeps c = Keeps-trans c.loop-number.invariant.keeps c.decode_type.ensures.keeps
+
+pub returns-clause-keeps : goal.returns-clause-keeps
+returns-clause-keeps c = c.loop-number.invariant.keeps
+
+pub returns-in_default-2-clause-args : goal.returns-in_default-2-clause-args
+returns-in_default-2-clause-args c = (subst (lp.AreKnown c.args.source.now.table) c.in-Some.ensures.popped c.loop-number.invariant.args).1
+
+pub returns-clause-known : goal.returns-clause-known
+returns-clause-known c = c.loop-number.invariant.pairs
+
+pub returns-clause-args : goal.returns-clause-args
+returns-clause-args c = c.loop-number.invariant.args

@@ -70,3 +70,21 @@ returns-in-SortType t c = record {
   known = tt {0};
   keeps = c.loop-function.invariant.keeps;
 }
+
+pub returns-then-level-eq0-clause-keeps : goal.returns-then-level-eq0-clause-keeps
+returns-then-level-eq0-clause-keeps t c = Keeps-refl c.args.table.now
+
+pub returns-in_err-found-in-App-clause-keeps : goal.returns-in_err-found-in-App-clause-keeps
+returns-in_err-found-in-App-clause-keeps t c = Keeps-trans c.loop-function.invariant.keeps c.decode_type.ensures.keeps
+
+pub returns-in_default-clause-keeps : goal.returns-in_default-clause-keeps
+returns-in_default-clause-keeps t c = Keeps-trans c.loop-function.invariant.keeps c.decode_type.ensures.keeps
+
+pub returns-in_err-push-in-App-clause-keeps : goal.returns-in_err-push-in-App-clause-keeps
+returns-in_err-push-in-App-clause-keeps t c = Keeps-trans c.loop-function.invariant.keeps c.decode_type.ensures.keeps
+
+pub returns-in-Sym-clause-keeps : goal.returns-in-Sym-clause-keeps
+returns-in-Sym-clause-keeps t c = Keeps-trans c.loop-function.invariant.keeps c.operator.ensures.keeps
+
+pub returns-in-Var-clause-keeps : goal.returns-in-Var-clause-keeps
+returns-in-Var-clause-keeps t c = Keeps-trans c.loop-function.invariant.keeps c.parameter.ensures.keeps

@@ -14,7 +14,7 @@ use Rattle.decode_back.specs.SequentWalks.{AreVariablesFound}
 use Rattle.decode_back.proofs.TypeWalk.{IfOk-weaker}
 use Rattle.decode_back.proofs.TermLemmas.{length-map}
 use Rattle.decode_back.proofs.PartsLemmas.{told-many, too_many_parts, no_variables}
-use Rattle.decode_back.proofs.sequents.decode_parts.Goals as goal
+use Rattle.decode_back.proofs.sequents.decode_in.Goals as goal
 
 pub returns-then-not-are_few : goal.returns-then-not-are_few
 returns-then-not-are_few c = record {
@@ -32,20 +32,20 @@ returns-in_default c = record {
       (subst (AreVariablesFound (variables_from (declarations_of c.args.source.now) (trees_at c.args.source.now.table c.deref.result.now) c.args.parts.now.type_variables 0) c.free_variables.new.table) c.in_default.is c.in_ok-variables.ensures.found));
 }
 
-pub decode_terms-requires-clause-few : goal.decode_terms-requires-clause-few
-decode_terms-requires-clause-few c =
+pub decode_terms-found-requires-clause-few : goal.decode_terms-found-requires-clause-few
+decode_terms-found-requires-clause-few c =
     let few = c.are_few.ensures.0 c.if-not-are_few.false in
     let many = subst (λ o. IfSome o (λ (ids : Vec TermId Global). length ids.items ≡ length c.deref.result.now)) c.in-Some.is c.in_ok-variables.ensures.many in
     omega (arith, few, many, ap length c.deref.ensures.value, ap length c.deref-2.ensures.value, c.len.ensures, c.len-2.ensures)
 
-pub decode_terms-requires-clause-variables : goal.decode_terms-requires-clause-variables
-decode_terms-requires-clause-variables c =
+pub decode_terms-found-requires-clause-variables : goal.decode_terms-found-requires-clause-variables
+decode_terms-found-requires-clause-variables c =
     subst (AreKnown c.free_variables.new.table) (sym c.deref-2.ensures.value) (subst (λ o. IfSome o (λ (ids : Vec TermId Global). AreKnown c.free_variables.new.table ids.items)) c.in-Some.is c.in_ok-variables.ensures.known)
 
 pub returns : goal.returns
 returns c = record {
   found =
-      IfOk-weaker _ _ c.decode_terms.result c.decode_terms.ensures.found (λ found h p are.
+      IfOk-weaker _ _ c.decode_terms-found.result c.decode_terms-found.ensures.found (λ found h p are.
       let v : AreVariablesFound (variables_from (declarations_of c.args.source.now) (trees_at c.args.source.now.table c.args.parts.now.variables.items) c.args.parts.now.type_variables 0) c.free_variables.new.table (Some c.in-Some.variables) =
       (subst (λ xs. AreVariablesFound (variables_from (declarations_of c.args.source.now) (trees_at c.args.source.now.table xs) c.args.parts.now.type_variables 0) c.free_variables.new.table (Some c.in-Some.variables)) c.deref.ensures.value
       (subst (AreVariablesFound (variables_from (declarations_of c.args.source.now) (trees_at c.args.source.now.table c.deref.result.now) c.args.parts.now.type_variables 0) c.free_variables.new.table) c.in-Some.is c.in_ok-variables.ensures.found)) in
