@@ -1,7 +1,9 @@
 -- Lemmas on the symbols of constants.
-use Rattle.std.proofs.Common.{◌≡◌, ◌&&◌, ℕ, List, Bool, true, false, cond, Option, Some, None, refl, sym, ap, ◌∙◌}
+use Rattle.std.proofs.Common.{◌≡◌, ◌&&◌, ℕ, List, ◌∷◌, [], Bool, true, false, cond, Option, Some, None, refl, sym, ap, ◌∙◌}
 use Rattle.std.specs.Prelude.{not, codes}
 use Rattle.std.specs.Bool.{Decides}
+use Rattle.std.specs.Option.{option_map}
+use Rattle.std.proofs.lemmas.Bool.{ne_eqb}
 use Rattle.std.proofs.lemmas.Bool.Decides.{same_from_decides}
 use Rattle.hol_spec.specs.Names.{Name}
 use Rattle.hol_spec.specs.NameEquality.{name_eq}
@@ -11,9 +13,10 @@ use Rattle.hol_spec.specs.Types.{HolType}
 use Rattle.hol_spec.specs.ClosedForm.{ClosedType}
 use Rattle.lp_spec.specs.Trees.{Tree, Pi, Var, tree_eq}
 use Rattle.lp_spec.specs.Modules.{Declaration, symbol_type, types, term_of}
-use Rattle.decode_spec.specs.Options.{bind, provided}
+use Rattle.decode_spec.specs.Options.{bind, or_else, provided}
 use Rattle.decode_laws.specs.OptionLaws.{bind-is, provided-is, some-injective, provided-true}
-use Rattle.decode_spec.specs.Decode.{name_behind, has_type, is_lacking, Constant, constant_with, input_constant}
+use Rattle.decode_spec.specs.Decode.{name_behind, has_type, is_lacking, Constant, constant_with, constant_at, defined_constant, generic_of, input_constant}
+use Rattle.module_spec.specs.ConstantMeaning as meaning
 use Rattle.decode_laws.specs.SymbolLaws.{and-true}
 
 -- a name that isn't that of equality
@@ -54,3 +57,19 @@ module _ (d : List Declaration) (s : ℕ) where
       ap (λ o. bind o (λ n. provided (is_lacking (primitive_type n) && has_type (symbol_type d s) input_type) (Some (made n)))) p.1
       ∙ provided-true (is_lacking (primitive_type p.0) && has_type (symbol_type d s) input_type) (Some (made p.0)) (and-true (is_lacking (primitive_type p.0)) (has_type (symbol_type d s) input_type) q.0 typed)
       ∙ ap (λ n. Some (made n)) (some-injective q.1)
+
+-- which constants symbols stand for
+module _ (d : List Declaration) (s : ℕ) where
+  -- the primitive ones, whose types tell their generic types
+  pub equality-constant : s ≡ 5 → option_map (λ (g : ℕ × ClosedType). constant_with (codes "=" ∷ []) g.0 g.1) (generic_of d (symbol_type d s)) ≡ constant_at d s
+  equality-constant e = ap (λ n. option_map (λ (g : ℕ × ClosedType). constant_with (codes "=" ∷ []) g.0 g.1) (generic_of d (symbol_type d n))) e ∙ ap (constant_at d) (sym e)
+
+  pub choice-constant : s ≡ 6 → option_map (λ (g : ℕ × ClosedType). constant_with (codes "select" ∷ []) g.0 g.1) (generic_of d (symbol_type d s)) ≡ constant_at d s
+  choice-constant e = ap (λ n. option_map (λ (g : ℕ × ClosedType). constant_with (codes "select" ∷ []) g.0 g.1) (generic_of d (symbol_type d n))) e ∙ ap (constant_at d) (sym e)
+
+  -- any other
+  pub other-constant : (s ≡ 5 → ⊥) → (s ≡ 6 → ⊥) → (o : Option Constant) → input_constant d s ≡ o → constant_at d s ≡ or_else o (defined_constant d s)
+  other-constant f g o e =
+      ap (λ (c : Option Constant). or_else c (or_else (input_constant d s) (defined_constant d s)))
+      (λ i. or_else (provided (ne_eqb s 5 f i) (Some (constant_with equality_name 1 meaning.equality_type))) (provided (ne_eqb s 6 g i) (Some (constant_with select_name 1 meaning.choice_type))))
+      ∙ ap (λ (c : Option Constant). or_else c (defined_constant d s)) e
