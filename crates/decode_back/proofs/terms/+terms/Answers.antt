@@ -393,3 +393,15 @@ apply_rest-returns-clause-budget t c = c.loop-arg.invariant.budget
 
 pub decode_head-returns-in-Some-found-clause-args : goal.decode_head-returns-in-Some-found-clause-args
 decode_head-returns-in-Some-found-clause-args t c = OnOk-always _ c.abstraction.result c.requires.args
+
+pub decode_head-returns-in-Var-clause-args : goal.decode_head-returns-in-Var-clause-args
+decode_head-returns-in-Var-clause-args t c = OnOk-always _ c.variable.result c.requires.args
+
+pub decode_head-overflow_sub-level : goal.decode_head-overflow_sub-level
+decode_head-overflow_sub-level t c = omega (arith, c.requires.positive)
+
+pub decode_head-overflow_add-inside : goal.decode_head-overflow_add-inside
+decode_head-overflow_add-inside t c = omega (arith, c.requires.level, c.requires.positive)
+
+pub apply_rest-overflow_sub-level : goal.apply_rest-overflow_sub-level
+apply_rest-overflow_sub-level t c = omega (arith, c.requires.positive)

@@ -41,3 +41,6 @@ returns-in_default-clause-keeps c = c.constant_at.ensures.keeps
 
 pub returns-clause-keeps : goal.returns-clause-keeps
 returns-clause-keeps c = Keeps-trans c.constant_at.ensures.keeps c.at_arguments-found.ensures.keeps
+
+pub constant_at-requires-clause-declared : goal.constant_at-requires-clause-declared
+constant_at-requires-clause-declared c = omega (arith, c.if-symbol-len.false, c.len.ensures, length-map (declaration_in c.args.source.now.table) c.args.source.now.decls)

@@ -1,10 +1,11 @@
-use Rattle.std.proofs.Common.{sym, subst, ◌∙◌}
+use Rattle.std.proofs.Common.{sym, subst, ◌∙◌, arith}
 use Rattle.hol_type.specs.Tables.{AreKnown, types_at}
 use Rattle.hol_type.specs.Refusals.{RefusesType}
 use Rattle.hol_term.specs.TableLaws.{Keeps-refl}
 use Rattle.hol_spec.specs.Types.{operator, types_of}
-use Rattle.holide_sig.specs.Modules.{declarations_of}
+use Rattle.holide_sig.specs.Modules.{declaration_in, declarations_of}
 use Rattle.decode_back.proofs.TypeWalk.{long, AreKnown-reverse, arguments-count, symbol-none, symbol-some, symbol-refused, not-within}
+use Rattle.std.proofs.lemmas.List.{length-map}
 use Rattle.decode_back.proofs.types.operator.Goals as goal
 
 pub returns-in_default-clause-decoded : goal.returns-in_default-clause-decoded
@@ -47,3 +48,6 @@ returns-clause-keeps c = c.ty_op.ensures.keeps
 
 pub returns-in-Ok-clause-known : goal.returns-in-Ok-clause-known
 returns-in-Ok-clause-known c = c.in-Ok.ensures.known
+
+pub operator_at-requires-clause-declared : goal.operator_at-requires-clause-declared
+operator_at-requires-clause-declared c = omega (arith, c.if-symbol-len.false, c.len.ensures, length-map c.args.source.now.decls (declaration_in c.args.source.now.table))
