@@ -26,7 +26,7 @@ use Rattle.decode_laws.specs.TermLaws.{term_from-constant}
 use Rattle.decode_laws.specs.SizeLaws.{means-in_order}
 use Rattle.decode_laws.specs.TermWalkLaws.{NoTerm, applied-append, dead-applied, dead-symbol, dead-argument, dead-instance, too_few, constant_from-stand}
 use Rattle.decode_back.specs.Walks.{parameter_name, IsConstantFound}
-use Rattle.decode_back.specs.TermWalks.{named_types, AreTaken, IsNoType, LacksTypes, IsHeadFound}
+use Rattle.decode_back.specs.TermWalks.{named_types, AreTaken, IsConstantMade, IsNoType, LacksTypes, IsHeadFound}
 use Rattle.decode_back.specs.TermWalks as walks
 use Rattle.decode_back.proofs.SubstitutionLemmas.{instance-open}
 use Rattle.decode_back.proofs.UndeclaredLemmas.{constant_at-undeclared}
@@ -39,6 +39,25 @@ passes : (k : Kind) (size depth : ℕ) → PassesLimit k size depth → size ≤
 passes kind.TooLarge size depth p a b = omega (arith, p, a)
 passes kind.TooDeep size depth p a b = omega (arith, p.1, b)
 passes _ size depth p a b = p
+
+module _ (name : Name) (t : HolType) (there left : ℕ) (trees : Trees) where
+  -- a type that is refused, as a type or as that of a constant
+  pub type_refused : (k : Kind) → PassesLimit k (type_size t) (type_depth t) → IsConstantMade name t there left trees None
+  type_refused k p level l m a b = passes k _ _ p (omega (arith, a, l)) (omega (arith, b, m))
+
+  pub constant_refused : (k : Kind) (u : HolType) → u ≡ t → PassesLimit k (term_size (term.Term.constant name u)) (term_depth (term.Term.constant name u)) → IsConstantMade name t there left trees None
+  constant_refused k u e p level l m a b =
+      passes k _ _ (subst (λ v. PassesLimit k (term_size (term.Term.constant name v)) (term_depth (term.Term.constant name v))) e p) (omega (arith, a, l)) (omega (arith, b, m))
+
+  -- a constant that takes more than there is
+  pub constant_short : (u : HolType) → u ≡ t → there < min (term_size (term.Term.constant name u)) (2 ^ 64 - 1) → IsConstantMade name t there left trees None
+  constant_short u e short level l m a b = let z : type_size u ≡ type_size t = ap type_size e in omega (arith, a, short, z)
+
+  -- and one that is made
+  pub constant-made : (u : HolType) (id : TermId) → u ≡ t → there ≤ greatest_size → Holds trees id.0 (term.Term.constant name u) → left + min (term_size (term.Term.constant name u)) (2 ^ 64 - 1) ≡ there
+      → IsConstantMade name t there left trees (Some id)
+  constant-made u id e l h paid =
+      let z : type_size u ≡ type_size t = ap type_size e in (subst (λ v. Holds trees id.0 (term.Term.constant name v)) e h, omega (arith, paid, z, l))
 
 module _ (d : List Declaration) (at : Place) (types : List ClosedType) (level there s : ℕ) (xs : List Tree) where
   abbrev pub NoneHere : Type 0
@@ -90,33 +109,20 @@ module _ (d : List Declaration) (at : Place) (types : List ClosedType) (level th
           (dead-instance parameter_name types d at there level s (constant_with name variables generic) taken.taken taken.types found taken.stand count h) c
           (ap (λ A. term_from d A at) (sym whole) ∙ e) a b
 
-      -- an instance that is refused, as a type or as that of a constant
-      pub instance_refused : (k : Kind) → there ≤ greatest_size → level ≤ greatest_depth → PassesLimit k (type_size (substitute pairs (open_type parameter_name generic))) (type_depth (substitute pairs (open_type parameter_name generic))) → NoneHere
-      instance_refused k l m p =
-          large_here (λ a b. passes k _ _ (subst (λ t. PassesLimit k (type_size t) (type_depth t)) instance-is p) (omega (arith, a, l)) (omega (arith, b, m)))
-
-      pub constant_refused : (k : Kind) (t : HolType) → there ≤ greatest_size → level ≤ greatest_depth → t ≡ substitute pairs (open_type parameter_name generic) → PassesLimit k (term_size (term.Term.constant name t)) (term_depth (term.Term.constant name t)) → NoneHere
-      constant_refused k t l m e p =
-          large_here (λ a b. passes k _ _ (subst (λ u. PassesLimit k (term_size (term.Term.constant name u)) (term_depth (term.Term.constant name u))) (e ∙ instance-is) p) (omega (arith, a, l)) (omega (arith, b, m)))
-
-      -- one that takes more than there is
-      pub constant_short : (t : HolType) → t ≡ substitute pairs (open_type parameter_name generic) → there < min (term_size (term.Term.constant name t)) (2 ^ 64 - 1) → NoneHere
-      constant_short t e l =
-          let z : type_size t ≡ type_size (open_type parameter_name instance) = ap type_size (e ∙ instance-is) in
-          large_here (λ a b. omega (arith, a, l, z))
-
-      -- and one that is made
-      pub constant-found : (left : ℕ) (t : HolType) (trees : Trees) (id : TermId) → there ≤ greatest_size → t ≡ substitute pairs (open_type parameter_name generic) → Holds trees id.0 (term.Term.constant name t)
-          → left + min (term_size (term.Term.constant name t)) (2 ^ 64 - 1) ≡ there → IsHeadFound level types there left d at (Sym s) xs rest trees (Some id)
-      constant-found left t trees id l e h paid =
-          let z : type_size t ≡ type_size (open_type parameter_name instance) = ap type_size (e ∙ instance-is) in
-          let spent : left + (1 + type_size (open_type parameter_name instance)) ≡ there = omega (arith, paid, z, l) in (
+      -- and the constant of its instance, made or refused
+      pub constant-head : (left : ℕ) (t : HolType) (trees : Trees) (o : Option TermId) → there ≤ greatest_size → level ≤ greatest_depth → t ≡ substitute pairs (open_type parameter_name generic)
+          → IsConstantMade name t there left trees o → IsHeadFound level types there left d at (Sym s) xs rest trees o
+      constant-head left t trees None l m e h =
+          let z : t ≡ open_type parameter_name instance = e ∙ instance-is in
+          large_here (λ a b. h level l m (subst (λ u. 1 + type_size u ≤ there) (sym z) a) (subst (λ u. 1 + type_depth u ≤ level) (sym z) b))
+      constant-head left t trees (Some id) l m e h =
+          let z : t ≡ open_type parameter_name instance = e ∙ instance-is in (
             taken.taken,
             taken.is,
             (
               ClosedTerm.constant name instance,
               term_from-constant d (applied (Sym s) taken.taken) at _ (constant_from-stand parameter_name types d at s taken.taken taken.types (constant_with name variables generic) found taken.stand count),
-              subst (λ u. Holds trees id.0 (term.Term.constant name u)) (e ∙ instance-is) h,
-              spent,
+              subst (λ u. Holds trees id.0 (term.Term.constant name u)) z h.0,
+              subst (λ u. left + (1 + type_size u) ≡ there) z h.1,
             ),
           )

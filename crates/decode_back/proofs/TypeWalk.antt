@@ -1,6 +1,6 @@
 -- The walk over a spine of a type: what is still to be decoded, applied to the arguments so far, is the whole.
 use Rattle.std.proofs.Common.{◌≡◌, ◌⊎◌, inl, inr, ℕ, ◌<◌, ◌≤◌, List, [], ◌∷◌, ◌++◌, length, reverse, suc, ◌+◌, ◌-◌, ◌&&◌, true, false, Option, Some, None, Ok, Err, Result, refl, sym, ap, subst, ◌∙◌, arith}
-use Rattle.std.specs.Prelude.{IfOk, slice_get, nat_eq, nat_lt, ◌==◌}
+use Rattle.std.specs.Prelude.{IfOk, OnOk, slice_get, nat_eq, nat_lt, ◌==◌}
 use Rattle.std.specs.Vec.{vec_len}
 use Rattle.std.specs.declared.vec.Vec.{Vec}
 use Rattle.std.proofs.lemmas.Grind.{common_steps}
@@ -37,6 +37,10 @@ use Rattle.decode_back.specs.Walks.{parameter_name, AreArguments, IsTypeFound}
 pub IfOk-weaker : {A E : Type 0} (P Q : A → Type 0) (r : Result A E) → IfOk r P → ((x : A) → P x → Q x) → IfOk r Q
 IfOk-weaker P Q (Ok x) h f = f x h
 IfOk-weaker P Q (Err e) h f = tt
+
+pub OnOk-always : {A E : Type 0} (P : Type 0) (r : Result A E) → P → OnOk r P
+OnOk-always P (Ok x) h = h
+OnOk-always P (Err e) h = tt
 
 pub IfOk-both : {A E : Type 0} (P Q R : A → Type 0) (r : Result A E) → IfOk r P → IfOk r Q → ((x : A) → P x → Q x → R x) → IfOk r R
 IfOk-both P Q R (Ok x) h k f = f x h k

@@ -8,7 +8,7 @@ use Rattle.hol_spec.specs.Types.{HolType}
 use Rattle.hol_spec.specs.Limits.{greatest_size, greatest_depth, type_size, term_size, term_depth, type_depth}
 use Rattle.hol_spec.specs.Substitution.{TypePairs}
 use Rattle.hol_spec.specs.ClosedForm.{ClosedType, ClosedTypes, ClosedTerm}
-use Rattle.hol_spec.specs.Terms.{Term, Variable, free, lam, free_places}
+use Rattle.hol_spec.specs.Terms.{Term, Variable, constant, free, lam, free_places}
 use Rattle.hol_type.specs.declared.table.TypeId.{TypeId}
 use Rattle.hol_type.specs.Tables.{pairs_at}
 use Rattle.hol_term.specs.declared.TermId.{TermId}
@@ -77,6 +77,12 @@ pub data LacksTypes (level : ℕ) (d : List Declaration) (at : Place) (count : �
 abbrev pub AreTypeArguments : ℕ → List Declaration → Place → ℕ → List Tree → List Tree → Trees → Option (Vec (Name × TypeId) Global) → Type 0
 AreTypeArguments level d at count args rest trees None = LacksTypes level d at count args
 AreTypeArguments level d at count args rest trees (Some pairs) = AreTaken d at count args rest (pairs_at trees.types pairs.items)
+
+-- the constant of a type is in the table, and what is left and its size are what there was; or it passes the limits, or is larger than
+-- what there was
+abbrev pub IsConstantMade : Name → HolType → ℕ → ℕ → Trees → Option TermId → Type 0
+IsConstantMade n t there left trees None = (level : ℕ) → there ≤ greatest_size → level ≤ greatest_depth → 1 + type_size t ≤ there → 1 + type_depth t ≤ level → ⊥
+IsConstantMade n t there left trees (Some id) = Holds trees id.0 (constant n t) × (left + (1 + type_size t) ≡ there)
 
 -- no free variable of a term has the name of one component without bytes
 abbrev pub outside_name : Name

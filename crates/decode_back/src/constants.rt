@@ -56,13 +56,15 @@ pub fn constant_at(
     ensures few { IfOk result (λ found. IfSome found (λ constant. constant.variables ≤ greatest_number)) }
     ensures keeps { Keeps table.old table.new }
 {
-    match symbol {
-        5 => primitive(alloc, source, table, symbol, b"=", limit),
-        6 => primitive(alloc, source, table, symbol, b"select", limit),
-        _ => match input(alloc, source, table, symbol)? {
-            Some(constant) => Ok(Some(constant)),
-            None => defined(alloc, source, table, symbol, limit),
-        },
+    if symbol == 5 {
+        return primitive(alloc, source, table, symbol, b"=", limit);
+    }
+    if symbol == 6 {
+        return primitive(alloc, source, table, symbol, b"select", limit);
+    }
+    match input(alloc, source, table, symbol)? {
+        Some(constant) => Ok(Some(constant)),
+        None => defined(alloc, source, table, symbol, limit),
     }
 }
 

@@ -2,6 +2,7 @@
 ghost use Rattle.std.specs.Prelude.{true, false, ◌≡◌, ◌<◌, ◌≤◌, ◌+◌, ℕ, List, length, IfOk, IfSome, OnOk, MatchOption};
 ghost use Rattle.hol_spec.specs.ClosedForm.{ClosedTerm, ClosedType};
 ghost use Rattle.hol_spec.specs.Limits.{greatest_depth, greatest_size, term_size, type_size};
+ghost use Rattle.hol_spec.specs.Substitution.{substitute};
 ghost use Rattle.hol_spec.specs.Terms as term;
 ghost use Rattle.lp_spec.specs.Modules.{applied, signature, Declaration};
 ghost use Rattle.lp_spec.specs.Trees.{Sym, Tree, Var};
@@ -11,11 +12,11 @@ ghost use Rattle.holide_sig.specs.Modules.{declarations_of, IsHeld};
 ghost use Rattle.hol_term.specs.Tables.{term_at, type_at, AreKnown, Holds, Keeps};
 ghost use Rattle.hol_type.specs.Tables as type;
 ghost use Rattle.decode_spec.specs.Opened.{open_term};
-ghost use Rattle.decode_spec.specs.Decode.{term_from};
-ghost use Rattle.decode_back.specs.Walks.{at_place, greatest_number, parameter_name as the_name};
-ghost use Rattle.decode_back.specs.TermWalks.{AreTypeArguments, AreVariables, IsFresh, IsHead, IsHeadFound, IsLamFound, IsTermFound};
+ghost use Rattle.decode_spec.specs.Decode.{constant_at as constant_meant, term_from};
+ghost use Rattle.decode_back.specs.Walks.{at_place, greatest_number, parameter_name as the_name, IsConstant};
+ghost use Rattle.decode_back.specs.TermWalks.{AreTypeArguments, AreVariables, IsConstantMade, IsFresh, IsHead, IsHeadFound, IsLamFound, IsTermFound, outside_name};
 
-use crate::constants::{TERM, constant_at, symbol_argument};
+use crate::constants::{Constant, TERM, constant_at, symbol_argument};
 use crate::names::parameter_name;
 use crate::places::Place;
 use crate::types::decode_type;
@@ -298,11 +299,60 @@ fn constant(
     let Some(constant) = constant_at(alloc, source, table, symbol, *budget)? else {
         return Ok(None);
     };
+    let found = at_arguments(alloc, source, place, table, budget, level, &constant, args);
+    drop(constant);
+    found
+}
+
+// A constant at the types of its first arguments, which it takes off the spine.
+fn at_arguments(
+    alloc: Global,
+    source: &Module,
+    place: Place,
+    table: &mut TermTable,
+    budget: &mut u64,
+    level: usize,
+    constant: &Constant,
+    args: &mut Stack<LpId>,
+) -> Result<Option<TermId>, Memory>
+    requires held { IsHeld source.now }
+    requires few { place.type_variables ≤ greatest_number }
+    requires budget { budget.old ≤ greatest_size }
+    requires level { level ≤ greatest_depth }
+    requires count { constant.now.variables ≤ greatest_number }
+    requires generic { constant.now.generic.0 < length table.old.types }
+    requires args { lp.AreKnown source.now.table args.old }
+    ensures decoded { IfOk result (λ found. (symbol : ℕ) (types : List ClosedType) → IsConstant (constant_meant (declarations_of source.now) symbol) table.old constant.now → IsHeadFound level types budget.old budget.new (declarations_of source.now) (at_place place) (Sym symbol) (trees_at source.now.table args.old) (trees_at source.now.table args.new) table.new found) }
+    ensures known { IfOk result (λ found. IfSome found (λ t. t.0 < length table.new.terms)) }
+    ensures args { OnOk result (lp.AreKnown source.now.table args.new) }
+    ensures budget { budget.new ≤ budget.old }
+    ensures keeps { Keeps table.old table.new }
+{
     let Some(pairs) = type_arguments(alloc, source, place, table, level, constant.variables, args)?
     else {
         return Ok(None);
     };
-    let instance = match table.ty_subst(&pairs, constant.generic) {
+    let found = instance(table, budget, constant, &pairs);
+    drop(pairs);
+    found
+}
+
+// A constant at these types of its variables.
+fn instance(
+    table: &mut TermTable,
+    budget: &mut u64,
+    constant: &Constant,
+    pairs: &[(Name, TypeId)],
+) -> Result<Option<TermId>, Memory>
+    requires pairs { type.ArePairsKnown table.old.types pairs.now }
+    requires generic { constant.now.generic.0 < length table.old.types }
+    requires budget { budget.old ≤ greatest_size }
+    ensures made { IfOk result (IsConstantMade constant.now.name (substitute (type.pairs_at table.old.types pairs.now) (type_at table.old constant.now.generic.0)) budget.old budget.new table.new) }
+    ensures known { IfOk result (λ found. IfSome found (λ t. t.0 < length table.new.terms)) }
+    ensures budget { budget.new ≤ budget.old }
+    ensures keeps { Keeps table.old table.new }
+{
+    let instance = match table.ty_subst(pairs, constant.generic) {
         Ok(instance) => instance,
         Err(Fault::Memory) => return Err(Memory),
         Err(Fault::Refused(_)) => return Ok(None),
@@ -378,13 +428,26 @@ fn abstraction(
         return Err(Memory);
     };
     let variable = Variable { name, ty };
-    let outside = match table.free(&variable.name, ty) {
+    let found = over(table, &variable, body);
+    drop(variable);
+    found
+}
+
+// The same at no cost, with the variable that stands for the binder's while the body is open.
+fn over(table: &mut TermTable, variable: &Variable, body: TermId) -> Result<Option<TermId>, Memory>
+    requires ty { variable.now.ty.0 < length table.old.types }
+    requires body { body.0 < length table.old.terms }
+    ensures made { IfOk result (λ found. variable.now.name ≡ outside_name → IsFresh (term_at table.old body.0) → (there left : ℕ) → left + (1 + type_size (type_at table.old variable.now.ty.0)) ≡ there → IsLamFound (type_at table.old variable.now.ty.0) (term_at table.old body.0) there left table.new found) }
+    ensures known { IfOk result (λ found. IfSome found (λ t. t.0 < length table.new.terms)) }
+    ensures keeps { Keeps table.old table.new }
+{
+    let outside = match table.free(&variable.name, variable.ty) {
         Ok(outside) => outside,
         Err(Fault::Memory) => return Err(Memory),
         Err(Fault::Refused(_)) => return Ok(None),
     };
     let open = table.instance(body, outside)?;
-    let made = table.abstraction(&variable, open)?;
+    let made = table.abstraction(variable, open)?;
     Ok(Some(made))
 }
 

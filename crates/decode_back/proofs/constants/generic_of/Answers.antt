@@ -2,6 +2,7 @@ use Rattle.std.proofs.Common.{◌≡◌, ℕ, Some, ap, sym, subst, ◌∙◌, a
 use Rattle.hol_spec.specs.Limits.{greatest_depth}
 use Rattle.hol_spec.specs.Types.{type_variables}
 use Rattle.hol_type.specs.Tables as type
+use Rattle.hol_term.specs.TableLaws.{Keeps-refl}
 use Rattle.lp_spec.specs.Trees.{Tree}
 use Rattle.lp_term.specs.Tables.{tree_at}
 use Rattle.holide_sig.specs.Modules.{declarations_of}
@@ -49,3 +50,30 @@ returns-clause-found c =
     (same-told c.in_ok-in_order.in_order c.deref.result.now (type_variables (type.tree_at c.decode_type.new.table.types c.in-Some-2.ty.0)) c.peel_types-count.result.0 (peel_types A).0
     (c.deref.ensures.value ∙ c.in_ok-names.ensures ∙ ap (λ ts. type_variables (type.tree_at ts c.in-Some-2.ty.0)) c.types.ensures.types) (sym many) c.in_ok-in_order.ensures)
     c.if-not-in_order.false c.decode_type.new.table found.2)
+
+pub returns-then-count-gt-GREATEST_NUMBER-clause-keeps : goal.returns-then-count-gt-GREATEST_NUMBER-clause-keeps
+returns-then-count-gt-GREATEST_NUMBER-clause-keeps c = Keeps-refl c.args.table.now
+
+pub returns-in_default-clause-keeps : goal.returns-in_default-clause-keeps
+returns-in_default-clause-keeps c = Keeps-refl c.args.table.now
+
+pub returns-then-size-limit-clause-keeps : goal.returns-then-size-limit-clause-keeps
+returns-then-size-limit-clause-keeps c = Keeps-refl c.args.table.now
+
+pub returns-in_err-ty-clause-keeps : goal.returns-in_err-ty-clause-keeps
+returns-in_err-ty-clause-keeps c = c.decode_type.ensures.keeps
+
+pub returns-in_default-2-clause-keeps : goal.returns-in_default-2-clause-keeps
+returns-in_default-2-clause-keeps c = c.decode_type.ensures.keeps
+
+pub returns-in_err-names-clause-keeps : goal.returns-in_err-names-clause-keeps
+returns-in_err-names-clause-keeps c = c.decode_type.ensures.keeps
+
+pub returns-in_err-in_order-clause-keeps : goal.returns-in_err-in_order-clause-keeps
+returns-in_err-in_order-clause-keeps c = c.decode_type.ensures.keeps
+
+pub returns-then-not-in_order-clause-keeps : goal.returns-then-not-in_order-clause-keeps
+returns-then-not-in_order-clause-keeps c = c.decode_type.ensures.keeps
+
+pub returns-clause-keeps : goal.returns-clause-keeps
+returns-clause-keeps c = c.decode_type.ensures.keeps

@@ -2,6 +2,7 @@ use Rattle.std.proofs.Common.{sym, subst, ◌∙◌}
 use Rattle.hol_spec.specs.Types.{variable}
 use Rattle.hol_spec.specs.ClosedForm.{ClosedType}
 use Rattle.hol_type.specs.Tables.{Holds}
+use Rattle.hol_term.specs.TableLaws.{Keeps-refl}
 use Rattle.lp_term.specs.Tables.{tree_at}
 use Rattle.holide_sig.specs.Modules.{declarations_of}
 use Rattle.decode_back.proofs.ConstantLemmas.{input-found}
@@ -19,3 +20,15 @@ returns-in-Ok-clause-keeps c = c.ty_var.ensures.keeps
 
 pub returns-in-Err-clause-keeps : goal.returns-in-Err-clause-keeps
 returns-in-Err-clause-keeps c = c.ty_var.ensures.keeps
+
+pub returns-in_err-name-clause-keeps : goal.returns-in_err-name-clause-keeps
+returns-in_err-name-clause-keeps c = Keeps-refl c.args.table.now
+
+pub returns-in_default-clause-keeps : goal.returns-in_default-clause-keeps
+returns-in_default-clause-keeps c = Keeps-refl c.args.table.now
+
+pub returns-then-not-is_input_type-clause-keeps : goal.returns-then-not-is_input_type-clause-keeps
+returns-then-not-is_input_type-clause-keeps c = Keeps-refl c.args.table.now
+
+pub returns-in_err-variable-clause-keeps : goal.returns-in_err-variable-clause-keeps
+returns-in_err-variable-clause-keeps c = Keeps-refl c.args.table.now

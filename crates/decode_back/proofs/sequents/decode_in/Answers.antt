@@ -60,3 +60,9 @@ free_variables-requires-clause-many c = let few = c.are_few.ensures.0 c.if-not-a
 
 pub free_variables-requires-clause-known : goal.free_variables-requires-clause-known
 free_variables-requires-clause-known c = subst (lp.AreKnown c.args.source.now.table) (sym c.deref.ensures.value) c.requires.known.variables
+
+pub decode_terms-found-requires-clause-innermost : goal.decode_terms-found-requires-clause-innermost
+decode_terms-found-requires-clause-innermost c = c.free_variables.ensures.keeps.stays.each _ _ c.in_ok-innermost.ensures.held
+
+pub decode_terms-found-requires-clause-known : goal.decode_terms-found-requires-clause-known
+decode_terms-found-requires-clause-known c = c.requires.known

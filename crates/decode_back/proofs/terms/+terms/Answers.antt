@@ -12,7 +12,7 @@ use Rattle.module_spec.specs.TypeEnc.{place, inside}
 use Rattle.decode_spec.specs.Decode.{type_of_tree, term_from}
 use Rattle.decode_back.specs.Walks.{at_place, IsTypeFound}
 use Rattle.decode_back.specs.TermWalks.{IsHeadFound, IsTermFound}
-use Rattle.decode_back.proofs.TypeWalk.{IfOk-weaker, at-Holds}
+use Rattle.decode_back.proofs.TypeWalk.{IfOk-weaker, OnOk-always, at-Holds}
 use Rattle.decode_back.proofs.AbstractionLemmas.{lam-no_domain, lam-no_type, lam-no_body}
 use Rattle.decode_back.proofs.HeadLemmas.{level-none, inside-is, whole-none, whole-found, head-at, variable-head, lam-head, lam-answer}
 use Rattle.decode_back.proofs.TermLemmas.{IsApplied, AreVariables-Keeps, applied-none, applied-short, applied-more, applied-end, node-no_head}
@@ -345,3 +345,63 @@ decode_head-returns-in_err-found-in-Lam-clause-keeps t c = Keeps-trans c.decode_
 
 pub apply_rest-returns-clause-keeps : goal.apply_rest-returns-clause-keeps
 apply_rest-returns-clause-keeps t c = c.loop-arg.invariant.keeps
+
+pub decode_term-spine-requires-clause-args : goal.decode_term-spine-requires-clause-args
+decode_term-spine-requires-clause-args t c = subst (lp.AreKnown c.args.source.now.table) (sym c.new-args.ensures.empty) (tt {0})
+
+pub decode_term-returns-clause-known : goal.decode_term-returns-clause-known
+decode_term-returns-clause-known t c = c.apply_rest.ensures.known
+
+pub decode_term-returns-in_default-clause-budget : goal.decode_term-returns-in_default-clause-budget
+decode_term-returns-in_default-clause-budget t c = c.decode_head.ensures.budget
+
+pub decode_term-returns-in_err-found-clause-budget : goal.decode_term-returns-in_err-found-clause-budget
+decode_term-returns-in_err-found-clause-budget t c = c.decode_head.ensures.budget
+
+pub decode_head-constant-requires-clause-level : goal.decode_head-constant-requires-clause-level
+decode_head-constant-requires-clause-level t c = omega (arith, c.requires.level)
+
+pub decode_head-decode_type-requires-clause-level : goal.decode_head-decode_type-requires-clause-level
+decode_head-decode_type-requires-clause-level t c = omega (arith, c.requires.level)
+
+pub decode_head-decode_type-requires-clause-known : goal.decode_head-decode_type-requires-clause-known
+decode_head-decode_type-requires-clause-known t c = omega (arith, c.in-Some.ensures.known, c.in-Lam.ensures.lower.0, c.requires.known)
+
+pub decode_head-symbol_argument-requires : goal.decode_head-symbol_argument-requires
+decode_head-symbol_argument-requires t c = omega (arith, c.in-Lam.ensures.lower.0, c.requires.known)
+
+pub decode_head-returns-in_err-found-in-Lam-clause-budget : goal.decode_head-returns-in_err-found-in-Lam-clause-budget
+decode_head-returns-in_err-found-in-Lam-clause-budget t c = c.decode_term.ensures.budget
+
+pub decode_head-returns-in_default-found-clause-budget : goal.decode_head-returns-in_default-found-clause-budget
+decode_head-returns-in_default-found-clause-budget t c = c.decode_term.ensures.budget
+
+pub decode_head-returns-in_default-found-clause-args : goal.decode_head-returns-in_default-found-clause-args
+decode_head-returns-in_default-found-clause-args t c = c.requires.args
+
+pub decode_head-returns-in-Some-found-clause-known : goal.decode_head-returns-in-Some-found-clause-known
+decode_head-returns-in-Some-found-clause-known t c = c.abstraction.ensures.known
+
+pub apply_rest-returns-in_err-found-clause-budget : goal.apply_rest-returns-in_err-found-clause-budget
+apply_rest-returns-in_err-found-clause-budget t c = omega (arith, c.loop-arg.invariant.budget, c.decode_term.ensures.budget)
+
+pub apply_rest-returns-clause-known : goal.apply_rest-returns-clause-known
+apply_rest-returns-clause-known t c = c.loop-arg.invariant.known
+
+pub apply_rest-returns-clause-budget : goal.apply_rest-returns-clause-budget
+apply_rest-returns-clause-budget t c = c.loop-arg.invariant.budget
+
+pub decode_head-returns-in-Some-found-clause-args : goal.decode_head-returns-in-Some-found-clause-args
+decode_head-returns-in-Some-found-clause-args t c = OnOk-always _ c.abstraction.result c.requires.args
+
+pub decode_head-returns-in-Var-clause-args : goal.decode_head-returns-in-Var-clause-args
+decode_head-returns-in-Var-clause-args t c = OnOk-always _ c.variable.result c.requires.args
+
+pub decode_head-overflow_sub-level : goal.decode_head-overflow_sub-level
+decode_head-overflow_sub-level t c = omega (arith, c.requires.positive)
+
+pub decode_head-overflow_add-inside : goal.decode_head-overflow_add-inside
+decode_head-overflow_add-inside t c = omega (arith, c.requires.level, c.requires.positive)
+
+pub apply_rest-overflow_sub-level : goal.apply_rest-overflow_sub-level
+apply_rest-overflow_sub-level t c = omega (arith, c.requires.positive)

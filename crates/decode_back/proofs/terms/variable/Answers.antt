@@ -1,5 +1,6 @@
 use Rattle.std.proofs.Common.{◌≡◌, ◌<◌, ◌+◌, ◌-◌, Some, refl, subst, arith}
 use Rattle.hol_spec.specs.ClosedForm.{ClosedTerm}
+use Rattle.hol_term.specs.TableLaws.{Keeps-refl}
 use Rattle.lp_spec.specs.Trees.{Var}
 use Rattle.decode_spec.specs.Decode.{term_from}
 use Rattle.decode_back.specs.Walks.{at_place}
@@ -52,3 +53,21 @@ returns-clause-decoded c d level types vs =
     variable-free d (at_place c.args.place) c.args.number depth (depth - 1 - c.args.number) j c.depth-depth.ensures (omega (arith, c.if-number-place.false)) (omega (arith, c.if-number-depth.false)) refl c.if-outer-place.false refl c.if-free-place.false in
     free-found d (at_place c.args.place) c.args.number types level c.args.budget.now c.args.table.now c.args.variables.now vs j _ (omega (arith, c.if-free-place.false, c.requires.all)) is
     c.spend.new.budget c.requires.variables c.requires.budget (subst (λ n. c.spend.new.budget + n ≡ c.args.budget.now) c.size.ensures (c.spend.ensures.paid c.if-not-spend.false))
+
+pub returns-then-number-place-clause-keeps : goal.returns-then-number-place-clause-keeps
+returns-then-number-place-clause-keeps c = c.bound.ensures.keeps
+
+pub returns-then-number-depth-clause-keeps : goal.returns-then-number-depth-clause-keeps
+returns-then-number-depth-clause-keeps c = Keeps-refl c.args.table.now
+
+pub returns-then-outer-place-clause-keeps : goal.returns-then-outer-place-clause-keeps
+returns-then-outer-place-clause-keeps c = Keeps-refl c.args.table.now
+
+pub returns-then-free-place-clause-keeps : goal.returns-then-free-place-clause-keeps
+returns-then-free-place-clause-keeps c = Keeps-refl c.args.table.now
+
+pub returns-then-not-spend-clause-keeps : goal.returns-then-not-spend-clause-keeps
+returns-then-not-spend-clause-keeps c = Keeps-refl c.args.table.now
+
+pub returns-clause-keeps : goal.returns-clause-keeps
+returns-clause-keeps c = Keeps-refl c.args.table.now

@@ -1,9 +1,11 @@
-use Rattle.std.proofs.Common.{sym, subst, ◌∙◌}
+use Rattle.std.proofs.Common.{sym, subst, ◌∙◌, arith}
 use Rattle.hol_type.specs.Tables.{AreKnown, types_at}
 use Rattle.hol_type.specs.Refusals.{RefusesType}
+use Rattle.hol_term.specs.TableLaws.{Keeps-refl}
 use Rattle.hol_spec.specs.Types.{operator, types_of}
-use Rattle.holide_sig.specs.Modules.{declarations_of}
+use Rattle.holide_sig.specs.Modules.{declaration_in, declarations_of}
 use Rattle.decode_back.proofs.TypeWalk.{long, AreKnown-reverse, arguments-count, symbol-none, symbol-some, symbol-refused, not-within}
+use Rattle.std.proofs.lemmas.List.{length-map}
 use Rattle.decode_back.proofs.types.operator.Goals as goal
 
 pub returns-in_default-clause-decoded : goal.returns-in_default-clause-decoded
@@ -25,3 +27,27 @@ returns-clause-decoded c at acc h =
     c.in-Some.name c.args.table.now c.args.args.items c.deref.result.now (sym c.in_ok-name.ensures ∙ c.in-Some.is) h (c.deref.ensures.value ∙ c.reverse.ensures.items)
     (not-within c.in-Err-Refused.field-0-0 c.args.level (operator c.in-Some.name (types_of (types_at c.args.table.now.types c.deref.result.now))) c.requires.level
     (subst (λ f. RefusesType f (operator c.in-Some.name (types_of (types_at c.args.table.now.types c.deref.result.now)))) c.in-Err-Refused.field-0-is c.in-Err-Refused.ensures.refusal))
+
+pub returns-then-symbol-len-clause-keeps : goal.returns-then-symbol-len-clause-keeps
+returns-then-symbol-len-clause-keeps c = Keeps-refl c.args.table.now
+
+pub returns-in_err-name-clause-keeps : goal.returns-in_err-name-clause-keeps
+returns-in_err-name-clause-keeps c = Keeps-refl c.args.table.now
+
+pub returns-in_default-clause-keeps : goal.returns-in_default-clause-keeps
+returns-in_default-clause-keeps c = Keeps-refl c.args.table.now
+
+pub returns-in-Ok-clause-keeps : goal.returns-in-Ok-clause-keeps
+returns-in-Ok-clause-keeps c = c.ty_op.ensures.keeps
+
+pub returns-in-Err-Memory-clause-keeps : goal.returns-in-Err-Memory-clause-keeps
+returns-in-Err-Memory-clause-keeps c = c.ty_op.ensures.keeps
+
+pub returns-clause-keeps : goal.returns-clause-keeps
+returns-clause-keeps c = c.ty_op.ensures.keeps
+
+pub returns-in-Ok-clause-known : goal.returns-in-Ok-clause-known
+returns-in-Ok-clause-known c = c.in-Ok.ensures.known
+
+pub operator_at-requires-clause-declared : goal.operator_at-requires-clause-declared
+operator_at-requires-clause-declared c = omega (arith, c.if-symbol-len.false, c.len.ensures, length-map c.args.source.now.decls (declaration_in c.args.source.now.table))
