@@ -28,9 +28,21 @@ pub fn check_back(alloc: Global, translation: &Translation) -> Result<(), Answer
     ensures { IfErr result (λ answer. answer ≡ Answer.Memory) }
 {
     let mut back = read_back(alloc, translation)?;
-    let verdict = check_module(alloc, &mut back, &translation.bounds);
+    let checked = check_read(alloc, translation, &mut back);
     drop(back);
-    match verdict {
+    checked
+}
+
+// Checks the module that the text of a translation reads as, each declaration within its bound. Only want of memory is answered in place
+// of a yes.
+fn check_read(alloc: Global, translation: &Translation, back: &mut Module) -> Result<(), Answer>
+    requires made { (articles : ℕ) × (run : Accepted) × IsTranslationOf articles run translation.now × Headline run }
+    requires read { (m : List Declaration) → Reads (written (declarations_of translation.now.module) translation.now.bounds.items) m → declarations_of back.old ≡ m }
+    requires held { IsHeld back.old }
+    requires is_module { IsModule (declarations_of back.old) }
+    ensures { IfErr result (λ answer. answer ≡ Answer.Memory) }
+{
+    match check_module(alloc, back, &translation.bounds) {
         Ok(Verdict::Accepted) => Ok(()),
         Ok(Verdict::IllTyped(i)) => Err(Answer::IllTyped(i as u64)),
         Ok(Verdict::OverBudget(i)) => Err(Answer::OverBudget(i as u64)),

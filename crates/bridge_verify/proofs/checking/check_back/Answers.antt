@@ -1,7 +1,7 @@
 use Rattle.std.proofs.Common.{refl}
 use Rattle.module_spec.specs.Image.{image}
 use Rattle.bridge_translate.specs.TranslationLaws.{length-bounds}
-use Rattle.bridge_verify.proofs.Checked.{IllTyped-Accepted, OverBudget-Accepted, gathered-Reads, length-budgets, back-PassWithin}
+use Rattle.bridge_verify.proofs.Checked.{gathered-Reads}
 use Rattle.bridge_verify.proofs.checking.check_back.Goals as goal
 
 pub read_back-requires-clause-bounds : goal.read_back-requires-clause-bounds
@@ -9,22 +9,3 @@ read_back-requires-clause-bounds c = length-bounds c.requires.0 c.requires.1 c.a
 
 pub read_back-requires-clause-reads : goal.read_back-requires-clause-reads
 read_back-requires-clause-reads c = (image c.requires.1, gathered-Reads c.requires.0 c.requires.1 c.args.translation.now c.requires.2 c.requires.3 _ refl)
-
-pub check_module-requires-clause-budgets : goal.check_module-requires-clause-budgets
-check_module-requires-clause-budgets c =
-    let reads = gathered-Reads c.requires.0 c.requires.1 c.args.translation.now c.requires.2 c.requires.3 _ refl in
-    length-budgets c.requires.0 c.requires.1 c.args.translation.now c.requires.2 c.requires.3 c.in_ok-back.back (c.in_ok-back.ensures.read (image c.requires.1) reads) c.deref.result.now c.deref.ensures.value
-
-pub returns-in-Ok-IllTyped : goal.returns-in-Ok-IllTyped
-returns-in-Ok-IllTyped c =
-    let reads = gathered-Reads c.requires.0 c.requires.1 c.args.translation.now c.requires.2 c.requires.3 _ refl in
-    let accepted = c.in-Ok-IllTyped.ensures.accepts
-    (back-PassWithin c.requires.0 c.requires.1 c.args.translation.now c.requires.2 c.requires.3 c.in_ok-back.back (c.in_ok-back.ensures.read (image c.requires.1) reads) c.deref.result.now c.deref.ensures.value) in
-    absurd (IllTyped-Accepted c.in-Ok-IllTyped.field-0 _ c.in-Ok-IllTyped.field-0-is accepted)
-
-pub returns-in-Ok-OverBudget : goal.returns-in-Ok-OverBudget
-returns-in-Ok-OverBudget c =
-    let reads = gathered-Reads c.requires.0 c.requires.1 c.args.translation.now c.requires.2 c.requires.3 _ refl in
-    let accepted = c.in-Ok-OverBudget.ensures.accepts
-    (back-PassWithin c.requires.0 c.requires.1 c.args.translation.now c.requires.2 c.requires.3 c.in_ok-back.back (c.in_ok-back.ensures.read (image c.requires.1) reads) c.deref.result.now c.deref.ensures.value) in
-    absurd (OverBudget-Accepted c.in-Ok-OverBudget.field-0 _ c.in-Ok-OverBudget.field-0-is accepted)
