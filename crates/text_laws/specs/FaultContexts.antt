@@ -11,7 +11,8 @@ use Rattle.lp_spec.specs.Tokens.{Token, Name, DefWord, ThmWord, Colon, Assign, A
 use Rattle.lp_spec.specs.Reading.{Scope, max_depth}
 use Rattle.lp_spec.specs.ReadingFaults.{Frame, Enclosing, Domain, Product, Abstraction, scope_of, Head, TypeOf, BodyOf, State, Between, AfterKeyword, AfterName, AtTerm, InApplication, Outcome, Goes, stops, refusal, NameTwice, DkTooDeep, advance_all}
 use Rattle.lp_spec.specs.Faults.{BareApplication, HasBody, DeclarationBegins, first, next, NameStands, of_symbol, of_definition, of_theorem, WholeBegins, only_type, type_before_body, body, TermBegins, of_whole, after_product, after_abstraction, after_nameless, enclosed_term, ApplicationBegins, of_term, of_domain, AtomStands, of_application, further}
-use Rattle.text_laws.specs.FaultReach.{AreAfter, AreAscending, IsKept, after_kept, ascending_kept, application_keeps, term_keeps, IsApplied, IsOpen, IsEnded, run, Reaches, past, reached, then_reaches, application_reaches, first_application_reaches, term_reaches, arrow_opens}
+use Rattle.text_laws.specs.FaultReach.{AreAfter, AreAscending, IsKept, after_kept, ascending_kept, application_keeps, term_keeps, run, Reaches, past, reached, then_reaches, application_reaches, first_application_reaches, term_reaches, arrow_opens}
+use Rattle.text_laws.specs.TermEnds.{IsApplied, IsEnded, IsOpen}
 
 -- what holds of all tokens and of those after the first of some holds at each place
 module _ {P : List Placed → Type 0} (k : IsKept P) {all : List Placed} (a : P all) where

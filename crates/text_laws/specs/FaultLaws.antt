@@ -3,13 +3,14 @@ use Rattle.std.proofs.Common.{inl, inr, ◌≡◌, ℕ, ◌+◌, ◌<◌, refl, 
 use Rattle.std.specs.Prelude.{◌⊎◌, ◌==◌, if◌then◌else◌}
 use Rattle.std.proofs.lemmas.List.{append_assoc, append-nil}
 use Rattle.std.proofs.lemmas.Grind.{common_steps}
+use Rattle.std.proofs.lemmas.Bool.{eqb-true, ne_eqb}
 use Rattle.lp_spec.specs.Trees.{Tree}
 use Rattle.lp_spec.specs.Modules.{Declaration}
 use Rattle.lp_spec.specs.Text.{prelude}
 use Rattle.lp_spec.specs.Tokens.{Token, Placed, at, End, ended, stuck}
 use Rattle.lp_spec.specs.Reading.{Reads}
-use Rattle.lp_spec.specs.ReadingFaults.{Frame, Head, State, Between, AfterKeyword, AfterName, AtTerm, AfterFirst, InApplication, Outcome, Goes, Stops, Refusal, refusal, NoPrelude, BadText, meaning, advance_all, Answer, reads, refused, answers, broken_after, Opening, Refused, opened, read_byte, read_bytes, read_end, answer}
-use Rattle.text_laws.specs.ReadingLaws.{one_answer, read_bytes-Refused, Reads-answer, answer_is}
+use Rattle.lp_spec.specs.ReadingFaults.{Frame, Head, State, Between, AfterKeyword, AfterName, AtTerm, AfterFirst, InApplication, Outcome, Goes, Stops, Refusal, refusal, NoPrelude, BadText, meaning, advance_all, Answer, reads, refused, answers, broken_after, Refused, opened, read_bytes, read_end, answer}
+use Rattle.text_laws.specs.ReadingLaws.{one_answer, read_bytes-Refused, Reads-answer, answer_is, opening_read}
 use Rattle.lp_spec.specs.TextLaws.{ReadsOnce, IsRefused, EachFaultTold}
 use Rattle.text_laws.specs.FaultFollows.{CanFollow}
 use Rattle.text_laws.specs.FaultMoves.{follows-text, text-follows}
@@ -180,19 +181,6 @@ module _ (bytes text : List ℕ) (begun : bytes ≡ prelude ++ text) where
       by_answer (refusal p BadText) (subst (λ end. IsNoLater (answers (run [] Between all_tokens) end) (refusal p BadText)) (sym i)
       (ended_least (run [] Between all_tokens) p (ap place_of i) b (read_shown last_place all_tokens in_order)))
 
-same_byte : (b c : ℕ) → (b == c) ≡ true → b ≡ c
-same_byte b c e = grind (arith, common_steps)
-
-byte_is : (b : ℕ) → (b == b) ≡ true
-byte_is b = grind (arith, common_steps)
-
-other_byte : (b c : ℕ) → (b ≡ c → ⊥) → (b == c) ≡ false
-other_byte b c h = by_test (b == c) refl
-  where
-    by_test : (t : Bool) → (b == c) ≡ t → (b == c) ≡ false
-    by_test true e = absurd (h (same_byte b c e))
-    by_test false e = e
-
 -- how far the signature's text begins a text
 pub data Opens (bytes : List ℕ) : Type 0 where
   opens : (text : List ℕ) → bytes ≡ prelude ++ text → Opens bytes
@@ -203,7 +191,7 @@ unlike b c e h = absurd (grind (arith, common_steps, e, h))
 
 opens_step : {bytes : List ℕ} (front : List ℕ) (c : ℕ) (wanted : List ℕ) (b : ℕ) (rest : List ℕ) (same : Bool) → (b == c) ≡ same → prelude ≡ front ++ c ∷ wanted → bytes ≡ front ++ b ∷ rest → (prelude ≡ (front ++ c ∷ []) ++ wanted → bytes ≡ (front ++ c ∷ []) ++ rest → Opens bytes) → Opens bytes
 opens_step front c wanted b rest true e h k f =
-    f (h ∙ sym (append_assoc front (c ∷ []) wanted)) (k ∙ ap (λ a. front ++ a ∷ rest) (same_byte b c e) ∙ sym (append_assoc front (c ∷ []) rest))
+    f (h ∙ sym (append_assoc front (c ∷ []) wanted)) (k ∙ ap (λ a. front ++ a ∷ rest) (eqb-true b c e) ∙ sym (append_assoc front (c ∷ []) rest))
 opens_step front c wanted b rest false e h k f = differs front (c ∷ wanted) (b ∷ rest) h k (unlike b c e)
 
 pub opens_by : {bytes : List ℕ} (front wanted rest : List ℕ) → prelude ≡ front ++ wanted → bytes ≡ front ++ rest → Opens bytes
@@ -212,9 +200,6 @@ opens_by front (c ∷ wanted) [] h k = differs front (c ∷ wanted) [] h k tt
 opens_by front (c ∷ wanted) (b ∷ rest) h k = opens_step front c wanted b rest (b == c) refl h k (opens_by (front ++ c ∷ []) wanted rest)
 
 -- the bytes that the signature's text has too
-opening_read : (p b : ℕ) (wanted bytes : List ℕ) → read_bytes (read_byte (Opening p (b ∷ wanted)) b) bytes ≡ read_bytes (opened (p + 1) wanted) bytes
-opening_read p b wanted bytes = ap (λ (c : Bool). read_bytes (if c then opened (p + 1) wanted else Refused (refusal p NoPrelude)) bytes) (byte_is b)
-
 pub front_read : (p : ℕ) (front wanted rest : List ℕ) → read_bytes (opened p (front ++ wanted)) (front ++ rest) ≡ read_bytes (opened (p + length front) wanted) rest
 front_read p [] wanted rest = ap (λ n. read_bytes (opened n wanted) rest) (omega arith)
 front_read p (b ∷ front) wanted rest =
@@ -226,7 +211,7 @@ differs_read : (p : ℕ) (wanted rest : List ℕ) → Differs wanted rest → re
 differs_read p [] rest h = absurd h
 differs_read p (c ∷ wanted) [] h = refl
 differs_read p (c ∷ wanted) (b ∷ rest) h =
-    ap (λ (t : Bool). read_end (read_bytes (if t then opened (p + 1) wanted else Refused (refusal p NoPrelude)) rest)) (other_byte b c h)
+    ap (λ (t : Bool). read_end (read_bytes (if t then opened (p + 1) wanted else Refused (refusal p NoPrelude)) rest)) (ne_eqb b c h)
     ∙ ap read_end (read_bytes-Refused (refusal p NoPrelude) rest)
 
 pub differs_answer : (bytes front wanted rest : List ℕ) → prelude ≡ front ++ wanted → bytes ≡ front ++ rest → Differs wanted rest → answer bytes ≡ refused (refusal (length front) NoPrelude)

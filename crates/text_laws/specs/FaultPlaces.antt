@@ -50,32 +50,33 @@ abbrev IsTakenIn : ℕ → Taken → Type 0
 IsTakenIn p (goes tokens pending) = IsPendingBefore p pending × AreBeforePending p pending tokens
 IsTakenIn p (sticks tokens q) = AreBefore q tokens
 
-both : (P : Taken → Type 0) (b : Bool) {s t : Taken} → P s → P t → P (if b then s else t)
-both P true h k = h
-both P false h k = k
+-- what holds of both outcomes of a test holds of the one that it picks
+if-holds : (P : Taken → Type 0) (b : Bool) {s t : Taken} → P s → P t → P (if b then s else t)
+if-holds P true h k = h
+if-holds P false h k = k
 
 begins_after : (n p b : ℕ) → n < p → IsTakenAfter n (begins p b)
 begins_after n p b h =
-    both (IsTakenAfter n) (is_space b) (tt, tt)
-    (both (IsTakenAfter n) (is_letter b) (tt, h)
-    (both (IsTakenAfter n) (b == 58) (tt, h)
-    (both (IsTakenAfter n) (b == 45) (tt, h)
-    (both (IsTakenAfter n) (b == 61) (tt, h)
-    (both (IsTakenAfter n) (b == 40) (tt, h)
-    (both (IsTakenAfter n) (b == 46) ((h, tt), tt)
-    (both (IsTakenAfter n) (b == 41) ((h, tt), tt) (tt, h))))))))
+    if-holds (IsTakenAfter n) (is_space b) (tt, tt)
+    (if-holds (IsTakenAfter n) (is_letter b) (tt, h)
+    (if-holds (IsTakenAfter n) (b == 58) (tt, h)
+    (if-holds (IsTakenAfter n) (b == 45) (tt, h)
+    (if-holds (IsTakenAfter n) (b == 61) (tt, h)
+    (if-holds (IsTakenAfter n) (b == 40) (tt, h)
+    (if-holds (IsTakenAfter n) (b == 46) ((h, tt), tt)
+    (if-holds (IsTakenAfter n) (b == 41) ((h, tt), tt) (tt, h))))))))
 
 begins_in : (p b : ℕ) → IsTakenIn (p + 1) (begins p b)
 begins_in p b =
     let h : p < p + 1 = omega arith in
-    both (IsTakenIn (p + 1)) (is_space b) (tt, tt)
-    (both (IsTakenIn (p + 1)) (is_letter b) (h, tt)
-    (both (IsTakenIn (p + 1)) (b == 58) (h, tt)
-    (both (IsTakenIn (p + 1)) (b == 45) (h, tt)
-    (both (IsTakenIn (p + 1)) (b == 61) (h, tt)
-    (both (IsTakenIn (p + 1)) (b == 40) (h, tt)
-    (both (IsTakenIn (p + 1)) (b == 46) (tt, (tt, tt, h, tt))
-    (both (IsTakenIn (p + 1)) (b == 41) (tt, (tt, tt, h, tt)) tt)))))))
+    if-holds (IsTakenIn (p + 1)) (is_space b) (tt, tt)
+    (if-holds (IsTakenIn (p + 1)) (is_letter b) (h, tt)
+    (if-holds (IsTakenIn (p + 1)) (b == 58) (h, tt)
+    (if-holds (IsTakenIn (p + 1)) (b == 45) (h, tt)
+    (if-holds (IsTakenIn (p + 1)) (b == 61) (h, tt)
+    (if-holds (IsTakenIn (p + 1)) (b == 40) (h, tt)
+    (if-holds (IsTakenIn (p + 1)) (b == 46) (tt, (tt, tt, h, tt))
+    (if-holds (IsTakenIn (p + 1)) (b == 41) (tt, (tt, tt, h, tt)) tt)))))))
 
 after_after : (n q : ℕ) (token : Token) (taken : Taken) → n < q → IsTakenAfter n taken → IsTakenAfter n (after (at q token) taken)
 after_after n q token (goes tokens pending) h k = ((h, k.0), k.1)
@@ -112,21 +113,21 @@ closing_before p q false false h = h
 
 take_byte-after : (n p b : ℕ) (pending : Pending) → n < p → IsPendingAfter n pending → IsTakenAfter n (take_byte pending p b)
 take_byte-after n p b Nothing k h = begins_after n p b k
-take_byte-after n p b (InWord q bytes) k h = both (IsTakenAfter n) (is_word_byte b) (tt, h) (behind_after n q p b (word_token bytes) h k)
-take_byte-after n p b (AfterColon q) k h = both (IsTakenAfter n) (b == 61) ((h, tt), tt) (behind_after n q p b Colon h k)
-take_byte-after n p b (AfterMinus q) k h = both (IsTakenAfter n) (b == 62) ((h, tt), tt) (tt, h)
-take_byte-after n p b (AfterEquals q) k h = both (IsTakenAfter n) (b == 62) ((h, tt), tt) (tt, h)
-take_byte-after n p b (AfterParen q) k h = both (IsTakenAfter n) (b == 59) (tt, h) (behind_after n q p b LeftParen h k)
+take_byte-after n p b (InWord q bytes) k h = if-holds (IsTakenAfter n) (is_word_byte b) (tt, h) (behind_after n q p b (word_token bytes) h k)
+take_byte-after n p b (AfterColon q) k h = if-holds (IsTakenAfter n) (b == 61) ((h, tt), tt) (behind_after n q p b Colon h k)
+take_byte-after n p b (AfterMinus q) k h = if-holds (IsTakenAfter n) (b == 62) ((h, tt), tt) (tt, h)
+take_byte-after n p b (AfterEquals q) k h = if-holds (IsTakenAfter n) (b == 62) ((h, tt), tt) (tt, h)
+take_byte-after n p b (AfterParen q) k h = if-holds (IsTakenAfter n) (b == 59) (tt, h) (behind_after n q p b LeftParen h k)
 take_byte-after n p b (InComment q) k h = (tt, comment_after n q (b == 59) h)
 take_byte-after n p b (AfterSemicolon q) k h = (tt, closing_after n q (b == 41) (b == 59) h)
 
 take_byte-in : (p b : ℕ) (pending : Pending) → IsPendingBefore p pending → IsTakenIn (p + 1) (take_byte pending p b)
 take_byte-in p b Nothing h = begins_in p b
-take_byte-in p b (InWord q bytes) h = both (IsTakenIn (p + 1)) (is_word_byte b) (omega (arith, h), tt) (behind_in q p b (word_token bytes) h)
-take_byte-in p b (AfterColon q) h = both (IsTakenIn (p + 1)) (b == 61) (tt, (tt, tt, omega (arith, h), tt)) (behind_in q p b Colon h)
-take_byte-in p b (AfterMinus q) h = both (IsTakenIn (p + 1)) (b == 62) (tt, (tt, tt, omega (arith, h), tt)) tt
-take_byte-in p b (AfterEquals q) h = both (IsTakenIn (p + 1)) (b == 62) (tt, (tt, tt, omega (arith, h), tt)) tt
-take_byte-in p b (AfterParen q) h = both (IsTakenIn (p + 1)) (b == 59) (omega (arith, h), tt) (behind_in q p b LeftParen h)
+take_byte-in p b (InWord q bytes) h = if-holds (IsTakenIn (p + 1)) (is_word_byte b) (omega (arith, h), tt) (behind_in q p b (word_token bytes) h)
+take_byte-in p b (AfterColon q) h = if-holds (IsTakenIn (p + 1)) (b == 61) (tt, (tt, tt, omega (arith, h), tt)) (behind_in q p b Colon h)
+take_byte-in p b (AfterMinus q) h = if-holds (IsTakenIn (p + 1)) (b == 62) (tt, (tt, tt, omega (arith, h), tt)) tt
+take_byte-in p b (AfterEquals q) h = if-holds (IsTakenIn (p + 1)) (b == 62) (tt, (tt, tt, omega (arith, h), tt)) tt
+take_byte-in p b (AfterParen q) h = if-holds (IsTakenIn (p + 1)) (b == 59) (omega (arith, h), tt) (behind_in q p b LeftParen h)
 take_byte-in p b (InComment q) h = (comment_before (p + 1) q (b == 59) (omega (arith, h)), tt)
 take_byte-in p b (AfterSemicolon q) h = (closing_before (p + 1) q (b == 41) (b == 59) (omega (arith, h)), tt)
 
@@ -195,14 +196,14 @@ IsStuckBefore p (sticks tokens q) = q < p
 begins_stuck : (p b : ℕ) → IsStuckBefore (p + 1) (begins p b)
 begins_stuck p b =
     let h : p < p + 1 = omega arith in
-    both (IsStuckBefore (p + 1)) (is_space b) tt
-    (both (IsStuckBefore (p + 1)) (is_letter b) h
-    (both (IsStuckBefore (p + 1)) (b == 58) h
-    (both (IsStuckBefore (p + 1)) (b == 45) h
-    (both (IsStuckBefore (p + 1)) (b == 61) h
-    (both (IsStuckBefore (p + 1)) (b == 40) h
-    (both (IsStuckBefore (p + 1)) (b == 46) tt
-    (both (IsStuckBefore (p + 1)) (b == 41) tt h)))))))
+    if-holds (IsStuckBefore (p + 1)) (is_space b) tt
+    (if-holds (IsStuckBefore (p + 1)) (is_letter b) h
+    (if-holds (IsStuckBefore (p + 1)) (b == 58) h
+    (if-holds (IsStuckBefore (p + 1)) (b == 45) h
+    (if-holds (IsStuckBefore (p + 1)) (b == 61) h
+    (if-holds (IsStuckBefore (p + 1)) (b == 40) h
+    (if-holds (IsStuckBefore (p + 1)) (b == 46) tt
+    (if-holds (IsStuckBefore (p + 1)) (b == 41) tt h)))))))
 
 after_stuck : (p q : ℕ) (token : Token) (taken : Taken) → IsStuckBefore p taken → IsStuckBefore p (after (at q token) taken)
 after_stuck p q token (goes tokens pending) h = h
@@ -210,11 +211,11 @@ after_stuck p q token (sticks tokens r) h = h
 
 take_byte-stuck : (p b : ℕ) (pending : Pending) → IsPendingBefore p pending → IsStuckBefore (p + 1) (take_byte pending p b)
 take_byte-stuck p b Nothing h = begins_stuck p b
-take_byte-stuck p b (InWord q bytes) h = both (IsStuckBefore (p + 1)) (is_word_byte b) (omega (arith, h)) (after_stuck (p + 1) q (word_token bytes) (begins p b) (begins_stuck p b))
-take_byte-stuck p b (AfterColon q) h = both (IsStuckBefore (p + 1)) (b == 61) tt (after_stuck (p + 1) q Colon (begins p b) (begins_stuck p b))
-take_byte-stuck p b (AfterMinus q) h = both (IsStuckBefore (p + 1)) (b == 62) tt (omega (arith, h))
-take_byte-stuck p b (AfterEquals q) h = both (IsStuckBefore (p + 1)) (b == 62) tt (omega (arith, h))
-take_byte-stuck p b (AfterParen q) h = both (IsStuckBefore (p + 1)) (b == 59) (omega (arith, h)) (after_stuck (p + 1) q LeftParen (begins p b) (begins_stuck p b))
+take_byte-stuck p b (InWord q bytes) h = if-holds (IsStuckBefore (p + 1)) (is_word_byte b) (omega (arith, h)) (after_stuck (p + 1) q (word_token bytes) (begins p b) (begins_stuck p b))
+take_byte-stuck p b (AfterColon q) h = if-holds (IsStuckBefore (p + 1)) (b == 61) tt (after_stuck (p + 1) q Colon (begins p b) (begins_stuck p b))
+take_byte-stuck p b (AfterMinus q) h = if-holds (IsStuckBefore (p + 1)) (b == 62) tt (omega (arith, h))
+take_byte-stuck p b (AfterEquals q) h = if-holds (IsStuckBefore (p + 1)) (b == 62) tt (omega (arith, h))
+take_byte-stuck p b (AfterParen q) h = if-holds (IsStuckBefore (p + 1)) (b == 59) (omega (arith, h)) (after_stuck (p + 1) q LeftParen (begins p b) (begins_stuck p b))
 take_byte-stuck p b (InComment q) h = comment_before (p + 1) q (b == 59) (omega (arith, h))
 take_byte-stuck p b (AfterSemicolon q) h = closing_before (p + 1) q (b == 41) (b == 59) (omega (arith, h))
 

@@ -7,6 +7,7 @@ use Rattle.lp_spec.specs.Tokens.{Token, Name, TypeWord, Colon, Assign, Arrow, Fa
 use Rattle.lp_spec.specs.Reading.{variable_of, symbol_of}
 use Rattle.lp_spec.specs.ReadingFaults.{Frame, Enclosing, Domain, Product, Abstraction, scope_of, Head, State, AtTerm, InApplication, Outcome, Goes, Stops, Refusal, refusal, UnknownName, meant, meaning, argued, atom, goes_on, advance_all}
 use Rattle.lp_spec.specs.Faults.{BareAtom, identifier, sort, enclosed, BareArguments, none, argument, BareApplication, application, BareTerm, product, abstraction, nameless, plain}
+use Rattle.text_laws.specs.TermEnds.{IsApplied, IsEnded, IsOpen, ended_applied}
 
 -- all places from these tokens on to the end at e are after n
 abbrev pub AreAfter : ℕ → ℕ → List Placed → Type 0
@@ -47,30 +48,6 @@ module _ {P : List Placed → Type 0} (k : IsKept P) where
     term_keeps (abstraction {tokens = tokens} {more = more} {p = p} {q = q} {r = r} {name = name} a t) h = term_keeps t (k.tail r FatArrow more (application_keeps a (k.tail q Colon tokens (k.tail p (Name name) (at q Colon ∷ tokens) h))))
     term_keeps (nameless {more = more} {r = r} a t) h = term_keeps t (k.tail r Arrow more (application_keeps a h))
     term_keeps (plain a) h = application_keeps a h
-
--- the tokens begin with one, and it is no `:`
-abbrev pub IsApplied : List Placed → Type 0
-IsApplied [] = ⊥
-IsApplied (at p Colon ∷ tokens) = ⊥
-IsApplied (at p token ∷ tokens) = Unit {0}
-
--- the tokens begin with one that ends a term
-abbrev pub IsEnded : List Placed → Type 0
-IsEnded (at p RightParen ∷ tokens) = Unit {0}
-IsEnded (at p Dot ∷ tokens) = Unit {0}
-IsEnded (at p Assign ∷ tokens) = Unit {0}
-IsEnded _ = ⊥
-
--- no domain is open at once
-abbrev pub IsOpen : List Frame → Type 0
-IsOpen (Domain name ∷ frames) = ⊥
-IsOpen _ = Unit {0}
-
-ended_applied : (tokens : List Placed) → IsEnded tokens → IsApplied tokens
-ended_applied (at p RightParen ∷ tokens) h = tt
-ended_applied (at p Dot ∷ tokens) h = tt
-ended_applied (at p Assign ∷ tokens) h = tt
-ended_applied _ h = absurd h
 
 abbrev pub run : List Declaration → State → List Placed → Outcome
 run m state tokens = advance_all (Goes m state) tokens

@@ -13,9 +13,10 @@ use Rattle.lp_spec.specs.Reading.{variable_of, symbol_of, max_depth}
 use Rattle.lp_spec.specs.ReadingFaults.{Frame, Enclosing, Domain, Product, Abstraction, scope_of, Head, TypeOf, BodyOf, State, Between, AfterKeyword, AfterName, AtTerm, AfterFirst, InApplication, Outcome, Goes, Stops, stops, Fault, refusal, BadText, NameTwice, UnknownName, DkTooDeep, meant, meaning, atom, encloses, whole, declares, assigns, arrow, fat_arrow, applies, goes_on, advance}
 use Rattle.lp_spec.specs.Faults.{BareAtom, identifier, sort, enclosed, none, BareApplication, application, BareTerm, product, abstraction, nameless, plain, DeclarationBegins, next, NameStands, of_symbol, of_definition, of_theorem, WholeBegins, only_type, type_before_body, body, TermBegins, of_whole, after_product, after_abstraction, after_nameless, enclosed_term, ApplicationBegins, of_term, of_domain, AtomStands, of_application, further, IsNoBinder, TokensShow, unknown_name, name_twice, too_deep}
 use Rattle.text_laws.specs.FaultFollows.{CanFollow, definition_word, theorem_word, declared_name, declared_colon, whole_end, identifier_atom, sort_atom, left_parenthesis, right_parenthesis, binder_colon, arrow_sign, fat_arrow_sign, application_snoc}
-use Rattle.text_laws.specs.FaultReach.{AreAscending, ascending_kept, IsOpen, meant-depth}
+use Rattle.text_laws.specs.FaultReach.{AreAscending, ascending_kept, meant-depth}
 use Rattle.text_laws.specs.FaultContexts.{term_begins_keeps, names_of}
 use Rattle.text_laws.specs.FaultNames.{is_declared-is_symbol, symbol_of-is_symbol}
+use Rattle.text_laws.specs.TermEnds.{IsOpen}
 
 -- the name of the declaration whose type or body is read, and the token that ends that
 abbrev pub name_in : Head → List ℕ

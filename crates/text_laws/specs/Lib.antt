@@ -13,6 +13,7 @@ pub mod ReadingComplete
 pub mod ReadingLaws
 pub mod ReadingOrder
 pub mod ReadingSound
+pub mod TermEnds
 pub mod WrittenModules
 pub mod WrittenReads
 pub mod WrittenTokens

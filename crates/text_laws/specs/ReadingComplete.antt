@@ -9,30 +9,7 @@ use Rattle.lp_spec.specs.ModuleOrder.{is_declared}
 use Rattle.lp_spec.specs.Tokens.{Token, Name, Colon, Assign, Arrow, Dot, RightParen, Placed, at, ended}
 use Rattle.lp_spec.specs.Reading.{Scope, variable_of, symbol_of, max_depth, Atom, variable, symbol, sort, enclosed, Arguments, none, argument, Application, application, Term, product, abstraction, nameless, plain, Declares, symbol_declaration, definition, theorem, Completes, complete, next}
 use Rattle.lp_spec.specs.ReadingFaults.{Frame, Enclosing, Domain, Product, Abstraction, scope_of, Head, TypeOf, BodyOf, State, Between, AfterName, AtTerm, InApplication, Outcome, Goes, stops, meant, meaning, argued, atom, unless_deep, goes_on, advance_all, reads, answers, NameTwice, DkTooDeep}
-
--- the tokens begin with one, and it is no `:`
-abbrev IsApplied : List Placed → Type 0
-IsApplied [] = ⊥
-IsApplied (at p Colon ∷ tokens) = ⊥
-IsApplied (at p token ∷ tokens) = Unit {0}
-
--- the tokens begin with one that ends a term
-abbrev IsEnded : List Placed → Type 0
-IsEnded (at p RightParen ∷ tokens) = Unit {0}
-IsEnded (at p Dot ∷ tokens) = Unit {0}
-IsEnded (at p Assign ∷ tokens) = Unit {0}
-IsEnded _ = ⊥
-
--- no domain is open at once
-abbrev IsOpen : List Frame → Type 0
-IsOpen (Domain name ∷ frames) = ⊥
-IsOpen _ = Unit {0}
-
-ended_applied : (tokens : List Placed) → IsEnded tokens → IsApplied tokens
-ended_applied (at p RightParen ∷ tokens) h = tt
-ended_applied (at p Dot ∷ tokens) h = tt
-ended_applied (at p Assign ∷ tokens) h = tt
-ended_applied _ h = absurd h
+use Rattle.text_laws.specs.TermEnds.{IsApplied, IsEnded, IsOpen, ended_applied}
 
 module _ (m : List Declaration) where
   abbrev run : State → List Placed → Outcome

@@ -1,7 +1,7 @@
 -- Every text either reads as one module or is refused for one fault.
 use Rattle.std.proofs.Common.{inl, inr, ◌≡◌, ℕ, ◌+◌, refl, sym, ap, ◌∙◌, Bool, true, false, List, [], ◌∷◌, ◌++◌, length, arith}
 use Rattle.std.specs.Prelude.{if◌then◌else◌, ◌==◌, ◌⊎◌}
-use Rattle.std.proofs.lemmas.Grind.{common_steps}
+use Rattle.std.proofs.lemmas.Bool.{eqb-true, eq-eqb}
 use Rattle.lp_spec.specs.Modules.{Declaration}
 use Rattle.lp_spec.specs.Text.{prelude}
 use Rattle.lp_spec.specs.TextLaws.{ReadsOnce, IsRefused, OneAnswer}
@@ -60,15 +60,9 @@ scan-read (goes tokens pending) p (b ∷ bytes) m state =
 text_read : (p : ℕ) (bytes : List ℕ) → read_end (read_bytes (Inside p Nothing [] Between) bytes) ≡ answers (advance_all (Goes [] Between) (tokens_from p bytes).tokens) (tokens_from p bytes).end
 text_read p bytes = scan-read (goes [] Nothing) p bytes [] Between
 
--- the signature's own text
-same_byte : (b c : ℕ) → (b == c) ≡ true → b ≡ c
-same_byte b c e = grind (arith, common_steps)
-
-byte_is : (b : ℕ) → (b == b) ≡ true
-byte_is b = grind (arith, common_steps)
-
-opening_read : (p b : ℕ) (wanted bytes : List ℕ) → read_bytes (read_byte (Opening p (b ∷ wanted)) b) bytes ≡ read_bytes (opened (p + 1) wanted) bytes
-opening_read p b wanted bytes = ap (λ (c : Bool). read_bytes (if c then opened (p + 1) wanted else Refused (refusal p NoPrelude)) bytes) (byte_is b)
+-- a byte that the signature's own text has too
+pub opening_read : (p b : ℕ) (wanted bytes : List ℕ) → read_bytes (read_byte (Opening p (b ∷ wanted)) b) bytes ≡ read_bytes (opened (p + 1) wanted) bytes
+opening_read p b wanted bytes = ap (λ (c : Bool). read_bytes (if c then opened (p + 1) wanted else Refused (refusal p NoPrelude)) bytes) (eq-eqb b b refl)
 
 -- the prelude is read, and then what follows
 pub prelude_read : (p : ℕ) (wanted text : List ℕ) → read_bytes (opened p wanted) (wanted ++ text) ≡ read_bytes (Inside (p + length wanted) Nothing [] Between) text
@@ -83,7 +77,7 @@ record IsOpened (wanted bytes : List ℕ) : Type 0 where
   is : bytes ≡ wanted ++ text
 
 opened_by : (p b c : ℕ) (wanted bytes : List ℕ) (m : List Declaration) (same : Bool) → (b == c) ≡ same → read_end (read_bytes (if same then opened (p + 1) wanted else Refused (refusal p NoPrelude)) bytes) ≡ reads m → (read_end (read_bytes (opened (p + 1) wanted) bytes) ≡ reads m → IsOpened wanted bytes) → IsOpened (c ∷ wanted) (b ∷ bytes)
-opened_by p b c wanted bytes m true e h k = let r = k h in record { text = r.text; is = cc (same_byte b c e, r.is) }
+opened_by p b c wanted bytes m true e h k = let r = k h in record { text = r.text; is = cc (eqb-true b c e, r.is) }
 opened_by p b c wanted bytes m false e h k = absurd (cc (h, ap read_end (read_bytes-Refused (refusal p NoPrelude) bytes)))
 
 is_opened : (p : ℕ) (wanted bytes : List ℕ) (m : List Declaration) → read_end (read_bytes (opened p wanted) bytes) ≡ reads m → IsOpened wanted bytes

@@ -1,8 +1,9 @@
 -- What a reading has read so far is in order: closed trees over earlier names, and declarations that make a module.
 use Rattle.std.proofs.Common.{◌≡◌, ℕ, suc, ◌<◌, ◌≤◌, refl, subst, Bool, true, false, List, [], ◌∷◌, ◌++◌, length, Option, None, Some, position, arith}
-use Rattle.std.specs.Prelude.{nat_le, IsFalse, if◌then◌else◌, ◌||◌}
+use Rattle.std.specs.Prelude.{nat_le, IsFalse, if◌then◌else◌}
 use Rattle.std.specs.Str.{bytes_eq}
 use Rattle.std.proofs.lemmas.List.Quantifiers.{position-Some}
+use Rattle.std.proofs.lemmas.Bool.{or_from}
 use Rattle.lp_spec.specs.declared.form.Form.{Form}
 use Rattle.lp_spec.specs.declared.form.Form.TheVariants.{Symbol, Def, Thm}
 use Rattle.lp_spec.specs.Trees.{Tree, SortType, Var, Sym, Lam, Pi, loose, depth}
@@ -11,6 +12,7 @@ use Rattle.lp_spec.specs.ModuleOrder.{has_kind, symbols, is_declared, IsOver, Is
 use Rattle.lp_spec.specs.Tokens.{Token, Name, TypeWord, DefWord, ThmWord, Colon, Assign, Arrow, FatArrow, Dot, LeftParen, RightParen}
 use Rattle.lp_spec.specs.Reading.{variable_of, symbol_of, max_depth, IsNew}
 use Rattle.lp_spec.specs.ReadingFaults.{Frame, Enclosing, Domain, Product, Abstraction, scope_of, Head, TypeOf, BodyOf, State, Between, AfterKeyword, AfterName, AtTerm, AfterFirst, InApplication, Outcome, Goes, Stops, stops, meant, meaning, argued, atom, encloses, whole, declares, assigns, arrow, fat_arrow, applies, goes_on, advance, NameTwice, DkTooDeep}
+use Rattle.lp_spec.specs.Faults.{HasBody}
 
 -- a tree over so many symbols under so many binders
 pub record IsUnder (count d : ℕ) (t : Tree) : Type 0 where
@@ -30,12 +32,6 @@ AreFrames count (Enclosing f ∷ frames) = IsAppliedUnder count (length (scope_o
 AreFrames count (Domain name ∷ frames) = AreFrames count frames
 AreFrames count (Product name a ∷ frames) = IsUnder count (length (scope_of frames)) a × AreFrames count frames
 AreFrames count (Abstraction name a ∷ frames) = IsUnder count (length (scope_of frames)) a × AreFrames count frames
-
--- a declaration with a body has a form with one
-abbrev pub HasBody : Form → Type 0
-HasBody Symbol = ⊥
-HasBody Def = Unit {0}
-HasBody Thm = Unit {0}
 
 -- the declaration that is open can come after these
 abbrev pub IsHead : List Declaration → Head → Type 0
@@ -69,18 +65,15 @@ meant_under m frames name x None None e f h = absurd (cc)
 pub meaning-IsUnder : (m : List Declaration) (frames : List Frame) (name : List ℕ) (x : Tree) → meaning m frames name ≡ Some x → IsUnder (length (signature ++ m)) (length (scope_of frames)) x
 meaning-IsUnder m frames name x h = meant_under m frames name x (variable_of (scope_of frames) name) (symbol_of m name) refl refl h
 
-neither : (a b : Bool) → IsFalse a → IsFalse b → IsFalse (a || b)
-neither a b e f = grind (arith, e, f)
-
 pub argued-IsUnder : (count d : ℕ) (f : Option Tree) (x : Tree) → IsAppliedUnder count d f → IsUnder count d x → IsUnder count d (argued f x)
 argued-IsUnder count d None x h k = k
-argued-IsUnder count d (Some f) x h k = record { bound = omega (arith, h.bound, k.bound); kindless = neither (has_kind f) (has_kind x) h.kindless k.kindless; known = omega (arith, h.known, k.known) }
+argued-IsUnder count d (Some f) x h k = record { bound = omega (arith, h.bound, k.bound); kindless = or_from (has_kind f) (has_kind x) h.kindless k.kindless; known = omega (arith, h.known, k.known) }
 
 pub Pi-IsUnder : (count d : ℕ) (a b : Tree) → IsUnder count d a → IsUnder count (suc d) b → IsUnder count d (Pi a b)
-Pi-IsUnder count d a b h k = record { bound = omega (arith, h.bound, k.bound); kindless = neither (has_kind a) (has_kind b) h.kindless k.kindless; known = omega (arith, h.known, k.known) }
+Pi-IsUnder count d a b h k = record { bound = omega (arith, h.bound, k.bound); kindless = or_from (has_kind a) (has_kind b) h.kindless k.kindless; known = omega (arith, h.known, k.known) }
 
 pub Lam-IsUnder : (count d : ℕ) (a b : Tree) → IsUnder count d a → IsUnder count (suc d) b → IsUnder count d (Lam a b)
-Lam-IsUnder count d a b h k = record { bound = omega (arith, h.bound, k.bound); kindless = neither (has_kind a) (has_kind b) h.kindless k.kindless; known = omega (arith, h.known, k.known) }
+Lam-IsUnder count d a b h k = record { bound = omega (arith, h.bound, k.bound); kindless = or_from (has_kind a) (has_kind b) h.kindless k.kindless; known = omega (arith, h.known, k.known) }
 
 -- a whole type or body is closed
 pub whole-IsUnder : (count : ℕ) (frames : List Frame) (t u : Tree) → AreFrames count frames → IsUnder count (length (scope_of frames)) t → whole frames t ≡ Some u → IsUnder count 0 u

@@ -10,6 +10,7 @@ use Rattle.std.proofs.lemmas.List.Sums.{position_or_len_is}
 use Rattle.std.proofs.Math.Seq.{get_or-append_seam}
 use Rattle.std.proofs.lemmas.Slice.Eq.{bytes_eq-Decides}
 use Rattle.std.proofs.lemmas.Option.{slice_get-get_or}
+use Rattle.std.proofs.lemmas.Bool.{and_parts}
 use Rattle.lp_spec.specs.declared.form.Form.{Form}
 use Rattle.lp_spec.specs.declared.form.Form.TheVariants.{Symbol, Def, Thm}
 use Rattle.lp_spec.specs.Trees.{Tree, SortType, depth}
@@ -20,7 +21,7 @@ use Rattle.lp_spec.specs.TextLaws.{IsPlainName, ArePlain, IsBodyShallow, AreShal
 use Rattle.lp_spec.specs.Tokens.{is_letter, is_word_byte, word_token, Name, DefWord, ThmWord, Colon, Assign, Dot, Placed, at, before, Scanned, ended, tokens_from}
 use Rattle.lp_spec.specs.Reading.{symbol_of, max_depth, IsNew, IsWhole, Declares, symbol_declaration, definition, theorem, Completes, complete, next, Reads}
 use Rattle.text_laws.specs.ReadingLaws.{Reads-answer}
-use Rattle.text_laws.specs.WrittenTokens.{IsStop, Front, put, Found, Says, word_at, colon_at, assign_at, dot_at, decimal-bytes, bound_scan, both_true}
+use Rattle.text_laws.specs.WrittenTokens.{IsStop, Front, put, Found, Says, word_at, colon_at, assign_at, dot_at, decimal-bytes, bound_scan}
 use Rattle.text_laws.specs.WrittenReads.{AreNamed, IsWritable, found_as, tree_said}
 
 grouped : (k n c t a b e r : List ℕ) → k ++ n ++ c ++ t ++ (a ++ b) ++ e ++ r ≡ k ++ (n ++ (c ++ (t ++ (a ++ (b ++ (e ++ r))))))
@@ -213,8 +214,8 @@ apart b more d e same = let f : b ≡ 118 = cc in absurd (grind (arith, common_s
 safe_plain : (name : List ℕ) → is_safe name ≡ true → word_token name ≡ Name name → IsPlainName name
 safe_plain [] e f = absurd (cc)
 safe_plain (b ∷ more) e f =
-    let t = both_true (is_letter b) (not (b == 118) && list_all is_word_byte more) e in
-    let u = both_true (not (b == 118)) (list_all is_word_byte more) t.1 in
+    let t = and_parts (is_letter b) (not (b == 118) && list_all is_word_byte more) e in
+    let u = and_parts (not (b == 118)) (list_all is_word_byte more) t.1 in
     record { word = record { first = b; more = more; is = refl; letter = t.0; bytes = u.1 }; no_key = f; no_binder = λ d same. apart b more d u.0 same }
 
 signature_plain : ArePlain signature

@@ -5,6 +5,7 @@ use Rattle.std.specs.Str.{bytes_eq}
 use Rattle.std.proofs.lemmas.Slice.Eq.{bytes_eq-Decides}
 use Rattle.std.proofs.lemmas.Grind.{common_steps}
 use Rattle.std.proofs.lemmas.Fmt.{decimal_injective}
+use Rattle.std.proofs.lemmas.Bool.{false_from_ne_true, not-false}
 use Rattle.lp_spec.specs.Trees.{Tree, SortType, SortKind, Var, Sym, App, Lam, Pi, depth, loose}
 use Rattle.lp_spec.specs.Modules.{Declaration, signature, symbol_name}
 use Rattle.lp_spec.specs.ModuleOrder.{has_kind, symbols}
@@ -132,12 +133,8 @@ module _ (m ds : List Declaration) where
   same_bytes : (name : List ℕ) → bytes_eq name name ≡ true
   same_bytes name = (bytes_eq-Decides name name).1 refl
 
-  false_by : (b : Bool) → (b ≡ true → ⊥) → b ≡ false
-  false_by true h = absurd (h refl)
-  false_by false h = refl
-
   other_bytes : (a b : List ℕ) → (a ≡ b → ⊥) → bytes_eq a b ≡ false
-  other_bytes a b h = false_by (bytes_eq a b) (λ e. h ((bytes_eq-Decides a b).0 e))
+  other_bytes a b h = false_from_ne_true (bytes_eq a b) (λ e. h ((bytes_eq-Decides a b).0 e))
 
   tail_is : (a b : List ℕ) → ◌≡◌ {A = List ℕ} (118 ∷ a) (118 ∷ b) → a ≡ b
   tail_is a b e = cc
@@ -241,10 +238,6 @@ module _ (m ds : List Declaration) where
         holds = λ tokens. abstraction (r.holds (at (r.place + 1) FatArrow ∷ s.front tokens)) (s.holds tokens);
       }
 
-  false_is : (b : Bool) → not b ≡ false → b ≡ true
-  false_is true e = refl
-  false_is false e = absurd (cc)
-
   -- the text of every tree that can be written
   pub tree_said : AreNamed → (d : ℕ) (t : Tree) → IsWritable d t → IsSaid d t
   tree_said n d SortType w = word_said {d = d} {t = SortType} (record { first = 84; more = codes "ype"; is = refl; other = refl }) type_says
@@ -256,7 +249,7 @@ module _ (m ds : List Declaration) where
       let two = tree_said n d x (writable_argument f x w) in
       let says = application_says (enclosed (is_binder f) (tree_text m d f)) (enclosed (not (is_word x)) (tree_text m d x))
       (domain_says (is_binder f) (tree_text m d f) one.opener one.as_application one.term)
-      (enclosed_says (not (is_word x)) (tree_text m d x) two.opener (λ e. two.as_atom (false_is (is_word x) e)) two.term) in
+      (enclosed_says (not (is_word x)) (tree_text m d x) two.opener (λ e. two.as_atom (not-false (is_word x) e)) two.term) in
       record {
         opener = opener_append (enclosed (is_binder f) (tree_text m d f) ++ codes " ") (enclosed (not (is_word x)) (tree_text m d x))
             (opener_append (enclosed (is_binder f) (tree_text m d f)) (codes " ") (enclosed_opener (is_binder f) (tree_text m d f) one.opener));

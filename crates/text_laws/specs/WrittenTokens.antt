@@ -5,6 +5,7 @@ use Rattle.std.specs.Fmt.{digits, digits_onto, digit_glyph}
 use Rattle.std.specs.List.{list_all}
 use Rattle.std.proofs.lemmas.List.{append-nil}
 use Rattle.std.proofs.lemmas.Grind.{common_steps}
+use Rattle.std.proofs.lemmas.Bool.{and_parts, and_from, not-true}
 use Rattle.lp_spec.specs.Text.{binder_name}
 use Rattle.lp_spec.specs.TextLaws.{IsWordText}
 use Rattle.lp_spec.specs.Tokens.{Dot, LeftParen, RightParen, Colon, Assign, Arrow, FatArrow, Placed, at, is_letter, is_word_byte, is_space, word_token, Pending, Nothing, InWord, InComment, AfterSemicolon, Taken, goes, sticks, begins, after, before, Scanned, scan, tokens_from}
@@ -84,11 +85,6 @@ word_ended q word p b text e =
 word_longer : (q : ℕ) (word : List ℕ) (p b : ℕ) (text : List ℕ) → is_word_byte b ≡ true → scan (goes [] (InWord q word)) p (b ∷ text) ≡ scan (goes [] (InWord q (word ++ b ∷ []))) (p + 1) text
 word_longer q word p b text e = ap (λ (c : Bool). scan (if c then goes [] (InWord q (word ++ b ∷ [])) else after (at q (word_token word)) (begins p b)) (p + 1) text) e
 
-pub both_true : (a b : Bool) → (a && b) ≡ true → (a ≡ true) × (b ≡ true)
-both_true true true e = (refl, refl)
-both_true true false e = absurd (cc)
-both_true false b e = absurd (cc)
-
 -- the place behind a word and the tokens from there
 pub record WordScan (q : ℕ) (word : List ℕ) (p : ℕ) (text rest : List ℕ) : Type 0 where
   pub place : ℕ
@@ -98,7 +94,7 @@ word_scan : (q : ℕ) (word : List ℕ) (p : ℕ) (text rest : List ℕ) → lis
 word_scan q word p [] [] e h = absurd h
 word_scan q word p [] (b ∷ rest) e h = record { place = p; is = word_ended q word p b rest h ∙ ap (λ w. before (at q (word_token w) ∷ []) (tokens_from p (b ∷ rest))) (sym (append-nil word)) }
 word_scan q word p (b ∷ text) rest e h =
-    let t = both_true (is_word_byte b) (list_all is_word_byte text) e in
+    let t = and_parts (is_word_byte b) (list_all is_word_byte text) e in
     let r = word_scan q (word ++ b ∷ []) (p + 1) text rest t.1 h in
     record {
       place = r.place;
@@ -147,28 +143,19 @@ record CommentScan (q p : ℕ) (text rest : List ℕ) : Type 0 where
   place : ℕ
   is : scan (goes [] (InComment q)) p (text ++ rest) ≡ scan (goes [] (InComment q)) place rest
 
-not_true : (b : Bool) → not b ≡ true → b ≡ false
-not_true true e = absurd (cc)
-not_true false e = refl
-
 comment_scan : (q p : ℕ) (text rest : List ℕ) → list_all is_digit_byte text ≡ true → CommentScan q p text rest
 comment_scan q p [] rest e = record { place = p; is = refl }
 comment_scan q p (b ∷ text) rest e =
-    let t = both_true (is_digit_byte b) (list_all is_digit_byte text) e in
-    let u = both_true (not (b == 59)) (is_word_byte b) t.0 in
+    let t = and_parts (is_digit_byte b) (list_all is_digit_byte text) e in
+    let u = and_parts (not (b == 59)) (is_word_byte b) t.0 in
     let r = comment_scan q (p + 1) text rest t.1 in
-    record { place = r.place; is = comment_byte q p b (text ++ rest) (not_true (b == 59) u.0) ∙ r.is }
+    record { place = r.place; is = comment_byte q p b (text ++ rest) (not-true (b == 59) u.0) ∙ r.is }
 
 glyph_byte : (d : ℕ) → d < 10 → is_digit_byte (digit_glyph false d) ≡ true
 glyph_byte d h = grind (arith, common_steps)
 
-both_are : (a b : Bool) → a ≡ true → b ≡ true → (a && b) ≡ true
-both_are true true e f = refl
-both_are false b e f = absurd (cc)
-both_are true false e f = absurd (cc)
-
 digits_step : (last : Bool) (x : ℕ) (acc more : List ℕ) → is_digit_byte x ≡ true → list_all is_digit_byte acc ≡ true → list_all is_digit_byte more ≡ true → list_all is_digit_byte (if last then x ∷ acc else more) ≡ true
-digits_step true x acc more e f g = both_are (is_digit_byte x) (list_all is_digit_byte acc) e f
+digits_step true x acc more e f g = and_from (is_digit_byte x) (list_all is_digit_byte acc) e f
 digits_step false x acc more e f g = g
 
 digits_bytes : (k n : ℕ) (acc : List ℕ) → list_all is_digit_byte acc ≡ true → list_all is_digit_byte (digits_onto k 10 false n acc) ≡ true
@@ -177,7 +164,7 @@ digits_bytes (suc k) n acc h =
     let glyph = digit_glyph false (n % 10) in
     let small : n % 10 < 10 = omega arith in
     let here = glyph_byte (n % 10) small in
-    digits_step (n / 10 == 0) glyph acc (digits_onto k 10 false (n / 10) (glyph ∷ acc)) here h (digits_bytes k (n / 10) (glyph ∷ acc) (both_are (is_digit_byte glyph) (list_all is_digit_byte acc) here h))
+    digits_step (n / 10 == 0) glyph acc (digits_onto k 10 false (n / 10) (glyph ∷ acc)) here h (digits_bytes k (n / 10) (glyph ∷ acc) (and_from (is_digit_byte glyph) (list_all is_digit_byte acc) here h))
 
 -- the digits of a number are word bytes, and no `;`
 pub decimal-bytes : (n : ℕ) → list_all is_digit_byte (decimal n) ≡ true
@@ -187,8 +174,8 @@ decimal-bytes n = digits_bytes 64 n [] refl
 word_bytes : (text : List ℕ) → list_all is_digit_byte text ≡ true → list_all is_word_byte text ≡ true
 word_bytes [] e = refl
 word_bytes (b ∷ text) e =
-    let t = both_true (is_digit_byte b) (list_all is_digit_byte text) e in
-    both_are (is_word_byte b) (list_all is_word_byte text) (both_true (not (b == 59)) (is_word_byte b) t.0).1 (word_bytes text t.1)
+    let t = and_parts (is_digit_byte b) (list_all is_digit_byte text) e in
+    and_from (is_word_byte b) (list_all is_word_byte text) (and_parts (not (b == 59)) (is_word_byte b) t.0).1 (word_bytes text t.1)
 
 -- the name of a binder is an identifier
 pub binder_name-IsWordText : (d : ℕ) → IsWordText (binder_name d)

@@ -5,7 +5,7 @@
 //!
 //! | File | Laws |
 //! |---|---|
-//! | `ReadingSound`, `ReadingComplete` | what is not refused is of the grammar, and what is of the grammar is not refused |
+//! | `ReadingSound`, `ReadingComplete`, `TermEnds` | what is not refused is of the grammar, and what is of the grammar is not refused; how the tokens behind a term begin |
 //! | `ReadingLaws` | so every text has one answer |
 //! | `FaultNames`, `FaultContexts`, `FaultMoves`, `FaultReach`, `FaultStands`, `FaultFollows`, `FaultPlaces`, `FaultLeast`, `FaultLaws` | a text is refused for a fault that it shows, the one at the least place |
 //! | `FaultLimits` | and so it is under a limit of its bytes |
