@@ -1,10 +1,10 @@
 -- The laws of binding: how lifting and putting compose (Huet, Residual theory in lambda-calculus, 1994).
-use Rattle.std.proofs.Common.{◌≡◌, ℕ, zero, suc, ◌+◌, ◌-◌, ◌≤◌, refl, sym, ap, ◌∙◌, arith, List, [], ◌∷◌, ◌++◌, length, reverse}
+use Rattle.std.proofs.Common.{◌≡◌, ℕ, zero, suc, ◌+◌, ◌-◌, ◌<◌, ◌≤◌, refl, sym, ap, ◌∙◌, arith, List, [], ◌∷◌, ◌++◌, length, reverse}
 use Rattle.std.specs.Prelude.{slice_get}
 use Rattle.std.specs.Option.{option_map_or}
 use Rattle.std.proofs.lemmas.List.{length-reverse, reverse-append}
 use Rattle.std.proofs.Math.Path.{fun_ext}
-use Rattle.lp_spec.specs.Trees.{Tree, Var, raised, lift, put_var, put_at, put, put_all_var, put_all}
+use Rattle.lp_spec.specs.Trees.{Tree, SortType, SortKind, Var, Sym, App, Lam, Pi, size, raised, lift, put_var, put_at, put, put_all_var, put_all}
 use Rattle.lp_spec.specs.Substitution.{ren, sub, cons}
 use Rattle.lp_binding.specs.Composition.{ren_ren, sub_ren, sub_sub, sub_var, lift_at_is, lift_is, suc_lift, ups_put_var, put_at_is, put_is, put_all_at_is, put_all_var-high}
 
@@ -84,3 +84,13 @@ put_all-puts us t =
     first : (n : ℕ) → put_all_var 0 us n ≡ option_map_or (lift 0) (slice_get (reverse us) n) (Var (n - length us))
     first n = let h : 0 ≤ n = omega arith in let e : n - 0 ≡ n = omega arith in
         put_all_var-high 0 us n h ∙ ap (λ i. option_map_or (lift 0) (slice_get (reverse us) i) (Var (n - length us))) e
+
+-- every tree has a size
+pub size-positive : (t : Tree) → 0 < size t
+size-positive SortType = omega arith
+size-positive SortKind = omega arith
+size-positive (Var n) = omega arith
+size-positive (Sym s) = omega arith
+size-positive (App f x) = omega arith
+size-positive (Lam a b) = omega arith
+size-positive (Pi a b) = omega arith

@@ -191,3 +191,17 @@ put_all_at-one d a t = put_all_at_is d (a ∷ []) t ∙ ap (λ w. sub w t) (fun_
         put_all_var-high d (a ∷ []) n ge ∙ ap (λ i. option_map_or (lift d) (slice_get (a ∷ []) i) (Var (n - 1))) z ∙ grind arith)
         (cases_lt n (suc d)))
         (cases_lt n d)
+
+-- what was lifted over the variable of its place, with that variable put, is itself again
+pub put-lift_at : (t : Tree) → put (Var 0) (lift_at 1 1 t) ≡ t
+put-lift_at t = put_is (Var 0) (lift_at 1 1 t) ∙ ap (sub (cons (Var 0) Var)) (lift_at_is 1 1 t) ∙ sub_ren (cons (Var 0) Var) (raised 1 1) t ∙ ap (λ w. sub w t) (fun_ext each) ∙ sub_var t
+  where
+    low : raised 1 1 0 ≡ 0
+    low = grind arith
+
+    high : (n : ℕ) → raised 1 1 (suc n) ≡ suc (suc n)
+    high n = grind arith
+
+    each : (n : ℕ) → cons (Var 0) Var (raised 1 1 n) ≡ Var n
+    each zero = ap (cons (Var 0) Var) low
+    each (suc n) = ap (cons (Var 0) Var) (high n)

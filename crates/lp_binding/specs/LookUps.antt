@@ -1,7 +1,8 @@
 -- Items of lists by their numbers, and what is read off them.
-use Rattle.std.proofs.Common.{◌≡◌, ◌⊎◌, inl, inr, refl, subst, ℕ, zero, suc, arith, List, [], ◌∷◌, ◌++◌, Option, Some, None}
-use Rattle.std.specs.Prelude.{slice_get, option_map, option_and_then}
+use Rattle.std.proofs.Common.{◌≡◌, ◌⊎◌, inl, inr, ⊎_elim, refl, sym, ap, subst, ◌∙◌, ℕ, zero, suc, arith, List, [], ◌∷◌, ◌++◌, length, Option, Some, None}
+use Rattle.std.specs.Prelude.{slice_get, take, drop, option_map, option_and_then}
 use Rattle.std.specs.List.{AllByRecursion}
+use Rattle.std.proofs.lemmas.List.{take-append-drop}
 use Rattle.std.proofs.lemmas.Option.{slice_get_within, same_Some}
 
 -- an item of a list is one of a longer list
@@ -9,6 +10,25 @@ pub slice_get-append : {X : Type 0} (xs ys : List X) (i : ℕ) (x : X) → slice
 slice_get-append [] ys i x e = absurd (let h = slice_get_within [] i x e in omega arith)
 slice_get-append (z ∷ xs) ys zero x e = e
 slice_get-append (z ∷ xs) ys (suc i) x e = slice_get-append xs ys i x e
+
+-- behind a list stands the item that follows it
+pub slice_get-seam : {X : Type 0} (xs ys : List X) (y : X) → slice_get (xs ++ y ∷ ys) (length xs) ≡ Some y
+slice_get-seam [] ys y = refl
+slice_get-seam (x ∷ xs) ys y = slice_get-seam xs ys y
+
+pub slice_get-last : {X : Type 0} (xs : List X) (x : X) → slice_get (xs ++ x ∷ []) (length xs) ≡ Some x
+slice_get-last xs x = slice_get-seam xs [] x
+
+-- an item of a list with one more is an item of the list, or the new one at its place
+pub slice_get-one_more : {X : Type 0} (xs : List X) (x y : X) (i : ℕ) → slice_get (xs ++ x ∷ []) i ≡ Some y → (slice_get xs i ≡ Some y) ⊎ ((i ≡ length xs) × (x ≡ y))
+slice_get-one_more [] x y zero e = inr (refl, same_Some _ _ e)
+slice_get-one_more [] x y (suc i) e = inl e
+slice_get-one_more (z ∷ xs) x y zero e = inl e
+slice_get-one_more (z ∷ xs) x y (suc i) e = ⊎_elim (λ h. inl h) (λ h. inr (ap suc h.0, h.1)) (slice_get-one_more xs x y i e)
+
+-- an item of a front is the list's
+pub slice_get-of_take : {X : Type 0} (n : ℕ) (xs : List X) (i : ℕ) (x : X) → slice_get (take n xs) i ≡ Some x → slice_get xs i ≡ Some x
+slice_get-of_take n xs i x e = ap (λ l. slice_get l i) (sym (take-append-drop n xs)) ∙ slice_get-append (take n xs) (drop n xs) i x e
 
 -- what is read off an item of a list is read off that of a longer list
 pub option_map-append : {X Y : Type 0} (f : X → Y) (xs ys : List X) (i : ℕ) (y : Y) → option_map f (slice_get xs i) ≡ Some y → option_map f (slice_get (xs ++ ys) i) ≡ Some y

@@ -1,5 +1,5 @@
 -- Spines: a head and its arguments, the first on top.
-use Rattle.std.proofs.Common.{◌≡◌, refl, sym, ap, ◌∙◌, subst, ℕ, zero, suc, ◌-◌, ◌<◌, ◌≤◌, arith, length, map, List, [], ◌∷◌, ◌++◌, Option, Some, None}
+use Rattle.std.proofs.Common.{◌≡◌, refl, sym, ap, ◌∙◌, subst, ℕ, suc, ◌-◌, ◌<◌, ◌≤◌, arith, length, map, List, [], ◌∷◌, ◌++◌, Option, Some, None}
 use Rattle.std.specs.Prelude.{slice_get, option_map, option_and_then, IfOk, Result, Ok, Err}
 use Rattle.lp_spec.specs.declared.form.Form.{Form}
 use Rattle.lp_spec.specs.declared.form.Form.TheVariants.{Symbol, Def, Thm}
@@ -21,6 +21,7 @@ use Rattle.lp_conv.specs.Heads.{beta_of, functions_of}
 use Rattle.lp_conv.specs.GrowthLaws.{trees_at-Stays, AreKnown-Keeps}
 use Rattle.lp_conv.specs.GrowthLaws.{Grows-trans, IsHeld-Grows}
 use Rattle.std.proofs.Math.Path.{ap₂}
+use Rattle.std.proofs.lemmas.Option.{slice_get-map}
 
 -- what the walk to the head of a spine keeps
 pub record IsSpine (from : Module) (id : LpId) (m : Module) (head : LpId) (args : List LpId) : Type 0 where
@@ -67,16 +68,11 @@ beta-applied from m k body x made whole all rest g e known h is =
 
 -- a definition's body by its number
 module _ (ts : List Tree) (decls : List Decl) where
-  at-map : {X Y : Type 0} (f : X → Y) (xs : List X) (k : ℕ) → slice_get (map f xs) k ≡ option_map f (slice_get xs k)
-  at-map f [] k = refl
-  at-map f (x ∷ xs) zero = refl
-  at-map f (x ∷ xs) (suc k) = at-map f xs k
-
   definition-is : (s : ℕ) (d : Decl) → 13 ≤ s → slice_get decls (s - 13) ≡ Some d → symbol_definition (map (declaration_in ts) decls) s ≡ definition_of d.form (option_map (λ id. tree_at ts id.0) d.body)
   definition-is s d le at =
       let k : s ≡ suc (suc (suc (suc (suc (suc (suc (suc (suc (suc (suc (suc (suc (s - 13))))))))))))) = omega (arith, le) in
       let m = map (declaration_in ts) decls in
-      ap (symbol_definition m) k ∙ ap (option_and_then (λ d. definition_of d.form d.body)) (at-map (declaration_in ts) decls (s - 13) ∙ ap (option_map (declaration_in ts)) at)
+      ap (symbol_definition m) k ∙ ap (option_and_then (λ d. definition_of d.form d.body)) (slice_get-map (declaration_in ts) decls (s - 13) ∙ ap (option_map (declaration_in ts)) at)
 
   if-known : (o : Option LpId) → IsBodyKnown ts o → IsKnownIf ts o
   if-known None h = tt

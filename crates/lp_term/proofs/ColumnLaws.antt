@@ -1,5 +1,5 @@
 -- The trees of a list of shapes.
-use Rattle.std.proofs.Common.{◌≡◌, ℕ, zero, suc, ◌+◌, ◌<◌, refl, sym, ap, ◌∙◌, subst, arith, List, [], ◌∷◌, ◌++◌, length, Some, length-append, ◌⊎◌, ⊎_elim, inl, inr, true}
+use Rattle.std.proofs.Common.{◌≡◌, ℕ, zero, suc, ◌+◌, ◌<◌, refl, sym, ap, ◌∙◌, subst, arith, List, [], ◌∷◌, ◌++◌, length, Some, length-append, true}
 use Rattle.std.specs.Prelude.{slice_get}
 use Rattle.std.proofs.lemmas.Option.{slice_get_within, same_Some}
 use Rattle.std.proofs.Math.Path.{ap₂}
@@ -14,6 +14,7 @@ use Rattle.lp_term.specs.contracts.shape.ShapePartialEq.TheImpl as shape_eq
 use Rattle.lp_term.specs.Tables.{tree_at, Holds, tree_of_node, PartsBelow, IsDistinct, Stays}
 use Rattle.lp_term.specs.TableLaws.{tree_at-Holds, Stays-refl, Stays-trans, Stays-append, tree_of_node-Stays}
 use Rattle.lp_term.specs.Columns.{trees_from, trees_of}
+use Rattle.lp_binding.specs.LookUps.{slice_get-last}
 
 -- a shape more is a tree more
 pub trees_from-append : (ts : List Tree) (ss : List Shape) (s : Shape) → trees_from ts (ss ++ s ∷ []) ≡ trees_from ts ss ++ tree_of_node (trees_from ts ss) (node_of s) ∷ []
@@ -30,17 +31,6 @@ length-trees_of ss = omega (arith, length-trees_from [] ss)
 pub Stays-trees_from : (ts : List Tree) (ss : List Shape) → Stays ts (trees_from ts ss)
 Stays-trees_from ts [] = Stays-refl ts
 Stays-trees_from ts (s ∷ ss) = Stays-trans (Stays-append ts (tree_of_node ts (node_of s) ∷ [])) (Stays-trees_from (ts ++ tree_of_node ts (node_of s) ∷ []) ss)
-
-pub slice_get-last : {X : Type 0} (xs : List X) (x : X) → slice_get (xs ++ x ∷ []) (length xs) ≡ Some x
-slice_get-last [] x = refl
-slice_get-last (z ∷ xs) x = slice_get-last xs x
-
--- an item of a longer list is an old one or the last
-pub slice_get-one_more : {X : Type 0} (xs : List X) (x y : X) (i : ℕ) → slice_get (xs ++ x ∷ []) i ≡ Some y → (slice_get xs i ≡ Some y) ⊎ ((i ≡ length xs) × (x ≡ y))
-slice_get-one_more [] x y zero e = inr (refl, same_Some _ _ e)
-slice_get-one_more [] x y (suc i) e = inl e
-slice_get-one_more (z ∷ xs) x y zero e = inl e
-slice_get-one_more (z ∷ xs) x y (suc i) e = ⊎_elim (λ h. inl h) (λ h. inr (ap suc h.0, h.1)) (slice_get-one_more xs x y i e)
 
 -- the tree of each shape is that of its parts among all trees
 node_from : (ts : List Tree) (ss : List Shape) (j : ℕ) (m : Shape) → slice_get ss j ≡ Some m → PartsBelow (length ts + j) (node_of m) → slice_get (trees_from ts ss) (length ts + j) ≡ Some (tree_of_node (trees_from ts ss) (node_of m))

@@ -1,11 +1,11 @@
 -- Where a shape is found as shapes come and go.
-use Rattle.std.proofs.Common.{◌≡◌, ◌≢◌, ℕ, zero, suc, ◌<◌, refl, sym, ap, ◌∙◌, subst, arith, Bool, true, false, List, [], ◌∷◌, ◌++◌, length, Option, None, Some, length-append, take, drop, ◌⊎◌, ⊎_elim, inl, inr}
+use Rattle.std.proofs.Common.{◌≡◌, ◌≢◌, ℕ, zero, suc, ◌<◌, refl, sym, ap, ◌∙◌, subst, arith, Bool, true, false, List, [], ◌∷◌, ◌++◌, length, Option, None, Some, length-append, take, ◌⊎◌, ⊎_elim, inl, inr}
 use Rattle.std.specs.Prelude.{◌-◌, ◌^◌, ◌==◌, max, if◌then◌else◌, slice_get, slice_set}
 use Rattle.std.proofs.lemmas.Bool.{eqb-true}
 use Rattle.std.proofs.lemmas.Bool.Decides.{eqb_tells}
-use Rattle.std.proofs.lemmas.List.{length-set, length-take, take-append-drop}
+use Rattle.std.proofs.lemmas.List.{length-set, length-take}
 use Rattle.std.proofs.lemmas.Option.{slice_get_within, same_Some}
-use Rattle.lp_binding.specs.LookUps.{slice_get-append}
+use Rattle.lp_binding.specs.LookUps.{slice_get-append, slice_get-one_more, slice_get-of_take}
 use Rattle.lp_term.specs.declared.shape.Shape.{Shape}
 use Rattle.lp_term.specs.declared.shape.Shape.TheVariants as shape
 use Rattle.lp_term.specs.declared.shapes.Children.{Children}
@@ -14,7 +14,6 @@ use Rattle.lp_term.specs.declared.shapes.Slot.TheVariants as slot
 use Rattle.lp_term.specs.Shapes.{node_of}
 use Rattle.lp_term.specs.Tables.{PartsBelow}
 use Rattle.lp_term.specs.Indexed.{greater_part, nothing, no_children, with_child, IsChild, HasRoom, Has, Lacks, IsFull, IsWith, IsApart, IsIndexed, Finds, FindsOther}
-use Rattle.lp_term.proofs.ColumnLaws.{slice_get-one_more}
 
 -- an item of a list in which one was set
 slice_get-set : {X : Type 0} (xs : List X) (p : ℕ) (x : X) → p < length xs → slice_get (slice_set xs p x) p ≡ Some x
@@ -164,14 +163,11 @@ slice_get-take (suc n) [] i h = refl
 slice_get-take (suc n) (x ∷ xs) zero h = refl
 slice_get-take (suc n) (x ∷ xs) (suc i) h = slice_get-take n xs i (omega (arith, h))
 
-whole : {X : Type 0} (n : ℕ) (xs : List X) (i : ℕ) (x : X) → slice_get (take n xs) i ≡ Some x → slice_get xs i ≡ Some x
-whole n xs i x e = ap (λ l. slice_get l i) (sym (take-append-drop n xs)) ∙ slice_get-append (take n xs) (drop n xs) i x e
-
 pub IsIndexed-take : (n : ℕ) (shapes : List Shape) (children : List Children) (kept : Shape → Option ℕ) → IsIndexed shapes children kept → IsIndexed (take n shapes) (take n children) kept
-IsIndexed-take n shapes children kept t = record { each = each; lower = λ i s p h g. t.lower i s p (whole n shapes i s h) g; count = omega (arith, t.count, length-take n shapes, length-take n children); few = omega (arith, t.few, length-take n shapes) }
+IsIndexed-take n shapes children kept t = record { each = each; lower = λ i s p h g. t.lower i s p (slice_get-of_take n shapes i s h) g; count = omega (arith, t.count, length-take n shapes, length-take n children); few = omega (arith, t.few, length-take n shapes) }
   where
     each : (i : ℕ) (s : Shape) → Has (take n shapes) i s → IsWith (take n children) s i ⊎ IsApart (take n children) kept s i
     each i s h = ⊎_elim
-        (λ w. inl (record { part = w.part; with = w.with; greater = w.greater; at = slice_get-take n children w.part (let l = t.lower i s w.part (whole n shapes i s h) w.greater in let k = slice_get_within (take n shapes) i s h in omega (arith, l, k, length-take n shapes)) ∙ w.at; child = w.child }))
-        (λ a. inr (record { found = a.found; full = λ p c g e r. a.full p c g (whole n children p c e) r }))
-        (t.each i s (whole n shapes i s h))
+        (λ w. inl (record { part = w.part; with = w.with; greater = w.greater; at = slice_get-take n children w.part (let l = t.lower i s w.part (slice_get-of_take n shapes i s h) w.greater in let k = slice_get_within (take n shapes) i s h in omega (arith, l, k, length-take n shapes)) ∙ w.at; child = w.child }))
+        (λ a. inr (record { found = a.found; full = λ p c g e r. a.full p c g (slice_get-of_take n children p c e) r }))
+        (t.each i s (slice_get-of_take n shapes i s h))

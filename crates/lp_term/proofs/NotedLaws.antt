@@ -1,6 +1,6 @@
 -- A memo's entries.
 use Rattle.std.proofs.Common.{◌≡◌, ℕ, zero, suc, refl, sym, ap, ◌∙◌, arith, List, [], ◌∷◌, Option, Some, None, Bool, true, false, inl, inr, ◌⊎◌, ⊎_elim}
-use Rattle.std.proofs.lemmas.Bool.{eqb-true}
+use Rattle.std.proofs.lemmas.Bool.{eqb-true, and_parts}
 use Rattle.std.specs.Prelude.{slice_get, nat_eq, ◌&&◌, if◌then◌else◌, IfSome}
 use Rattle.std.specs.Map.{lookup}
 use Rattle.std.proofs.lemmas.Option.{same_Some}
@@ -14,10 +14,6 @@ use Rattle.lp_term.specs.contracts.memo.ChangePartialEq.TheImpl as change_eq
 use Rattle.lp_term.specs.contracts.memo.PlacePartialEq.TheImpl as place_eq
 use Rattle.lp_term.specs.Noted.{IsNoted}
 
-and_both : (a b : Bool) → (a && b) ≡ true → (a ≡ true) × (b ≡ true)
-and_both true b e = (refl, e)
-and_both false b e = absurd (cc)
-
 change_same : (c d : Change) → change_eq.eq-value.it c d ≡ true → c ≡ d
 change_same (Raise k) (Raise j) h = grind arith
 change_same Replace Replace h = refl
@@ -26,8 +22,8 @@ change_same _ _ h = absurd (cc)
 -- places that are equal by their test are one
 pub place_same : (p q : Place) → place_eq.eq-value.it p q ≡ true → p ≡ q
 place_same p q h =
-    let a = and_both (nat_eq p.id.0 q.id.0) (nat_eq p.depth q.depth && change_eq.eq-value.it p.change q.change) h in
-    let b = and_both (nat_eq p.depth q.depth) (change_eq.eq-value.it p.change q.change) a.1 in
+    let a = and_parts (nat_eq p.id.0 q.id.0) (nat_eq p.depth q.depth && change_eq.eq-value.it p.change q.change) h in
+    let b = and_parts (nat_eq p.depth q.depth) (change_eq.eq-value.it p.change q.change) a.1 in
     let x = eqb-true p.id.0 q.id.0 a.0 in
     let y = eqb-true p.depth q.depth b.0 in
     let z = change_same p.change q.change b.1 in

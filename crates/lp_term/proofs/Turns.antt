@@ -8,6 +8,7 @@ use Rattle.std.proofs.Math.Path.{ap₂}
 use Rattle.lp_spec.specs.Trees.{Tree, SortType, SortKind, Var, Sym, App, Lam, Pi, size, loose, lift, put_all_at}
 use Rattle.lp_binding.specs.Composition.{put_all_var-high}
 use Rattle.lp_binding.specs.Closed.{lift_at-closed, lift_at-zero, put_all_at-closed}
+use Rattle.lp_binding.specs.Binding.{size-positive}
 use Rattle.lp_term.specs.declared.LpId.{LpId}
 use Rattle.lp_term.specs.declared.LpNode.{LpNode}
 use Rattle.lp_term.specs.declared.LpNode.TheVariants as node
@@ -62,22 +63,13 @@ module _ {ts us : List Tree} (keeps : Keeps ts us) where
       ap₂ (λ a b. a + b) (ap₂ (λ n t. price n p.change * size t) (sizes-Keeps ids g) (tree_at-Stays keeps.stays p.id.0 h.0.0)) (work-Keeps ids tasks g h.1)
   work-Keeps ids (Join p ∷ tasks) g h = ap (λ n. 1 + n) (work-Keeps ids tasks g h.1)
 
-size_pos : (t : Tree) → 0 < size t
-size_pos SortType = omega arith
-size_pos SortKind = omega arith
-size_pos (Var n) = omega arith
-size_pos (Sym s) = omega arith
-size_pos (App f x) = omega arith
-size_pos (Lam f x) = omega arith
-size_pos (Pi f x) = omega arith
-
 price_two : (n : ℕ) (c : Change) → 2 ≤ price n c
 price_two n (Raise k) = omega arith
 price_two n Replace = omega arith
 
 price_pos : (n : ℕ) (c : Change) (t : Tree) → 0 < price n c * size t
-price_pos n (Raise k) t = omega (arith, size_pos t)
-price_pos n Replace t = omega (arith, size_pos t)
+price_pos n (Raise k) t = omega (arith, size-positive t)
+price_pos n Replace t = omega (arith, size-positive t)
 
 -- a visit that gives a tree
 module _ {ts us : List Tree} (keeps : Keeps ts us) (ids : List LpId) (place : Place) (tasks : List Task) (made : List LpId) (memo : List (Place × LpId)) where

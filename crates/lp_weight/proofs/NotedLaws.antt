@@ -1,7 +1,7 @@
 -- A memo's entries.
 use Rattle.std.proofs.Common.{◌≡◌, ℕ, zero, suc, refl, sym, ap, ◌∙◌, List, [], ◌∷◌, Option, Some, None, Bool, true, false, inl, inr, ◌⊎◌, ⊎_elim}
-use Rattle.std.proofs.lemmas.Bool.{eqb-true}
-use Rattle.std.specs.Prelude.{slice_get, nat_eq, ◌&&◌, if◌then◌else◌, IfSome}
+use Rattle.std.proofs.lemmas.Bool.{eqb-true, and_parts}
+use Rattle.std.specs.Prelude.{slice_get, nat_eq, if◌then◌else◌, IfSome}
 use Rattle.std.specs.Map.{lookup}
 use Rattle.indexmap.specs.IndexMap.{insert_entry}
 use Rattle.lp_weight.specs.declared.memo.Place.{Place}
@@ -10,14 +10,10 @@ use Rattle.lp_weight.specs.Noted.{IsNoted}
 use Rattle.std.proofs.Math.Path.{ap₂}
 use Rattle.std.proofs.lemmas.Option.{same_Some}
 
-and_both : (a b : Bool) → (a && b) ≡ true → (a ≡ true) × (b ≡ true)
-and_both true b e = (refl, e)
-and_both false b e = absurd (cc)
-
 -- places that are equal by their test are one
 pub place_same : (p q : Place) → place_eq.eq-value.it p q ≡ true → p ≡ q
 place_same p q h =
-    let a = and_both (nat_eq p.id.0 q.id.0) (nat_eq p.depth q.depth) h in
+    let a = and_parts (nat_eq p.id.0 q.id.0) (nat_eq p.depth q.depth) h in
     let x = eqb-true p.id.0 q.id.0 a.0 in
     let y = eqb-true p.depth q.depth a.1 in
     λ i. record { id = record { 0 = x i }; depth = y i }

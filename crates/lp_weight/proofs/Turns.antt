@@ -1,30 +1,17 @@
 -- What a turn does to a walk.
-use Rattle.std.proofs.Common.{◌≡◌, ℕ, ◌+◌, ◌<◌, refl, sym, ap, ◌∙◌, subst, arith, List, [], ◌∷◌, length, Result, Ok, Err, ◌⊎◌, ⊎_elim}
-use Rattle.std.specs.Prelude.{OnOk}
-use Rattle.lp_spec.specs.Trees.{Tree, SortType, SortKind, Var, Sym, App, Lam, Pi, size}
+use Rattle.std.proofs.Common.{◌≡◌, ℕ, ◌+◌, ◌<◌, refl, sym, ap, ◌∙◌, subst, arith, List, [], ◌∷◌, length, ◌⊎◌, ⊎_elim}
+use Rattle.lp_spec.specs.Trees.{Tree}
 use Rattle.lp_weight.specs.declared.memo.Place.{Place}
 use Rattle.lp_weight.specs.declared.measure.Task.{Task}
 use Rattle.lp_weight.specs.declared.measure.Task.TheVariants.{Visit, Join}
 use Rattle.lp_weight.specs.Saturation.{saturated}
 use Rattle.lp_weight.specs.Noted.{IsNoted}
 use Rattle.lp_weight.specs.Measures.{IsPlace, tree_of, AreTwo, Makes, IsWalk, work}
-
-pub OnOk-map : {T E P Q : Type 0} (r : Result T E) → (P → Q) → OnOk r P → OnOk r Q
-OnOk-map (Ok v) f h = f h
-OnOk-map (Err e) f h = tt
+use Rattle.lp_binding.specs.Binding.{size-positive}
 
 -- a sum of saturated numbers saturates as that of the numbers
 pub saturated-sum : (n a b : ℕ) → saturated (n + saturated a + saturated b) ≡ saturated (n + a + b)
 saturated-sum n a b = omega arith
-
-size_pos : (t : Tree) → 0 < size t
-size_pos SortType = omega arith
-size_pos SortKind = omega arith
-size_pos (Var n) = omega arith
-size_pos (Sym s) = omega arith
-size_pos (App f x) = omega arith
-size_pos (Lam a b) = omega arith
-size_pos (Pi a b) = omega arith
 
 module _ (amount : Place → ℕ) (trees : List Tree) (place : Place) (tasks : List Task) (amounts : List ℕ) (memo : List (Place × ℕ)) where
   -- a visit that gives the amount
@@ -36,7 +23,7 @@ module _ (amount : Place → ℕ) (trees : List Tree) (place : Place) (tasks : L
   }
 
   pub visit_less : work trees tasks < work trees (Visit place ∷ tasks)
-  visit_less = omega (arith, size_pos (tree_of trees place))
+  visit_less = omega (arith, size-positive (tree_of trees place))
 
   -- a visit that sets out the parts
   module _ (own : ℕ) (first second : Place) (two : AreTwo amount trees place own first second) where
