@@ -3,7 +3,7 @@ use Rattle.std.specs.Prelude.{ℕ, ◌≡◌, ◌≢◌, ◌+◌, ◌<◌, ◌�
 use Rattle.std.proofs.Common.{refl, sym, ap, subst, ◌∙◌, append_assoc, length-append, arith}
 use Rattle.std.proofs.lemmas.List.{append-nil}
 use Rattle.std.proofs.lemmas.Grind.{common_steps}
-use Rattle.std.proofs.lemmas.Bool.Decides.{Decides-eqb}
+use Rattle.std.proofs.lemmas.Bool.{eqb-true}
 use Rattle.bridge_base.specs.declared.faults.Kind.{Kind}
 use Rattle.bridge_base.specs.declared.faults.Kind.TheVariants as kind
 use Rattle.article_spec.specs.declared.commands.Command.{Command}
@@ -42,15 +42,12 @@ choose false true r a b c d x f g h k = g refl refl
 choose false false true a b c d x f g h k = h refl refl refl
 choose false false false a b c d x f g h k = k refl refl refl
 
-same_number : (a b : ℕ) → (a == b) ≡ true → a ≡ b
-same_number a b e = (Decides-eqb a b).0 e
-
 -- a front without a newline enters the open line
 scan-line : (front text : List ℕ) (n o : ℕ) (line : List ℕ) → IsLine front → length line + length front ≤ max_line → o + length line + length front ≤ max_article → scan (front ++ text) n o line ≡ scan text n o (line ++ front)
 scan-line [] text n o line h s w = rw append-nil refl
 scan-line (b ∷ front) text n o line h s w =
     choose (not (b == newline) && (length line == max_line)) (o + length line == max_article) (b == newline) _ _ _ _ _
-    (λ p. absurd (grind (arith, common_steps))) (λ p q. absurd (grind (arith, common_steps))) (λ p q r. absurd (h.0 (same_number b newline r)))
+    (λ p. absurd (grind (arith, common_steps))) (λ p q. absurd (grind (arith, common_steps))) (λ p q r. absurd (h.0 (eqb-true b newline r)))
     (λ p q r. scan-line front text n o (line ++ b ∷ []) h.1 (omega (arith, length-append line (b ∷ []))) (omega (arith, length-append line (b ∷ []))) ∙ ap (scan text n o) (append_assoc line (b ∷ []) front))
 
 scan-newline_byte : (b : ℕ) (more : List ℕ) (n o : ℕ) (line : List ℕ) → b ≡ newline → o + length line < max_article → scan (b ∷ more) n o line ≡ after_line n (content line) (scan more (n + 1) (o + length line + 1) [])
@@ -61,7 +58,7 @@ scan-newline_byte b more n o line is w =
 scan-long : (b : ℕ) (more : List ℕ) (n o : ℕ) (line : List ℕ) → b ≢ newline → length line ≡ max_line → scan (b ∷ more) n o line ≡ at_fault [] n kind.LineTooLong
 scan-long b more n o line other full =
     choose (not (b == newline) && (length line == max_line)) (o + length line == max_article) (b == newline) _ _ _ _ _
-    (λ p. refl) (λ p q. absurd (grind (arith, common_steps))) (λ p q r. absurd (other (same_number b newline r))) (λ p q r. absurd (grind (arith, common_steps)))
+    (λ p. refl) (λ p q. absurd (grind (arith, common_steps))) (λ p q r. absurd (other (eqb-true b newline r))) (λ p q r. absurd (grind (arith, common_steps)))
 
 scan-full : (b : ℕ) (more : List ℕ) (n o : ℕ) (line : List ℕ) → (length line ≡ max_line → b ≡ newline) → o + length line ≡ max_article → scan (b ∷ more) n o line ≡ at_fault [] n kind.InputTooLong
 scan-full b more n o line first full =
@@ -130,13 +127,13 @@ past_line b o line text h p =
     record { line = line; byte = b; more = text; is = refl; one_line = h.one_line; other = grind (arith, common_steps); full = full; within = omega (arith, h.within, full) }
 
 past_article : (b : ℕ) (o : ℕ) (line text : List ℕ) → OpenLine o line → (not (b == newline) && (length line == max_line)) ≡ false → (o + length line == max_article) ≡ true → LongArticle o (line ++ b ∷ text)
-past_article b o line text h p q = record { line = line; byte = b; more = text; is = refl; one_line = h.one_line; short = h.short; first = λ full. grind (arith, common_steps); full = same_number (o + length line) max_article q }
+past_article b o line text h p q = record { line = line; byte = b; more = text; is = refl; one_line = h.one_line; short = h.short; first = λ full. grind (arith, common_steps); full = eqb-true (o + length line) max_article q }
 
 with_byte : (b : ℕ) (o : ℕ) (line : List ℕ) → OpenLine o line → (not (b == newline) && (length line == max_line)) ≡ false → (o + length line == max_article) ≡ false → (b == newline) ≡ false → OpenLine o (line ++ b ∷ [])
 with_byte b o line h p q r = record { one_line = IsLine-push b (λ e. grind (arith, common_steps)) line h.one_line; short = grind (arith, common_steps, h.short); within = grind (arith, common_steps, h.within) }
 
 ended_by : (b : ℕ) (o : ℕ) (line text : List ℕ) → OpenLine o line → (o + length line == max_article) ≡ false → (b == newline) ≡ true → EndedLine o (line ++ b ∷ text) line text (content line)
-ended_by b o line text h q r = record { is = ap (λ x. line ++ x ∷ text) (same_number b newline r); one_line = h.one_line; short = h.short; within = grind (arith, common_steps, h.within); means = refl }
+ended_by b o line text h q r = record { is = ap (λ x. line ++ x ∷ text) (eqb-true b newline r); one_line = h.one_line; short = h.short; within = grind (arith, common_steps, h.within); means = refl }
 
 goes_on : (text : List ℕ) (n o : ℕ) (line : List ℕ) → OpenLine o line → GoesOn n o (line ++ text)
 goes_on [] n o line h = subst (GoesOn n o) (sym (append-nil line)) (to_line (open_line h))

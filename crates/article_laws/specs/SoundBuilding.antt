@@ -1,5 +1,5 @@
 -- The words that build objects keep a state sound.
-use Rattle.std.proofs.Common.{◌≡◌, ℕ, ◌+◌, List, [], ◌∷◌, ◌++◌, map, length, true, Option, None, Some, Result, Ok, refl, sym, ap, subst, ◌∙◌, arith}
+use Rattle.std.proofs.Common.{◌≡◌, ℕ, List, [], ◌∷◌, ◌++◌, map, length, true, Option, None, Some, Result, Ok, refl, sym, ap, subst, ◌∙◌, arith}
 use Rattle.bridge_base.specs.declared.faults.Kind.{Kind}
 use Rattle.std.specs.Prelude.{is_some}
 use Rattle.std.specs.Option.{ok_or, option_map}
@@ -15,7 +15,9 @@ use Rattle.hol_spec.specs.Symbols.{Symbol, generic_type, operator_arity, new_con
 use Rattle.hol_spec.specs.Taken.{OperatorTaken, TypeTaken, TypesTaken, TermTaken}
 use Rattle.proof_laws.specs.TakenTerms.{close-taken}
 use Rattle.proof_laws.specs.SymbolGrowth.{type-more, types-more}
+use Rattle.proof_laws.specs.ProofLaws.{symbols_of-symbols}
 use Rattle.hol_laws.specs.Members.{All-weaker}
+use Rattle.hol_laws.specs.TypeLaws.{count-types_of}
 use Rattle.hol_spec.specs.Rules.{abstraction}
 use Rattle.hol_spec.specs.Proofs.{Made, symbols_of}
 use Rattle.article_spec.specs.State.{Object, State}
@@ -26,7 +28,7 @@ use Rattle.article_spec.specs.Changes.{with_stack, with_symbols}
 use Rattle.article_spec.specs.Building.{nil, cons, hd_tl, type_op, var_type, op_type, const, const_term, var, var_term, app_term, abs_term, def, ref, remove, drop_object}
 use Rattle.article_laws.specs.Soundness.{IsTermObject, IsObject, AreObjects, IsSound}
 use Rattle.article_laws.specs.SoundStates.{bound, passed, answered, demanded, found, type_limits, term_limits, object-more, restacked, AreTakenAfter, symbols-more, inserted, taken_out}
-use Rattle.article_laws.specs.SoundInputs.{symbols_of-taken, operator-new, constant-new, operator-used, constant-used}
+use Rattle.article_laws.specs.SoundInputs.{operator-new, constant-new, operator-used, constant-used}
 use Rattle.article_laws.specs.SoundOperands.{IsTypeObject, any-gives, object-gives, list-gives, type-gives, variable-gives, term-gives, types-gives, Anything, IsVariableObject, pop-gives, head_and_tail-gives}
 
 -- another stack of objects
@@ -78,10 +80,6 @@ all-types : (symbols : List Symbol) (ts : List HolType) → AllByRecursion (Type
 all-types symbols [] h = tt
 all-types symbols (t ∷ ts) h = (h.0, all-types symbols ts h.1)
 
-pub count-types : (ts : List HolType) → count (types_of ts) ≡ length ts
-count-types [] = refl
-count-types (t ∷ ts) = ap (λ k. k + 1) (count-types ts) ∙ grind arith
-
 pub op_type-sound : (s t : State) → IsSound s → op_type s ≡ Ok t → IsSound t
 op_type-sound s t g e =
     let symbols = symbols_of s.made in
@@ -92,11 +90,11 @@ op_type-sound s t g e =
     let h = pop-gives s.made as_types (AllByRecursion (IsTypeObject s.made)) (types-gives s.made) s.stack arguments.0 g.stack arguments.1 in
     let k = pop-gives s.made as_type_operator (Anything s.made) (any-gives s.made as_type_operator) arguments.0.1 n.0 h.1 n.1 in
     let new = new_operator symbols n.0.0 (length arguments.0.0) in
-    let operator : OperatorTaken (symbols ++ new) n.0.0 (count (types_of arguments.0.0)) = subst (OperatorTaken (symbols ++ new) n.0.0) (sym (count-types arguments.0.0)) (operator-used symbols n.0.0 (length arguments.0.0) arity.0 arity.1) in
+    let operator : OperatorTaken (symbols ++ new) n.0.0 (count (types_of arguments.0.0)) = subst (OperatorTaken (symbols ++ new) n.0.0) (sym (count-types_of arguments.0.0)) (operator-used symbols n.0.0 (length arguments.0.0) arity.0 arity.1) in
     let types : TypesTaken (symbols ++ new) (types_of arguments.0.0) = types-more symbols new (types_of arguments.0.0) (all-types symbols arguments.0.0 (All-weaker (IsTypeObject s.made) (TypeTaken symbols) (λ a b. b.0) arguments.0.0 h.0)) in
     let whole = HolType.operator n.0.0 (types_of arguments.0.0) in
     taking s t new (object.type whole) n.0.1 limit.2 g (operator-new s.made n.0.0 (length arguments.0.0))
-    (subst (λ xs. TypeTaken xs whole) (sym (symbols_of-taken s.made new)) (operator, types), type_limits whole limit.0 limit.1) k.1
+    (subst (λ xs. TypeTaken xs whole) (sym (symbols_of-symbols s.made new)) (operator, types), type_limits whole limit.0 limit.1) k.1
 
 pub const-sound : (s t : State) → IsSound s → const s ≡ Ok t → IsSound t
 const-sound s t g e =
@@ -117,7 +115,7 @@ const_term-sound s t g e =
     let whole = Term.constant n.0.0 a.0.0 in
     let both : TermTaken (symbols ++ new) whole = (constant-used symbols n.0.0 a.0.0 instance.0 instance.1, type-more symbols new a.0.0 h.0.0) in
     taking s t new (object.term whole) n.0.1 limit.2 g (constant-new s.made n.0.0)
-    (record { typed = refl; taken = subst (λ xs. TermTaken xs whole) (sym (symbols_of-taken s.made new)) both; within = term_limits whole limit.0 limit.1 }) k.1
+    (record { typed = refl; taken = subst (λ xs. TermTaken xs whole) (sym (symbols_of-symbols s.made new)) both; within = term_limits whole limit.0 limit.1 }) k.1
 
 pub var-sound : (s t : State) → IsSound s → var s ≡ Ok t → IsSound t
 var-sound s t g e =

@@ -1,5 +1,5 @@
 -- The words that define symbols keep a state sound.
-use Rattle.std.proofs.Common.{◌≡◌, ℕ, zero, suc, ◌+◌, ◌<◌, List, [], ◌∷◌, ◌++◌, map, length, true, false, ◌&&◌, cond, Option, None, Some, Result, Ok, slice_get, refl, sym, ap, subst, ◌∙◌, arith}
+use Rattle.std.proofs.Common.{◌≡◌, ℕ, ◌+◌, ◌<◌, List, [], ◌∷◌, ◌++◌, map, length, true, false, ◌&&◌, cond, Option, None, Some, Result, Ok, slice_get, refl, sym, ap, subst, ◌∙◌, arith}
 use Rattle.std.specs.Prelude.{is_some, not, nat_eq}
 use Rattle.std.specs.Option.{ok_or, option_map, option_or, option_to_list}
 use Rattle.std.specs.List.{AllByRecursion, IsAmong, filter_map, cons_option, list_all, list_any}
@@ -8,11 +8,12 @@ use Rattle.std.proofs.lemmas.List.Folds.{list_any-append}
 use Rattle.std.proofs.Math.Seq.{get_or-append_seam}
 use Rattle.std.proofs.lemmas.Bool.Decides.{Decides-eqb}
 use Rattle.std.proofs.lemmas.Option.{same_Some}
+use Rattle.std.proofs.lemmas.Bool.{and_parts, or_parts, or_from, not-true}
 use Rattle.hol_spec.specs.Names.{Name}
 use Rattle.hol_spec.specs.NameEquality.{name_eq}
 use Rattle.hol_laws.specs.NameEqualityLaws.{name_eq-Decides}
 use Rattle.hol_spec.specs.Lists.{is_in}
-use Rattle.hol_laws.specs.ListLaws.{All-filter, neither}
+use Rattle.hol_laws.specs.ListLaws.{All-filter}
 use Rattle.hol_spec.specs.Types.{HolType}
 use Rattle.hol_spec.specs.Primitives.{bool}
 use Rattle.hol_spec.specs.Terms.{Term, Variable, free, app, variable_eq, type_of, HasType}
@@ -29,21 +30,23 @@ use Rattle.proof_laws.specs.EquationLaws.{equation_parts-is, equation-sides}
 use Rattle.hol_spec.specs.DefinitionLists.{ConstantPairs, names_of, variables_of, variable_side, of_equation, variable_equation, defining_equations, definiens, is_definition_list, definitions_in}
 use Rattle.hol_spec.specs.TypeDefinitions.{IsTypeDefinition, are_type_variables_of, first_law, second_law}
 use Rattle.hol_spec.specs.Symbols.{Symbol, defined, generic_type, is_input_constant, is_taken_constant}
-use Rattle.proof_laws.specs.SymbolGrowth.{symmetric, generic_type-new, or-neither, term-more, type-more}
+use Rattle.proof_laws.specs.SymbolGrowth.{symmetric, generic_type-new, term-more, type-more}
 use Rattle.hol_spec.specs.Taking.{Takes, AreNew}
 use Rattle.hol_spec.specs.Taking as taking
 use Rattle.hol_spec.specs.Taken.{TypeTaken, TermTaken, TermsTaken}
 use Rattle.proof_laws.specs.TakenTerms.{type_of-taken, sides}
 use Rattle.hol_laws.specs.Members.{All-weaker}
+use Rattle.hol_laws.specs.PlaceLaws.{slice_get-append}
 use Rattle.hol_spec.specs.Measures.{type_measure, sequent_measure}
 use Rattle.hol_spec.specs.Rules.{Parameters, constants, IsDefining, derived}
 use Rattle.hol_spec.specs.Rules as rule
-use Rattle.proof_laws.specs.RuleTaken.{lookup-All, list_parts, both}
+use Rattle.proof_laws.specs.RuleTaken.{lookup-All, list_parts}
 use Rattle.proof_laws.specs.RuleSequents.{predicate-typed}
 use Rattle.hol_spec.specs.Derivations.{type_definition_in}
 use Rattle.proof_laws.specs.StepsDerive.{among-front}
 use Rattle.hol_spec.specs.Proofs.{Made, symbols_of, steps_of, sequents_of, sequent_at, definitions_of}
 use Rattle.proof_laws.specs.ProofGrowth.{All-get, symbols_of-append, sequents_of-append, definitions_of-append, over-sequents}
+use Rattle.proof_laws.specs.ProofLaws.{symbols_of-symbols}
 use Rattle.hol_spec.specs.declared.StepKind.TheVariants as by_rule
 use Rattle.article_spec.specs.State.{Object, State, Objects}
 use Rattle.article_spec.specs.State as object
@@ -54,9 +57,8 @@ use Rattle.article_spec.specs.Inference.{step_by}
 use Rattle.article_spec.specs.DefiningWords.{define_const, constant_objects, define_const_list, application_parts, predicate_fits, are_new_names, make_type, define_type, define_type_op}
 use Rattle.article_laws.specs.Soundness.{IsTermObject, IsObject, AreObjects, IsSound}
 use Rattle.article_laws.specs.SoundStates.{bound, passed, answered, demanded, found, restacked, AreTakenAfter, symbols-more, in_limits-All, sequent-within, theorem-sound, conclude-sound, at_step}
-use Rattle.article_laws.specs.SoundInputs.{symbols_of-taken}
 use Rattle.article_laws.specs.SoundOperands.{Anything, any-gives, term-gives, constant_pairs-gives, IsConstantPair, pop-gives}
-use Rattle.article_laws.specs.SoundInference.{said, typed-is, not-true, one_popped}
+use Rattle.article_laws.specs.SoundInference.{sequent_at-IsSequent, typed-is, one_popped}
 
 -- definitions that are made are among those of what was made
 definitions_of-taken : (made : List Made) (ds : List Definition) → definitions_of (made ++ map Made.symbol (map defined ds)) ≡ definitions_of made ++ ds
@@ -77,13 +79,8 @@ are-defined : (made : List Made) (ds : List Definition) → AllByRecursion (IsAm
 are-defined made ds = subst (λ es. AllByRecursion (IsAmong es) ds) (sym (definitions_of-taken made ds)) (all-second (definitions_of made) ds)
 
 -- a premise stays one
-get-left : {A : Type 0} (xs ys : List A) (i : ℕ) (x : A) → slice_get xs i ≡ Some x → slice_get (xs ++ ys) i ≡ Some x
-get-left [] ys i x e = absurd (cc)
-get-left (y ∷ xs) ys zero x e = e
-get-left (y ∷ xs) ys (suc i) x e = get-left xs ys i x e
-
 premise-more : (m ys : List Made) (i : ℕ) (s : Sequent) → slice_get (sequents_of m) i ≡ Some s → slice_get (sequents_of (m ++ ys)) i ≡ Some s
-premise-more m ys i s e = ap (λ l. slice_get l i) (sequents_of-append m ys) ∙ get-left (sequents_of m) (sequents_of ys) i s e
+premise-more m ys i s e = ap (λ l. slice_get l i) (sequents_of-append m ys) ∙ slice_get-append (sequents_of m) (sequents_of ys) i s e
 
 -- a theorem on the stack says a sequent over what is taken
 said-taken : (s : State) (i : ℕ) → IsSound s → i < length (steps_of s.made) → TermsTaken (symbols_of s.made) (sequent_at s.made i)
@@ -112,7 +109,7 @@ define_const-sound s t g e =
       earlier = tt {0};
       rule = rule.Rule.define_const defining refl;
       defined = are-defined s.made (d ∷ []);
-      parameters = subst (λ xs. TermTaken xs u.0.0) (sym (symbols_of-taken s.made (defined d ∷ []))) (term-more symbols (defined d ∷ []) u.0.0 h.0.taken);
+      parameters = subst (λ xs. TermTaken xs u.0.0) (sym (symbols_of-symbols s.made (defined d ∷ []))) (term-more symbols (defined d ∷ []) u.0.0 h.0.taken);
     }) refl variables.2
 
 -- an equation v = t that is typed and over what is taken
@@ -146,17 +143,17 @@ module _ (symbols : List Symbol) where
 
 still-new : (symbols : List Symbol) (n m : Name) (t : Term) → is_taken_constant symbols n ≡ false → name_eq n m ≡ false → is_taken_constant (symbols ++ defined (Definition.constant m t) ∷ []) n ≡ false
 still-new symbols n m t new other =
-    let parts = or-neither (is_some (generic_type symbols n)) (list_any (is_input_constant n) symbols) new in
-    neither _ _
+    let parts = or_parts (is_some (generic_type symbols n)) (list_any (is_input_constant n) symbols) new in
+    or_from _ _
     (ap is_some (generic_type-new symbols (defined (Definition.constant m t) ∷ []) n parts.0 ∙ ap (λ b. option_or (cond b (type_of t) None) None) other))
-    (list_any-append (is_input_constant n) symbols (defined (Definition.constant m t) ∷ []) ∙ neither _ _ parts.1 refl)
+    (list_any-append (is_input_constant n) symbols (defined (Definition.constant m t) ∷ []) ∙ or_from _ _ parts.1 refl)
 
 all-still-new : (symbols : List Symbol) (m : Name) (t : Term) (ns : List Name) → list_any (is_taken_constant symbols) ns ≡ false → is_in name_eq m ns ≡ false → list_any (is_taken_constant (symbols ++ defined (Definition.constant m t) ∷ [])) ns ≡ false
 all-still-new symbols m t [] e f = refl
 all-still-new symbols m t (n ∷ ns) e f =
-    let a = or-neither (is_taken_constant symbols n) (list_any (is_taken_constant symbols) ns) e in
-    let b = or-neither (name_eq m n) (is_in name_eq m ns) f in
-    neither _ _ (still-new symbols n m t a.0 (symmetric name_eq name_eq-Decides m n b.0)) (all-still-new symbols m t ns a.1 b.1)
+    let a = or_parts (is_taken_constant symbols n) (list_any (is_taken_constant symbols) ns) e in
+    let b = or_parts (name_eq m n) (is_in name_eq m ns) f in
+    or_from _ _ (still-new symbols n m t a.0 (symmetric name_eq name_eq-Decides m n b.0)) (all-still-new symbols m t ns a.1 b.1)
 
 -- the constants of a list are taken one after another
 listed-taken : (d : Variable → Option Term) → ((v : Variable) (t : Term) → d v ≡ Some t → IsDefining v.1 t) → (ps : ConstantPairs) (m : List Made) → ((v : Variable) (t : Term) → d v ≡ Some t → TermTaken (symbols_of m) t)
@@ -175,8 +172,8 @@ listed-taken d defining (p ∷ ps) m taken e new apart = go (d p.1) (defining p.
     go None f h e later = absurd (cc)
     go (Some t) f h e later =
         let x = defined (Definition.constant p.0 t) in
-        let a = or-neither (is_taken_constant (symbols_of m) p.0) (list_any (is_taken_constant (symbols_of m)) (names_of ps)) new in
-        let b = both (not (is_in name_eq p.0 (names_of ps))) (no_repeats name_eq (names_of ps)) apart in
+        let a = or_parts (is_taken_constant (symbols_of m) p.0) (list_any (is_taken_constant (symbols_of m)) (names_of ps)) new in
+        let b = and_parts (not (is_in name_eq p.0 (names_of ps))) (no_repeats name_eq (names_of ps)) apart in
         let symbols : symbols_of (m ++ Made.symbol x ∷ []) ≡ symbols_of m ++ x ∷ [] = symbols_of-append m (Made.symbol x ∷ []) in (
           taking.Takes.constant a.0 (f t refl),
           h t refl,
@@ -192,8 +189,8 @@ together : (symbols : List Symbol) (es : TermPairs) → AllByRecursion (Defines 
     → AllByRecursion (λ (e : Variable × Term). IsDefining e.0.1 e.1) es
 together symbols [] h c v = tt
 together symbols (e ∷ es) h c v =
-    let a = both (is_closed e.1) (list_all (λ (e : Variable × Term). is_closed e.1) es) c in
-    let b = both (has_type_variables_of e.0.1 e.1) (list_all (λ (e : Variable × Term). has_type_variables_of e.0.1 e.1) es) v in
+    let a = and_parts (is_closed e.1) (list_all (λ (e : Variable × Term). is_closed e.1) es) c in
+    let b = and_parts (has_type_variables_of e.0.1 e.1) (list_all (λ (e : Variable × Term). has_type_variables_of e.0.1 e.1) es) v in
     (record { typed = h.0.typed; closed = a.0; variables = b.0 }, together symbols es h.1 a.1 b.1)
 
 pub define_const_list-sound : (s t : State) → IsSound s → define_const_list s ≡ Ok t → IsSound t
@@ -210,7 +207,7 @@ define_const_list-sound s t g e =
     let list = passed (demand (is_definition_list pairs one) BadDefinitionList) _ t variables.2 in
     let h = one_popped s s.stack i.0 g.stack i.1 in
     let k = pop-gives s.made as_constant_pairs (AllByRecursion (IsConstantPair s.made)) (constant_pairs-gives s.made) i.0.1 p.0 h.rest p.1 in
-    let is = said s i.0.0 g h.step in
+    let is = sequent_at-IsSequent s i.0.0 g h.step in
     let over = said-taken s i.0.0 g h.step in
     let defines : AllByRecursion (Defines symbols) equations = All-filter (Defines symbols) (λ e. is_in variable_eq e.0 (variables_of pairs)) (filter_map variable_equation one.hypotheses) (equations-All symbols one.hypotheses is.hypotheses over.hypotheses) in
     let defining = together symbols equations defines (demanded _ NotClosed closed.0 closed.1) (demanded _ ExtraTypeVars variables.0 variables.1) in
@@ -228,7 +225,7 @@ define_const_list-sound s t g e =
       earlier = (premise-more s.made (map Made.symbol (map defined ds)) i.0.0 one (at_step s.made i.0.0 h.step), tt {0});
       rule = rule.Rule.define_const_list defining good refl;
       defined = are-defined s.made ds;
-      parameters = subst (λ xs. AllByRecursion (λ (q : Name × Variable). TypeTaken xs q.1.1) pairs) (sym (symbols_of-taken s.made (map defined ds)))
+      parameters = subst (λ xs. AllByRecursion (λ (q : Name × Variable). TypeTaken xs q.1.1) pairs) (sym (symbols_of-symbols s.made (map defined ds)))
           (All-weaker (IsConstantPair s.made) (λ q. TypeTaken (symbols ++ map defined ds) q.1.1) (λ q j. type-more symbols (map defined ds) q.1.1 j.1.0) pairs k.0);
     }) refl list.2
 
@@ -255,9 +252,9 @@ fits-is variables (Some parts) f u x e is =
 new-names : (symbols : List Symbol) (names : TypeNames) (x : Unit {0}) → are_new_names symbols names ≡ Ok x → AreNew symbols names
 new-names symbols names x e =
     let none = not-true _ (demanded _ NameTaken x e) in
-    let a = or-neither _ _ none in
-    let b = or-neither _ _ a.0 in
-    let c = or-neither _ _ b.0 in
+    let a = or_parts _ _ none in
+    let b = or_parts _ _ a.0 in
+    let c = or_parts _ _ b.0 in
     record { operator = c.0; abstraction = c.1; representation = b.1; apart = a.1 }
 
 used : (m : List Made) (names : TypeNames) (c : HolType) (f u p : Term) → p ≡ app f u → HasType u c → IsAmong (definitions_of m) (Definition.type_operator names c f) → AllByRecursion (IsAmong (definitions_of m)) (type_definition_in names p)
@@ -279,7 +276,7 @@ make_type-sound s t names i c f u g l new fit alone is typed e =
     let stack = object.constant names.representation ∷ object.constant names.abstraction ∷ object.type_operator names.operator ∷ s.stack in
     let s1 = with_symbols (with_stack s stack) (defined d ∷ []) in
     let sound : IsSound s1 = symbols-more (defined d ∷ []) (with_stack s stack) (restacked s stack g (tt {0}, (tt {0}, (tt {0}, g.stack)))) (
-      taking.Takes.type_operator new (predicate-typed names c f one definition (said s i g l).conclusion) fit.closed fit.names,
+      taking.Takes.type_operator new (predicate-typed names c f one definition (sequent_at-IsSequent s i g l).conclusion) fit.closed fit.names,
       (type_of-taken symbols u c application.1 typed, application.0),
       tt {0},
     ) in

@@ -1,9 +1,10 @@
 -- The words that infer keep a state sound: each makes an instance of its rule.
-use Rattle.std.proofs.Common.{◌≡◌, ℕ, ◌<◌, List, [], ◌∷◌, length, Bool, true, false, Option, None, Some, Ok, refl, sym, ap, subst, ◌∙◌}
+use Rattle.std.proofs.Common.{◌≡◌, ℕ, ◌<◌, List, [], ◌∷◌, length, true, Option, None, Some, Ok, refl, sym, ap, subst, ◌∙◌}
 use Rattle.std.specs.Prelude.{not}
 use Rattle.std.specs.Option.{ok_or}
 use Rattle.std.specs.List.{AllByRecursion, IsAmong, list_all}
 use Rattle.std.proofs.lemmas.Option.{same_Some}
+use Rattle.std.proofs.lemmas.Bool.{not-true}
 use Rattle.hol_spec.specs.Types.{HolType}
 use Rattle.hol_laws.specs.TypeLaws.{type_eq-Decides}
 use Rattle.hol_spec.specs.Primitives.{bool, function}
@@ -33,8 +34,8 @@ use Rattle.article_laws.specs.SoundStates.{bound, passed, demanded, found, list_
 use Rattle.article_laws.specs.SoundOperands.{variable-gives, term-gives, theorem-gives, substitution-gives, IsStepNumber, IsVariableObject, IsTypePair, IsTermPair, pop-gives}
 
 -- a theorem on the stack says a sequent
-pub said : (s : State) (i : ℕ) → IsSound s → i < length (steps_of s.made) → IsSequent (sequent_at s.made i)
-said s i g l = All-get IsSequent (sequents_of s.made) i (sequent_at s.made i) (proof-sequents s.made g.proof) (at_step s.made i l)
+pub sequent_at-IsSequent : (s : State) (i : ℕ) → IsSound s → i < length (steps_of s.made) → IsSequent (sequent_at s.made i)
+sequent_at-IsSequent s i g l = All-get IsSequent (sequents_of s.made) i (sequent_at s.made i) (proof-sequents s.made g.proof) (at_step s.made i l)
 
 pub typed-is : (t : Term) (a : HolType) → typed t ≡ Ok a → HasType t a
 typed-is t a e = found (type_of t) TypeMismatch a e
@@ -48,10 +49,6 @@ of_type a t e = go (type_of t) e
 
 pub equation_is : (s : Sequent) (e : Equation) → equation_of s ≡ Ok e → s.conclusion ≡ equation e.ty e.left e.right
 equation_is s e h = equation_parts-is s.conclusion e (found (equation_parts s.conclusion) NotEquation e h)
-
-pub not-true : (b : Bool) → not b ≡ true → b ≡ false
-not-true true e = absurd (cc)
-not-true false e = refl
 
 -- one premise, and two, that stand on the stack
 pub record OnePopped (s : State) (i : ℕ) (below : List Object) : Type 0 where
@@ -116,8 +113,8 @@ eq_mp-sound s t g e =
     let k = one_popped s j.0.1 i.0 h.rest i.1 in
     let is = equation_is one q.0 q.1 in
     let same : two.conclusion ≡ q.0.left = (term_eq-Decides two.conclusion q.0.left).0 (demanded (term_eq two.conclusion q.0.left) NotAlike alike.0 alike.1) in
-    let left_type : HasType q.0.left q.0.ty = (equation-sides q.0.ty q.0.left q.0.right one.conclusion is (said s i.0.0 g k.step).conclusion).left in
-    let truth : HasType q.0.left bool = subst (λ u. HasType u bool) same (said s j.0.0 g h.step).conclusion in
+    let left_type : HasType q.0.left q.0.ty = (equation-sides q.0.ty q.0.left q.0.right one.conclusion is (sequent_at-IsSequent s i.0.0 g k.step).conclusion).left in
+    let truth : HasType q.0.left bool = subst (λ u. HasType u bool) same (sequent_at-IsSequent s j.0.0 g h.step).conclusion in
     let ty : q.0.ty ≡ bool = same_Some _ _ (sym left_type ∙ truth) in
     on_two s t g i.0.1 k.rest _ refl i.0.0 j.0.0 k.step h.step refl (rule.Rule.eq_mp (is ∙ ap (λ a. equation a q.0.left q.0.right) ty) same refl) refl (tt {0}) alike.2
 
@@ -191,8 +188,8 @@ trans-sound s t g e =
     let same : q.0.left ≡ p.0.right = (term_eq-Decides q.0.left p.0.right).0 (demanded (term_eq q.0.left p.0.right) NotAlike alike.0 alike.1) in
     let first = equation_is one p.0 p.1 in
     let second = equation_is two q.0 q.1 in
-    let middle : HasType p.0.right p.0.ty = (equation-sides p.0.ty p.0.left p.0.right one.conclusion first (said s i.0.0 g k.step).conclusion).right in
-    let again : HasType q.0.left q.0.ty = (equation-sides q.0.ty q.0.left q.0.right two.conclusion second (said s j.0.0 g h.step).conclusion).left in
+    let middle : HasType p.0.right p.0.ty = (equation-sides p.0.ty p.0.left p.0.right one.conclusion first (sequent_at-IsSequent s i.0.0 g k.step).conclusion).right in
+    let again : HasType q.0.left q.0.ty = (equation-sides q.0.ty q.0.left q.0.right two.conclusion second (sequent_at-IsSequent s j.0.0 g h.step).conclusion).left in
     let ty : q.0.ty ≡ p.0.ty = same_Some _ _ (sym again ∙ ap type_of same ∙ middle) in
     on_two s t g i.0.1 k.rest _ refl i.0.0 j.0.0 k.step h.step refl
     (rule.Rule.trans first (second ∙ (λ n. equation (ty n) (same n) q.0.right)) refl) refl (tt {0}) alike.2

@@ -1,38 +1,31 @@
 -- The use of a constant or of an operator takes what it newly takes, and stands then among what is taken.
-use Rattle.std.proofs.Common.{◌≡◌, ℕ, List, [], ◌∷◌, ◌++◌, map, Bool, true, false, ◌||◌, cond, Option, None, Some, Ok, refl, sym, ap, ◌∙◌}
+use Rattle.std.proofs.Common.{◌≡◌, ℕ, List, [], ◌∷◌, ◌++◌, Bool, true, false, ◌||◌, cond, Option, None, Some, Ok, refl, sym, ap, ◌∙◌}
 use Rattle.std.specs.Prelude.{is_some, nat_eq}
 use Rattle.std.specs.List.{list_any}
 use Rattle.std.proofs.lemmas.Bool.Decides.{Decides-eqb}
+use Rattle.std.proofs.lemmas.Bool.{or_parts}
 use Rattle.hol_spec.specs.Names.{Name}
 use Rattle.hol_spec.specs.Types.{HolType}
 use Rattle.hol_spec.specs.Substitution.{is_instance}
 use Rattle.hol_laws.specs.SubstitutionLaws.{is_instance-Decides}
+use Rattle.hol_laws.specs.NameEqualityLaws.{name_eq-refl}
 use Rattle.bridge_base.specs.declared.faults.Kind.TheVariants.{BadArity, BadConstType}
 use Rattle.hol_spec.specs.Symbols.{Symbol, input_constant, input_operator, generic_type, operator_arity, is_input_constant, is_input_operator, is_taken_constant, new_constant, new_operator}
 use Rattle.hol_spec.specs.Taking.{Takes}
 use Rattle.hol_spec.specs.Taking as taking
 use Rattle.hol_spec.specs.Taken.{OperatorTaken, ConstantTaken}
 use Rattle.hol_spec.specs.Taken as taken
-use Rattle.proof_laws.specs.SymbolGrowth.{any-left, any-right, or-neither, operator-more, constant-more, itself}
+use Rattle.proof_laws.specs.SymbolGrowth.{any-left, any-right, operator-more, constant-more}
 use Rattle.hol_spec.specs.Proofs.{Made, symbols_of}
-use Rattle.proof_laws.specs.ProofGrowth.{symbols_of-append}
 use Rattle.article_spec.specs.Conditions.{arity_fits, generic_fits}
 use Rattle.article_laws.specs.SoundStates.{AreTakenAfter, demanded}
-
--- the symbols after more are taken
-pub symbols_of-taken : (made : List Made) (xs : List Symbol) → symbols_of (made ++ map Made.symbol xs) ≡ symbols_of made ++ xs
-symbols_of-taken made xs = symbols_of-append made (map Made.symbol xs) ∙ ap (λ ys. symbols_of made ++ ys) (all xs)
-  where
-    all : (xs : List Symbol) → symbols_of (map Made.symbol xs) ≡ xs
-    all [] = refl
-    all (x ∷ xs) = ap (λ ys. x ∷ ys) (all xs)
 
 pub operator-new : (made : List Made) (n : Name) (k : ℕ) → AreTakenAfter made (new_operator (symbols_of made) n k)
 operator-new made n k = go (is_some (operator_arity (symbols_of made) n) || list_any (is_input_operator n k) (symbols_of made)) refl
   where
     go : (b : Bool) → (is_some (operator_arity (symbols_of made) n) || list_any (is_input_operator n k) (symbols_of made)) ≡ b → AreTakenAfter made (cond b [] (input_operator n k ∷ []))
     go true e = tt
-    go false e = let h = or-neither _ _ e in (taking.Takes.input_operator h.0 h.1, tt {0}, tt {0})
+    go false e = let h = or_parts _ _ e in (taking.Takes.input_operator h.0 h.1, tt {0}, tt {0})
 
 pub constant-new : (made : List Made) (n : Name) → AreTakenAfter made (new_constant (symbols_of made) n)
 constant-new made n = go (is_taken_constant (symbols_of made) n) refl
@@ -46,7 +39,7 @@ operator-used symbols n k x e = by_arity (operator_arity symbols n) refl e
   where
     input : (b : Bool) → list_any (is_input_operator n k) symbols ≡ b → OperatorTaken (symbols ++ cond b [] (input_operator n k ∷ [])) n k
     input true e = taken.OperatorTaken.input (any-left (is_input_operator n k) symbols [] e)
-    input false e = taken.OperatorTaken.input (any-right (is_input_operator n k) symbols (input_operator n k ∷ []) (rw (itself n, (Decides-eqb k k).1 refl) refl))
+    input false e = taken.OperatorTaken.input (any-right (is_input_operator n k) symbols (input_operator n k ∷ []) (rw (name_eq-refl n, (Decides-eqb k k).1 refl) refl))
 
     by_arity : (o : Option ℕ) → operator_arity symbols n ≡ o → arity_fits o k ≡ Ok x → OperatorTaken (symbols ++ cond (is_some o || list_any (is_input_operator n k) symbols) [] (input_operator n k ∷ [])) n k
     by_arity (Some a) is e =
@@ -59,7 +52,7 @@ constant-used symbols n a x e = by_generic (generic_type symbols n) refl e
   where
     input : (b : Bool) → list_any (is_input_constant n) symbols ≡ b → ConstantTaken (symbols ++ cond b [] (input_constant n ∷ [])) n a
     input true e = taken.ConstantTaken.input (any-left (is_input_constant n) symbols [] e)
-    input false e = taken.ConstantTaken.input (any-right (is_input_constant n) symbols (input_constant n ∷ []) (rw (itself n) refl))
+    input false e = taken.ConstantTaken.input (any-right (is_input_constant n) symbols (input_constant n ∷ []) (rw (name_eq-refl n) refl))
 
     by_generic : (o : Option HolType) → generic_type symbols n ≡ o → generic_fits o a ≡ Ok x → ConstantTaken (symbols ++ cond (is_some o || list_any (is_input_constant n) symbols) [] (input_constant n ∷ [])) n a
     by_generic (Some g) is e = constant-more symbols [] n a (taken.ConstantTaken.instance g is ((is_instance-Decides g a).0 (demanded (is_instance g a) BadConstType x e)))

@@ -1,5 +1,5 @@
 -- Laws of sound states: they stay sound when the stack is another of objects, when a symbol is taken, and when a step follows.
-use Rattle.std.proofs.Common.{◌≡◌, ℕ, zero, suc, ◌+◌, ◌<◌, ◌≤◌, List, [], ◌∷◌, ◌++◌, map, length, Bool, true, false, ◌&&◌, cond, Option, None, Some, Result, Ok, Err, slice_get, refl, sym, ap, subst, ◌∙◌, arith}
+use Rattle.std.proofs.Common.{◌≡◌, ℕ, zero, suc, ◌+◌, ◌<◌, ◌≤◌, List, [], ◌∷◌, ◌++◌, map, length, Bool, true, false, cond, Option, None, Some, Result, Ok, Err, slice_get, refl, sym, ap, subst, ◌∙◌, arith}
 use Rattle.std.specs.Prelude.{nat_le, ℤ, slice_index_or}
 use Rattle.std.specs.List.{AllByRecursion, IsAmong, list_all}
 use Rattle.std.specs.Option.{ok_or}
@@ -7,6 +7,7 @@ use Rattle.std.specs.Ordering.{int_cmp, eq_by_cmp}
 use Rattle.std.specs.Cmp.{int_cmp_total}
 use Rattle.std.specs.FinMap as entries
 use Rattle.std.proofs.lemmas.List.{append-nil, append_assoc, length-append}
+use Rattle.std.proofs.lemmas.Bool.{and_parts}
 use Rattle.hol_spec.specs.Types.{HolType}
 use Rattle.hol_spec.specs.Terms.{Term}
 use Rattle.hol_spec.specs.Sequents.{Sequent}
@@ -54,13 +55,9 @@ pub found : {A E : Type 0} (o : Option A) (k : E) (x : A) → ok_or o k ≡ Ok x
 found None k x e = absurd (cc)
 found (Some y) k x e = cc
 
-pub both : (a b : Bool) → (a && b) ≡ true → (a ≡ true) × (b ≡ true)
-both true b e = (refl, e)
-both false b e = absurd (cc)
-
 pub list_all-All : {A : Type 0} (p : A → Bool) (P : A → Type 0) → ((x : A) → p x ≡ true → P x) → (xs : List A) → list_all p xs ≡ true → AllByRecursion P xs
 list_all-All p P f [] e = tt
-list_all-All p P f (x ∷ xs) e = let h = both (p x) (list_all p xs) e in (f x h.0, list_all-All p P f xs h.1)
+list_all-All p P f (x ∷ xs) e = let h = and_parts (p x) (list_all p xs) e in (f x h.0, list_all-All p P f xs h.1)
 
 pub at_most : (m n : ℕ) → nat_le m n ≡ true → m ≤ n
 at_most m n e = grind (arith, e)
@@ -81,9 +78,9 @@ in_limits-All ms x e =
         → list_all (λ m. nat_le m.parameters greatest_parameter_count) ms ≡ true → AllByRecursion IsWithin ms
     together [] e f g = tt
     together (m ∷ ms) e f g =
-        let a = both _ _ e in
-        let b = both _ _ f in
-        let c = both _ _ g in
+        let a = and_parts _ _ e in
+        let b = and_parts _ _ f in
+        let c = and_parts _ _ g in
         (record { size = at_most m.size greatest_size a.0; depth = at_most m.depth greatest_depth b.0; parameters = at_most m.parameters greatest_parameter_count c.0 }, together ms a.1 b.1 c.1)
 
 pub sequent-within : (s : Sequent) → IsWithin (sequent_measure s) → SequentWithin s
@@ -156,11 +153,11 @@ assumed-step k (y ∷ ys) x = go (infers y.kind) (assumed-step (k + 1) ys x ∙ 
     go true e = e
     go false e = ap (λ l. k ∷ l) e
 
-from-zero : (n : ℕ) → 0 + n ≡ n
-from-zero n = grind arith
+pub zero-plus : (n : ℕ) → 0 + n ≡ n
+zero-plus n = grind arith
 
 assumed-next : (xs : List Step) (x : Step) → assumed_from 0 (xs ++ x ∷ []) ≡ assumed_from 0 xs ++ cond (infers x.kind) [] (length xs ∷ [])
-assumed-next xs x = assumed-step 0 xs x ∙ ap (λ n. assumed_from 0 xs ++ cond (infers x.kind) [] (n ∷ [])) (from-zero (length xs))
+assumed-next xs x = assumed-step 0 xs x ∙ ap (λ n. assumed_from 0 xs ++ cond (infers x.kind) [] (n ∷ [])) (zero-plus (length xs))
 
 -- one thing more
 made-more : (s : State) (x : Made) (assumptions : List ℕ) → IsSound s → IsMade s.made x → IsMadeOver s.made x → assumptions ≡ assumed_from 0 (steps_of (s.made ++ x ∷ [])) → IsSound (record s { made = s.made ++ x ∷ []; assumptions = assumptions })

@@ -1,8 +1,9 @@
 -- The words that state a sequent keep a state sound.
-use Rattle.std.proofs.Common.{◌≡◌, ℕ, ◌<◌, ◌≤◌, ◌⊎◌, inl, inr, List, [], ◌∷◌, ◌++◌, length, Bool, true, false, cond, Option, None, Some, Ok, refl, sym, ap, subst, ◌∙◌, arith}
+use Rattle.std.proofs.Common.{◌≡◌, ℕ, ◌<◌, ◌≤◌, inl, inr, List, [], ◌∷◌, ◌++◌, length, Bool, true, false, cond, Option, None, Some, Ok, refl, sym, ap, subst, ◌∙◌}
 use Rattle.std.specs.Option.{option_or}
 use Rattle.std.specs.List.{AllByRecursion, list_all, find}
 use Rattle.std.proofs.lemmas.List.{get_or_past, length-map}
+use Rattle.std.proofs.lemmas.Bool.{and_parts, cases_lt}
 use Rattle.hol_spec.specs.Primitives.{bool}
 use Rattle.hol_spec.specs.Terms.{Term, term_eq, HasType}
 use Rattle.hol_laws.specs.TermLaws.{term_eq-Decides}
@@ -21,14 +22,14 @@ use Rattle.article_spec.specs.Conditions.{is_of_type, all_bool, follows, sequent
 use Rattle.article_spec.specs.Changes.{with_stack, next_step, first_same}
 use Rattle.article_spec.specs.Stating.{stated, restatement, assume_or_meet, axiom_word, export, thm}
 use Rattle.article_laws.specs.Soundness.{IsTermObject, IsSound}
-use Rattle.article_laws.specs.SoundStates.{bound, passed, answered, demanded, both, list_all-All, restacked, sequent_limits, IsNext, step-sound, new-theorem, pushed, assume-sound, conclude-sound, at_step}
+use Rattle.article_laws.specs.SoundStates.{bound, passed, answered, demanded, list_all-All, restacked, sequent_limits, IsNext, step-sound, new-theorem, pushed, assume-sound, conclude-sound, at_step}
 use Rattle.article_laws.specs.SoundOperands.{term-gives, terms-gives, theorem-gives, IsStepNumber, pop-gives}
 use Rattle.article_laws.specs.SoundInference.{of_type}
 
 -- what is stated of truth values is a sequent, over what is taken
 stated-IsSequent : (conclusion : Term) (hypotheses : List Term) → list_all (is_of_type bool) (conclusion ∷ hypotheses) ≡ true → IsSequent (stated hypotheses conclusion)
 stated-IsSequent conclusion hypotheses e =
-    let h = both (is_of_type bool conclusion) (list_all (is_of_type bool) hypotheses) e in
+    let h = and_parts (is_of_type bool conclusion) (list_all (is_of_type bool) hypotheses) e in
     record {
       no_repeats = distinct-IsDistinct term_eq (symmetric term_eq term_eq-Decides) hypotheses;
       hypotheses = union-All (λ t. HasType t bool) term_eq hypotheses [] (tt {0}) (list_all-All (is_of_type bool) (λ t. HasType t bool) (of_type bool) hypotheses h.1);
@@ -50,11 +51,8 @@ past m i s h e l =
     let loose : HasType (Term.bound 0) bool = subst (λ t. HasType t bool) (sym ((term_eq-Decides (Term.bound 0) s.conclusion).0 alike)) h in
     absurd (cc)
 
-split : (i n : ℕ) → (i < n) ⊎ (n ≤ i)
-split i n = grind arith
-
 early : (m : List Made) (i : ℕ) (s : Sequent) → HasType s.conclusion bool → within (sequent_at m i) s ≡ true → i < length (steps_of m)
-early m i s h e = elim (split i (length (steps_of m))) [ inl l ↦ l | inr l ↦ absurd (past m i s h e l) ]
+early m i s h e = elim (cases_lt i (length (steps_of m))) [ inl l ↦ l | inr l ↦ absurd (past m i s h e l) ]
 
 find-passes : (p : ℕ → Bool) (xs : List ℕ) (x : ℕ) → find p xs ≡ Some x → p x ≡ true
 find-passes p [] x e = absurd (cc)
@@ -95,7 +93,7 @@ axiom-sound s t g e =
     met (with_stack s hypotheses.0.1) t sequent (option_or (find known s.pool) (find known s.assumptions)) (restacked s hypotheses.0.1 g k.1)
     (stated-IsSequent conclusion.0.0 hypotheses.0.0 (demanded (list_all (is_of_type bool) (conclusion.0.0 ∷ hypotheses.0.0)) NotBool bools.0 bools.1))
     (stated-taken s.made conclusion.0.0 hypotheses.0.0 h.0 k.0)
-    (λ i f. (both (within (sequent_at s.made i) sequent) (within sequent (sequent_at s.made i)) (first-passes known s.pool s.assumptions i f)).0) bools.2
+    (λ i f. (and_parts (within (sequent_at s.made i) sequent) (within sequent (sequent_at s.made i)) (first-passes known s.pool s.assumptions i f)).0) bools.2
 
 exported : (s t : State) (i : ℕ) (sequent : Sequent) (o : Option ℕ) → IsSound s → IsSequent sequent → within (sequent_at s.made i) sequent ≡ true → TermsTaken (symbols_of s.made) sequent → export s i sequent o ≡ Ok t → IsSound t
 exported s t i sequent (Some j) g is w taken e = answered s t e g

@@ -143,13 +143,14 @@ module _ (by : Obeys) (P : State → Type 0) (keeps : Keeps by P) where
   runs-have Q gives k s (bytes ∷ rest) o a h e (passed {next = t} {commands = cs} {end = x} l p r) = runs-have Q gives (k + 1) t rest o a (obey_article-keeps s t cs x h p) e r
   runs-have Q gives k s (bytes ∷ rest) o a h e (stopped {line = n} {kind = m} l p f) = let g : accepted a ≡ refused_at k n m = sym e ∙ f in absurd (cc)
 
-lowest : (low n : ℕ) (is : List ℕ) → Ascend low n is → low ≤ n
-lowest low n [] h = h
-lowest low n (i ∷ is) h = let rest = lowest (suc i) n is h.1 in omega (arith, h.0, rest)
+-- numbers that ascend within bounds have ordered bounds
+pub Ascend-bounds : (low n : ℕ) (is : List ℕ) → Ascend low n is → low ≤ n
+Ascend-bounds low n [] h = h
+Ascend-bounds low n (i ∷ is) h = let rest = Ascend-bounds (suc i) n is h.1 in omega (arith, h.0, rest)
 
 below : (low n : ℕ) (is : List ℕ) → Ascend low n is → AllByRecursion (λ i. i < n) is
 below low n [] h = tt
-below low n (i ∷ is) h = (let rest = lowest (suc i) n is h.1 in omega (arith, rest), below (suc i) n is h.1)
+below low n (i ∷ is) h = (let rest = Ascend-bounds (suc i) n is h.1 in omega (arith, rest), below (suc i) n is h.1)
 
 exports-derive : (a : Accepted) → AllByRecursion (Derives (definitions_of a.made) (assumptions_of a.made)) (sequents_of a.made) → (is : List ℕ) → AllByRecursion (λ i. i < length (steps_of a.made)) is → AllByRecursion (IsDerived a) is
 exports-derive a all [] h = tt

@@ -1,6 +1,6 @@
 -- Texts one after another, and lists by their parts.
-use Rattle.std.proofs.Common.{◌≡◌, ℕ, zero, suc, ◌+◌, ◌<◌, ◌≤◌, refl, sym, ap, ◌∙◌, arith, List, [], ◌∷◌, ◌++◌, length, get_or, Result, Ok, Err, append_assoc, codes}
-use Rattle.std.specs.Prelude.{drop, take, map, OnOk, decimal}
+use Rattle.std.proofs.Common.{◌≡◌, ℕ, zero, suc, ◌+◌, ◌<◌, ◌≤◌, refl, sym, ap, ◌∙◌, arith, List, [], ◌∷◌, ◌++◌, length, get_or, append_assoc, codes}
+use Rattle.std.specs.Prelude.{drop, take, map, decimal}
 use Rattle.std.proofs.Math.Path.{ap₂}
 use Rattle.std.proofs.lemmas.List.{map_more, length-map, length-take, take_all}
 use Rattle.hol_spec.specs.ClosedForm as form
@@ -9,10 +9,6 @@ use Rattle.sequent.specs.declared.closed.ClosedTerm.{ClosedTerm}
 use Rattle.sequent.specs.declared.closed.ClosedType.{ClosedType}
 use Rattle.sequent.specs.Closed.{closed_type_view, closed_term_view}
 use Rattle.closed_text.specs.Works.{variable_text, mark_at}
-
-pub OnOk-map : {T E P Q : Type 0} (r : Result T E) → (P → Q) → OnOk r P → OnOk r Q
-OnOk-map (Ok v) f h = f h
-OnOk-map (Err e) f h = tt
 
 -- a list with a first item
 pub first-item : {X : Type 0} (xs : List X) (x : X) → x ≡ get_or xs 0 x → 1 ≤ length xs → xs ≡ x ∷ drop 1 xs

@@ -8,7 +8,7 @@ use Rattle.std.proofs.lemmas.Grind.{common_steps}
 use Rattle.std.proofs.Math.Seq.{take-length}
 use Rattle.std.proofs.lemmas.Option.{same_Some, slice_get_within}
 use Rattle.hol_laws.specs.RenamingLaws.{length_map}
-use Rattle.hol_type.specs.TableLaws.{slice_get-append}
+use Rattle.hol_laws.specs.PlaceLaws.{slice_get-last, slice_get-append}
 use Rattle.hol_term.specs.declared.TermId.{TermId}
 use Rattle.compose.specs.declared.chains.Link.{Link}
 use Rattle.sequent.specs.Sequents.{same_id}
@@ -35,10 +35,6 @@ before-push links l i h = ap (take i) (map-append (λ (l : Link). l.id) links (l
 
 before-all : (links : List Link) (l : Link) → take (length links) (ids_of (links ++ l ∷ [])) ≡ ids_of links
 before-all links l = before-push links l (length links) (omega arith) ∙ ap (λ n. take n (ids_of links)) (sym (length_map (λ (k : Link). k.id) links)) ∙ take-length (ids_of links)
-
-slice_get-end : {A : Type 0} (xs : List A) (x : A) → slice_get (xs ++ x ∷ []) (length xs) ≡ Some x
-slice_get-end [] x = refl
-slice_get-end (y ∷ xs) x = slice_get-end xs x
 
 -- where a number stands last, after one more
 last_of-push : (links : List Link) (l : Link) (id : TermId) → last_of id (ids_of (links ++ l ∷ [])) ≡ cond (same_id id l.id) (Some (length links)) (last_of id (ids_of links))
@@ -76,7 +72,7 @@ module _ (links : List Link) (l : Link) (last new : List (TermId × ℕ)) where
       linked i k f = h.linked i k (slice_get-append links (l ∷ []) i k f) ∙ ap (last_of k.id) (before-push links l i (let w = slice_get_within links i k f in omega (arith, w)))
 
       latest : (id : TermId) (b : Bool) → same_id l.id id ≡ b → cond b o (lookup (same_id id) last) ≡ last_of id (ids_of links)
-      latest id true p = sym e ∙ h.linked (length links) l (slice_get-end links l) ∙ ap (last_of l.id) (before-all links l) ∙ ap (λ q. last_of q (ids_of links)) (same_id-true l.id id p)
+      latest id true p = sym e ∙ h.linked (length links) l (slice_get-last links l) ∙ ap (last_of l.id) (before-all links l) ∙ ap (λ q. last_of q (ids_of links)) (same_id-true l.id id p)
       latest id false p = h.latest id ∙ last_of-push links l id ∙ ap (λ b. cond b (Some (length links)) (last_of id (ids_of links))) (same_id-sym l.id id false p)
 
 -- a key that is there is written without fail

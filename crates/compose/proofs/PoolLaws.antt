@@ -3,13 +3,13 @@ use Rattle.std.proofs.Common.{◌≡◌, ℕ, zero, suc, ◌-◌, ◌<◌, ◌�
 use Rattle.std.specs.Prelude.{slice_get, IfSome}
 use Rattle.std.specs.List.{find, AllByRecursion}
 use Rattle.std.specs.Option.{option_or}
-use Rattle.std.proofs.lemmas.List.{take-map, length-take, take-append-drop}
+use Rattle.std.proofs.lemmas.List.{take-map, length-take, take-append-drop, take-take}
 use Rattle.std.proofs.lemmas.Option.{slice_get_within, slice_get-map, slice_get_read}
 use Rattle.std.proofs.Math.Seq.{take-length, take-append_seam}
-use Rattle.hol_type.specs.TableLaws.{slice_get-append}
 use Rattle.hol_spec.specs.Sequents.{within}
 use Rattle.hol_laws.specs.RenamingLaws.{length_map}
 use Rattle.hol_laws.specs.TermLaws.{term_eq-Decides}
+use Rattle.hol_laws.specs.PlaceLaws.{slice_get-append}
 use Rattle.hol_term.specs.declared.TermId.{TermId}
 use Rattle.hol_term.specs.Tables.{Trees, IsDistinct}
 use Rattle.hol_term.specs.TableLaws.{term_in-same}
@@ -39,12 +39,6 @@ AllByRecursion-take P zero [] h = tt
 AllByRecursion-take P zero (x ∷ xs) h = tt
 AllByRecursion-take P (suc n) [] h = tt
 AllByRecursion-take P (suc n) (x ∷ xs) h = (h.0, AllByRecursion-take P n xs h.1)
-
-take-take : {A : Type 0} (m n : ℕ) (xs : List A) → m ≤ n → take m (take n xs) ≡ take m xs
-take-take zero n xs h = refl
-take-take (suc m) zero xs h = absurd (omega arith)
-take-take (suc m) (suc n) [] h = refl
-take-take (suc m) (suc n) (x ∷ xs) h = ap (λ l. x ∷ l) (take-take m n xs (omega arith))
 
 -- the last place of a front is within it
 places_to-take : (id : TermId) (n : ℕ) (ids : List TermId) → places_to (last_of id (take n ids)) ≤ n

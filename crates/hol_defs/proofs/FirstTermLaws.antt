@@ -6,10 +6,10 @@ use Rattle.std.specs.Map.{lookup}
 use Rattle.std.specs.Bool.{Decides}
 use Rattle.std.proofs.lemmas.Bool.Decides.{Decides-eqb}
 use Rattle.std.proofs.lemmas.List.{map-append}
+use Rattle.std.proofs.lemmas.Bool.{and_parts}
 use Rattle.hol_spec.specs.Names.{Name}
 use Rattle.hol_spec.specs.NameEquality.{name_eq}
 use Rattle.hol_laws.specs.NameEqualityLaws.{name_eq-Decides}
-use Rattle.proof_laws.specs.RuleTaken.{both}
 use Rattle.hol_term.specs.declared.TermId.{TermId}
 use Rattle.hol_term.specs.declared.Variable.{Variable}
 use Rattle.hol_defs.specs.declared.lists.Equation.{Equation}
@@ -17,7 +17,7 @@ use Rattle.hol_defs.specs.Lists.{same_variable, term_of, AreFound}
 
 pub same_variable-Decides : (v w : Variable) → Decides (same_variable v w) (v ≡ w)
 same_variable-Decides v w = (
-  λ e. let h = both (name_eq v.name w.name) (nat_eq v.ty.0 w.ty.0) e in
+  λ e. let h = and_parts (name_eq v.name w.name) (nat_eq v.ty.0 w.ty.0) e in
       let n = (name_eq-Decides v.name w.name).0 h.0 in
       let t = (Decides-eqb v.ty.0 w.ty.0).0 h.1 in
       λ i. record { name = n i; ty = record { 0 = t i } },

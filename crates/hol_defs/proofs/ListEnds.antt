@@ -3,11 +3,12 @@ use Rattle.std.proofs.Common.{◌≡◌, ◌<◌, ◌+◌, ℕ, get_or, refl, sy
 use Rattle.std.specs.Prelude.{take, drop}
 use Rattle.std.proofs.lemmas.List.{append-nil, append_assoc, take-map}
 use Rattle.std.proofs.lemmas.Grind.{flat_map-append}
+use Rattle.std.proofs.lemmas.Bool.{or_parts}
 use Rattle.hol_spec.specs.Names.{Name}
 use Rattle.hol_spec.specs.NameEquality.{name_eq}
 use Rattle.hol_laws.specs.NameEqualityLaws.{name_eq-Decides}
 use Rattle.hol_spec.specs.Lists.{is_in}
-use Rattle.proof_laws.specs.SymbolGrowth.{symmetric, or-neither}
+use Rattle.proof_laws.specs.SymbolGrowth.{symmetric}
 use Rattle.hol_type.specs.declared.table.TypeId.{TypeId}
 use Rattle.hol_term.specs.declared.TermId.{TermId}
 use Rattle.hol_term.specs.declared.Variable.{Variable}
@@ -30,7 +31,7 @@ constants_of-last (q ∷ ps) [] p t e = absurd (omega (arith, e))
 pub AreNew-next : (g : List (Name × TypeId)) (n : Name) (a : TypeId) (ps : List (Name × Variable)) → is_in name_eq n (map (λ q. q.0) ps) ≡ false → AreNew g ps → AreNew (g ++ (n, a) ∷ []) ps
 AreNew-next g n a [] e h = h
 AreNew-next g n a (p ∷ ps) e h =
-    let both = or-neither (name_eq n p.0) (is_in name_eq n (map (λ q. q.0) ps)) e in
+    let both = or_parts (name_eq n p.0) (is_in name_eq n (map (λ q. q.0) ps)) e in
     ((lookup-last g n a p.0 h.0.0 (symmetric name_eq name_eq-Decides n p.0 both.0), h.0.1), AreNew-next g n a ps both.1 h.1)
 
 generics_of-last : (xs : List Taken) (n : Name) (t : TermId) (a : TypeId) → generics_of (xs ++ constant n t a ∷ []) ≡ generics_of xs ++ (n, a) ∷ []

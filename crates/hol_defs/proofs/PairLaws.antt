@@ -8,6 +8,7 @@ use Rattle.std.proofs.lemmas.Bool.Decides.{Decides-eqb}
 use Rattle.std.proofs.lemmas.List.{map-append, length-map}
 use Rattle.std.proofs.lemmas.List.Elements.{filter-append, filter_map-append}
 use Rattle.std.proofs.lemmas.Option.{same_Some}
+use Rattle.std.proofs.lemmas.Bool.{and_parts, or_parts}
 use Rattle.hol_spec.specs.Names.{Name}
 use Rattle.hol_spec.specs.NameEquality.{name_eq}
 use Rattle.hol_laws.specs.NameEqualityLaws.{name_eq-Decides}
@@ -20,8 +21,6 @@ use Rattle.hol_spec.specs.Sequents.{Sequent}
 use Rattle.hol_spec.specs.Definitions.{Definition}
 use Rattle.hol_spec.specs.Symbols.{Symbol, is_taken_constant}
 use Rattle.hol_spec.specs.DefinitionLists.{ConstantPairs, names_of, variables_of as pair_variables, variable_equation, defining_equations, definiens, is_definition_list}
-use Rattle.proof_laws.specs.RuleTaken.{both}
-use Rattle.proof_laws.specs.SymbolGrowth.{or-neither}
 use Rattle.hol_type.specs.Tables as type
 use Rattle.hol_term.specs.declared.TermId.{TermId}
 use Rattle.hol_term.specs.declared.Variable.{Variable}
@@ -145,7 +144,7 @@ module _ (trees : Trees) (one_each : type.IsDistinct trees.types) where
           → (t.0 < length trees.terms) × HasType (term_at trees t.0) (type_at trees v.ty.0)
       go true s e on =
           let same : q.term ≡ t = same_Some _ _ e in
-          let ty : v.ty.0 ≡ q.variable.ty.0 = (Decides-eqb v.ty.0 q.variable.ty.0).0 (both (name_eq v.name q.variable.name) (nat_eq v.ty.0 q.variable.ty.0) s).1 in (
+          let ty : v.ty.0 ≡ q.variable.ty.0 = (Decides-eqb v.ty.0 q.variable.ty.0).0 (and_parts (name_eq v.name q.variable.name) (nat_eq v.ty.0 q.variable.ty.0) s).1 in (
             subst (λ (u : TermId). u.0 < length trees.terms) same h.0.term,
             subst (λ (u : TermId). HasType (term_at trees u.0) (type_at trees v.ty.0)) same (subst (λ i. HasType (term_at trees q.term.0) (type_at trees i)) (sym ty) h.0.typed),
           )
@@ -234,7 +233,7 @@ pub new-names : (trees : Trees) (xs : List Taken) (ps : List (Name × Variable))
     → AreNew (generics_of xs) ps
 new-names trees xs [] k e n = tt
 new-names trees xs (p ∷ ps) k e n =
-    let a = or-neither (is_taken_constant (symbols_at trees xs) p.0) (list_any (is_taken_constant (symbols_at trees xs)) (names_of (pairs_at trees ps))) e in
+    let a = or_parts (is_taken_constant (symbols_at trees xs) p.0) (list_any (is_taken_constant (symbols_at trees xs)) (names_of (pairs_at trees ps))) e in
     let b = not-once (is_in name_eq p.0 (names_of (pairs_at trees ps))) (no_repeats name_eq (names_of (pairs_at trees ps))) n in
     ((undefined trees p.0 xs k a.0, ap (is_in name_eq p.0) (sym (names_of-pairs trees ps)) ∙ b.0), new-names trees xs ps k a.1 b.1)
   where

@@ -5,6 +5,7 @@ pub mod ManglingLaws
 pub mod Members
 pub mod NameEqualityLaws
 pub mod NameLaws
+pub mod PlaceLaws
 pub mod PositionLaws
 pub mod PrimitiveLaws
 pub mod RenamedSequents

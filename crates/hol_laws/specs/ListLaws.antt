@@ -5,16 +5,13 @@ use Rattle.std.specs.Bool.{Decides}
 use Rattle.std.specs.List.{list_any, filter, AllByRecursion, IsDistinct}
 use Rattle.std.proofs.lemmas.List.{append_assoc, append-nil}
 use Rattle.std.proofs.lemmas.Map.Keys.{IsDistinct-cons, IsDistinct-tail, IsDistinct-head}
+use Rattle.std.proofs.lemmas.Bool.{or_from, or_parts, or_right}
 use Rattle.hol_spec.specs.Lists.{is_in, union, distinct, without}
 
 -- To unite with a list in two parts is to unite with one after the other.
 pub union-append : {A : Type 0} (same : A → A → Bool) (ys zs xs : List A) → union same xs (ys ++ zs) ≡ union same (union same xs ys) zs
 union-append same [] zs xs = refl
 union-append same (y ∷ ys) zs xs = union-append same ys zs (cond (is_in same y xs) xs (xs ++ y ∷ []))
-
-both_false : (a b : Bool) → (a || b) ≡ false → (a ≡ false) × (b ≡ false)
-both_false true b e = absurd (cc)
-both_false false b e = (refl, e)
 
 AllByRecursion-push : {A : Type 0} (P : A → Type 0) (xs : List A) (y : A) → AllByRecursion P xs → P y → AllByRecursion P (xs ++ y ∷ [])
 AllByRecursion-push P [] y h p = (p, tt)
@@ -25,7 +22,7 @@ module _ {A : Type 0} (same : A → A → Bool) (symmetric : (x y : A) → same 
   IsDistinct-push : (xs : List A) (y : A) → is_in same y xs ≡ false → IsDistinct same xs → IsDistinct same (xs ++ y ∷ [])
   IsDistinct-push [] y e h = IsDistinct-cons same y [] tt h
   IsDistinct-push (x ∷ xs) y e h =
-      let apart = both_false (same y x) (is_in same y xs) e in
+      let apart = or_parts (same y x) (is_in same y xs) e in
       IsDistinct-cons same x (xs ++ y ∷ []) (AllByRecursion-push (λ z. same x z ≡ false) xs y (IsDistinct-head same x xs h) (symmetric y x apart.0))
       (IsDistinct-push xs y apart.1 (IsDistinct-tail same x xs h))
 
@@ -65,10 +62,6 @@ pub All-filter : {A : Type 0} (P : A → Type 0) (p : A → Bool) (xs : List A) 
 All-filter P p [] h = tt
 All-filter P p (x ∷ xs) h = All-kept P (p x) x (filter p xs) h.0 (All-filter P p xs h.1)
 
-pub neither : (a b : Bool) → a ≡ false → b ≡ false → (a || b) ≡ false
-neither true b e f = absurd (cc)
-neither false b e f = f
-
 module _ {A : Type 0} (same : A → A → Bool) where
   IsDistinct-kept : (b : Bool) (x : A) (xs : List A) → AllByRecursion (λ y. same x y ≡ false) xs → IsDistinct same xs → IsDistinct same (cond b (x ∷ xs) xs)
   IsDistinct-kept true x xs p h = IsDistinct-cons same x xs p h
@@ -84,7 +77,7 @@ module _ {A : Type 0} (same : A → A → Bool) (symmetric : (x y : A) → same 
   not_before : (xs ys : List A) (y : A) → IsDistinct same (xs ++ y ∷ ys) → is_in same y xs ≡ false
   not_before [] ys y h = refl
   not_before (x ∷ xs) ys y h =
-      neither (same y x) (list_any (same y) xs) (symmetric x y (All-middle (λ z. same x z ≡ false) xs ys y (IsDistinct-head same x (xs ++ y ∷ ys) h)))
+      or_from (same y x) (list_any (same y) xs) (symmetric x y (All-middle (λ z. same x z ≡ false) xs ys y (IsDistinct-head same x (xs ++ y ∷ ys) h)))
       (not_before xs ys y (IsDistinct-tail same x (xs ++ y ∷ ys) h))
 
   union-apart : (ys xs : List A) → IsDistinct same (xs ++ ys) → union same xs ys ≡ xs ++ ys
@@ -103,17 +96,13 @@ module _ {A : Type 0} (same : A → A → Bool) (decides : (x y : A) → Decides
   or_case P true b f g e = f refl
   or_case P false b f g e = g e
 
-  or_second : (a b : Bool) → b ≡ true → (a || b) ≡ true
-  or_second true b e = refl
-  or_second false b e = e
-
   is_in-last : (x : A) (xs : List A) → is_in same x (xs ++ x ∷ []) ≡ true
   is_in-last x [] = ap (λ b. b || false) ((decides x x).1 refl)
-  is_in-last x (y ∷ xs) = or_second (same x y) (is_in same x (xs ++ x ∷ [])) (is_in-last x xs)
+  is_in-last x (y ∷ xs) = or_right (same x y) (is_in same x (xs ++ x ∷ [])) (is_in-last x xs)
 
   is_in-more : (x y : A) (xs : List A) → is_in same x xs ≡ true → is_in same x (xs ++ y ∷ []) ≡ true
   is_in-more x y [] e = absurd (cc)
-  is_in-more x y (z ∷ xs) e = or_case (is_in same x (z ∷ xs ++ y ∷ []) ≡ true) (same x z) (is_in same x xs) (λ a. ap (λ b. b || is_in same x (xs ++ y ∷ [])) a) (λ b. or_second (same x z) (is_in same x (xs ++ y ∷ [])) (is_in-more x y xs b)) e
+  is_in-more x y (z ∷ xs) e = or_case (is_in same x (z ∷ xs ++ y ∷ []) ≡ true) (same x z) (is_in same x xs) (λ a. ap (λ b. b || is_in same x (xs ++ y ∷ [])) a) (λ b. or_right (same x z) (is_in same x (xs ++ y ∷ [])) (is_in-more x y xs b)) e
 
   is_in-if_new : (b : Bool) (x y : A) (xs : List A) → is_in same x xs ≡ true → is_in same x (cond b xs (xs ++ y ∷ [])) ≡ true
   is_in-if_new true x y xs e = e

@@ -100,8 +100,8 @@ pub follows-more : (name : Name) → Follows (mangled_more name)
 follows-more [] = inl refl
 follows-more (bytes ∷ name) = inr (mangled_before bytes (mangled_more name), refl)
 
-more-byteless : (name : Name) → IsByteless (mangled_more name)
-more-byteless name = follows-byteless (mangled_more name) (follows-more name)
+pub mangled_more-byteless : (name : Name) → IsByteless (mangled_more name)
+mangled_more-byteless name = follows-byteless (mangled_more name) (follows-more name)
 
 same_more : (m n : Name) → AllByRecursion AreBytes m → AllByRecursion AreBytes n → mangled_more m ≡ mangled_more n → m ≡ n
 same_more [] [] h k e = refl
@@ -109,7 +109,7 @@ same_more [] (c ∷ n) h k e = absurd (cc)
 same_more (b ∷ m) [] h k e = absurd (cc)
 same_more (b ∷ m) (c ∷ n) h k e =
     let after : mangled_before b (mangled_more m) ≡ mangled_before c (mangled_more n) = cc in
-    let both = same_component b c (mangled_more m) (mangled_more n) h.0 k.0 (more-byteless m) (more-byteless n) after in
+    let both = same_component b c (mangled_more m) (mangled_more n) h.0 k.0 (mangled_more-byteless m) (mangled_more-byteless n) after in
     let rest = same_more m n h.1 k.1 both.1 in
     λ i. both.0 i ∷ rest i
 
@@ -118,7 +118,7 @@ pub mangled-injective : (m n : Name) → IsName m → IsName n → mangled m ≡
 mangled-injective [] n h k e = absurd h
 mangled-injective (b ∷ m) [] h k e = absurd k
 mangled-injective (b ∷ m) (c ∷ n) h k e =
-    let both = same_component b c (mangled_more m) (mangled_more n) h.0 k.0 (more-byteless m) (more-byteless n) e in
+    let both = same_component b c (mangled_more m) (mangled_more n) h.0 k.0 (mangled_more-byteless m) (mangled_more-byteless n) e in
     let rest = same_more m n h.1 k.1 both.1 in
     λ i. both.0 i ∷ rest i
 

@@ -107,3 +107,16 @@ module _ {A : Type 0} (same : A → A → Bool) (decides : (x y : A) → Decides
   -- and no others
   pub IsIn-distinct_of : (xs : List A) (x : A) → IsIn (distinct same xs) x → IsIn xs x
   IsIn-distinct_of xs x k = All-at (IsIn xs) (distinct same xs) x (union-All (IsIn xs) same xs [] (tt {0}) (All-each (IsIn xs) xs (λ y h. h))) k
+
+-- what is in a part of a list of parts is in the list, and what is in the list is in a part
+pub IsIn-flat_map : {A B : Type 0} (f : A → List B) (xs : List A) (x : A) (y : B) → IsIn xs x → IsIn (f x) y → IsIn (flat_map f xs) y
+IsIn-flat_map f [] x y i j = absurd i
+IsIn-flat_map f (z ∷ xs) x y (inl e) j = IsIn-left (f z) (flat_map f xs) y (subst (λ u. IsIn (f u) y) e j)
+IsIn-flat_map f (z ∷ xs) x y (inr i) j = IsIn-right (f z) (flat_map f xs) y (IsIn-flat_map f xs x y i j)
+
+pub flat_map-part : {A B : Type 0} (f : A → List B) (xs : List A) (y : B) → IsIn (flat_map f xs) y → (x : A) × IsIn xs x × IsIn (f x) y
+flat_map-part f [] y i = absurd i
+flat_map-part f (z ∷ xs) y i = elim (IsIn-either (f z) (flat_map f xs) y i) [
+  | inl j ↦ (z, inl refl, j)
+  | inr j ↦ let r = flat_map-part f xs y j in (r.0, inr r.1, r.2)
+]

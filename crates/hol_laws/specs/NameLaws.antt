@@ -4,7 +4,7 @@ use Rattle.std.specs.Option.{option_map}
 use Rattle.std.proofs.Common.{refl, ap, ◌∙◌, append_assoc, arith}
 use Rattle.std.proofs.lemmas.List.{append-nil}
 use Rattle.std.proofs.lemmas.Grind.{common_steps}
-use Rattle.std.proofs.lemmas.Bool.Decides.{Decides-eqb}
+use Rattle.std.proofs.lemmas.Bool.{eqb-true, ne_eqb}
 use Rattle.hol_spec.specs.Names.{Name, quote, dot, backslash, IsPlain, IsComponent, nothing, plain, escaped, AreComponents, one, dotted, IsNameLine}
 use Rattle.hol_spec.specs.NameOf.{with_byte, name_from, escaped_name, closed_name, name_of}
 
@@ -23,9 +23,9 @@ with_escaped b inner name (one h) = one (escaped h)
 with_escaped b inner name (dotted h e more) = dotted (escaped h) (ap (λ xs. backslash ∷ b ∷ xs) e) more
 
 -- a name that was read was made of one
-map_source : {A B : Type 0} (f : A → B) (o : Option A) (y : B) → option_map f o ≡ Some y → (x : A) × (o ≡ Some x) × (f x ≡ y)
-map_source f None y e = absurd (cc)
-map_source f (Some x) y e = (x, refl, cc)
+option_map-some : {A B : Type 0} (f : A → B) (o : Option A) (y : B) → option_map f o ≡ Some y → (x : A) × (o ≡ Some x) × (f x ≡ y)
+option_map-some f None y e = absurd (cc)
+option_map-some f (Some x) y e = (x, refl, cc)
 
 -- four cases by three tests
 by_cases : {A : Type 0} (P : Type 0) (p q r : Bool) (a b c d x : A) → (if p then a else if q then b else if r then c else d) ≡ x
@@ -35,14 +35,8 @@ by_cases P false true r a b c d x e f g h k = g refl e
 by_cases P false false true a b c d x e f g h k = h refl e
 by_cases P false false false a b c d x e f g h k = k refl refl refl e
 
-same_number : (a b : ℕ) → (a == b) ≡ true → a ≡ b
-same_number a b e = (Decides-eqb a b).0 e
-
 other_number : (a b : ℕ) → (a == b) ≡ false → a ≢ b
 other_number a b e h = grind (arith, common_steps)
-
-differs : (a b : ℕ) → a ≢ b → (a == b) ≡ false
-differs a b h = grind (arith, common_steps)
 
 closed_end : (b : ℕ) (text : List ℕ) (name : Name) → b ≡ quote → closed_name text ≡ Some name → IsClosed (b ∷ text) name
 closed_end b [] name e h = rw e (record { inner = []; is = refl; components = let n : [] ∷ [] ≡ name = cc in rw (← n) (one nothing) })
@@ -62,16 +56,16 @@ mutual
   from-closed [] name e = absurd (cc)
   from-closed (b ∷ text) name e =
       by_cases (IsClosed (b ∷ text) name) (b == quote) (b == dot) (b == backslash) _ _ _ _ (Some name) e
-      (λ t h. closed_end b text name (same_number b quote t) h)
-      (λ t h. let m = map_source (λ n. [] ∷ n) (name_from text) name h in closed_dot b text m.0 name (same_number b dot t) m.2 (from-closed text m.0 m.1))
-      (λ t h. escaped-closed b text name (same_number b backslash t) h)
-      (λ q d s h. let m = map_source (with_byte b) (name_from text) name h in
+      (λ t h. closed_end b text name (eqb-true b quote t) h)
+      (λ t h. let m = option_map-some (λ n. [] ∷ n) (name_from text) name h in closed_dot b text m.0 name (eqb-true b dot t) m.2 (from-closed text m.0 m.1))
+      (λ t h. escaped-closed b text name (eqb-true b backslash t) h)
+      (λ q d s h. let m = option_map-some (with_byte b) (name_from text) name h in
       closed_plain b text m.0 name (record { no_quote = other_number b quote q; no_dot = other_number b dot d; no_backslash = other_number b backslash s }) m.2 (from-closed text m.0 m.1))
 
   escaped-closed : (a : ℕ) (text : List ℕ) (name : Name) → a ≡ backslash → escaped_name text ≡ Some name → IsClosed (a ∷ text) name
   escaped-closed a [] name t e = absurd (cc)
   escaped-closed a (b ∷ text) name t e =
-      let m = map_source (with_byte b) (name_from text) name e in closed_escaped a b text m.0 name t m.2 (from-closed text m.0 m.1)
+      let m = option_map-some (with_byte b) (name_from text) name e in closed_escaped a b text m.0 name t m.2 (from-closed text m.0 m.1)
 
 -- the name with these bytes before its first component
 onto : List ℕ → Name → Name
@@ -91,7 +85,7 @@ with_byte-onto b bytes (component ∷ name) = refl
 from-component : {text bytes : List ℕ} → IsComponent text bytes → (rest : List ℕ) (name : Name) → name_from rest ≡ Some name → name_from (text ++ rest) ≡ Some (onto bytes name)
 from-component nothing rest name e = rw onto-nil e
 from-component {text = b ∷ text} (plain {bytes = bytes} p h) rest name e =
-    rw (differs b quote p.no_quote, differs b dot p.no_dot, differs b backslash p.no_backslash)
+    rw (ne_eqb b quote p.no_quote, ne_eqb b dot p.no_dot, ne_eqb b backslash p.no_backslash)
     (ap (option_map (with_byte b)) (from-component h rest name e) ∙ ap Some (with_byte-onto b bytes name))
 from-component (escaped {b = b} {bytes = bytes} h) rest name e =
     ap (option_map (with_byte b)) (from-component h rest name e) ∙ ap Some (with_byte-onto b bytes name)
@@ -115,7 +109,7 @@ name_line-of : (line : List ℕ) (name : Name) → name_of line ≡ Some name �
 name_line-of [] name e = absurd (cc)
 name_line-of (b ∷ text) name e =
     if_source (IsNameLine (b ∷ text) name) (b == quote) (name_from text) name e
-    (λ t h. line_closed b text name (same_number b quote t) (from-closed text name h))
+    (λ t h. line_closed b text name (eqb-true b quote t) (from-closed text name h))
 
 of-name_line : (line : List ℕ) (name : Name) → IsNameLine line name → name_of line ≡ Some name
 of-name_line line name h = ap name_of h.quoted ∙ from-components h.components

@@ -1,6 +1,7 @@
 -- Laws of renamed sequents: their parameters are the renamed ones, and they are sequents within the limits as before.
 use Rattle.std.proofs.Common.{◌≡◌, List, [], ◌∷◌, map, length, inl, refl, sym, ap, ◌∙◌, arith}
 use Rattle.std.specs.List.{AllByRecursion, flat_map, sum_by}
+use Rattle.std.proofs.lemmas.List.{map-append}
 use Rattle.hol_spec.specs.Names.{Name}
 use Rattle.hol_spec.specs.NameEquality.{name_eq}
 use Rattle.hol_laws.specs.NameEqualityLaws.{name_eq-Decides}
@@ -14,7 +15,7 @@ use Rattle.hol_spec.specs.Sequents.{Sequent, IsSequent, terms_of, type_variables
 use Rattle.hol_spec.specs.Limits.{term_size, term_depth, greatest_by, sequent_size, sequent_depth, SequentWithin}
 use Rattle.hol_laws.specs.Members.{All-each, All-at, All-part, All-left, All-right, All-append, IsIn-distinct, IsIn-distinct_of, IsIn-left, IsIn-right}
 use Rattle.hol_spec.specs.Renamings.{renamed_variable, renamed, renamed_sequent}
-use Rattle.hol_laws.specs.RenamingLaws.{map-append, renamed-injective, type_places-renamed, free_places-renamed, term_size-renamed, term_depth-renamed, type_under-renamed, agree, distinct-map, IsDistinct-map, flat_map-map, sum_by-map, greatest_by-map, length_map}
+use Rattle.hol_laws.specs.RenamingLaws.{renamed-injective, type_places-renamed, free_places-renamed, term_size-renamed, term_depth-renamed, type_under-renamed, agree, distinct-map, IsDistinct-map, flat_map-map, sum_by-map, greatest_by-map, length_map}
 
 -- the type variables of a free variable's type are type variables of the term
 pub type_variables-of_free : (P : Name → Type 0) (t : Term) → AllByRecursion P (type_variable_places t) → AllByRecursion (λ v. AllByRecursion P (variable_places v.1)) (free_places t)
@@ -39,10 +40,11 @@ pub record IsOver (ns : List Name) (vs : List Variable) (t : Term) : Type 0 wher
   pub terms : AllByRecursion (IsIn vs) (free_places t)
 
 module _ (s : Sequent) where
-  all_type_variables : AllByRecursion (IsIn (type_variables_of s)) (flat_map type_variable_places (terms_of s))
+  -- all type variables and free variables of its terms are its own
+  pub all_type_variables : AllByRecursion (IsIn (type_variables_of s)) (flat_map type_variable_places (terms_of s))
   all_type_variables = All-each _ (flat_map type_variable_places (terms_of s)) (λ n i. IsIn-distinct name_eq name_eq-Decides (flat_map type_variable_places (terms_of s)) n i)
 
-  all_free_variables : AllByRecursion (IsIn (free_variables_of s)) (flat_map free_places (terms_of s))
+  pub all_free_variables : AllByRecursion (IsIn (free_variables_of s)) (flat_map free_places (terms_of s))
   all_free_variables = All-each _ (flat_map free_places (terms_of s)) (λ v i. IsIn-distinct variable_eq variable_eq-Decides (flat_map free_places (terms_of s)) v i)
 
   -- the type variables of its free variables' types are its own

@@ -8,6 +8,7 @@ use Rattle.std.proofs.lemmas.Option.{slice_get-map}
 use Rattle.std.proofs.lemmas.Bool.Decides.{same_from_decides}
 use Rattle.std.proofs.lemmas.List.Sums.{sum_by-cons}
 use Rattle.std.proofs.Math.Path.{ap₂}
+use Rattle.std.proofs.lemmas.List.{map-append}
 use Rattle.hol_spec.specs.Names.{Name}
 use Rattle.hol_spec.specs.Lists.{distinct, IsIn}
 use Rattle.hol_laws.specs.ListLaws.{union-map}
@@ -19,10 +20,6 @@ use Rattle.hol_laws.specs.TermSubstitutionLaws.{application_type-is, abstraction
 use Rattle.hol_spec.specs.Limits.{type_size, types_size, type_depth, types_depth, term_size, term_depth, greatest_by}
 use Rattle.hol_laws.specs.Members.{All-left, All-right}
 use Rattle.hol_spec.specs.Renamings.{renamed_type, renamed_types, renamed_variable, renamed}
-
-pub map-append : {A B : Type 0} (f : A → B) (xs ys : List A) → map f (xs ++ ys) ≡ map f xs ++ map f ys
-map-append f [] ys = refl
-map-append f (x ∷ xs) ys = ap (λ l. f x ∷ l) (map-append f xs ys)
 
 module _ (r : Name → Name) where
   mutual

@@ -1,11 +1,13 @@
 -- Laws of types: the test of equality decides it, and types can be told apart as values.
 use base.Stored.{Coded, Gv, gnil, gnum, gcons, coded_ℕ, coded_list}
-use Rattle.std.proofs.Common.{◌≡◌, Bool, true, false, ◌&&◌, refl, ap}
+use Rattle.std.proofs.Common.{◌≡◌, ◌∙◌, ◌+◌, ◌<◌, arith, Bool, true, false, ◌&&◌, List, [], ◌∷◌, map, length, refl, ap}
+use Rattle.std.proofs.lemmas.List.{length-map}
 use Rattle.std.specs.Bool.{Decides}
 use Rattle.hol_spec.specs.Names.{Name}
 use Rattle.hol_spec.specs.NameEquality.{name_eq}
 use Rattle.hol_laws.specs.NameEqualityLaws.{name_eq-Decides}
-use Rattle.hol_spec.specs.Types.{HolType, HolTypes, variable, operator, none, more, type_eq, types_eq}
+use Rattle.hol_spec.specs.Limits.{type_size}
+use Rattle.hol_spec.specs.Types.{HolType, HolTypes, variable, operator, none, more, types_of, count, type_eq, types_eq}
 
 -- Two tests in a row decide what the two facts make together.
 pub both-Decides : {A B C : Type 0} (a b : Bool) → Decides a A → Decides b B → (A → B → C) → (C → A × B) → Decides (a && b) C
@@ -56,3 +58,16 @@ mutual
 -- The code of a type, for a model whose value has types in it.
 abbrev pub coded_type : Coded HolType
 coded_type = record { code = type_code; inj = type_inj }
+
+-- a list of arguments has as many as the list that it is made of
+pub count-types_of : (ts : List HolType) → count (types_of ts) ≡ length ts
+count-types_of [] = refl
+count-types_of (t ∷ ts) = ap (λ k. k + 1) (count-types_of ts) ∙ grind arith
+
+pub count-variables : (ns : List Name) → count (types_of (map variable ns)) ≡ length ns
+count-variables ns = count-types_of (map variable ns) ∙ length-map ns variable
+
+-- every type has a size
+pub type_size-positive : (t : HolType) → 0 < type_size t
+type_size-positive (variable n) = omega arith
+type_size-positive (operator n ts) = omega arith

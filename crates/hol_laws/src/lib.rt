@@ -6,7 +6,7 @@
 //! | File | Laws of |
 //! |---|---|
 //! | `NameLaws`, `NameEqualityLaws`, `ManglingLaws` | the name that a line writes; equality of names; different names have different texts |
-//! | `ListLaws`, `Members` | lists read as sets; what is in a list, and what holds of all in it |
+//! | `ListLaws`, `Members`, `PlaceLaws` | lists read as sets; what is in a list, and what holds of all in it; what stands at a place |
 //! | `TypeLaws`, `SubstitutionLaws`, `GenericInstances`, `PrimitiveLaws` | types, their codes and instances |
 //! | `TermLaws`, `TermRenamings`, `TermBindingLaws`, `TermClosed` | terms and their codes; lifting, putting and closing |
 //! | `TermTyping`, `TermInstances`, `TermSubstitutionLaws` | what binding and substitution do to types |

@@ -3,7 +3,7 @@ use Rattle.std.proofs.Common.{◌≡◌, ◌≢◌, ◌⊎◌, ◌<◌, inl, inr
 use Rattle.std.specs.List.{AllByRecursion}
 use Rattle.hol_spec.specs.Names.{Name}
 use Rattle.hol_spec.specs.Mangling.{underscore, mangled_before, mangled_more, mangled, AreBytes, IsName}
-use Rattle.hol_laws.specs.ManglingLaws.{Follows, IsByteless, follows-byteless, follows-more, same_component}
+use Rattle.hol_laws.specs.ManglingLaws.{Follows, IsByteless, follows-byteless, follows-more, same_component, mangled_more-byteless}
 use Rattle.hol_name.specs.Behind.{IsFault}
 use Rattle.hol_name.specs.Demangled.{HasNoName}
 
@@ -29,9 +29,6 @@ joined-last (d ∷ ds) c = ap (mangled_before d) (joined-more ds c)
 boundary-byteless : (rest : List ℕ) → IsByteless (underscore ∷ underscore ∷ rest)
 boundary-byteless rest = follows-byteless (underscore ∷ underscore ∷ rest) (inr (rest, refl))
 
-more-byteless : (n : Name) → IsByteless (mangled_more n)
-more-byteless n = follows-byteless (mangled_more n) (follows-more n)
-
 -- what follows a name's component is its end or a boundary
 stops-elsewhere : (after : List ℕ) → IsFault after → (n : Name) → mangled_more n ≡ after → ⊥
 stops-elsewhere after fault n e = go (follows-more n)
@@ -50,11 +47,11 @@ pub joined-no_name : (cs : Name) (c after : List ℕ) → AllByRecursion AreByte
 joined-no_name [] c after all bytes stop fault [] is e = absurd is
 joined-no_name (d ∷ ds) c after all bytes stop fault [] is e = absurd is
 joined-no_name [] c after all bytes stop fault (b ∷ n) is e =
-    stops-elsewhere after fault n (same_component b c (mangled_more n) after is.0 bytes (more-byteless n) stop e).1
+    stops-elsewhere after fault n (same_component b c (mangled_more n) after is.0 bytes (mangled_more-byteless n) stop e).1
 joined-no_name (d ∷ ds) c after all bytes stop fault (b ∷ n) is e =
     let whole = joined ds (mangled_before c after) in
     behind-boundary whole (joined-no_name ds c after all.1 bytes stop fault) n is.1
-    (same_component b d (mangled_more n) (underscore ∷ underscore ∷ whole) is.0 all.0 (more-byteless n) (boundary-byteless whole) e).1
+    (same_component b d (mangled_more n) (underscore ∷ underscore ∷ whole) is.0 all.0 (mangled_more-byteless n) (boundary-byteless whole) e).1
 
 -- a further byte is one among bytes
 pub bytes-push : (xs : List ℕ) (b : ℕ) → AreBytes xs → b < 256 → AreBytes (xs ++ b ∷ [])

@@ -1,10 +1,9 @@
 -- The variables of some types or terms, taken one after the other, and what is noted next.
-use Rattle.std.proofs.Common.{◌≡◌, ℕ, zero, suc, ◌<◌, refl, sym, ap, ◌∙◌, subst, arith, List, [], ◌∷◌, ◌++◌, length, length-append, Option, Some, ◌⊎◌, ⊎_elim, inl, inr}
+use Rattle.std.proofs.Common.{◌≡◌, ℕ, ◌<◌, refl, sym, ap, ◌∙◌, subst, arith, List, [], ◌∷◌, ◌++◌, length, length-append, Option, Some, ◌⊎◌, ⊎_elim}
 use Rattle.std.specs.Prelude.{slice_get, nat_eq}
 use Rattle.std.specs.List.{flat_map}
 use Rattle.std.proofs.lemmas.Grind.{flat_map-append}
 use Rattle.std.proofs.lemmas.List.{append-nil, append_assoc}
-use Rattle.std.proofs.lemmas.Option.{same_Some}
 use Rattle.hol_spec.specs.Names.{Name}
 use Rattle.hol_spec.specs.Lists.{union}
 use Rattle.hol_spec.specs.Types.{HolType, operator, types_of, variable_places}
@@ -23,6 +22,7 @@ use Rattle.hol_params.specs.Noted.{AreTypesNoted, AreTermsNoted, AreNoted, IsOwn
 use Rattle.hol_params.specs.Variables.{AreNames}
 use Rattle.hol_params.proofs.Unions.{Tells-union}
 use Rattle.hol_params.proofs.Names.{AreNames-none, AreNames-union, variable_places-listed}
+use Rattle.hol_laws.specs.PlaceLaws.{slice_get-one_more}
 
 -- what is found in one more comes last
 pub places-last : {A B : Type 0} (f : A → List B) (xs : List A) (x : A) → flat_map f xs ++ f x ≡ flat_map f (xs ++ x ∷ [])
@@ -73,13 +73,6 @@ module _ (types : List HolType) (noted : List (Option ListId)) (all : List TypeI
 pub operator_places : (types : List HolType) (i : ℕ) (n : Name) (args : List TypeId) → type.Holds types i (operator n (types_of (types_at types args))) → flat_map variable_places (types_at types args) ≡ variable_places (tree_at types i)
 operator_places types i n args e = sym (ap variable_places (Holds-tree_at types i (operator n (types_of (types_at types args))) e) ∙ variable_places-listed (types_at types args))
 
--- an item of a list with one more is one of it, or the last
-pub slice_get-pushed_more : {X : Type 0} (xs : List X) (x y : X) (i : ℕ) → slice_get (xs ++ x ∷ []) i ≡ Some y → (slice_get xs i ≡ Some y) ⊎ ((i ≡ length xs) × (x ≡ y))
-slice_get-pushed_more [] x y zero e = inr (refl, same_Some _ _ e)
-slice_get-pushed_more [] x y (suc i) e = inl e
-slice_get-pushed_more (z ∷ xs) x y zero e = inl e
-slice_get-pushed_more (z ∷ xs) x y (suc i) e = ⊎_elim (λ h. inl h) (λ h. inr (ap suc h.0, h.1)) (slice_get-pushed_more xs x y i e)
-
 -- what is noted stays so where lists are kept
 pub AreTypesNoted-kept : (types : List HolType) (old new : List (List ℕ)) (noted : List (Option ListId)) → KeepsLists old new → AreTypesNoted types old noted → AreTypesNoted types new noted
 AreTypesNoted-kept types old new noted k h = record {
@@ -100,7 +93,7 @@ AreTermsNoted-kept trees a b c d noted k l h = record {
 pub AreTypesNoted-pushed : (types : List HolType) (names : List (List ℕ)) (noted new : List (Option ListId)) (list : Option ListId) → length noted < length types → new ≡ noted ++ list ∷ [] → AreTypesNoted types names noted → Tells (AreNames types (variable_places (tree_at types (length noted)))) names list → AreTypesNoted types names new
 AreTypesNoted-pushed types names noted new list lt e h t = subst (AreTypesNoted types names) (sym e) (record {
   few = omega (arith, lt, length-append noted (list ∷ []));
-  each = λ i o at. ⊎_elim (λ old. h.each i o old) (λ last. last_one i o last.0 last.1) (slice_get-pushed_more noted list o i at);
+  each = λ i o at. ⊎_elim (λ old. h.each i o old) (λ last. last_one i o last.0 last.1) (slice_get-one_more noted list o i at);
 })
   where
     last_one : (i : ℕ) (o : Option ListId) → i ≡ length noted → list ≡ o → Tells (AreNames types (variable_places (tree_at types i))) names o
@@ -110,7 +103,7 @@ AreTypesNoted-pushed types names noted new list lt e h t = subst (AreTypesNoted 
 pub AreTermsNoted-pushed : (trees : Trees) (names variables : List (List ℕ)) (noted new : List Own) (own : Own) → length noted < length trees.terms → new ≡ noted ++ own ∷ [] → AreTermsNoted trees names variables noted → IsOwn trees names variables (length noted) own → AreTermsNoted trees names variables new
 AreTermsNoted-pushed trees names variables noted new own lt e h t = subst (AreTermsNoted trees names variables) (sym e) (record {
   few = omega (arith, lt, length-append noted (own ∷ []));
-  each = λ i o at. ⊎_elim (λ old. h.each i o old) (λ last. last_one i o last.0 last.1) (slice_get-pushed_more noted own o i at);
+  each = λ i o at. ⊎_elim (λ old. h.each i o old) (λ last. last_one i o last.0 last.1) (slice_get-one_more noted own o i at);
 })
   where
     last_one : (i : ℕ) (o : Own) → i ≡ length noted → own ≡ o → IsOwn trees names variables i o

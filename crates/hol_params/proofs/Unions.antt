@@ -1,13 +1,14 @@
 -- Unions of lists, and the numbers of lists that are kept.
-use Rattle.std.proofs.Common.{◌≡◌, ℕ, ◌<◌, refl, sym, ap, ◌∙◌, List, [], ◌∷◌, ◌++◌, length, Bool, true, false, cond, ◌&&◌, ◌||◌, Option, Some, None}
+use Rattle.std.proofs.Common.{◌≡◌, ℕ, ◌<◌, refl, sym, ap, ◌∙◌, List, [], ◌∷◌, ◌++◌, length, true, cond, ◌||◌, Option, Some, None}
 use Rattle.std.specs.Prelude.{slice_get, unwrap_or, nat_eq}
 use Rattle.std.specs.List.{list_all, IsDistinct}
 use Rattle.std.proofs.lemmas.Bool.Decides.{Decides-eqb, Decides-like, same_from_decides}
 use Rattle.std.proofs.lemmas.Option.{slice_get_within, slice_get-get_or, unwrap_or-slice_get}
 use Rattle.std.proofs.Math.Path.{ap₂}
+use Rattle.std.proofs.lemmas.Bool.{and_parts, and_from, or_right}
 use Rattle.hol_spec.specs.Lists.{is_in, union}
 use Rattle.hol_laws.specs.ListLaws.{distinct-itself}
-use Rattle.hol_type.specs.TableLaws.{slice_get-append}
+use Rattle.hol_laws.specs.PlaceLaws.{slice_get-append}
 use Rattle.hol_params.specs.declared.lists.ListId.{ListId}
 use Rattle.hol_params.specs.Lists.{list_in, KeepsLists, Tells, IsThere, HasUnion}
 
@@ -15,23 +16,11 @@ use Rattle.hol_params.specs.Lists.{list_in, KeepsLists, Tells, IsThere, HasUnion
 pub nat_eq-sym : (m n : ℕ) → nat_eq m n ≡ nat_eq n m
 nat_eq-sym m n = same_from_decides (nat_eq m n) (nat_eq n m) (Decides-eqb m n) (Decides-like (nat_eq n m) (λ e. sym e) (λ e. sym e) (Decides-eqb n m))
 
-both_true : (a b : Bool) → (a && b) ≡ true → (a ≡ true) × (b ≡ true)
-both_true true b e = (refl, e)
-both_true false b e = absurd (cc)
-
-and_true : (a b : Bool) → a ≡ true → b ≡ true → (a && b) ≡ true
-and_true true b e f = f
-and_true false b e f = absurd (cc)
-
-or_true : (a b : Bool) → b ≡ true → (a || b) ≡ true
-or_true true b e = refl
-or_true false b e = e
-
 -- a list that has all of another is their union
 pub union-all_in : (ys xs : List ℕ) → list_all (λ n. is_in nat_eq n xs) ys ≡ true → union nat_eq xs ys ≡ xs
 union-all_in [] xs e = refl
 union-all_in (y ∷ ys) xs e =
-    let h = both_true (is_in nat_eq y xs) (list_all (λ n. is_in nat_eq n xs) ys) e in
+    let h = and_parts (is_in nat_eq y xs) (list_all (λ n. is_in nat_eq n xs) ys) e in
     ap (λ b. union nat_eq (cond b xs (xs ++ y ∷ [])) ys) h.0 ∙ union-all_in ys xs h.1
 
 -- the union with nothing is a list without repeats itself
@@ -42,14 +31,14 @@ union-none xs h = distinct-itself nat_eq (λ m n e. nat_eq-sym n m ∙ e) xs h
 all_in-more : (ys xs : List ℕ) (x : ℕ) → list_all (λ n. is_in nat_eq n xs) ys ≡ true → list_all (λ n. is_in nat_eq n (x ∷ xs)) ys ≡ true
 all_in-more [] xs x e = refl
 all_in-more (y ∷ ys) xs x e =
-    let h = both_true (is_in nat_eq y xs) (list_all (λ n. is_in nat_eq n xs) ys) e in
-    and_true (is_in nat_eq y (x ∷ xs)) (list_all (λ n. is_in nat_eq n (x ∷ xs)) ys) (or_true (nat_eq y x) (is_in nat_eq y xs) h.0) (all_in-more ys xs x h.1)
+    let h = and_parts (is_in nat_eq y xs) (list_all (λ n. is_in nat_eq n xs) ys) e in
+    and_from (is_in nat_eq y (x ∷ xs)) (list_all (λ n. is_in nat_eq n (x ∷ xs)) ys) (or_right (nat_eq y x) (is_in nat_eq y xs) h.0) (all_in-more ys xs x h.1)
 
 -- a list has all of itself
 pub all_in-own : (xs : List ℕ) → list_all (λ n. is_in nat_eq n xs) xs ≡ true
 all_in-own [] = refl
 all_in-own (x ∷ xs) =
-    and_true (is_in nat_eq x (x ∷ xs)) (list_all (λ n. is_in nat_eq n (x ∷ xs)) xs) (ap (λ b. b || is_in nat_eq x xs) ((Decides-eqb x x).1 refl)) (all_in-more xs xs x (all_in-own xs))
+    and_from (is_in nat_eq x (x ∷ xs)) (list_all (λ n. is_in nat_eq n (x ∷ xs)) xs) (ap (λ b. b || is_in nat_eq x xs) ((Decides-eqb x x).1 refl)) (all_in-more xs xs x (all_in-own xs))
 
 -- a list that has a number is the number's
 pub list_in-is : (ls : List (List ℕ)) (i : ℕ) (l : List ℕ) → slice_get ls i ≡ Some l → list_in ls i ≡ l

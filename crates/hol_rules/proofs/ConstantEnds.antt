@@ -20,7 +20,6 @@ use Rattle.hol_spec.specs.Rules.{Parameters, IsDefining, derived}
 use Rattle.hol_spec.specs.Rules as rule
 use Rattle.hol_spec.specs.Proofs.{Made, Step, symbols_of, definitions_of, IsStep}
 use Rattle.hol_spec.specs.declared.StepKind.TheVariants as by_rule
-use Rattle.proof_laws.specs.DefinitionListLaws.{not-is}
 use Rattle.proof_laws.specs.ProofGrowth.{definitions_of-append}
 use Rattle.proof_laws.specs.StepsDerive.{among-last}
 use Rattle.article_spec.specs.Results.{◌>>◌, Fails}
@@ -45,6 +44,7 @@ use Rattle.hol_rules.proofs.FunctionEnds.{number-grown}
 use Rattle.hol_rules.proofs.RuleSteps.{met}
 use Rattle.hol_rules.proofs.SideLaws.{known_term}
 use Rattle.std.proofs.Math.Path.{ap₂}
+use Rattle.std.proofs.lemmas.Bool.{not-true}
 
 -- three conditions in a row
 three-refused : (b c d : Bool) (r : Result Step Kind) (k : Kind) → first_failing ((b, NameTaken) ∷ (c, NotClosed) ∷ (d, ExtraTypeVars) ∷ []) ≡ Some k → (demand b NameTaken >> (demand c NotClosed >> (demand d ExtraTypeVars >> r))) ≡ Err k
@@ -75,7 +75,7 @@ module _ (symbols : List Symbol) (n : Name) (t : Term) (a : HolType) (typed : Ha
 
     -- the constant may be taken
     pub const-takes : Takes symbols (Symbol.defined (Definition.constant n t))
-    const-takes = taking.Takes.constant (not-is (is_taken_constant symbols n) holds.0) defining
+    const-takes = taking.Takes.constant (not-true (is_taken_constant symbols n) holds.0) defining
 
 module _ (made : List Made) (n : Name) (t : Term) (a : HolType) (typed : HasType t a) where
   abbrev d : Definition

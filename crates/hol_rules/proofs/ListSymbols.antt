@@ -6,11 +6,12 @@ use Rattle.std.specs.List.{AllByRecursion, IsAmong, filter_map, cons_option, lis
 use Rattle.std.proofs.lemmas.List.{length-append, append_assoc}
 use Rattle.std.proofs.lemmas.List.Folds.{list_any-append}
 use Rattle.std.proofs.Math.Seq.{get_or-append_seam}
+use Rattle.std.proofs.lemmas.Bool.{and_parts, or_parts, or_from, not-true}
 use Rattle.hol_spec.specs.Names.{Name}
 use Rattle.hol_spec.specs.NameEquality.{name_eq}
 use Rattle.hol_laws.specs.NameEqualityLaws.{name_eq-Decides}
 use Rattle.hol_spec.specs.Lists.{is_in}
-use Rattle.hol_laws.specs.ListLaws.{All-filter, neither}
+use Rattle.hol_laws.specs.ListLaws.{All-filter}
 use Rattle.hol_spec.specs.Primitives.{bool}
 use Rattle.hol_spec.specs.Terms.{Term, Variable, free, variable_eq, type_of, HasType}
 use Rattle.hol_spec.specs.TermSubstitution.{TermPairs}
@@ -24,11 +25,11 @@ use Rattle.hol_spec.specs.Taking as taking
 use Rattle.hol_spec.specs.Rules.{IsDefining}
 use Rattle.hol_spec.specs.Rules as rule
 use Rattle.hol_spec.specs.Proofs.{Made, Step, symbols_of, steps_of, sequents_of, sequent_at, definitions_of, IsStep}
-use Rattle.proof_laws.specs.DefinitionListLaws.{not-is, hypothesis-is}
+use Rattle.proof_laws.specs.DefinitionListLaws.{hypothesis-is}
 use Rattle.proof_laws.specs.EquationLaws.{equation-sides}
 use Rattle.proof_laws.specs.ProofGrowth.{sequents_of-append, definitions_of-append}
-use Rattle.proof_laws.specs.RuleTaken.{lookup-All, list_parts, both}
-use Rattle.proof_laws.specs.SymbolGrowth.{symmetric, generic_type-new, or-neither}
+use Rattle.proof_laws.specs.RuleTaken.{lookup-All, list_parts}
+use Rattle.proof_laws.specs.SymbolGrowth.{symmetric, generic_type-new}
 use Rattle.hol_rules.specs.declared.made.Made.TheVariants as one_made
 use Rattle.hol_rules.specs.ConstantLists.{constants_in}
 use Rattle.hol_rules.specs.Views.{made_of}
@@ -49,24 +50,24 @@ together : (es : TermPairs) → AllByRecursion (λ (e : Variable × Term). HasTy
     → AllByRecursion (λ (e : Variable × Term). IsDefining e.0.1 e.1) es
 together [] h c v = tt
 together (e ∷ es) h c v =
-    let a = both (is_closed e.1) (list_all (λ (e : Variable × Term). is_closed e.1) es) c in
-    let b = both (has_type_variables_of e.0.1 e.1) (list_all (λ (e : Variable × Term). has_type_variables_of e.0.1 e.1) es) v in
+    let a = and_parts (is_closed e.1) (list_all (λ (e : Variable × Term). is_closed e.1) es) c in
+    let b = and_parts (has_type_variables_of e.0.1 e.1) (list_all (λ (e : Variable × Term). has_type_variables_of e.0.1 e.1) es) v in
     (record { typed = h.0; closed = a.0; variables = b.0 }, together es h.1 a.1 b.1)
 
 -- a name that is new stays new beside another
 still-new : (symbols : List Symbol) (n m : Name) (t : Term) → is_taken_constant symbols n ≡ false → name_eq n m ≡ false → is_taken_constant (symbols ++ defined (Definition.constant m t) ∷ []) n ≡ false
 still-new symbols n m t new other =
-    let parts = or-neither (is_some (generic_type symbols n)) (list_any (is_input_constant n) symbols) new in
-    neither _ _
+    let parts = or_parts (is_some (generic_type symbols n)) (list_any (is_input_constant n) symbols) new in
+    or_from _ _
     (ap is_some (generic_type-new symbols (defined (Definition.constant m t) ∷ []) n parts.0 ∙ ap (λ b. option_or (cond b (type_of t) None) None) other))
-    (list_any-append (is_input_constant n) symbols (defined (Definition.constant m t) ∷ []) ∙ neither _ _ parts.1 refl)
+    (list_any-append (is_input_constant n) symbols (defined (Definition.constant m t) ∷ []) ∙ or_from _ _ parts.1 refl)
 
 all-still-new : (symbols : List Symbol) (m : Name) (t : Term) (ns : List Name) → list_any (is_taken_constant symbols) ns ≡ false → is_in name_eq m ns ≡ false → list_any (is_taken_constant (symbols ++ defined (Definition.constant m t) ∷ [])) ns ≡ false
 all-still-new symbols m t [] e f = refl
 all-still-new symbols m t (n ∷ ns) e f =
-    let a = or-neither (is_taken_constant symbols n) (list_any (is_taken_constant symbols) ns) e in
-    let b = or-neither (name_eq m n) (is_in name_eq m ns) f in
-    neither _ _ (still-new symbols n m t a.0 (symmetric name_eq name_eq-Decides m n b.0)) (all-still-new symbols m t ns a.1 b.1)
+    let a = or_parts (is_taken_constant symbols n) (list_any (is_taken_constant symbols) ns) e in
+    let b = or_parts (name_eq m n) (is_in name_eq m ns) f in
+    or_from _ _ (still-new symbols n m t a.0 (symmetric name_eq name_eq-Decides m n b.0)) (all-still-new symbols m t ns a.1 b.1)
 
 -- the constants of a list, each by what defines its variable
 module _ (d : Variable → Option Term) where
@@ -83,9 +84,9 @@ module _ (d : Variable → Option Term) where
           → AreTakenAfter symbols (map defined (cons_option (option_map (Definition.constant p.0) o) (listed ps)))
       go None f e later = absurd (cc)
       go (Some t) f e later =
-          let a = or-neither (is_taken_constant symbols p.0) (list_any (is_taken_constant symbols) (names_of ps)) new in
-          let b = both (not (is_in name_eq p.0 (names_of ps))) (no_repeats name_eq (names_of ps)) apart in
-          (taking.Takes.constant a.0 (f t refl), later (symbols ++ defined (Definition.constant p.0 t) ∷ []) e (all-still-new symbols p.0 t (names_of ps) a.1 (not-is (is_in name_eq p.0 (names_of ps)) b.0)) b.1)
+          let a = or_parts (is_taken_constant symbols p.0) (list_any (is_taken_constant symbols) (names_of ps)) new in
+          let b = and_parts (not (is_in name_eq p.0 (names_of ps))) (no_repeats name_eq (names_of ps)) apart in
+          (taking.Takes.constant a.0 (f t refl), later (symbols ++ defined (Definition.constant p.0 t) ∷ []) e (all-still-new symbols p.0 t (names_of ps) a.1 (not-true (is_in name_eq p.0 (names_of ps)) b.0)) b.1)
 
   -- each is made under its name
   listed-made : (steps : List Step) (ps : ConstantPairs) → list_all (λ v. is_some (d v)) (variables_of ps) ≡ true → made_of (map defined (listed ps)) steps (map (λ n. one_made.Const n) (names_of ps)) ≡ map Made.symbol (map defined (listed ps))
@@ -140,7 +141,7 @@ module _ (symbols : List Symbol) (pairs : ConstantPairs) (one : Sequent) (typed 
   pub list-takes : AreTakenAfter symbols (constants_in pairs one)
   list-takes =
       let parts = list_parts pairs one fit.list in
-      listed-taken (definiens pairs one.hypotheses) (λ v u f. lookup-All (λ e. IsDefining e.0.1 e.1) (defining_equations pairs one.hypotheses) v u defining f) pairs symbols parts.defined (not-is (list_any (is_taken_constant symbols) (names_of pairs)) fit.new) parts.names
+      listed-taken (definiens pairs one.hypotheses) (λ v u f. lookup-All (λ e. IsDefining e.0.1 e.1) (defining_equations pairs one.hypotheses) v u defining f) pairs symbols parts.defined (not-true (list_any (is_taken_constant symbols) (names_of pairs)) fit.new) parts.names
 
   pub list-made : (steps : List Step) → made_of (constants_in pairs one) steps (map (λ n. one_made.Const n) (names_of pairs)) ≡ map Made.symbol (constants_in pairs one)
   list-made steps = listed-made (definiens pairs one.hypotheses) steps pairs (list_parts pairs one fit.list).defined

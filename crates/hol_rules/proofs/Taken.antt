@@ -3,6 +3,7 @@ use Rattle.std.proofs.Common.{◌≡◌, ℕ, ◌<◌, ◌≤◌, ◌+◌, refl,
 use Rattle.std.specs.Prelude.{◌||◌, if◌then◌else◌, is_some}
 use Rattle.std.specs.List.{list_any, AllByRecursion}
 use Rattle.std.proofs.lemmas.List.{append-nil, append_assoc, length-append, length-map}
+use Rattle.std.proofs.lemmas.Bool.{or_parts}
 use Rattle.hol_spec.specs.Names.{Name}
 use Rattle.hol_spec.specs.Symbols.{Symbol, operator_arity, is_input_operator, is_taken_constant, new_constant, new_operator}
 use Rattle.hol_spec.specs.Taking.{Takes}
@@ -11,7 +12,6 @@ use Rattle.hol_spec.specs.Proofs.{Made, steps_of, symbols_of, IsProof}
 use Rattle.hol_spec.specs.Proofs as proof
 use Rattle.hol_laws.specs.Members.{All-append}
 use Rattle.proof_laws.specs.ProofLaws.{steps_of-symbols, symbols_of-symbols}
-use Rattle.proof_laws.specs.SymbolGrowth.{or-neither}
 use Rattle.hol_term.specs.Tables.{Trees}
 use Rattle.hol_defs.specs.Symbols.{Taken, symbol_at, symbols_at, AreKnownSymbols}
 use Rattle.hol_params.specs.declared.ParamMemo.{ParamMemo}
@@ -139,7 +139,7 @@ module _ (trees : Trees) (symbols : List Taken) (xs : List Step) (ms : List OneM
 
     pub IsKept-operator : AreKnownSymbols trees after → IsKept trees after xs (ms ++ one.InputOp n k ∷ []) memo
     IsKept-operator known =
-        let parts = or-neither (is_some (operator_arity S n)) (list_any (is_input_operator n k) S) new in
+        let parts = or_parts (is_some (operator_arity S n)) (list_any (is_input_operator n k) S) new in
         IsKept-symbols (Symbol.input_operator n k ∷ []) (is ∙ ap (λ l. S ++ l) one_operator) (one.InputOp n k ∷ []) refl known (tt {0}, tt {0}) refl (taking.Takes.input_operator parts.0 parts.1, tt {0})
 
     pub made_view-operator : made_view trees after xs (ms ++ one.InputOp n k ∷ []) ≡ made_view trees symbols xs ms ++ map Made.symbol (new_operator (symbols_of (made_view trees symbols xs ms)) n k)

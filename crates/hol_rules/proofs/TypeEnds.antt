@@ -4,6 +4,7 @@ use Rattle.std.specs.Prelude.{nat_eq, if◌then◌else◌}
 use Rattle.std.proofs.lemmas.Bool.Decides.{nat_tests}
 use Rattle.std.proofs.lemmas.List.{length-map}
 use Rattle.std.proofs.lemmas.Option.{same_Some}
+use Rattle.std.proofs.lemmas.Bool.{or_parts, not-true}
 use Rattle.bridge_base.specs.declared.faults.Fault.{Fault}
 use Rattle.bridge_base.specs.declared.faults.Fault.TheVariants.{Memory, Refused}
 use Rattle.bridge_base.specs.declared.faults.Kind.{Kind}
@@ -16,8 +17,6 @@ use Rattle.hol_spec.specs.Sequents.{Sequent as ASequent}
 use Rattle.hol_spec.specs.Symbols.{Symbol}
 use Rattle.hol_spec.specs.Taking.{AreNew}
 use Rattle.hol_spec.specs.Proofs.{Made, symbols_of, sequent_at}
-use Rattle.proof_laws.specs.DefinitionListLaws.{not-is}
-use Rattle.proof_laws.specs.SymbolGrowth.{or-neither}
 use Rattle.article_spec.specs.Results.{◌>>◌, Fails}
 use Rattle.article_spec.specs.Conditions.{demand, in_limits}
 use Rattle.article_spec.specs.DefiningWords.{application_parts}
@@ -56,10 +55,10 @@ three-hold true true true e = (refl, (refl, refl))
 
 new-names : (symbols : List Symbol) (names : TypeNames) → are_new symbols names ≡ true → AreNew symbols names
 new-names symbols names e =
-    let none = not-is _ e in
-    let a = or-neither _ _ none in
-    let b = or-neither _ _ a.0 in
-    let c = or-neither _ _ b.0 in
+    let none = not-true _ e in
+    let a = or_parts _ _ none in
+    let b = or_parts _ _ a.0 in
+    let c = or_parts _ _ b.0 in
     record { operator = c.0; abstraction = c.1; representation = b.1; apart = a.1 }
 
 module _ (made : List Made) (names : TypeNames) (i : ℕ) where

@@ -5,10 +5,10 @@ use Rattle.std.proofs.lemmas.List.{take-append-drop, append-nil, length-take-le}
 use Rattle.std.proofs.Math.Seq.{take-append_seam}
 use Rattle.hol_spec.specs.Types.{HolType}
 use Rattle.hol_spec.specs.Terms.{Term}
-use Rattle.hol_type.specs.TableLaws.{slice_get-append}
 use Rattle.hol_term.specs.declared.node.Entry.{Entry}
 use Rattle.hol_term.specs.Nodes.{tree_of_node, terms_from, terms_of, IsTable}
 use Rattle.hol_term.proofs.EntryLaws.{over, length-terms_of, Stays-terms_from}
+use Rattle.hol_laws.specs.PlaceLaws.{slice_get-append}
 
 terms_from-two : (types : List HolType) (ts : List Term) (a b : List Entry) → terms_from types ts (a ++ b) ≡ terms_from types (terms_from types ts a) b
 terms_from-two types ts [] b = refl

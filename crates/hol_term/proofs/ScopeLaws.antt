@@ -6,12 +6,12 @@ use Rattle.std.proofs.lemmas.Option.{slice_get_within, slice_get-get_or, unwrap_
 use Rattle.std.proofs.lemmas.Bool.{eqb-true}
 use Rattle.indexmap.specs.IndexSet.{insert_key}
 use Rattle.hol_type.specs.declared.table.TypeId.{TypeId}
-use Rattle.hol_type.specs.TableLaws.{slice_get-append}
 use Rattle.hol_term.specs.declared.scopes.Scope.{Scope}
 use Rattle.hol_term.specs.contracts.scopes.ScopePartialEq.TheImpl as scope_eq
 use Rattle.hol_term.specs.Scopes.{list_in, lists_from, lists_of, AreInner, KeepsLists, AddsList}
 use Rattle.hol_term.proofs.EntryLaws.{slice_get-last, slice_get-one_more}
 use Rattle.hol_term.proofs.NotedLaws.{and_both}
+use Rattle.hol_laws.specs.PlaceLaws.{slice_get-append}
 
 -- a list that has a number is the number's
 pub list_in-Some : (ls : List (List TypeId)) (i : ℕ) → i < length ls → slice_get ls i ≡ Some (list_in ls i)

@@ -8,12 +8,12 @@ use Rattle.hol_spec.specs.Terms.{Term, free, bound, constant, app, lam}
 use Rattle.hol_type.specs.declared.table.TypeId.{TypeId}
 use Rattle.hol_type.specs.Tables as type
 use Rattle.hol_type.specs.TableLaws as type_law
-use Rattle.hol_type.specs.TableLaws.{slice_get-append}
 use Rattle.hol_term.specs.declared.TermId.{TermId}
 use Rattle.hol_term.specs.declared.node.Node.{Node}
 use Rattle.hol_term.specs.declared.node.Node.TheVariants as node
 use Rattle.hol_term.specs.Tables.{Trees, term_in, terms_at, AreKnown, IsDistinct, Stays, Keeps, IsTypeNumber}
 use Rattle.hol_term.specs.Nodes.{tree_of_node, PartsBelow}
+use Rattle.hol_laws.specs.PlaceLaws.{slice_get-append}
 
 -- a number that the list has, has its term
 pub term_in-Some : (ts : List Term) (i : ℕ) → i < length ts → slice_get ts i ≡ Some (term_in ts i)

@@ -6,9 +6,9 @@ use Rattle.std.proofs.Math.Seq.{take-append_seam}
 use Rattle.hol_spec.specs.Types.{HolType}
 use Rattle.hol_type.specs.declared.node.Entry.{Entry}
 use Rattle.hol_type.specs.Tables.{Holds}
-use Rattle.hol_type.specs.TableLaws.{slice_get-append}
 use Rattle.hol_type.specs.Entries.{tree_of_node, trees_from, trees_of, IsTable}
 use Rattle.hol_type.proofs.EntryLaws.{length-trees_of, Stays-trees_from}
+use Rattle.hol_laws.specs.PlaceLaws.{slice_get-append}
 
 trees_from-two : (ts : List HolType) (a b : List Entry) → trees_from ts (a ++ b) ≡ trees_from (trees_from ts a) b
 trees_from-two ts [] b = refl

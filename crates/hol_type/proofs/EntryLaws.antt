@@ -1,13 +1,14 @@
 -- The types of a list of entries.
-use Rattle.std.proofs.Common.{◌≡◌, ℕ, zero, suc, ◌+◌, ◌≤◌, refl, sym, ap, ◌∙◌, subst, arith, List, [], ◌∷◌, ◌++◌, length, Some, length-append, ◌⊎◌, ⊎_elim, inl, inr, Bool, true, false, ◌&&◌}
+use Rattle.std.proofs.Common.{◌≡◌, ℕ, zero, suc, ◌+◌, ◌≤◌, refl, sym, ap, ◌∙◌, subst, arith, List, [], ◌∷◌, ◌++◌, length, Some, length-append, true}
 use Rattle.std.specs.Prelude.{slice_get}
 use Rattle.std.proofs.lemmas.Option.{slice_get_within, same_Some}
-use Rattle.std.proofs.lemmas.Bool.{eqb-true}
+use Rattle.std.proofs.lemmas.Bool.{eqb-true, and_parts, and_from}
 use Rattle.std.proofs.Math.Path.{ap₂}
 use lib.Pointwise.{pointwise}
 use Rattle.hol_spec.specs.Names.{Name}
 use Rattle.hol_spec.specs.NameEquality.{name_eq}
 use Rattle.hol_laws.specs.NameEqualityLaws.{name_eq-Decides}
+use Rattle.hol_laws.specs.PlaceLaws.{slice_get-last}
 use Rattle.hol_spec.specs.Types.{HolType, HolTypes, variable, operator, none, types_of}
 use Rattle.hol_type.specs.declared.table.TypeId.{TypeId}
 use Rattle.hol_type.specs.declared.node.Node.{Node}
@@ -20,14 +21,6 @@ use Rattle.hol_type.specs.Tables.{types_at, Holds, IsDistinct, Stays}
 use Rattle.hol_type.specs.Views.{AreBelow}
 use Rattle.hol_type.specs.TableLaws.{Stays-refl, Stays-trans, Stays-append, types_at-Stays, types_at-same, types_of-same, AreBelow-known}
 use Rattle.hol_type.specs.Entries.{tree_of_node, PartsBelow, trees_from, trees_of}
-
-and_both : (a b : Bool) → (a && b) ≡ true → (a ≡ true) × (b ≡ true)
-and_both true b e = (refl, e)
-and_both false b e = absurd (cc)
-
-and_true : (a b : Bool) → a ≡ true → b ≡ true → (a && b) ≡ true
-and_true true b p q = q
-and_true false b p q = p
 
 -- a node's type stays
 pub tree_of_node-Stays : {ts us : List HolType} → Stays ts us → (n : Node) → PartsBelow (length ts) n → tree_of_node ts n ≡ tree_of_node us n
@@ -57,17 +50,6 @@ length-trees_of es = omega (arith, length-trees_from [] es)
 pub Stays-trees_from : (ts : List HolType) (es : List Entry) → Stays ts (trees_from ts es)
 Stays-trees_from ts [] = Stays-refl ts
 Stays-trees_from ts (e ∷ es) = Stays-trans (Stays-append ts (tree_of_node ts e.node ∷ [])) (Stays-trees_from (ts ++ tree_of_node ts e.node ∷ []) es)
-
-pub slice_get-last : {X : Type 0} (xs : List X) (x : X) → slice_get (xs ++ x ∷ []) (length xs) ≡ Some x
-slice_get-last [] x = refl
-slice_get-last (z ∷ xs) x = slice_get-last xs x
-
--- an item of a longer list is an old one or the last
-pub slice_get-one_more : {X : Type 0} (xs : List X) (x y : X) (i : ℕ) → slice_get (xs ++ x ∷ []) i ≡ Some y → (slice_get xs i ≡ Some y) ⊎ ((i ≡ length xs) × (x ≡ y))
-slice_get-one_more [] x y zero e = inr (refl, same_Some _ _ e)
-slice_get-one_more [] x y (suc i) e = inl e
-slice_get-one_more (z ∷ xs) x y zero e = inl e
-slice_get-one_more (z ∷ xs) x y (suc i) e = ⊎_elim (λ h. inl h) (λ h. inr (ap suc h.0, h.1)) (slice_get-one_more xs x y i e)
 
 -- the tree of each entry is that of its parts among all trees
 node_from : (ts : List HolType) (es : List Entry) (j : ℕ) (m : Entry) → slice_get es j ≡ Some m → PartsBelow (length ts + j) m.node → slice_get (trees_from ts es) (length ts + j) ≡ Some (tree_of_node (trees_from ts es) m.node)
@@ -101,7 +83,7 @@ id_eq-refl x = grind arith
 
 ids_eq-true : (xs ys : List TypeId) → pointwise id_eq.eq-value.it xs ys ≡ true → xs ≡ ys
 ids_eq-true [] [] h = refl
-ids_eq-true (x ∷ xs) (y ∷ ys) h = let p = and_both (id_eq.eq-value.it x y) (pointwise id_eq.eq-value.it xs ys) h in ap₂ (λ a l. a ∷ l) (id_eq-true x y p.0) (ids_eq-true xs ys p.1)
+ids_eq-true (x ∷ xs) (y ∷ ys) h = let p = and_parts (id_eq.eq-value.it x y) (pointwise id_eq.eq-value.it xs ys) h in ap₂ (λ a l. a ∷ l) (id_eq-true x y p.0) (ids_eq-true xs ys p.1)
 ids_eq-true [] (y ∷ ys) h = absurd (cc)
 ids_eq-true (x ∷ xs) [] h = absurd (cc)
 
@@ -113,7 +95,7 @@ ids_eq-refl (x ∷ xs) = rw (id_eq-refl x) (ids_eq-refl xs)
 node_eq-true : (ts : List HolType) (x y : Node) → node_eq.eq-value.it x y ≡ true → tree_of_node ts x ≡ tree_of_node ts y
 node_eq-true ts (node.Var m) (node.Var n) h = ap variable ((name_eq-Decides m n).0 h)
 node_eq-true ts (node.Op m is) (node.Op n js) h =
-    let p = and_both (name_eq m n) (pointwise id_eq.eq-value.it is.items js.items) h in
+    let p = and_parts (name_eq m n) (pointwise id_eq.eq-value.it is.items js.items) h in
     ap₂ operator ((name_eq-Decides m n).0 p.0) (ap (λ l. types_of (types_at ts l)) (ids_eq-true is.items js.items p.1))
 node_eq-true ts (node.Var m) (node.Op n js) h = absurd (cc)
 node_eq-true ts (node.Op m is) (node.Var n) h = absurd (cc)
@@ -136,7 +118,7 @@ node_same d (node.Var m) (node.Var n) a b e = (name_eq-Decides m n).1 (ap name_o
 node_same {ts = ts} d (node.Op m is) (node.Op n js) a b e =
     let p = (name_eq-Decides m n).1 (ap name_of e) in
     let q = types_at-same d is.items js.items (AreBelow-known ts (length ts) is.items (omega arith) a) (AreBelow-known ts (length ts) js.items (omega arith) b) (types_of-same _ _ (ap parts_of e)) in
-    and_true (name_eq m n) (pointwise id_eq.eq-value.it is.items js.items) p (subst (λ l. pointwise id_eq.eq-value.it is.items l ≡ true) q (ids_eq-refl is.items))
+    and_from (name_eq m n) (pointwise id_eq.eq-value.it is.items js.items) p (subst (λ l. pointwise id_eq.eq-value.it is.items l ≡ true) q (ids_eq-refl is.items))
 node_same d (node.Var m) (node.Op n js) a b e = absurd (cc)
 node_same d (node.Op m is) (node.Var n) a b e = absurd (cc)
 

@@ -1,9 +1,10 @@
 -- A table into which an entry is put.
-use Rattle.std.proofs.Common.{◌≡◌, ℕ, zero, suc, ◌<◌, refl, sym, ap, ◌∙◌, subst, arith, List, [], ◌∷◌, ◌++◌, length, get_or, Some, ⊎_elim, inl, inr, Bool, true, false}
-use Rattle.std.specs.Prelude.{slice_get, if◌then◌else◌, ◌||◌}
+use Rattle.std.proofs.Common.{◌≡◌, ℕ, ◌<◌, refl, sym, ap, ◌∙◌, subst, arith, List, [], ◌∷◌, ◌++◌, length, get_or, Some, ⊎_elim, inl, inr, Bool, true, false}
+use Rattle.std.specs.Prelude.{slice_get, if◌then◌else◌}
 use Rattle.std.specs.List.{list_any}
 use Rattle.std.proofs.lemmas.Option.{slice_get_within, slice_get-get_or, same_Some}
 use Rattle.std.proofs.Math.Path.{subst₂}
+use Rattle.std.proofs.lemmas.Map.Keys.{any_passes_from_place}
 use Rattle.indexmap.specs.IndexSet.{insert_key}
 use Rattle.hol_spec.specs.Types.{HolType}
 use Rattle.hol_type.specs.declared.node.Entry.{Entry}
@@ -12,7 +13,8 @@ use Rattle.hol_type.specs.Tables.{Holds, Keeps, Adds}
 use Rattle.hol_type.specs.TableLaws.{Holds-within, Adds-Keeps}
 use Rattle.hol_type.specs.Measured.{IsMeasured}
 use Rattle.hol_type.specs.Entries.{tree_of_node, PartsBelow, trees_of, IsTable}
-use Rattle.hol_type.proofs.EntryLaws.{trees_from-append, length-trees_of, slice_get-one_more, trees_of-Holds, tree_of_node-Stays, PartsBelow-more, entry_eq-true, tree_of_node-same}
+use Rattle.hol_type.proofs.EntryLaws.{trees_from-append, length-trees_of, trees_of-Holds, tree_of_node-Stays, PartsBelow-more, entry_eq-true, tree_of_node-same}
+use Rattle.hol_laws.specs.PlaceLaws.{slice_get-one_more}
 
 -- an entry whose node the table lacks
 module _ (es : List Entry) (e : Entry) (t : IsTable es) (p : PartsBelow (length (trees_of es)) e.node) (m : IsMeasured e.measures (tree_of_node (trees_of es) e.node)) (absent : (j : ℕ) (o : Entry) → slice_get es j ≡ Some o → entry_eq.eq-value.it e o ≡ true → ⊥) where
@@ -50,15 +52,6 @@ module _ (es : List Entry) (e : Entry) (t : IsTable es) (p : PartsBelow (length 
   pub grown_table : IsTable (es ++ e ∷ [])
   grown_table = record { lower = low; distinct = record { each = distinct }; measured = measured }
 
-any_at : {X : Type 0} (p : X → Bool) (xs : List X) (j : ℕ) (x : X) → slice_get xs j ≡ Some x → p x ≡ true → list_any p xs ≡ true
-any_at p [] j x e h = absurd (cc)
-any_at p (y ∷ ys) zero x e h = let q = ap p (same_Some _ _ e) ∙ h in ap (λ b. b || list_any p ys) q
-any_at p (y ∷ ys) (suc j) x e h = go (p y) (any_at p ys j x e h)
-  where
-    go : (b : Bool) → list_any p ys ≡ true → (b || list_any p ys) ≡ true
-    go true q = refl
-    go false q = q
-
 -- a set's insertion
 pub record Inserted (es new : List Entry) (e : Entry) : Type 0 where
   pub table : IsTable new
@@ -74,7 +67,7 @@ inserted es new e t p m q = go (list_any (entry_eq.eq-value.it e) es) refl
     go true h = unchanged es new e t (q ∙ ap (λ b. if b then es else es ++ e ∷ []) h)
     go false h =
         let n = q ∙ ap (λ b. if b then es else es ++ e ∷ []) h in
-        let absent : (j : ℕ) (o : Entry) → slice_get es j ≡ Some o → entry_eq.eq-value.it e o ≡ true → ⊥ = λ j o at same. let y = any_at (entry_eq.eq-value.it e) es j o at same in let w = sym y ∙ h in cc in
+        let absent : (j : ℕ) (o : Entry) → slice_get es j ≡ Some o → entry_eq.eq-value.it e o ≡ true → ⊥ = λ j o at same. let y = any_passes_from_place (entry_eq.eq-value.it e) es j o at same in let w = sym y ∙ h in cc in
         subst (λ w. Inserted es w e) (sym n) (record { table = grown_table es e t p m absent; adds = inr (trees_from-append [] es e) })
 
 pub inserted_keeps : (es new : List Entry) (e : Entry) → Inserted es new e → Keeps (trees_of es) (trees_of new)

@@ -5,7 +5,6 @@ mod NotedLaws
 mod VisitLaws
 mod MeasureLaws
 mod FunctionParts
-mod ListSteps
 mod ImageLaws
 mod MadeLaws
 mod WalkLaws

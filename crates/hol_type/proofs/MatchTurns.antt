@@ -7,6 +7,7 @@ use Rattle.std.proofs.lemmas.Option.{same_Some}
 use Rattle.hol_spec.specs.Names.{Name}
 use Rattle.hol_spec.specs.NameEquality.{name_eq}
 use Rattle.hol_laws.specs.NameEqualityLaws.{name_eq-Decides}
+use Rattle.hol_laws.specs.TypeLaws.{type_size-positive}
 use Rattle.hol_spec.specs.Types.{HolType, variable, operator, more, types_of}
 use Rattle.hol_spec.specs.Limits.{type_size, types_size}
 use Rattle.hol_spec.specs.Substitution.{TypePairs, substitute, substitute_all}
@@ -290,11 +291,7 @@ with_pairs_less ts part n parts images tasks h =
     omega (arith, e, total-with_pairs ts parts images tasks)
 
 pub task_less : (ts : List HolType) (part img : TypeId) (tasks : List (TypeId × TypeId)) → total ts tasks < total ts ((part, img) ∷ tasks)
-task_less ts part img tasks = omega (arith, size_pos (tree_at ts part.0))
-  where
-    size_pos : (t : HolType) → 0 < type_size t
-    size_pos (variable n) = omega arith
-    size_pos (operator n ts) = omega arith
+task_less ts part img tasks = omega (arith, type_size-positive (tree_at ts part.0))
 
 -- what the answer of a turn says
 pub goes_on : (b : Bool) (general instance : TypeId) (ts : List HolType) (tasks : List (TypeId × TypeId)) (found : List (Name × TypeId)) (met : List (TypeId × TypeId)) → b ≡ true → GoesOn b general instance ts tasks found met → IsMatching general instance ts tasks found met

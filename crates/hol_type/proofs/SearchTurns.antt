@@ -1,6 +1,7 @@
 -- What a turn does to a search for variables.
-use Rattle.std.proofs.Common.{◌≡◌, ◌<◌, refl, sym, ap, ◌∙◌, subst, List, [], ◌∷◌, ◌++◌, length, Bool, true, false, ◌||◌, ◌⊎◌, ⊎_elim, inl, inr}
+use Rattle.std.proofs.Common.{◌≡◌, ◌<◌, refl, sym, ap, ◌∙◌, subst, List, [], ◌∷◌, ◌++◌, length, Bool, true, false, ◌⊎◌, ⊎_elim, inl, inr}
 use Rattle.std.specs.List.{list_any}
+use Rattle.std.proofs.lemmas.Bool.{or_left, or_right, or_cases}
 use Rattle.hol_spec.specs.Names.{Name}
 use Rattle.hol_spec.specs.NameEquality.{name_eq}
 use Rattle.hol_laws.specs.NameEqualityLaws.{name_eq-Decides}
@@ -15,33 +16,21 @@ use Rattle.hol_type.specs.TableLaws.{Holds-tree_at}
 use Rattle.hol_type.specs.Walks.{IsNoted, IsDone, AreAll, AreIn, HasParts, visits, gathered, IsSearch}
 use Rattle.hol_type.proofs.WalkLaws.{Ends-done, Ends-noted, Ends-set_out, done_more}
 
-or_left : (a b : Bool) → a ≡ true → (a || b) ≡ true
-or_left true b e = refl
-or_left false b e = absurd (cc)
-
-or_right : (a b : Bool) → b ≡ true → (a || b) ≡ true
-or_right true b e = refl
-or_right false b e = e
-
-or_either : (a b : Bool) → (a || b) ≡ true → (a ≡ true) ⊎ (b ≡ true)
-or_either true b e = inl refl
-or_either false b e = inr e
-
 -- a name is in a list with one more where it was, or where it is that one
 in_more : (n m : Name) (found : List Name) → is_in name_eq n found ≡ true → is_in name_eq n (found ++ m ∷ []) ≡ true
 in_more n m [] e = absurd (cc)
-in_more n m (x ∷ found) e = ⊎_elim (λ a. or_left (name_eq n x) _ a) (λ b. or_right (name_eq n x) _ (in_more n m found b)) (or_either (name_eq n x) (list_any (name_eq n) found) e)
+in_more n m (x ∷ found) e = ⊎_elim (λ a. or_left (name_eq n x) _ a) (λ b. or_right (name_eq n x) _ (in_more n m found b)) (or_cases (name_eq n x) (list_any (name_eq n) found) e)
 
 in_last : (n : Name) (found : List Name) → is_in name_eq n (found ++ n ∷ []) ≡ true
 in_last n [] = or_left (name_eq n n) _ ((name_eq-Decides n n).1 refl)
 in_last n (x ∷ found) = or_right (name_eq n x) _ (in_last n found)
 
 in_either : (n m : Name) (found : List Name) → is_in name_eq n (found ++ m ∷ []) ≡ true → (is_in name_eq n found ≡ true) ⊎ (n ≡ m)
-in_either n m [] e = ⊎_elim (λ a. inr ((name_eq-Decides n m).0 a)) (λ b. absurd (cc)) (or_either (name_eq n m) (list_any (name_eq n) []) e)
+in_either n m [] e = ⊎_elim (λ a. inr ((name_eq-Decides n m).0 a)) (λ b. absurd (cc)) (or_cases (name_eq n m) (list_any (name_eq n) []) e)
 in_either n m (x ∷ found) e = ⊎_elim
     (λ a. inl (or_left (name_eq n x) _ a))
     (λ b. ⊎_elim (λ p. inl (or_right (name_eq n x) _ p)) (λ q. inr q) (in_either n m found b))
-    (or_either (name_eq n x) (list_any (name_eq n) (found ++ m ∷ [])) e)
+    (or_cases (name_eq n x) (list_any (name_eq n) (found ++ m ∷ [])) e)
 
 AreIn-more : (m : Name) (found ns : List Name) → AreIn found ns → AreIn (found ++ m ∷ []) ns
 AreIn-more m found [] h = tt

@@ -5,7 +5,7 @@ use Rattle.hol_type.specs.declared.table.TypeId.{TypeId}
 use Rattle.hol_type.specs.declared.visits.Task.{Task}
 use Rattle.hol_type.specs.declared.visits.Task.TheVariants.{Visit}
 use Rattle.hol_type.specs.Walks.{visits}
-use Rattle.hol_type.proofs.ListSteps.{front-last}
+use Rattle.hol_laws.specs.PlaceLaws.{front-last}
 
 -- a last visit is put on the tasks first
 pub visits-last : (ids : List TypeId) (id : TypeId) (tasks : List Task) → visits (ids ++ id ∷ []) tasks ≡ visits ids (Visit id ∷ tasks)

@@ -13,6 +13,7 @@ use Rattle.hol_type.specs.Tables.{tree_at, types_at, Holds, Keeps, AreKnown, IsD
 use Rattle.hol_type.specs.TableLaws.{tree_at-Stays, Holds-tree_at, types_at-Stays, types_at-same, types_of-same, AreBelow-known}
 use Rattle.hol_type.specs.Views.{AreBelow}
 use Rattle.hol_type.specs.Walks.{IsNoted, IsDone, AreAll, OrIs, HasParts, PartsAre, Ends, visits, work}
+use Rattle.hol_laws.specs.TypeLaws.{type_size-positive}
 
 pub OnOk-map3 : {T E P Q R S : Type 0} (r : Result T E) → (P → Q → R → S) → OnOk r P → OnOk r Q → OnOk r R → OnOk r S
 OnOk-map3 (Ok v) f p q r = f p q r
@@ -126,10 +127,6 @@ set_out_less ts id n args tasks h =
     let e : type_size (tree_at ts id.0) ≡ 1 + types_size (types_of (types_at ts args)) = ap type_size (Holds-tree_at ts id.0 _ h) in
     omega (arith, e, work-visits ts args (Join id ∷ tasks))
 
-size_pos : (t : HolType) → 0 < type_size t
-size_pos (variable n) = omega arith
-size_pos (operator n ts) = omega arith
-
 -- any visit is some work
 pub visit_less : (ts : List HolType) (id : TypeId) (tasks : List Task) → work ts tasks < work ts (Visit id ∷ tasks)
-visit_less ts id tasks = omega (arith, size_pos (tree_at ts id.0))
+visit_less ts id tasks = omega (arith, type_size-positive (tree_at ts id.0))

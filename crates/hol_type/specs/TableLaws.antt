@@ -1,6 +1,6 @@
 -- What follows from the words for tables.
-use Rattle.std.proofs.Common.{◌≡◌, ℕ, zero, suc, ◌<◌, ◌≤◌, refl, sym, ap, ◌∙◌, subst, arith, List, [], ◌∷◌, ◌++◌, length, Option, Some, None, ⊎_elim, length-append}
-use Rattle.std.specs.Prelude.{slice_get, unwrap_or, take}
+use Rattle.std.proofs.Common.{◌≡◌, ℕ, suc, ◌<◌, ◌≤◌, refl, sym, ap, ◌∙◌, subst, arith, List, [], ◌∷◌, ◌++◌, length, Option, Some, None, ⊎_elim, length-append}
+use Rattle.std.specs.Prelude.{unwrap_or, take}
 use Rattle.std.proofs.lemmas.Option.{slice_get_within, slice_get-get_or, unwrap_or-slice_get, same_Some}
 use Rattle.std.proofs.Math.Path.{ap₂}
 use Rattle.hol_spec.specs.Names.{Name}
@@ -8,6 +8,7 @@ use Rattle.hol_spec.specs.Types.{HolType, variable, types_of, listed}
 use Rattle.hol_type.specs.declared.table.TypeId.{TypeId}
 use Rattle.hol_type.specs.Tables.{tree_at, Holds, types_at, pairs_at, AreKnown, ArePairsKnown, IsDistinct, Stays, Keeps, Adds}
 use Rattle.hol_type.specs.Views.{AreBelow}
+use Rattle.hol_laws.specs.PlaceLaws.{slice_get-append}
 
 some_or : {X : Type 0} → X → Option X → X
 some_or d None = d
@@ -30,12 +31,6 @@ Stays-refl ts = record { each = λ i t e. e }
 
 pub Stays-trans : {a b c : List HolType} → Stays a b → Stays b c → Stays a c
 Stays-trans h k = record { each = λ i t e. k.each i t (h.each i t e) }
-
--- what an item of a list is, it is in a longer one
-pub slice_get-append : {X : Type 0} (xs ys : List X) (i : ℕ) (x : X) → slice_get xs i ≡ Some x → slice_get (xs ++ ys) i ≡ Some x
-slice_get-append [] ys i x e = absurd (let h = slice_get_within [] i x e in omega arith)
-slice_get-append (z ∷ xs) ys zero x e = e
-slice_get-append (z ∷ xs) ys (suc i) x e = slice_get-append xs ys i x e
 
 pub Stays-append : (ts us : List HolType) → Stays ts (ts ++ us)
 Stays-append ts us = record { each = slice_get-append ts us }

@@ -7,7 +7,7 @@ use Rattle.std.proofs.Math.Path.{subst₂}
 use Rattle.std.proofs.lemmas.Option.{same_Some}
 use Rattle.lp_spec.specs.declared.form.Form.{Form}
 use Rattle.lp_spec.specs.declared.form.Form.TheVariants.{Symbol, Def, Thm}
-use Rattle.lp_binding.specs.LookUps.{option_map-some}
+use Rattle.lp_binding.specs.LookUps.{option_map-some, slice_get-seam}
 use Rattle.lp_spec.specs.Trees.{Tree, SortType, SortKind, Var, Sym, App, Lam, Pi, lift, put, tree_eq}
 use Rattle.lp_binding.specs.TreeEquality.{tree_eq-true}
 use Rattle.lp_spec.specs.Modules.{Declaration, signature, symbol_type}
@@ -254,11 +254,6 @@ pub record PassesAt (m : List Declaration) (i : ℕ) : Type 0 where
   pub price : ℕ
   pub by : Check m i (Found found) price
 
--- the item after these
-slice_get-after : {X : Type 0} (xs ys : List X) (y : X) → slice_get (xs ++ y ∷ ys) (length xs) ≡ Some y
-slice_get-after [] ys y = refl
-slice_get-after (x ∷ xs) ys y = slice_get-after xs ys y
-
 each_passed : (before ds : List Declaration) → ((i : ℕ) (d : Declaration) → slice_get ds i ≡ Some d → PassesAt (before ++ ds) (length before + i)) → ArePassed before ds
 each_passed before [] h = tt
 each_passed before (d ∷ ds) h = (first (h 0 d refl), each_passed (before ++ d ∷ []) ds (λ i e at. further i (h (suc i) e at)))
@@ -266,7 +261,7 @@ each_passed before (d ∷ ds) h = (first (h 0 d refl), each_passed (before ++ d 
     first : PassesAt (before ++ d ∷ ds) (length before + 0) → Passes before d
     first p =
         let count : length before + 0 ≡ length before = omega arith in
-        let is : p.by.declaration ≡ d = same_Some _ _ (sym p.by.at ∙ ap (slice_get (before ++ d ∷ ds)) count ∙ slice_get-after before ds d) in
+        let is : p.by.declaration ≡ d = same_Some _ _ (sym p.by.at ∙ ap (slice_get (before ++ d ∷ ds)) count ∙ slice_get-seam before ds d) in
         let front : take (length before + 0) (before ++ d ∷ ds) ≡ before = ap (λ n. take n (before ++ d ∷ ds)) count ∙ take-append_seam before (d ∷ ds) in
         record { found = p.found; price = p.price; by = subst₂ (λ l e. Ends l true (declaration_plan e) (Found p.found) p.price) front is p.by.ends }
 

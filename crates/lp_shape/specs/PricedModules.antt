@@ -14,9 +14,10 @@ use Rattle.lp_typing.specs.Soundness.{IsSound, IsSound-closed, IsSound-after}
 use Rattle.lp_typing.specs.SignatureLaws.{signature_sound}
 use Rattle.lp_shape.specs.Check.{Found, Ends, Check, declaration_plan}
 use Rattle.lp_shape.specs.Shaped.{IsConstant, type_variable, at_type, IsTerm, of_entry, of_constant, of_function, of_binder, IsDeclared, of_types, of_terms, of_proofs, of_products, IsProof, call, at_a_type, at_a_term, at_a_proof, at_a_definition, at_abstractions, called, hypothesis, under_binder, IsDefinition, defined, under_type, IsBodyShaped, IsShaped, IsLast, last_call, last_defined, IsLaw, at_close_abstractions, law_last, at_close_equation, law_under, IsCallDefinition, by_type, by_term, call_under}
-use Rattle.lp_shape.specs.ShapedPasses.{AreShaped, shaped-typed, shaped-passes}
+use Rattle.lp_shape.specs.ShapedPasses.{AreShaped, shaped-typed, shaped-passes, square-cube}
 use Rattle.std.proofs.Math.Path.{ap₂, subst₂}
 use Rattle.std.proofs.lemmas.Option.{same_Some}
+use Rattle.lp_binding.specs.LookUps.{slice_get-seam}
 
 -- each symbol of a tree is declared, and the sort of kinds isn't in it
 abbrev pub IsKnown : List Declaration → Tree → Type 0
@@ -133,10 +134,6 @@ pub record IsPriced (m : List Declaration) (i : ℕ) (d : Declaration) : Type 0 
   pub check : Check m i (Found d.ty) price
   pub within : price ≤ 64 * (weight m d * weight m d)
 
-pub slice_get-front : {X : Type 0} (xs ys : List X) (y : X) → slice_get (xs ++ y ∷ ys) (length xs) ≡ Some y
-slice_get-front [] ys y = refl
-slice_get-front (x ∷ xs) ys y = slice_get-front xs ys y
-
 priced : (m : List Declaration) (i : ℕ) (d : Declaration) → Placed m i d → IsPriced m i d
 priced m i d h =
     let p = shaped-passes h.front (IsSound-closed h.front h.sound) d h.shaped in
@@ -146,7 +143,7 @@ priced m i d h =
       price = p.price;
       check = record {
         declaration = d;
-        at = ap (slice_get m) h.place ∙ ap (λ l. slice_get l (length h.front)) h.is ∙ slice_get-front h.front h.rest d;
+        at = ap (slice_get m) h.place ∙ ap (λ l. slice_get l (length h.front)) h.is ∙ slice_get-seam h.front h.rest d;
         ends = subst (λ l. Ends l true (declaration_plan d) (Found d.ty) p.price) (sym front) p.ends;
       };
       within = subst (λ n. p.price ≤ 64 * (n * n)) w p.within;
@@ -155,10 +152,6 @@ priced m i d h =
 -- KERNEL SAYS YES, WITHIN THE PRICE: each declaration of a shaped module
 pub shaped-priced : (m : List Declaration) → AreShaped [] m → (i : ℕ) (d : Declaration) → slice_get m i ≡ Some d → IsPriced m i d
 shaped-priced m h i d e = let zero_first : 0 + i ≡ i = omega arith in priced m i d (subst (λ n. Placed m n d) zero_first (placed [] m signature_sound h i d e))
-
-square-cube : (n : ℕ) → 64 * (n * n) ≤ 64 * (n * n * n)
-square-cube zero = omega arith
-square-cube (suc n) = omega arith
 
 -- within the bound that is written, where that isn't cut off
 pub IsPriced-bound : (m : List Declaration) (i : ℕ) (d : Declaration) → (p : IsPriced m i d) → 64 * (weight m d * weight m d * weight m d) ≤ greatest → p.price ≤ bound m d

@@ -1,11 +1,10 @@
 -- A proof's type is found at a price of what it weighs times what it weighs with the context.
-use Rattle.std.proofs.Common.{◌≡◌, refl, sym, ap, ◌∙◌, subst, ℕ, zero, suc, ◌+◌, ◌*◌, ◌≤◌, arith, Bool, true, false, List, [], ◌∷◌, Some}
+use Rattle.std.proofs.Common.{◌≡◌, refl, sym, ap, ◌∙◌, subst, ℕ, suc, ◌+◌, ◌*◌, ◌≤◌, arith, Bool, true, false, List, [], ◌∷◌, Some}
 use Rattle.std.specs.Prelude.{if◌then◌else◌, option_map}
 use Rattle.std.specs.Option.{option_map_or}
-use Rattle.std.proofs.Math.Path.{fun_ext, ap₂}
-use Rattle.lp_spec.specs.Trees.{Tree, SortType, Var, App, Lam, Pi, raised, lift_at, lift, put, size, tree_eq}
-use Rattle.lp_binding.specs.Composition.{sub_ren, sub_var, put_is, lift_at_is}
-use Rattle.lp_spec.specs.Substitution.{sub, cons}
+use Rattle.std.proofs.Math.Path.{ap₂}
+use Rattle.lp_spec.specs.Trees.{Tree, SortType, App, Lam, Pi, lift, put, size, tree_eq}
+use Rattle.lp_binding.specs.Composition.{put-lift_at}
 use Rattle.lp_spec.specs.Modules.{Declaration, types, term_of, eq_of, proof_of, refl_of}
 use Rattle.lp_spec.specs.Weight.{spread, symbol_spread, spreads}
 use Rattle.lp_typing.specs.ConversionLaws.{IsClosed}
@@ -32,16 +31,6 @@ abstractions-cost w a b t u = omega arith
 -- what it costs to find the type of an abstraction over a term
 abstraction-cost : (w a h st sh p : ℕ) → p ≤ cost w * (h + sh) → 1 + (2 * a + 3) + p ≤ cost w * ((1 + (1 + 1 + a) + h) + (st + sh))
 abstraction-cost w a h st sh p le = omega (arith, le)
-
--- what is put for the variable of a binder that stands for it already
-put-same : (t : Tree) → put (Var 0) (lift_at 1 1 t) ≡ t
-put-same t =
-    put_is (Var 0) (lift_at 1 1 t) ∙ ap (sub (cons (Var 0) Var)) (lift_at_is 1 1 t) ∙ sub_ren (cons (Var 0) Var) (raised 1 1) t
-    ∙ ap (λ w. sub w t) (fun_ext each) ∙ sub_var t
-  where
-    each : (n : ℕ) → cons (Var 0) Var (raised 1 1 n) ≡ Var n
-    each zero = refl
-    each (suc n) = let e : suc n + 1 ≡ suc (suc n) = omega arith in grind arith
 
 module _ (m : List Declaration) (closed : IsClosed m) where
   -- a type that was found meets a type that has a sort and converts to it
@@ -89,7 +78,7 @@ module _ (m : List Declaration) (closed : IsClosed m) where
   -- `x : term a -> proof (eq b ((x : term a => t) x) ((x : term a => u) x))` is a type, near `x : term a -> proof (eq b t u)`
   pub pointwise-near : (a b t u : Tree) → Near m (pointwise a b t u) (Pi (term_of a) (proof_of (eq_of (lift 1 b) t u)))
   pointwise-near a b t u =
-      near_product near_same (near_application refl refl near_same (near_application refl refl (near_application refl refl near_same (near_head (ap Some (put-same t)))) (near_head (ap Some (put-same u)))))
+      near_product near_same (near_application refl refl near_same (near_application refl refl (near_application refl refl near_same (near_head (ap Some (put-lift_at t)))) (near_head (ap Some (put-lift_at u)))))
 
   pub find-pointwise : (w e : ℕ) {G : List Tree} {a b t u : Tree} → IsSimple m G a → IsSimple m G b → IsTerm m (term_of a ∷ G) t (lift 1 b) → IsTerm m (term_of a ∷ G) u (lift 1 b) → AreSmall m e G
       → size (Lam (term_of a) t) ≤ e → size (Lam (term_of a) u) ≤ e

@@ -143,16 +143,16 @@ shaped-typed m d sound h =
     check-sound m sound d d.ty p.price (HasBody-shaped m d.form d.body d.ty h.body) p.ends
 
 -- the cube bounds the square
-cube : (n : ℕ) → 64 * (n * n) ≤ 64 * (n * n * n)
-cube zero = omega arith
-cube (suc n) = omega arith
+pub square-cube : (n : ℕ) → 64 * (n * n) ≤ 64 * (n * n * n)
+square-cube zero = omega arith
+square-cube (suc n) = omega arith
 
 -- a shaped declaration whose bound is within the greatest number passes within its bound
 pub shaped-within : (m : List Declaration) (closed : IsClosed m) (d : Declaration) → IsShaped m d → 64 * (weight m d * weight m d * weight m d) ≤ greatest → Passes m closed (declaration_plan d) d.ty (bound m d)
 shaped-within m closed d h fits =
     let p = shaped-passes m closed d h in
     let w = weight m d in
-    let all : 64 * (w * w) ≤ bound m d = omega (arith, cube w, fits) in
+    let all : 64 * (w * w) ≤ bound m d = omega (arith, square-cube w, fits) in
     record { price = p.price; ends = p.ends; within = omega (arith, p.within, all) }
 
 -- each of the declarations is shaped over these and those before it

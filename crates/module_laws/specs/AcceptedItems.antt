@@ -1,23 +1,24 @@
 -- What an accepted run made is, as items, made in order: each is new and asks for nothing but what was made before it.
-use Rattle.std.proofs.Common.{◌≡◌, ℕ, zero, suc, ◌+◌, List, [], ◌∷◌, ◌++◌, map, length, Bool, true, false, ◌&&◌, ◌||◌, Option, None, Some, slice_get, inl, inr, refl, sym, ap, subst, ◌∙◌, append_assoc, arith}
+use Rattle.std.proofs.Common.{◌≡◌, ℕ, zero, suc, ◌+◌, List, [], ◌∷◌, ◌++◌, map, length, Bool, true, false, ◌&&◌, ◌||◌, Option, None, Some, slice_get, inl, inr, refl, sym, ap, subst, ◌∙◌, append_assoc}
 use Rattle.std.specs.Prelude.{◌==◌, slice_index_or}
 use Rattle.std.specs.Option.{option_map}
 use Rattle.std.specs.List.{AllByRecursion, IsAmong, cons_option, list_any}
-use Rattle.std.proofs.lemmas.List.{append-nil, length-append, map-append}
+use Rattle.std.proofs.lemmas.List.{append-nil, length-append, length-map, map-append}
 use Rattle.std.proofs.lemmas.List.Elements.{filter_map-append}
 use Rattle.std.proofs.lemmas.Option.{same_Some}
+use Rattle.std.proofs.lemmas.Bool.{or_parts}
 use Rattle.hol_spec.specs.Names.{Name}
 use Rattle.hol_spec.specs.NameEquality.{name_eq}
-use Rattle.hol_laws.specs.NameEqualityLaws.{name_eq-Decides}
+use Rattle.hol_laws.specs.NameEqualityLaws.{name_eq-Decides, name_eq-refl}
 use Rattle.hol_spec.specs.Types as type
-use Rattle.hol_spec.specs.Types.{HolType, types_of, count}
+use Rattle.hol_spec.specs.Types.{HolType, types_of}
 use Rattle.hol_spec.specs.Primitives.{function}
 use Rattle.hol_spec.specs.Terms.{bound}
 use Rattle.hol_spec.specs.Sequents.{Sequent, IsSequent}
 use Rattle.hol_spec.specs.Definitions.{Definition, TypeNames}
 use Rattle.hol_spec.specs.NewTypes.{new_type, abstraction_type}
 use Rattle.hol_spec.specs.Symbols.{Symbol, is_input_constant, is_input_operator, is_input_operator_named}
-use Rattle.proof_laws.specs.SymbolGrowth.{any-right, or-neither, symmetric, new-constant-taken, new-operator-taken}
+use Rattle.proof_laws.specs.SymbolGrowth.{any-right, symmetric, new-constant-taken, new-operator-taken}
 use Rattle.hol_spec.specs.Rules.{Parameters, Rule}
 use Rattle.hol_spec.specs.declared.StepKind.{StepKind}
 use Rattle.hol_spec.specs.Rules as rule
@@ -26,18 +27,19 @@ use Rattle.hol_spec.specs.Taking as taking
 use Rattle.hol_spec.specs.Taken.{SymbolTaken}
 use Rattle.hol_spec.specs.Taken as machine
 use Rattle.hol_spec.specs.Derivations.{definitions_used}
-use Rattle.hol_spec.specs.Proofs.{Made, Step, symbols_of, sequents_of, definitions_of, ArePremises, IsStep, IsMade, Each, IsProof}
+use Rattle.hol_spec.specs.Proofs.{Made, Step, symbols_of, steps_of, sequents_of, definitions_of, ArePremises, IsStep, IsMade, Each, IsProof}
 use Rattle.hol_spec.specs.Proofs as made
 use Rattle.proof_laws.specs.ProofGrowth.{symbols_of-append, sequents_of-append, premises-All, proof-sequents, All-among}
 use Rattle.proof_laws.specs.RuleSequents.{rule-IsSequent}
 use Rattle.hol_spec.specs.Over.{IsStepOver, IsMadeOver, IsOver}
 use Rattle.hol_spec.specs.Lists.{IsIn}
 use Rattle.hol_laws.specs.Members.{IsIn-left, IsIn-right, All-weaker, All-append}
+use Rattle.hol_laws.specs.TypeLaws.{count-variables}
 use Rattle.module_spec.specs.Rows.{has_row, type_or}
 use Rattle.module_spec.specs.Items.{Content, operator, constant, Item, says, is_constant}
 use Rattle.module_laws.specs.ItemConditions.{Has, TypeTaken, TypesTaken, ArePremisesAmong, DefinesAmong, IsContent}
 use Rattle.module_laws.specs.ItemConditions as items
-use Rattle.module_laws.specs.MadeModules.{any_content, IsNew, operator_self, name_self}
+use Rattle.module_laws.specs.MadeModules.{any_content, IsNew, operator_self}
 use Rattle.module_laws.specs.WantedItems.{AreMadeInOrder}
 use Rattle.module_spec.specs.MadeItems.{Naming, contents_of, said_of, said_by, premise_at, content_by, needed, sequents_at, shown_content, step_content, contents, numbered, items_after, items_of}
 use Rattle.module_laws.specs.SymbolsHeld.{IsHeld, held-type, held-term, held-sequent, IsNamed, named-more, new-constant, new-operator}
@@ -186,7 +188,7 @@ step-content before ps proof j x h over =
 input-named : (n : Name) (k : ℕ) (ss : List Symbol) → list_any (is_input_operator_named n) ss ≡ false → list_any (is_input_operator n k) ss ≡ false
 input-named n k [] e = refl
 input-named n k (x ∷ ss) e =
-    let parts = or-neither (is_input_operator_named n x) (list_any (is_input_operator_named n) ss) e in
+    let parts = or_parts (is_input_operator_named n x) (list_any (is_input_operator_named n) ss) e in
     ap (λ b. b || list_any (is_input_operator n k) ss) (one x parts.0) ∙ input-named n k ss parts.1
   where
     one : (x : Symbol) → is_input_operator_named n x ≡ false → is_input_operator n k x ≡ false
@@ -197,11 +199,7 @@ input-named n k (x ∷ ss) e =
 any-append : (test : Content → Bool) (ps : List Item) (x : Item) → any_content test ps ≡ false → test x.content ≡ false → any_content test (ps ++ x ∷ []) ≡ false
 any-append test [] x h e = ap (λ b. b || false) e
 any-append test (z ∷ zs) x h e =
-    let parts = or-neither (test z.content) (any_content test zs) h in ap (λ b. b || any_content test (zs ++ x ∷ [])) parts.0 ∙ any-append test zs x parts.1 e
-
-count-variables : (ns : List Name) → count (types_of (map type.HolType.variable ns)) ≡ length ns
-count-variables [] = refl
-count-variables (n ∷ ns) = ap (λ k. k + 1) (count-variables ns) ∙ grind arith
+    let parts = or_parts (test z.content) (any_content test zs) h in ap (λ b. b || any_content test (zs ++ x ∷ [])) parts.0 ∙ any-append test zs x parts.1 e
 
 variables-taken : (ps : List Item) (ns : List Name) → TypesTaken ps (types_of (map type.HolType.variable ns))
 variables-taken ps [] = tt
@@ -215,7 +213,7 @@ function-taken ps a b ha hb = (items.OperatorTaken.primitive refl, (ha, (hb, tt 
 
 symbol-names : (ss : List Symbol) (x : Symbol) → Takes ss x → AllByRecursion (IsNamed (ss ++ x ∷ [])) (contents_of x)
 symbol-names ss (Symbol.input_constant n) (taking.Takes.input_constant new) =
-    (machine.ConstantTaken.input (any-right (is_input_constant n) ss (Symbol.input_constant n ∷ []) (ap (λ b. b || false) (name_self n))), tt {0})
+    (machine.ConstantTaken.input (any-right (is_input_constant n) ss (Symbol.input_constant n ∷ []) (ap (λ b. b || false) (name_eq-refl n))), tt {0})
 symbol-names ss (Symbol.input_operator n k) (taking.Takes.input_operator undefined new) =
     (machine.OperatorTaken.input (any-right (is_input_operator n k) ss (Symbol.input_operator n k ∷ []) (ap (λ b. b || false) (operator_self n k))), tt {0})
 symbol-names ss (Symbol.defined (Definition.constant n t)) (taking.Takes.constant {a = a} new h) =
@@ -234,7 +232,8 @@ module _ (named : Content → List ℕ) where
   all-numbered P i [] h = tt
   all-numbered P i (c ∷ cs) h = (h.0, all-numbered P (i + 1) cs h.1)
 
-  symbol-said : (i : ℕ) (x : Symbol) → said_by (numbered named i (contents_of x)) ≡ []
+  -- the items of a symbol say nothing
+  pub symbol-said : (i : ℕ) (x : Symbol) → said_by (numbered named i (contents_of x)) ≡ []
   symbol-said i (Symbol.input_constant n) = refl
   symbol-said i (Symbol.input_operator n k) = refl
   symbol-said i (Symbol.defined (Definition.constant n t)) = refl
@@ -252,7 +251,7 @@ module _ (named : Content → List ℕ) where
   symbol-order ss ps held names (Symbol.defined (Definition.type_operator names_of_type c f)) (taking.Takes.type_operator new typed closed variables) o =
       let k = length names_of_type.variables in
       let n = names_of_type.operator in
-      let undefined = or-neither _ (list_any (is_input_operator_named n) ss) new.operator in
+      let undefined = or_parts _ (list_any (is_input_operator_named n) ss) new.operator in
       let c1 : Content = operator n k in
       let c2 : Content = constant names_of_type.abstraction (abstraction_type names_of_type c) in
       let one : Item = record { symbol = length ps; name = named c1; content = c1 } in
@@ -333,3 +332,8 @@ module _ (named : Naming) where
 
   pub made-in_order : (xs : List Made) → IsProof xs → IsOver xs → AreMadeInOrder [] (items_of named xs)
   made-in_order xs proof over = (made-joined xs proof over).order
+
+  -- the items of what was made say as many sequents as it has steps
+  pub made-said : (xs : List Made) → IsProof xs → IsOver xs → length (said_by (items_of named xs)) ≡ length (steps_of xs)
+  made-said xs proof over =
+      sym (length-map (said_by (items_of named xs)) (λ (p : ℕ × Sequent). p.1)) ∙ ap length (made-joined xs proof over).said ∙ length-map (steps_of xs) (λ (x : Step). x.sequent)

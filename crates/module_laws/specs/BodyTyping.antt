@@ -1,7 +1,8 @@
 -- BODIES TYPED: the proof of a step, by its rule, has the type that its sequent says.
-use Rattle.std.proofs.Common.{◌≡◌, ℕ, List, [], ◌∷◌, map, Bool, true, false, cond, not, ◌&&◌, ◌⊎◌, inl, inr, refl, sym, ap, subst, ◌∙◌}
+use Rattle.std.proofs.Common.{◌≡◌, ℕ, List, [], ◌∷◌, map, Bool, true, false, cond, not, ◌⊎◌, inl, inr, refl, sym, ap, subst, ◌∙◌}
 use Rattle.std.specs.Prelude.{IsTrue}
 use Rattle.std.specs.List.{AllByRecursion, filter, list_all}
+use Rattle.std.proofs.lemmas.Bool.{and_parts}
 use Rattle.hol_spec.specs.Lists.{is_in, without, IsIn}
 use Rattle.hol_spec.specs.Terms.{Term, term_eq}
 use Rattle.hol_laws.specs.TermLaws.{term_eq-Decides}
@@ -77,14 +78,10 @@ IsIn-map f (y ∷ ys) x (inl e) = inl (ap f e)
 IsIn-map f (y ∷ ys) x (inr k) = inr (IsIn-map f ys x k)
 
 -- what within says
-pub both : (a b : Bool) → IsTrue (a && b) → IsTrue a × IsTrue b
-both true b e = (refl, e)
-both false b e = absurd (cc)
-
 pub all_are_in : (gs hs : List Term) (h : Term) → IsTrue (list_all (λ h. is_in term_eq h gs) hs) → IsIn hs h → IsIn gs h
 all_are_in gs [] h e k = absurd k
-all_are_in gs (g ∷ hs) h e (inl is) = subst (IsIn gs) (sym is) (is_in-IsIn term_eq term_eq-Decides gs g (both (is_in term_eq g gs) (list_all (λ h. is_in term_eq h gs) hs) e).0)
-all_are_in gs (g ∷ hs) h e (inr k) = all_are_in gs hs h (both (is_in term_eq g gs) (list_all (λ h. is_in term_eq h gs) hs) e).1 k
+all_are_in gs (g ∷ hs) h e (inl is) = subst (IsIn gs) (sym is) (is_in-IsIn term_eq term_eq-Decides gs g (and_parts (is_in term_eq g gs) (list_all (λ h. is_in term_eq h gs) hs) e).0)
+all_are_in gs (g ∷ hs) h e (inr k) = all_are_in gs hs h (and_parts (is_in term_eq g gs) (list_all (λ h. is_in term_eq h gs) hs) e).1 k
 
 -- a proof in the scope of its sequent
 abbrev pub HasBody : List Declaration → Symbols → (Scope → Tree) → Sequent → Type 0

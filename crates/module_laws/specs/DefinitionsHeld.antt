@@ -7,6 +7,7 @@ use Rattle.std.specs.List.{AllByRecursion, IsDistinct, filter, filter_map, cons_
 use Rattle.std.proofs.lemmas.Bool.Decides.{Decides-eqb}
 use Rattle.std.proofs.lemmas.List.{length-append, length-map}
 use Rattle.std.proofs.lemmas.Map.Steps.{length-le_from_keys}
+use Rattle.std.proofs.lemmas.Bool.{and_parts}
 use Rattle.hol_spec.specs.Names.{Name}
 use Rattle.hol_spec.specs.NameEquality.{name_eq}
 use Rattle.hol_laws.specs.NameEqualityLaws.{name_eq-Decides}
@@ -22,7 +23,7 @@ use Rattle.hol_spec.specs.Sequents.{Sequent, IsSequent, free_variables_of}
 use Rattle.hol_spec.specs.Definitions.{Definition}
 use Rattle.hol_spec.specs.DefinitionLists.{ConstantPairs, variables_of, variable_equation, defining_equations, definiens, is_definition_list, constants_put}
 use Rattle.proof_laws.specs.DefinitionListLaws.{every-hypothesis, hypothesis-is, passes, equivalence, distinct_variables, counted}
-use Rattle.proof_laws.specs.RuleTaken.{both, lookup-All, ListParts, list_parts}
+use Rattle.proof_laws.specs.RuleTaken.{lookup-All, ListParts, list_parts}
 use Rattle.hol_spec.specs.Rules.{IsDefining}
 use Rattle.hol_spec.specs.Symbols.{Symbol}
 use Rattle.hol_spec.specs.Proofs.{symbol_definition}
@@ -54,7 +55,7 @@ closed-none (v ∷ vs) e = let l : length (v ∷ vs) ≡ 0 = (Decides-eqb (lengt
 all-in : (ms ns : List Name) → list_all (λ n. is_in name_eq n ms) ns ≡ true → AllByRecursion (IsIn (distinct name_eq ms)) ns
 all-in ms [] e = tt
 all-in ms (n ∷ ns) e =
-    let parts = both (is_in name_eq n ms) (list_all (λ n. is_in name_eq n ms) ns) e in
+    let parts = and_parts (is_in name_eq n ms) (list_all (λ n. is_in name_eq n ms) ns) e in
     (IsIn-distinct name_eq name_eq-Decides ms n (is_in-IsIn name_eq name_eq-Decides ms n parts.0), all-in ms ns parts.1)
 
 -- what defines a constant in the machine defines one among the items
@@ -163,7 +164,7 @@ all-flat P f (x ∷ xs) h = All-append P (f x) (flat_map f xs) (h x (inl refl)) 
 
 all-true : {A : Type 0} (p : A → Bool) (xs : List A) → list_all p xs ≡ true → AllByRecursion (λ x. p x ≡ true) xs
 all-true p [] e = tt
-all-true p (x ∷ xs) e = let parts = both (p x) (list_all p xs) e in (parts.0, all-true p xs parts.1)
+all-true p (x ∷ xs) e = let parts = and_parts (p x) (list_all p xs) e in (parts.0, all-true p xs parts.1)
 
 some-value : {A : Type 0} (o : Option A) → is_some o ≡ true → (x : A) × (o ≡ Some x)
 some-value None e = absurd (cc)

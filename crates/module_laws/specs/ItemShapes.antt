@@ -18,7 +18,7 @@ use Rattle.lp_typing.specs.WellTypedLaws.{WellTyped-IsSound}
 use Rattle.lp_typing.specs.Telescopes.{under}
 use Rattle.lp_shape.specs.Shaped.{type_variable, constant, at_type, IsSimple, IsTerm, of_entry, of_constant, of_function, IsDeclared, of_types, of_terms, of_proofs, of_products, near_same, IsProof, hypothesis, under_binder, IsDefinition, defined, under_type, IsShaped}
 use Rattle.lp_shape.specs.ShapedCalls.{shaped-equation, shaped-refl, shaped-app_thm, shaped-eq_mp, sym_lemma-shaped}
-use Rattle.lp_shape.specs.ShapedPasses.{AreShaped}
+use Rattle.lp_shape.specs.ShapedPasses.{AreShaped, shaped-WellTyped}
 use Rattle.hol_laws.specs.Members.{All-append, All-weaker}
 use Rattle.module_spec.specs.Scopes.{Symbols, generic_tree, under_types, unfilled, filled, domains_of}
 use Rattle.module_laws.specs.ScopeTyping.{TypeOver, TermOver, TypeOver-type_under}
@@ -34,7 +34,7 @@ use Rattle.module_laws.specs.WantedItems.{AreMadeInOrder, made-numbered}
 use Rattle.module_laws.specs.ShapeLaws.{declared-products, proof-abstractions, near-products}
 use Rattle.module_laws.specs.ShapedScopes.{type_tree-shaped, term_tree-shaped}
 use Rattle.module_laws.specs.ShapedSequents.{under_types-shaped, types-AreDeclared, filled-shaped, own_shape}
-use Rattle.module_laws.specs.ShapesTyped.{shaped-IsTypedAfter, shaped-WellTyped}
+use Rattle.module_laws.specs.ShapesTyped.{shaped-IsTypedAfter}
 use Rattle.module_laws.specs.RuleShapes.{rule-shaped}
 use Rattle.module_spec.specs.Items as item
 

@@ -20,10 +20,11 @@ use Rattle.hol_spec.specs.Rules.{Parameters}
 use Rattle.hol_spec.specs.declared.StepKind.{StepKind}
 use Rattle.hol_spec.specs.declared.StepKind.TheVariants as kinds
 use Rattle.module_spec.specs.Rows.{type_or}
-use Rattle.module_spec.specs.Items.{Content, operator, constant, defined_constant, unproved, step, Item, says, is_operator, is_constant}
+use Rattle.module_spec.specs.Items.{Content, operator, constant, defined_constant, unproved, step, Item, is_operator, is_constant}
 use Rattle.module_laws.specs.ItemConditions.{Has, OperatorTaken, ConstantTaken, TypeTaken, TypesTaken, TermTaken, SequentTaken, ArePremisesAmong, IsDefinedBy, IsDefiningEquation, DefinesAmong, IsContent}
 use Rattle.module_laws.specs.ItemConditions as items
 use Rattle.module_laws.specs.MadeModules.{any_content, IsNew, AreMade}
+use Rattle.module_laws.specs.SaidItems.{says-gives_of, says-renumbered}
 use Rattle.module_spec.specs.Reach.{Key, operator_key, constant_key, number_key, type_keys, types_keys, term_keys, sequent_keys, given_keys, needs, gives_of, gives, kept, renumbered_content, renumbered, count_kept, symbol_of, image_items}
 use Rattle.hol_spec.specs.DefinitionLists.{constants_put}
 
@@ -86,19 +87,12 @@ module _ (keep : ℕ → Bool) (before : List Item) where
     conclusion = term-kept s.conclusion (AreKept-right (flat_map term_keys s.hypotheses) (term_keys s.conclusion) h) o.conclusion;
   }
 
-  pub said-number : (i : ℕ) (c : Content) (s : Sequent) → says c ≡ Some s → gives_of i c ≡ number_key i
-  said-number i (operator n k) s e = absurd (cc)
-  said-number i (constant n a) s e = absurd (cc)
-  said-number i (defined_constant n a t) s e = absurd (cc)
-  said-number i (unproved r) s e = refl
-  said-number i (step kind js premises given r) s e = refl
-
   premises-kept : (js : List ℕ) (ss : List Sequent) → AreKept keep before (map number_key js) → ArePremisesAmong before js ss → ArePremisesAmong (kept keep before) js ss
   premises-kept [] [] h o = tt
   premises-kept [] (s ∷ ss) h o = absurd o
   premises-kept (j ∷ js) [] h o = absurd o
   premises-kept (j ∷ js) (s ∷ ss) h ((x, i, e, f), rest) = (
-    (x, IsIn-kept keep before x i (h x i (inl (said-number x.symbol x.content s f ∙ ap number_key e))), e, f),
+    (x, IsIn-kept keep before x i (h x i (inl (says-gives_of x.symbol x.content s f ∙ ap number_key e))), e, f),
     premises-kept js ss (λ y k l. h y k (inr l)) rest,
   )
 
@@ -237,18 +231,11 @@ module _ (number : ℕ → ℕ) (xs : List Item) where
   sequent-renumbered : (s : Sequent) → SequentTaken xs s → SequentTaken ys s
   sequent-renumbered s o = record { is = o.is; hypotheses = All-weaker _ _ term-renumbered s.hypotheses o.hypotheses; conclusion = term-renumbered s.conclusion o.conclusion }
 
-  says-renumbered : (c : Content) → says (renumbered_content number c) ≡ says c
-  says-renumbered (operator n k) = refl
-  says-renumbered (constant n a) = refl
-  says-renumbered (defined_constant n a t) = refl
-  says-renumbered (unproved s) = refl
-  says-renumbered (step kind js premises given s) = refl
-
   premises-renumbered : (js : List ℕ) (ss : List Sequent) → ArePremisesAmong xs js ss → ArePremisesAmong ys (map number js) ss
   premises-renumbered [] [] o = tt
   premises-renumbered [] (s ∷ ss) o = absurd o
   premises-renumbered (j ∷ js) [] o = absurd o
-  premises-renumbered (j ∷ js) (s ∷ ss) ((x, i, e, f), rest) = ((renumbered number x, IsIn-map (renumbered number) xs x i, ap number e, says-renumbered x.content ∙ f), premises-renumbered js ss rest)
+  premises-renumbered (j ∷ js) (s ∷ ss) ((x, i, e, f), rest) = ((renumbered number x, IsIn-map (renumbered number) xs x i, ap number e, says-renumbered number x.content ∙ f), premises-renumbered js ss rest)
 
   defined-renumbered : (terms : TermPairs) (v : Variable) (t : Term) → IsDefinedBy xs terms v t → IsDefinedBy ys terms v t
   defined-renumbered terms v t d = record { name = d.name; image = d.image; has = Has-renumbered (defined_constant d.name v.1 t) d.has }

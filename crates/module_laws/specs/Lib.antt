@@ -23,6 +23,7 @@ pub mod OrderedModules
 pub mod PricedModules
 pub mod PuttingLaws
 pub mod RuleShapes
+pub mod SaidItems
 pub mod ScopeLaws
 pub mod ScopeTyping
 pub mod SequentEncoding

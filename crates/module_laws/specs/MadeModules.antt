@@ -5,7 +5,7 @@ use Rattle.std.specs.Prelude.{◌==◌, ◌||◌, unwrap_or}
 use Rattle.std.specs.Cmp.{unsigned_Decides}
 use Rattle.hol_spec.specs.Names.{Name}
 use Rattle.hol_spec.specs.NameEquality.{name_eq}
-use Rattle.hol_laws.specs.NameEqualityLaws.{name_eq-Decides}
+use Rattle.hol_laws.specs.NameEqualityLaws.{name_eq-refl}
 use Rattle.hol_spec.specs.Primitives.{generic, equality_type, select_type, primitive_arity, primitive_type, arrow_name, bool_name, ind_name, equality_name, select_name}
 use Rattle.lp_spec.specs.Modules.{signature}
 use Rattle.lp_spec.specs.Lemmas.{lemmas}
@@ -77,23 +77,20 @@ module _ (symbols : Symbols) where
   generic-input : (n : Name) → primitive_type n ≡ None → generic_type symbols n ≡ symbols.generic n
   generic-input n h = ap (λ o. unwrap_or o (symbols.generic n)) h
 
-pub name_self : (n : Name) → name_eq n n ≡ true
-name_self n = (name_eq-Decides n n).1 refl
-
 pub operator_self : (n : Name) (k : ℕ) → (name_eq n n && (k == k)) ≡ true
-operator_self n k = rw (name_self n) ((unsigned_Decides k k).1 refl)
+operator_self n k = rw (name_eq-refl n) ((unsigned_Decides k k).1 refl)
 
 -- the symbols of all items tell each one's
 tells : (before xs : List Item) (x : Item) (c : Content) → x.content ≡ c → IsNew before c → Tells (symbols_of (before ++ x ∷ xs)) x.symbol c
 tells before xs x (operator n k) e h =
     operator-input (symbols_of (before ++ x ∷ xs)) n k h.0 ∙ first_symbol-new (is_operator n k) before xs x h.1 (ap (is_operator n k) e ∙ operator_self n k)
 tells before xs x (constant n a) e h = (
-  constant-input (symbols_of (before ++ x ∷ xs)) n h.0 ∙ first_symbol-new (is_constant n) before xs x h.1 (ap (is_constant n) e ∙ name_self n),
-  generic-input (symbols_of (before ++ x ∷ xs)) n h.0 ∙ first_type-new (is_constant n) before xs x h.1 (ap (is_constant n) e ∙ name_self n) ∙ ap generic_of e,
+  constant-input (symbols_of (before ++ x ∷ xs)) n h.0 ∙ first_symbol-new (is_constant n) before xs x h.1 (ap (is_constant n) e ∙ name_eq-refl n),
+  generic-input (symbols_of (before ++ x ∷ xs)) n h.0 ∙ first_type-new (is_constant n) before xs x h.1 (ap (is_constant n) e ∙ name_eq-refl n) ∙ ap generic_of e,
 )
 tells before xs x (defined_constant n a t) e h = (
-  constant-input (symbols_of (before ++ x ∷ xs)) n h.0 ∙ first_symbol-new (is_constant n) before xs x h.1 (ap (is_constant n) e ∙ name_self n),
-  generic-input (symbols_of (before ++ x ∷ xs)) n h.0 ∙ first_type-new (is_constant n) before xs x h.1 (ap (is_constant n) e ∙ name_self n) ∙ ap generic_of e,
+  constant-input (symbols_of (before ++ x ∷ xs)) n h.0 ∙ first_symbol-new (is_constant n) before xs x h.1 (ap (is_constant n) e ∙ name_eq-refl n),
+  generic-input (symbols_of (before ++ x ∷ xs)) n h.0 ∙ first_type-new (is_constant n) before xs x h.1 (ap (is_constant n) e ∙ name_eq-refl n) ∙ ap generic_of e,
 )
 tells before xs x (unproved s) e h = tt
 tells before xs x (step kind js premises given s) e h = tt

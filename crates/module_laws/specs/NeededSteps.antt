@@ -3,6 +3,7 @@
 use Rattle.std.proofs.Common.{◌≡◌, ℕ, List, [], ◌∷◌, Bool, true, false, ◌&&◌, ◌||◌, cond, inl, inr, ◌⊎◌, refl, sym, ap, subst, ◌∙◌}
 use Rattle.std.specs.Prelude.{IsTrue, drop}
 use Rattle.std.specs.List.{AllByRecursion, list_all}
+use Rattle.std.proofs.lemmas.Bool.{not-true}
 use Rattle.hol_spec.specs.Lists.{IsIn, is_in, union, without}
 use Rattle.hol_spec.specs.Terms.{Term, term_eq}
 use Rattle.hol_laws.specs.TermLaws.{term_eq-Decides}
@@ -18,7 +19,6 @@ use Rattle.proof_laws.specs.RuleSequents.{rule-IsSequent}
 use Rattle.module_spec.specs.Rows.{has_row}
 use Rattle.module_spec.specs.MadeItems.{proves_nothing, restated, needed}
 use Rattle.module_laws.specs.BodyTyping.{IsIn-without}
-use Rattle.proof_laws.specs.DefinitionListLaws.{not-is}
 
 -- what is in a list passes the test
 in-list : (hs : List Term) (h : Term) → IsIn hs h → is_in term_eq h hs ≡ true
@@ -54,7 +54,7 @@ second-within one two s lacks e =
 -- what proves nothing by its first premise follows from the others
 restated-rule : (kind : StepKind) (ss : List Sequent) (g : Parameters) (s : Sequent) → Rule kind ss g s → AllByRecursion IsSequent ss → proves_nothing kind ss ≡ true → Rule kinds.Restate (drop 1 ss) (Parameters.sequent s) s
 restated-rule kind ss g s (rule.prove_hyp {one = one} {two = two} e) are n =
-    rule.restate (rule-IsSequent kinds.ProveHyp (one ∷ two ∷ []) g s (rule.prove_hyp e) are) (second-within one two s (not-is (is_in term_eq one.conclusion two.hypotheses) n) e)
+    rule.restate (rule-IsSequent kinds.ProveHyp (one ∷ two ∷ []) g s (rule.prove_hyp e) are) (second-within one two s (not-true (is_in term_eq one.conclusion two.hypotheses) n) e)
 restated-rule kind ss g s (rule.refl h e) are n = absurd (cc)
 restated-rule kind ss g s (rule.assume h e) are n = absurd (cc)
 restated-rule kind ss g s (rule.eq_mp e f i) are n = absurd (cc)

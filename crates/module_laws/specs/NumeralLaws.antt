@@ -3,7 +3,7 @@
 use Rattle.std.proofs.Common.{◌≡◌, ℕ, zero, suc, ◌+◌, ◌-◌, ◌*◌, ◌/◌, ◌%◌, ◌^◌, ◌<◌, ◌≤◌, ◌⊎◌, inl, inr, Bool, true, false, not, ◌&&◌, cond, List, [], ◌∷◌, ◌++◌, length, refl, sym, ap, subst, ◌∙◌, arith, append_assoc}
 use Rattle.std.specs.Prelude.{decimal, nat_eq, nat_lt, Decides}
 use Rattle.std.specs.List.{list_all}
-use Rattle.std.proofs.lemmas.Bool.{lt-ltb, le-ltb}
+use Rattle.std.proofs.lemmas.Bool.{lt-ltb, le-ltb, and_parts}
 use Rattle.std.proofs.lemmas.Bool.Decides.{nat_tests}
 use Rattle.std.proofs.lemmas.Fmt.{decimal_by_steps_wide, decimal_from_appends_wide}
 use Rattle.std.proofs.lemmas.List.{length-append, append-nil}
@@ -85,10 +85,6 @@ digit-is n h = grind (arith, nat_tests)
 digit-within : (d : ℕ) → is_decimal_digit d ≡ true → (48 ≤ d) × (d ≤ 57)
 digit-within d h = (grind (arith, nat_tests), grind (arith, nat_tests))
 
-both : (a b : Bool) → (a && b) ≡ true → (a ≡ true) × (b ≡ true)
-both true b e = (refl, e)
-both false b e = absurd (cc)
-
 pub numeral-digits : (n : ℕ) → list_all is_decimal_digit (numeral n) ≡ true
 numeral-digits = numeral-by_digits (λ n ds. list_all is_decimal_digit ds ≡ true) (λ n l. ap (λ b. b && true) (digit-is n l))
     (λ n ds l e. list_all-append is_decimal_digit ds ((48 + n % 10) ∷ []) ∙ ap (λ b. b && list_all is_decimal_digit ((48 + n % 10) ∷ [])) e ∙ ap (λ b. b && true) (digit-is (n % 10) (omega arith)))
@@ -112,7 +108,7 @@ numeral-some = numeral-by_digits (λ n ds. 0 < length ds) (λ n l. omega arith) 
 -- the test takes each numeral
 digits-is_numeral : (ds : List ℕ) → list_all is_decimal_digit ds ≡ true → 48 < first_of ds → is_numeral ds ≡ true
 digits-is_numeral [] e h = absurd (omega arith)
-digits-is_numeral (d ∷ []) e h = (both (is_decimal_digit d) true e).0
+digits-is_numeral (d ∷ []) e h = (and_parts (is_decimal_digit d) true e).0
 digits-is_numeral (d ∷ c ∷ ds) e h = go (nat_eq d 48) refl
   where
     go : (b : Bool) → nat_eq d 48 ≡ b → (not b && list_all is_decimal_digit (d ∷ c ∷ ds)) ≡ true
@@ -127,7 +123,7 @@ is_numeral-numeral (suc n) = digits-is_numeral (numeral (suc n)) (numeral-digits
 numeral-value_after : (n : ℕ) (ds : List ℕ) → 0 < n → list_all is_decimal_digit ds ≡ true → numeral (value_after n ds) ≡ numeral n ++ ds
 numeral-value_after n [] some e = sym (append-nil (numeral n))
 numeral-value_after n (d ∷ ds) some e =
-    let parts = both (is_decimal_digit d) (list_all is_decimal_digit ds) e in
+    let parts = and_parts (is_decimal_digit d) (list_all is_decimal_digit ds) e in
     let within = digit-within d parts.0 in
     let m : ℕ = 10 * n + (d - 48) in
     let front : m / 10 ≡ n = omega (arith, within) in
@@ -146,8 +142,8 @@ is_numeral-IsNumeral : (text : List ℕ) → is_numeral text ≡ true → IsNume
 is_numeral-IsNumeral [] e = absurd (cc)
 is_numeral-IsNumeral (d ∷ []) e = record { number = d - 48; is = sym (numeral-digit d e) }
 is_numeral-IsNumeral (d ∷ c ∷ ds) e =
-    let parts = both (not (nat_eq d 48)) (list_all is_decimal_digit (d ∷ c ∷ ds)) e in
-    let digits = both (is_decimal_digit d) (list_all is_decimal_digit (c ∷ ds)) parts.1 in
+    let parts = and_parts (not (nat_eq d 48)) (list_all is_decimal_digit (d ∷ c ∷ ds)) e in
+    let digits = and_parts (is_decimal_digit d) (list_all is_decimal_digit (c ∷ ds)) parts.1 in
     let within = digit-within d digits.0 in
     record {
       number = value_after (d - 48) (c ∷ ds);

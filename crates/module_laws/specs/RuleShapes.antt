@@ -3,6 +3,7 @@ use Rattle.std.proofs.Common.{true, false, ◌∙◌, ◌≡◌, ℕ, List, [], 
 use Rattle.std.specs.Prelude.{unwrap_or}
 use Rattle.std.specs.List.{AllByRecursion, list_all, list_any, flat_map}
 use Rattle.std.proofs.lemmas.List.Folds.{list_any-append}
+use Rattle.std.proofs.lemmas.Bool.{or_parts, and_parts}
 use Rattle.hol_spec.specs.Lists.{is_in, union, without, distinct, IsIn}
 use Rattle.hol_spec.specs.Primitives.{bool, function}
 use Rattle.hol_spec.specs.Terms.{Term, Variable, variable_eq, free_places, constant, app, lam, HasType, term_eq, equation}
@@ -25,26 +26,26 @@ use Rattle.hol_spec.specs.declared.StepKind.{StepKind}
 use Rattle.hol_spec.specs.declared.StepKind.TheVariants as kinds
 use Rattle.module_spec.specs.Rows.{type_or, equated_type, left_side, right_side, argument_type, result_type, proof_tree, has_row}
 use Rattle.hol_spec.specs.Rules as rule
-use Rattle.module_laws.specs.BodyTyping.{ArePremises, Defined, one_premise, two_premises, IsIn-without, IsIn-map, both, all_are_in}
+use Rattle.module_laws.specs.BodyTyping.{ArePremises, Defined, one_premise, two_premises, IsIn-without, IsIn-map, all_are_in}
 use Rattle.module_laws.specs.ShapedSequents.{own_shape}
 use Rattle.module_laws.specs.ShapedRows.{Stands, refl-row, assume-row, trans-row, eq_mp-row, sym-row, app_thm-row, restate-row, prop_ext-row, prove_hyp-row}
 use Rattle.module_laws.specs.AbstractionRow.{abs_thm-row}
 use Rattle.module_laws.specs.SubstitutionRow.{subst-row}
 use Rattle.module_laws.specs.ComputingRows.{Shown, shown, beta-row, define_const-row, define_const_list-row}
 use Rattle.hol_spec.specs.DefinitionLists.{constants_put}
-use Rattle.proof_laws.specs.SymbolGrowth.{symmetric, or-neither}
+use Rattle.proof_laws.specs.SymbolGrowth.{symmetric}
 use Rattle.proof_laws.specs.RuleSequents.{constants-fit}
 use Rattle.module_laws.specs.AbstractionBody.{IsFresh}
 
 -- freshness, hypothesis by hypothesis
 fresh_places : (v : Variable) (ws : List Variable) → list_any (variable_eq v) ws ≡ false → AllByRecursion (λ w. variable_eq w v ≡ false) ws
 fresh_places v [] e = tt
-fresh_places v (w ∷ ws) e = let h = or-neither (variable_eq v w) (list_any (variable_eq v) ws) e in (symmetric variable_eq variable_eq-Decides v w h.0, fresh_places v ws h.1)
+fresh_places v (w ∷ ws) e = let h = or_parts (variable_eq v w) (list_any (variable_eq v) ws) e in (symmetric variable_eq variable_eq-Decides v w h.0, fresh_places v ws h.1)
 
 fresh-all : (v : Variable) (hs : List Term) → is_free_in v hs ≡ false → AllByRecursion (IsFresh v) hs
 fresh-all v [] e = tt
 fresh-all v (h ∷ hs) e =
-    let both = or-neither (list_any (variable_eq v) (free_places h)) (list_any (variable_eq v) (flat_map free_places hs)) (sym (list_any-append (variable_eq v) (free_places h) (flat_map free_places hs)) ∙ e) in
+    let both = or_parts (list_any (variable_eq v) (free_places h)) (list_any (variable_eq v) (flat_map free_places hs)) (sym (list_any-append (variable_eq v) (free_places h) (flat_map free_places hs)) ∙ e) in
     (fresh_places v (free_places h) both.0, fresh-all v hs both.1)
 
 -- a shaped proof in the scope of its sequent
@@ -148,7 +149,7 @@ module _ (m : List Declaration) (closed : IsClosed m) (lemmas : HasLemmas m) (sy
       (define_const-row m closed symbols G scope [] st n a t (subst (λ b. IsDefinition m symbols n b t) same d) o ty))
   rule-shaped kind js premises given s (rule.restate {one = one} proper i) row p d is over =
       let w = one_premise m symbols js one p in
-      let parts = both (list_all (λ h. is_in term_eq h s.hypotheses) one.hypotheses) (term_eq one.conclusion s.conclusion) i in
+      let parts = and_parts (list_all (λ h. is_in term_eq h s.hypotheses) one.hypotheses) (term_eq one.conclusion s.conclusion) i in
       let c : one.conclusion ≡ s.conclusion = (term_eq-Decides one.conclusion s.conclusion).0 parts.1 in
       row_of s kinds.Restate (one ∷ []) (Parameters.sequent s) js (w.j ∷ []) w.is
       (in_scope (λ scope. theorem_tree scope w.j one) s is over s.hypotheses s.conclusion refl (λ G scope st o ty.

@@ -31,10 +31,11 @@ use Rattle.hol_laws.specs.Members.{IsIn-left, IsIn-right, IsIn-either, IsIn-dist
 use Rattle.hol_laws.specs.GenericInstances.{filled_in, filled_in_all, Instance-filled_in, type_arguments-filled_in}
 use Rattle.module_spec.specs.Scopes.{Symbols, operator_symbol, constant_symbol, generic_type, TypeScope, type_tree, type_trees, Scope, constant_tree, term_tree, under_term, under_proof, under_proofs, term_domains, proof_domains, scope_of_types, scope_of_terms, scope_of, sequent_tree}
 use Rattle.module_spec.specs.Scopes as scopes
-use Rattle.module_laws.specs.TheoremTyping.{IsFormula, HasInstances, term-IsFormula, free_variables-known}
+use Rattle.module_laws.specs.TheoremTyping.{IsFormula, HasInstances, term-IsFormula}
 use Rattle.module_laws.specs.ToldParameters.{TypesTold, TypesTold-lifted, TypesTold-own, TypesTold-terms, TermsTold, TermsTold-lifted, TermsTold-own, parameter-lift}
 use Rattle.module_laws.specs.ScopeTyping.{length-type_trees}
 use Rattle.hol_laws.specs.PositionLaws.{position-cons}
+use Rattle.hol_laws.specs.RenamedSequents.{free_variables-known}
 use Rattle.std.proofs.lemmas.List.{length-map}
 use Rattle.proof_laws.specs.SymbolGrowth.{symmetric}
 

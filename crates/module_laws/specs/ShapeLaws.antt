@@ -18,9 +18,6 @@ use Rattle.module_spec.specs.Scopes.{TypeScope}
 use Rattle.module_laws.specs.SimultaneousArguments.{after, put-ups}
 
 module _ (m : List Declaration) (closed : IsClosed m) where
-  pub simple-weaken : {G : List Tree} {C a : Tree} → IsSimple m G a → IsSimple m (C ∷ G) (lift 1 a)
-  simple-weaken {G = G} {C = C} {a = a} h = subst (λ t. IsSimple m (C ∷ G) t) (sym (lift_one a)) (constant-ren m closed outside h)
-
   pub term-ren : {r : ℕ → ℕ} {G D : List Tree} {t a : Tree} → Weakens r G D → IsTerm m G t a → IsTerm m D (ren r t) (ren r a)
   term-ren {r = r} v (of_entry {n = n} {b = b} e q s) =
       let h = moved v n (term_of b) e in

@@ -20,6 +20,7 @@ use Rattle.lp_spec.specs.Modules.{Declaration, applied, products, types, term_of
 use Rattle.lp_typing.specs.ConversionLaws.{IsClosed}
 use Rattle.lp_shape.specs.Shaped.{Solid, IsConstant, IsSimple, IsTerm, of_entry, of_constant, of_function, of_binder}
 use Rattle.lp_shape.specs.Shaped as shape
+use Rattle.lp_shape.specs.Found.{simple-weaken}
 use Rattle.hol_spec.specs.Lists.{IsIn}
 use Rattle.hol_laws.specs.Members.{IsIn-distinct, IsIn-distinct_of, All-each, map-twice}
 use Rattle.hol_laws.specs.GenericInstances.{filled_in, substitute-is, type_arguments-filled_in}
@@ -28,7 +29,7 @@ use Rattle.module_laws.specs.ScopeLaws.{through_types, type_tree-sub, type_tree-
 use Rattle.module_laws.specs.TermScopeLaws.{type_tree-agrees}
 use Rattle.module_laws.specs.SimultaneousArguments.{after}
 use Rattle.module_laws.specs.ScopeTyping.{TypeOver, TypesOver, ConstantOver, TermOver, TypeOver-filled_in, TypeOver-type_under, length-type_trees, types-agree}
-use Rattle.module_laws.specs.ShapeLaws.{simple-weaken, term-weaken, Solid-products, constant-at, operator-at}
+use Rattle.module_laws.specs.ShapeLaws.{term-weaken, Solid-products, constant-at, operator-at}
 
 -- what stands for each type variable is a simple type, and what stands for each free variable of a type over the symbols is a term of it
 abbrev pub ShapedTypes : List Declaration → List Tree → TypeScope → Type 0

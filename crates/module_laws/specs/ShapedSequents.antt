@@ -15,6 +15,7 @@ use Rattle.lp_typing.specs.ConversionLaws.{IsClosed}
 use Rattle.lp_typing.specs.Telescopes.{under}
 use Rattle.lp_shape.specs.Shaped.{IsConstant, type_variable, constant, at_type, IsSimple, IsTerm, of_entry, of_constant, of_function, of_binder, IsDeclared, of_types, of_terms, of_proofs, IsProof}
 use Rattle.lp_shape.specs.ShapedCalls.{shaped-equation}
+use Rattle.lp_shape.specs.Found.{simple-weaken}
 use Rattle.hol_spec.specs.Lists.{IsIn}
 use Rattle.hol_laws.specs.Members.{All-each, All-weaker}
 use Rattle.module_spec.specs.Scopes.{Symbols, TypeScope, type_tree, Scope, lifted_types, lifted, term_tree, under_type, under_types, under_term, under_terms, under_proof, under_proofs, unfilled, filler, filled, term_domains, proof_domains, scope_of_types, scope_of_terms, scope_of, domains_of, conclusion_tree, theorem_tree}
@@ -22,7 +23,7 @@ use Rattle.module_laws.specs.ScopeLaws.{type_tree-lift, term_tree-lift}
 use Rattle.module_laws.specs.SimultaneousArguments.{under-append}
 use Rattle.module_laws.specs.ScopeTyping.{TypeOver, TermOver}
 use Rattle.module_laws.specs.SequentScope.{context_of, SequentOver, SequentOver-instances, IsPremise, variables-over, term_tree-proofs}
-use Rattle.module_laws.specs.ShapeLaws.{simple-weaken, IsEntry, entry-weaken, Argument, AreDeclared, AreDeclared-append}
+use Rattle.module_laws.specs.ShapeLaws.{IsEntry, entry-weaken, Argument, AreDeclared, AreDeclared-append}
 use Rattle.module_laws.specs.ShapedScopes.{ShapedTypes, ShapedScope, lifted-shaped, type_tree-shaped, term_tree-shaped}
 use Rattle.module_laws.specs.ShapedTheorems.{theorem_tree-shaped}
 

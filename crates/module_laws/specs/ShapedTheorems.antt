@@ -12,12 +12,13 @@ use Rattle.lp_spec.specs.Modules.{Declaration, types, term_of, proof_of, symbol_
 use Rattle.lp_shape.specs.Shaped.{IsSimple, IsTerm, IsProof, call, called}
 use Rattle.hol_spec.specs.Lists.{IsIn}
 use Rattle.hol_laws.specs.Members.{IsIn-left, IsIn-right, All-each, All-at}
+use Rattle.hol_laws.specs.RenamedSequents.{free_variables-known}
 use Rattle.module_spec.specs.Scopes.{Symbols, type_tree, Scope, term_tree, under_term, under_proof, unfilled, term_domains, proof_domains, scope_of_types, scope_of_terms, scope_of, domains_of, conclusion_tree, sequent_tree, theorem_tree}
 use Rattle.module_laws.specs.ScopeLaws.{through_types, type_tree-sub}
 use Rattle.module_laws.specs.TermScopeLaws.{type_tree-agrees}
 use Rattle.module_laws.specs.SimultaneousArguments.{after, after-append}
 use Rattle.module_laws.specs.ScopeTyping.{types-agree}
-use Rattle.module_laws.specs.TheoremTyping.{IsFormula, HasInstances, TypesAgree, TermsAgree, TypesAgree-under, TermsAgree-under, terms-TypesAgree, terms-agree, formula-agrees, proofs-TypesAgree, proofs-TermsAgree, free_variables-known, term-IsFormula}
+use Rattle.module_laws.specs.TheoremTyping.{IsFormula, HasInstances, TypesAgree, TermsAgree, TypesAgree-under, TermsAgree-under, terms-TypesAgree, terms-agree, formula-agrees, proofs-TypesAgree, proofs-TermsAgree, term-IsFormula}
 use Rattle.module_laws.specs.ShapeLaws.{Argument, a_type, a_term, AreAfter, AreAfter-append, shaped-at, Solid-products}
 
 -- what stands for a sequent's type variables, free variables and hypotheses is shaped as it has to be

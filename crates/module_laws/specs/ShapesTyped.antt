@@ -1,29 +1,26 @@
 -- What is shaped is typed: terms, declared types and proofs, wherever they stand. So the laws of typing follow from those of shapes.
-use Rattle.std.proofs.Common.{◌≡◌, ℕ, Bool, true, false, List, [], ◌∷◌, ◌++◌, Option, Some, None, inl, inr, ⊎_elim, refl, ap, ◌∙◌}
+use Rattle.std.proofs.Common.{◌≡◌, ℕ, Bool, true, false, List, [], ◌∷◌, Option, Some, None, inl, inr, ⊎_elim, refl, ap, ◌∙◌}
 use Rattle.hol_spec.specs.Sequents.{Sequent, IsSequent}
 use Rattle.lp_spec.specs.Trees.{Tree, SortType, SortKind, Var, App, Lam, Pi, lift}
 use Rattle.lp_spec.specs.Modules.{Declaration, types, term_of, eq_of, proof_of}
 use Rattle.lp_spec.specs.Conversion.{Conv, rule, same, back, forth}
 use Rattle.lp_spec.specs.Conversion as step
 use Rattle.lp_typing.specs.ConversionLaws.{IsClosed, Conv-sym, Conv-trans, Conv-under, Steps-Conv}
-use Rattle.lp_spec.specs.Typing.{Typed, is_type, of_variable, of_symbol, of_product, of_abstraction, of_application, of_conversion, IsContext, entry, nothing, IsSorted, IsBodyOf, IsTypedAfter, AreTypedAfter, WellTyped}
+use Rattle.lp_spec.specs.Typing.{Typed, is_type, of_variable, of_symbol, of_product, of_abstraction, of_application, of_conversion, IsContext, entry, nothing, IsSorted, IsBodyOf, IsTypedAfter}
 use Rattle.lp_typing.specs.TypingLaws.{weaken}
-use Rattle.lp_typing.specs.Soundness.{IsSound, IsSound-closed, IsSound-after}
+use Rattle.lp_typing.specs.Soundness.{IsSound, IsSound-closed}
 use Rattle.lp_typing.specs.Regularity.{regular}
 use Rattle.lp_typing.specs.Telescopes.{under}
 use Rattle.lp_typing.specs.SignatureForms.{Typed-types, Typed-term_of, Typed-proof_of, Typed-apply, Typed-eq_of}
 use Rattle.lp_shape.specs.Shaped.{IsConstant, type_variable, constant, at_type, IsSimple, IsTerm, of_entry, of_constant, of_function, of_binder, IsDeclared, of_types, of_terms, of_proofs, of_products, Near, IsProof, call, at_a_type, at_a_term, at_a_proof, at_a_definition, at_abstractions, called, hypothesis, under_binder, Unfolded, folded, arrow, near_same, near_head, near_arrows, near_application, near_product, Close, close_same, close_step, close_arrow, close_application, close_product, IsDefinition, defined, under_type, IsLast, last_call, last_defined, IsLaw, at_close_abstractions, law_last, at_close_equation, law_under, IsCallDefinition, by_type, by_term, call_under, IsBodyShaped, IsShaped}
 use Rattle.lp_shape.specs.Shaped as shape
 use Rattle.lp_shape.specs.Found.{arrow-parts, term-simple}
-use Rattle.lp_shape.specs.ShapedPasses.{AreShaped}
 use Rattle.lp_spec.specs.declared.form.Form.{Form}
 use Rattle.lp_spec.specs.declared.form.Form.TheVariants.{Symbol, Def, Thm}
-use Rattle.lp_typing.specs.SignatureLaws.{signature_sound}
 use Rattle.lp_shape.specs.HeadSteps.{head_step}
 use Rattle.lp_shape.specs.HeadStepLaws.{head_step-Steps}
 use Rattle.module_spec.specs.Scopes.{Symbols, domains_of}
 use Rattle.module_laws.specs.SequentScope.{SequentOver, Typed-abstraction}
-use Rattle.module_laws.specs.AbstractionBody.{put-lift_at}
 use Rattle.module_laws.specs.Bodies.{HasLemmas}
 use Rattle.hol_spec.specs.Rules.{Rule, Parameters}
 use Rattle.hol_spec.specs.declared.StepKind.{StepKind}
@@ -33,6 +30,7 @@ use Rattle.module_laws.specs.ShapeLaws.{AreDeclared}
 use Rattle.module_laws.specs.ComputingRows.{Shown}
 use Rattle.module_laws.specs.ShapedSequents.{own_shape}
 use Rattle.module_laws.specs.RuleShapes.{rule-shaped}
+use Rattle.lp_binding.specs.Composition.{put-lift_at}
 
 module _ (m : List Declaration) where
   pub constant-typed : {G : List Tree} {t A : Tree} → IsConstant m G t A → Typed m G t A
@@ -204,11 +202,3 @@ module _ (m : List Declaration) where
         let closed = IsSound-closed m sound in
         let own = own_shape m closed symbols s is over in
         shown-typed (declared-context (domains_of symbols s) nothing own.domains) own.conclusion (rule-shaped m closed lemmas symbols kind js premises given s r row p d is over)
-
-shaped-after : (before ds : List Declaration) → IsSound before → AreShaped before ds → AreTypedAfter before ds
-shaped-after before [] sound h = tt
-shaped-after before (d ∷ ds) sound h = let t = shaped-IsTypedAfter before sound d h.0 in (t, shaped-after (before ++ d ∷ []) ds (IsSound-after before d sound t) h.1)
-
--- a module of shaped declarations is well typed
-pub shaped-WellTyped : (m : List Declaration) → AreShaped [] m → WellTyped m
-shaped-WellTyped m h = shaped-after [] m signature_sound h

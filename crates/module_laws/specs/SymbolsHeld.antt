@@ -5,6 +5,7 @@ use Rattle.std.specs.Cmp.{unsigned_Decides}
 use Rattle.std.specs.Option.{option_or, unwrap_or}
 use Rattle.std.specs.List.{AllByRecursion, list_any}
 use Rattle.std.proofs.lemmas.Option.{same_Some}
+use Rattle.std.proofs.lemmas.Bool.{and_parts, or_parts, false_from_ne_true}
 use Rattle.hol_spec.specs.Names.{Name}
 use Rattle.hol_spec.specs.NameEquality.{name_eq}
 use Rattle.hol_laws.specs.NameEqualityLaws.{name_eq-Decides}
@@ -18,8 +19,7 @@ use Rattle.hol_spec.specs.Sequents.{Sequent, IsSequent}
 use Rattle.hol_spec.specs.Definitions.{Definition}
 use Rattle.hol_spec.specs.NewTypes.{abstraction_type, representation_type}
 use Rattle.hol_spec.specs.Symbols.{Symbol, defined_type, defined_arity, first_defined_type, first_defined_arity, generic_type, operator_arity, is_input_constant, is_input_operator, is_taken_constant}
-use Rattle.proof_laws.specs.SymbolGrowth.{or-neither, operator-more, constant-more}
-use Rattle.proof_laws.specs.RuleTaken.{both}
+use Rattle.proof_laws.specs.SymbolGrowth.{operator-more, constant-more}
 use Rattle.hol_spec.specs.Taken as machine
 use Rattle.hol_laws.specs.Members.{All-weaker}
 use Rattle.module_spec.specs.Rows.{type_or}
@@ -70,7 +70,7 @@ module _ (ps : List Item) where
   symbol-input_operator : (n : Name) (k : ℕ) (x : Symbol) → IsHeld x → is_input_operator n k x ≡ true → OperatorTaken ps n k
   symbol-input_operator n k (Symbol.input_constant m) h e = absurd (cc)
   symbol-input_operator n k (Symbol.input_operator m j) h e =
-      let parts = both (name_eq n m) (k == j) e in
+      let parts = and_parts (name_eq n m) (k == j) e in
       let a : n ≡ m = (name_eq-Decides n m).0 parts.0 in
       let b : k ≡ j = (unsigned_Decides k j).0 parts.1 in
       items.OperatorTaken.declared (subst (Has ps) (λ i. operator (sym a i) (sym b i)) h.0)
@@ -160,28 +160,24 @@ named-more ss xs (step kind js premises given s) h = tt
 
 module _ (ss : List Symbol) (n : Name) where
   no_such-constant : is_taken_constant ss n ≡ false → (a : HolType) → machine.ConstantTaken ss n a → ⊥
-  no_such-constant new a (machine.ConstantTaken.instance g e i) = let h = (or-neither (is_some (generic_type ss n)) (list_any (is_input_constant n) ss) new).0 in let k : true ≡ false = ap is_some (sym e) ∙ h in absurd (cc)
-  no_such-constant new a (machine.ConstantTaken.input e) = let h = (or-neither (is_some (generic_type ss n)) (list_any (is_input_constant n) ss) new).1 in let k : true ≡ false = sym e ∙ h in absurd (cc)
+  no_such-constant new a (machine.ConstantTaken.instance g e i) = let h = (or_parts (is_some (generic_type ss n)) (list_any (is_input_constant n) ss) new).0 in let k : true ≡ false = ap is_some (sym e) ∙ h in absurd (cc)
+  no_such-constant new a (machine.ConstantTaken.input e) = let h = (or_parts (is_some (generic_type ss n)) (list_any (is_input_constant n) ss) new).1 in let k : true ≡ false = sym e ∙ h in absurd (cc)
 
   no_such-operator : (k : ℕ) → is_some (operator_arity ss n) ≡ false → list_any (is_input_operator n k) ss ≡ false → machine.OperatorTaken ss n k → ⊥
   no_such-operator k undefined new (machine.OperatorTaken.of_arity e) = let k : true ≡ false = ap is_some (sym e) ∙ undefined in absurd (cc)
   no_such-operator k undefined new (machine.OperatorTaken.input e) = let k : true ≡ false = sym e ∙ new in absurd (cc)
 
-  never : (b : Bool) → (b ≡ true → ⊥) → b ≡ false
-  never true f = absurd (f refl)
-  never false f = refl
-
   other-constant : is_taken_constant ss n ≡ false → (c : Content) → IsNamed ss c → is_constant n c ≡ false
   other-constant new (operator m k) h = refl
-  other-constant new (constant m a) h = never (name_eq n m) (λ e. no_such-constant new a (subst (λ (l : Name). machine.ConstantTaken ss l a) (sym ((name_eq-Decides n m).0 e)) h))
-  other-constant new (defined_constant m a t) h = never (name_eq n m) (λ e. no_such-constant new a (subst (λ (l : Name). machine.ConstantTaken ss l a) (sym ((name_eq-Decides n m).0 e)) h))
+  other-constant new (constant m a) h = false_from_ne_true (name_eq n m) (λ e. no_such-constant new a (subst (λ (l : Name). machine.ConstantTaken ss l a) (sym ((name_eq-Decides n m).0 e)) h))
+  other-constant new (defined_constant m a t) h = false_from_ne_true (name_eq n m) (λ e. no_such-constant new a (subst (λ (l : Name). machine.ConstantTaken ss l a) (sym ((name_eq-Decides n m).0 e)) h))
   other-constant new (unproved s) h = refl
   other-constant new (step kind js premises given s) h = refl
 
   other-operator : (k : ℕ) → is_some (operator_arity ss n) ≡ false → list_any (is_input_operator n k) ss ≡ false → (c : Content) → IsNamed ss c → is_operator n k c ≡ false
   other-operator k undefined new (operator m j) h =
-      never (name_eq n m && (k == j))
-      (λ e. let parts = both (name_eq n m) (k == j) e in
+      false_from_ne_true (name_eq n m && (k == j))
+      (λ e. let parts = and_parts (name_eq n m) (k == j) e in
       let a : n ≡ m = (name_eq-Decides n m).0 parts.0 in
       let b : k ≡ j = (unsigned_Decides k j).0 parts.1 in
       no_such-operator k undefined new (subst (λ (l : Name). machine.OperatorTaken ss l k) (sym a) (subst (machine.OperatorTaken ss m) (sym b) h)))
@@ -201,7 +197,7 @@ module _ (ss : List Symbol) (n : Name) where
   -- what the machine finds new
   pub new-constant : is_taken_constant ss n ≡ false → (ps : List Item) → AllByRecursion (λ (z : Item). IsNamed ss z.content) ps → (primitive_type n ≡ None) × (any_content (is_constant n) ps ≡ false)
   new-constant new ps h =
-      (no-primitive (primitive_type n) (first_defined_type n ss) (or-neither (is_some (generic_type ss n)) (list_any (is_input_constant n) ss) new).0, none-such (is_constant n) (other-constant new) ps h)
+      (no-primitive (primitive_type n) (first_defined_type n ss) (or_parts (is_some (generic_type ss n)) (list_any (is_input_constant n) ss) new).0, none-such (is_constant n) (other-constant new) ps h)
 
   pub new-operator : (k : ℕ) → is_some (operator_arity ss n) ≡ false → list_any (is_input_operator n k) ss ≡ false → (ps : List Item) → AllByRecursion (λ (z : Item). IsNamed ss z.content) ps
       → (primitive_arity n ≡ None) × (any_content (is_operator n k) ps ≡ false)

@@ -1,11 +1,8 @@
 -- A theorem in a scope is typed by its sequent in that scope: its symbol, applied to what stands for its type variables, its free variables
 -- and its hypotheses, proves what its conclusion becomes.
 use Rattle.std.proofs.Common.{◌≡◌, ℕ, ◌≤◌, List, [], ◌∷◌, map, Bool, true, false, cond, ◌⊎◌, inl, inr, refl, sym, ap, ◌∙◌, arith}
-use Rattle.std.specs.List.{AllByRecursion, flat_map}
+use Rattle.std.specs.List.{AllByRecursion}
 use Rattle.hol_spec.specs.Names.{Name}
-use Rattle.hol_spec.specs.NameEquality.{name_eq}
-use Rattle.hol_laws.specs.NameEqualityLaws.{name_eq-Decides}
-use Rattle.hol_spec.specs.Types.{variable_places}
 use Rattle.hol_spec.specs.Primitives.{bool}
 use Rattle.hol_spec.specs.Terms.{Term, Variable, variable_eq, HasType, type_variable_places, free_places}
 use Rattle.hol_laws.specs.TermLaws.{variable_eq-Decides}
@@ -16,12 +13,12 @@ use Rattle.lp_spec.specs.Trees.{Tree, Var, lift}
 use Rattle.lp_spec.specs.Substitution.{sub, cons}
 use Rattle.lp_spec.specs.Modules.{Declaration}
 use Rattle.hol_spec.specs.Lists.{IsIn}
-use Rattle.hol_laws.specs.Members.{IsIn-distinct, IsIn-distinct_of, All-each, All-at, All-part}
+use Rattle.hol_laws.specs.Members.{All-part}
+use Rattle.hol_laws.specs.RenamedSequents.{all_type_variables, all_free_variables}
 use Rattle.module_spec.specs.Scopes.{Symbols, Scope, term_tree, under_term, under_terms, under_proof, under_proofs}
 use Rattle.module_laws.specs.ScopeLaws.{through, term_tree-sub}
 use Rattle.module_laws.specs.TermScopeLaws.{term_tree-agrees, AreInstances}
 use Rattle.module_laws.specs.SimultaneousArguments.{after, sub-cons_lift}
-use Rattle.hol_laws.specs.RenamedSequents.{flat_free}
 
 -- a formula whose variables are among these
 pub record IsFormula (symbols : Symbols) (P : Name → Type 0) (Q : Variable → Type 0) (h : Term) : Type 0 where
@@ -31,25 +28,12 @@ pub record IsFormula (symbols : Symbols) (P : Name → Type 0) (Q : Variable →
   pub closed : loose h ≤ 0
 
 module _ (s : Sequent) where
-  pub all_type_variables : AllByRecursion (IsIn (type_variables_of s)) (flat_map type_variable_places (terms_of s))
-  all_type_variables = All-each _ (flat_map type_variable_places (terms_of s)) (λ n i. IsIn-distinct name_eq name_eq-Decides (flat_map type_variable_places (terms_of s)) n i)
-
-  all_free_variables : AllByRecursion (IsIn (free_variables_of s)) (flat_map free_places (terms_of s))
-  all_free_variables = All-each _ (flat_map free_places (terms_of s)) (λ v i. IsIn-distinct variable_eq variable_eq-Decides (flat_map free_places (terms_of s)) v i)
-
-  -- the type variables of its free variables' types are its own
-  pub free_variables-known : AllByRecursion (λ v. AllByRecursion (IsIn (type_variables_of s)) (variable_places v.1)) (free_variables_of s)
-  free_variables-known =
-      All-each _ (free_variables_of s) (λ v i. All-at _ (flat_map free_places (terms_of s)) v
-      (flat_free (IsIn (type_variables_of s)) (terms_of s) all_type_variables)
-      (IsIn-distinct_of variable_eq variable_eq-Decides (flat_map free_places (terms_of s)) v i))
-
   -- each term of it is a formula over its own variables
   pub term-IsFormula : (symbols : Symbols) (t : Term) → IsIn (terms_of s) t → AreInstances symbols t → HasType t bool → IsFormula symbols (IsIn (type_variables_of s)) (IsIn (free_variables_of s)) t
   term-IsFormula symbols t i instances typed = record {
     instances = instances;
-    type_variables = All-part _ type_variable_places (terms_of s) t all_type_variables i;
-    free_variables = All-part _ free_places (terms_of s) t all_free_variables i;
+    type_variables = All-part _ type_variable_places (terms_of s) t (all_type_variables s) i;
+    free_variables = All-part _ free_places (terms_of s) t (all_free_variables s) i;
     closed = loose-typed [] t bool typed;
   }
 

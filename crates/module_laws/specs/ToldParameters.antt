@@ -17,8 +17,8 @@ use Rattle.module_spec.specs.Scopes.{Scope, TypeScope, lifted_types, under_types
 use Rattle.module_laws.specs.ListedScopes.{told_types, parameters, under_all-is, under_types-all, under_terms-all}
 
 -- equal elements are told apart from the same others
-pub apart : {A : Type 0} (same : A → A → Bool) → ((x y : A) → Decides (same x y) (x ≡ y)) → (a b c : A) → same a b ≡ true → same b c ≡ false → same a c ≡ false
-apart same decides a b c e f = ap (λ x. same x c) ((decides a b).0 e) ∙ f
+pub same-apart : {A : Type 0} (same : A → A → Bool) → ((x y : A) → Decides (same x y) (x ≡ y)) → (a b c : A) → same a b ≡ true → same b c ≡ false → same a c ≡ false
+same-apart same decides a b c e f = ap (λ x. same x c) ((decides a b).0 e) ∙ f
 
 -- a list of parameters under a binder more
 pub parameter-lift : (d p : ℕ) → suc p ≤ d → lift 1 (parameter d p) ≡ parameter (suc d) p
@@ -53,7 +53,7 @@ TypesTold-lifted names d scope l h n =
 pub TypesTold-own : (names : List Name) → IsDistinct name_eq names → TypesTold names (length names) (under_types names unfilled)
 TypesTold-own names h n =
     let z : 0 + length names ≡ length names = omega arith in
-    under_types-all names unfilled n ∙ under_all-is name_eq (apart name_eq name_eq-Decides) names unfilled 0 n h
+    under_types-all names unfilled n ∙ under_all-is name_eq (same-apart name_eq name_eq-Decides) names unfilled 0 n h
     ∙ ap (λ d. unwrap_or (lookup (name_eq n) (parameters d 0 names)) bools) z
 
 -- an element of a list is told by its parameters
@@ -85,7 +85,7 @@ TermsTold-lifted names vs d scope other l h e v k x =
 pub TermsTold-own : (names : List Name) (vs : List Variable) (scope : Scope) → IsDistinct variable_eq vs → TermsTold names vs (length names + length vs) (under_terms vs scope)
 TermsTold-own names vs scope h v k x =
     let t = told-in variable_eq variable_eq-Decides (length names + length vs) (length names) vs v k in
-    under_terms-all vs scope v ∙ under_all-is variable_eq (apart variable_eq variable_eq-Decides) vs scope.terms (length names) v h
+    under_terms-all vs scope v ∙ under_all-is variable_eq (same-apart variable_eq variable_eq-Decides) vs scope.terms (length names) v h
     ∙ whatever (lookup (variable_eq v) (parameters (length names + length vs) (length names) vs)) t.0 (lift (length vs) (scope.terms v)) x t.1
 
 pub TypesTold-terms : (names : List Name) (vs : List Variable) (d : ℕ) (scope : Scope) → length names ≤ d → TypesTold names d scope.types → TypesTold names (d + length vs) (under_terms vs scope).types

@@ -11,7 +11,7 @@ use Rattle.module_spec.specs.Items.{Item}
 use Rattle.module_laws.specs.ItemConditions.{IsContent}
 use Rattle.module_spec.specs.Reach.{Key, operator_key, constant_key, number_key, needs, gives, key_eq, is_wanted, wanted_after, wanted_from, keep_of}
 use Rattle.module_laws.specs.KeptModules.{AreNumbered}
-use Rattle.std.specs.Bool.{Decides}
+use Rattle.std.proofs.lemmas.Bool.{ne_eqb}
 use Rattle.module_laws.specs.MadeModules.{IsNew}
 
 -- all that is wanted, the items with the latest first
@@ -35,8 +35,8 @@ wanted-in (w ∷ ws) k (inr i) = go (key_eq k w) (wanted-in ws k i)
     go false h = h
 
 -- what is wanted stays wanted
-still : (wanted : List Key) (x : Item) (k : Key) → IsIn wanted k → IsIn (wanted_after wanted x) k
-still wanted x k h = go (is_wanted wanted x)
+wanted_after-IsIn : (wanted : List Key) (x : Item) (k : Key) → IsIn wanted k → IsIn (wanted_after wanted x) k
+wanted_after-IsIn wanted x k h = go (is_wanted wanted x)
   where
     go : (b : Bool) → IsIn (cond b (wanted ++ needs x.content) wanted) k
     go true = IsIn-left wanted (needs x.content) k h
@@ -44,7 +44,7 @@ still wanted x k h = go (is_wanted wanted x)
 
 all-still : (wanted : List Key) (xs : List Item) (k : Key) → IsIn wanted k → IsIn (all_wanted wanted xs) k
 all-still wanted [] k h = h
-all-still wanted (x ∷ xs) k h = all-still (wanted_after wanted x) xs k (still wanted x k h)
+all-still wanted (x ∷ xs) k h = all-still (wanted_after wanted x) xs k (wanted_after-IsIn wanted x k h)
 
 -- what an item that was wanted when it was looked at needs is wanted in the end
 pub needs-wanted : (wanted : List Key) (x : Item) (earlier : List Item) → is_wanted wanted x ≡ true → (k : Key) → IsIn (needs x.content) k → IsIn (all_wanted wanted (x ∷ earlier)) k
@@ -83,7 +83,7 @@ AreMadeInOrder before (x ∷ xs) = (x.symbol ≡ length before) × IsNew before 
 module _ (roots : List Key) where
   wanted_from-still : (xs ys : List Item) (k : Key) → IsIn (wanted_from roots ys) k → IsIn (wanted_from roots (xs ++ ys)) k
   wanted_from-still [] ys k h = h
-  wanted_from-still (x ∷ xs) ys k h = still (wanted_from roots (xs ++ ys)) x k (wanted_from-still xs ys k h)
+  wanted_from-still (x ∷ xs) ys k h = wanted_after-IsIn (wanted_from roots (xs ++ ys)) x k (wanted_from-still xs ys k h)
 
   choose : (b : Bool) (x y : Bool) → b ≡ true → cond b x y ≡ x
   choose b x y e = ap (λ c. cond c x y) e
@@ -91,18 +91,11 @@ module _ (roots : List Key) where
   choose_other : (b : Bool) (x y : Bool) → b ≡ false → cond b x y ≡ y
   choose_other b x y e = ap (λ c. cond c x y) e
 
-  other : (i j : ℕ) → (i ≡ j → ⊥) → (i == j) ≡ false
-  other i j h = go (i == j) (unsigned_Decides i j)
-    where
-      go : (b : Bool) → Decides b (i ≡ j) → b ≡ false
-      go true d = absurd (h (d.0 refl))
-      go false d = refl
-
   -- the flag of an item with others before it
   pub keep-at : (before xs : List Item) (x : Item) → AllByRecursion (λ (z : Item). z.symbol < x.symbol) before → keep_of roots (before ++ x ∷ xs) x.symbol ≡ is_wanted (wanted_from roots xs) x
   keep-at [] xs x h = choose (x.symbol == x.symbol) (is_wanted (wanted_from roots xs) x) (keep_of roots xs x.symbol) ((unsigned_Decides x.symbol x.symbol).1 refl)
   keep-at (z ∷ zs) xs x h =
-      choose_other (x.symbol == z.symbol) (is_wanted (wanted_from roots (zs ++ x ∷ xs)) z) (keep_of roots (zs ++ x ∷ xs) x.symbol) (other x.symbol z.symbol (λ e. omega (arith, h.0, e)))
+      choose_other (x.symbol == z.symbol) (is_wanted (wanted_from roots (zs ++ x ∷ xs)) z) (keep_of roots (zs ++ x ∷ xs) x.symbol) (ne_eqb x.symbol z.symbol (λ e. omega (arith, h.0, e)))
       ∙ keep-at zs xs x h.1
 
   -- what is wanted of those before is kept
@@ -114,7 +107,7 @@ module _ (roots : List Key) where
       ∙ wanted-in (wanted_from roots (zs ++ rest)) (gives z) (wanted_from-still zs rest (gives z) (subst (λ u. IsIn (wanted_from roots rest) (gives u)) e w))
   keep-wanted i (z ∷ zs) rest y n (inr k) w =
       let later : suc i ≤ y.symbol = All-at (λ (u : Item). suc i ≤ u.symbol) zs y (at-least (suc i) zs n.1) k in
-      choose_other (y.symbol == z.symbol) (is_wanted (wanted_from roots (zs ++ rest)) z) (keep_of roots (zs ++ rest) y.symbol) (other y.symbol z.symbol (λ e. omega (arith, later, n.0, e)))
+      choose_other (y.symbol == z.symbol) (is_wanted (wanted_from roots (zs ++ rest)) z) (keep_of roots (zs ++ rest) y.symbol) (ne_eqb y.symbol z.symbol (λ e. omega (arith, later, n.0, e)))
       ∙ keep-wanted (suc i) zs rest y n.1 k w
 
   pub made-numbered : (before xs : List Item) → NumberedFrom 0 before → AreMadeInOrder before xs → AreNumbered (keep_of roots (before ++ xs)) before xs

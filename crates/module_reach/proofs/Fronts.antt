@@ -9,14 +9,12 @@ use Rattle.std.proofs.lemmas.Option.{slice_get_within}
 use Rattle.std.proofs.Math.Path.{ap₂}
 use Rattle.hol_spec.specs.Terms.{bound}
 use Rattle.hol_spec.specs.Sequents.{Sequent}
-use Rattle.hol_spec.specs.Symbols.{Symbol}
-use Rattle.hol_spec.specs.Definitions.{Definition}
 use Rattle.hol_spec.specs.Proofs.{Made, Step, sequents_of, sequent_at, ArePremises, IsMade, IsProof}
 use Rattle.proof_laws.specs.ProofGrowth.{sequents_of-append}
 use Rattle.module_spec.specs.Rows.{has_row}
 use Rattle.module_spec.specs.Items.{Content, Item}
 use Rattle.module_spec.specs.MadeItems.{Naming, contents_of, said_of, said_by, premise_at, content_by, proves_nothing, restated, needed, sequents_at, shown_content, step_content, contents, numbered, items_after, items_of}
-use Rattle.module_laws.specs.AcceptedItems.{EachAfter, each-after, says-step}
+use Rattle.module_laws.specs.AcceptedItems.{EachAfter, each-after, says-step, symbol-said}
 use Rattle.module_laws.specs.NeededSteps.{needed-sequent}
 
 -- the k-th of a list, where each has become something else
@@ -37,12 +35,6 @@ numbers_of items = map (λ p. p.0) (said_by items)
 
 abbrev no_sequent : Sequent
 no_sequent = record { hypotheses = []; conclusion = bound 0 }
-
-symbol-said : (named : Content → List ℕ) (i : ℕ) (x : Symbol) → said_by (numbered named i (contents_of x)) ≡ []
-symbol-said named i (Symbol.input_constant n) = refl
-symbol-said named i (Symbol.input_operator n k) = refl
-symbol-said named i (Symbol.defined (Definition.constant n t)) = refl
-symbol-said named i (Symbol.defined (Definition.type_operator names c f)) = refl
 
 step-said : (named : Content → List ℕ) (i : ℕ) (before : List Item) (x : Step) → said_by (numbered named i (step_content before x ∷ [])) ≡ (i, x.sequent) ∷ []
 step-said named i before x =

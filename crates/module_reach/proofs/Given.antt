@@ -1,5 +1,5 @@
 -- What is known where a symbol is taken, and what a list of constants needs.
-use Rattle.std.proofs.Common.{◌≡◌, ℕ, zero, suc, ◌<◌, List, [], ◌∷◌, ◌++◌, map, length, Some, slice_get, refl, sym, ap, subst, ◌∙◌, append_assoc, arith}
+use Rattle.std.proofs.Common.{◌≡◌, ℕ, zero, suc, ◌<◌, List, [], ◌∷◌, ◌++◌, length, Some, slice_get, refl, sym, ap, subst, ◌∙◌, append_assoc, arith}
 use Rattle.std.specs.Prelude.{slice_index_or}
 use Rattle.std.proofs.lemmas.Option.{same_Some}
 use Rattle.hol_spec.specs.Names.{Name}
@@ -13,15 +13,7 @@ use Rattle.hol_defs.specs.Symbols.{Taken, symbol_at, symbols_at}
 use Rattle.hol_rules.specs.Kept.{Kept}
 use Rattle.hol_defs.specs.Lists.{pairs_at as pairs_view, ArePairsKnown as AreConstantPairsKnown}
 use Rattle.module_spec.specs.Reach.{constant_key, type_keys, given_keys}
-
-map-get : {A B : Type 0} (f : A → B) (xs : List A) (i : ℕ) (x : A) → slice_get xs i ≡ Some x → slice_get (map f xs) i ≡ Some (f x)
-map-get f [] i x e = absurd (cc)
-map-get f (y ∷ ys) zero x e = ap (λ z. Some (f z)) (same_Some _ _ e)
-map-get f (y ∷ ys) (suc i) x e = map-get f ys i x e
-
-at-seam : {A : Type 0} (xs ys : List A) (y : A) → slice_get (xs ++ y ∷ ys) (length xs) ≡ Some y
-at-seam [] ys y = refl
-at-seam (x ∷ xs) ys y = at-seam xs ys y
+use Rattle.hol_laws.specs.PlaceLaws.{slice_get-mapped, slice_get-seam}
 
 -- the symbol that was made is the one at its place
 pub symbol-there : (p : Kept) (front rest : List Made) (x : Symbol) → p.made ≡ front ++ Made.symbol x ∷ rest → (taken : List Taken) (y : Taken) → symbols_at p.trees taken ≡ symbols_of p.made → slice_get taken (length (symbols_of front)) ≡ Some y
@@ -29,7 +21,7 @@ pub symbol-there : (p : Kept) (front rest : List Made) (x : Symbol) → p.made �
 symbol-there p front rest x whole taken y are at =
     let i = length (symbols_of front) in
     same_Some _ _
-    (sym (at-seam (symbols_of front) (symbols_of rest) x) ∙ ap (λ l. slice_get l i) (sym (symbols_of-append front (Made.symbol x ∷ rest)) ∙ sym (ap symbols_of whole) ∙ sym are) ∙ map-get (symbol_at p.trees) taken i y at)
+    (sym (slice_get-seam (symbols_of front) (symbols_of rest) x) ∙ ap (λ l. slice_get l i) (sym (symbols_of-append front (Made.symbol x ∷ rest)) ∙ sym (ap symbols_of whole) ∙ sym are) ∙ slice_get-mapped (symbol_at p.trees) taken i y at)
 
 -- one more constant of a list
 pub given-last : (trees : Trees) (ps : List (Name × Variable)) (q : Name × Variable)

@@ -1,24 +1,22 @@
 -- One more item is listed.
 use Rattle.std.proofs.Common.{◌≡◌, ℕ, ◌+◌, ◌<◌, List, [], ◌∷◌, ◌++◌, map, length, Bool, true, false, cond, Option, Some, None, inl, inr, refl, sym, ap, subst, ◌∙◌, arith}
-use Rattle.std.specs.Prelude.{◌==◌}
-use Rattle.std.specs.Bool.{Decides}
 use Rattle.std.specs.Cmp.{unsigned_Decides}
 use Rattle.std.specs.Option.{option_map}
 use Rattle.std.specs.List.{AllByRecursion, cons_option}
 use Rattle.std.proofs.Math.Path.{ap₂}
 use Rattle.std.proofs.lemmas.List.{append-nil, length-append, length-map, map-append}
 use Rattle.std.proofs.lemmas.List.Elements.{filter_map-append}
+use Rattle.std.proofs.lemmas.Bool.{or_parts, ne_eqb}
 use Rattle.hol_spec.specs.Names.{Name}
 use Rattle.hol_spec.specs.NameEquality.{name_eq}
 use Rattle.hol_laws.specs.NameEqualityLaws.{name_eq-Decides}
 use Rattle.hol_spec.specs.Lists.{IsIn}
 use Rattle.hol_laws.specs.Members.{All-append, IsIn-either}
+use Rattle.hol_laws.specs.PlaceLaws.{get_or-seam}
 use Rattle.hol_spec.specs.Sequents.{Sequent}
 use Rattle.hol_spec.specs.Proofs.{Made, Step, steps_of, sequent_at, IsProof}
-use Rattle.proof_laws.specs.SymbolGrowth.{or-neither, symmetric}
+use Rattle.proof_laws.specs.SymbolGrowth.{symmetric}
 use Rattle.proof_laws.specs.ProofGrowth.{steps_of-append}
-use Rattle.run_laws.specs.ExportOrder.{seam}
-use Rattle.run_laws.specs.ExportsKept.{gives-number}
 use Rattle.standing_laws.specs.Keys.{key_eq-is}
 use Rattle.module_spec.specs.Items.{Content, operator, constant, defined_constant, unproved, step, Item, is_constant, is_operator, says}
 use Rattle.module_spec.specs.MadeItems.{said_of, said_by, needed, sequents_at, step_content, premise_at}
@@ -28,6 +26,7 @@ use Rattle.module_spec.specs.Reach.{Key, operator_key, constant_key, number_key,
 use Rattle.module_laws.specs.AcceptedItems.{says-step}
 use Rattle.module_laws.specs.MadeModules.{any_content}
 use Rattle.module_laws.specs.NeededSteps.{needed-sequent}
+use Rattle.module_laws.specs.SaidItems.{says-gives_of}
 use Rattle.module_reach.specs.declared.index.Index.{Index}
 use Rattle.module_reach.specs.declared.items.Items.{Items}
 use Rattle.module_reach.specs.declared.items.Need.{Need}
@@ -38,21 +37,13 @@ use Rattle.hol_rules.specs.Views.{step_at, step_in}
 use Rattle.module_reach.specs.MadeItems.{unnamed, made_items, numbers_of, shown_at, content_at, need_keys, needs_item, IsNeedKnown, AreListed, AddsConstant, AddsOperator}
 use Rattle.module_reach.proofs.Fronts.{items_after-append, said-sequents, step_content-front}
 
--- numbers that differ
-pub other : (i j : ℕ) → (i ≡ j → ⊥) → (i == j) ≡ false
-other i j h = go (i == j) (unsigned_Decides i j)
-  where
-    go : (b : Bool) → Decides b (i ≡ j) → b ≡ false
-    go true d = absurd (h (d.0 refl))
-    go false d = refl
-
 -- an item behind all that are found is none of them
 is_at-behind : (items : List Item) (index : Index) → IsIndex items index → (q : Key) (i : ℕ) → i ≡ length items → is_at i (found index q) ≡ false
 is_at-behind items index h q i e = go (found index q) refl
   where
     go : (o : Option ℕ) → found index q ≡ o → is_at i o ≡ false
     go None f = refl
-    go (Some j) f = let l = h.within q j f in other i j (λ same. omega (arith, l, e, same))
+    go (Some j) f = let l = h.within q j f in ne_eqb i j (λ same. omega (arith, l, e, same))
 
 module _ (items : List Item) (x : Item) where
   longer : length (items ++ x ∷ []) ≡ length items + 1
@@ -80,7 +71,7 @@ module _ (items : List Item) (x : Item) where
     where
       before : (y : Item) → IsIn items y → (q : Key) → IsNamedKey q → (b : Bool) → key_eq k q ≡ b → key_eq (gives y) q ≡ is_at y.symbol (cond b (Some (length items)) (found old q))
       before y j q named true same =
-          let l = h.below y j in ap (key_eq (gives y)) (sym (key_eq-is k q same)) ∙ fresh y j ∙ sym (other y.symbol (length items) (λ s. omega (arith, l, s)))
+          let l = h.below y j in ap (key_eq (gives y)) (sym (key_eq-is k q same)) ∙ fresh y j ∙ sym (ne_eqb y.symbol (length items) (λ s. omega (arith, l, s)))
       before y j q named false same = h.each y j q named
 
       last : (q : Key) (b : Bool) → key_eq k q ≡ b → b ≡ is_at x.symbol (cond b (Some (length items)) (found old q))
@@ -112,7 +103,7 @@ module _ (items : List Item) (x : Item) where
 -- what isn't among items isn't given by one of them
 fresh-constant : (n : Name) (items : List Item) → any_content (is_constant n) items ≡ false → (y : Item) → IsIn items y → key_eq (gives y) (constant_key n) ≡ false
 fresh-constant n [] e y h = absurd h
-fresh-constant n (x ∷ xs) e y (inl same) = subst (λ (z : Item). key_eq (gives z) (constant_key n) ≡ false) (sym same) (one x.symbol x.content (or-neither (is_constant n x.content) (any_content (is_constant n) xs) e).0)
+fresh-constant n (x ∷ xs) e y (inl same) = subst (λ (z : Item). key_eq (gives z) (constant_key n) ≡ false) (sym same) (one x.symbol x.content (or_parts (is_constant n x.content) (any_content (is_constant n) xs) e).0)
   where
     one : (i : ℕ) (c : Content) → is_constant n c ≡ false → key_eq (gives_of i c) (constant_key n) ≡ false
     one i (operator m k) f = refl
@@ -120,12 +111,12 @@ fresh-constant n (x ∷ xs) e y (inl same) = subst (λ (z : Item). key_eq (gives
     one i (defined_constant m a t) f = symmetric name_eq name_eq-Decides n m f
     one i (unproved s) f = refl
     one i (step kind js ss g s) f = refl
-fresh-constant n (x ∷ xs) e y (inr h) = fresh-constant n xs (or-neither (is_constant n x.content) (any_content (is_constant n) xs) e).1 y h
+fresh-constant n (x ∷ xs) e y (inr h) = fresh-constant n xs (or_parts (is_constant n x.content) (any_content (is_constant n) xs) e).1 y h
 
 fresh-operator : (n : Name) (k : ℕ) (items : List Item) → any_content (is_operator n k) items ≡ false → (y : Item) → IsIn items y → key_eq (gives y) (operator_key n k) ≡ false
 fresh-operator n k [] e y h = absurd h
 fresh-operator n k (x ∷ xs) e y (inl same) =
-    subst (λ (z : Item). key_eq (gives z) (operator_key n k) ≡ false) (sym same) (one x.symbol x.content (or-neither (is_operator n k x.content) (any_content (is_operator n k) xs) e).0)
+    subst (λ (z : Item). key_eq (gives z) (operator_key n k) ≡ false) (sym same) (one x.symbol x.content (or_parts (is_operator n k x.content) (any_content (is_operator n k) xs) e).0)
   where
     turn : (b c : Bool) → (b ≡ true → c ≡ true) → c ≡ false → b ≡ false
     turn true c f e = let g : true ≡ false = sym (f refl) ∙ e in absurd (cc)
@@ -146,7 +137,7 @@ fresh-operator n k (x ∷ xs) e y (inl same) =
     one i (defined_constant m a t) f = refl
     one i (unproved s) f = refl
     one i (step kind js ss g s) f = refl
-fresh-operator n k (x ∷ xs) e y (inr h) = fresh-operator n k xs (or-neither (is_operator n k x.content) (any_content (is_operator n k) xs) e).1 y h
+fresh-operator n k (x ∷ xs) e y (inr h) = fresh-operator n k xs (or_parts (is_operator n k x.content) (any_content (is_operator n k) xs) e).1 y h
 
 -- what is said, with an item more
 numbers-silent : (items : List Item) (x : Item) → says x.content ≡ None → numbers_of (items ++ x ∷ []) ≡ numbers_of items
@@ -196,7 +187,7 @@ module _ (p : Kept) (list : List Item) (x : Item) (old new : Items) (h : AreList
   said-AreListed : (id : ℕ) (s : Sequent) → says x.content ≡ Some s → x.symbol ≡ length list → need_keys p (need.Step id) ≡ needs x.content → IsNeedKnown p (need.Step id) → new.index ≡ old.index
       → new.steps.items ≡ old.steps.items ++ length old.needs.items ∷ [] → new.needs.items ≡ old.needs.items ++ need.Step id ∷ [] → AreListed p (list ++ x ∷ []) new
   said-AreListed id s said number is known index steps needs = record {
-    index = subst (IsIndex (list ++ x ∷ [])) (sym index) (index-step list x old.index h.index (gives-number x.symbol x.content s said) number);
+    index = subst (IsIndex (list ++ x ∷ [])) (sym index) (index-step list x old.index h.index (says-gives_of x.symbol x.content s said) number);
     steps = steps ∙ ap₂ (λ l k. l ++ k ∷ []) h.steps (needs-count ∙ sym number) ∙ sym (numbers-said list x s said);
     needs = needs-more (need.Step id) needs is;
     known = known-more (need.Step id) needs known;
@@ -204,7 +195,7 @@ module _ (p : Kept) (list : List Item) (x : Item) (old new : Items) (h : AreList
 
 -- the step of a number
 pub step-there : (front rest : List Made) (x : Step) → step_at (front ++ Made.step x ∷ rest) (length (steps_of front)) ≡ x
-step-there front rest x = ap (λ l. step_in l (length (steps_of front))) (steps_of-append front (Made.step x ∷ rest)) ∙ seam (steps_of front) (steps_of rest) x _
+step-there front rest x = ap (λ l. step_in l (length (steps_of front))) (steps_of-append front (Made.step x ∷ rest)) ∙ get_or-seam (steps_of front) (steps_of rest) x _
 
 pub steps-count : (front : List Made) → length (numbers_of (made_items front)) ≡ length (steps_of front)
 steps-count front =

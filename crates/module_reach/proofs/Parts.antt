@@ -5,6 +5,7 @@ use Rattle.std.specs.Cmp.{unsigned_Decides}
 use Rattle.std.specs.List.{AllByRecursion}
 use Rattle.std.proofs.Math.Path.{ap₂}
 use Rattle.std.proofs.lemmas.List.{append-nil, length-set}
+use Rattle.std.proofs.lemmas.Bool.{or_right, or_left}
 use Rattle.hol_spec.specs.Names.{Name}
 use Rattle.hol_spec.specs.Lists.{IsIn}
 use Rattle.hol_spec.specs.Limits.{type_size, types_size, term_size}
@@ -28,7 +29,7 @@ use Rattle.module_reach.specs.declared.walk.Walk.{Walk}
 use Rattle.module_reach.specs.Indexes.{found, IsNamedKey, IsIndex}
 use Rattle.module_reach.specs.Reached.{flag}
 use Rattle.module_reach.specs.Walks.{task_keys, keys_in, IsTaskKnown, task_size, work, rank, is_seen, IsWalk, Turned, with_task, with_types, marked}
-use Rattle.module_reach.proofs.Walked.{or-false, or-right, or-left, flag-marked, flag-marked_at, length-marked, IsBelow, Comes, passed-IsWalk, passed-Wants, comes-IsWalk, comes-Wants, comes-less}
+use Rattle.module_reach.proofs.Walked.{or-false, flag-marked, flag-marked_at, length-marked, IsBelow, Comes, passed-IsWalk, passed-Wants, comes-IsWalk, comes-Wants, comes-less}
 
 -- what was come to, once one more is noted
 flag-set : (flags : List Bool) (j i : ℕ) → j < length flags → flag (slice_set flags j true) i ≡ true → (i ≡ j) ⊎ (flag flags i ≡ true)
@@ -40,10 +41,10 @@ flag-set flags j i l e = go (flag flags i) (i == j) (sym (flag-marked flags j i 
     go false false e d = absurd (cc)
 
 flag-kept : (flags : List Bool) (j i : ℕ) → j < length flags → flag flags i ≡ true → flag (slice_set flags j true) i ≡ true
-flag-kept flags j i l e = flag-marked flags j i l ∙ or-left (flag flags i) (i == j) e
+flag-kept flags j i l e = flag-marked flags j i l ∙ or_left (flag flags i) (i == j) e
 
 flag-now : (flags : List Bool) (j : ℕ) → j < length flags → flag (slice_set flags j true) j ≡ true
-flag-now flags j l = flag-marked flags j j l ∙ or-right (flag flags j) (j == j) ((unsigned_Decides j j).1 refl)
+flag-now flags j l = flag-marked flags j j l ∙ or_right (flag flags j) (j == j) ((unsigned_Decides j j).1 refl)
 
 -- what is found for a key is marked
 pub found-below : (items : List Item) (index : Index) (flags : List Bool) → IsIndex items index → length flags ≡ length items → (q : Key) → IsBelow (length flags) (found index q)

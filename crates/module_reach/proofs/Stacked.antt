@@ -1,19 +1,7 @@
 -- Tasks that are put on others from the last to the first.
-use Rattle.std.proofs.Common.{◌≡◌, ℕ, zero, suc, ◌+◌, ◌-◌, ◌≤◌, refl, arith, List, [], ◌∷◌, ◌++◌, map, length, get_or, take, sym, ap, ◌∙◌, append_assoc}
-use Rattle.std.specs.Prelude.{drop}
-use Rattle.std.proofs.lemmas.List.{drop_more, take-append-drop, map-append}
-
-pub drop-all : {A : Type 0} (xs : List A) (i : ℕ) → length xs ≤ i → drop i xs ≡ []
-drop-all [] zero h = refl
-drop-all [] (suc i) h = refl
-drop-all (x ∷ xs) zero h = absurd (omega arith)
-drop-all (x ∷ xs) (suc i) h = drop-all xs i (omega arith)
-
--- a list is its front and its last item
-front-last : {A : Type 0} (xs : List A) (d : A) → 1 ≤ length xs → take (length xs - 1) xs ++ get_or xs (length xs - 1) d ∷ [] ≡ xs
-front-last xs d h =
-    ap (λ l. take (length xs - 1) xs ++ l) (sym (drop_more xs (length xs - 1) d (omega arith) ∙ ap (λ l. get_or xs (length xs - 1) d ∷ l) (drop-all xs (length xs - 1 + 1) (omega arith))))
-    ∙ take-append-drop (length xs - 1) xs
+use Rattle.std.proofs.Common.{◌≡◌, ◌+◌, ◌-◌, ◌≤◌, List, [], ◌∷◌, ◌++◌, map, length, get_or, take, sym, ap, ◌∙◌, append_assoc}
+use Rattle.std.proofs.lemmas.List.{map-append}
+use Rattle.hol_laws.specs.PlaceLaws.{front-last}
 
 -- the last of some is put first, and the others on it
 pub stacked-front : {A B : Type 0} (f : A → B) (xs : List A) (d : A) (tasks : List B) → 1 ≤ length xs → map f (take (length xs - 1) xs) ++ f (get_or xs (length xs - 1) d) ∷ tasks ≡ map f xs ++ tasks

@@ -1,12 +1,13 @@
 -- What a walk reaches stays while it comes to types and terms.
 use Rattle.std.proofs.Common.{◌≡◌, ◌⊎◌, ℕ, zero, suc, ◌+◌, ◌<◌, List, [], ◌∷◌, ◌++◌, length, Bool, true, false, ◌||◌, Option, Some, None, inl, inr, refl, sym, ap, subst, ◌∙◌, append_assoc, arith}
-use Rattle.std.specs.Prelude.{◌==◌, slice_set, slice_index_or, IfSome, Result, Ok, Err, OnOk}
+use Rattle.std.specs.Prelude.{◌==◌, slice_set, slice_index_or, IfSome}
 use Rattle.std.specs.Bool.{Decides}
 use Rattle.std.specs.Cmp.{unsigned_Decides}
 use Rattle.std.specs.List.{AllByRecursion}
 use Rattle.std.proofs.Math.Path.{ap₂}
 use Rattle.std.proofs.lemmas.List.{length-set, get_or-set_same, get_or-set_other}
 use Rattle.std.proofs.lemmas.List.Folds.{list_any-append}
+use Rattle.std.proofs.lemmas.Bool.{or_right, or_left, or_cases}
 use Rattle.hol_spec.specs.Lists.{IsIn}
 use Rattle.hol_laws.specs.Members.{All-append, IsIn-left, IsIn-right}
 use Rattle.hol_term.specs.Tables.{Trees}
@@ -17,14 +18,6 @@ use Rattle.module_reach.specs.declared.walk.Walk.{Walk}
 use Rattle.module_reach.specs.Indexes.{is_at}
 use Rattle.module_reach.specs.Reached.{flag}
 use Rattle.module_reach.specs.Walks.{task_keys, keys_in, IsTaskKnown, task_size, work, rank, is_seen, is_reached, IsOpened, IsWalk, Wants, with_task, marked}
-
--- truth values
-pub or-right : (a b : Bool) → b ≡ true → (a || b) ≡ true
-or-right true b e = refl
-or-right false b e = e
-
-pub or-left : (a b : Bool) → a ≡ true → (a || b) ≡ true
-or-left a b e = ap (λ c. c || b) e
 
 pub or-false : (a : Bool) → (a || false) ≡ a
 or-false true = refl
@@ -52,22 +45,13 @@ or-absorbed true b f = refl
 or-absorbed false true f = f refl
 or-absorbed false false f = refl
 
-either : (a b : Bool) → (a || b) ≡ true → (a ≡ true) ⊎ (b ≡ true)
-either true b e = inl refl
-either false b e = inr e
-
--- what is so of an answer that is Ok
-pub OnOk-map : {A E P Q : Type 0} (r : Result A E) → (P → Q) → OnOk r P → OnOk r Q
-OnOk-map (Ok a) f p = f p
-OnOk-map (Err e) f p = p
-
 -- flags with one more
 pub flag-marked : (flags : List Bool) (j i : ℕ) → j < length flags → flag (marked flags (Some j)) i ≡ (flag flags i || (i == j))
 flag-marked flags j i l = go (i == j) (unsigned_Decides i j)
   where
     go : (b : Bool) → Decides b (i ≡ j) → slice_index_or (slice_set flags j true) i false ≡ (slice_index_or flags i false || b)
     go true d =
-        ap (λ k. slice_index_or (slice_set flags j true) k false) (d.0 refl) ∙ get_or-set_same flags j true false l ∙ sym (or-right (slice_index_or flags i false) true refl)
+        ap (λ k. slice_index_or (slice_set flags j true) k false) (d.0 refl) ∙ get_or-set_same flags j true false l ∙ sym (or_right (slice_index_or flags i false) true refl)
     go false d = get_or-set_other flags j i true false (λ e. let f : false ≡ true = d.1 e in absurd (cc)) ∙ sym (or-false (slice_index_or flags i false))
 
 pub length-marked : (flags : List Bool) (o : Option ℕ) → length (marked flags o) ≡ length flags
@@ -95,15 +79,15 @@ wanted-tasks trees ts us x = ap (λ ks. is_wanted ks x) (keys_in-append trees ts
 
 wanted-in : (trees : Trees) (tasks : List Task) (u : Task) (x : Item) → IsIn tasks u → is_wanted (task_keys trees u) x ≡ true → is_wanted (keys_in trees tasks) x ≡ true
 wanted-in trees [] u x h e = absurd h
-wanted-in trees (t ∷ ts) u x (inl same) e = wanted-append (task_keys trees t) (keys_in trees ts) x ∙ or-left (is_wanted (task_keys trees t) x) (is_wanted (keys_in trees ts) x) (subst (λ v. is_wanted (task_keys trees v) x ≡ true) same e)
+wanted-in trees (t ∷ ts) u x (inl same) e = wanted-append (task_keys trees t) (keys_in trees ts) x ∙ or_left (is_wanted (task_keys trees t) x) (is_wanted (keys_in trees ts) x) (subst (λ v. is_wanted (task_keys trees v) x ≡ true) same e)
 wanted-in trees (t ∷ ts) u x (inr h) e =
-    wanted-append (task_keys trees t) (keys_in trees ts) x ∙ or-right (is_wanted (task_keys trees t) x) (is_wanted (keys_in trees ts) x) (wanted-in trees ts u x h e)
+    wanted-append (task_keys trees t) (keys_in trees ts) x ∙ or_right (is_wanted (task_keys trees t) x) (is_wanted (keys_in trees ts) x) (wanted-in trees ts u x h e)
 
 -- what some tasks need, one of them needs
 wanted-by : (trees : Trees) (tasks : List Task) (x : Item) → is_wanted (keys_in trees tasks) x ≡ true → (u : Task) × IsIn tasks u × (is_wanted (task_keys trees u) x ≡ true)
 wanted-by trees [] x e = absurd (cc)
 wanted-by trees (t ∷ ts) x e =
-    elim (either (is_wanted (task_keys trees t) x) (is_wanted (keys_in trees ts) x) (sym (wanted-append (task_keys trees t) (keys_in trees ts) x) ∙ e)) [
+    elim (or_cases (is_wanted (task_keys trees t) x) (is_wanted (keys_in trees ts) x) (sym (wanted-append (task_keys trees t) (keys_in trees ts) x) ∙ e)) [
       | inl f ↦ (t, inl refl, f)
       | inr f ↦ let r = wanted-by trees ts x f in (r.0, inr r.1, r.2)
     ]
@@ -125,14 +109,14 @@ module _ (trees : Trees) (items : List Item) where
     covered zero t l s x i e = absurd (omega (arith, l))
     covered (suc n) t l s x i e =
         let o = opened t s in
-        elim (either (is_wanted o.own x) (is_wanted (keys_in trees o.parts) x) (sym (ap (λ ks. is_wanted ks x) o.keys ∙ wanted-append o.own (keys_in trees o.parts) x) ∙ e)) [
-          | inl f ↦ or-left (flag w.marks.items x.symbol) (is_wanted (keys_in trees w.tasks) x) (o.marked x i f)
+        elim (or_cases (is_wanted o.own x) (is_wanted (keys_in trees o.parts) x) (sym (ap (λ ks. is_wanted ks x) o.keys ∙ wanted-append o.own (keys_in trees o.parts) x) ∙ e)) [
+          | inl f ↦ or_left (flag w.marks.items x.symbol) (is_wanted (keys_in trees w.tasks) x) (o.marked x i f)
           | inr f ↦
               let r = wanted-by trees o.parts x f in
               let low = below o.parts o.lower r.0 r.1 in
               elim (o.come r.0 r.1) [
                 | inl seen ↦ covered n r.0 (omega (arith, l, low)) seen x i r.2
-                | inr task ↦ or-right (flag w.marks.items x.symbol) (is_wanted (keys_in trees w.tasks) x) (wanted-in trees w.tasks r.0 x task r.2)
+                | inr task ↦ or_right (flag w.marks.items x.symbol) (is_wanted (keys_in trees w.tasks) x) (wanted-in trees w.tasks r.0 x task r.2)
               ]
         ]
       where
@@ -192,7 +176,7 @@ module _ (trees : Trees) (items : List Item) where
       own = own;
       parts = parts;
       keys = c.keys;
-      marked = λ x i e. c.marks x i ∙ or-right (flag w.marks.items x.symbol) (is_wanted own x) e;
+      marked = λ x i e. c.marks x i ∙ or_right (flag w.marks.items x.symbol) (is_wanted own x) e;
       lower = c.lower;
       come = λ u i. inr (task-among u (inl i));
     }
@@ -202,7 +186,7 @@ module _ (trees : Trees) (items : List Item) where
       own = o.own;
       parts = o.parts;
       keys = o.keys;
-      marked = λ x i e. c.marks x i ∙ or-left (flag w.marks.items x.symbol) (is_wanted own x) (o.marked x i e);
+      marked = λ x i e. c.marks x i ∙ or_left (flag w.marks.items x.symbol) (is_wanted own x) (o.marked x i e);
       lower = o.lower;
       come = λ z i. elim (o.come z i) [
         | inl f ↦ inl (c.still z f)
@@ -261,7 +245,7 @@ module _ (trees : Trees) (items : List Item) where
         own = o.own;
         parts = o.parts;
         keys = o.keys;
-        marked = λ x i e. g.marks x i ∙ or-left (flag w.marks.items x.symbol) (is_wanted own x) (o.marked x i e);
+        marked = λ x i e. g.marks x i ∙ or_left (flag w.marks.items x.symbol) (is_wanted own x) (o.marked x i e);
         lower = o.lower;
         come = λ z i. elim (o.come z i) [
           | inl f ↦ inl (same_seen z ∙ f)

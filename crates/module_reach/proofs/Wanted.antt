@@ -7,6 +7,7 @@ use Rattle.std.specs.List.{AllByRecursion, flat_map}
 use Rattle.std.proofs.Math.Path.{ap₂}
 use Rattle.std.proofs.lemmas.List.{append-nil, get_or_read, length-append, length-map}
 use Rattle.std.proofs.lemmas.Option.{same_Some, slice_get_within}
+use Rattle.std.proofs.lemmas.Bool.{ne_eqb}
 use Rattle.hol_spec.specs.Names.{Name}
 use Rattle.hol_spec.specs.Lists.{IsIn, is_in}
 use Rattle.hol_spec.specs.Sequents.{Sequent}
@@ -16,7 +17,6 @@ use Rattle.hol_spec.specs.Rules.{Parameters}
 use Rattle.hol_spec.specs.declared.StepKind.{StepKind}
 use Rattle.hol_spec.specs.Proofs.{Made, Step, steps_of, sequents_of, sequent_at, IsProof}
 use Rattle.proof_laws.specs.ProofGrowth.{steps_of-append}
-use Rattle.run_laws.specs.ExportsKept.{gives-number}
 use Rattle.hol_term.specs.declared.TermId.{TermId}
 use Rattle.hol_term.specs.Tables.{Trees, term_at, terms_at, AreKnown, IsDistinct}
 use Rattle.hol_term.specs.TableLaws.{term_in-same}
@@ -26,6 +26,7 @@ use Rattle.module_spec.specs.MadeItems.{said_by, content_by, proves_nothing, res
 use Rattle.module_spec.specs.Reach.{constant_key, number_key, gives, gives_of, key_eq, needs, sequent_keys, given_keys, term_keys}
 use Rattle.module_laws.specs.AcceptedItems.{said-in}
 use Rattle.module_laws.specs.NeededSteps.{needed-row, needed-sequent}
+use Rattle.module_laws.specs.SaidItems.{says-gives_of}
 use Rattle.module_reach.specs.declared.items.Items.{Items}
 use Rattle.module_reach.specs.declared.walk.Task.{Task}
 use Rattle.module_reach.specs.declared.walk.Task.TheVariants as task
@@ -37,7 +38,7 @@ use Rattle.hol_rules.specs.Views.{step_at}
 use Rattle.module_reach.specs.Walks.{keys_in, IsTaskKnown, marked}
 use Rattle.module_reach.specs.MadeItems.{made_items, numbers_of, number_in, content_at, needed_at, AreItems, IsInOrder, IsWalkOf, step_keys, AreSteps}
 use Rattle.module_reach.proofs.Fronts.{at-map, step-earlier}
-use Rattle.module_reach.proofs.Listed.{other, step-there, steps-count}
+use Rattle.module_reach.proofs.Listed.{step-there, steps-count}
 use Rattle.module_reach.proofs.Looked.{at-symbol}
 use Rattle.module_reach.proofs.Parts.{flag-key}
 use Rattle.module_reach.proofs.Walked.{flag-marked_at, length-marked, or-false, Gains}
@@ -61,12 +62,12 @@ number-key x z s said one = go (x.symbol == z.symbol) (unsigned_Decides x.symbol
     silent i (operator n k) h = refl
     silent i (constant n a) h = refl
     silent i (defined_constant n a t) h = refl
-    silent i (unproved r) h = other i z.symbol h
-    silent i (step kind js ss g r) h = other i z.symbol h
+    silent i (unproved r) h = ne_eqb i z.symbol h
+    silent i (step kind js ss g r) h = ne_eqb i z.symbol h
 
     go : (b : Bool) → Decides b (x.symbol ≡ z.symbol) → key_eq (gives x) (number_key z.symbol) ≡ b
     go true d =
-        ap (λ (y : Item). key_eq (gives y) (number_key z.symbol)) (one (d.0 refl)) ∙ ap (λ k. key_eq k (number_key z.symbol)) (gives-number z.symbol z.content s said) ∙ (unsigned_Decides z.symbol z.symbol).1 refl
+        ap (λ (y : Item). key_eq (gives y) (number_key z.symbol)) (one (d.0 refl)) ∙ ap (λ k. key_eq k (number_key z.symbol)) (says-gives_of z.symbol z.content s said) ∙ (unsigned_Decides z.symbol z.symbol).1 refl
     go false d = silent x.symbol x.content (λ e. let f : false ≡ true = d.1 e in absurd (cc))
 
 module _ (p : Kept) (order : IsInOrder p) where

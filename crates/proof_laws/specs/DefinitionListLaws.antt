@@ -3,11 +3,12 @@ use Rattle.std.proofs.Common.{◌≡◌, suc, ◌≤◌, List, [], ◌∷◌, le
 use Rattle.std.specs.Prelude.{is_some, not}
 use Rattle.std.specs.Cmp.{IsEquivalence}
 use Rattle.std.specs.List.{AllByRecursion, IsDistinct, filter, filter_map, cons_option, list_all, list_any}
-use Rattle.std.proofs.lemmas.Bool.Decides.{Decides-eqb}
+use Rattle.std.proofs.lemmas.Bool.Decides.{Decides-eqb, same_from_decides}
 use Rattle.std.proofs.lemmas.Map.Keys.{IsDistinct-cons}
 use Rattle.std.proofs.lemmas.Map.Steps.{length-le_from_keys}
 use Rattle.std.proofs.lemmas.List.{length-map}
 use Rattle.std.proofs.lemmas.Option.{same_Some}
+use Rattle.std.proofs.lemmas.Bool.{and_parts, or_parts, not-true}
 use Rattle.hol_spec.specs.Lists.{is_in}
 use Rattle.hol_spec.specs.Primitives.{bool}
 use Rattle.hol_spec.specs.Terms.{Term, Variable, free, variable_eq, HasType, equation}
@@ -15,38 +16,28 @@ use Rattle.hol_laws.specs.TermLaws.{variable_eq-Decides}
 use Rattle.hol_spec.specs.TermSubstitution.{TermPairs}
 use Rattle.hol_spec.specs.Sequents.{Sequent, IsSequent}
 use Rattle.hol_spec.specs.Repeats.{no_repeats}
-use Rattle.proof_laws.specs.SymbolGrowth.{or-neither}
 use Rattle.hol_spec.specs.Equations.{Equation, equation_parts}
 use Rattle.proof_laws.specs.EquationLaws.{equation_parts-is, equation-sides}
 use Rattle.hol_spec.specs.DefinitionLists.{ConstantPairs, variables_of, variable_side, of_equation, variable_equation, defining_equations, definiens, is_definition_list}
-use Rattle.proof_laws.specs.RuleTaken.{both, list_parts}
-
-pub not-is : (b : Bool) → not b ≡ true → b ≡ false
-not-is true e = absurd (cc)
-not-is false e = refl
+use Rattle.proof_laws.specs.RuleTaken.{list_parts}
 
 -- no repeats, by the test
 none-alike : (x : Variable) (xs : List Variable) → is_in variable_eq x xs ≡ false → AllByRecursion (λ y. variable_eq x y ≡ false) xs
 none-alike x [] e = tt
-none-alike x (y ∷ ys) e = let h = or-neither (variable_eq x y) (is_in variable_eq x ys) e in (h.0, none-alike x ys h.1)
+none-alike x (y ∷ ys) e = let h = or_parts (variable_eq x y) (is_in variable_eq x ys) e in (h.0, none-alike x ys h.1)
 
 pub distinct_variables : (xs : List Variable) → no_repeats variable_eq xs ≡ true → IsDistinct variable_eq xs
 unfolding IsDistinct
 distinct_variables [] e = tt
 distinct_variables (x ∷ xs) e =
-    let h = both (not (is_in variable_eq x xs)) (no_repeats variable_eq xs) e in
-    IsDistinct-cons variable_eq x xs (none-alike x xs (not-is (is_in variable_eq x xs) h.0)) (distinct_variables xs h.1)
+    let h = and_parts (not (is_in variable_eq x xs)) (no_repeats variable_eq xs) e in
+    IsDistinct-cons variable_eq x xs (none-alike x xs (not-true (is_in variable_eq x xs) h.0)) (distinct_variables xs h.1)
 
 -- the test of variables as an equivalence
-alike : (b c : Bool) → (b ≡ true → c ≡ true) → (c ≡ true → b ≡ true) → b ≡ c
-alike true c f g = sym (f refl)
-alike false true f g = g refl
-alike false false f g = refl
-
 pub equivalence : IsEquivalence variable_eq
 equivalence = record {
   refl = λ x. (variable_eq-Decides x x).1 refl;
-  symm = λ x y. alike (variable_eq x y) (variable_eq y x) (λ e. (variable_eq-Decides y x).1 (sym ((variable_eq-Decides x y).0 e))) (λ e. (variable_eq-Decides x y).1 (sym ((variable_eq-Decides y x).0 e)));
+  symm = λ x y. same_from_decides (variable_eq x y) (variable_eq y x) (variable_eq-Decides x y) (λ h. sym ((variable_eq-Decides y x).0 h), λ h. (variable_eq-Decides y x).1 (sym h));
   congr = λ x y z e. ap (λ v. variable_eq v z) ((variable_eq-Decides x y).0 e);
 }
 
@@ -54,7 +45,7 @@ equivalence = record {
 pub passes : (f : Variable → Bool) (xs : List Variable) → list_all f xs ≡ true → (q : Variable) → list_any (variable_eq q) xs ≡ true → f q ≡ true
 passes f [] e q h = absurd (cc)
 passes f (x ∷ xs) e q h =
-    let parts = both (f x) (list_all f xs) e in
+    let parts = and_parts (f x) (list_all f xs) e in
     go (variable_eq q x) (variable_eq-Decides q x).0 h parts.0 (passes f xs parts.1 q)
   where
     go : (b : Bool) → (b ≡ true → q ≡ x) → (b || list_any (variable_eq q) xs) ≡ true → f x ≡ true → (list_any (variable_eq q) xs ≡ true → f q ≡ true) → f q ≡ true

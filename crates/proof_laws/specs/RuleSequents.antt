@@ -26,11 +26,11 @@ use Rattle.hol_spec.specs.Rules.{Parameters, Rule}
 use Rattle.hol_spec.specs.Rules as rule
 use Rattle.hol_spec.specs.declared.StepKind.{StepKind}
 
-apart : (x y : Term) → term_eq x y ≡ false → term_eq y x ≡ false
-apart = symmetric term_eq term_eq-Decides
+term_eq-symmetric : (x y : Term) → term_eq x y ≡ false → term_eq y x ≡ false
+term_eq-symmetric = symmetric term_eq term_eq-Decides
 
 united : (gs hs : List Term) → IsDistinct term_eq gs → IsDistinct term_eq (union term_eq gs hs)
-united gs hs h = union-IsDistinct term_eq apart hs gs h
+united gs hs h = union-IsDistinct term_eq term_eq-symmetric hs gs h
 
 -- a sequent of these parts
 made : (hs : List Term) (c : Term) (s : Sequent) → s ≡ record { hypotheses = hs; conclusion = c } → IsDistinct term_eq hs → AllByRecursion (λ h. HasType h bool) hs → HasType c bool → IsSequent s
@@ -39,13 +39,13 @@ made hs c s e d h t = subst IsSequent (sym e) (record { no_repeats = d; hypothes
 abbrev are_bool : Term → Type 0
 are_bool h = HasType h bool
 
-none : IsDistinct term_eq []
+IsDistinct-none : IsDistinct term_eq []
 unfolding IsDistinct
-none = tt
+IsDistinct-none = tt
 
-alone : (p : Term) → IsDistinct term_eq (p ∷ [])
+IsDistinct-alone : (p : Term) → IsDistinct term_eq (p ∷ [])
 unfolding IsDistinct
-alone p = (tt {0}, tt {0})
+IsDistinct-alone p = (tt {0}, tt {0})
 
 left_out : (hs : List Term) (p : Term) → IsDistinct term_eq hs → IsDistinct term_eq (without term_eq hs p)
 left_out hs p h = IsDistinct-filter term_eq (λ y. not (term_eq p y)) hs h
@@ -100,8 +100,8 @@ second_law-typed names c f h =
 
 -- THE LAW OF RULES.
 pub rule-IsSequent : (kind : StepKind) (premises : List Sequent) (given : Parameters) (s : Sequent) → Rule kind premises given s → AllByRecursion IsSequent premises → IsSequent s
-rule-IsSequent kind premises given s (rule.refl {t = t} {a = a} h e) p = made [] (equation a t t) s e none (tt {0}) (type_of-equation a t t h h)
-rule-IsSequent kind premises given s (rule.assume {p = q} h e) p = made (q ∷ []) q s e (alone q) (h, tt {0}) h
+rule-IsSequent kind premises given s (rule.refl {t = t} {a = a} h e) p = made [] (equation a t t) s e IsDistinct-none (tt {0}) (type_of-equation a t t h h)
+rule-IsSequent kind premises given s (rule.assume {p = q} h e) p = made (q ∷ []) q s e (IsDistinct-alone q) (h, tt {0}) h
 rule-IsSequent kind premises given s (rule.eq_mp {p = x} {q = y} {one = one} {two = two} e f i) p =
     made (union term_eq one.hypotheses two.hypotheses) y s i (united one.hypotheses two.hypotheses p.0.no_repeats)
     (union-All are_bool term_eq two.hypotheses one.hypotheses p.0.hypotheses p.1.0.hypotheses) (equation-sides bool x y one.conclusion e p.0.conclusion).right
@@ -122,7 +122,7 @@ rule-IsSequent kind premises given s (rule.deduct_antisym {one = one} {two = two
     (union-All are_bool term_eq hs gs (All-filter are_bool (λ y. not (term_eq two.conclusion y)) one.hypotheses p.0.hypotheses) (All-filter are_bool (λ y. not (term_eq one.conclusion y)) two.hypotheses p.1.0.hypotheses))
     (type_of-equation bool one.conclusion two.conclusion p.0.conclusion p.1.0.conclusion)
 rule-IsSequent kind premises given s (rule.beta_conv {a = a} {b = b} {t = t} {u = u} h e) p =
-    made [] (equation b (app (lam a t) u) (put u t)) s e none (tt {0}) (type_of-equation b (app (lam a t) u) (put u t) h (contracted-typed a b t u h))
+    made [] (equation b (app (lam a t) u) (put u t)) s e IsDistinct-none (tt {0}) (type_of-equation b (app (lam a t) u) (put u t) h (contracted-typed a b t u h))
 rule-IsSequent kind premises given s (rule.sym {a = a} {x = x} {y = y} {one = one} e i) p =
     let w = equation-sides a x y one.conclusion e p.0.conclusion in
     made one.hypotheses (equation a y x) s i p.0.no_repeats p.0.hypotheses (type_of-equation a y x w.right w.left)
@@ -137,14 +137,14 @@ rule-IsSequent kind premises given s (rule.prove_hyp {one = one} {two = two} i) 
     (union-All are_bool term_eq hs one.hypotheses p.0.hypotheses (All-filter are_bool (λ y. not (term_eq one.conclusion y)) two.hypotheses p.1.0.hypotheses)) p.1.0.conclusion
 rule-IsSequent kind premises given s (rule.subst {types = pairs} {terms = terms} {one = one} fitting i) p =
     let images = map (sub pairs terms) one.hypotheses in
-    made (distinct term_eq images) (sub pairs terms one.conclusion) s i (distinct-IsDistinct term_eq apart images)
+    made (distinct term_eq images) (sub pairs terms one.conclusion) s i (distinct-IsDistinct term_eq term_eq-symmetric images)
     (union-All are_bool term_eq images [] (tt {0}) (All-mapped are_bool (sub pairs terms) one.hypotheses (All-weaker are_bool (λ h. are_bool (sub pairs terms h)) (λ h k. type_of-sub pairs terms h bool fitting k) one.hypotheses p.0.hypotheses)))
     (type_of-sub pairs terms one.conclusion bool fitting p.0.conclusion)
 rule-IsSequent kind premises given s (rule.recorded is) p = is
 rule-IsSequent kind premises given s (rule.restate is i) p = is
-rule-IsSequent kind premises given s (rule.define_const {n = n} {t = t} {a = a} h e) p = made [] (equation a (constant n a) t) s e none (tt {0}) (type_of-equation a (constant n a) t refl h.typed)
+rule-IsSequent kind premises given s (rule.define_const {n = n} {t = t} {a = a} h e) p = made [] (equation a (constant n a) t) s e IsDistinct-none (tt {0}) (type_of-equation a (constant n a) t refl h.typed)
 rule-IsSequent kind premises given s (rule.define_const_list {pairs = pairs} {one = one} defining list e) p =
-    made [] (sub [] (constants_put pairs) one.conclusion) s e none (tt {0}) (type_of-sub [] (constants_put pairs) one.conclusion bool (constants-fit pairs) p.0.conclusion)
-rule-IsSequent kind premises given s (rule.first_law {names = names} {c = c} {f = f} {one = one} d e) p = made [] (type_definition.first_law names c).conclusion s e none (tt {0}) (first_law-typed names c)
+    made [] (sub [] (constants_put pairs) one.conclusion) s e IsDistinct-none (tt {0}) (type_of-sub [] (constants_put pairs) one.conclusion bool (constants-fit pairs) p.0.conclusion)
+rule-IsSequent kind premises given s (rule.first_law {names = names} {c = c} {f = f} {one = one} d e) p = made [] (type_definition.first_law names c).conclusion s e IsDistinct-none (tt {0}) (first_law-typed names c)
 rule-IsSequent kind premises given s (rule.second_law {names = names} {c = c} {f = f} {one = one} d e) p =
-    made [] (type_definition.second_law names c f).conclusion s e none (tt {0}) (second_law-typed names c f (predicate-typed names c f one d p.0.conclusion))
+    made [] (type_definition.second_law names c f).conclusion s e IsDistinct-none (tt {0}) (second_law-typed names c f (predicate-typed names c f one d p.0.conclusion))

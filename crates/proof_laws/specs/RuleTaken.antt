@@ -1,13 +1,14 @@
 -- What a rule concludes is over the symbols over which its premises, its parameters and its definitions are.
-use Rattle.std.proofs.Common.{◌≡◌, ◌+◌, List, [], ◌∷◌, map, length, Bool, true, false, cond, ◌&&◌, Option, Some, None, refl, sym, ap, subst, ◌∙◌, arith}
+use Rattle.std.proofs.Common.{◌≡◌, List, [], ◌∷◌, map, length, Bool, true, false, cond, ◌&&◌, Option, Some, None, refl, sym, subst}
 use Rattle.std.specs.Prelude.{is_some, nat_eq}
 use Rattle.std.specs.Option.{option_map, option_to_list}
 use Rattle.std.specs.Map.{lookup}
 use Rattle.std.specs.List.{AllByRecursion, filter_map, cons_option, list_all}
+use Rattle.std.proofs.lemmas.Bool.{and_parts}
 use Rattle.hol_spec.specs.Names.{Name}
 use Rattle.hol_spec.specs.Types as type
 use Rattle.hol_spec.specs.NameEquality.{name_eq}
-use Rattle.hol_spec.specs.Types.{HolType, HolTypes, count, types_of}
+use Rattle.hol_spec.specs.Types.{HolType, HolTypes, types_of}
 use Rattle.hol_spec.specs.Lists.{union, without, distinct, is_in}
 use Rattle.hol_laws.specs.ListLaws.{union-All, All-filter}
 use Rattle.hol_spec.specs.Primitives.{bool, function}
@@ -24,6 +25,7 @@ use Rattle.hol_spec.specs.Repeats.{no_repeats}
 use Rattle.hol_spec.specs.TypeDefinitions.{IsTypeDefinition, abstracted, represented}
 use Rattle.hol_spec.specs.TypeDefinitions as type_definition
 use Rattle.hol_laws.specs.Members.{All-mapped, All-weaker}
+use Rattle.hol_laws.specs.TypeLaws.{count-variables}
 use Rattle.hol_spec.specs.Symbols.{Symbol}
 use Rattle.hol_spec.specs.Rules.{Parameters, Rule, IsDefining}
 use Rattle.hol_spec.specs.Rules as rule
@@ -41,10 +43,6 @@ lookup-All P (x ∷ es) v t h e = go (variable_eq v x.0) (variable_eq-Decides v 
     go true f e later = let p : x.0 ≡ v = sym (f refl) in let q : x.1 ≡ t = cc in subst P (λ i. (p i, q i)) h.0
     go false f e later = later e
 
-pub both : (a b : Bool) → (a && b) ≡ true → (a ≡ true) × (b ≡ true)
-both true b e = (refl, e)
-both false b e = absurd (cc)
-
 -- the parts of what is judged of a definition list
 pub record ListParts (pairs : ConstantPairs) (one : Sequent) : Type 0 where
   pub names : no_repeats name_eq (names_of pairs) ≡ true
@@ -55,10 +53,10 @@ pub record ListParts (pairs : ConstantPairs) (one : Sequent) : Type 0 where
 
 pub list_parts : (pairs : ConstantPairs) (one : Sequent) → is_definition_list pairs one ≡ true → ListParts pairs one
 list_parts pairs one e =
-    let a = both _ _ e in
-    let b = both _ _ a.0 in
-    let c = both _ _ b.0 in
-    let d = both _ _ c.0 in
+    let a = and_parts _ _ e in
+    let b = and_parts _ _ a.0 in
+    let c = and_parts _ _ b.0 in
+    let d = and_parts _ _ c.0 in
     record { names = d.0; variables = d.1; as_many = c.1; defined = b.1; no_others = a.1 }
 
 module _ (symbols : List Symbol) where
@@ -83,10 +81,6 @@ module _ (symbols : List Symbol) where
       go (Some t) f e h rest = ((h.0 p.1.1 (f t refl), k.0), rest e h.1)
 
   -- the new type of a type definition
-  count-variables : (ns : List Name) → count (types_of (map type.HolType.variable ns)) ≡ length ns
-  count-variables [] = refl
-  count-variables (n ∷ ns) = ap (λ k. k + 1) (count-variables ns) ∙ grind arith
-
   variables-taken : (ns : List Name) → TypesTaken symbols (types_of (map type.HolType.variable ns))
   variables-taken [] = tt
   variables-taken (n ∷ ns) = (tt {0}, variables-taken ns)

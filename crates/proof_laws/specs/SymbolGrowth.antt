@@ -1,21 +1,23 @@
 -- What is taken stays taken when symbols are added, and a symbol that is newly taken is taken at its generic type or arity.
-use Rattle.std.proofs.Common.{◌≡◌, ℕ, List, [], ◌∷◌, ◌++◌, length, Bool, true, false, cond, ◌||◌, Option, None, Some, refl, sym, ap, ◌∙◌}
+use Rattle.std.proofs.Common.{◌≡◌, ℕ, List, [], ◌∷◌, ◌++◌, length, Bool, true, false, cond, Option, None, Some, refl, sym, ap, ◌∙◌}
 use Rattle.std.specs.Prelude.{is_some}
 use Rattle.std.specs.Bool.{Decides}
 use Rattle.std.specs.Option.{option_or}
 use Rattle.std.specs.List.{list_any}
 use Rattle.std.proofs.lemmas.List.Folds.{list_any-append}
+use Rattle.std.proofs.lemmas.Bool.{or_right, or_left, or_parts}
 use Rattle.hol_spec.specs.Names.{Name}
 use Rattle.hol_spec.specs.NameEquality.{name_eq}
-use Rattle.hol_laws.specs.NameEqualityLaws.{name_eq-Decides}
+use Rattle.hol_laws.specs.NameEqualityLaws.{name_eq-Decides, name_eq-refl}
 use Rattle.hol_spec.specs.Types.{HolType, HolTypes, none, more, count}
 use Rattle.hol_spec.specs.Primitives.{primitive_type, primitive_arity}
-use Rattle.hol_spec.specs.Substitution.{substitute, substitute_all, Instance}
+use Rattle.hol_spec.specs.Substitution.{Instance}
 use Rattle.hol_spec.specs.Terms.{Term, free, bound, app, lam, type_of}
 use Rattle.hol_spec.specs.Sequents.{Sequent}
 use Rattle.hol_spec.specs.Definitions.{Definition, TypeNames}
 use Rattle.hol_spec.specs.NewTypes.{abstraction_type, representation_type}
 use Rattle.hol_laws.specs.Members.{All-weaker}
+use Rattle.hol_laws.specs.TermInstances.{substitute-nothing}
 use Rattle.hol_spec.specs.Symbols.{Symbol, defined, generic_type, operator_arity, defined_type, defined_arity, first_defined_type, first_defined_arity, is_input_constant, is_input_operator, is_input_operator_named, is_taken_constant, is_taken_operator}
 use Rattle.hol_spec.specs.Taken.{OperatorTaken, ConstantTaken, TypeTaken, TypesTaken, TermTaken, TermsTaken, DefinitionTaken}
 use Rattle.hol_spec.specs.Taken as taken
@@ -61,23 +63,11 @@ generic_type-new xs ys n e = ap (option_or (primitive_type n)) (first_defined_ty
 pub operator_arity-new : (xs ys : List Symbol) (n : Name) → is_some (operator_arity xs n) ≡ false → operator_arity (xs ++ ys) n ≡ first_defined_arity n ys
 operator_arity-new xs ys n e = ap (option_or (primitive_arity n)) (first_defined_arity-append n xs ys) ∙ or-new (primitive_arity n) (first_defined_arity n xs) (first_defined_arity n ys) e
 
-pub or-first : (a b : Bool) → a ≡ true → (a || b) ≡ true
-or-first true b e = refl
-or-first false b e = absurd (cc)
-
-pub or-second : (a b : Bool) → b ≡ true → (a || b) ≡ true
-or-second true b e = refl
-or-second false b e = e
-
-pub or-neither : (a b : Bool) → (a || b) ≡ false → (a ≡ false) × (b ≡ false)
-or-neither true b e = absurd (cc)
-or-neither false b e = (refl, e)
-
 pub any-left : {A : Type 0} (p : A → Bool) (xs ys : List A) → list_any p xs ≡ true → list_any p (xs ++ ys) ≡ true
-any-left p xs ys e = list_any-append p xs ys ∙ or-first (list_any p xs) (list_any p ys) e
+any-left p xs ys e = list_any-append p xs ys ∙ or_left (list_any p xs) (list_any p ys) e
 
 pub any-right : {A : Type 0} (p : A → Bool) (xs ys : List A) → list_any p ys ≡ true → list_any p (xs ++ ys) ≡ true
-any-right p xs ys e = list_any-append p xs ys ∙ or-second (list_any p xs) (list_any p ys) e
+any-right p xs ys e = list_any-append p xs ys ∙ or_right (list_any p xs) (list_any p ys) e
 
 module _ (xs ys : List Symbol) where
   pub operator-more : (n : Name) (k : ℕ) → OperatorTaken xs n k → OperatorTaken (xs ++ ys) n k
@@ -113,20 +103,8 @@ module _ (xs ys : List Symbol) where
       (operator-more names.operator (length names.variables) h.0, constant-more names.abstraction (abstraction_type names c) h.1, constant-more names.representation (representation_type names c) h.2)
 
 -- a type is an instance of itself
-mutual
-  substitute-nothing : (t : HolType) → substitute [] t ≡ t
-  substitute-nothing (HolType.variable n) = refl
-  substitute-nothing (HolType.operator n ts) = ap (HolType.operator n) (substitute_all-nothing ts)
-
-  substitute_all-nothing : (ts : HolTypes) → substitute_all [] ts ≡ ts
-  substitute_all-nothing none = refl
-  substitute_all-nothing (more t ts) = λ i. more (substitute-nothing t i) (substitute_all-nothing ts i)
-
 pub Instance-own : (t : HolType) → Instance t t
 Instance-own t = ([], substitute-nothing t)
-
-pub itself : (n : Name) → name_eq n n ≡ true
-itself n = (name_eq-Decides n n).1 refl
 
 or-nothing : {A : Type 0} (o : Option A) → option_or o None ≡ o
 or-nothing None = refl
@@ -135,20 +113,20 @@ or-nothing (Some x) = refl
 -- a definition of a new name is taken
 pub new-constant-taken : (xs : List Symbol) (n : Name) (t : Term) → is_taken_constant xs n ≡ false → DefinitionTaken (xs ++ defined (Definition.constant n t) ∷ []) (Definition.constant n t)
 new-constant-taken xs n t new a h =
-    let unknown = (or-neither (is_some (generic_type xs n)) (list_any (is_input_constant n) xs) new).0 in
+    let unknown = (or_parts (is_some (generic_type xs n)) (list_any (is_input_constant n) xs) new).0 in
     let d = defined (Definition.constant n t) in
     taken.ConstantTaken.instance a
-    (generic_type-new xs (d ∷ []) n unknown ∙ or-nothing (defined_type n d) ∙ ap (λ b. cond b (type_of t) None) (itself n) ∙ h) (Instance-own a)
+    (generic_type-new xs (d ∷ []) n unknown ∙ or-nothing (defined_type n d) ∙ ap (λ b. cond b (type_of t) None) (name_eq-refl n) ∙ h) (Instance-own a)
 
 pub new-operator-taken : (xs : List Symbol) (names : TypeNames) (c : HolType) (f : Term) → is_taken_operator xs names.operator ≡ false → is_taken_constant xs names.abstraction ≡ false → is_taken_constant xs names.representation ≡ false
     → name_eq names.abstraction names.representation ≡ false → DefinitionTaken (xs ++ defined (Definition.type_operator names c f) ∷ []) (Definition.type_operator names c f)
 new-operator-taken xs names c f new_operator new_abstraction new_representation apart =
     let d = defined (Definition.type_operator names c f) in
-    let operator = (or-neither (is_some (operator_arity xs names.operator)) (list_any (is_input_operator_named names.operator) xs) new_operator).0 in
-    let abstraction = (or-neither (is_some (generic_type xs names.abstraction)) (list_any (is_input_constant names.abstraction) xs) new_abstraction).0 in
-    let representation = (or-neither (is_some (generic_type xs names.representation)) (list_any (is_input_constant names.representation) xs) new_representation).0 in
+    let operator = (or_parts (is_some (operator_arity xs names.operator)) (list_any (is_input_operator_named names.operator) xs) new_operator).0 in
+    let abstraction = (or_parts (is_some (generic_type xs names.abstraction)) (list_any (is_input_constant names.abstraction) xs) new_abstraction).0 in
+    let representation = (or_parts (is_some (generic_type xs names.representation)) (list_any (is_input_constant names.representation) xs) new_representation).0 in
     let others : name_eq names.representation names.abstraction ≡ false = symmetric name_eq name_eq-Decides names.abstraction names.representation apart in (
-      taken.OperatorTaken.of_arity (operator_arity-new xs (d ∷ []) names.operator operator ∙ or-nothing (defined_arity names.operator d) ∙ (rw (itself names.operator) refl)),
-      taken.ConstantTaken.instance (abstraction_type names c) (generic_type-new xs (d ∷ []) names.abstraction abstraction ∙ or-nothing (defined_type names.abstraction d) ∙ (rw (itself names.abstraction) refl)) (Instance-own (abstraction_type names c)),
-      taken.ConstantTaken.instance (representation_type names c) (generic_type-new xs (d ∷ []) names.representation representation ∙ or-nothing (defined_type names.representation d) ∙ (rw (others, itself names.representation) refl)) (Instance-own (representation_type names c)),
+      taken.OperatorTaken.of_arity (operator_arity-new xs (d ∷ []) names.operator operator ∙ or-nothing (defined_arity names.operator d) ∙ (rw (name_eq-refl names.operator) refl)),
+      taken.ConstantTaken.instance (abstraction_type names c) (generic_type-new xs (d ∷ []) names.abstraction abstraction ∙ or-nothing (defined_type names.abstraction d) ∙ (rw (name_eq-refl names.abstraction) refl)) (Instance-own (abstraction_type names c)),
+      taken.ConstantTaken.instance (representation_type names c) (generic_type-new xs (d ∷ []) names.representation representation ∙ or-nothing (defined_type names.representation d) ∙ (rw (others, name_eq-refl names.representation) refl)) (Instance-own (representation_type names c)),
     )

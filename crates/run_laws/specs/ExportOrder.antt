@@ -1,13 +1,11 @@
 -- The declarations of a run's module that are named as exports are its exports, in order.
-use Rattle.std.proofs.Common.{◌≡◌, ℕ, zero, suc, ◌+◌, ◌<◌, ◌≤◌, ◌⊎◌, inl, inr, List, [], ◌∷◌, ◌++◌, map, length, Bool, true, false, ◌&&◌, ◌||◌, cond, Option, Some, None, slice_get, refl, sym, ap, subst, ◌∙◌, append_assoc, arith}
+use Rattle.std.proofs.Common.{◌≡◌, ℕ, zero, suc, ◌<◌, ◌≤◌, ◌⊎◌, inl, inr, List, [], ◌∷◌, ◌++◌, map, length, Bool, true, false, ◌&&◌, ◌||◌, cond, Some, None, slice_get, refl, sym, ap, subst, ◌∙◌, append_assoc, arith}
 use Rattle.std.specs.Prelude.{nat_eq, slice_index_or, codes}
-use Rattle.std.specs.Bool.{Decides}
 use Rattle.std.specs.Cmp.{unsigned_Decides}
-use Rattle.std.specs.Option.{option_map}
-use Rattle.std.specs.List.{AllByRecursion, filter, position_or_len, cons_option}
-use Rattle.std.proofs.lemmas.List.{append-nil, length-append, length-map}
-use Rattle.std.proofs.lemmas.List.Elements.{filter_map-append}
+use Rattle.std.specs.List.{AllByRecursion, filter, position_or_len}
+use Rattle.std.proofs.lemmas.List.{append-nil, length-append}
 use Rattle.std.proofs.lemmas.Option.{slice_get_within, same_Some}
+use Rattle.std.proofs.lemmas.Bool.{ne_eqb}
 use Rattle.article_spec.specs.Ascending.{Ascend}
 use Rattle.article_spec.specs.SoundRuns.{IsSoundRun}
 use Rattle.hol_spec.specs.Names.{Name}
@@ -20,26 +18,29 @@ use Rattle.hol_spec.specs.declared.StepKind.{StepKind}
 use Rattle.hol_spec.specs.Proofs.{Step, symbols_of, steps_of, sequent_at, Accepted}
 use Rattle.hol_spec.specs.Lists.{IsIn}
 use Rattle.hol_laws.specs.Members.{IsIn-right, All-append, All-weaker}
+use Rattle.hol_laws.specs.PositionLaws.{position-cons}
 use Rattle.lp_spec.specs.declared.form.Form.TheVariants.{Thm}
 use Rattle.lp_spec.specs.Modules.{Declaration}
 use Rattle.module_laws.specs.BodyTyping.{IsIn-map}
 use Rattle.module_laws.specs.WantedItems.{AreMadeInOrder, keep-wanted}
-use Rattle.module_laws.specs.AcceptedItems.{made-joined}
+use Rattle.module_laws.specs.AcceptedItems.{made-said}
 use Rattle.module_spec.specs.Scopes.{Symbols}
 use Rattle.module_spec.specs.Rows.{has_row}
 use Rattle.module_spec.specs.Items.{Content, operator, constant, defined_constant, unproved, step, Item, says, declaration, declaration_of}
 use Rattle.module_spec.specs.Items as item
-use Rattle.module_spec.specs.MadeItems.{said_of, said_by, content_by, premise_at, items_of, roots_of}
+use Rattle.module_spec.specs.MadeItems.{said_by, content_by, premise_at, items_of, roots_of}
 use Rattle.module_spec.specs.Reach.{Key, number_key, gives, kept, renumbered, renumbered_content, keep_of, symbol_of, image_items}
 use Rattle.module_spec.specs.Enc.{Enc}
 use Rattle.module_spec.specs.Image.{is_one_of, name_in, image}
 use Rattle.module_spec.specs.Numerals.{numeral, is_numeral}
 use Rattle.module_spec.specs.Stands.{is_export_name, AreExports}
 use Rattle.module_laws.specs.ExportNames.{export-named}
-use Rattle.run_laws.specs.ExportsKept.{numbered-from, gives-number}
+use Rattle.module_laws.specs.SaidItems.{says-gives_of, silent-length, telling-length, premise_at-said}
+use Rattle.run_laws.specs.ExportsKept.{numbered-from}
 use Rattle.run_laws.specs.Named.{IsStepName, self-one}
 use Rattle.run_laws.specs.NewNames.{constant_named, IsSymbolName}
-use Rattle.run_laws.specs.RunModules.{content-says, IsItemName, HaveNames, declaration-name}
+use Rattle.run_laws.specs.RunModules.{content-says, IsItemName, HaveNames, declared-name}
+use Rattle.article_laws.specs.SoundSteps.{Ascend-bounds}
 
 -- only `E` begins the name of an export
 no_front : (b : ℕ) (ds : List ℕ) → nat_eq b 69 ≡ false → is_export_name (b ∷ ds) ≡ false
@@ -73,17 +74,10 @@ data Head (i high : ℕ) (is : List ℕ) : Type 0 where
   here : (rest : List ℕ) → is ≡ i ∷ rest → Ascend (suc i) high rest → Head i high is
   later : is_one_of i is ≡ false → Ascend (suc i) high is → Head i high is
 
-other-number : (i j : ℕ) → (i ≡ j → ⊥) → nat_eq i j ≡ false
-other-number i j h = go (nat_eq i j) (unsigned_Decides i j)
-  where
-    go : (b : Bool) → Decides b (i ≡ j) → b ≡ false
-    go true d = absurd (h (d.0 refl))
-    go false d = refl
-
 below-none : (i low high : ℕ) (is : List ℕ) → i < low → Ascend low high is → is_one_of i is ≡ false
 below-none i low high [] l h = refl
 below-none i low high (j ∷ is) l h =
-    ap (λ b. b || is_one_of i is) (other-number i j (λ e. let m = h.0 in omega (arith, l, m, e))) ∙ (let m = h.0 in below-none i (suc j) high is (omega (arith, l, m)) h.1)
+    ap (λ b. b || is_one_of i is) (ne_eqb i j (λ e. let m = h.0 in omega (arith, l, m, e))) ∙ (let m = h.0 in below-none i (suc j) high is (omega (arith, l, m)) h.1)
 
 is_or_less : (i r : ℕ) → i ≤ r → (i ≡ r) ⊎ (i < r)
 is_or_less i r h = grind arith
@@ -97,34 +91,22 @@ head i high (r ∷ is) l h = elim (is_or_less i r h.0) [
 
 passed-none : (i : ℕ) (done : List ℕ) → AllByRecursion (λ j. j < i) done → (rest : List ℕ) → is_one_of i (done ++ rest) ≡ is_one_of i rest
 passed-none i [] h rest = refl
-passed-none i (j ∷ done) h rest = ap (λ b. b || is_one_of i (done ++ rest)) (other-number i j (λ e. let m = h.0 in omega (arith, m, e))) ∙ passed-none i done h.1 rest
-
-place-cons : (i j : ℕ) (is : List ℕ) (b : Bool) → nat_eq i j ≡ b → position_or_len (nat_eq i) (j ∷ is) ≡ cond b 0 (suc (position_or_len (nat_eq i) is))
-place-cons i j is true e = rw e refl
-place-cons i j is false e = rw e (omega arith)
+passed-none i (j ∷ done) h rest = ap (λ b. b || is_one_of i (done ++ rest)) (ne_eqb i j (λ e. let m = h.0 in omega (arith, m, e))) ∙ passed-none i done h.1 rest
 
 passed-place : (i : ℕ) (done rest : List ℕ) → AllByRecursion (λ j. j < i) done → position_or_len (nat_eq i) (done ++ i ∷ rest) ≡ length done
-passed-place i [] rest h = place-cons i i rest true ((unsigned_Decides i i).1 refl)
+passed-place i [] rest h = position-cons (nat_eq i) i rest true ((unsigned_Decides i i).1 refl)
 passed-place i (j ∷ done) rest h =
-    place-cons i j (done ++ i ∷ rest) false (other-number i j (λ e. let m = h.0 in omega (arith, m, e))) ∙ ap suc (passed-place i done rest h.1)
-
-lowest : (low n : ℕ) (is : List ℕ) → Ascend low n is → low ≤ n
-lowest low n [] h = h
-lowest low n (i ∷ is) h = let rest = lowest (suc i) n is h.1 in let m = h.0 in omega (arith, m, rest)
+    position-cons (nat_eq i) j (done ++ i ∷ rest) false (ne_eqb i j (λ e. let m = h.0 in omega (arith, m, e))) ∙ ap suc (passed-place i done rest h.1)
 
 no_more : (i high : ℕ) (is : List ℕ) → high ≤ i → Ascend i high is → is ≡ []
 no_more i high [] e h = refl
-no_more i high (r ∷ is) e h = let l = lowest (suc r) high is h.1 in let m = h.0 in absurd (omega (arith, l, m, e))
+no_more i high (r ∷ is) e h = let l = Ascend-bounds (suc r) high is h.1 in let m = h.0 in absurd (omega (arith, l, m, e))
 
 -- the sequent of a step
 pub sequent-step : (steps : List Step) (i : ℕ) (x : Step) (d : Sequent) → slice_get steps i ≡ Some x → slice_index_or (map (λ (y : Step). y.sequent) steps) i d ≡ x.sequent
 sequent-step [] i x d e = absurd (cc)
 sequent-step (y ∷ steps) zero x d e = ap (λ (y : Step). y.sequent) (same_Some _ _ e)
 sequent-step (y ∷ steps) (suc i) x d e = sequent-step steps i x d e
-
-pub seam : {A : Type 0} (xs ys : List A) (y d : A) → slice_index_or (xs ++ y ∷ ys) (length xs) d ≡ y
-seam [] ys y d = refl
-seam (x ∷ xs) ys y d = seam xs ys y d
 
 -- what every export is a step with a proof means
 abbrev pub HaveRows : Accepted → Type 0
@@ -153,45 +135,17 @@ module _ (run : Accepted) (sound : IsSoundRun run) (rows : HaveRows run) where
   abbrev exports_among : List Item → List Declaration
   exports_among zs = filter (λ (d : Declaration). is_export_name d.name) (map (declaration symbols) (map (renumbered number) (kept keep zs)))
 
-  declared-name : (z : Item) → (declared z).name ≡ z.name
-  declared-name z = declaration-name symbols z.name (renumbered_content number z.content)
-
   unexported : (z : Item) (zs : List Item) → is_export_name z.name ≡ false → exports_among (z ∷ zs) ≡ exports_among zs
   unexported z zs e = go (keep z.symbol)
     where
       go : (b : Bool) → filter (λ (d : Declaration). is_export_name d.name) (map (declaration symbols) (map (renumbered number) (cond b (z ∷ kept keep zs) (kept keep zs)))) ≡ exports_among zs
-      go true = ap (λ b. cond b (declared z ∷ exports_among zs) (exports_among zs)) (ap is_export_name (declared-name z) ∙ e)
+      go true = ap (λ b. cond b (declared z ∷ exports_among zs) (exports_among zs)) (ap is_export_name (declared-name symbols number z) ∙ e)
       go false = refl
 
   exported : (z : Item) (zs : List Item) → is_export_name z.name ≡ true → keep z.symbol ≡ true → exports_among (z ∷ zs) ≡ declared z ∷ exports_among zs
   exported z zs e k =
       ap (λ b. filter (λ (d : Declaration). is_export_name d.name) (map (declaration symbols) (map (renumbered number) (cond b (z ∷ kept keep zs) (kept keep zs))))) k
-      ∙ ap (λ b. cond b (declared z ∷ exports_among zs) (exports_among zs)) (ap is_export_name (declared-name z) ∙ e)
-
-  length-said : (ps new : List Item) → length (said_by (ps ++ new)) ≡ length (said_by ps) + length (said_by new)
-  length-said ps new = ap length (filter_map-append said_of ps new) ∙ length-append (said_by ps) (said_by new)
-
-  said-length : (z : Item) (o : Option Sequent) → says z.content ≡ o → said_by (z ∷ []) ≡ cons_option (option_map (λ (t : Sequent). (z.symbol, t)) o) []
-  said-length z o e = ap (λ o. cons_option {X = ℕ × Sequent} (option_map (λ (t : Sequent). (z.symbol, t)) o) []) e
-
-  silent-length : (before : List Item) (z : Item) → says z.content ≡ None → length (said_by before) ≡ length (said_by (before ++ z ∷ []))
-  silent-length before z e = let n = length-said before (z ∷ []) in let m = ap length (said-length z None e) in omega (arith, n, m)
-
-  telling-length : (before : List Item) (z : Item) (s : Sequent) → says z.content ≡ Some s → suc (length (said_by before)) ≡ length (said_by (before ++ z ∷ []))
-  telling-length before z s e = let n = length-said before (z ∷ []) in let m = ap length (said-length z (Some s) e) in omega (arith, n, m)
-
-  all-said : length (said_by items) ≡ length (steps_of run.made)
-  all-said =
-      let j = made-joined (name_in run) run.made sound.proof sound.over in
-      sym (length-map (said_by items) (λ (p : ℕ × Sequent). p.1)) ∙ ap length j.said ∙ length-map (steps_of run.made) (λ (x : Step). x.sequent)
-
-  -- what is said in a place has its item's number
-  at-item : (before zs : List Item) (z : Item) (s : Sequent) → items ≡ before ++ z ∷ zs → says z.content ≡ Some s → premise_at items (length (said_by before)) ≡ (z.symbol, s)
-  at-item before zs z s whole e =
-      let none : ℕ × Sequent = (0, record { hypotheses = []; conclusion = bound 0 }) in
-      ap (λ l. slice_index_or l (length (said_by before)) none)
-      (ap said_by whole ∙ filter_map-append said_of before (z ∷ zs) ∙ ap (λ l. said_by before ++ l) (ap (λ o. cons_option {X = ℕ × Sequent} (option_map (λ (t : Sequent). (z.symbol, t)) o) (said_by zs)) e))
-      ∙ seam (said_by before) (said_by zs) (z.symbol, s) none
+      ∙ ap (λ b. cond b (declared z ∷ exports_among zs) (exports_among zs)) (ap is_export_name (declared-name symbols number z) ∙ e)
 
   one_of-IsIn : (i : ℕ) (is : List ℕ) → is_one_of i is ≡ true → IsIn is i
   one_of-IsIn i [] e = absurd (cc)
@@ -206,7 +160,7 @@ module _ (run : Accepted) (sound : IsSoundRun run) (rows : HaveRows run) where
       → keep z.symbol ≡ true
   export-kept order before zs z s whole e one =
       let i = length (said_by before) in
-      let key : gives z ≡ number_key (premise_at items i).0 = gives-number z.symbol z.content s e ∙ ap (λ (p : ℕ × Sequent). number_key p.0) (sym (at-item before zs z s whole e)) in
+      let key : gives z ≡ number_key (premise_at items i).0 = says-gives_of z.symbol z.content s e ∙ ap (λ (p : ℕ × Sequent). number_key p.0) (sym (premise_at-said items before zs z s whole e)) in
       let root : IsIn roots (gives z) = subst (IsIn roots) (sym key) (IsIn-map (λ k. number_key (premise_at items k).0) run.exports i (one_of-IsIn i run.exports one)) in
       let there : IsIn items z = subst (λ l. IsIn l z) (sym whole) (IsIn-right before (z ∷ zs) z (inl refl)) in
       subst (λ l. keep_of roots l z.symbol ≡ true) (append-nil items) (keep-wanted roots 0 items [] z (numbered-from [] items order) there root)
@@ -226,7 +180,7 @@ module _ (run : Accepted) (sound : IsSoundRun run) (rows : HaveRows run) where
         → Ascend (length (said_by before)) (length (steps_of run.made)) rest → HaveNames run before zs → AreExports (image run) run (length done) rest (exports_among zs)
     exports-left before [] done rest whole split low up names =
         let n = ap (λ l. length (said_by l)) (whole ∙ append-nil before) in
-        let none : rest ≡ [] = no_more (length (said_by before)) (length (steps_of run.made)) rest (omega (arith, n, all-said)) up in
+        let none : rest ≡ [] = no_more (length (said_by before)) (length (steps_of run.made)) rest (omega (arith, n, made-said (name_in run) run.made sound.proof sound.over)) up in
         subst (λ l. AreExports (image run) run (length done) l []) (sym none) AreExports.none
     exports-left before (z ∷ zs) done rest whole split low up names =
         at names.0 (λ n r s l u. exports-left (before ++ z ∷ []) zs n r (whole ∙ sym (append_assoc before (z ∷ []) zs)) s l u names.1)
@@ -256,7 +210,7 @@ module _ (run : Accepted) (sound : IsSoundRun run) (rows : HaveRows run) where
                   let said : sequent_at run.made n ≡ x.sequent = sequent-step (steps_of run.made) n x (record { hypotheses = []; conclusion = bound 0 }) (ap (slice_get (steps_of run.made)) (sym p) ∙ got) in
                   subst (λ l. AreExports (image run) run (length done) l (exports_among (z ∷ zs))) (sym is)
                   (subst (AreExports (image run) run (length done) (n ∷ rest2)) (sym (exported z zs (ap is_export_name text ∙ export-named (length done)) stays))
-                  (AreExports.more (declared-name z ∙ text)
+                  (AreExports.more (declared-name symbols number z ∙ text)
                   (ap (λ c. (declaration_of symbols z.name (renumbered_content number c)).form) told.is ∙ form-step z.name (has_row x.kind) row told.kind told.premises told.sequents told.parameters x.sequent)
                   (subst (λ s. Enc (image run) (closed_form s) (declared z).ty) (sym said) (stand z there stays x.sequent (content-says x z.content told)))
                   (subst (λ k. AreExports (image run) run k rest2 (exports_among zs)) size tail)))

@@ -44,6 +44,7 @@ use Rattle.std.specs.Cmp.{unsigned_Decides}
 use Rattle.std.proofs.lemmas.Option.{same_Some}
 use Rattle.lp_binding.specs.LookUps.{slice_get-append}
 use Rattle.hol_laws.specs.Members.{All-weaker, All-append}
+use Rattle.hol_laws.specs.PlaceLaws.{slice_get-last}
 use Rattle.proof_laws.specs.ProofGrowth.{steps_of-append}
 use Rattle.module_spec.specs.Rows.{has_row}
 use Rattle.module_spec.specs.Image.{is_one_of}
@@ -63,78 +64,78 @@ bind : {A : Type 0} (s : State) (o : Result A Kind) (f : A → Result State Kind
 bind s (Ok a) f h t e = h a t e
 bind s (Err k) f h t e = absurd (cc)
 
-next : {A : Type 0} (s : State) (o : Result A Kind) (r : Result State Kind) → Keeps s r → Keeps s (o >> r)
-next s (Ok a) r h t e = h t e
-next s (Err k) r h t e = absurd (cc)
+Keeps-bind : {A : Type 0} (s : State) (o : Result A Kind) (r : Result State Kind) → Keeps s r → Keeps s (o >> r)
+Keeps-bind s (Ok a) r h t e = h t e
+Keeps-bind s (Err k) r h t e = absurd (cc)
 
 answer : (s u : State) → Extends s u → Keeps s (Ok u)
 answer s u h t e = let f : u ≡ t = cc in subst (Extends s) f h
 
-same : (s u : State) → u.exports ≡ s.exports → u.made ≡ s.made → Keeps s (Ok u)
-same s u e f = answer s u (record { exports = e; more = []; made = f ∙ sym (append-nil s.made) })
+Keeps-same : (s u : State) → u.exports ≡ s.exports → u.made ≡ s.made → Keeps s (Ok u)
+Keeps-same s u e f = answer s u (record { exports = e; more = []; made = f ∙ sym (append-nil s.made) })
 
 concluded : (s u : State) (x : Step) → u.exports ≡ s.exports → (grown : List Made) → u.made ≡ s.made ++ grown → Keeps s (conclude u x)
-concluded s u x e grown f = next s (sequent_in_limits x.sequent) _ (answer s _ (record { exports = e; more = grown ++ Made.step x ∷ []; made = ap (λ l. l ++ Made.step x ∷ []) f ∙ append_assoc s.made grown (Made.step x ∷ []) }))
+concluded s u x e grown f = Keeps-bind s (sequent_in_limits x.sequent) _ (answer s _ (record { exports = e; more = grown ++ Made.step x ∷ []; made = ap (λ l. l ++ Made.step x ∷ []) f ∙ append_assoc s.made grown (Made.step x ∷ []) }))
 
 nil-keeps : (s : State) → Keeps s (nil s)
-nil-keeps s = same s _ refl refl
+nil-keeps s = Keeps-same s _ refl refl
 
 cons-keeps : (s : State) → Keeps s (cons s)
-cons-keeps s = bind s (pop as_list s.stack) _ (λ p1. let tail = p1.0 in let below = p1.1 in bind s (pop any_object below) _ (λ p2. let head = p2.0 in let rest = p2.1 in same s _ refl refl))
+cons-keeps s = bind s (pop as_list s.stack) _ (λ p1. let tail = p1.0 in let below = p1.1 in bind s (pop any_object below) _ (λ p2. let head = p2.0 in let rest = p2.1 in Keeps-same s _ refl refl))
 
 hd_tl-keeps : (s : State) → Keeps s (hd_tl s)
-hd_tl-keeps s = bind s (pop as_list s.stack) _ (λ p1. let xs = p1.0 in let rest = p1.1 in bind s (head_and_tail xs) _ (λ p2. let head = p2.0 in let tail = p2.1 in same s _ refl refl))
+hd_tl-keeps s = bind s (pop as_list s.stack) _ (λ p1. let xs = p1.0 in let rest = p1.1 in bind s (head_and_tail xs) _ (λ p2. let head = p2.0 in let tail = p2.1 in Keeps-same s _ refl refl))
 
 type_op-keeps : (s : State) → Keeps s (type_op s)
-type_op-keeps s = bind s (pop as_name s.stack) _ (λ p1. let n = p1.0 in let rest = p1.1 in same s _ refl refl)
+type_op-keeps s = bind s (pop as_name s.stack) _ (λ p1. let n = p1.0 in let rest = p1.1 in Keeps-same s _ refl refl)
 
 var_type-keeps : (s : State) → Keeps s (var_type s)
-var_type-keeps s = bind s (pop as_name s.stack) _ (λ p1. let n = p1.0 in let rest = p1.1 in same s _ refl refl)
+var_type-keeps s = bind s (pop as_name s.stack) _ (λ p1. let n = p1.0 in let rest = p1.1 in Keeps-same s _ refl refl)
 
 op_type-keeps : (s : State) → Keeps s (op_type s)
-op_type-keeps s = bind s (pop as_types s.stack) _ (λ p1. let arguments = p1.0 in let below = p1.1 in bind s (pop as_type_operator below) _ (λ p2. let n = p2.0 in let rest = p2.1 in next s (arity_fits (operator_arity (symbols_of s.made) n) (length arguments)) _ (next s (type_in_limits (HolType.operator n (types_of arguments))) _ (answer s _ (record { exports = refl; more = map Made.symbol (new_operator (symbols_of s.made) n (length arguments)); made = refl })))))
+op_type-keeps s = bind s (pop as_types s.stack) _ (λ p1. let arguments = p1.0 in let below = p1.1 in bind s (pop as_type_operator below) _ (λ p2. let n = p2.0 in let rest = p2.1 in Keeps-bind s (arity_fits (operator_arity (symbols_of s.made) n) (length arguments)) _ (Keeps-bind s (type_in_limits (HolType.operator n (types_of arguments))) _ (answer s _ (record { exports = refl; more = map Made.symbol (new_operator (symbols_of s.made) n (length arguments)); made = refl })))))
 
 const-keeps : (s : State) → Keeps s (const s)
-const-keeps s = bind s (pop as_name s.stack) _ (λ p1. let n = p1.0 in let rest = p1.1 in same s _ refl refl)
+const-keeps s = bind s (pop as_name s.stack) _ (λ p1. let n = p1.0 in let rest = p1.1 in Keeps-same s _ refl refl)
 
 const_term-keeps : (s : State) → Keeps s (const_term s)
-const_term-keeps s = bind s (pop as_type s.stack) _ (λ p1. let a = p1.0 in let below = p1.1 in bind s (pop as_constant below) _ (λ p2. let n = p2.0 in let rest = p2.1 in next s (generic_fits (generic_type (symbols_of s.made) n) a) _ (next s (term_in_limits (Term.constant n a)) _ (answer s _ (record { exports = refl; more = map Made.symbol (new_constant (symbols_of s.made) n); made = refl })))))
+const_term-keeps s = bind s (pop as_type s.stack) _ (λ p1. let a = p1.0 in let below = p1.1 in bind s (pop as_constant below) _ (λ p2. let n = p2.0 in let rest = p2.1 in Keeps-bind s (generic_fits (generic_type (symbols_of s.made) n) a) _ (Keeps-bind s (term_in_limits (Term.constant n a)) _ (answer s _ (record { exports = refl; more = map Made.symbol (new_constant (symbols_of s.made) n); made = refl })))))
 
 var-keeps : (s : State) → Keeps s (var s)
-var-keeps s = bind s (pop as_type s.stack) _ (λ p1. let a = p1.0 in let below = p1.1 in bind s (pop as_name below) _ (λ p2. let n = p2.0 in let rest = p2.1 in same s _ refl refl))
+var-keeps s = bind s (pop as_type s.stack) _ (λ p1. let a = p1.0 in let below = p1.1 in bind s (pop as_name below) _ (λ p2. let n = p2.0 in let rest = p2.1 in Keeps-same s _ refl refl))
 
 var_term-keeps : (s : State) → Keeps s (var_term s)
-var_term-keeps s = bind s (pop as_variable s.stack) _ (λ p1. let v = p1.0 in let rest = p1.1 in next s (term_in_limits (Term.free v.0 v.1)) _ (same s _ refl refl))
+var_term-keeps s = bind s (pop as_variable s.stack) _ (λ p1. let v = p1.0 in let rest = p1.1 in Keeps-bind s (term_in_limits (Term.free v.0 v.1)) _ (Keeps-same s _ refl refl))
 
 app_term-keeps : (s : State) → Keeps s (app_term s)
-app_term-keeps s = bind s (pop as_term s.stack) _ (λ p1. let x = p1.0 in let below = p1.1 in bind s (pop as_term below) _ (λ p2. let f = p2.0 in let rest = p2.1 in next s (demand (is_some (type_of (Term.app f x))) TypeMismatch) _ (next s (term_in_limits (Term.app f x)) _ (same s _ refl refl))))
+app_term-keeps s = bind s (pop as_term s.stack) _ (λ p1. let x = p1.0 in let below = p1.1 in bind s (pop as_term below) _ (λ p2. let f = p2.0 in let rest = p2.1 in Keeps-bind s (demand (is_some (type_of (Term.app f x))) TypeMismatch) _ (Keeps-bind s (term_in_limits (Term.app f x)) _ (Keeps-same s _ refl refl))))
 
 abs_term-keeps : (s : State) → Keeps s (abs_term s)
-abs_term-keeps s = bind s (pop as_term s.stack) _ (λ p1. let t = p1.0 in let below = p1.1 in bind s (pop as_variable below) _ (λ p2. let v = p2.0 in let rest = p2.1 in next s (term_in_limits (abstraction v t)) _ (same s _ refl refl)))
+abs_term-keeps s = bind s (pop as_term s.stack) _ (λ p1. let t = p1.0 in let below = p1.1 in bind s (pop as_variable below) _ (λ p2. let v = p2.0 in let rest = p2.1 in Keeps-bind s (term_in_limits (abstraction v t)) _ (Keeps-same s _ refl refl)))
 
 def-keeps : (s : State) → Keeps s (def s)
-def-keeps s = bind s (pop as_number s.stack) _ (λ p1. let k = p1.0 in let below = p1.1 in bind s (pop any_object below) _ (λ p2. let x = p2.0 in let rest = p2.1 in same s _ refl refl))
+def-keeps s = bind s (pop as_number s.stack) _ (λ p1. let k = p1.0 in let below = p1.1 in bind s (pop any_object below) _ (λ p2. let x = p2.0 in let rest = p2.1 in Keeps-same s _ refl refl))
 
 ref-keeps : (s : State) → Keeps s (ref s)
-ref-keeps s = bind s (pop as_number s.stack) _ (λ p1. let k = p1.0 in let rest = p1.1 in bind s (ok_or (entries.get s.dictionary k) NoSuchKey) _ (λ p2. let x = p2 in same s _ refl refl))
+ref-keeps s = bind s (pop as_number s.stack) _ (λ p1. let k = p1.0 in let rest = p1.1 in bind s (ok_or (entries.get s.dictionary k) NoSuchKey) _ (λ p2. let x = p2 in Keeps-same s _ refl refl))
 
 remove-keeps : (s : State) → Keeps s (remove s)
-remove-keeps s = bind s (pop as_number s.stack) _ (λ p1. let k = p1.0 in let rest = p1.1 in bind s (ok_or (entries.get s.dictionary k) NoSuchKey) _ (λ p2. let x = p2 in same s _ refl refl))
+remove-keeps s = bind s (pop as_number s.stack) _ (λ p1. let k = p1.0 in let rest = p1.1 in bind s (ok_or (entries.get s.dictionary k) NoSuchKey) _ (λ p2. let x = p2 in Keeps-same s _ refl refl))
 
 drop_object-keeps : (s : State) → Keeps s (drop_object s)
-drop_object-keeps s = bind s (pop any_object s.stack) _ (λ p1. let x = p1.0 in let rest = p1.1 in same s _ refl refl)
+drop_object-keeps s = bind s (pop any_object s.stack) _ (λ p1. let x = p1.0 in let rest = p1.1 in Keeps-same s _ refl refl)
 
 refl_word-keeps : (s : State) → Keeps s (refl_word s)
 refl_word-keeps s = bind s (pop as_term s.stack) _ (λ p1. let t = p1.0 in let rest = p1.1 in bind s (typed t) _ (λ p2. let a = p2 in concluded s (with_stack s rest) (step_by by_rule.Refl [] (Parameters.term t) (derived [] (equation a t t))) refl [] (sym (append-nil s.made))))
 
 assume-keeps : (s : State) → Keeps s (assume s)
-assume-keeps s = bind s (pop as_term s.stack) _ (λ p1. let p = p1.0 in let rest = p1.1 in next s (demand (is_of_type bool p) NotBool) _ (concluded s (with_stack s rest) (step_by by_rule.Assume [] (Parameters.term p) (derived (p ∷ []) p)) refl [] (sym (append-nil s.made))))
+assume-keeps s = bind s (pop as_term s.stack) _ (λ p1. let p = p1.0 in let rest = p1.1 in Keeps-bind s (demand (is_of_type bool p) NotBool) _ (concluded s (with_stack s rest) (step_by by_rule.Assume [] (Parameters.term p) (derived (p ∷ []) p)) refl [] (sym (append-nil s.made))))
 
 eq_mp-keeps : (s : State) → Keeps s (eq_mp s)
-eq_mp-keeps s = bind s (pop as_theorem s.stack) _ (λ p1. let j = p1.0 in let below = p1.1 in bind s (pop as_theorem below) _ (λ p2. let i = p2.0 in let rest = p2.1 in let one = sequent_at s.made i in let two = sequent_at s.made j in bind s (equation_of one) _ (λ p3. let e = p3 in next s (demand (term_eq two.conclusion e.left) NotAlike) _ (concluded s (with_stack s rest) (step_by by_rule.EqMp (i ∷ j ∷ []) nothing (derived (joined one.hypotheses two.hypotheses) e.right)) refl [] (sym (append-nil s.made))))))
+eq_mp-keeps s = bind s (pop as_theorem s.stack) _ (λ p1. let j = p1.0 in let below = p1.1 in bind s (pop as_theorem below) _ (λ p2. let i = p2.0 in let rest = p2.1 in let one = sequent_at s.made i in let two = sequent_at s.made j in bind s (equation_of one) _ (λ p3. let e = p3 in Keeps-bind s (demand (term_eq two.conclusion e.left) NotAlike) _ (concluded s (with_stack s rest) (step_by by_rule.EqMp (i ∷ j ∷ []) nothing (derived (joined one.hypotheses two.hypotheses) e.right)) refl [] (sym (append-nil s.made))))))
 
 abs_thm-keeps : (s : State) → Keeps s (abs_thm s)
-abs_thm-keeps s = bind s (pop as_theorem s.stack) _ (λ p1. let i = p1.0 in let below = p1.1 in bind s (pop as_variable below) _ (λ p2. let v = p2.0 in let rest = p2.1 in let one = sequent_at s.made i in bind s (equation_of one) _ (λ p3. let e = p3 in next s (demand (not (is_free_in v one.hypotheses)) VarInHyps) _ (concluded s (with_stack s rest) (step_by by_rule.AbsThm (i ∷ []) (variable v) (derived one.hypotheses (equation (function v.1 e.ty) (abstraction v e.left) (abstraction v e.right)))) refl [] (sym (append-nil s.made))))))
+abs_thm-keeps s = bind s (pop as_theorem s.stack) _ (λ p1. let i = p1.0 in let below = p1.1 in bind s (pop as_variable below) _ (λ p2. let v = p2.0 in let rest = p2.1 in let one = sequent_at s.made i in bind s (equation_of one) _ (λ p3. let e = p3 in Keeps-bind s (demand (not (is_free_in v one.hypotheses)) VarInHyps) _ (concluded s (with_stack s rest) (step_by by_rule.AbsThm (i ∷ []) (variable v) (derived one.hypotheses (equation (function v.1 e.ty) (abstraction v e.left) (abstraction v e.right)))) refl [] (sym (append-nil s.made))))))
 
 app_thm-keeps : (s : State) → Keeps s (app_thm s)
 app_thm-keeps s = bind s (pop as_theorem s.stack) _ (λ p1. let j = p1.0 in let below = p1.1 in bind s (pop as_theorem below) _ (λ p2. let i = p2.0 in let rest = p2.1 in let one = sequent_at s.made i in let two = sequent_at s.made j in bind s (equation_of one) _ (λ p3. let f = p3 in bind s (equation_of two) _ (λ p4. let x = p4 in bind s (ok_or (application_type (Some f.ty) (Some x.ty)) TypeMismatch) _ (λ p5. let b = p5 in concluded s (with_stack s rest) (step_by by_rule.AppThm (i ∷ j ∷ []) nothing (derived (joined one.hypotheses two.hypotheses) (equation b (app f.left x.left) (app f.right x.right)))) refl [] (sym (append-nil s.made)))))))
@@ -149,19 +150,19 @@ sym_word-keeps : (s : State) → Keeps s (sym_word s)
 sym_word-keeps s = bind s (pop as_theorem s.stack) _ (λ p1. let i = p1.0 in let rest = p1.1 in let one = sequent_at s.made i in bind s (equation_of one) _ (λ p2. let e = p2 in concluded s (with_stack s rest) (step_by by_rule.Sym (i ∷ []) nothing (derived one.hypotheses (equation e.ty e.right e.left))) refl [] (sym (append-nil s.made))))
 
 trans_word-keeps : (s : State) → Keeps s (trans_word s)
-trans_word-keeps s = bind s (pop as_theorem s.stack) _ (λ p1. let j = p1.0 in let below = p1.1 in bind s (pop as_theorem below) _ (λ p2. let i = p2.0 in let rest = p2.1 in let one = sequent_at s.made i in let two = sequent_at s.made j in bind s (equation_of one) _ (λ p3. let e = p3 in bind s (equation_of two) _ (λ p4. let f = p4 in next s (demand (term_eq f.left e.right) NotAlike) _ (concluded s (with_stack s rest) (step_by by_rule.Trans (i ∷ j ∷ []) nothing (derived (joined one.hypotheses two.hypotheses) (equation e.ty e.left f.right))) refl [] (sym (append-nil s.made)))))))
+trans_word-keeps s = bind s (pop as_theorem s.stack) _ (λ p1. let j = p1.0 in let below = p1.1 in bind s (pop as_theorem below) _ (λ p2. let i = p2.0 in let rest = p2.1 in let one = sequent_at s.made i in let two = sequent_at s.made j in bind s (equation_of one) _ (λ p3. let e = p3 in bind s (equation_of two) _ (λ p4. let f = p4 in Keeps-bind s (demand (term_eq f.left e.right) NotAlike) _ (concluded s (with_stack s rest) (step_by by_rule.Trans (i ∷ j ∷ []) nothing (derived (joined one.hypotheses two.hypotheses) (equation e.ty e.left f.right))) refl [] (sym (append-nil s.made)))))))
 
 prove_hyp-keeps : (s : State) → Keeps s (prove_hyp s)
 prove_hyp-keeps s = bind s (pop as_theorem s.stack) _ (λ p1. let j = p1.0 in let below = p1.1 in bind s (pop as_theorem below) _ (λ p2. let i = p2.0 in let rest = p2.1 in let one = sequent_at s.made i in let two = sequent_at s.made j in concluded s (with_stack s rest) (step_by by_rule.ProveHyp (i ∷ j ∷ []) nothing (derived (joined one.hypotheses (removed two.hypotheses one.conclusion)) two.conclusion)) refl [] (sym (append-nil s.made))))
 
 subst_word-keeps : (s : State) → Keeps s (subst_word s)
-subst_word-keeps s = bind s (pop as_theorem s.stack) _ (λ p1. let i = p1.0 in let below = p1.1 in bind s (pop as_substitution below) _ (λ p2. let types = p2.0.0 in let terms = p2.0.1 in let rest = p2.1 in let one = sequent_at s.made i in next s (demand (list_all (λ p. is_of_type p.0.1 p.1) terms) BadSubst) _ (concluded s (with_stack s rest) (step_by by_rule.Subst (i ∷ []) (substitution types terms) (derived (distinct term_eq (map (sub types terms) one.hypotheses)) (sub types terms one.conclusion))) refl [] (sym (append-nil s.made)))))
+subst_word-keeps s = bind s (pop as_theorem s.stack) _ (λ p1. let i = p1.0 in let below = p1.1 in bind s (pop as_substitution below) _ (λ p2. let types = p2.0.0 in let terms = p2.0.1 in let rest = p2.1 in let one = sequent_at s.made i in Keeps-bind s (demand (list_all (λ p. is_of_type p.0.1 p.1) terms) BadSubst) _ (concluded s (with_stack s rest) (step_by by_rule.Subst (i ∷ []) (substitution types terms) (derived (distinct term_eq (map (sub types terms) one.hypotheses)) (sub types terms one.conclusion))) refl [] (sym (append-nil s.made)))))
 
 define_const-keeps : (s : State) → Keeps s (define_const s)
-define_const-keeps s = bind s (pop as_term s.stack) _ (λ p1. let t = p1.0 in let below = p1.1 in bind s (pop as_name below) _ (λ p2. let n = p2.0 in let rest = p2.1 in next s (demand (not (is_taken_constant (symbols_of s.made) n)) NameTaken) _ (next s (demand (is_closed t) NotClosed) _ (bind s (typed t) _ (λ p3. let a = p3 in next s (demand (has_type_variables_of a t) ExtraTypeVars) _ (concluded s (with_symbols (with_stack s (constant n ∷ rest)) (defined (Definition.constant n t) ∷ [])) (step_by by_rule.DefineConst [] (Parameters.constant n t) (derived [] (equation a (Term.constant n a) t))) refl (map Made.symbol (defined (Definition.constant n t) ∷ [])) refl))))))
+define_const-keeps s = bind s (pop as_term s.stack) _ (λ p1. let t = p1.0 in let below = p1.1 in bind s (pop as_name below) _ (λ p2. let n = p2.0 in let rest = p2.1 in Keeps-bind s (demand (not (is_taken_constant (symbols_of s.made) n)) NameTaken) _ (Keeps-bind s (demand (is_closed t) NotClosed) _ (bind s (typed t) _ (λ p3. let a = p3 in Keeps-bind s (demand (has_type_variables_of a t) ExtraTypeVars) _ (concluded s (with_symbols (with_stack s (constant n ∷ rest)) (defined (Definition.constant n t) ∷ [])) (step_by by_rule.DefineConst [] (Parameters.constant n t) (derived [] (equation a (Term.constant n a) t))) refl (map Made.symbol (defined (Definition.constant n t) ∷ [])) refl))))))
 
 define_const_list-keeps : (s : State) → Keeps s (define_const_list s)
-define_const_list-keeps s = bind s (pop as_theorem s.stack) _ (λ p1. let i = p1.0 in let below = p1.1 in bind s (pop as_constant_pairs below) _ (λ p2. let pairs = p2.0 in let rest = p2.1 in let one = sequent_at s.made i in let equations = defining_equations pairs one.hypotheses in next s (demand (not (list_any (is_taken_constant (symbols_of s.made)) (names_of pairs))) NameTaken) _ (next s (demand (list_all (λ e. is_closed e.1) equations) NotClosed) _ (next s (demand (list_all (λ e. has_type_variables_of e.0.1 e.1) equations) ExtraTypeVars) _ (next s (demand (is_definition_list pairs one) BadDefinitionList) _ (concluded s (with_symbols (with_stack s (list (constant_objects (names_of pairs)) ∷ rest)) (map defined (definitions_in pairs one.hypotheses))) (step_by by_rule.DefineConstList (i ∷ []) (constants pairs) (derived [] (sub [] (constants_put pairs) one.conclusion))) refl (map Made.symbol (map defined (definitions_in pairs one.hypotheses))) refl))))))
+define_const_list-keeps s = bind s (pop as_theorem s.stack) _ (λ p1. let i = p1.0 in let below = p1.1 in bind s (pop as_constant_pairs below) _ (λ p2. let pairs = p2.0 in let rest = p2.1 in let one = sequent_at s.made i in let equations = defining_equations pairs one.hypotheses in Keeps-bind s (demand (not (list_any (is_taken_constant (symbols_of s.made)) (names_of pairs))) NameTaken) _ (Keeps-bind s (demand (list_all (λ e. is_closed e.1) equations) NotClosed) _ (Keeps-bind s (demand (list_all (λ e. has_type_variables_of e.0.1 e.1) equations) ExtraTypeVars) _ (Keeps-bind s (demand (is_definition_list pairs one) BadDefinitionList) _ (concluded s (with_symbols (with_stack s (list (constant_objects (names_of pairs)) ∷ rest)) (map defined (definitions_in pairs one.hypotheses))) (step_by by_rule.DefineConstList (i ∷ []) (constants pairs) (derived [] (sub [] (constants_put pairs) one.conclusion))) refl (map Made.symbol (map defined (definitions_in pairs one.hypotheses))) refl))))))
 
 restacked : (s t : State) (stack : List Object) → Extends (with_stack s stack) t → Extends s t
 restacked s t stack h = record { exports = h.exports; more = h.more; made = h.made }
@@ -174,13 +175,13 @@ make_type-keeps s names i c f =
     let one = Made.step (step_by by_rule.FirstLaw (i ∷ []) (Parameters.type_operator names) (first_law names c)) in
     let two = Made.step (step_by by_rule.SecondLaw (i ∷ []) (Parameters.type_operator names) (second_law names c f)) in
     let taken = map Made.symbol (defined (Definition.type_operator names c f) ∷ []) in
-    next s (in_limits (type_measure (new_type names) ∷ type_measure (abstraction_type names c) ∷ type_measure (representation_type names c) ∷ sequent_measure (first_law names c) ∷ sequent_measure (second_law names c f) ∷ [])) _
+    Keeps-bind s (in_limits (type_measure (new_type names) ∷ type_measure (abstraction_type names c) ∷ type_measure (representation_type names c) ∷ sequent_measure (first_law names c) ∷ sequent_measure (second_law names c f) ∷ [])) _
     (answer s _ (record { exports = refl; more = taken ++ (one ∷ [] ++ two ∷ []); made = two_more s.made taken (one ∷ []) (two ∷ []) }))
 
 define_type-keeps : (s : State) (names : TypeNames) (i : ℕ) → Keeps s (define_type s names i)
 define_type-keeps s names i =
     let one = sequent_at s.made i in
-    next s (are_new_names (symbols_of s.made) names) _ (next s (predicate_fits names.variables (application_parts one.conclusion)) _ (next s (demand (nat_eq (length one.hypotheses) 0) NotTheSequent) _
+    Keeps-bind s (are_new_names (symbols_of s.made) names) _ (Keeps-bind s (predicate_fits names.variables (application_parts one.conclusion)) _ (Keeps-bind s (demand (nat_eq (length one.hypotheses) 0) NotTheSequent) _
     (bind s (ok_or (application_parts one.conclusion) NotTheSequent) _ (λ p. bind s (typed p.1) _ (λ c. make_type-keeps s names i c p.0)))))
 
 define_type_op-keeps : (s : State) → Keeps s (define_type_op s)
@@ -194,7 +195,7 @@ assume_or_meet-keeps s sequent None = concluded s (record s { assumptions = s.as
 
 axiom_word-keeps : (s : State) → Keeps s (axiom_word s)
 axiom_word-keeps s =
-    bind s (pop as_term s.stack) _ (λ p. bind s (pop as_terms p.1) _ (λ q. next s (all_bool (p.0 ∷ q.0)) _
+    bind s (pop as_term s.stack) _ (λ p. bind s (pop as_terms p.1) _ (λ q. Keeps-bind s (all_bool (p.0 ∷ q.0)) _
     (λ t e. restacked s t q.1 (assume_or_meet-keeps (with_stack s q.1) (stated q.0 p.0) _ t e))))
 
 -- the step of a number restates a theorem
@@ -230,10 +231,6 @@ gives-next (Err k) r h t e = absurd (cc)
 gives-answer : (u : State) → HasRestated u → Gives (Ok u)
 gives-answer u h t e = let f : u ≡ t = cc in subst HasRestated f h
 
-seam : {A : Type 0} (xs : List A) (y : A) → slice_get (xs ++ y ∷ []) (length xs) ≡ Some y
-seam [] y = refl
-seam (x ∷ xs) y = seam xs y
-
 export-gives : (s : State) (i : ℕ) (sequent : Sequent) (o : Option ℕ) → HasRestated s → Gives (export s i sequent o)
 export-gives s i sequent (Some j) h = gives-answer s h
 export-gives s i sequent None h =
@@ -241,7 +238,7 @@ export-gives s i sequent None h =
     let new : List Made = Made.step x ∷ [] in
     gives-next (sequent_in_limits sequent) _
     (gives-answer _ (All-append (IsRestated (s.made ++ new)) s.exports (next_step s ∷ []) (All-weaker (IsRestated s.made) (IsRestated (s.made ++ new)) (λ j r. restated-more s.made new j r) s.exports h)
-    (record { step = x; at = ap (λ l. slice_get l (next_step s)) (steps_of-append s.made new) ∙ seam (steps_of s.made) x; restates = refl }, tt {0})))
+    (record { step = x; at = ap (λ l. slice_get l (next_step s)) (steps_of-append s.made new) ∙ slice_get-last (steps_of s.made) x; restates = refl }, tt {0})))
 
 thm-gives : (s : State) → HasRestated s → Gives (thm s)
 thm-gives s h =
@@ -285,18 +282,18 @@ obey-gives s t word.Axiom h e = extended s t h (axiom_word-keeps s t e)
 obey-gives s t word.Thm h e = thm-gives s h t e
 
 step_at-gives : (s t : State) (p : Place) (i : Item) → HasRestated s → step_at p s i ≡ Ok t → HasRestated t
-step_at-gives s t start (item.Number z) h e = extended s t h (next s (demand (int_eq z (pos 6)) VersionPlace) _ (same s _ refl refl) t e)
+step_at-gives s t start (item.Number z) h e = extended s t h (Keeps-bind s (demand (int_eq z (pos 6)) VersionPlace) _ (Keeps-same s _ refl refl) t e)
 step_at-gives s t start (item.Name n) h e = absurd (cc)
 step_at-gives s t start (item.Word w) h e = absurd (cc)
 step_at-gives s t version (item.Number z) h e = absurd (cc)
 step_at-gives s t version (item.Name n) h e = absurd (cc)
-step_at-gives s t version (item.Word w) h e = extended s t h (next s (demand (is_version w) VersionPlace) _ (same s _ refl refl) t e)
-step_at-gives s t body (item.Number z) h e = extended s t h (same s _ refl refl t e)
-step_at-gives s t body (item.Name n) h e = extended s t h (same s _ refl refl t e)
+step_at-gives s t version (item.Word w) h e = extended s t h (Keeps-bind s (demand (is_version w) VersionPlace) _ (Keeps-same s _ refl refl) t e)
+step_at-gives s t body (item.Number z) h e = extended s t h (Keeps-same s _ refl refl t e)
+step_at-gives s t body (item.Name n) h e = extended s t h (Keeps-same s _ refl refl t e)
 step_at-gives s t body (item.Word w) h e = obey-gives s t w h e
 
 finish-gives : (s t : State) → HasRestated s → finish s ≡ Ok t → HasRestated t
-finish-gives s t h e = extended s t h (next s (demand (is_body s.place) VersionPlace) _ (same s _ refl refl) t e)
+finish-gives s t h e = extended s t h (Keeps-bind s (demand (is_body s.place) VersionPlace) _ (Keeps-same s _ refl refl) t e)
 
 abbrev RestatesExports : Accepted → Type 0
 RestatesExports a = AllByRecursion (IsRestated a.made) a.exports

@@ -2,7 +2,6 @@
 use Rattle.std.proofs.Common.{◌≡◌, ℕ, suc, ◌+◌, ◌<◌, arith, true, List, [], ◌∷◌, ◌++◌, length, Some, inl, inr, refl, sym, ap, subst, ◌∙◌}
 use Rattle.std.specs.List.{AllByRecursion}
 use Rattle.std.proofs.lemmas.List.{append-nil, length-append}
-use Rattle.hol_spec.specs.Sequents.{Sequent}
 use Rattle.hol_spec.specs.Proofs.{Made, steps_of, sequent_at, IsProof, Accepted}
 use Rattle.hol_spec.specs.Over.{IsOver}
 use Rattle.article_spec.specs.Run.{accepted, Run}
@@ -10,32 +9,19 @@ use Rattle.article_spec.specs.SoundRuns.{IsDerived}
 use Rattle.article_laws.specs.SoundSteps.{runs_are_sound}
 use Rattle.module_laws.specs.BodyTyping.{IsIn-map}
 use Rattle.hol_spec.specs.Lists.{IsIn}
-use Rattle.module_spec.specs.Items.{Content, Item, operator, constant, defined_constant, unproved, step, says}
-use Rattle.module_spec.specs.Reach.{number_key, gives_of, gives, kept, renumbered_content, image_items, keep_of}
+use Rattle.module_spec.specs.Items.{Item, says}
+use Rattle.module_spec.specs.Reach.{number_key, gives, kept, image_items, keep_of}
 use Rattle.module_laws.specs.KeptModules.{IsIn-kept}
 use Rattle.module_laws.specs.WantedItems.{NumberedFrom, AreMadeInOrder, keep-wanted}
 use Rattle.module_spec.specs.MadeItems.{Naming, premise_at, items_of, roots_of}
 use Rattle.module_laws.specs.AcceptedItems.{made-in_order}
+use Rattle.module_laws.specs.SaidItems.{says-gives_of, says-renumbered}
 use Rattle.run_laws.specs.AcceptedRuns.{step-said}
 
 pub numbered-from : (before xs : List Item) → AreMadeInOrder before xs → NumberedFrom (length before) xs
 numbered-from before [] h = tt
 numbered-from before (x ∷ xs) h =
     (h.0, subst (λ k. NumberedFrom k xs) (length-append before (x ∷ []) ∙ (let z : length before + 1 ≡ suc (length before) = omega arith in z)) (numbered-from (before ++ x ∷ []) xs h.3))
-
-pub gives-number : (i : ℕ) (c : Content) (s : Sequent) → says c ≡ Some s → gives_of i c ≡ number_key i
-gives-number i (operator n k) s e = absurd (cc)
-gives-number i (constant n a) s e = absurd (cc)
-gives-number i (defined_constant n a t) s e = absurd (cc)
-gives-number i (unproved r) s e = refl
-gives-number i (step kind js premises given r) s e = refl
-
-says-renumbered : (number : ℕ → ℕ) (c : Content) → says (renumbered_content number c) ≡ says c
-says-renumbered number (operator n k) = refl
-says-renumbered number (constant n a) = refl
-says-renumbered number (defined_constant n a t) = refl
-says-renumbered number (unproved r) = refl
-says-renumbered number (step kind js premises given r) = refl
 
 -- the items of the module of what these steps reach
 abbrev pub kept_items : Naming → List Made → List ℕ → List Item
@@ -50,7 +36,7 @@ export-declared named made proof over exports k i l =
     let roots = roots_of named made exports in
     let s = step-said named made proof over k l in
     let root : IsIn roots (gives s.0) =
-    subst (IsIn roots) (ap number_key (sym s.2) ∙ sym (gives-number s.0.symbol s.0.content (sequent_at made k) s.3)) (IsIn-map (λ k. number_key (premise_at ps k).0) exports k i) in
+    subst (IsIn roots) (ap number_key (sym s.2) ∙ sym (says-gives_of s.0.symbol s.0.content (sequent_at made k) s.3)) (IsIn-map (λ k. number_key (premise_at ps k).0) exports k i) in
     let keeps : keep_of roots ps s.0.symbol ≡ true = subst (λ l. keep_of roots l s.0.symbol ≡ true) (append-nil ps) (keep-wanted roots 0 ps [] s.0 (numbered-from [] ps (made-in_order named made proof over)) s.1 root) in
     (_, IsIn-map _ (kept (keep_of roots ps) ps) s.0 (IsIn-kept (keep_of roots ps) ps s.0 s.1 keeps), says-renumbered _ s.0.content ∙ s.3)
 

@@ -2,6 +2,7 @@
 use Rattle.std.proofs.Common.{◌≡◌, ℕ, suc, ◌+◌, ◌⊎◌, inl, inr, List, [], ◌∷◌, ◌++◌, length, Bool, true, false, Some, None, slice_get, refl, sym, ap, subst, ◌∙◌, arith}
 use Rattle.std.specs.Prelude.{nat_eq}
 use Rattle.std.specs.List.{AllByRecursion, IsAmong, IsDistinct, position_or_len}
+use Rattle.std.proofs.lemmas.Bool.{both_ways}
 use Rattle.hol_spec.specs.Names.{Name}
 use Rattle.hol_spec.specs.NameEquality.{name_eq}
 use Rattle.hol_laws.specs.NameEqualityLaws.{name_eq-Decides}
@@ -38,12 +39,14 @@ use Rattle.module_laws.specs.ItemConditions.{IsDefining, IsContent}
 use Rattle.module_laws.specs.WantedItems.{AreMadeInOrder}
 use Rattle.module_laws.specs.ToldParameters.{TypesTold, TypesTold-own}
 use Rattle.module_laws.specs.SequentEncoding.{TypeMeant, TermMeant, TypesPlaced, placed-types, type_stands, term_stands, types-are}
+use Rattle.module_laws.specs.AcceptedItems.{says-step}
 use Rattle.run_laws.specs.Origins.{Origin}
 use Rattle.run_laws.specs.Named.{HasNames, IsStepName, step_name-is, is-assumed, at-place}
 use Rattle.run_laws.specs.ExportOrder.{HaveRows, sequent-step}
 use Rattle.run_laws.specs.Meanings.{ContentMeant}
 use Rattle.run_laws.specs.Standing.{Always, items, keep, number, stays, symbols, declared, stays-meant, item-stands, BothMeant}
 use Rattle.proof_laws.specs.SymbolGrowth.{symmetric}
+use Rattle.article_laws.specs.SoundStates.{zero-plus}
 
 -- the declaration of a step with a proof is a theorem, with a body
 proved-body : (symbols : Symbols) (number : ℕ → ℕ) (name : List ℕ) (b : Bool) → b ≡ true → (kind : StepKind) (js : List ℕ) (ss : List Sequent) (g : Parameters) (s : Sequent)
@@ -166,9 +169,6 @@ module _ (m : List Declaration) (symbols : Symbols) where
     law-kind kind (inl e) = subst IsLawKind (sym e) (tt {0})
     law-kind kind (inr e) = subst IsLawKind (sym e) (tt {0})
 
-    differ : {A : Type 0} (b : Bool) → b ≡ true → b ≡ false → A
-    differ b e f = let g : true ≡ false = sym e ∙ f in absurd (cc)
-
     -- the declaration of a step without a proof
     pub step-given : (rows : HaveRows run) (name : List ℕ) (c : Content) (i : ℕ) (x : Step) (kind : StepKind) (js : List ℕ) (ss : List Sequent) (g : Parameters) → slice_get (steps_of run.made) i ≡ Some x
         → c ≡ content_by (has_row x.kind) kind js ss g x.sequent → IsStepName run i x.kind name → Enc m (closed_form (sequent_at run.made i)) (made_of name c).ty → (made_of name c).body ≡ None → IsGiven m run (made_of name c)
@@ -179,8 +179,8 @@ module _ (m : List Declaration) (symbols : Symbols) where
 
         go : (b : Bool) → has_row x.kind ≡ b → IsStepName run i x.kind name → IsGiven m run (made_of name c)
         go true row n = absurd (proved-body symbols number name (has_row x.kind) row kind js ss g x.sequent (ap (λ d. (made_of name d).body) (sym e) ∙ none))
-        go false row (IsStepName.an_export one v) = differ (has_row x.kind) (rows i x one at) row
-        go false row (IsStepName.a_theorem out theorem v) = differ (has_row x.kind) theorem row
+        go false row (IsStepName.an_export one v) = absurd (both_ways (has_row x.kind) row (rows i x one at))
+        go false row (IsStepName.a_theorem out theorem v) = absurd (both_ways (has_row x.kind) row theorem)
         go false row (IsStepName.an_assumption out one k v) =
             subst (IsGiven m run) (sym (is_symbol row ∙ ap (λ l. symbol l (made_of name c).ty) v)) (IsGiven.assumption (position_or_len (nat_eq i) run.assumptions) i (made_of name c).ty (at-place i run.assumptions one) enc)
         go false row (IsStepName.a_law out k v) =
@@ -192,9 +192,6 @@ module _ (run : Accepted) (named : HasNames run) (sound : IsSoundRun run) (rows 
   content-of z i k =
       (All-at (BothMeant run named sound) (stays run named sound) (renumbered (number run named sound) z) (stays-meant run named sound order origins)
       (IsIn-map (renumbered (number run named sound)) (kept (keep run named sound) (items run named sound)) z (IsIn-kept (keep run named sound) (items run named sound) z i k))).1
-
-  zero-plus : (i : ℕ) → 0 + i ≡ i
-  zero-plus i = omega arith
 
   named-step : (j : ℕ) (x : Step) → slice_get (steps_of run.made) j ≡ Some x → IsStepName run j x.kind (step_name run j x.kind)
   named-step j x at =
@@ -213,10 +210,6 @@ module _ (run : Accepted) (named : HasNames run) (sound : IsSoundRun run) (rows 
           (sym (sequent-step (steps_of run.made) j x (record { hypotheses = []; conclusion = bound 0 }) at))
           (item-stands run named sound order origins z i k x.sequent (ap says e ∙ says-step (has_row x.kind) kind js ss g x.sequent)))
           none
-        where
-          says-step : (b : Bool) (kind : StepKind) (js : List ℕ) (ss : List Sequent) (g : Parameters) (s : Sequent) → says (content_by b kind js ss g s) ≡ Some s
-          says-step false kind js ss g s = refl
-          says-step true kind js ss g s = refl
 
   -- WHAT IS DEFINED THE RUN DEFINED
   pub item-defined : (z : Item) → IsIn (items run named sound) z → keep run named sound z.symbol ≡ true → (declared run named sound z).form ≡ Def → IsDefined (image run) run (declared run named sound z)

@@ -16,6 +16,7 @@ use Rattle.module_spec.specs.Image.{is_one_of, place_among, unexported_name, ste
 use Rattle.module_spec.specs.Numerals.{numeral, is_decimal_digit}
 use Rattle.module_laws.specs.NumeralLaws.{numeral-injective, numeral-digits}
 use Rattle.std.proofs.lemmas.Option.{same_Some}
+use Rattle.hol_laws.specs.PositionLaws.{position-cons}
 
 -- the names of a symbol are of bytes
 abbrev pub SymbolHasName : Symbol → Type 0
@@ -37,19 +38,15 @@ abbrev pub second_byte : List ℕ → ℕ
 second_byte [] = 0
 second_byte (b ∷ bs) = first_byte bs
 
--- places in a list of numbers
-position-self : (i j : ℕ) (is : List ℕ) (b : Bool) → nat_eq i j ≡ b → position_or_len (nat_eq i) (j ∷ is) ≡ cond b 0 (suc (position_or_len (nat_eq i) is))
-position-self i j is true e = rw e refl
-position-self i j is false e = rw e (omega arith)
-
+-- at the place of a number in a list stands that number
 pub at-place : (i : ℕ) (is : List ℕ) → is_one_of i is ≡ true → slice_get is (position_or_len (nat_eq i) is) ≡ Some i
 at-place i [] e = absurd (cc)
 at-place i (j ∷ is) e = go (nat_eq i j) refl (unsigned_Decides i j).0 e (at-place i is)
   where
     go : (b : Bool) → nat_eq i j ≡ b → (nat_eq i j ≡ true → i ≡ j) → (b || is_one_of i is) ≡ true → (is_one_of i is ≡ true → slice_get is (position_or_len (nat_eq i) is) ≡ Some i)
         → slice_get (j ∷ is) (position_or_len (nat_eq i) (j ∷ is)) ≡ Some i
-    go true is_it f e rest = ap (slice_get (j ∷ is)) (position-self i j is true is_it) ∙ ap Some (sym (f is_it))
-    go false is_it f e rest = ap (slice_get (j ∷ is)) (position-self i j is false is_it) ∙ rest e
+    go true is_it f e rest = ap (slice_get (j ∷ is)) (position-cons (nat_eq i) j is true is_it) ∙ ap Some (sym (f is_it))
+    go false is_it f e rest = ap (slice_get (j ∷ is)) (position-cons (nat_eq i) j is false is_it) ∙ rest e
 
 -- members at one place are one
 same-place : (i j : ℕ) (is : List ℕ) → is_one_of i is ≡ true → is_one_of j is ≡ true → position_or_len (nat_eq i) is ≡ position_or_len (nat_eq j) is → i ≡ j

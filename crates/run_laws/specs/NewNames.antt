@@ -6,6 +6,7 @@ use Rattle.std.specs.Option.{option_or}
 use Rattle.std.specs.List.{list_all}
 use Rattle.std.proofs.lemmas.List.{append-nil}
 use Rattle.std.proofs.lemmas.Option.{same_Some}
+use Rattle.std.proofs.lemmas.Bool.{or_parts}
 use Rattle.hol_spec.specs.Names.{Name}
 use Rattle.hol_spec.specs.NameEquality.{name_eq}
 use Rattle.hol_laws.specs.NameEqualityLaws.{name_eq-Decides}
@@ -20,7 +21,6 @@ use Rattle.hol_spec.specs.Taking as taking
 use Rattle.hol_spec.specs.Taking.{Takes}
 use Rattle.hol_spec.specs.Proofs.{Made, symbols_of, IsProof, Step, steps_of, IsMade, Accepted}
 use Rattle.hol_spec.specs.Proofs as made
-use Rattle.proof_laws.specs.SymbolGrowth.{or-neither}
 use Rattle.proof_laws.specs.ProofGrowth.{symbols_of-append}
 use Rattle.hol_spec.specs.Lists.{IsIn}
 use Rattle.hol_laws.specs.Members.{IsIn-either}
@@ -95,7 +95,7 @@ first-last n k ss (Symbol.defined (Definition.type_operator names a f)) (taking.
     go true is f e =
         let free : first_defined_arity n ss ≡ None =
         subst (λ (m : Name). first_defined_arity m ss ≡ None) (sym (f is))
-        (second-none (primitive_arity names.operator) (first_defined_arity names.operator ss) (or-neither (is_some (operator_arity ss names.operator)) _ new.operator).0) in
+        (second-none (primitive_arity names.operator) (first_defined_arity names.operator ss) (or_parts (is_some (operator_arity ss names.operator)) _ new.operator).0) in
         first-new n ss (x ∷ []) free ∙ ap (λ b. option_or (cond b (Some (length names.variables)) None) None) is ∙ e
 
 pub arity-known : (xs : List Made) → IsProof xs → (x : Symbol) → IsIn (symbols_of xs) x → (n : Name) (k : ℕ) → defined_arity n x ≡ Some k → first_defined_arity n (symbols_of xs) ≡ Some k
@@ -135,8 +135,8 @@ after_digits (x ∷ ds) (y ∷ es) r s h k e =
 -- what an item names is new
 not-any : (test : Content → Bool) (ps : List Item) (y : Item) → any_content test ps ≡ false → IsIn ps y → test y.content ≡ false
 not-any test [] y h i = absurd i
-not-any test (z ∷ zs) y h (inl e) = ap (λ (u : Item). test u.content) e ∙ (or-neither (test z.content) (any_content test zs) h).0
-not-any test (z ∷ zs) y h (inr i) = not-any test zs y (or-neither (test z.content) (any_content test zs) h).1 i
+not-any test (z ∷ zs) y h (inl e) = ap (λ (u : Item). test u.content) e ∙ (or_parts (test z.content) (any_content test zs) h).0
+not-any test (z ∷ zs) y h (inr i) = not-any test zs y (or_parts (test z.content) (any_content test zs) h).1 i
 
 constant-new : (n : Name) (c : Content) (before : List Item) → constant_named c ≡ Some n → IsNew before c → any_content (is_constant n) before ≡ false
 constant-new n (operator m k) before e h = absurd (cc)

@@ -1,23 +1,22 @@
 -- Where each item of a run comes from: a symbol that was taken or a step that was made; and what its name is.
-use Rattle.std.proofs.Common.{map, ◌≡◌, ℕ, ◌+◌, List, [], ◌∷◌, ◌++◌, length, Bool, true, false, Some, slice_get, inl, inr, refl, sym, ap, subst, ◌∙◌, append_assoc}
-use Rattle.std.specs.Option.{option_map}
-use Rattle.std.specs.List.{cons_option}
+use Rattle.std.proofs.Common.{map, ◌≡◌, ℕ, ◌+◌, List, [], ◌∷◌, ◌++◌, length, Some, slice_get, inl, inr, refl, sym, ap, subst, ◌∙◌, append_assoc}
 use Rattle.std.proofs.lemmas.List.{append-nil, length-append}
-use Rattle.std.proofs.lemmas.List.Elements.{filter_map-append}
 use Rattle.hol_spec.specs.Sequents.{Sequent}
-use Rattle.hol_spec.specs.Definitions.{Definition}
 use Rattle.hol_spec.specs.Rules.{Parameters}
 use Rattle.hol_spec.specs.Symbols.{Symbol}
 use Rattle.hol_spec.specs.declared.StepKind.{StepKind}
 use Rattle.hol_spec.specs.Proofs.{Made, Step, symbols_of, steps_of, Accepted}
 use Rattle.hol_spec.specs.Lists.{IsIn}
 use Rattle.hol_laws.specs.Members.{IsIn-right}
+use Rattle.hol_laws.specs.PlaceLaws.{slice_get-seam}
 use Rattle.proof_laws.specs.ProofGrowth.{symbols_of-append, steps_of-append}
 use Rattle.module_spec.specs.Rows.{has_row}
 use Rattle.module_spec.specs.Items.{Content, Item, says}
-use Rattle.module_spec.specs.MadeItems.{contents_of, said_of, said_by, content_by, needed, sequents_at, premise_at, step_content, contents, numbered, items_after, items_of}
+use Rattle.module_spec.specs.MadeItems.{contents_of, said_by, content_by, needed, sequents_at, premise_at, step_content, contents, numbered, items_after, items_of}
 use Rattle.module_spec.specs.Image.{symbol_name, step_name, name_in}
 use Rattle.module_laws.specs.NeededSteps.{needed-row, needed-sequent}
+use Rattle.module_laws.specs.AcceptedItems.{symbol-said, says-step}
+use Rattle.module_laws.specs.SaidItems.{length-said_by_one, length-said_by}
 
 -- an item comes from a symbol, or from a step whose number has a property
 pub data Origin (run : Accepted) (made : List Made) (P : ℕ → Type 0) (z : Item) : Type 0 where
@@ -43,27 +42,6 @@ module _ (run : Accepted) (made : List Made) where
   symbol-origins x among n i ps (c ∷ cs) f =
       (Origin.of_symbol x among (f c (inl refl)) refl, symbol-origins x among n (i + 1) (ps ++ record { symbol = i; name = symbol_name x c; content = c } ∷ []) cs (λ d k. f d (inr k)))
 
-  -- the items of a symbol say nothing, that of a step one sequent
-  symbol-said : (named : Content → List ℕ) (i : ℕ) (x : Symbol) → said_by (numbered named i (contents_of x)) ≡ []
-  symbol-said named i (Symbol.input_constant n) = refl
-  symbol-said named i (Symbol.input_operator n k) = refl
-  symbol-said named i (Symbol.defined (Definition.constant n t)) = refl
-  symbol-said named i (Symbol.defined (Definition.type_operator names c f)) = refl
-
-  one-said : (z : Item) (s : Sequent) → says z.content ≡ Some s → length (said_by (z ∷ [])) ≡ 1
-  one-said z s e = ap (λ o. length {A = ℕ × Sequent} (cons_option (option_map (λ (t : Sequent). (z.symbol, t)) o) [])) e
-
-  says-step : (b : Bool) (kind : StepKind) (js : List ℕ) (ss : List Sequent) (g : Parameters) (s : Sequent) → says (content_by b kind js ss g s) ≡ Some s
-  says-step false kind js ss g s = refl
-  says-step true kind js ss g s = refl
-
-  at-seam : {A : Type 0} (xs ys : List A) (y : A) → slice_get (xs ++ y ∷ ys) (length xs) ≡ Some y
-  at-seam [] ys y = refl
-  at-seam (x ∷ xs) ys y = at-seam xs ys y
-
-  length-said : (ps new : List Item) → length (said_by (ps ++ new)) ≡ length (said_by ps) + length (said_by new)
-  length-said ps new = ap length (filter_map-append said_of ps new) ∙ length-append (said_by ps) (said_by new)
-
   origins-after : (before xs : List Made) (ps : List Item) → made ≡ before ++ xs → length (said_by ps) ≡ length (steps_of before) → HaveOrigins run made [] ps
       → HaveOrigins run made [] (items_after (name_in run) ps xs)
   origins-after before [] ps whole long h = h
@@ -74,7 +52,7 @@ module _ (run : Accepted) (made : List Made) where
       subst (λ m. IsIn (symbols_of m) x) (sym whole) (subst (λ l. IsIn l x) (sym (symbols_of-append before (Made.symbol x ∷ xs))) (IsIn-right (symbols_of before) (symbols_of (Made.symbol x ∷ xs)) x (inl refl))) in
       let none = symbol-said (name_in run n (Made.symbol x)) (length ps) x in
       let longer : length (said_by (ps ++ new)) ≡ length (steps_of (before ++ Made.symbol x ∷ [])) =
-      length-said ps new ∙ ap (λ l. n + length l) none ∙ ap (λ k. k + 0) long
+      length-said_by ps new ∙ ap (λ l. n + length l) none ∙ ap (λ k. k + 0) long
       ∙ sym (ap length (steps_of-append before (Made.symbol x ∷ [])) ∙ length-append (steps_of before) []) in
       origins-after (before ++ Made.symbol x ∷ []) xs (ps ++ new) (whole ∙ sym (append_assoc before (Made.symbol x ∷ []) xs)) longer
       (origins-append [] ps new h (symbol-origins x among n (length ps) ps (contents_of x) (λ c k. k)))
@@ -83,7 +61,7 @@ module _ (run : Accepted) (made : List Made) where
       let new = numbered (name_in run n (Made.step x)) (length ps) (contents ps (Made.step x)) in
       let at : slice_get (steps_of made) n ≡ Some x =
       ap (λ m. slice_get (steps_of m) n) whole ∙ ap (λ l. slice_get l n) (steps_of-append before (Made.step x ∷ xs)) ∙ ap (slice_get (steps_of before ++ x ∷ steps_of xs)) long
-      ∙ at-seam (steps_of before) (steps_of xs) x in
+      ∙ slice_get-seam (steps_of before) (steps_of xs) x in
       let z : Item = record { symbol = length ps; name = step_name run n x.kind; content = step_content ps x } in
       let y = needed (sequents_at ps x.premises) x in
       let js = map (λ k. (premise_at ps k).0) y.premises in
@@ -91,7 +69,7 @@ module _ (run : Accepted) (made : List Made) where
       let content : step_content ps x ≡ content_by (has_row x.kind) y.kind js ss y.parameters x.sequent =
       λ i. content_by (needed-row (sequents_at ps x.premises) x i) y.kind js ss y.parameters (needed-sequent (sequents_at ps x.premises) x i) in
       let longer : length (said_by (ps ++ new)) ≡ length (steps_of (before ++ Made.step x ∷ [])) =
-      length-said ps new ∙ ap (λ k. n + k) (one-said z x.sequent (ap says content ∙ says-step (has_row x.kind) y.kind js ss y.parameters x.sequent)) ∙ ap (λ k. k + 1) long
+      length-said_by ps new ∙ ap (λ k. n + k) (length-said_by_one z x.sequent (ap says content ∙ says-step (has_row x.kind) y.kind js ss y.parameters x.sequent)) ∙ ap (λ k. k + 1) long
       ∙ sym (ap length (steps_of-append before (Made.step x ∷ [])) ∙ length-append (steps_of before) (x ∷ [])) in
       origins-after (before ++ Made.step x ∷ []) xs (ps ++ new) (whole ∙ sym (append_assoc before (Made.step x ∷ []) xs)) longer
       (origins-append [] ps new h (Origin.of_step n x y.kind js ss y.parameters refl at content refl, tt {0}))

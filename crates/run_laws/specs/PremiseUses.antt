@@ -1,7 +1,8 @@
 -- The proof of a step uses each of its premises, where what a hypothesis is proved for is a hypothesis.
-use Rattle.std.proofs.Common.{◌≡◌, ℕ, List, [], ◌∷◌, ◌++◌, map, Bool, true, false, ◌||◌, cond, inl, inr, refl, sym, ap, subst, ◌∙◌}
+use Rattle.std.proofs.Common.{◌≡◌, ℕ, List, [], ◌∷◌, ◌++◌, map, true, ◌||◌, cond, inl, inr, refl, sym, ap, subst, ◌∙◌}
 use Rattle.std.specs.Cmp.{unsigned_Decides}
 use Rattle.std.specs.List.{list_any}
+use Rattle.std.proofs.lemmas.Bool.{or_right}
 use Rattle.hol_spec.specs.Terms.{Term}
 use Rattle.hol_laws.specs.TermLaws.{term_eq-Decides}
 use Rattle.hol_spec.specs.DefinitionLists.{constants_put}
@@ -44,14 +45,10 @@ module _ (before : List Item) where
   two-premises (a ∷ b ∷ c ∷ js) one two h = absurd h.1.1
 
 module _ (j : ℕ) where
-  or-right : (a b : Bool) → b ≡ true → (a || b) ≡ true
-  or-right true b e = refl
-  or-right false b e = e
-
   any-at : (xs : List Tree) (x : Tree) → IsIn xs x → occurs j x ≡ true → list_any (occurs j) xs ≡ true
   any-at [] x i e = absurd i
   any-at (y ∷ ys) x (inl is) e = ap (λ b. b || list_any (occurs j) ys) (ap (occurs j) (sym is) ∙ e)
-  any-at (y ∷ ys) x (inr i) e = or-right (occurs j y) (list_any (occurs j) ys) (any-at ys x i e)
+  any-at (y ∷ ys) x (inr i) e = or_right (occurs j y) (list_any (occurs j) ys) (any-at ys x i e)
 
   premise-occurs : (scope : Scope) (a : ℕ) (q : Sequent) → j ≡ a → occurs j (premise_tree scope (a, q)) ≡ true
   premise-occurs scope a q e = head-occurs j (Sym a) (map scope.types (type_variables_of q) ++ map scope.terms (free_variables_of q) ++ map scope.proofs q.hypotheses) ((unsigned_Decides j a).1 e)
@@ -60,7 +57,7 @@ module _ (j : ℕ) where
   within f xs x i e = argument-occurs j (Sym f) xs (any-at xs x i e)
 
   under_lam : (a b : Tree) → occurs j b ≡ true → occurs j (Lam a b) ≡ true
-  under_lam a b e = or-right (occurs j a) (occurs j b) e
+  under_lam a b e = or_right (occurs j a) (occurs j b) e
 
   mapped : (f : Term → Tree) (hs : List Term) (h : Term) → IsIn hs h → IsIn (map f hs) (f h)
   mapped f [] h i = absurd i

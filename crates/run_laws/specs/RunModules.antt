@@ -1,10 +1,8 @@
 -- THE MODULE OF AN ACCEPTED RUN IS A MODULE: its declarations have new names, and are over what is declared before.
-use Rattle.std.proofs.Common.{◌≡◌, ℕ, ◌+◌, ◌<◌, ◌≤◌, inl, List, [], ◌∷◌, ◌++◌, map, length, Bool, true, false, ◌||◌, cond, Some, slice_get, refl, sym, ap, subst, ◌∙◌, append_assoc, arith}
+use Rattle.std.proofs.Common.{◌≡◌, ℕ, ◌<◌, ◌≤◌, inl, List, [], ◌∷◌, ◌++◌, map, length, Bool, true, false, ◌||◌, cond, Some, slice_get, refl, sym, ap, subst, ◌∙◌, append_assoc, arith}
 use Rattle.std.specs.Prelude.{nat_le, bytes_eq}
-use Rattle.std.specs.Option.{option_map}
-use Rattle.std.specs.List.{AllByRecursion, cons_option}
-use Rattle.std.proofs.lemmas.List.{append-nil, length-append}
-use Rattle.std.proofs.lemmas.List.Elements.{filter_map-append}
+use Rattle.std.specs.List.{AllByRecursion}
+use Rattle.std.proofs.lemmas.List.{append-nil}
 use Rattle.std.proofs.lemmas.Slice.Eq.{bytes_eq-Decides}
 use Rattle.hol_spec.specs.Sequents.{Sequent}
 use Rattle.hol_spec.specs.Rules.{Parameters}
@@ -25,14 +23,14 @@ use Rattle.lp_typing.specs.WellTypedLaws.{WellTyped-IsSound}
 use Rattle.lp_shape.specs.ShapedPasses.{AreShaped}
 use Rattle.module_laws.specs.ShapesTyped.{shaped-IsTypedAfter}
 use Rattle.module_laws.specs.OrderedModules.{shaped-over}
-use Rattle.article_laws.specs.SoundStates.{list_all-All, at_most}
+use Rattle.article_laws.specs.SoundStates.{list_all-All, at_most, zero-plus}
 use Rattle.module_laws.specs.MadeModules.{IsNew}
 use Rattle.module_laws.specs.WantedItems.{AreMadeInOrder}
 use Rattle.module_spec.specs.Rows.{has_row}
 use Rattle.module_spec.specs.Scopes.{Symbols}
 use Rattle.module_spec.specs.Items.{Content, operator, constant, defined_constant, unproved, step, Item, says, declaration, declaration_of}
 use Rattle.module_spec.specs.Items as item
-use Rattle.module_spec.specs.MadeItems.{said_of, said_by, content_by, items_of, roots_of}
+use Rattle.module_spec.specs.MadeItems.{said_by, content_by, items_of, roots_of}
 use Rattle.module_spec.specs.Reach.{kept, renumbered_content, renumbered, keep_of, symbol_of, image_items}
 use Rattle.module_spec.specs.Image.{is_one_of, name_in, image}
 use Rattle.run_laws.specs.Origins.{Origin, HaveOrigins, made-origins}
@@ -40,6 +38,7 @@ use Rattle.run_laws.specs.Named.{SymbolHasName, HasNames, first_byte, second_byt
 use Rattle.run_laws.specs.NewNames.{IsSymbolName, symbol_name-is, symbols-apart, symbol_name-high}
 use Rattle.run_laws.specs.AcceptedRuns.{IsCarried, runs_are_carried}
 use Rattle.module_laws.specs.AcceptedItems.{says-step}
+use Rattle.module_laws.specs.SaidItems.{length-said_by, length-said_by_one}
 
 -- the content of a step
 pub record IsStepContent (x : Step) (c : Content) : Type 0 where
@@ -53,9 +52,6 @@ pub record IsStepContent (x : Step) (c : Content) : Type 0 where
 pub data IsItemName (run : Accepted) (P : ℕ → Type 0) (z : Item) : Type 0 where
   by_symbol : IsSymbolName (symbols_of run.made) z.content z.name → IsItemName run P z
   by_step : (i : ℕ) (x : Step) → P i → slice_get (steps_of run.made) i ≡ Some x → IsStepContent x z.content → IsStepName run i x.kind z.name → IsItemName run P z
-
-zero-plus : (i : ℕ) → 0 + i ≡ i
-zero-plus i = omega arith
 
 pub content-says : (x : Step) (c : Content) → IsStepContent x c → says c ≡ Some x.sequent
 content-says x c h = ap says h.is ∙ says-step (has_row x.kind) h.kind h.premises h.sequents h.parameters x.sequent
@@ -85,20 +81,14 @@ module _ (run : Accepted) where
   abbrev Next : List Item → Item → Type 0
   Next before = IsItemName run (λ i. i ≡ length (said_by before))
 
-  length-said : (ps new : List Item) → length (said_by (ps ++ new)) ≡ length (said_by ps) + length (said_by new)
-  length-said ps new = ap length (filter_map-append said_of ps new) ∙ length-append (said_by ps) (said_by new)
-
-  one-said : (z : Item) (s : Sequent) → says z.content ≡ Some s → length (said_by (z ∷ [])) ≡ 1
-  one-said z s e = ap (λ o. length {A = ℕ × Sequent} (cons_option (option_map (λ (t : Sequent). (z.symbol, t)) o) [])) e
-
   still-passed : (before : List Item) (y z : Item) → Passed before y → Passed (before ++ z ∷ []) y
   still-passed before y z (IsItemName.by_symbol h) = IsItemName.by_symbol h
-  still-passed before y z (IsItemName.by_step i x l at told h) = let n = length-said before (z ∷ []) in IsItemName.by_step i x (omega (arith, l, n)) at told h
+  still-passed before y z (IsItemName.by_step i x l at told h) = let n = length-said_by before (z ∷ []) in IsItemName.by_step i x (omega (arith, l, n)) at told h
 
   now-passed : (before : List Item) (z : Item) → Next before z → Passed (before ++ z ∷ []) z
   now-passed before z (IsItemName.by_symbol h) = IsItemName.by_symbol h
   now-passed before z (IsItemName.by_step i x e at told h) =
-      let n = length-said before (z ∷ []) in let one = one-said z x.sequent (content-says x z.content told) in IsItemName.by_step i x (omega (arith, e, n, one)) at told h
+      let n = length-said_by before (z ∷ []) in let one = length-said_by_one z x.sequent (content-says x z.content told) in IsItemName.by_step i x (omega (arith, e, n, one)) at told h
 
   high-low : (a : ℕ) → 97 ≤ a → a ≤ 84 → ⊥
   high-low a h l = omega (arith, h, l)
@@ -170,7 +160,8 @@ module _ (symbols : Symbols) (number : ℕ → ℕ) where
   abbrev declared : Item → Declaration
   declared x = declaration symbols (renumbered number x)
 
-  declared-name : (x : Item) → (declared x).name ≡ x.name
+  -- a declaration has its item's name
+  pub declared-name : (x : Item) → (declared x).name ≡ x.name
   declared-name x = declaration-name symbols x.name (renumbered_content number x.content)
 
   pub All-declared : (P : List ℕ → Type 0) (xs : List Item) → AllByRecursion (λ (x : Item). P x.name) xs → AllByRecursion (λ (d : Declaration). P d.name) (map (declaration symbols) (map (renumbered number) xs))

@@ -16,6 +16,7 @@ use Rattle.proof_laws.specs.ProofGrowth.{sequents_of-append, proof-sequents, All
 use Rattle.article_spec.specs.SoundRuns.{IsSoundRun}
 use Rattle.hol_spec.specs.Lists.{IsIn}
 use Rattle.hol_laws.specs.Members.{All-at, All-each, All-left, All-right, All-append, All-weaker, All-mapped}
+use Rattle.hol_laws.specs.PlaceLaws.{slice_get-mapped}
 use Rattle.lp_spec.specs.Modules.{Declaration, signature, symbol_declaration}
 use Rattle.lp_spec.specs.Lemmas.{lemmas, sym_lemma, trans_lemma}
 use Rattle.module_spec.specs.Scopes.{Symbols, sequent_tree}
@@ -34,12 +35,13 @@ use Rattle.module_laws.specs.WantedItems.{AreMadeInOrder, made-numbered}
 use Rattle.module_laws.specs.TermScopeLaws.{AreInstances}
 use Rattle.module_laws.specs.TheoremTyping.{HasInstances}
 use Rattle.module_laws.specs.SequentEncoding.{TermMeant, sequent_tree-Enc}
+use Rattle.module_laws.specs.SaidItems.{says-renumbered}
 use Rattle.run_laws.specs.Origins.{Origin, HaveOrigins}
 use Rattle.run_laws.specs.Named.{HasNames}
 use Rattle.run_laws.specs.NewNames.{constant_named, IsSymbolName}
 use Rattle.run_laws.specs.RunModules.{IsItemName, content-says, item_name-is}
 use Rattle.run_laws.specs.Meanings.{ItemMeant, ContentMeant, content-meant, symbol-meant}
-use Rattle.lp_shape.specs.PricedModules.{slice_get-front}
+use Rattle.lp_binding.specs.LookUps.{slice_get-seam}
 
 -- sequents of a run are within the limits
 within-all : (m : List Made) → IsOver m → AllByRecursion SequentWithin (sequents_of m)
@@ -49,11 +51,6 @@ within-all m (made.Each.more {made = before} (Made.symbol x) p h is) =
 within-all m (made.Each.more {made = before} (Made.step x) p h is) =
     subst (AllByRecursion SequentWithin) (sym (ap sequents_of is ∙ sequents_of-append before (Made.step x ∷ [])))
     (All-append SequentWithin (sequents_of before) (x.sequent ∷ []) (within-all before p) (h.within, tt {0}))
-
-get-map : {A B : Type 0} (f : A → B) (xs : List A) (i : ℕ) (x : A) → slice_get xs i ≡ Some x → slice_get (map f xs) i ≡ Some (f x)
-get-map f [] i x e = absurd (cc)
-get-map f (y ∷ xs) zero x e = ap (λ z. Some (f z)) (same_Some _ _ e)
-get-map f (y ∷ xs) (suc i) x e = get-map f xs i x e
 
 pub skip : {A : Type 0} (xs ys : List A) (k : ℕ) → slice_get (xs ++ ys) (length xs + k) ≡ slice_get ys k
 skip [] ys k = let z : 0 + k ≡ k = omega arith in ap (slice_get ys) z
@@ -72,13 +69,6 @@ module _ (number : ℕ → ℕ) where
   constant_named-renumbered (unproved s) = refl
   constant_named-renumbered (step kind js ss g s) = refl
 
-  pub says-renumbered : (c : Content) → says (renumbered_content number c) ≡ says c
-  says-renumbered (operator n k) = refl
-  says-renumbered (constant n a) = refl
-  says-renumbered (defined_constant n a t) = refl
-  says-renumbered (unproved s) = refl
-  says-renumbered (step kind js ss g s) = refl
-
   name-renumbered : (ss : List Symbol) (c : Content) (name : List ℕ) → IsSymbolName ss c name → IsSymbolName ss (renumbered_content number c) name
   name-renumbered ss c name (IsSymbolName.an_input n is e w) = IsSymbolName.an_input n is (ap (renumbered_content number) e) w
   name-renumbered ss c name (IsSymbolName.an_input_operator n k is e w) = IsSymbolName.an_input_operator n k is (ap (renumbered_content number) e) w
@@ -87,7 +77,7 @@ module _ (number : ℕ → ℕ) where
 
   kind-renumbered : (run : Accepted) (z : Item) → IsKind run z → IsKind run (renumbered number z)
   kind-renumbered run z (IsKind.naming h) = IsKind.naming (name-renumbered (symbols_of run.made) z.content z.name h)
-  kind-renumbered run z (IsKind.saying i x at e) = IsKind.saying i x at (says-renumbered z.content ∙ e)
+  kind-renumbered run z (IsKind.saying i x at e) = IsKind.saying i x at (says-renumbered number z.content ∙ e)
 
 kind-of : (run : Accepted) (P : ℕ → Type 0) (z : Item) → IsItemName run P z → IsKind run z
 kind-of run P z (IsItemName.by_symbol h) = IsKind.naming h
@@ -150,7 +140,7 @@ module _ (run : Accepted) (named : HasNames run) (sound : IsSoundRun run) where
       let D = declaration symbols in
       ap (symbol_declaration m) e ∙ skip signature m (length lemmas + length before) ∙ skip lemmas (map D stays) (length before)
       ∙ ap (λ l. slice_get (map D l) (length before)) whole ∙ ap (λ l. slice_get l (length before)) (map-append D before (z ∷ xs))
-      ∙ ap (slice_get (map D before ++ map D (z ∷ xs))) (sym (length-map before D)) ∙ slice_get-front (map D before) (map D xs) (D z)
+      ∙ ap (slice_get (map D before ++ map D (z ∷ xs))) (sym (length-map before D)) ∙ slice_get-seam (map D before) (map D xs) (D z)
 
   abbrev pub BothMeant : Item → Type 0
   BothMeant z = ItemMeant m symbols z.content × ContentMeant m symbols z.content
@@ -234,7 +224,7 @@ module _ (run : Accepted) (named : HasNames run) (sound : IsSoundRun run) where
         silent ss c name (IsSymbolName.an_operator names a g is among e w) s f = let g : None ≡ Some s = sym (ap says e) ∙ f in absurd (cc)
     stand z meant (IsKind.saying i x at e) s f =
         let same : x.sequent ≡ s = same_Some _ _ (sym e ∙ f) in
-        let got : slice_get (sequents_of run.made) i ≡ Some x.sequent = get-map (λ (y : Step). y.sequent) (steps_of run.made) i x at in
+        let got : slice_get (sequents_of run.made) i ≡ Some x.sequent = slice_get-mapped (λ (y : Step). y.sequent) (steps_of run.made) i x at in
         let is : IsSequent x.sequent = All-get IsSequent (sequents_of run.made) i x.sequent (proof-sequents run.made sound.proof) got in
         let within : SequentWithin x.sequent = All-get SequentWithin (sequents_of run.made) i x.sequent (within-all run.made sound.over) got in
         let terms = content-terms z.content s f meant.1 in

@@ -1,8 +1,8 @@
 -- The tree of a sequent uses the symbols of what the sequent mentions, or a constant whose generic type mentions it.
 use Rattle.std.proofs.Common.{◌≡◌, ℕ, ◌+◌, List, [], ◌∷◌, ◌++◌, map, Bool, true, false, ◌||◌, ◌⊎◌, inl, inr, refl, sym, ap, subst, ◌∙◌}
 use Rattle.std.specs.Prelude.{nat_eq}
-use Rattle.std.specs.Cmp.{unsigned_Decides}
 use Rattle.std.specs.List.{list_any, flat_map}
+use Rattle.std.proofs.lemmas.Bool.{or_right, or_left, eq-eqb}
 use Rattle.hol_spec.specs.Names.{Name}
 use Rattle.hol_spec.specs.NameEquality.{name_eq}
 use Rattle.hol_laws.specs.NameEqualityLaws.{name_eq-Decides}
@@ -14,7 +14,7 @@ use Rattle.hol_spec.specs.Terms.{Term, Variable, variable_eq, free_places}
 use Rattle.hol_laws.specs.TermLaws.{variable_eq-Decides}
 use Rattle.hol_spec.specs.Sequents.{Sequent, terms_of, type_variables_of, free_variables_of}
 use Rattle.hol_spec.specs.Lists.{IsIn}
-use Rattle.hol_laws.specs.Members.{IsIn-either, IsIn-left, IsIn-right, IsIn-distinct, All-at}
+use Rattle.hol_laws.specs.Members.{IsIn-either, IsIn-left, IsIn-right, IsIn-distinct, All-at, IsIn-flat_map, flat_map-part}
 use Rattle.hol_laws.specs.GenericInstances.{filled_in, filled_in_all, Instance-filled_in, type_arguments-filled_in}
 use Rattle.lp_spec.specs.Trees.{Tree, Sym, App}
 use Rattle.lp_spec.specs.Modules.{applied, products, types, term_of, proof_of}
@@ -23,7 +23,6 @@ use Rattle.module_spec.specs.Reach.{Key, operator_key, constant_key, number_key,
 use Rattle.module_spec.specs.Stands.{occurs}
 use Rattle.module_laws.specs.TermScopeLaws.{AreInstances}
 use Rattle.module_laws.specs.TheoremTyping.{HasInstances}
-use Rattle.proof_laws.specs.SymbolGrowth.{or-first, or-second}
 
 -- the symbol of a key
 abbrev pub symbol_of_key : Symbols → Key → ℕ
@@ -31,21 +30,18 @@ symbol_of_key symbols (operator_key n k) = operator_symbol symbols n k
 symbol_of_key symbols (constant_key n) = constant_symbol symbols n
 symbol_of_key symbols (number_key i) = i
 
-self : (s : ℕ) → nat_eq s s ≡ true
-self s = (unsigned_Decides s s).1 refl
-
 -- in an application, in a product and in a list
 module _ (s : ℕ) where
   pub head-occurs : (f : Tree) (xs : List Tree) → occurs s f ≡ true → occurs s (applied f xs) ≡ true
   head-occurs f [] e = e
-  head-occurs f (x ∷ xs) e = head-occurs (App f x) xs (or-first (occurs s f) (occurs s x) e)
+  head-occurs f (x ∷ xs) e = head-occurs (App f x) xs (or_left (occurs s f) (occurs s x) e)
 
   pub argument-occurs : (f : Tree) (xs : List Tree) → list_any (occurs s) xs ≡ true → occurs s (applied f xs) ≡ true
   argument-occurs f [] e = absurd (cc)
   argument-occurs f (x ∷ xs) e = go (occurs s x) refl e (argument-occurs (App f x) xs)
     where
       go : (b : Bool) → occurs s x ≡ b → (b || list_any (occurs s) xs) ≡ true → (list_any (occurs s) xs ≡ true → occurs s (applied (App f x) xs) ≡ true) → occurs s (applied (App f x) xs) ≡ true
-      go true is e rest = head-occurs (App f x) xs (or-second (occurs s f) (occurs s x) is)
+      go true is e rest = head-occurs (App f x) xs (or_right (occurs s f) (occurs s x) is)
       go false is e rest = rest e
 
   pub domain-occurs : (domains : List Tree) (t : Tree) → list_any (occurs s) domains ≡ true → occurs s (products domains t) ≡ true
@@ -58,7 +54,7 @@ module _ (s : ℕ) where
 
   pub end-occurs : (domains : List Tree) (t : Tree) → occurs s t ≡ true → occurs s (products domains t) ≡ true
   end-occurs [] t e = e
-  end-occurs (d ∷ domains) t e = or-second (occurs s d) (occurs s (products domains t)) (end-occurs domains t e)
+  end-occurs (d ∷ domains) t e = or_right (occurs s d) (occurs s (products domains t)) (end-occurs domains t e)
 
   any-left : (xs ys : List Tree) → list_any (occurs s) xs ≡ true → list_any (occurs s) (xs ++ ys) ≡ true
   any-left [] ys e = absurd (cc)
@@ -70,7 +66,7 @@ module _ (s : ℕ) where
 
   any-right : (xs ys : List Tree) → list_any (occurs s) ys ≡ true → list_any (occurs s) (xs ++ ys) ≡ true
   any-right [] ys e = e
-  any-right (x ∷ xs) ys e = or-second (occurs s x) (list_any (occurs s) (xs ++ ys)) (any-right xs ys e)
+  any-right (x ∷ xs) ys e = or_right (occurs s x) (list_any (occurs s) (xs ++ ys)) (any-right xs ys e)
 
 module _ (symbols : Symbols) (k : Key) where
   abbrev s : ℕ
@@ -81,14 +77,14 @@ module _ (symbols : Symbols) (k : Key) where
     pub type-uses : (t : HolType) → IsIn (type_keys t) k → (scope : TypeScope) → occurs s (type_tree symbols scope t) ≡ true
     type-uses (type.HolType.variable n) i scope = absurd i
     type-uses (type.HolType.operator n ts) (inl e) scope =
-        head-occurs s (Sym (operator_symbol symbols n (count ts))) (type_trees symbols scope ts) (ap (λ (j : Key). nat_eq (symbol_of_key symbols j) (operator_symbol symbols n (count ts))) e ∙ self (operator_symbol symbols n (count ts)))
+        head-occurs s (Sym (operator_symbol symbols n (count ts))) (type_trees symbols scope ts) (ap (λ (j : Key). nat_eq (symbol_of_key symbols j) (operator_symbol symbols n (count ts))) e ∙ eq-eqb (operator_symbol symbols n (count ts)) (operator_symbol symbols n (count ts)) refl)
     type-uses (type.HolType.operator n ts) (inr i) scope = argument-occurs s (Sym (operator_symbol symbols n (count ts))) (type_trees symbols scope ts) (types-use ts i scope)
 
     types-use : (ts : HolTypes) → IsIn (types_keys ts) k → (scope : TypeScope) → list_any (occurs s) (type_trees symbols scope ts) ≡ true
     types-use type.HolTypes.none i scope = absurd i
     types-use (type.HolTypes.more t ts) i scope = elim (IsIn-either (type_keys t) (types_keys ts) k i) [
-      | inl j ↦ or-first (occurs s (type_tree symbols scope t)) (list_any (occurs s) (type_trees symbols scope ts)) (type-uses t j scope)
-      | inr j ↦ or-second (occurs s (type_tree symbols scope t)) (list_any (occurs s) (type_trees symbols scope ts)) (types-use ts j scope)
+      | inl j ↦ or_left (occurs s (type_tree symbols scope t)) (list_any (occurs s) (type_trees symbols scope ts)) (type-uses t j scope)
+      | inr j ↦ or_right (occurs s (type_tree symbols scope t)) (list_any (occurs s) (type_trees symbols scope ts)) (types-use ts j scope)
     ]
 
   mutual
@@ -121,8 +117,8 @@ module _ (symbols : Symbols) (k : Key) where
   mapped-use : (f : Name → HolType) (vs : List Name) (n : Name) → IsIn vs n → IsIn (type_keys (f n)) k → (scope : TypeScope) → list_any (occurs s) (map (type_tree symbols scope) (map f vs)) ≡ true
   mapped-use f [] n i h scope = absurd i
   mapped-use f (v ∷ vs) n (inl e) h scope =
-      or-first (occurs s (type_tree symbols scope (f v))) (list_any (occurs s) (map (type_tree symbols scope) (map f vs))) (type-uses (f v) (subst (λ m. IsIn (type_keys (f m)) k) e h) scope)
-  mapped-use f (v ∷ vs) n (inr i) h scope = or-second (occurs s (type_tree symbols scope (f v))) (list_any (occurs s) (map (type_tree symbols scope) (map f vs))) (mapped-use f vs n i h scope)
+      or_left (occurs s (type_tree symbols scope (f v))) (list_any (occurs s) (map (type_tree symbols scope) (map f vs))) (type-uses (f v) (subst (λ m. IsIn (type_keys (f m)) k) e h) scope)
+  mapped-use f (v ∷ vs) n (inr i) h scope = or_right (occurs s (type_tree symbols scope (f v))) (list_any (occurs s) (map (type_tree symbols scope) (map f vs))) (mapped-use f vs n i h scope)
 
   -- a term uses what it mentions in each scope, or mentions it in the type of a free variable, or uses a constant whose generic type mentions it
   pub data TermUses (t : Term) : Type 0 where
@@ -136,41 +132,41 @@ module _ (symbols : Symbols) (k : Key) where
       let w = Instance-filled_in g t h in
       let own : type_arguments g t ≡ map w.0 (type_variables g) = ap (type_arguments g) (sym w.1) ∙ type_arguments-filled_in w.0 g in
       elim (filled-keys w.0 g (subst (λ u. IsIn (type_keys u) k) (sym w.1) i)) [
-        | inl j ↦ TermUses.by_constant n (λ scope. head-occurs (constant_symbol symbols n) (Sym (constant_symbol symbols n)) (map (type_tree symbols scope.types) (type_arguments g t)) (self (constant_symbol symbols n))) j
+        | inl j ↦ TermUses.by_constant n (λ scope. head-occurs (constant_symbol symbols n) (Sym (constant_symbol symbols n)) (map (type_tree symbols scope.types) (type_arguments g t)) (eq-eqb (constant_symbol symbols n) (constant_symbol symbols n) refl)) j
         | inr v ↦ TermUses.itself (λ scope. argument-occurs s (Sym (constant_symbol symbols n)) (map (type_tree symbols scope.types) (type_arguments g t))
             (ap (λ ts. list_any (occurs s) (map (type_tree symbols scope.types) ts)) own ∙ mapped-use w.0 (type_variables g) v.0 (IsIn-distinct name_eq name_eq-Decides (variable_places g) v.0 v.1) v.2 scope.types))
       ]
 
   in-function : (f x : Term) → TermUses f → TermUses (term.Term.app f x)
-  in-function f x (TermUses.itself h) = TermUses.itself (λ scope. or-first (occurs s (term_tree symbols scope f)) (occurs s (term_tree symbols scope x)) (h scope))
+  in-function f x (TermUses.itself h) = TermUses.itself (λ scope. or_left (occurs s (term_tree symbols scope f)) (occurs s (term_tree symbols scope x)) (h scope))
   in-function f x (TermUses.by_variable v i h) = TermUses.by_variable v (IsIn-left (free_places f) (free_places x) v i) h
-  in-function f x (TermUses.by_constant n h i) = TermUses.by_constant n (λ scope. or-first (occurs (constant_symbol symbols n) (term_tree symbols scope f)) (occurs (constant_symbol symbols n) (term_tree symbols scope x)) (h scope)) i
+  in-function f x (TermUses.by_constant n h i) = TermUses.by_constant n (λ scope. or_left (occurs (constant_symbol symbols n) (term_tree symbols scope f)) (occurs (constant_symbol symbols n) (term_tree symbols scope x)) (h scope)) i
 
   in-argument : (f x : Term) → TermUses x → TermUses (term.Term.app f x)
-  in-argument f x (TermUses.itself h) = TermUses.itself (λ scope. or-second (occurs s (term_tree symbols scope f)) (occurs s (term_tree symbols scope x)) (h scope))
+  in-argument f x (TermUses.itself h) = TermUses.itself (λ scope. or_right (occurs s (term_tree symbols scope f)) (occurs s (term_tree symbols scope x)) (h scope))
   in-argument f x (TermUses.by_variable v i h) = TermUses.by_variable v (IsIn-right (free_places f) (free_places x) v i) h
-  in-argument f x (TermUses.by_constant n h i) = TermUses.by_constant n (λ scope. or-second (occurs (constant_symbol symbols n) (term_tree symbols scope f)) (occurs (constant_symbol symbols n) (term_tree symbols scope x)) (h scope)) i
+  in-argument f x (TermUses.by_constant n h i) = TermUses.by_constant n (λ scope. or_right (occurs (constant_symbol symbols n) (term_tree symbols scope f)) (occurs (constant_symbol symbols n) (term_tree symbols scope x)) (h scope)) i
 
   in-body : (t : HolType) (b : Term) → TermUses b → TermUses (term.Term.lam t b)
-  in-body t b (TermUses.itself h) = TermUses.itself (λ scope. or-second (occurs s (term_of (type_tree symbols scope.types t))) (occurs s (term_tree symbols (inside scope) b)) (h (inside scope)))
+  in-body t b (TermUses.itself h) = TermUses.itself (λ scope. or_right (occurs s (term_of (type_tree symbols scope.types t))) (occurs s (term_tree symbols (inside scope) b)) (h (inside scope)))
   in-body t b (TermUses.by_variable v i h) = TermUses.by_variable v i h
   in-body t b (TermUses.by_constant n h i) =
-      TermUses.by_constant n (λ scope. or-second (occurs (constant_symbol symbols n) (term_of (type_tree symbols scope.types t))) (occurs (constant_symbol symbols n) (term_tree symbols (inside scope) b)) (h (inside scope))) i
+      TermUses.by_constant n (λ scope. or_right (occurs (constant_symbol symbols n) (term_of (type_tree symbols scope.types t))) (occurs (constant_symbol symbols n) (term_tree symbols (inside scope) b)) (h (inside scope))) i
 
   pub term-uses : (t : Term) → AreInstances symbols t → IsIn (term_keys t) k → TermUses t
   term-uses (term.Term.free n t) h i = TermUses.by_variable (n, t) (inl refl) i
   term-uses (term.Term.bound j) h i = absurd i
   term-uses (term.Term.constant n t) h (inl e) =
       TermUses.itself (λ scope. head-occurs s (Sym (constant_symbol symbols n)) (map (type_tree symbols scope.types) (type_arguments (generic_type symbols n) t))
-      (ap (λ (j : Key). nat_eq (symbol_of_key symbols j) (constant_symbol symbols n)) e ∙ self (constant_symbol symbols n)))
+      (ap (λ (j : Key). nat_eq (symbol_of_key symbols j) (constant_symbol symbols n)) e ∙ eq-eqb (constant_symbol symbols n) (constant_symbol symbols n) refl))
   term-uses (term.Term.constant n t) h (inr i) = constant-uses n t h i
   term-uses (term.Term.app f x) h i = elim (IsIn-either (term_keys f) (term_keys x) k i) [
     | inl j ↦ in-function f x (term-uses f h.0 j)
     | inr j ↦ in-argument f x (term-uses x h.1 j)
   ]
   term-uses (term.Term.lam t b) h i = elim (IsIn-either (type_keys t) (term_keys b) k i) [
-    | inl j ↦ TermUses.itself (λ scope. or-first (occurs s (term_of (type_tree symbols scope.types t))) (occurs s (term_tree symbols (inside scope) b))
-        (or-second (nat_eq s 4) (occurs s (type_tree symbols scope.types t)) (type-uses t j scope.types)))
+    | inl j ↦ TermUses.itself (λ scope. or_left (occurs s (term_of (type_tree symbols scope.types t))) (occurs s (term_tree symbols (inside scope) b))
+        (or_right (nat_eq s 4) (occurs s (type_tree symbols scope.types t)) (type-uses t j scope.types)))
     | inr j ↦ in-body t b (term-uses b h j)
   ]
 
@@ -183,18 +179,18 @@ module _ (symbols : Symbols) (k : Key) where
   variable-domain : (vs : List Variable) (v : Variable) → IsIn vs v → IsIn (type_keys v.1) k → (scope : Scope) → list_any (occurs s) (term_domains symbols vs scope) ≡ true
   variable-domain [] v i h scope = absurd i
   variable-domain (w ∷ vs) v (inl e) h scope =
-      or-first (occurs s (term_of (type_tree symbols scope.types w.1))) (list_any (occurs s) (term_domains symbols vs (under_term w scope)))
-      (or-second (nat_eq s 4) (occurs s (type_tree symbols scope.types w.1)) (type-uses w.1 (subst (λ (u : Variable). IsIn (type_keys u.1) k) e h) scope.types))
+      or_left (occurs s (term_of (type_tree symbols scope.types w.1))) (list_any (occurs s) (term_domains symbols vs (under_term w scope)))
+      (or_right (nat_eq s 4) (occurs s (type_tree symbols scope.types w.1)) (type-uses w.1 (subst (λ (u : Variable). IsIn (type_keys u.1) k) e h) scope.types))
   variable-domain (w ∷ vs) v (inr i) h scope =
-      or-second (occurs s (term_of (type_tree symbols scope.types w.1))) (list_any (occurs s) (term_domains symbols vs (under_term w scope))) (variable-domain vs v i h (under_term w scope))
+      or_right (occurs s (term_of (type_tree symbols scope.types w.1))) (list_any (occurs s) (term_domains symbols vs (under_term w scope))) (variable-domain vs v i h (under_term w scope))
 
   formula-domain : (r : ℕ) (hs : List Term) (h : Term) → IsIn hs h → ((scope : Scope) → occurs r (term_tree symbols scope h) ≡ true) → (scope : Scope) → list_any (occurs r) (proof_domains symbols hs scope) ≡ true
   formula-domain r [] h i f scope = absurd i
   formula-domain r (g ∷ hs) h (inl e) f scope =
-      or-first (occurs r (proof_of (term_tree symbols scope g))) (list_any (occurs r) (proof_domains symbols hs (under_proof g scope)))
-      (or-second (nat_eq r 7) (occurs r (term_tree symbols scope g)) (ap (λ u. occurs r (term_tree symbols scope u)) (sym e) ∙ f scope))
+      or_left (occurs r (proof_of (term_tree symbols scope g))) (list_any (occurs r) (proof_domains symbols hs (under_proof g scope)))
+      (or_right (nat_eq r 7) (occurs r (term_tree symbols scope g)) (ap (λ u. occurs r (term_tree symbols scope u)) (sym e) ∙ f scope))
   formula-domain r (g ∷ hs) h (inr i) f scope =
-      or-second (occurs r (proof_of (term_tree symbols scope g))) (list_any (occurs r) (proof_domains symbols hs (under_proof g scope))) (formula-domain r hs h i f (under_proof g scope))
+      or_right (occurs r (proof_of (term_tree symbols scope g))) (list_any (occurs r) (proof_domains symbols hs (under_proof g scope))) (formula-domain r hs h i f (under_proof g scope))
 
   module _ (q : Sequent) (instances : HasInstances symbols q) where
     -- a term of the sequent, wherever it stands
@@ -204,7 +200,7 @@ module _ (symbols : Symbols) (k : Key) where
           (any-right r (map (λ n. types) (type_variables_of q) ++ term_domains symbols (free_variables_of q) (scope_of_types symbols q)) (proof_domains symbols q.hypotheses (scope_of_terms symbols q))
           (formula-domain r q.hypotheses t j f (scope_of_terms symbols q)))
       | inr (inl e) ↦ end-occurs r (domains_of symbols q) (conclusion_tree symbols q)
-          (or-second (nat_eq r 7) (occurs r (term_tree symbols (scope_of symbols q) q.conclusion)) (ap (λ u. occurs r (term_tree symbols (scope_of symbols q) u)) (sym e) ∙ f (scope_of symbols q)))
+          (or_right (nat_eq r 7) (occurs r (term_tree symbols (scope_of symbols q) q.conclusion)) (ap (λ u. occurs r (term_tree symbols (scope_of symbols q) u)) (sym e) ∙ f (scope_of symbols q)))
       | inr (inr none) ↦ absurd none
     ]
 
@@ -213,29 +209,17 @@ module _ (symbols : Symbols) (k : Key) where
         (any-left s (map (λ n. types) (type_variables_of q) ++ term_domains symbols (free_variables_of q) (scope_of_types symbols q)) (proof_domains symbols q.hypotheses (scope_of_terms symbols q))
         (any-right s (map (λ n. types) (type_variables_of q)) (term_domains symbols (free_variables_of q) (scope_of_types symbols q)) (variable-domain (free_variables_of q) v i h (scope_of_types symbols q))))
 
-    flat-IsIn : {A B : Type 0} (f : A → List B) (xs : List A) (x : A) (y : B) → IsIn xs x → IsIn (f x) y → IsIn (flat_map f xs) y
-    flat-IsIn f [] x y i j = absurd i
-    flat-IsIn f (z ∷ xs) x y (inl e) j = IsIn-left (f z) (flat_map f xs) y (subst (λ u. IsIn (f u) y) e j)
-    flat-IsIn f (z ∷ xs) x y (inr i) j = IsIn-right (f z) (flat_map f xs) y (flat-IsIn f xs x y i j)
-
-    flat-from : {A B : Type 0} (f : A → List B) (xs : List A) (y : B) → IsIn (flat_map f xs) y → (x : A) × IsIn xs x × IsIn (f x) y
-    flat-from f [] y i = absurd i
-    flat-from f (z ∷ xs) y i = elim (IsIn-either (f z) (flat_map f xs) y i) [
-      | inl j ↦ (z, inl refl, j)
-      | inr j ↦ let r = flat-from f xs y j in (r.0, inr r.1, r.2)
-    ]
-
     formula-uses : (t : Term) → IsIn (terms_of q) t → TermUses t → TreeUses (sequent_tree symbols q)
     formula-uses t i (TermUses.itself f) = TreeUses.it (formula-occurs s t i f)
     formula-uses t i (TermUses.by_variable v j h) =
-        TreeUses.it (variable-occurs v (IsIn-distinct variable_eq variable_eq-Decides (flat_map free_places (terms_of q)) v (flat-IsIn free_places (terms_of q) t v i j)) h)
+        TreeUses.it (variable-occurs v (IsIn-distinct variable_eq variable_eq-Decides (flat_map free_places (terms_of q)) v (IsIn-flat_map free_places (terms_of q) t v i j)) h)
     formula-uses t i (TermUses.by_constant n f h) = TreeUses.constant_of n (formula-occurs (constant_symbol symbols n) t i f) h
 
     -- THE TREE OF A SEQUENT USES WHAT THE SEQUENT MENTIONS
     pub sequent-uses : IsIn (sequent_keys q) k → TreeUses (sequent_tree symbols q)
     sequent-uses i = elim (IsIn-either (flat_map term_keys q.hypotheses) (term_keys q.conclusion) k i) [
       | inl j ↦
-          let w = flat-from term_keys q.hypotheses k j in
+          let w = flat_map-part term_keys q.hypotheses k j in
           formula-uses w.0 (IsIn-left q.hypotheses (q.conclusion ∷ []) w.0 w.1) (term-uses w.0 (All-at (AreInstances symbols) q.hypotheses w.0 instances.hypotheses w.1) w.2)
       | inr j ↦ formula-uses q.conclusion (IsIn-right q.hypotheses (q.conclusion ∷ []) q.conclusion (inl refl)) (term-uses q.conclusion instances.conclusion j)
     ]

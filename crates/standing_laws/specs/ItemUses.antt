@@ -4,6 +4,7 @@ use Rattle.std.specs.Prelude.{nat_eq}
 use Rattle.std.specs.Cmp.{unsigned_Decides}
 use Rattle.std.specs.Option.{option_map_or}
 use Rattle.std.specs.List.{AllByRecursion, list_any}
+use Rattle.std.proofs.lemmas.Bool.{or_right, or_left}
 use Rattle.hol_spec.specs.Names.{Name}
 use Rattle.hol_spec.specs.Types.{HolType, type_variables}
 use Rattle.hol_spec.specs.Primitives.{equality_name, equality_type}
@@ -19,7 +20,7 @@ use Rattle.hol_spec.specs.Rules as rule
 use Rattle.hol_spec.specs.declared.StepKind.{StepKind}
 use Rattle.hol_spec.specs.declared.StepKind.TheVariants as kinds
 use Rattle.hol_spec.specs.Lists.{IsIn}
-use Rattle.hol_laws.specs.Members.{IsIn-either, IsIn-left, IsIn-right, All-at}
+use Rattle.hol_laws.specs.Members.{IsIn-either, IsIn-left, IsIn-right, All-at, flat_map-part}
 use Rattle.proof_laws.specs.RuleTaken.{list_parts}
 use Rattle.lp_spec.specs.Trees.{Tree, Sym}
 use Rattle.lp_spec.specs.Modules.{Declaration, abstractions, types, term_of}
@@ -34,10 +35,8 @@ use Rattle.module_laws.specs.MadeModules.{AreMade}
 use Rattle.module_laws.specs.BodyTyping.{IsIn-map}
 use Rattle.run_laws.specs.Uses.{symbol_of_key, head-occurs, argument-occurs, end-occurs, type-uses, TermUses, term-uses, TreeUses, sequent-uses}
 use Rattle.run_laws.specs.PremiseUses.{ProvesHypothesis, premises-used}
-use Rattle.standing_laws.specs.Keys.{flat-from}
 use Rattle.standing_laws.specs.ModuleItems.{has-told, has-among, term-instances, sequent-instances}
 use Rattle.standing_laws.specs.ListedVariables.{listed-free, listed-variable, constant-put, put-from}
-use Rattle.proof_laws.specs.SymbolGrowth.{or-first, or-second}
 
 -- the premise that proves a hypothesis proves one of the other premise
 abbrev pub IsUsing : Content → Type 0
@@ -53,19 +52,19 @@ pub data KeyUses (symbols : Symbols) (k : Key) (d : Declaration) : Type 0 where
   by_constant : (n : Name) → uses d (constant_symbol symbols n) ≡ true → IsIn (type_keys (generic_type symbols n)) k → KeyUses symbols k d
 
 pub type-use : (d : Declaration) (r : ℕ) → occurs r d.ty ≡ true → uses d r ≡ true
-type-use d r e = or-first (occurs r d.ty) (option_map_or (occurs r) d.body false) e
+type-use d r e = or_left (occurs r d.ty) (option_map_or (occurs r) d.body false) e
 
 body-use : (d : Declaration) (r : ℕ) (b : Tree) → d.body ≡ Some b → occurs r b ≡ true → uses d r ≡ true
-body-use d r b is e = or-second (occurs r d.ty) (option_map_or (occurs r) d.body false) (ap (λ o. option_map_or (occurs r) o false) is ∙ e)
+body-use d r b is e = or_right (occurs r d.ty) (option_map_or (occurs r) d.body false) (ap (λ o. option_map_or (occurs r) o false) is ∙ e)
 
 under-abstractions : (r : ℕ) (domains : List Tree) (t : Tree) → occurs r t ≡ true → occurs r (abstractions domains t) ≡ true
 under-abstractions r [] t e = e
-under-abstractions r (a ∷ domains) t e = or-second (occurs r a) (occurs r (abstractions domains t)) (under-abstractions r domains t e)
+under-abstractions r (a ∷ domains) t e = or_right (occurs r a) (occurs r (abstractions domains t)) (under-abstractions r domains t e)
 
 any-at : (r : ℕ) (ts : List Tree) (t : Tree) → IsIn ts t → occurs r t ≡ true → list_any (occurs r) ts ≡ true
 any-at r [] t i e = absurd i
-any-at r (u ∷ ts) t (inl is) e = or-first (occurs r u) (list_any (occurs r) ts) (ap (occurs r) (sym is) ∙ e)
-any-at r (u ∷ ts) t (inr i) e = or-second (occurs r u) (list_any (occurs r) ts) (any-at r ts t i e)
+any-at r (u ∷ ts) t (inl is) e = or_left (occurs r u) (list_any (occurs r) ts) (ap (occurs r) (sym is) ∙ e)
+any-at r (u ∷ ts) t (inr i) e = or_right (occurs r u) (list_any (occurs r) ts) (any-at r ts t i e)
 
 module _ (symbols : Symbols) (k : Key) where
   -- the type of a constant uses what its generic type mentions
@@ -73,7 +72,7 @@ module _ (symbols : Symbols) (k : Key) where
   generic-uses a i =
       let r = symbol_of_key symbols k in
       let scope = under_types (type_variables a) unfilled in
-      end-occurs r (map (λ n. types) (type_variables a)) (term_of (type_tree symbols scope a)) (or-second (nat_eq r 4) (occurs r (type_tree symbols scope a)) (type-uses symbols k a i scope))
+      end-occurs r (map (λ n. types) (type_variables a)) (term_of (type_tree symbols scope a)) (or_right (nat_eq r 4) (occurs r (type_tree symbols scope a)) (type-uses symbols k a i scope))
 
   in-type : (d : Declaration) → TreeUses symbols k d.ty → KeyUses symbols k d
   in-type d (TreeUses.it e) = KeyUses.it (type-use d (symbol_of_key symbols k) e)
@@ -132,7 +131,7 @@ module _ (xs : List Item) (made : AreMade [] xs) (before : List Item) (among : (
       → AllByRecursion (λ v. (t : Term) × IsDefinedBy before (constants_put pairs) v t) (free_variables_of one) → IsIn (given_keys (Parameters.constants pairs)) k
       → ConstantUsed kinds.DefineConstList js (one ∷ []) (Parameters.constants pairs)
   list-uses js pairs one given_from good defines i =
-      let w = flat-from (λ (p : Variable × Term). term_keys p.1) (constants_put pairs) k i in
+      let w = flat_map-part (λ (p : Variable × Term). term_keys p.1) (constants_put pairs) k i in
       let p = put-from pairs w.0 w.1 in
       let n = p.0.0 in
       let v = p.0.1 in

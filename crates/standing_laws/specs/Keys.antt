@@ -1,5 +1,5 @@
 -- Keys: what types, terms and sequents mention are operators and constants.
-use Rattle.std.proofs.Common.{◌≡◌, List, [], ◌∷◌, Bool, true, false, ◌&&◌, inl, inr, refl, sym, ap, subst}
+use Rattle.std.proofs.Common.{◌≡◌, Bool, true, false, ◌&&◌, inl, inr, refl, sym, ap, subst}
 use Rattle.std.specs.Cmp.{unsigned_Decides}
 use Rattle.std.specs.Prelude.{◌==◌}
 use Rattle.std.specs.List.{flat_map}
@@ -11,7 +11,7 @@ use Rattle.hol_spec.specs.Terms as term
 use Rattle.hol_spec.specs.Terms.{Term}
 use Rattle.hol_spec.specs.Sequents.{Sequent}
 use Rattle.hol_spec.specs.Lists.{IsIn}
-use Rattle.hol_laws.specs.Members.{IsIn-either}
+use Rattle.hol_laws.specs.Members.{IsIn-either, flat_map-part}
 use Rattle.module_spec.specs.Reach.{Key, operator_key, constant_key, number_key, type_keys, types_keys, term_keys, sequent_keys, key_eq}
 
 -- keys that pass the test are one
@@ -65,16 +65,8 @@ term_keys-symbols (term.Term.lam t b) k i = elim (IsIn-either (type_keys t) (ter
   | inr j ↦ term_keys-symbols b k j
 ]
 
--- a member of a joined list is one of a part
-pub flat-from : {A B : Type 0} (f : A → List B) (xs : List A) (y : B) → IsIn (flat_map f xs) y → (x : A) × IsIn xs x × IsIn (f x) y
-flat-from f [] y i = absurd i
-flat-from f (z ∷ xs) y i = elim (IsIn-either (f z) (flat_map f xs) y i) [
-  | inl j ↦ (z, inl refl, j)
-  | inr j ↦ let r = flat-from f xs y j in (r.0, inr r.1, r.2)
-]
-
 pub sequent_keys-symbols : (s : Sequent) (k : Key) → IsIn (sequent_keys s) k → IsSymbolKey k
 sequent_keys-symbols s k i = elim (IsIn-either (flat_map term_keys s.hypotheses) (term_keys s.conclusion) k i) [
-  | inl j ↦ let w = flat-from term_keys s.hypotheses k j in term_keys-symbols w.0 k w.2
+  | inl j ↦ let w = flat_map-part term_keys s.hypotheses k j in term_keys-symbols w.0 k w.2
   | inr j ↦ term_keys-symbols s.conclusion k j
 ]

@@ -4,10 +4,11 @@ use Rattle.std.specs.Prelude.{is_some, not, unwrap_or}
 use Rattle.std.specs.Map.{lookup}
 use Rattle.std.specs.List.{filter, filter_map, cons_option, flat_map}
 use Rattle.std.proofs.lemmas.Option.{same_Some}
+use Rattle.std.proofs.lemmas.Bool.{and_parts, not-true, both_ways}
 use Rattle.hol_spec.specs.Names.{Name}
 use Rattle.hol_spec.specs.Types.{HolType}
 use Rattle.hol_spec.specs.Lists.{IsIn, is_in}
-use Rattle.hol_laws.specs.Members.{IsIn-left, IsIn-right, IsIn-distinct}
+use Rattle.hol_laws.specs.Members.{IsIn-left, IsIn-distinct, IsIn-flat_map}
 use Rattle.hol_spec.specs.Terms.{Term, free, constant, Variable, variable_eq, free_places, equation}
 use Rattle.hol_laws.specs.TermLaws.{variable_eq-Decides}
 use Rattle.hol_spec.specs.TermSubstitution.{TermPairs, term_image}
@@ -16,8 +17,8 @@ use Rattle.hol_spec.specs.Repeats.{no_repeats}
 use Rattle.hol_spec.specs.Equations.{Equation, equation_parts}
 use Rattle.hol_spec.specs.DefinitionLists.{ConstantPairs, variables_of, variable_side, of_equation, variable_equation, defining_equations, definiens, is_definition_list, constants_put}
 use Rattle.proof_laws.specs.EquationLaws.{equation_parts-is}
-use Rattle.proof_laws.specs.RuleTaken.{both, list_parts}
-use Rattle.proof_laws.specs.DefinitionListLaws.{passes, not-is}
+use Rattle.proof_laws.specs.RuleTaken.{list_parts}
+use Rattle.proof_laws.specs.DefinitionListLaws.{passes}
 
 -- what is in a list passes the test
 in-list : (vs : List Variable) (v : Variable) → IsIn vs v → is_in variable_eq v vs ≡ true
@@ -64,12 +65,6 @@ equation-free : (h : Term) (o : Option Equation) → equation_parts h ≡ o → 
 equation-free h None is e f = absurd (cc)
 equation-free h (Some q) is e f = subst (λ t. IsIn (free_places t) e.0) (sym (equation_parts-is h q is)) (side-free q.left q.right q.ty e f)
 
--- a member of a part is one of the joined list
-flat-IsIn : {A B : Type 0} (f : A → List B) (xs : List A) (x : A) (y : B) → IsIn xs x → IsIn (f x) y → IsIn (flat_map f xs) y
-flat-IsIn f [] x y i j = absurd i
-flat-IsIn f (z ∷ xs) x y (inl e) j = IsIn-left (f z) (flat_map f xs) y (subst (λ u. IsIn (f u) y) e j)
-flat-IsIn f (z ∷ xs) x y (inr i) j = IsIn-right (f z) (flat_map f xs) y (flat-IsIn f xs x y i j)
-
 -- EACH VARIABLE OF THE LIST IS FREE IN THE PREMISE
 pub listed-free : (pairs : ConstantPairs) (one : Sequent) → is_definition_list pairs one ≡ true → (v : Variable) → IsIn (variables_of pairs) v → IsIn (free_variables_of one) v
 listed-free pairs one good v i =
@@ -78,10 +73,7 @@ listed-free pairs one good v i =
     let h = filtered-from variable_equation (λ e. is_in variable_eq e.0 (variables_of pairs)) one.hypotheses e.0 e.1 in
     let place = subst (IsIn (free_places h.0)) e.2 (equation-free h.0 (equation_parts h.0) refl e.0 h.2) in
     IsIn-distinct variable_eq variable_eq-Decides (flat_map free_places (terms_of one)) v
-    (flat-IsIn free_places (terms_of one) h.0 v (IsIn-left one.hypotheses (one.conclusion ∷ []) h.0 h.1) place)
-
-differ : {A : Type 0} (b : Bool) → b ≡ true → b ≡ false → A
-differ b e f = let g : true ≡ false = sym e ∙ f in absurd (cc)
+    (IsIn-flat_map free_places (terms_of one) h.0 v (IsIn-left one.hypotheses (one.conclusion ∷ []) h.0 h.1) place)
 
 -- the variable of a pair is one of the list
 pub listed-variable : (pairs : ConstantPairs) (p : Name × Variable) → IsIn pairs p → IsIn (variables_of pairs) p.1
@@ -96,12 +88,12 @@ put-at p (q ∷ qs) h (inl e) =
     ap (λ b. cond b (Some (constant q.0 q.1.1)) (lookup (variable_eq p.1) (constants_put qs))) ((variable_eq-Decides p.1 q.1).1 (ap (λ (r : Name × Variable). r.1) e))
     ∙ ap (λ (r : Name × Variable). Some (constant r.0 r.1.1)) (sym e)
 put-at p (q ∷ qs) h (inr i) =
-    let parts = both (not (is_in variable_eq q.1 (variables_of qs))) (no_repeats variable_eq (variables_of qs)) h in
-    go (variable_eq p.1 q.1) refl (variable_eq-Decides p.1 q.1).0 (not-is (is_in variable_eq q.1 (variables_of qs)) parts.0) (put-at p qs parts.1 i)
+    let parts = and_parts (not (is_in variable_eq q.1 (variables_of qs))) (no_repeats variable_eq (variables_of qs)) h in
+    go (variable_eq p.1 q.1) refl (variable_eq-Decides p.1 q.1).0 (not-true (is_in variable_eq q.1 (variables_of qs)) parts.0) (put-at p qs parts.1 i)
   where
     go : (b : Bool) → variable_eq p.1 q.1 ≡ b → (variable_eq p.1 q.1 ≡ true → p.1 ≡ q.1) → is_in variable_eq q.1 (variables_of qs) ≡ false → lookup (variable_eq p.1) (constants_put qs) ≡ Some (constant p.0 p.1.1)
         → lookup (variable_eq p.1) (constants_put (q ∷ qs)) ≡ Some (constant p.0 p.1.1)
-    go true e f new rest = differ (is_in variable_eq q.1 (variables_of qs)) (in-list (variables_of qs) q.1 (subst (IsIn (variables_of qs)) (f e) (listed-variable qs p i))) new
+    go true e f new rest = absurd (both_ways (is_in variable_eq q.1 (variables_of qs)) new (in-list (variables_of qs) q.1 (subst (IsIn (variables_of qs)) (f e) (listed-variable qs p i))))
     go false e f new rest = ap (λ b. cond b (Some (constant q.0 q.1.1)) (lookup (variable_eq p.1) (constants_put qs))) e ∙ rest
 
 -- AND ITS CONSTANT IS PUT FOR IT

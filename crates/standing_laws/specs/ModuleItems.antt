@@ -25,8 +25,8 @@ use Rattle.module_laws.specs.MadeModules.{IsNew, AreMade, items-made}
 use Rattle.module_laws.specs.TermScopeLaws.{AreInstances}
 use Rattle.module_laws.specs.TheoremTyping.{HasInstances}
 use Rattle.run_laws.specs.Uses.{symbol_of_key}
-use Rattle.lp_shape.specs.PricedModules.{slice_get-front}
 use Rattle.run_laws.specs.Standing.{skip}
+use Rattle.lp_binding.specs.LookUps.{slice_get-seam}
 
 -- where an item is declared
 pub record IsPlaced (xs : List Item) (z : Item) : Type 0 where
@@ -47,7 +47,7 @@ module _ (xs : List Item) where
       let D = declaration (symbols_of xs) in
       skip lemmas (map D xs) (length before)
       ∙ ap (λ l. slice_get (map D l) (length before)) whole ∙ ap (λ l. slice_get l (length before)) (map-append D before (z ∷ ys))
-      ∙ ap (slice_get (map D before ++ map D (z ∷ ys))) (sym (length-map before D)) ∙ slice_get-front (map D before) (map D ys) (D z)
+      ∙ ap (slice_get (map D before ++ map D (z ∷ ys))) (sym (length-map before D)) ∙ slice_get-seam (map D before) (map D ys) (D z)
 
   placed-after : (before ys : List Item) → xs ≡ before ++ ys → AreMade before ys → (z : Item) → IsIn ys z → IsPlaced xs z
   placed-after before [] whole h z i = absurd i
@@ -166,9 +166,9 @@ data First (test : Content → Bool) (xs : List Item) : Type 0 where
   an_item : (x : Item) → IsIn xs x → test x.content ≡ true → first_symbol test xs ≡ x.symbol → first_type test xs ≡ generic_of x.content → First test xs
   no_item : first_type test xs ≡ bool → First test xs
 
-first : (test : Content → Bool) (xs : List Item) → First test xs
-first test [] = First.no_item refl
-first test (x ∷ xs) = go (test x.content) refl (first test xs)
+First-each : (test : Content → Bool) (xs : List Item) → First test xs
+First-each test [] = First.no_item refl
+First-each test (x ∷ xs) = go (test x.content) refl (First-each test xs)
   where
     chosen : (b : Bool) → test x.content ≡ b → (first_symbol test (x ∷ xs) ≡ cond b x.symbol (first_symbol test xs)) × (first_type test (x ∷ xs) ≡ cond b (generic_of x.content) (first_type test xs))
     chosen b e = (ap (λ c. cond c x.symbol (first_symbol test xs)) e, ap (λ c. cond c (generic_of x.content) (first_type test xs)) e)
@@ -215,4 +215,4 @@ constant-of xs n k new i = go (primitive_type n) refl
 
     go : (o : Option HolType) → primitive_type n ≡ o → IsConstantOf xs n
     go (Some g) e = absurd (no-new_primitive n g e k (subst (λ t. IsIn (type_keys t) k) (ap (λ o. unwrap_or o ((symbols_of xs).generic n)) e) i) new)
-    go None e = input e (first (is_constant n) xs)
+    go None e = input e (First-each (is_constant n) xs)

@@ -1,7 +1,7 @@
 -- Each step among the items of what was made needs its premises, and a kept item needs what it needed.
 use Rattle.std.proofs.Common.{◌≡◌, ℕ, ◌+◌, List, [], ◌∷◌, ◌++◌, map, length, Bool, true, false, cond, inl, inr, refl, sym, ap, subst}
-use Rattle.std.specs.Prelude.{not}
 use Rattle.std.specs.List.{AllByRecursion}
+use Rattle.std.proofs.lemmas.Bool.{not-false}
 use Rattle.hol_spec.specs.Terms.{term_eq}
 use Rattle.hol_laws.specs.TermLaws.{term_eq-Decides}
 use Rattle.hol_spec.specs.Sequents.{Sequent}
@@ -14,18 +14,14 @@ use Rattle.hol_spec.specs.Proofs.{Made, Step}
 use Rattle.hol_spec.specs.declared.StepKind.{StepKind}
 use Rattle.hol_spec.specs.declared.StepKind.TheVariants as kinds
 use Rattle.hol_spec.specs.Lists.{IsIn, is_in}
-use Rattle.hol_laws.specs.Members.{IsIn-either, IsIn-left, IsIn-right, All-append, is_in-IsIn}
+use Rattle.hol_laws.specs.Members.{IsIn-either, IsIn-left, IsIn-right, All-append, is_in-IsIn, flat_map-part}
 use Rattle.module_spec.specs.Rows.{has_row}
 use Rattle.module_spec.specs.Items.{Content, operator, constant, defined_constant, unproved, step, Item}
 use Rattle.module_spec.specs.MadeItems.{contents_of, said_by, premise_at, content_by, proves_nothing, restated, sequents_at, shown_content, step_content, contents, numbered, Naming, items_after, items_of}
 use Rattle.module_spec.specs.Reach.{Key, operator_key, constant_key, number_key, type_keys, term_keys, sequent_keys, given_keys, needs, gives_of, renumbered_content}
 use Rattle.run_laws.specs.PremiseUses.{ProvesHypothesis}
-use Rattle.standing_laws.specs.Keys.{IsSymbolKey, type_keys-symbols, term_keys-symbols, sequent_keys-symbols, flat-from}
+use Rattle.standing_laws.specs.Keys.{IsSymbolKey, type_keys-symbols, term_keys-symbols, sequent_keys-symbols}
 use Rattle.standing_laws.specs.ItemUses.{IsUsing}
-
-not-false : (b : Bool) → not b ≡ false → b ≡ true
-not-false true e = refl
-not-false false e = absurd (cc)
 
 -- what a hypothesis is proved for is a hypothesis, unless the step proves nothing
 proves : (kind : StepKind) (ss : List Sequent) → proves_nothing kind ss ≡ false → ProvesHypothesis kind ss
@@ -123,7 +119,7 @@ module _ (number : ℕ → ℕ) where
   given_keys-symbols : (g : Parameters) (k : Key) → IsIn (given_keys g) k → IsSymbolKey k
   given_keys-symbols (Parameters.constant n t) k (inl e) = subst IsSymbolKey (sym e) (tt {0})
   given_keys-symbols (Parameters.constant n t) k (inr i) = absurd i
-  given_keys-symbols (Parameters.constants pairs) k i = let w = flat-from (λ (p : Variable × Term). term_keys p.1) (constants_put pairs) k i in term_keys-symbols w.0.1 k w.2
+  given_keys-symbols (Parameters.constants pairs) k i = let w = flat_map-part (λ (p : Variable × Term). term_keys p.1) (constants_put pairs) k i in term_keys-symbols w.0.1 k w.2
   given_keys-symbols Parameters.nothing k i = absurd i
   given_keys-symbols (Parameters.term t) k i = absurd i
   given_keys-symbols (Parameters.variable v) k i = absurd i

@@ -1,42 +1,41 @@
 -- The item that gives a root is an export of the run, and is named as one.
-use Rattle.std.proofs.Common.{◌≡◌, ℕ, suc, ◌+◌, ◌<◌, ◌≤◌, ◌⊎◌, List, [], ◌∷◌, ◌++◌, length, Bool, true, false, ◌||◌, Option, Some, None, inl, inr, refl, sym, ap, subst, ◌∙◌, append_assoc, arith}
-use Rattle.std.specs.Prelude.{nat_eq, slice_index_or}
+use Rattle.std.proofs.Common.{◌≡◌, ℕ, suc, ◌<◌, ◌≤◌, ◌⊎◌, List, [], ◌∷◌, ◌++◌, length, Bool, true, false, ◌||◌, Option, Some, None, inl, inr, refl, sym, ap, subst, ◌∙◌, append_assoc, arith}
+use Rattle.std.specs.Prelude.{nat_eq}
 use Rattle.std.specs.Cmp.{unsigned_Decides}
-use Rattle.std.specs.Option.{option_map}
-use Rattle.std.specs.List.{cons_option, position_or_len}
-use Rattle.std.proofs.lemmas.List.{append-nil, length-append, length-map}
-use Rattle.std.proofs.lemmas.List.Elements.{filter_map-append}
-use Rattle.hol_spec.specs.Terms.{bound}
+use Rattle.std.specs.List.{position_or_len}
+use Rattle.std.proofs.lemmas.List.{append-nil}
+use Rattle.std.proofs.lemmas.Bool.{both_ways}
 use Rattle.hol_spec.specs.Sequents.{Sequent}
-use Rattle.hol_spec.specs.Proofs.{Step, steps_of, symbols_of, Accepted}
+use Rattle.hol_spec.specs.Proofs.{symbols_of, Accepted}
 use Rattle.hol_spec.specs.declared.StepKind.{StepKind}
 use Rattle.hol_spec.specs.Lists.{IsIn}
 use Rattle.hol_laws.specs.Members.{IsIn-right, All-at}
 use Rattle.article_spec.specs.SoundRuns.{IsSoundRun, IsDerived}
 use Rattle.module_spec.specs.Items.{Content, operator, constant, defined_constant, unproved, step, Item, says}
-use Rattle.module_spec.specs.MadeItems.{said_of, said_by, premise_at, items_of, roots_of}
+use Rattle.module_spec.specs.MadeItems.{said_by, premise_at, items_of, roots_of}
 use Rattle.module_spec.specs.Reach.{Key, number_key, gives, gives_of, key_eq}
 use Rattle.module_spec.specs.Image.{is_one_of, name_in}
 use Rattle.module_spec.specs.Stands.{is_export_name}
-use Rattle.module_laws.specs.AcceptedItems.{made-joined}
+use Rattle.module_laws.specs.AcceptedItems.{made-said}
 use Rattle.module_laws.specs.WantedItems.{NumberedFrom, AreMadeInOrder, at-least}
 use Rattle.module_laws.specs.ExportNames.{export-named}
+use Rattle.module_laws.specs.SaidItems.{silent-length, telling-length, premise_at-said}
 use Rattle.run_laws.specs.Named.{HasNames, IsStepName}
 use Rattle.run_laws.specs.Origins.{made-origins}
 use Rattle.run_laws.specs.ExportsKept.{numbered-from}
-use Rattle.run_laws.specs.ExportOrder.{symbol-silent, seam}
+use Rattle.run_laws.specs.ExportOrder.{symbol-silent}
 use Rattle.run_laws.specs.RunModules.{IsItemName, HaveNames, items-named}
 use Rattle.run_laws.specs.Standing.{IsIn-map_of}
 use Rattle.standing_laws.specs.Keys.{key_eq-is}
 
-apart : (i : ℕ) (xs : List Item) (y z : Item) → y.symbol ≡ i → NumberedFrom (suc i) xs → IsIn xs z → y.symbol ≡ z.symbol → ⊥
-apart i xs y z e h k same = let l = All-at (λ (x : Item). suc i ≤ x.symbol) xs z (at-least (suc i) xs h) k in omega (arith, l, e, same)
+symbol-apart : (i : ℕ) (xs : List Item) (y z : Item) → y.symbol ≡ i → NumberedFrom (suc i) xs → IsIn xs z → y.symbol ≡ z.symbol → ⊥
+symbol-apart i xs y z e h k same = let l = All-at (λ (x : Item). suc i ≤ x.symbol) xs z (at-least (suc i) xs h) k in omega (arith, l, e, same)
 
 one-number : (i : ℕ) (xs : List Item) → NumberedFrom i xs → (y z : Item) → IsIn xs y → IsIn xs z → y.symbol ≡ z.symbol → y ≡ z
 one-number i [] h y z j k e = absurd j
 one-number i (x ∷ xs) h y z (inl a) (inl b) e = a ∙ sym b
-one-number i (x ∷ xs) h y z (inl a) (inr k) e = absurd (apart i xs y z (ap (λ (u : Item). u.symbol) a ∙ h.0) h.1 k e)
-one-number i (x ∷ xs) h y z (inr j) (inl b) e = absurd (apart i xs z y (ap (λ (u : Item). u.symbol) b ∙ h.0) h.1 j (sym e))
+one-number i (x ∷ xs) h y z (inl a) (inr k) e = absurd (symbol-apart i xs y z (ap (λ (u : Item). u.symbol) a ∙ h.0) h.1 k e)
+one-number i (x ∷ xs) h y z (inr j) (inl b) e = absurd (symbol-apart i xs z y (ap (λ (u : Item). u.symbol) b ∙ h.0) h.1 j (sym e))
 one-number i (x ∷ xs) h y z (inr j) (inr k) e = one-number (suc i) xs h.1 y z j k e
 
 -- the number of what an item says
@@ -46,27 +45,6 @@ number-of i (constant n a) j e = absurd (cc)
 number-of i (defined_constant n a t) j e = absurd (cc)
 number-of i (unproved s) j e = cc
 number-of i (step kind js ss g s) j e = cc
-
--- lengths of what is said
-length-said : (ps new : List Item) → length (said_by (ps ++ new)) ≡ length (said_by ps) + length (said_by new)
-length-said ps new = ap length (filter_map-append said_of ps new) ∙ length-append (said_by ps) (said_by new)
-
-said-length : (z : Item) (o : Option Sequent) → says z.content ≡ o → said_by (z ∷ []) ≡ cons_option (option_map (λ (t : Sequent). (z.symbol, t)) o) []
-said-length z o e = ap (λ o. cons_option {X = ℕ × Sequent} (option_map (λ (t : Sequent). (z.symbol, t)) o) []) e
-
-silent-length : (before : List Item) (z : Item) → says z.content ≡ None → length (said_by before) ≡ length (said_by (before ++ z ∷ []))
-silent-length before z e = let n = length-said before (z ∷ []) in let m = ap length (said-length z None e) in omega (arith, n, m)
-
-telling-length : (before : List Item) (z : Item) (s : Sequent) → says z.content ≡ Some s → suc (length (said_by before)) ≡ length (said_by (before ++ z ∷ []))
-telling-length before z s e = let n = length-said before (z ∷ []) in let m = ap length (said-length z (Some s) e) in omega (arith, n, m)
-
--- what is said in a place has its item's number
-at-item : (items before zs : List Item) (z : Item) (s : Sequent) → items ≡ before ++ z ∷ zs → says z.content ≡ Some s → premise_at items (length (said_by before)) ≡ (z.symbol, s)
-at-item items before zs z s whole e =
-    let none : ℕ × Sequent = (0, record { hypotheses = []; conclusion = bound 0 }) in
-    ap (λ l. slice_index_or l (length (said_by before)) none)
-    (ap said_by whole ∙ filter_map-append said_of before (z ∷ zs) ∙ ap (λ l. said_by before ++ l) (ap (λ o. cons_option {X = ℕ × Sequent} (option_map (λ (t : Sequent). (z.symbol, t)) o) (said_by zs)) e))
-    ∙ seam (said_by before) (said_by zs) (z.symbol, s) none
 
 -- the item that says the j-th sequent, with its name
 record IsSaidAt (run : Accepted) (items : List Item) (j : ℕ) : Type 0 where
@@ -102,15 +80,12 @@ in-one_of i (j ∷ is) (inr h) = go (nat_eq i j) (in-one_of i is h)
     go true e = refl
     go false e = e
 
-differ : {A : Type 0} (b : Bool) → b ≡ true → b ≡ false → A
-differ b e f = let g : true ≡ false = sym e ∙ f in absurd (cc)
-
 -- the name of a step that is exported
 exported-name : (run : Accepted) (i : ℕ) (kind : StepKind) (name : List ℕ) → IsStepName run i kind name → is_one_of i run.exports ≡ true → is_export_name name ≡ true
 exported-name run i kind name (IsStepName.an_export e w) one = ap is_export_name w ∙ export-named (position_or_len (nat_eq i) run.exports)
-exported-name run i kind name (IsStepName.an_assumption e f k w) one = differ (is_one_of i run.exports) one e
-exported-name run i kind name (IsStepName.a_law e k w) one = differ (is_one_of i run.exports) one e
-exported-name run i kind name (IsStepName.a_theorem e k w) one = differ (is_one_of i run.exports) one e
+exported-name run i kind name (IsStepName.an_assumption e f k w) one = absurd (both_ways (is_one_of i run.exports) e one)
+exported-name run i kind name (IsStepName.a_law e k w) one = absurd (both_ways (is_one_of i run.exports) e one)
+exported-name run i kind name (IsStepName.a_theorem e k w) one = absurd (both_ways (is_one_of i run.exports) e one)
 
 said-name : (run : Accepted) (j : ℕ) (before : List Item) (z : Item) (s : Sequent) → says z.content ≡ Some s → length (said_by before) ≡ j → is_one_of j run.exports ≡ true
     → IsItemName run (λ i. i ≡ length (said_by before)) z → is_export_name z.name ≡ true
@@ -122,18 +97,13 @@ module _ (run : Accepted) (named : HasNames run) (sound : IsSoundRun run) where
   abbrev items : List Item
   items = items_of (name_in run) run.made
 
-  all-said : length (said_by items) ≡ length (steps_of run.made)
-  all-said =
-      let j = made-joined (name_in run) run.made sound.proof sound.over in
-      sym (length-map (said_by items) (λ (p : ℕ × Sequent). p.1)) ∙ ap length j.said ∙ length-map (steps_of run.made) (λ (x : Step). x.sequent)
-
   place-named : AreMadeInOrder [] items → (z : Item) → IsIn items z → (j : ℕ) → IsIn run.exports j → gives z ≡ number_key (premise_at items j).0 → is_export_name z.name ≡ true
   place-named order z i j exported key =
       let short = (All-at (IsDerived run) run.exports j sound.exports exported).step in
-      let count = all-said in
+      let count = made-said (name_in run) run.made sound.proof sound.over in
       let q = said-at run items j [] items refl (items-named run named sound [] items (made-origins run run.made)) (omega arith) (omega (arith, short, count)) in
       let there : IsIn items q.item = subst (λ l. IsIn l q.item) (sym q.whole) (IsIn-right q.before (q.item ∷ q.after) q.item (inl refl)) in
-      let place : premise_at items j ≡ (q.item.symbol, q.sequent) = ap (premise_at items) (sym q.place) ∙ at-item items q.before q.after q.item q.sequent q.whole q.said in
+      let place : premise_at items j ≡ (q.item.symbol, q.sequent) = ap (premise_at items) (sym q.place) ∙ premise_at-said items q.before q.after q.item q.sequent q.whole q.said in
       let number : z.symbol ≡ q.item.symbol = number-of z.symbol z.content (premise_at items j).0 key ∙ ap (λ (p : ℕ × Sequent). p.0) place in
       let same : z ≡ q.item = one-number 0 items (numbered-from [] items order) z q.item i there number in
       ap (λ (u : Item). is_export_name u.name) same ∙ said-name run j q.before q.item q.sequent q.said q.place (in-one_of j run.exports exported) q.name

@@ -15,9 +15,10 @@ use Rattle.hol_spec.specs.Terms.{bound}
 use Rattle.hol_spec.specs.declared.StepKind.{StepKind}
 use Rattle.module_laws.specs.AcceptedItems.{EachAfter, each-after, made-joined, said-in}
 use Rattle.module_laws.specs.BodyTyping.{IsIn-map}
-use Rattle.module_laws.specs.KeptModules.{AreKept, AreNumbered, said-number}
+use Rattle.module_laws.specs.KeptModules.{AreKept, AreNumbered}
 use Rattle.module_laws.specs.NeededSteps.{needed-row}
 use Rattle.module_laws.specs.WantedItems.{made-numbered}
+use Rattle.module_laws.specs.SaidItems.{says-gives_of}
 use Rattle.module_spec.specs.Image.{name_in, step_name}
 use Rattle.module_spec.specs.Items.{Item}
 use Rattle.module_spec.specs.MadeItems.{said_of, said_by, premise_at, content_by, needed, restated, proves_nothing, sequents_at, shown_content, step_content, roots_of}
@@ -163,7 +164,7 @@ module _ (run : Accepted) (sound : IsSoundRun run) (earlier later : List Made) (
           let long = said-length in
           let said = said-in before (premise_at before k) (index-IsIn (said_by before) k (0, nothing_said) (omega (arith, l, long))) in
           let w : Item = said.0 in
-          let own : number_key (premise_at before k).0 ≡ gives w = ap number_key (sym said.2) ∙ sym (said-number (is_kept run) before w.symbol w.content (premise_at before k).1 said.3) in
+          let own : number_key (premise_at before k).0 ≡ gives w = ap number_key (sym said.2) ∙ sym (says-gives_of w.symbol w.content (premise_at before k).1 said.3) in
           let needed_key = needs-premise (has_row used.kind) used.kind (map (λ k. (premise_at before k).0) used.premises) (sequents_at before used.premises) used.parameters used.sequent (premise_at before k).0
           (needed-row (map (sequent_at run.made) x.premises) x ∙ row) (IsIn-map (λ k. (premise_at before k).0) used.premises k i) in
           sym (ap (λ (p : ℕ × Sequent). is_kept run p.0) (premise-same k l)) ∙ ap (is_kept run) (sym said.2) ∙ needs_kept w said.1 (subst (IsIn (needs (shown_content before used))) own needed_key)

@@ -20,6 +20,7 @@ use Rattle.hol_spec.specs.ClosedForm.{ClosedSequent, close_type, close_term, clo
 use Rattle.hol_spec.specs.Lists.{IsIn}
 use Rattle.hol_laws.specs.ListLaws.{distinct-IsDistinct}
 use Rattle.hol_laws.specs.Members.{All-each, All-at, All-append, IsIn-distinct_of, IsIn-left, IsIn-right}
+use Rattle.hol_laws.specs.RenamedSequents.{free_variables-known}
 use Rattle.lp_spec.specs.Trees.{Tree, Var, Pi, raised}
 use Rattle.lp_spec.specs.Modules.{Declaration, products, types, bools, term_of, proof_of}
 use Rattle.module_spec.specs.Scopes.{Symbols, Scope, filler, type_tree, term_tree, inside, under_term, under_proof, under_proofs, term_domains, proof_domains, scope_of_types, scope_of_terms, conclusion_tree, sequent_tree}
@@ -27,7 +28,7 @@ use Rattle.module_laws.specs.ListedScopes.{told}
 use Rattle.module_laws.specs.ToldParameters.{TypesTold, TypesTold-lifted, TypesTold-own, TypesTold-terms, TermsTold, TermsTold-lifted, TermsTold-own}
 use Rattle.module_laws.specs.SequentEncoding.{told-at, types-are}
 use Rattle.module_laws.specs.TermScopeLaws.{AreInstances, term_tree-agrees}
-use Rattle.module_laws.specs.TheoremTyping.{IsFormula, HasInstances, term-IsFormula, free_variables-known}
+use Rattle.module_laws.specs.TheoremTyping.{IsFormula, HasInstances, term-IsFormula}
 use Rattle.proof_laws.specs.SymbolGrowth.{symmetric}
 use Rattle.translate_term.specs.Told.{TellsType, TellsTerm, TellsClosed}
 use Rattle.translate_term.specs.Closed.{Numbered, types_under, scope_under, IsInside, IsTypeOf, IsTermOf, hypothesis_domains, variable_domains}

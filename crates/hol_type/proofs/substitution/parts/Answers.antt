@@ -1,9 +1,9 @@
 use Rattle.std.proofs.Common.{arith, subst}
 use Rattle.hol_type.specs.Walks.{AreDone}
 use Rattle.std.proofs.lemmas.List.{drop_more}
-use Rattle.hol_type.proofs.ListSteps.{drop-all}
 use Rattle.hol_type.proofs.MadeLaws.{IsGathering, gathering_begins, gathering_goes_on, gathering_ends, is_some, if_some}
 use Rattle.hol_type.proofs.substitution.parts.Goals as goal
+use Rattle.hol_laws.specs.PlaceLaws.{drop-all}
 
 pub loop-id-init : goal.loop-id-init
 loop-id-init c = rw c.new-parts.ensures.items (gathering_begins _ _ c.requires)

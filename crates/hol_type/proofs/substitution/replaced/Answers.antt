@@ -1,7 +1,7 @@
 use Rattle.std.proofs.Common.{arith, subst, sym, ◌∙◌}
-use Rattle.hol_type.proofs.ListSteps.{drop-item, drop-all}
 use Rattle.hol_type.proofs.ImageLaws.{Skips, skips_none, skips_other, replaces_by, replaces_itself}
 use Rattle.hol_type.proofs.substitution.replaced.Goals as goal
+use Rattle.hol_laws.specs.PlaceLaws.{drop-item, drop-all}
 
 pub loop-replaced-init : goal.loop-replaced-init
 loop-replaced-init c = skips_none _ _

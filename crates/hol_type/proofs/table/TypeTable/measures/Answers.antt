@@ -1,9 +1,9 @@
 use Rattle.std.proofs.Common.{arith, subst}
 use Rattle.hol_type.specs.Tables.{AreKnown}
 use Rattle.std.proofs.lemmas.List.{drop_more}
-use Rattle.hol_type.proofs.ListSteps.{drop-all}
 use Rattle.hol_type.proofs.MeasureLaws.{IsMeasuring, measuring_begins, measuring_goes_on, measuring_ends}
 use Rattle.hol_type.proofs.table.TypeTable.measures.Goals as goal
+use Rattle.hol_laws.specs.PlaceLaws.{drop-all}
 
 pub loop-arg-init : goal.loop-arg-init
 loop-arg-init c = measuring_begins _ _ c.requires

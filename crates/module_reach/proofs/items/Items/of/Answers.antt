@@ -4,10 +4,10 @@ use Rattle.hol_spec.specs.Proofs.{symbols_of}
 use Rattle.hol_defs.specs.Symbols.{symbol_at}
 use Rattle.module_reach.specs.MadeItems.{AreTaken}
 use Rattle.module_reach.proofs.Listed.{none-AreListed}
-use Rattle.module_reach.proofs.Stacked.{drop-all}
 use Rattle.module_reach.proofs.Taking.{kinds-IsSymbol, symbol-within, step-taken, symbol-taken, all-taken}
 use Rattle.module_reach.proofs.items.Items.of.Goals as goal
 use Rattle.module_reach.proofs.items.Items.of.Goals.{in-Step+in_ok-take_step-in-Step, in-InputConst+in_ok-take_symbol-in-InputConst}
+use Rattle.hol_laws.specs.PlaceLaws.{drop-all}
 
 pub loop-one-init : goal.loop-one-init
 loop-one-init c =

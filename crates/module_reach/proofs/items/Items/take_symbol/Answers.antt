@@ -1,14 +1,14 @@
 use Rattle.std.proofs.Common.{ap, sym, ◌∙◌, slice_get}
+use Rattle.std.proofs.lemmas.Result.{on_ok_weaker}
 use Rattle.proof_laws.specs.ProofGrowth.{All-get}
 use Rattle.hol_term.specs.Tables.{term_at, type_at}
 use Rattle.hol_defs.specs.Symbols.{Taken, named, IsKnownSymbol}
 use Rattle.module_reach.proofs.Given.{symbol-there}
 use Rattle.module_reach.proofs.Taken.{input_constant-Listed, input_operator-Listed, defined_constant-Listed, type_operator-Listed}
-use Rattle.module_reach.proofs.Walked.{OnOk-map}
 use Rattle.module_reach.proofs.items.Items.take_symbol.Goals as goal
 
 pub returns-in-InputConst : goal.returns-in-InputConst
-returns-in-InputConst c = OnOk-map c.add_constant.result
+returns-in-InputConst c = on_ok_weaker c.add_constant.result
     (λ adds front rest x order whole e h.
     let p = c.args.proof.now in
     let taken = c.symbols.result.now in
@@ -18,7 +18,7 @@ returns-in-InputConst c = OnOk-map c.add_constant.result
     c.add_constant.ensures
 
 pub returns-in-InputOp : goal.returns-in-InputOp
-returns-in-InputOp c = OnOk-map c.add_operator.result
+returns-in-InputOp c = on_ok_weaker c.add_operator.result
     (λ adds front rest x order whole e h.
     let p = c.args.proof.now in
     let taken = c.symbols.result.now in
@@ -28,7 +28,7 @@ returns-in-InputOp c = OnOk-map c.add_operator.result
     c.add_operator.ensures
 
 pub returns-in-Const : goal.returns-in-Const
-returns-in-Const c = OnOk-map c.add_constant-in-Const.result
+returns-in-Const c = on_ok_weaker c.add_constant-in-Const.result
     (λ adds front rest x order whole e h.
     let p = c.args.proof.now in
     let taken = c.symbols.result.now in
@@ -40,7 +40,7 @@ returns-in-Const c = OnOk-map c.add_constant-in-Const.result
     c.add_constant-in-Const.ensures
 
 pub returns-in_ok-add_constant-in-TypeOp : goal.returns-in_ok-add_constant-in-TypeOp
-returns-in_ok-add_constant-in-TypeOp c = OnOk-map c.add_constant-in-TypeOp-2.result
+returns-in_ok-add_constant-in-TypeOp c = on_ok_weaker c.add_constant-in-TypeOp-2.result
     (λ adds front rest x order whole e h.
     let p = c.args.proof.now in
     let taken = c.symbols.result.now in

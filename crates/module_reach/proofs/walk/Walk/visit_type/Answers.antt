@@ -1,12 +1,12 @@
 use Rattle.std.proofs.Common.{refl, sym, ap, subst, ◌∙◌, length, arith, false}
 use Rattle.std.proofs.lemmas.List.{get_or_read}
+use Rattle.std.proofs.lemmas.Result.{on_ok_weaker}
 use Rattle.hol_spec.specs.Types.{operator, types_of, variable}
 use Rattle.hol_type.specs.Tables.{types_at, Holds}
 use Rattle.module_spec.specs.Reach.{operator_key}
 use Rattle.module_reach.specs.declared.walk.Task.TheVariants as task
 use Rattle.module_reach.specs.Walks.{marked}
 use Rattle.module_reach.proofs.Parts.{found-below, passed-Turned, variable-Turned, operator-Turned}
-use Rattle.module_reach.proofs.Walked.{OnOk-map}
 use Rattle.module_reach.proofs.walk.Walk.visit_type.Goals as goal
 
 pub returns-then-index : goal.returns-then-index
@@ -31,7 +31,7 @@ mark-requires c =
     rw c.in_ok-item-in-Op.ensures below
 
 pub returns-in_ok-item-in-Op : goal.returns-in_ok-item-in-Op
-returns-in_ok-item-in-Op c = OnOk-map c.push_types.result
+returns-in_ok-item-in-Op c = on_ok_weaker c.push_types.result
     (λ tasks list ix walk.
     let name = c.in-Op.name.now in
     let args = c.in-Op.args.now in

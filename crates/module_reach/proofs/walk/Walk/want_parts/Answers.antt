@@ -1,13 +1,14 @@
 use Rattle.std.proofs.Common.{[], ◌∷◌, refl}
+use Rattle.std.proofs.lemmas.Result.{on_ok_weaker}
 use Rattle.module_reach.specs.declared.walk.Task.TheVariants as task
 use Rattle.module_reach.specs.declared.walk.Walk.{Walk}
 use Rattle.module_reach.specs.MadeItems.{made_items}
-use Rattle.module_reach.proofs.Walked.{OnOk-map, gains-IsWalk}
+use Rattle.module_reach.proofs.Walked.{gains-IsWalk}
 use Rattle.module_reach.proofs.Wanted.{no-marks}
 use Rattle.module_reach.proofs.walk.Walk.want_parts.Goals as goal
 
 pub returns-in-Type-clause-walk : goal.returns-in-Type-clause-walk
-returns-in-Type-clause-walk c = OnOk-map c.push.result
+returns-in-Type-clause-walk c = on_ok_weaker c.push.result
     (λ put.
     let p = c.args.proof.now in
     let w = c.args.self.now in
@@ -17,7 +18,7 @@ returns-in-Type-clause-walk c = OnOk-map c.push.result
     c.push.ensures.pushed
 
 pub returns-in-Term-clause-walk : goal.returns-in-Term-clause-walk
-returns-in-Term-clause-walk c = OnOk-map c.push-in-Term.result
+returns-in-Term-clause-walk c = on_ok_weaker c.push-in-Term.result
     (λ put.
     let p = c.args.proof.now in
     let w = c.args.self.now in

@@ -1,8 +1,9 @@
 use Rattle.std.proofs.Common.{◌≡◌, ◌++◌, drop, sym, ap, subst, ◌∙◌}
+use Rattle.std.proofs.lemmas.Result.{on_ok_weaker}
 use Rattle.module_spec.specs.Reach.{given_keys}
 use Rattle.hol_rules.specs.Views.{step_at, parameters_view}
 use Rattle.module_reach.specs.MadeItems.{made_items, numbers_of, step_keys, AreSteps, WantsOf}
-use Rattle.module_reach.proofs.Walked.{OnOk-map, Wants-trans}
+use Rattle.module_reach.proofs.Walked.{Wants-trans}
 use Rattle.module_reach.proofs.Wanted.{premises-AreSteps, drop-AreSteps, rest-is, proof-idle, proof-all}
 use Rattle.module_reach.proofs.walk.Walk.want_premises.Goals as goal
 
@@ -24,7 +25,7 @@ returns-then-is_idle-clause-wants c =
     subst (λ ks. WantsOf p ks c.args.self.now c.want_steps.new.self) keys c.want_steps.ensures.wants
 
 pub returns-clause-wants : goal.returns-clause-wants
-returns-clause-wants c = OnOk-map c.want_given.result
+returns-clause-wants c = on_ok_weaker c.want_given.result
     (λ wants.
     let p = c.args.proof.now in
     let premises = c.premises-premises.result.now in

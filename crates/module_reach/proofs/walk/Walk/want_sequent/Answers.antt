@@ -1,14 +1,15 @@
 use Rattle.std.proofs.Common.{[], ◌∷◌, ◌++◌, map, refl, sym, ap, subst, ◌∙◌, append_assoc}
+use Rattle.std.proofs.lemmas.Result.{on_ok_weaker}
 use Rattle.module_reach.specs.declared.walk.Task.TheVariants as task
 use Rattle.module_reach.specs.MadeItems.{made_items, WantsOf}
 use Rattle.module_reach.specs.declared.walk.Walk.{Walk}
 use Rattle.module_reach.specs.Walks.{with_terms}
-use Rattle.module_reach.proofs.Walked.{OnOk-map, gains-IsWalk, gains-Wants}
+use Rattle.module_reach.proofs.Walked.{gains-IsWalk, gains-Wants}
 use Rattle.module_reach.proofs.Wanted.{terms-keys, terms-known, no-marks}
 use Rattle.module_reach.proofs.walk.Walk.want_sequent.Goals as goal
 
 pub returns-clause-walk : goal.returns-clause-walk
-returns-clause-walk c = OnOk-map c.push_terms.result
+returns-clause-walk c = on_ok_weaker c.push_terms.result
     (λ put.
     let p = c.args.proof.now in
     let w = c.args.self.now in
@@ -20,7 +21,7 @@ returns-clause-walk c = OnOk-map c.push_terms.result
     c.push_terms.ensures
 
 pub returns-clause-wants : goal.returns-clause-wants
-returns-clause-wants c = OnOk-map c.push_terms.result
+returns-clause-wants c = on_ok_weaker c.push_terms.result
     (λ put.
     let p = c.args.proof.now in
     let w = c.args.self.now in

@@ -1,15 +1,16 @@
 use Rattle.std.proofs.Common.{◌≡◌, ◌++◌, sym, ap, subst, ◌∙◌}
+use Rattle.std.proofs.lemmas.Result.{on_ok_weaker}
 use Rattle.hol_rules.specs.Views.{step_at}
 use Rattle.module_spec.specs.Reach.{sequent_keys}
 use Rattle.module_spec.specs.Rows.{has_row}
 use Rattle.sequent.specs.Sequents as numbers
 use Rattle.module_reach.specs.MadeItems.{made_items, numbers_of, proof_keys, WantsOf}
-use Rattle.module_reach.proofs.Walked.{OnOk-map, Wants-trans}
+use Rattle.module_reach.proofs.Walked.{Wants-trans}
 use Rattle.module_reach.proofs.Wanted.{needs-proved, needs-unproved, step-sequent}
 use Rattle.module_reach.proofs.walk.Walk.want_step.Goals as goal
 
 pub returns-then-has_proof-clause-wants : goal.returns-then-has_proof-clause-wants
-returns-then-has_proof-clause-wants c = OnOk-map c.want_premises.result
+returns-then-has_proof-clause-wants c = on_ok_weaker c.want_premises.result
     (λ wants.
     let p = c.args.proof.now in
     let id = c.args.id in
