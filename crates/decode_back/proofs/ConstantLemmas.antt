@@ -3,7 +3,7 @@ use Rattle.std.proofs.Common.{◌≡◌, ◌&&◌, ℕ, List, ◌∷◌, [], Boo
 use Rattle.std.specs.Prelude.{not, codes}
 use Rattle.std.specs.Bool.{Decides}
 use Rattle.std.specs.Option.{option_map}
-use Rattle.std.proofs.lemmas.Bool.{ne_eqb}
+use Rattle.std.proofs.lemmas.Bool.{ne_eqb, and_from}
 use Rattle.std.proofs.lemmas.Bool.Decides.{same_from_decides}
 use Rattle.hol_spec.specs.Names.{Name}
 use Rattle.hol_spec.specs.NameEquality.{name_eq}
@@ -19,7 +19,6 @@ use Rattle.decode_spec.specs.Options.{bind, or_else, provided}
 use Rattle.decode_laws.specs.OptionLaws.{bind-is, provided-is, some-injective, provided-true}
 use Rattle.decode_spec.specs.Decode.{name_behind, has_type, is_lacking, Constant, constant_with, constant_at, defined_constant, generic_of, input_constant}
 use Rattle.module_spec.specs.ConstantMeaning as meaning
-use Rattle.decode_laws.specs.SymbolLaws.{and-true}
 use Rattle.decode_spec.specs.Opened.{open_type}
 use Rattle.decode_back.specs.Walks.{parameter_name, IsConstantFound, IsGenericFound}
 
@@ -59,7 +58,7 @@ module _ (d : List Declaration) (s : ℕ) where
       let q = provided-is (is_lacking (primitive_type p.0)) (Some p.0) name p.2 in
       let typed : has_type (symbol_type d s) input_type ≡ true = ap (λ o. has_type o input_type) f ∙ sym g ∙ h in
       ap (λ o. bind o (λ n. provided (is_lacking (primitive_type n) && has_type (symbol_type d s) input_type) (Some (made n)))) p.1
-      ∙ provided-true (is_lacking (primitive_type p.0) && has_type (symbol_type d s) input_type) (Some (made p.0)) (and-true (is_lacking (primitive_type p.0)) (has_type (symbol_type d s) input_type) q.0 typed)
+      ∙ provided-true (is_lacking (primitive_type p.0) && has_type (symbol_type d s) input_type) (Some (made p.0)) (and_from (is_lacking (primitive_type p.0)) (has_type (symbol_type d s) input_type) q.0 typed)
       ∙ ap (λ n. Some (made n)) (some-injective q.1)
 
 -- which constants symbols stand for

@@ -27,7 +27,6 @@ use Rattle.decode_spec.specs.Options.{bind}
 use Rattle.decode_laws.specs.OptionLaws.{some-injective, bind-is, both-is}
 use Rattle.decode_spec.specs.Opened.{open_term, open_variables, opened, IsOpen}
 use Rattle.decode_spec.specs.Decode.{proof_part, peel_types, peel, type_of_tree, term_from, variables_from, hypotheses_from, closed_sequent, Parts, parts, sequent_from}
-use Rattle.decode_laws.specs.TypeLaws.{option_map-is}
 use Rattle.decode_laws.specs.ClosedFormTestLaws.{length-numbers, closed_form-opened}
 use Rattle.decode_laws.specs.SizeLaws.{summed, summed-append}
 use Rattle.decode_laws.specs.SizeBound.{free_variables-size}
@@ -37,6 +36,7 @@ use Rattle.decode_back.specs.TermWalks.{AreVariables, IsTermFound}
 use Rattle.decode_back.specs.SequentWalks.{AreParts, AreVariablesWithin, AreVariablesFound, all_size, AreShallow, AreHypothesesFound, IsMade, IsJudged, IsSequentFound}
 use Rattle.decode_back.proofs.NameLemmas.{parameter_name-apart}
 use Rattle.decode_back.proofs.TermLemmas.{open_variables-length, length-map, AreVariables-Keeps, AreVariables-length}
+use Rattle.lp_binding.specs.LookUps.{option_map-some}
 
 module _ (A R1 R2 R3 : Tree) (n : ℕ) (vs hs : List Tree) (one : ◌≡◌ {A = ℕ × Tree} (peel_types A) (n, R1)) (two : ◌≡◌ {A = List Tree × Tree} (peel term_symbol R1) (vs, R2))
     (three : ◌≡◌ {A = List Tree × Tree} (peel proof_symbol R2) (hs, R3)) where
@@ -76,7 +76,7 @@ module _ (d : List Declaration) (p : Parts) where
       let v = bind-is (variables_from d p.variables p.type_variables 0) with_variables s e in
       let h = bind-is (hypotheses_from d p.hypotheses p.type_variables (length p.variables) 0) (with_hypotheses v.0) s v.2 in
       let c = bind-is (proof_part p.end) (with_conclusion v.0 h.0) s h.2 in
-      let t = option_map-is (closed_sequent p.type_variables v.0 h.0) (term_from d c.0 (place p.type_variables (length p.variables) (length p.hypotheses) 0)) s c.2 in
+      let t = option_map-some (closed_sequent p.type_variables v.0 h.0) (term_from d c.0 (place p.type_variables (length p.variables) (length p.hypotheses) 0)) s c.2 in
       subst IsOf t.2 (record { C = c.0; count = refl; variables = v.1; hypotheses = h.1; end = c.1; conclusion = t.1 })
 
   pub of-sequent_from : (vs : List ClosedType) (hs : List ClosedTerm) (C : Tree) (c : ClosedTerm) → variables_from d p.variables p.type_variables 0 ≡ Some vs

@@ -25,11 +25,11 @@ use Rattle.decode_spec.specs.Options.{both}
 use Rattle.decode_laws.specs.OptionLaws.{some-injective, both-is}
 use Rattle.decode_spec.specs.Opened.{open_type, open_term, open_variables}
 use Rattle.decode_spec.specs.Decode.{peel, type_of_tree, term_from, variables_from, hypotheses_from}
-use Rattle.decode_laws.specs.TypeLaws.{option_map-is}
 use Rattle.decode_back.specs.Walks.{parameter_name, IsTypeFound}
 use Rattle.decode_back.specs.TermWalks.{free_of, AreVariables, IsTermFound}
 use Rattle.decode_back.specs.SequentWalks.{IsVariableWithin, AreVariablesWithin, all_size, AreShallow}
 use Rattle.decode_back.proofs.PeelLemmas.{behind_parts}
+use Rattle.lp_binding.specs.LookUps.{option_map-some}
 
 -- what is peeled off, one part after another
 trees_at-append : (trees : List Tree) (xs ys : List LpId) → trees_at trees (xs ++ ys) ≡ trees_at trees xs ++ trees_at trees ys
@@ -117,7 +117,7 @@ module _ (d : List Declaration) (As : List Tree) (count : ℕ) where
   variable-types : (number : ℕ) (A : Tree) (rest : List Tree) (trees : Trees) (ids : List TermId) → VariablesSoFar d As (A ∷ rest) count number trees ids → (types : List ClosedType) → variables_from d As count 0 ≡ Some types → AreVariablesWithin types
       → (t : ClosedType) × (type_of_tree d (place count number 0 0) A ≡ Some t) × IsVariableWithin t
   variable-types number A rest trees ids h types e w =
-      let p = option_map-is (λ more. h.types ++ more) (variables_from d (A ∷ rest) count number) types (sym h.goes ∙ e) in
+      let p = option_map-some (λ more. h.types ++ more) (variables_from d (A ∷ rest) count number) types (sym h.goes ∙ e) in
       let q = both-is (λ (t : ClosedType) (us : List ClosedType). t ∷ us) (type_of_tree d (place count number 0 0) A) (variables_from d rest count (suc number)) p.0 p.1 in
       (q.0, q.2, within-at h.types q.0 q.1 (subst AreVariablesWithin (sym p.2 ∙ ap (λ more. h.types ++ more) q.4) w))
 
@@ -201,7 +201,7 @@ module _ (d : List Declaration) (types : List ClosedType) (As : List Tree) (coun
   pub hypothesis-none : (number left after : ℕ) (A : Tree) (rest : List Tree) (trees now : Trees) (ids : List TermId) → HypothesesSoFar d types As (A ∷ rest) count free number there left trees ids
       → IsTermFound greatest_depth types left after (term_from d A (place count free number 0)) now None → (cs : List ClosedTerm) → hypotheses_from d As count free 0 ≡ Some cs → all_size types cs ≤ there → AreShallow types cs → ⊥
   hypothesis-none number left after A rest trees now ids h none cs e l s =
-      let p = option_map-is (λ more. h.terms ++ more) (hypotheses_from d (A ∷ rest) count free number) cs (sym h.goes ∙ e) in
+      let p = option_map-some (λ more. h.terms ++ more) (hypotheses_from d (A ∷ rest) count free number) cs (sym h.goes ∙ e) in
       let q = both-is (λ (t : ClosedTerm) (us : List ClosedTerm). t ∷ us) (term_from d A (place count free number 0)) (hypotheses_from d rest count free (suc number)) p.0 p.1 in
       let whole : h.terms ++ q.0 ∷ q.1 ≡ cs = ap (λ more. h.terms ++ more) (sym q.4) ∙ p.2 in
       let size = all_size-append types h.terms (q.0 ∷ q.1) in

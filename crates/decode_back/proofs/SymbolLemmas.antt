@@ -19,7 +19,7 @@ use Rattle.hol_spec.specs.Mangling.{mangled, IsName}
 use Rattle.hol_name.specs.Demangled.{HasNoName}
 use Rattle.lp_spec.specs.Modules.{Declaration, symbol_name, symbol_type}
 use Rattle.decode_spec.specs.Options.{bind, provided}
-use Rattle.decode_laws.specs.OptionLaws.{there}
+use Rattle.decode_laws.specs.OptionLaws.{Some-or_None}
 use Rattle.decode_spec.specs.Demangled.{demangled}
 use Rattle.decode_laws.specs.DemangledLaws.{demangled-is, demangled-mangled}
 use Rattle.decode_spec.specs.Decode.{behind, name_behind, is_lacking, has_type, named_operator}
@@ -85,7 +85,7 @@ module _ (d : List Declaration) (s : ℕ) (front : List ℕ) where
       go (inr q) = q
 
       lacking : demangled text ≡ None
-      lacking = go (there (demangled text))
+      lacking = go (Some-or_None (demangled text))
 
   pub has_name : (text : List ℕ) (name : Name) → behind front (symbol_name d s) ≡ Some text → IsName name → mangled name ≡ text → Some name ≡ name_behind d s front
   has_name text name e is m = sym (ap (λ o. bind o demangled) e ∙ ap demangled (sym m) ∙ demangled-mangled name is)

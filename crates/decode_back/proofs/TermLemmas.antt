@@ -2,6 +2,7 @@
 use Rattle.std.proofs.Common.{◌≡◌, ℕ, zero, suc, ◌+◌, ◌-◌, ◌<◌, ◌≤◌, List, [], ◌∷◌, ◌++◌, map, length, get_or, ◌⊎◌, inl, inr, ⊎_elim, Bool, true, Option, Some, None, refl, sym, ap, subst, ◌∙◌, arith}
 use Rattle.std.specs.Prelude.{min, ◌^◌, nat_lt, not, ◌&&◌, MatchOption, IfSome}
 use Rattle.std.proofs.lemmas.Bool.Decides.{Decides-ltb, Decides-not}
+use Rattle.std.proofs.lemmas.Bool.{and_parts}
 use Rattle.hol_spec.specs.Limits.{greatest_size, term_size}
 use Rattle.hol_spec.specs.Terms as term
 use Rattle.hol_spec.specs.Terms.{Term}
@@ -21,7 +22,6 @@ use Rattle.decode_spec.specs.Opened.{open_type, type_at, open_term, open_variabl
 use Rattle.decode_spec.specs.Decode.{term_from, constant_from}
 use Rattle.decode_spec.specs.Options.{provided}
 use Rattle.decode_laws.specs.OptionLaws.{some-injective, or_else-is, provided-is}
-use Rattle.decode_laws.specs.SymbolLaws.{and-is}
 use Rattle.decode_laws.specs.TermLaws.{term_from-is, term_from-stands}
 use Rattle.decode_laws.specs.TermWalkLaws.{NoTerm, applied-append, dead-applied, dead-no_constant, dead-application}
 use Rattle.decode_back.specs.Walks.{parameter_name}
@@ -141,8 +141,8 @@ module _ (d : List Declaration) (at : Place) (v : ℕ) where
       free : provided is_free (Some (ClosedTerm.parameter (depth_of at - suc v - at.type_variables))) ≡ Some c → ⊥
       free g =
           let p = provided-is is_free (Some (ClosedTerm.parameter (depth_of at - suc v - at.type_variables))) c g in
-          let q = and-is (nat_lt v (depth_of at)) (not (nat_lt (depth_of at - suc v) at.type_variables) && nat_lt (depth_of at - suc v - at.type_variables) at.free_variables) p.0 in
-          let r = and-is (not (nat_lt (depth_of at - suc v) at.type_variables)) (nat_lt (depth_of at - suc v - at.type_variables) at.free_variables) q.1 in
+          let q = and_parts (nat_lt v (depth_of at)) (not (nat_lt (depth_of at - suc v) at.type_variables) && nat_lt (depth_of at - suc v - at.type_variables) at.free_variables) p.0 in
+          let r = and_parts (not (nat_lt (depth_of at - suc v) at.type_variables)) (nat_lt (depth_of at - suc v - at.type_variables) at.free_variables) q.1 in
           let below : v < depth_of at = (Decides-ltb v (depth_of at)).0 q.0 in
           let past : at.type_variables ≤ depth_of at - suc v = not-less (depth_of at - suc v) at.type_variables r.0 in
           let small : depth_of at - suc v - at.type_variables < at.free_variables = (Decides-ltb (depth_of at - suc v - at.type_variables) at.free_variables).0 r.1 in

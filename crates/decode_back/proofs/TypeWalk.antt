@@ -25,9 +25,9 @@ use Rattle.lp_term.specs.declared.LpNode.{LpNode}
 use Rattle.lp_term.specs.declared.LpNode.TheVariants as node
 use Rattle.module_spec.specs.TypeEnc.{Place, depth_of}
 use Rattle.decode_laws.specs.OptionLaws.{provided-true, provided-is}
-use Rattle.decode_laws.specs.SymbolLaws.{and-true, and-is}
 use Rattle.decode_back.proofs.UndeclaredLemmas.{operator_at-undeclared}
 use Rattle.std.proofs.lemmas.Bool.Decides.{Decides-ltb, Decides-eqb}
+use Rattle.std.proofs.lemmas.Bool.{and_parts, and_from}
 use Rattle.decode_spec.specs.Opened.{open_type, open_types}
 use Rattle.decode_spec.specs.Decode.{operator_at, type_from, closed_count}
 use Rattle.decode_laws.specs.WalkLaws.{NoType, none-argument, none-operator, some-argument}
@@ -189,7 +189,7 @@ module _ (d : List Declaration) (at : Place) (level v depth : ℕ) (all : depth_
       let m : depth_of at - suc v < at.type_variables = omega (arith, same, own) in (
         ClosedType.parameter (depth - 1 - v),
         provided-true (nat_lt v (depth_of at) && nat_lt (depth_of at - suc v) at.type_variables) (Some (ClosedType.parameter (depth_of at - suc v)))
-            (and-true (nat_lt v (depth_of at)) (nat_lt (depth_of at - suc v) at.type_variables) ((Decides-ltb v (depth_of at)).1 l) ((Decides-ltb (depth_of at - suc v) at.type_variables).1 m))
+            (and_from (nat_lt v (depth_of at)) (nat_lt (depth_of at - suc v) at.type_variables) ((Decides-ltb v (depth_of at)).1 l) ((Decides-ltb (depth_of at - suc v) at.type_variables).1 m))
             ∙ ap (λ i. Some (ClosedType.parameter i)) same,
         h,
       )
@@ -197,7 +197,7 @@ module _ (d : List Declaration) (at : Place) (level v depth : ℕ) (all : depth_
   pub variable-none : (v < depth → depth - 1 - v < at.type_variables → ⊥) → (acc : ClosedTypes) → Nothing level (type_from d at (Var v) acc)
   variable-none h ClosedTypes.none t e =
       let p = provided-is (nat_lt v (depth_of at) && nat_lt (depth_of at - suc v) at.type_variables) (Some (ClosedType.parameter (depth_of at - suc v))) t e in
-      let q = and-is (nat_lt v (depth_of at)) (nat_lt (depth_of at - suc v) at.type_variables) p.0 in
+      let q = and_parts (nat_lt v (depth_of at)) (nat_lt (depth_of at - suc v) at.type_variables) p.0 in
       let below : v < depth_of at = (Decides-ltb v (depth_of at)).0 q.0 in
       let own : depth_of at - suc v < at.type_variables = (Decides-ltb (depth_of at - suc v) at.type_variables).0 q.1 in
       let l : v < depth = omega (arith, below, all) in

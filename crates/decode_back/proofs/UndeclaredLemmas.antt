@@ -10,7 +10,7 @@ use Rattle.module_spec.specs.OperatorMeaning as operators
 use Rattle.module_spec.specs.ConstantMeaning.{MeansConstant}
 use Rattle.module_spec.specs.ConstantMeaning as constants
 use Rattle.decode_spec.specs.Decode.{operator_at, Constant, constant_at}
-use Rattle.decode_laws.specs.OptionLaws.{there}
+use Rattle.decode_laws.specs.OptionLaws.{Some-or_None}
 use Rattle.decode_laws.specs.SymbolLaws.{operator_at-is}
 use Rattle.decode_laws.specs.ConstantLaws.{constant_at-is}
 
@@ -46,14 +46,14 @@ module _ (d : List Declaration) (s : ℕ) (l : length (signature ++ d) ≤ s) wh
   no_constant n k t (constants.MeansConstant.defined h g) = typeless _ g.ty
 
   pub operator_at-undeclared : (k : ℕ) → operator_at d s k ≡ None
-  operator_at-undeclared k = go (there (operator_at d s k))
+  operator_at-undeclared k = go (Some-or_None (operator_at d s k))
     where
       go : ((n : Name) × (operator_at d s k ≡ Some n)) ⊎ (operator_at d s k ≡ None) → operator_at d s k ≡ None
       go (inl p) = absurd (no_operator p.0 k (operator_at-is d s k p.0 p.1))
       go (inr e) = e
 
   pub constant_at-undeclared : constant_at d s ≡ None
-  constant_at-undeclared = go (there (constant_at d s))
+  constant_at-undeclared = go (Some-or_None (constant_at d s))
     where
       go : ((c : Constant) × (constant_at d s ≡ Some c)) ⊎ (constant_at d s ≡ None) → constant_at d s ≡ None
       go (inl p) = absurd (no_constant p.0.name p.0.variables p.0.generic (constant_at-is d s p.0 p.1))

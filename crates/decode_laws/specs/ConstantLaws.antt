@@ -4,6 +4,7 @@ use Rattle.std.specs.Prelude.{nat_eq, replicate, codes}
 use Rattle.std.specs.Option.{option_map}
 use Rattle.std.proofs.lemmas.Bool.Decides.{Decides-eqb}
 use Rattle.std.proofs.lemmas.Slice.Eq.{slice_eq-Decides}
+use Rattle.std.proofs.lemmas.Bool.{and_parts, and_from}
 use lib.Pointwise.{pointwise}
 use Rattle.hol_spec.specs.Names.{Name}
 use Rattle.hol_spec.specs.Lists.{distinct}
@@ -17,8 +18,9 @@ use Rattle.module_spec.specs.ConstantMeaning as constants
 use Rattle.decode_spec.specs.Options.{bind, provided}
 use Rattle.decode_laws.specs.OptionLaws.{some-injective, bind-is, or_else-is, or_else-first, or_else-second, provided-is, provided-true}
 use Rattle.decode_spec.specs.Decode.{name_behind, has_type, is_lacking, symbol_argument, term_part, is_types, peel_one, peel_types, type_of_tree, Constant, constant_with, generic_of, primitive_constant, input_constant, defined_constant, constant_at}
-use Rattle.decode_laws.specs.SymbolLaws.{begins, and-is, and-true, name_behind-is, name_behind-has, has_type-Decides, is_lacking-Decides}
-use Rattle.decode_laws.specs.TypeLaws.{option_map-is, type_of_tree-is, type_of_tree-stands}
+use Rattle.decode_laws.specs.SymbolLaws.{begins, name_behind-is, name_behind-has, has_type-Decides, is_lacking-Decides}
+use Rattle.decode_laws.specs.TypeLaws.{type_of_tree-is, type_of_tree-stands}
+use Rattle.lp_binding.specs.LookUps.{option_map-some}
 
 pub symbol_argument-is : (s : ℕ) (A a : Tree) → symbol_argument s A ≡ Some a → A ≡ App (Sym s) a
 symbol_argument-is s SortType a e = absurd (cc)
@@ -122,7 +124,7 @@ module _ (d : List Declaration) where
       let test : Name → Bool = λ n. is_lacking (primitive_type n) && has_type (symbol_type d s) input_type in
       let p = bind-is (name_behind d s (codes "i_")) (λ n. provided (test n) (Some (constant_with n 1 (ClosedType.parameter 0)))) c e in
       let q = provided-is (test p.0) (Some (constant_with p.0 1 (ClosedType.parameter 0))) c p.2 in
-      let r = and-is (is_lacking (primitive_type p.0)) (has_type (symbol_type d s) input_type) q.0 in
+      let r = and_parts (is_lacking (primitive_type p.0)) (has_type (symbol_type d s) input_type) q.0 in
       let h = name_behind-is d s (codes "i_") p.0 p.1 in
       subst (Means s) (some-injective q.1) (constants.MeansConstant.input
       (record { is_name = h.is_name; not_primitive = (is_lacking-Decides (primitive_type p.0)).0 r.0; text = h.text }) ((has_type-Decides (symbol_type d s) input_type).0 r.1))
@@ -132,14 +134,14 @@ module _ (d : List Declaration) where
       let test : Name → Bool = λ m. is_lacking (primitive_type m) && has_type (symbol_type d s) input_type in
       ap (λ o. bind o (λ m. provided (test m) (Some (constant_with m 1 (ClosedType.parameter 0))))) (name_behind-has d s (codes "i_") n (record { is_name = h.is_name; text = h.text }))
       ∙ provided-true (test n) (Some (constant_with n 1 (ClosedType.parameter 0)))
-      (and-true (is_lacking (primitive_type n)) (has_type (symbol_type d s) input_type) ((is_lacking-Decides (primitive_type n)).1 h.not_primitive) ((has_type-Decides (symbol_type d s) input_type).1 f))
+      (and_from (is_lacking (primitive_type n)) (has_type (symbol_type d s) input_type) ((is_lacking-Decides (primitive_type n)).1 h.not_primitive) ((has_type-Decides (symbol_type d s) input_type).1 f))
 
   defined_constant-is : (s : ℕ) (c : Constant) → defined_constant d s ≡ Some c → Means s c
   defined_constant-is s c e =
       let made : Name → Option Constant = λ n. option_map (λ (g : ℕ × ClosedType). constant_with n g.0 g.1) (generic_of d (symbol_type d s)) in
       let p = bind-is (name_behind d s (codes "c_")) (λ n. provided (is_lacking (primitive_type n)) (made n)) c e in
       let q = provided-is (is_lacking (primitive_type p.0)) (made p.0) c p.2 in
-      let r = option_map-is (λ (g : ℕ × ClosedType). constant_with p.0 g.0 g.1) (generic_of d (symbol_type d s)) c q.1 in
+      let r = option_map-some (λ (g : ℕ × ClosedType). constant_with p.0 g.0 g.1) (generic_of d (symbol_type d s)) c q.1 in
       let h = name_behind-is d s (codes "c_") p.0 p.1 in
       subst (Means s) r.2 (constants.MeansConstant.defined
       (record { is_name = h.is_name; not_primitive = (is_lacking-Decides (primitive_type p.0)).0 q.0; text = h.text }) (generic_of-is (symbol_type d s) s r.0.0 r.0.1 refl r.1))

@@ -8,15 +8,16 @@ use Rattle.lp_spec.specs.Modules.{Declaration, term_symbol, proof_symbol, produc
 use Rattle.module_spec.specs.TypeEnc.{place}
 use Rattle.module_spec.specs.Enc.{StandsForTerm, StandForVariables, StandForHypotheses, domains, IsClosedForm, Enc, OneEncoding}
 use Rattle.decode_spec.specs.Options.{bind, both, provided}
-use Rattle.decode_laws.specs.OptionLaws.{some-injective, bind-is, both-is, provided-is, provided-true, there}
+use Rattle.decode_laws.specs.OptionLaws.{some-injective, bind-is, both-is, provided-is, provided-true, Some-or_None}
 use Rattle.decode_spec.specs.Opened.{own_name, AreApart}
 use Rattle.decode_spec.specs.ClosedFormTest.{is_closed_form}
 use Rattle.decode_laws.specs.ClosedFormTestLaws.{is_closed_form-Decides}
 use Rattle.decode_spec.specs.Decode.{symbol_argument, proof_part, peel_types, peel_on, peel, type_of_tree, term_from, variables_from, hypotheses_from, closed_sequent, Parts, parts, sequent_from, decode}
-use Rattle.decode_laws.specs.TypeLaws.{option_map-is, type_of_tree-is, type_of_tree-stands}
+use Rattle.decode_laws.specs.TypeLaws.{type_of_tree-is, type_of_tree-stands}
 use Rattle.decode_laws.specs.ConstantLaws.{symbol_argument-is, symbol_argument-of, peel_types-is, peel_types-products}
 use Rattle.decode_laws.specs.TermLaws.{term_from-is, term_from-stands}
 use Rattle.decode_spec.specs.DecodeStatements.{DecodedExactly}
+use Rattle.lp_binding.specs.LookUps.{option_map-some}
 
 -- the names of numbers are apart
 own_name-apart : AreApart own_name
@@ -147,7 +148,7 @@ module _ (d : List Declaration) where
       let v = bind-is (variables_from d p.variables p.type_variables 0) (with_variables p) s e in
       let h = bind-is (hypotheses_from d p.hypotheses p.type_variables (length p.variables) 0) (with_hypotheses p v.0) s v.2 in
       let c = bind-is (proof_part p.end) (with_conclusion p v.0 h.0) s h.2 in
-      let t = option_map-is (closed_sequent p.type_variables v.0 h.0) (term_from d c.0 (place p.type_variables (length p.variables) (length p.hypotheses) 0)) s c.2 in
+      let t = option_map-some (closed_sequent p.type_variables v.0 h.0) (term_from d c.0 (place p.type_variables (length p.variables) (length p.hypotheses) 0)) s c.2 in
       subst (λ z. PartsStand z p) t.2 (record {
         conclusion = c.0;
         count = refl;
@@ -211,7 +212,7 @@ module _ (d : List Declaration) where
   decode-None A e s h = let f : ◌≡◌ {A = Option ClosedSequent} None (Some s) = sym e ∙ decode-Enc A s h in cc
 
   pub None-decode : (A : Tree) → ((s : ClosedSequent) → Enc d s A → ⊥) → decode d A ≡ None
-  None-decode A f = go (there (decode d A))
+  None-decode A f = go (Some-or_None (decode d A))
     where
       go : ((s : ClosedSequent) × (decode d A ≡ Some s)) ⊎ (decode d A ≡ None) → decode d A ≡ None
       go (inl p) = absurd (f p.0 (decode-is A p.0 p.1))

@@ -5,6 +5,7 @@ use Rattle.std.specs.Option.{option_map}
 use Rattle.std.specs.List.{AllByRecursion}
 use Rattle.std.specs.Char.{is_ascii_alphanumeric}
 use Rattle.std.proofs.lemmas.Bool.Decides.{Decides-eqb}
+use Rattle.std.proofs.lemmas.Bool.{not-true}
 use Rattle.hol_spec.specs.Names.{Name}
 use Rattle.hol_spec.specs.NameOf.{with_byte}
 use Rattle.hol_spec.specs.Mangling.{underscore, hex_digit, mangled_before, mangled_more, mangled, AreBytes, IsName}
@@ -24,10 +25,6 @@ alphanumeric-byte b h = grind (arith, h)
 
 hex_digit-not_underscore : (v : ℕ) → v < 16 → nat_eq (hex_digit v) underscore ≡ false
 hex_digit-not_underscore v h = grind (arith, h)
-
-not-false : (b : Bool) → not b ≡ true → b ≡ false
-not-false true e = absurd (cc)
-not-false false e = refl
 
 -- two digits write a byte, and which
 record Writes (c e b : ℕ) : Type 0 where
@@ -49,7 +46,7 @@ byte_of-is c e b is =
     let r : b % 16 ≡ q.1 = omega (arith, sum, high.0, low.0) in
     record {
       small = omega (arith, sum, high.0, low.0);
-      other = ap is_ascii_alphanumeric (sym same) ∙ not-false (is_ascii_alphanumeric p.0) z.0;
+      other = ap is_ascii_alphanumeric (sym same) ∙ not-true (is_ascii_alphanumeric p.0) z.0;
       high = ap hex_digit a ∙ high.1;
       low = ap hex_digit r ∙ low.1;
     }

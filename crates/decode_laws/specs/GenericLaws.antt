@@ -3,6 +3,7 @@ use Rattle.std.proofs.Common.{◌≡◌, ℕ, zero, suc, ◌≤◌, List, [], �
 use Rattle.std.specs.Prelude.{nat_eq}
 use Rattle.std.proofs.lemmas.Bool.Decides.{Decides-eqb}
 use Rattle.std.proofs.Math.Path.{ap₂}
+use Rattle.std.proofs.lemmas.List.{map-append}
 use Rattle.hol_spec.specs.Names.{Name}
 use Rattle.hol_spec.specs.NameEquality.{name_eq}
 use Rattle.hol_laws.specs.NameEqualityLaws.{name_eq-Decides}
@@ -10,7 +11,7 @@ use Rattle.hol_spec.specs.Lists.{distinct}
 use Rattle.hol_spec.specs.Types.{variable_places, variable_places_of_all, type_variables}
 use Rattle.hol_spec.specs.Limits.{type_size, types_size}
 use Rattle.hol_spec.specs.ClosedForm.{ClosedType, ClosedTypes}
-use Rattle.hol_laws.specs.RenamingLaws.{map-append, agree, distinct-map}
+use Rattle.hol_laws.specs.RenamingLaws.{agree, distinct-map}
 use Rattle.hol_laws.specs.Members.{All-each}
 use Rattle.module_spec.specs.ConstantMeaning.{parameter_places, parameter_places_of_all, numbers}
 use Rattle.decode_spec.specs.Opened.{AreApart, open_type, open_types}

@@ -1,34 +1,32 @@
 -- The closed form of a sequent, opened with names of one's own, is the sequent renamed; so it is a sequent whose parameters are numbered in order.
-use Rattle.std.proofs.Common.{◌≡◌, ℕ, zero, suc, ◌+◌, List, [], ◌∷◌, map, length, Bool, true, false, inl, inr, refl, sym, ap, subst, ◌∙◌, arith}
+use Rattle.std.proofs.Common.{◌≡◌, ℕ, suc, ◌+◌, List, [], ◌∷◌, map, length, Bool, true, false, inl, inr, refl, sym, ap, subst, ◌∙◌, arith, zero}
 use Rattle.std.specs.Bool.{Decides}
-use Rattle.std.specs.List.{AllByRecursion, IsDistinct, flat_map, position_or_len, sum_by}
+use Rattle.std.specs.List.{AllByRecursion, IsDistinct, flat_map, position_or_len}
 use Rattle.hol_spec.specs.Names.{Name}
 use Rattle.hol_spec.specs.NameEquality.{name_eq}
 use Rattle.hol_laws.specs.NameEqualityLaws.{name_eq-Decides}
-use Rattle.hol_spec.specs.Lists.{distinct, IsIn}
+use Rattle.hol_spec.specs.Lists.{IsIn}
 use Rattle.hol_laws.specs.ListLaws.{distinct-IsDistinct}
 use Rattle.hol_spec.specs.Types as type
 use Rattle.hol_spec.specs.Types.{HolType, HolTypes, variable_places, variable_places_of_all}
-use Rattle.hol_spec.specs.Primitives.{bool}
 use Rattle.hol_spec.specs.Terms as term
 use Rattle.hol_spec.specs.Terms.{Term, Variable, variable_eq, term_eq, HasType, type_variable_places, free_places}
-use Rattle.hol_laws.specs.TermLaws.{variable_eq-Decides, term_eq-Decides}
+use Rattle.hol_laws.specs.TermLaws.{variable_eq-Decides}
 use Rattle.std.proofs.Math.Path.{ap₂}
 use Rattle.hol_spec.specs.Sequents.{Sequent, IsSequent, terms_of, type_variables_of, free_variables_of}
-use Rattle.hol_spec.specs.Limits.{term_size, term_depth, greatest_by, sequent_size, sequent_depth, SequentWithin}
+use Rattle.hol_spec.specs.Limits.{SequentWithin}
 use Rattle.hol_spec.specs.ClosedForm.{ClosedType, close_type, close_types, close_term, closed_form}
 use Rattle.module_spec.specs.ConstantMeaning.{numbers}
-use Rattle.hol_laws.specs.Members.{All-each, All-at, All-part, All-left, All-right, All-append, All-weaker, IsIn-distinct, IsIn-distinct_of, IsIn-left, IsIn-right, map-each, map-twice}
+use Rattle.hol_laws.specs.Members.{All-each, All-at, All-left, All-right, All-weaker, map-each, map-twice}
 use Rattle.hol_spec.specs.Renamings.{renamed_type, renamed_types, renamed_variable, renamed, renamed_sequent}
 use Rattle.hol_laws.specs.RenamedSequents.{hypotheses-IsOver, conclusion-IsOver, type_variables-renamed, free_variables-renamed, IsSequent-renamed, SequentWithin-renamed}
-use Rattle.hol_laws.specs.RenamingLaws.{map-append, renamed-injective, type_places-renamed, free_places-renamed, term_size-renamed, term_depth-renamed, type_under-renamed, agree, distinct-map, IsDistinct-map, flat_map-map, sum_by-map, greatest_by-map, length_map}
 use Rattle.hol_laws.specs.PositionLaws.{turned, position-cons, position-first, position-later, position-injective}
 use Rattle.decode_spec.specs.Opened.{open_type, open_types, type_at, open_term, open_variables, opened, IsOpen}
 
 -- numbers from one on are those from zero on, each one more
-numbers-suc : (i k : ℕ) → map suc (numbers i k) ≡ numbers (suc i) k
-numbers-suc i zero = refl
-numbers-suc i (suc k) = ap (λ l. suc i ∷ l) (numbers-suc (suc i) k)
+map-numbers : (i k : ℕ) → map suc (numbers i k) ≡ numbers (suc i) k
+map-numbers i zero = refl
+map-numbers i (suc k) = ap (λ l. suc i ∷ l) (map-numbers (suc i) k)
 
 -- the places of the elements of a list without repeats are the numbers from zero on
 positions : {A : Type 0} (same : A → A → Bool) (decides : (x y : A) → Decides (same x y) (x ≡ y)) (xs : List A) → IsDistinct same xs → map (λ x. position_or_len (same x) xs) xs ≡ numbers 0 (length xs)
@@ -37,7 +35,7 @@ positions same decides [] h = refl
 positions same decides (x ∷ xs) h =
     let rest : map (λ y. position_or_len (same y) (x ∷ xs)) xs ≡ map (λ y. suc (position_or_len (same y) xs)) xs =
     map-each (λ y. position_or_len (same y) (x ∷ xs)) (λ y. suc (position_or_len (same y) xs)) xs (All-each _ xs (λ y k. position-later same decides x y xs (All-at _ xs y h.0 k))) in
-    λ i. position-first same decides x xs i ∷ (rest ∙ sym (map-twice suc (λ y. position_or_len (same y) xs) xs) ∙ ap (map suc) (positions same decides xs h.1) ∙ numbers-suc 0 (length xs)) i
+    λ i. position-first same decides x xs i ∷ (rest ∙ sym (map-twice suc (λ y. position_or_len (same y) xs) xs) ∙ ap (map suc) (positions same decides xs h.1) ∙ map-numbers 0 (length xs)) i
 
 module _ (named : ℕ → Name) (apart : (i j : ℕ) → named i ≡ named j → i ≡ j) where
   -- the new names of the variables of these lists

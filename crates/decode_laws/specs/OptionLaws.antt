@@ -34,6 +34,6 @@ pub provided-true : {A : Type 0} (b : Bool) (o : Option A) → b ≡ true → pr
 provided-true b o e = ap (λ w. provided w o) e
 
 -- a thing is there or lacking
-pub there : {A : Type 0} (o : Option A) → ((x : A) × (o ≡ Some x)) ⊎ (o ≡ None)
-there None = inr refl
-there (Some x) = inl (x, refl)
+pub Some-or_None : {A : Type 0} (o : Option A) → ((x : A) × (o ≡ Some x)) ⊎ (o ≡ None)
+Some-or_None None = inr refl
+Some-or_None (Some x) = inl (x, refl)

@@ -12,10 +12,9 @@ use Rattle.hol_spec.specs.ClosedForm.{ClosedType, ClosedTerm, ClosedSequent}
 use Rattle.lp_spec.specs.Trees.{Tree, size}
 use Rattle.lp_spec.specs.Modules.{Declaration, products, types, term_of, proof_of}
 use Rattle.module_spec.specs.TypeEnc.{place}
-use Rattle.module_spec.specs.ConstantMeaning.{numbers}
 use Rattle.module_spec.specs.Enc.{StandForVariables, StandForHypotheses, domains, Enc}
 use Rattle.decode_spec.specs.Opened.{open_term, open_variables, opened}
-use Rattle.decode_laws.specs.ClosedFormTestLaws.{IsClosedForm-IsOpen}
+use Rattle.decode_laws.specs.ClosedFormTestLaws.{IsClosedForm-IsOpen, length-numbers}
 use Rattle.hol_laws.specs.RenamingLaws.{length_map}
 use Rattle.decode_laws.specs.SizeLaws.{summed, summed-append, summed-distinct, type-size, term-size}
 
@@ -64,10 +63,6 @@ module _ (named : ℕ → Name) (d : List Declaration) where
   hypotheses-size variables [] (A ∷ As) n m l h = absurd h
   hypotheses-size variables (t ∷ ts) [] n m l h = absurd h
   hypotheses-size variables (t ∷ ts) (A ∷ As) n m l h = omega (arith, term-size named d variables t (place n m l 0) A h.0, hypotheses-size variables ts As n m (suc l) h.1)
-
-length-numbers : (f : ℕ → Name) (i n : ℕ) → length (map f (numbers i n)) ≡ n
-length-numbers f i zero = refl
-length-numbers f i (suc n) = ap suc (length-numbers f (suc i) n)
 
 pub Enc-size : (named : ℕ → Name) → ((i j : ℕ) → named i ≡ named j → i ≡ j) → (d : List Declaration) (s : ClosedSequent) (A : Tree) → Enc d s A → size A ≤ 4196353
 Enc-size named apart d s A h =

@@ -1,8 +1,9 @@
 -- The operator of a symbol is found exactly where it stands for one.
-use Rattle.std.proofs.Common.{◌≡◌, ◌≤◌, ℕ, ⊎_elim, List, [], ◌∷◌, ◌++◌, Bool, true, false, ◌&&◌, Option, Some, None, refl, sym, ap, subst, ◌∙◌, arith}
+use Rattle.std.proofs.Common.{◌≡◌, ◌≤◌, ℕ, ⊎_elim, List, [], ◌∷◌, ◌++◌, Bool, true, ◌&&◌, Option, Some, None, refl, sym, ap, subst, ◌∙◌, arith}
 use Rattle.std.specs.Prelude.{nat_eq, replicate, codes}
 use Rattle.std.specs.Bool.{Decides}
 use Rattle.std.proofs.lemmas.Bool.Decides.{Decides-eqb}
+use Rattle.std.proofs.lemmas.Bool.{and_parts, and_from}
 use Rattle.hol_spec.specs.Names.{Name}
 use Rattle.hol_spec.specs.Mangling.{mangled, IsName}
 use Rattle.hol_spec.specs.Primitives.{arrow_name, bool_name, ind_name, primitive_arity}
@@ -17,15 +18,6 @@ use Rattle.decode_laws.specs.OptionLaws.{some-injective, bind-is, or_else-is, or
 use Rattle.decode_spec.specs.Demangled.{demangled}
 use Rattle.decode_laws.specs.DemangledLaws.{demangled-is, demangled-mangled}
 use Rattle.decode_spec.specs.Decode.{behind, name_behind, has_type, is_lacking, named_operator, primitive_operator, operator_at}
-
--- two tests pass exactly where both do
-pub and-is : (a b : Bool) → (a && b) ≡ true → (a ≡ true) × (b ≡ true)
-and-is true b e = (refl, e)
-and-is false b e = absurd (cc)
-
-pub and-true : (a b : Bool) → a ≡ true → b ≡ true → (a && b) ≡ true
-and-true true b e f = f
-and-true false b e f = absurd (cc)
 
 -- what stands behind a front
 pub behind-is : (front text rest : List ℕ) → behind front text ≡ Some rest → text ≡ front ++ rest
@@ -72,7 +64,7 @@ named_operator-is d s front k name e =
     let p = bind-is (name_behind d s front) (λ n. provided (test n) (Some n)) name e in
     let q = provided-is (test p.0) (Some p.0) name p.2 in
     let same : p.0 ≡ name = some-injective q.1 in
-    let both = and-is (is_lacking (primitive_arity p.0)) (has_type (symbol_type d s) tree) q.0 in
+    let both = and_parts (is_lacking (primitive_arity p.0)) (has_type (symbol_type d s) tree) q.0 in
     let h = name_behind-is d s front p.0 p.1 in
     subst (λ n. NamesOperator d s front n k) same (record {
       is_name = h.is_name;
@@ -86,13 +78,13 @@ named_operator-names d s front k name h =
     let tree = products (replicate k types) types in
     let test : Name → Bool = λ n. is_lacking (primitive_arity n) && has_type (symbol_type d s) tree in
     ap (λ o. bind o (λ n. provided (test n) (Some n))) (name_behind-has d s front name (record { is_name = h.is_name; text = h.text }))
-    ∙ provided-true (test name) (Some name) (and-true (is_lacking (primitive_arity name)) (has_type (symbol_type d s) tree) ((is_lacking-Decides (primitive_arity name)).1 h.not_primitive) ((has_type-Decides (symbol_type d s) tree).1 h.ty))
+    ∙ provided-true (test name) (Some name) (and_from (is_lacking (primitive_arity name)) (has_type (symbol_type d s) tree) ((is_lacking-Decides (primitive_arity name)).1 h.not_primitive) ((has_type-Decides (symbol_type d s) tree).1 h.ty))
 
 -- a primitive operator is found at its symbol alone
 one_primitive : (s k r j : ℕ) (n m : Name) → provided (nat_eq s r && nat_eq k j) (Some n) ≡ Some m → (s ≡ r) × (k ≡ j) × (n ≡ m)
 one_primitive s k r j n m e =
     let p = provided-is (nat_eq s r && nat_eq k j) (Some n) m e in
-    let q = and-is (nat_eq s r) (nat_eq k j) p.0 in
+    let q = and_parts (nat_eq s r) (nat_eq k j) p.0 in
     ((Decides-eqb s r).0 q.0, (Decides-eqb k j).0 q.1, some-injective p.1)
 
 -- what a symbol stands for, at an equal number of arguments and by an equal name

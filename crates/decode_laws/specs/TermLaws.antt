@@ -2,6 +2,7 @@
 use Rattle.std.proofs.Common.{◌≡◌, ℕ, suc, ◌+◌, ◌-◌, ◌<◌, ◌≤◌, ◌⊎◌, inl, inr, ⊎_elim, List, [], ◌∷◌, length, Bool, true, ◌&&◌, Option, Some, refl, sym, ap, subst, ◌∙◌, arith}
 use Rattle.std.specs.Prelude.{nat_lt, nat_eq, not}
 use Rattle.std.proofs.lemmas.Bool.Decides.{Decides-eqb, Decides-ltb, Decides-not}
+use Rattle.std.proofs.lemmas.Bool.{and_parts, and_from}
 use Rattle.hol_spec.specs.Names.{Name}
 use Rattle.hol_spec.specs.ClosedForm.{ClosedType, ClosedTypes, ClosedTerm}
 use Rattle.lp_spec.specs.Trees.{Tree, SortType, SortKind, Var, Sym, App, Lam, Pi}
@@ -12,7 +13,6 @@ use Rattle.module_spec.specs.Enc.{StandsForConstant, StandsForTerm}
 use Rattle.decode_spec.specs.Options.{bind, both, provided}
 use Rattle.decode_laws.specs.OptionLaws.{some-injective, bind-is, both-is, or_else-is, or_else-first, or_else-second, provided-is, provided-true}
 use Rattle.decode_spec.specs.Decode.{closed_count, type_of_tree, term_part, Constant, constant_at, constant_from, term_parameter, term_from}
-use Rattle.decode_laws.specs.SymbolLaws.{and-is, and-true}
 use Rattle.decode_laws.specs.TypeLaws.{joined, joined-none, count-stand, type_of_tree-is, type_of_tree-stands}
 use Rattle.decode_laws.specs.ConstantLaws.{symbol_argument-is, symbol_argument-of, constant_at-is, constant_at-means}
 
@@ -141,8 +141,8 @@ module _ (d : List Declaration) where
         outer f =
             let D = depth_of at in
             let p = provided-is (is_free v) (Some (ClosedTerm.parameter (D - suc v - at.type_variables))) c f in
-            let q = and-is (nat_lt v D) (not (nat_lt (D - suc v) at.type_variables) && nat_lt (D - suc v - at.type_variables) at.free_variables) p.0 in
-            let r = and-is (not (nat_lt (D - suc v) at.type_variables)) (nat_lt (D - suc v - at.type_variables) at.free_variables) q.1 in
+            let q = and_parts (nat_lt v D) (not (nat_lt (D - suc v) at.type_variables) && nat_lt (D - suc v - at.type_variables) at.free_variables) p.0 in
+            let r = and_parts (not (nat_lt (D - suc v) at.type_variables)) (nat_lt (D - suc v - at.type_variables) at.free_variables) q.1 in
             let below : v < D = (Decides-ltb v D).0 q.0 in
             let past : at.type_variables ≤ D - suc v = not-less (D - suc v) at.type_variables r.0 in
             let back : v ≡ D - suc (at.type_variables + (D - suc v - at.type_variables)) = omega (arith, below, past) in
@@ -165,8 +165,8 @@ module _ (d : List Declaration) where
         or_else-second (provided (nat_lt v at.binders) (Some (ClosedTerm.bound v))) _ (ClosedTerm.parameter j)
         (λ y e. let p = provided-is (nat_lt v at.binders) (Some (ClosedTerm.bound v)) y e in let q : v < at.binders = (Decides-ltb v at.binders).0 p.0 in absurd (omega (arith, q, high)))
         (provided-true (is_free v) (Some (ClosedTerm.parameter (D - suc v - at.type_variables)))
-        (and-true (nat_lt v D) (not (nat_lt (D - suc v) at.type_variables) && nat_lt (D - suc v - at.type_variables) at.free_variables) ((Decides-ltb v D).1 below)
-        (and-true (not (nat_lt (D - suc v) at.type_variables)) (nat_lt (D - suc v - at.type_variables) at.free_variables) (not-less-true (D - suc v) at.type_variables past) ((Decides-ltb (D - suc v - at.type_variables) at.free_variables).1 small)))
+        (and_from (nat_lt v D) (not (nat_lt (D - suc v) at.type_variables) && nat_lt (D - suc v - at.type_variables) at.free_variables) ((Decides-ltb v D).1 below)
+        (and_from (not (nat_lt (D - suc v) at.type_variables)) (nat_lt (D - suc v - at.type_variables) at.free_variables) (not-less-true (D - suc v) at.type_variables past) ((Decides-ltb (D - suc v - at.type_variables) at.free_variables).1 small)))
         ∙ ap (λ i. Some (ClosedTerm.parameter i)) same)
 
   pub term_from-is : (A : Tree) (at : Place) (c : ClosedTerm) → term_from d A at ≡ Some c → StandsForTerm d c at A

@@ -1,15 +1,15 @@
 -- What a walk along the arguments of a term may leave out: where what was read so far can go on to nothing within the limits, the whole is nothing.
 use Rattle.std.proofs.Common.{◌≡◌, ◌⊎◌, inl, inr, ℕ, zero, suc, ◌+◌, ◌<◌, ◌≤◌, List, [], ◌∷◌, ◌++◌, length, Option, Some, None, refl, sym, ap, subst, ◌∙◌, arith}
-use Rattle.std.specs.Prelude.{nat_eq, max}
+use Rattle.std.specs.Prelude.{nat_eq}
 use Rattle.std.proofs.lemmas.Bool.Decides.{Decides-eqb}
 use Rattle.std.proofs.lemmas.List.{length-append}
 use Rattle.hol_spec.specs.Names.{Name}
-use Rattle.hol_spec.specs.Lists.{IsIn, distinct}
+use Rattle.hol_spec.specs.Lists.{IsIn}
 use Rattle.hol_spec.specs.Types.{count}
 use Rattle.hol_spec.specs.Limits.{type_size, types_size, type_depth, types_depth, term_size, term_depth}
 use Rattle.hol_spec.specs.ClosedForm.{ClosedType, ClosedTypes, ClosedTerm}
 use Rattle.hol_laws.specs.Members.{IsIn-either, IsIn-distinct_of}
-use Rattle.lp_spec.specs.Trees.{Tree, SortType, SortKind, Var, Sym, App, Lam, Pi}
+use Rattle.lp_spec.specs.Trees.{Tree, Sym, App}
 use Rattle.lp_spec.specs.Modules.{Declaration, applied}
 use Rattle.module_spec.specs.TypeEnc.{Place, StandsForType, StandForTypes}
 use Rattle.module_spec.specs.ConstantMeaning.{argument, instance_of, instances_of, parameter_places, parameter_places_of_all, numbers}
@@ -19,7 +19,7 @@ use Rattle.decode_laws.specs.OptionLaws.{some-injective, bind-is, both-is, or_el
 use Rattle.decode_spec.specs.Opened.{open_type, open_types, open_term}
 use Rattle.decode_spec.specs.Decode.{closed_count, type_of_tree, Constant, constant_at, constant_from, term_from}
 use Rattle.decode_laws.specs.TypeLaws.{joined, joined-none, count-stand, type_of_tree-is, type_of_tree-stands}
-use Rattle.decode_laws.specs.ConstantLaws.{Means, constant_at-is}
+use Rattle.decode_laws.specs.ConstantLaws.{constant_at-is}
 use Rattle.decode_laws.specs.TermLaws.{head_of, argument_count, constants-stand, constant_from-applied, enough_arguments, term_from-is, term_from-constant}
 use Rattle.decode_laws.specs.SizeLaws.{generic-size, means-in_order}
 use Rattle.decode_laws.specs.WalkLaws.{NoType, depth-positive}

@@ -1,8 +1,9 @@
 -- A type is decoded exactly where a tree stands for one.
-use Rattle.std.proofs.Common.{◌≡◌, ℕ, suc, ◌-◌, ◌<◌, List, [], ◌∷◌, length, ◌&&◌, Option, Some, None, refl, sym, ap, subst, ◌∙◌, arith}
+use Rattle.std.proofs.Common.{◌≡◌, ℕ, suc, ◌-◌, ◌<◌, List, [], ◌∷◌, length, ◌&&◌, Some, refl, sym, ap, subst, ◌∙◌, arith}
 use Rattle.std.specs.Prelude.{nat_lt}
 use Rattle.std.specs.Option.{option_map}
 use Rattle.std.proofs.lemmas.Bool.Decides.{Decides-ltb}
+use Rattle.std.proofs.lemmas.Bool.{and_parts, and_from}
 use Rattle.hol_spec.specs.ClosedForm.{ClosedType, ClosedTypes}
 use Rattle.lp_spec.specs.Trees.{Tree, SortType, SortKind, Var, Sym, App, Lam, Pi}
 use Rattle.lp_spec.specs.Modules.{Declaration, applied}
@@ -11,11 +12,8 @@ use Rattle.module_spec.specs.TypeEnc.{Place, depth_of, StandsForType, StandForTy
 use Rattle.decode_spec.specs.Options.{bind}
 use Rattle.decode_laws.specs.OptionLaws.{some-injective, bind-is, provided-is, provided-true}
 use Rattle.decode_spec.specs.Decode.{operator_at, closed_count, type_parameter, type_from, type_of_tree}
-use Rattle.decode_laws.specs.SymbolLaws.{and-is, and-true, operator_at-is, operator_at-means}
-
-pub option_map-is : {A B : Type 0} (f : A → B) (o : Option A) (y : B) → option_map f o ≡ Some y → (x : A) × (o ≡ Some x) × (f x ≡ y)
-option_map-is f None y e = absurd (cc)
-option_map-is f (Some x) y e = (x, refl, some-injective e)
+use Rattle.decode_laws.specs.SymbolLaws.{operator_at-is, operator_at-means}
+use Rattle.lp_binding.specs.LookUps.{option_map-some}
 
 -- a list of types behind which others stand
 abbrev pub joined : ClosedTypes → ClosedTypes → ClosedTypes
@@ -36,7 +34,7 @@ module _ (d : List Declaration) (at : Place) where
   type_parameter-is : (v : ℕ) (t : ClosedType) → type_parameter at v ≡ Some t → StandsForType d t at (Var v)
   type_parameter-is v t e =
       let p = provided-is (nat_lt v (depth_of at) && nat_lt (depth_of at - suc v) at.type_variables) (Some (ClosedType.parameter (depth_of at - suc v))) t e in
-      let q = and-is (nat_lt v (depth_of at)) (nat_lt (depth_of at - suc v) at.type_variables) p.0 in
+      let q = and_parts (nat_lt v (depth_of at)) (nat_lt (depth_of at - suc v) at.type_variables) p.0 in
       let below : v < depth_of at = (Decides-ltb v (depth_of at)).0 q.0 in
       let own : depth_of at - suc v < at.type_variables = (Decides-ltb (depth_of at - suc v) at.type_variables).0 q.1 in
       let back : v ≡ depth_of at - suc (depth_of at - suc v) = omega (arith, below) in
@@ -50,7 +48,7 @@ module _ (d : List Declaration) (at : Place) where
       let back : D - suc (D - suc i) ≡ i = omega (arith, l) in
       let own : D - suc (D - suc i) < at.type_variables = omega (arith, back, h) in
       provided-true (nat_lt (D - suc i) D && nat_lt (D - suc (D - suc i)) at.type_variables) (Some (ClosedType.parameter (D - suc (D - suc i))))
-      (and-true (nat_lt (D - suc i) D) (nat_lt (D - suc (D - suc i)) at.type_variables) ((Decides-ltb (D - suc i) D).1 below) ((Decides-ltb (D - suc (D - suc i)) at.type_variables).1 own))
+      (and_from (nat_lt (D - suc i) D) (nat_lt (D - suc (D - suc i)) at.type_variables) ((Decides-ltb (D - suc i) D).1 below) ((Decides-ltb (D - suc (D - suc i)) at.type_variables).1 own))
       ∙ ap (λ j. Some (ClosedType.parameter j)) back
 
   pub type_from-is : (A : Tree) (args : ClosedTypes) (t : ClosedType) → type_from d at A args ≡ Some t → (Xs : List Tree) → StandForTypes d args at Xs → StandsForType d t at (applied A Xs)
@@ -60,7 +58,7 @@ module _ (d : List Declaration) (at : Place) where
   type_from-is (Var v) ClosedTypes.none t e (X ∷ Xs) h = absurd h
   type_from-is (Var v) (ClosedTypes.more u us) t e Xs h = absurd (cc)
   type_from-is (Sym s) args t e Xs h =
-      let p = option_map-is (λ n. ClosedType.operator n args) (operator_at d s (closed_count args)) t e in
+      let p = option_map-some (λ n. ClosedType.operator n args) (operator_at d s (closed_count args)) t e in
       let means : MeansOperator d s p.0 (length Xs) = subst (λ k. MeansOperator d s p.0 k) (count-stand args Xs h) (operator_at-is d s (closed_count args) p.0 p.1) in
       subst (λ u. StandsForType d u at (applied (Sym s) Xs)) p.2 (s, Xs, means, h, refl)
   type_from-is (App f x) args t e Xs h =

@@ -12,7 +12,7 @@ use Rattle.decode_spec.specs.Options.{bind}
 use Rattle.decode_laws.specs.OptionLaws.{some-injective, bind-is}
 use Rattle.decode_spec.specs.Opened.{open_type, open_types}
 use Rattle.decode_spec.specs.Decode.{operator_at, closed_count, type_from}
-use Rattle.decode_laws.specs.TypeLaws.{option_map-is}
+use Rattle.lp_binding.specs.LookUps.{option_map-some}
 
 -- arguments are within what they are arguments of
 pub record AreWithin (ts : HolTypes) (t : HolType) : Type 0 where
@@ -43,7 +43,7 @@ module _ (named : ℕ → Name) (d : List Declaration) (at : Place) where
   arguments-within (Var v) ClosedTypes.none t e = nothing-within named t
   arguments-within (Var v) (ClosedTypes.more u us) t e = absurd (cc)
   arguments-within (Sym s) acc t e =
-      let p = option_map-is (λ n. ClosedType.operator n acc) (operator_at d s (closed_count acc)) t e in
+      let p = option_map-some (λ n. ClosedType.operator n acc) (operator_at d s (closed_count acc)) t e in
       subst (λ u. AreWithin (open_types named acc) (open_type named u)) p.2 (record { size = omega arith; depth = omega arith })
   arguments-within (App f x) acc t e =
       let p = bind-is (type_from d at x ClosedTypes.none) (λ u. type_from d at f (ClosedTypes.more u acc)) t e in
