@@ -3,7 +3,7 @@
 use Rattle.std.proofs.Common.{◌≡◌, ℕ, zero, suc, ◌+◌, ◌*◌, ◌≤◌, List, [], ◌∷◌, ◌++◌, length, Bool, true, false, ◌||◌, Some, inl, inr, refl, sym, ap, subst, arith}
 use Rattle.std.specs.Prelude.{slice_get}
 use Rattle.std.specs.Cmp.{IsEquivalence}
-use Rattle.std.specs.List.{AllByRecursion, list_any, flat_map}
+use Rattle.std.specs.List.{AllByRecursion, list_any}
 use Rattle.std.proofs.lemmas.Map.Made.{length-le_from_is_member}
 use Rattle.hol_spec.specs.Names.{Name}
 use Rattle.hol_spec.specs.NameEquality.{name_eq}
@@ -14,21 +14,17 @@ use Rattle.hol_spec.specs.Limits.{type_size, term_size}
 use Rattle.hol_spec.specs.Terms.{Term, free, bound, constant, app, lam, HasType, type_under, type_variable_places}
 use Rattle.hol_laws.specs.NameEqualityLaws.{name_eq-Decides}
 use Rattle.hol_laws.specs.ListLaws.{distinct-IsDistinct}
-use Rattle.hol_laws.specs.Members.{All-append, All-left, All-right, All-each, All-at, IsIn-left, IsIn-right, is_in-IsIn, IsIn-distinct, IsIn-distinct_of}
+use Rattle.hol_laws.specs.Members.{All-append, All-left, All-right, All-each, All-at, is_in-IsIn, IsIn-distinct, IsIn-distinct_of}
 use Rattle.hol_laws.specs.TermSubstitutionLaws.{application_type-is, abstraction_type-is}
 use Rattle.proof_laws.specs.SymbolGrowth.{symmetric}
 use Rattle.std.proofs.lemmas.Option.{same_Some}
+use Rattle.std.proofs.lemmas.Bool.Decides.{same_from_decides}
 
 -- the test of names as an equivalence
-alike : (b c : Bool) → (b ≡ true → c ≡ true) → (c ≡ true → b ≡ true) → b ≡ c
-alike true c f g = sym (f refl)
-alike false true f g = g refl
-alike false false f g = refl
-
 names-equivalence : IsEquivalence name_eq
 names-equivalence = record {
   refl = λ x. (name_eq-Decides x x).1 refl;
-  symm = λ x y. alike (name_eq x y) (name_eq y x) (λ e. (name_eq-Decides y x).1 (sym ((name_eq-Decides x y).0 e))) (λ e. (name_eq-Decides x y).1 (sym ((name_eq-Decides y x).0 e)));
+  symm = λ x y. same_from_decides (name_eq x y) (name_eq y x) (name_eq-Decides x y) (λ h. sym ((name_eq-Decides y x).0 h), λ h. (name_eq-Decides y x).1 (sym h));
   congr = λ x y z e. ap (λ v. name_eq v z) ((name_eq-Decides x y).0 e);
 }
 
@@ -49,12 +45,6 @@ few-distinct ms ns h =
     (distinct-IsDistinct name_eq (λ x y e. symmetric name_eq name_eq-Decides x y e) ms)
     (λ q k. is_in-found (distinct name_eq ns) q (IsIn-distinct name_eq name_eq-Decides ns q
     (All-at (IsIn ns) ms q h (IsIn-distinct_of name_eq name_eq-Decides ms q (is_in-IsIn name_eq name_eq-Decides (distinct name_eq ms) q k)))))
-
--- the elements of a part of a list of lists
-pub IsIn-part : {A B : Type 0} (f : A → List B) (xs : List A) (x : A) (y : B) → IsIn xs x → IsIn (f x) y → IsIn (flat_map f xs) y
-IsIn-part f [] x y i k = absurd i
-IsIn-part f (z ∷ zs) x y (inl e) k = IsIn-left (f z) (flat_map f zs) y (subst (λ w. IsIn (f w) y) e k)
-IsIn-part f (z ∷ zs) x y (inr i) k = IsIn-right (f z) (flat_map f zs) y (IsIn-part f zs x y i k)
 
 -- the type of a term is at most twice as large, beside the binders' types
 type_under-size : (d : ℕ) (binders : List HolType) → ((k : ℕ) (a : HolType) → slice_get binders k ≡ Some a → type_size a ≤ d) → (t : Term) (a : HolType) → type_under binders t ≡ Some a → type_size a ≤ 2 * term_size t + d

@@ -26,11 +26,6 @@ use Rattle.module_laws.specs.ListedScopes.{filler-lift}
 use Rattle.module_laws.specs.ScopeTyping.{TypeOver, TypesOver, ConstantOver, TermOver, TypeOver-filled_in, types-agree}
 use Rattle.fitting_laws.specs.Costs.{domain_sizes, spread-products, operator-spread, Plain, plain-lift, cost, total, cost-applied, plain-cost, symbol-cost}
 
--- a type variable's place is a node
-pub type_size-positive : (t : HolType) → 1 ≤ type_size t
-type_size-positive (variable n) = omega arith
-type_size-positive (operator n ts) = omega arith
-
 -- the sizes of what is put for these variables
 abbrev pub put_sizes : TypePairs → List Name → ℕ
 put_sizes pairs [] = 0

@@ -9,6 +9,7 @@ use Rattle.hol_spec.specs.Lists.{IsIn}
 use Rattle.hol_spec.specs.Limits.{greatest_size, SequentWithin}
 use Rattle.hol_spec.specs.Sequents.{Sequent, IsSequent, type_variables_of, free_variables_of}
 use Rattle.hol_laws.specs.Members.{IsIn-left, IsIn-right, All-each, All-at}
+use Rattle.hol_laws.specs.RenamedSequents.{free_variables-known}
 use Rattle.lp_spec.specs.Trees.{Tree, Var, Sym, size}
 use Rattle.lp_spec.specs.Substitution.{sub, cons}
 use Rattle.lp_spec.specs.Modules.{Declaration, types, proof_symbol, symbol_type}
@@ -17,7 +18,7 @@ use Rattle.module_laws.specs.ScopeLaws.{through_types, type_tree-sub}
 use Rattle.module_laws.specs.TermScopeLaws.{type_tree-agrees}
 use Rattle.module_laws.specs.SimultaneousArguments.{after, after-append}
 use Rattle.module_laws.specs.ScopeTyping.{types-agree}
-use Rattle.module_laws.specs.TheoremTyping.{IsFormula, HasInstances, TypesAgree, TermsAgree, TypesAgree-under, TermsAgree-under, terms-TypesAgree, terms-agree, formula-agrees, proofs-TypesAgree, proofs-TermsAgree, free_variables-known, term-IsFormula}
+use Rattle.module_laws.specs.TheoremTyping.{IsFormula, HasInstances, TypesAgree, TermsAgree, TypesAgree-under, TermsAgree-under, terms-TypesAgree, terms-agree, formula-agrees, proofs-TypesAgree, proofs-TermsAgree, term-IsFormula}
 use Rattle.fitting_laws.specs.ShallowRows.{length-term_domains, length-proof_domains}
 use Rattle.fitting_laws.specs.Costs.{domain_sizes, spread-products, cost, total, cost-applied, total-append, symbol-cost}
 use Rattle.fitting_laws.specs.SmallScopes.{domain_sizes-types}

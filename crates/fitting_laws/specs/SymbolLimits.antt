@@ -14,9 +14,9 @@ use Rattle.hol_spec.specs.Definitions.{Definition}
 use Rattle.hol_spec.specs.NewTypes.{abstraction_type, representation_type}
 use Rattle.hol_spec.specs.Symbols.{Symbol}
 use Rattle.hol_spec.specs.Proofs.{Made}
-use Rattle.hol_laws.specs.Members.{All-at, All-weaker}
+use Rattle.hol_laws.specs.Members.{All-at, All-weaker, IsIn-flat_map}
 use Rattle.fitting_laws.specs.TermMeasures.{HasType-depth, sequent-depth}
-use Rattle.fitting_laws.specs.FewVariables.{few-distinct, IsIn-part, HasType-size, HasType-variables}
+use Rattle.fitting_laws.specs.FewVariables.{few-distinct, HasType-size, HasType-variables}
 
 -- a term that defines a constant
 pub record DefinitionWithin (t : Term) : Type 0 where
@@ -74,7 +74,7 @@ part-within s h u i t p =
     record {
       within = record { size = (let l = p.size in omega (arith, size, l)); depth = (let l = p.depth in omega (arith, depth, l)) };
       variables = few-places s h (type_variable_places t)
-          (All-weaker (IsIn (type_variable_places u)) (IsIn (flat_map type_variable_places (terms_of s))) (λ n k. IsIn-part type_variable_places (terms_of s) u n i k) (type_variable_places t) p.places);
+          (All-weaker (IsIn (type_variable_places u)) (IsIn (flat_map type_variable_places (terms_of s))) (λ n k. IsIn-flat_map type_variable_places (terms_of s) u n i k) (type_variable_places t) p.places);
     }
 
 -- the type of a term that defines a constant

@@ -1,12 +1,12 @@
 -- The words that build objects keep what was made within the limits: they take inputs of few arguments.
-use Rattle.std.proofs.Common.{◌≡◌, ℕ, ◌+◌, ◌≤◌, List, [], ◌∷◌, length, Bool, true, false, cond, Ok, refl, ap, ◌∙◌, arith}
+use Rattle.std.proofs.Common.{◌≡◌, ℕ, ◌≤◌, List, [], ◌∷◌, length, Bool, true, false, cond, Ok, arith}
 use Rattle.std.specs.Prelude.{◌||◌, is_some}
 use Rattle.std.specs.Option.{ok_or}
 use Rattle.std.specs.List.{AllByRecursion, list_any}
 use Rattle.std.specs.FinMap as entries
 use Rattle.bridge_base.specs.declared.faults.Kind.TheVariants.{NoSuchKey, TypeMismatch}
 use Rattle.hol_spec.specs.Names.{Name}
-use Rattle.hol_spec.specs.Types.{HolType, types_of, count}
+use Rattle.hol_spec.specs.Types.{HolType, types_of}
 use Rattle.hol_spec.specs.Terms.{Term, type_of}
 use Rattle.hol_spec.specs.Symbols.{Symbol, input_constant, input_operator, generic_type, operator_arity, is_taken_constant, is_input_operator, new_constant, new_operator}
 use Rattle.hol_spec.specs.Rules.{abstraction}
@@ -20,6 +20,7 @@ use Rattle.article_laws.specs.SoundStates.{bound, passed, type_limits}
 use Rattle.hol_spec.specs.Limits.{type_depth, greatest_depth}
 use Rattle.fitting_laws.specs.SymbolLimits.{SymbolWithin, AreWithin}
 use Rattle.fitting_laws.specs.WithinStates.{answers, stacked, taking}
+use Rattle.hol_laws.specs.TypeLaws.{count-types_of}
 
 -- words that take no symbol
 pub nil-within : (s t : State) → AreWithin s.made → nil s ≡ Ok t → AreWithin t.made
@@ -48,12 +49,8 @@ var_type-within s t g e =
     stacked s t (object.type (HolType.variable n.0.0) ∷ n.0.1) n.2 g
 
 -- an operator within the limits has few arguments
-types_of-count : (ts : List HolType) → count (types_of ts) ≡ length ts
-types_of-count [] = refl
-types_of-count (t ∷ ts) = ap (λ k. k + 1) (types_of-count ts) ∙ grind arith
-
 pub arguments-few : (n : Name) (ts : List HolType) → type_depth (HolType.operator n (types_of ts)) ≤ greatest_depth → length ts ≤ greatest_depth
-arguments-few n ts h = let same = types_of-count ts in omega (arith, h, same)
+arguments-few n ts h = let same = count-types_of ts in omega (arith, h, same)
 
 -- inputs that are newly taken
 new_operator-within : (symbols : List Symbol) (n : Name) (k : ℕ) → k ≤ greatest_depth → AllByRecursion SymbolWithin (new_operator symbols n k)
