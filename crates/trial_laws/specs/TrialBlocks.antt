@@ -10,7 +10,6 @@ use Rattle.hol_spec.specs.Symbols.{defined, generic_type, is_taken_constant}
 use Rattle.hol_spec.specs.Rules.{Parameters, nothing, derived}
 use Rattle.hol_spec.specs.Proofs.{Made, symbols_of}
 use Rattle.hol_spec.specs.declared.StepKind.TheVariants as by_rule
-use Rattle.proof_laws.specs.SymbolGrowth.{itself}
 use Rattle.article_spec.specs.declared.commands.Item.{Item}
 use Rattle.article_spec.specs.declared.commands.Item.TheVariants as item
 use Rattle.article_spec.specs.declared.commands.Word.TheVariants as word
@@ -21,6 +20,7 @@ use Rattle.article_spec.specs.Step.{obey}
 use Rattle.trial_laws.specs.Trials.{f, truths, p, at_p, wrapped}
 use Rattle.trial_laws.specs.TrialLines.{said}
 use Rattle.trial_laws.specs.TrialSteps.{Dictionary, Has, Has-other, refers, follows_word, IsAt, sequent_at-is, obeyed, state, Concludes, inferred, defining}
+use Rattle.hol_laws.specs.NameEqualityLaws.{name_eq-refl}
 
 abbrev pub x : Variable
 x = (codes "x" ∷ [], bool)
@@ -106,13 +106,13 @@ module _ (n m : Name) (d : Dictionary) (made : List Made) where
       → Concludes d made (theorem j ∷ theorem i ∷ rest) join rest (symbols_of made) (are_alike n m)
   joins rest i j own next =
       inferred d made _ _ rest (step_by by_rule.Trans (i ∷ j ∷ []) nothing (are_alike n m))
-      (rw (sequent_at-is made i _ own, sequent_at-is made j _ next, itself m) refl)
+      (rw (sequent_at-is made i _ own, sequent_at-is made j _ next, name_eq-refl m) refl)
 
   pub chains : (rest : List Object) (i j : ℕ) → Has d 7 (theorem j) → IsAt made i (are_alike n m) → IsAt made j (are_alike m f)
       → Concludes d made (theorem i ∷ rest) chain rest (symbols_of made) (are_alike n f)
   chains rest i j seven own before =
       inferred d made _ _ rest (step_by by_rule.Trans (i ∷ j ∷ []) nothing (are_alike n f))
-      (rw (seven, sequent_at-is made i _ own, sequent_at-is made j _ before, itself m) refl)
+      (rw (seven, sequent_at-is made i _ own, sequent_at-is made j _ before, name_eq-refl m) refl)
 
 module _ (n : Name) (d : Dictionary) (made : List Made) where
   pub keeps : (i : ℕ) → Has d 1 (object.type truths) → generic_type (symbols_of made) n ≡ Some truths

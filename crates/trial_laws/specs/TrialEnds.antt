@@ -10,7 +10,6 @@ use Rattle.hol_spec.specs.Symbols.{Symbol, generic_type, is_input_constant}
 use Rattle.hol_spec.specs.Rules.{Parameters}
 use Rattle.hol_spec.specs.Proofs.{Made, symbols_of}
 use Rattle.hol_spec.specs.declared.StepKind.TheVariants as by_rule
-use Rattle.proof_laws.specs.SymbolGrowth.{itself}
 use Rattle.article_spec.specs.declared.commands.Item.{Item}
 use Rattle.article_spec.specs.declared.commands.Word.TheVariants as word
 use Rattle.article_spec.specs.State.{State, initial, Object, Objects, theorem, none, more}
@@ -25,6 +24,7 @@ use Rattle.trial_laws.specs.TrialSymbols.{f-undefined, f-input}
 use Rattle.trial_laws.specs.TrialSteps.{Dictionary, Has, Has-own, Has-other, refers, follows_word, IsAt, sequent_at-is, obeyed, obeyed-then, state}
 use Rattle.trial_laws.specs.TrialBlocks.{x, p_is_p, are_alike}
 use Rattle.trial_laws.specs.TrialRuns.{Ready, Chained}
+use Rattle.hol_laws.specs.NameEqualityLaws.{name_eq-refl}
 
 -- the dictionary and what is made as the beginning goes on
 abbrev d_0 : Dictionary
@@ -196,7 +196,7 @@ module _ (d : Dictionary) (made : List Made) where
 
   exports : (k : ℕ) (n : Name) → IsAt made k (are_alike n f)
       → obey (state d made (object.term (equation bool (at_p n) (at_p f)) ∷ object.list none ∷ theorem k ∷ [])) word.Thm ≡ Ok (exported k n)
-  exports k n says = rw (sequent_at-is made k _ says, itself n) refl
+  exports k n says = rw (sequent_at-is made k _ says, name_eq-refl n) refl
 
   gives_export : (k : ℕ) (n : Name) → Has d 2 (object.term p) → IsAt made k (are_alike n f)
       → obeyed (state d made (object.term (Term.constant f truths) ∷ object.term (app equality (at_p n)) ∷ object.list none ∷ theorem k ∷ [])) to_export ≡ Ok (exported k n)

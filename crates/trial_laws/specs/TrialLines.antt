@@ -1,9 +1,10 @@
 -- The lines of words, and the commands that they give.
-use Rattle.std.proofs.Common.{◌≡◌, ◌≢◌, ℕ, ◌+◌, ◌<◌, ◌≤◌, ◌==◌, nat_le, nat_lt, Bool, true, false, not, ◌&&◌, List, [], ◌∷◌, ◌++◌, map, length, refl, sym, ap, ◌∙◌, arith, append_assoc, length-append}
+use Rattle.std.proofs.Common.{◌≡◌, ◌≢◌, ℕ, ◌+◌, ◌<◌, ◌≤◌, ◌==◌, nat_le, nat_lt, Bool, true, not, ◌&&◌, List, [], ◌∷◌, ◌++◌, map, length, refl, sym, ap, ◌∙◌, arith, append_assoc, length-append}
 use Rattle.std.specs.List.{list_all, flat_map}
 use Rattle.std.proofs.lemmas.List.{map-append}
 use Rattle.std.proofs.lemmas.List.Folds.{list_all-append}
 use Rattle.std.proofs.lemmas.Bool.Decides.{nat_tests}
+use Rattle.std.proofs.lemmas.Bool.{and_parts}
 use Rattle.hol_spec.specs.Mangling.{AreBytes}
 use Rattle.hol_laws.specs.Members.{All-append}
 use Rattle.article_spec.specs.declared.commands.Command.{Command}
@@ -44,21 +45,17 @@ Says-append xs ys is js g h = record {
   means = map-append content xs ys ∙ ap (λ l. l ++ map content ys) g.means ∙ ap (λ l. map command is ++ l) h.means ∙ sym (map-append command is js);
 }
 
-pub both : (a b : Bool) → (a && b) ≡ true → (a ≡ true) × (b ≡ true)
-both true b e = (refl, e)
-both false b e = absurd (cc)
-
 -- what can stand on a line is a line, and bytes
 all-IsLine : (word : List ℕ) → list_all can_stand word ≡ true → IsLine word
 all-IsLine [] e = tt
-all-IsLine (b ∷ word) e = let h = both (can_stand b) _ e in (other b (both (not (b == newline)) (nat_lt b 256) h.0).0, all-IsLine word h.1)
+all-IsLine (b ∷ word) e = let h = and_parts (can_stand b) _ e in (other b (and_parts (not (b == newline)) (nat_lt b 256) h.0).0, all-IsLine word h.1)
   where
     other : (b : ℕ) → not (b == newline) ≡ true → b ≢ newline
     other b f is = absurd (grind (arith, nat_tests, f, is))
 
 all-AreBytes : (word : List ℕ) → list_all can_stand word ≡ true → AreBytes word
 all-AreBytes [] e = tt
-all-AreBytes (b ∷ word) e = let h = both (can_stand b) _ e in (byte b (both (not (b == newline)) (nat_lt b 256) h.0).1, all-AreBytes word h.1)
+all-AreBytes (b ∷ word) e = let h = and_parts (can_stand b) _ e in (byte b (and_parts (not (b == newline)) (nat_lt b 256) h.0).1, all-AreBytes word h.1)
   where
     byte : (b : ℕ) → nat_lt b 256 ≡ true → b < 256
     byte b f = grind (arith, nat_tests, f)
@@ -67,9 +64,9 @@ all-AreBytes (b ∷ word) e = let h = both (can_stand b) _ e in (byte b (both (n
 pub lines-AreBytes : (words : List (List ℕ)) → list_all is_line words ≡ true → AreBytes (lines words)
 lines-AreBytes [] e = tt
 lines-AreBytes (w ∷ ws) e =
-    let tests = both (is_line w) (list_all is_line ws) e in
+    let tests = and_parts (is_line w) (list_all is_line ws) e in
     let end : AreBytes (newline ∷ []) = (omega arith, tt) in
-    All-append (λ b. b < 256) (w ++ newline ∷ []) (lines ws) (All-append (λ b. b < 256) w (newline ∷ []) (all-AreBytes w (both (list_all can_stand w) (nat_le (length w) 100) tests.0).0) end)
+    All-append (λ b. b < 256) (w ++ newline ∷ []) (lines ws) (All-append (λ b. b < 256) w (newline ∷ []) (all-AreBytes w (and_parts (list_all can_stand w) (nat_le (length w) 100) tests.0).0) end)
     (lines-AreBytes ws tests.1)
 
 -- the commands of lines, from line n on
@@ -89,8 +86,8 @@ reads [] [] n o h small = record { line = n; offset = o; opens = open_line (reco
 reads [] (i ∷ is) n o h small = absurd (let e = h.means in cc)
 reads (w ∷ ws) [] n o h small = absurd (let e = h.means in cc)
 reads (w ∷ ws) (i ∷ is) n o h small =
-    let tests = both (is_line w) (list_all is_line ws) h.lines in
-    let own = both (list_all can_stand w) (nat_le (length w) 100) tests.0 in
+    let tests = and_parts (is_line w) (list_all is_line ws) h.lines in
+    let own = and_parts (list_all can_stand w) (nat_le (length w) 100) tests.0 in
     let long : length (lines (w ∷ ws)) ≡ length w + 1 + length (lines ws) = length-append (w ++ newline ∷ []) (lines ws) ∙ ap (λ k. k + length (lines ws)) (length-append w (newline ∷ [])) in
     let short : length w ≤ 100 = grind (arith, nat_tests, own.1) in
     let e : content w ∷ map content ws ≡ command i ∷ map command is = h.means in

@@ -1,5 +1,5 @@
 -- What the machine does with the commands of an article, and what stays known of the steps that were made.
-use Rattle.std.proofs.Common.{◌≡◌, ℕ, zero, suc, ◌+◌, pos, true, false, cond, List, [], ◌∷◌, ◌++◌, map, length, Option, Some, slice_get, refl, sym, ap, subst, ◌∙◌, Result, Ok, Err}
+use Rattle.std.proofs.Common.{◌≡◌, ℕ, zero, suc, ◌+◌, pos, true, false, cond, List, [], ◌∷◌, ◌++◌, map, length, Option, Some, slice_get, sym, ap, subst, ◌∙◌, Result, Ok, Err}
 use Rattle.std.specs.Prelude.{slice_index_or}
 use Rattle.std.specs.Ordering.{int_cmp, eq_by_cmp}
 use Rattle.std.specs.FinMap as entries
@@ -24,6 +24,7 @@ use Rattle.article_spec.specs.Changes.{with_theorem}
 use Rattle.article_spec.specs.Step.{obey, step_at}
 use Rattle.article_spec.specs.Run.{machine, at_line, obey_all}
 use Rattle.trial_laws.specs.TrialLines.{numbered}
+use Rattle.hol_laws.specs.PlaceLaws.{slice_get-append, slice_get-last}
 
 -- the state that commands lead to
 abbrev pub obeyed : State → List Item → Result State Kind
@@ -87,26 +88,17 @@ get-index [] i d x e = absurd (cc)
 get-index (y ∷ xs) zero d x e = cc
 get-index (y ∷ xs) (suc i) d x e = get-index xs i d x e
 
-get-left : {A : Type 0} (xs ys : List A) (i : ℕ) (x : A) → slice_get xs i ≡ Some x → slice_get (xs ++ ys) i ≡ Some x
-get-left [] ys i x e = absurd (cc)
-get-left (y ∷ xs) ys zero x e = e
-get-left (y ∷ xs) ys (suc i) x e = get-left xs ys i x e
-
-get-last : {A : Type 0} (xs : List A) (x : A) → slice_get (xs ++ x ∷ []) (length xs) ≡ Some x
-get-last [] x = refl
-get-last (y ∷ xs) x = get-last xs x
-
 pub sequent_at-is : (made : List Made) (k : ℕ) (s : Sequent) → IsAt made k s → sequent_at made k ≡ s
 sequent_at-is made k s h = get-index (sequents_of made) k _ s h
 
 pub IsAt-more : (made more : List Made) (k : ℕ) (s : Sequent) → IsAt made k s → IsAt (made ++ more) k s
-IsAt-more made more k s h = ap (λ l. slice_get l k) (sequents_of-append made more) ∙ get-left (sequents_of made) (sequents_of more) k s h
+IsAt-more made more k s h = ap (λ l. slice_get l k) (sequents_of-append made more) ∙ slice_get-append (sequents_of made) (sequents_of more) k s h
 
 pub IsAt-new : (made : List Made) (x : Step) → IsAt (made ++ Made.step x ∷ []) (length (steps_of made)) x.sequent
 IsAt-new made x =
     ap (λ l. slice_get l (length (steps_of made))) (sequents_of-append made (Made.step x ∷ []))
     ∙ ap (λ k. slice_get (sequents_of made ++ x.sequent ∷ []) k) (sym (length-map (steps_of made) (λ (y : Step). y.sequent)))
-    ∙ get-last (sequents_of made) x.sequent
+    ∙ slice_get-last (sequents_of made) x.sequent
 
 -- commands lead to one theorem more on this stack, which says this; these symbols are then taken, and the earlier steps say what they said
 pub record Concludes (d : Dictionary) (made : List Made) (stack : List Object) (items : List Item) (rest : List Object) (symbols : List Symbol) (s : Sequent) : Type 0 where

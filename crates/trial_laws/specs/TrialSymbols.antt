@@ -4,9 +4,10 @@ use Rattle.std.specs.Prelude.{is_some}
 use Rattle.std.specs.List.{list_any}
 use Rattle.std.proofs.lemmas.List.Folds.{list_any-append}
 use Rattle.hol_spec.specs.Symbols.{generic_type, is_input_constant, is_taken_constant}
-use Rattle.proof_laws.specs.SymbolGrowth.{generic_type-new, any-left, itself}
+use Rattle.proof_laws.specs.SymbolGrowth.{generic_type-new, any-left}
 use Rattle.trial_laws.specs.Trials.{f, constant_name, truths, definition_of, symbols_after}
 use Rattle.trial_laws.specs.TrialNames.{names-apart}
+use Rattle.hol_laws.specs.NameEqualityLaws.{name_eq-refl}
 
 -- the constant of a later block is not defined
 undefined : (i j : ℕ) → i < j → j ≤ 100000 → is_some (generic_type (symbols_after i) (constant_name j)) ≡ false
@@ -30,7 +31,7 @@ new_name i h =
 -- the constant of a block has its type from then on
 pub type_of_constant : (i : ℕ) → suc i ≤ 100000 → generic_type (symbols_after (suc i)) (constant_name (suc i)) ≡ Some truths
 type_of_constant i h =
-    generic_type-new (symbols_after i) (definition_of i ∷ []) (constant_name (suc i)) (undefined i (suc i) (omega arith) h) ∙ (rw (itself (constant_name (suc i))) refl)
+    generic_type-new (symbols_after i) (definition_of i ∷ []) (constant_name (suc i)) (undefined i (suc i) (omega arith) h) ∙ (rw (name_eq-refl (constant_name (suc i))) refl)
 
 -- f stays an input
 pub f-undefined : (i : ℕ) → generic_type (symbols_after i) f ≡ None
