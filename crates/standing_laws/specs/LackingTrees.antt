@@ -62,15 +62,16 @@ module _ (symbols : Symbols) (s : ℕ) (apart : IsApart symbols s) where
   mapped-lack scope h [] = tt
   mapped-lack scope h (t ∷ ts) = (type_tree-lacks scope h t, mapped-lack scope h ts)
 
-  either : (P : Tree → Type 0) (b : Bool) (x y : Tree) → P x → P y → P (cond b x y)
-  either P true x y h k = h
-  either P false x y h k = k
+  -- what holds of both holds of the one that a test picks
+  cond-holds : (P : Tree → Type 0) (b : Bool) (x y : Tree) → P x → P y → P (cond b x y)
+  cond-holds P true x y h k = h
+  cond-holds P false x y h k = k
 
   lifted_types-lack : (scope : TypeScope) → TypesLack s scope → TypesLack s (lifted_types scope)
   lifted_types-lack scope h n = lifted-lacks s 0 1 (scope n) (h n)
 
   under_type-lack : (m : Name) (scope : TypeScope) → TypesLack s scope → TypesLack s (under_type m scope)
-  under_type-lack m scope h n = either (Lacks s) (name_eq n m) (Var 0) (lifted_types scope n) (tt {0}) (lifted_types-lack scope h n)
+  under_type-lack m scope h n = cond-holds (Lacks s) (name_eq n m) (Var 0) (lifted_types scope n) (tt {0}) (lifted_types-lack scope h n)
 
   pub under_types-lack : (ns : List Name) (scope : TypeScope) → TypesLack s scope → TypesLack s (under_types ns scope)
   under_types-lack [] scope h = h
@@ -104,7 +105,7 @@ module _ (symbols : Symbols) (s : ℕ) (apart : IsApart symbols s) where
     under_term-applies v scope h =
         let l = lifted-applies scope h in record {
           types = l.types;
-          terms = λ w. either (Lacks s) (variable_eq w v) (Var 0) ((lifted scope).terms w) (tt {0}) (l.terms w);
+          terms = λ w. cond-holds (Lacks s) (variable_eq w v) (Var 0) ((lifted scope).terms w) (tt {0}) (l.terms w);
           proofs = l.proofs;
           bounds = l.bounds;
         }
@@ -113,7 +114,7 @@ module _ (symbols : Symbols) (s : ℕ) (apart : IsApart symbols s) where
     set_proof-applies p x scope k h = record {
       types = h.types;
       terms = h.terms;
-      proofs = λ g. either (IsAppliedTo s n 0) (term_eq g p) x (scope.proofs g) k (h.proofs g);
+      proofs = λ g. cond-holds (IsAppliedTo s n 0) (term_eq g p) x (scope.proofs g) k (h.proofs g);
       bounds = h.bounds;
     }
 

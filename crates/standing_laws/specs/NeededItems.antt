@@ -113,8 +113,8 @@ module _ (number : ℕ → ℕ) where
   symbol-same (constant_key n) h = refl
   symbol-same (number_key i) h = absurd h
 
-  still : (ks : List Key) (k : Key) → IsSymbolKey k → IsIn ks k → IsIn ks (renumbered_key k)
-  still ks k h i = subst (IsIn ks) (symbol-same k h) i
+  renumbered_key-IsIn : (ks : List Key) (k : Key) → IsSymbolKey k → IsIn ks k → IsIn ks (renumbered_key k)
+  renumbered_key-IsIn ks k h i = subst (IsIn ks) (symbol-same k h) i
 
   given_keys-symbols : (g : Parameters) (k : Key) → IsIn (given_keys g) k → IsSymbolKey k
   given_keys-symbols (Parameters.constant n t) k (inl e) = subst IsSymbolKey (sym e) (tt {0})
@@ -134,15 +134,15 @@ module _ (number : ℕ → ℕ) where
 
   pub needs-renumbered : (c : Content) (k : Key) → IsIn (needs c) k → IsIn (needs (renumbered_content number c)) (renumbered_key k)
   needs-renumbered (operator n j) k i = absurd i
-  needs-renumbered (constant n a) k i = still (type_keys a) k (type_keys-symbols a k i) i
-  needs-renumbered (defined_constant n a t) k i = still (term_keys t) k (term_keys-symbols t k i) i
-  needs-renumbered (unproved s) k i = still (sequent_keys s) k (sequent_keys-symbols s k i) i
+  needs-renumbered (constant n a) k i = renumbered_key-IsIn (type_keys a) k (type_keys-symbols a k i) i
+  needs-renumbered (defined_constant n a t) k i = renumbered_key-IsIn (term_keys t) k (term_keys-symbols t k i) i
+  needs-renumbered (unproved s) k i = renumbered_key-IsIn (sequent_keys s) k (sequent_keys-symbols s k i) i
   needs-renumbered (step kind js ss g s) k i = elim (IsIn-either (sequent_keys s ++ map number_key js) (given_keys g) k i) [
     | inl front ↦ elim (IsIn-either (sequent_keys s) (map number_key js) k front) [
       | inl said ↦ IsIn-left (sequent_keys s ++ map number_key (map number js)) (given_keys g) (renumbered_key k)
-          (IsIn-left (sequent_keys s) (map number_key (map number js)) (renumbered_key k) (still (sequent_keys s) k (sequent_keys-symbols s k said) said))
+          (IsIn-left (sequent_keys s) (map number_key (map number js)) (renumbered_key k) (renumbered_key-IsIn (sequent_keys s) k (sequent_keys-symbols s k said) said))
       | inr premise ↦ IsIn-left (sequent_keys s ++ map number_key (map number js)) (given_keys g) (renumbered_key k)
           (IsIn-right (sequent_keys s) (map number_key (map number js)) (renumbered_key k) (premise-renumbered js k premise))
     ]
-    | inr back ↦ IsIn-right (sequent_keys s ++ map number_key (map number js)) (given_keys g) (renumbered_key k) (still (given_keys g) k (given_keys-symbols g k back) back)
+    | inr back ↦ IsIn-right (sequent_keys s ++ map number_key (map number js)) (given_keys g) (renumbered_key k) (renumbered_key-IsIn (given_keys g) k (given_keys-symbols g k back) back)
   ]
