@@ -1,9 +1,8 @@
 use Rattle.std.proofs.Common.{arith, subst}
 use Rattle.hol_type.specs.Walks.{AreDone}
-use Rattle.std.proofs.lemmas.List.{drop_more}
+use Rattle.std.proofs.lemmas.List.{drop_more, drop_all}
 use Rattle.hol_type.proofs.MadeLaws.{IsGathering, gathering_begins, gathering_goes_on, gathering_ends, is_some, if_some}
 use Rattle.hol_type.proofs.substitution.parts.Goals as goal
-use Rattle.hol_laws.specs.PlaceLaws.{drop-all}
 
 pub loop-id-init : goal.loop-id-init
 loop-id-init c = rw c.new-parts.ensures.items (gathering_begins _ _ c.requires)
@@ -22,4 +21,4 @@ loop-id-preserved c =
 pub returns : goal.returns
 returns c =
     gathering_ends _ _ _
-    (subst (λ l. IsGathering c.args.made.now c.args.ids.now l c.loop-id.parts.items) (drop-all c.args.ids.now c.loop-id.id-index (omega (arith, c.loop-id-test.false))) c.loop-id.invariant)
+    (subst (λ l. IsGathering c.args.made.now c.args.ids.now l c.loop-id.parts.items) (drop_all c.loop-id.id-index c.args.ids.now (omega (arith, c.loop-id-test.false))) c.loop-id.invariant)

@@ -1,7 +1,8 @@
 use Rattle.std.proofs.Common.{arith, subst, sym, ◌∙◌}
+use Rattle.std.proofs.lemmas.List.{drop_all}
 use Rattle.hol_type.proofs.ImageLaws.{Skips, skips_none, skips_other, replaces_by, replaces_itself}
 use Rattle.hol_type.proofs.substitution.replaced.Goals as goal
-use Rattle.hol_laws.specs.PlaceLaws.{drop-item, drop-all}
+use Rattle.hol_laws.specs.PlaceLaws.{drop-item}
 
 pub loop-replaced-init : goal.loop-replaced-init
 loop-replaced-init c = skips_none _ _
@@ -17,4 +18,4 @@ loop-replaced-preserved c =
     (subst (λ l. Skips c.args.pairs.now l c.args.name.now) (drop-item c.args.pairs.now c.loop-replaced.replaced-index c.loop-replaced-item.result c.loop-replaced-item.is c.loop-replaced-test.true) c.loop-replaced.invariant)
 
 pub returns : goal.returns
-returns c = replaces_itself c.args.pairs.now c.args.id c.args.name.now (subst (λ l. Skips c.args.pairs.now l c.args.name.now) (drop-all c.args.pairs.now c.loop-replaced.replaced-index (omega (arith, c.loop-replaced-test.false))) c.loop-replaced.invariant)
+returns c = replaces_itself c.args.pairs.now c.args.id c.args.name.now (subst (λ l. Skips c.args.pairs.now l c.args.name.now) (drop_all c.loop-replaced.replaced-index c.args.pairs.now (omega (arith, c.loop-replaced-test.false))) c.loop-replaced.invariant)

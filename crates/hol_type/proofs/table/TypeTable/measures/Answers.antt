@@ -1,9 +1,8 @@
 use Rattle.std.proofs.Common.{arith, subst}
 use Rattle.hol_type.specs.Tables.{AreKnown}
-use Rattle.std.proofs.lemmas.List.{drop_more}
+use Rattle.std.proofs.lemmas.List.{drop_more, drop_all}
 use Rattle.hol_type.proofs.MeasureLaws.{IsMeasuring, measuring_begins, measuring_goes_on, measuring_ends}
 use Rattle.hol_type.proofs.table.TypeTable.measures.Goals as goal
-use Rattle.hol_laws.specs.PlaceLaws.{drop-all}
 
 pub loop-arg-init : goal.loop-arg-init
 loop-arg-init c = measuring_begins _ _ c.requires
@@ -19,4 +18,4 @@ measures_of-part-requires c = (subst (AreKnown c.args.self.now) (drop_more c.arg
 pub returns : goal.returns
 returns c =
     measuring_ends c.args.self.now c.args.args.now c.loop-arg.size c.loop-arg.depth c.max-above.result c.saturating_add.result c.max-above.ensures c.saturating_add.ensures
-    (subst (λ l. IsMeasuring c.args.self.now c.args.args.now l c.loop-arg.size c.loop-arg.depth) (drop-all c.args.args.now c.loop-arg.arg-index (omega (arith, c.loop-arg-test.false))) c.loop-arg.invariant)
+    (subst (λ l. IsMeasuring c.args.self.now c.args.args.now l c.loop-arg.size c.loop-arg.depth) (drop_all c.loop-arg.arg-index c.args.args.now (omega (arith, c.loop-arg-test.false))) c.loop-arg.invariant)

@@ -1,5 +1,5 @@
 use Rattle.std.proofs.Common.{◌+◌, [], ◌∷◌, length, drop, arith, refl, sym, ap, subst, ◌∙◌}
-use Rattle.std.proofs.lemmas.List.{drop_more, length-map}
+use Rattle.std.proofs.lemmas.List.{drop_more, length-map, drop_all}
 use Rattle.hol_spec.specs.Proofs.{symbols_of}
 use Rattle.hol_defs.specs.Symbols.{symbol_at}
 use Rattle.module_reach.specs.MadeItems.{AreTaken}
@@ -7,7 +7,6 @@ use Rattle.module_reach.proofs.Listed.{none-AreListed}
 use Rattle.module_reach.proofs.Taking.{kinds-IsSymbol, symbol-within, step-taken, symbol-taken, all-taken}
 use Rattle.module_reach.proofs.items.Items.of.Goals as goal
 use Rattle.module_reach.proofs.items.Items.of.Goals.{in-Step+in_ok-take_step-in-Step, in-InputConst+in_ok-take_symbol-in-InputConst}
-use Rattle.hol_laws.specs.PlaceLaws.{drop-all}
 
 pub loop-one-init : goal.loop-one-init
 loop-one-init c =
@@ -62,4 +61,4 @@ loop-one-preserved c =
 pub returns : goal.returns
 returns c =
     let p = c.args.proof.now in
-    all-taken p c.loop-one.items c.loop-one.symbol (subst (λ l. AreTaken p l c.loop-one.items c.loop-one.symbol) (drop-all c.made-one-items.result.now c.loop-one.one-index c.loop-one-test.false) c.loop-one.invariant)
+    all-taken p c.loop-one.items c.loop-one.symbol (subst (λ l. AreTaken p l c.loop-one.items c.loop-one.symbol) (drop_all c.loop-one.one-index c.made-one-items.result.now c.loop-one-test.false) c.loop-one.invariant)
