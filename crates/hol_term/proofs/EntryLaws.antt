@@ -2,8 +2,9 @@
 use Rattle.std.proofs.Common.{◌≡◌, ℕ, zero, suc, ◌+◌, refl, sym, ap, ◌∙◌, subst, arith, List, [], ◌∷◌, ◌++◌, length, Some, length-append, ◌⊎◌, ⊎_elim, inl, inr, Bool, true, false}
 use Rattle.std.specs.Prelude.{slice_get, nat_eq, ◌&&◌}
 use Rattle.std.proofs.lemmas.Option.{slice_get_within, same_Some}
-use Rattle.std.proofs.lemmas.Bool.{eqb-true}
+use Rattle.std.proofs.lemmas.Bool.{eqb-true, eq-eqb, and_parts, and_from, false≢true}
 use Rattle.std.proofs.Math.Path.{ap₂}
+use Rattle.hol_spec.specs.Names.{Name}
 use Rattle.hol_spec.specs.NameEquality.{name_eq}
 use Rattle.hol_laws.specs.NameEqualityLaws.{name_eq-Decides}
 use Rattle.hol_spec.specs.Types.{HolType, variable}
@@ -11,6 +12,7 @@ use Rattle.hol_spec.specs.Terms.{Term, free, bound, constant, app, lam}
 use Rattle.hol_type.specs.declared.table.TypeId.{TypeId}
 use Rattle.hol_type.specs.Tables as type
 use Rattle.hol_type.specs.TableLaws as type_law
+use Rattle.hol_term.specs.declared.TermId.{TermId}
 use Rattle.hol_term.specs.declared.node.Node.{Node}
 use Rattle.hol_term.specs.declared.node.Node.TheVariants as node
 use Rattle.hol_term.specs.declared.node.Entry.{Entry}
@@ -88,32 +90,31 @@ terms_from-types {a = a} {b = b} k ts (e ∷ es) low =
 pub terms_of-types : {a b : List HolType} → type.Stays a b → (es : List Entry) → ((i : ℕ) (e : Entry) → slice_get es i ≡ Some e → PartsBelow i (length a) e.node) → terms_of a es ≡ terms_of b es
 terms_of-types {a = a} k es low = terms_from-types k [] es (λ i e at. let y : i ≡ 0 + i = omega arith in subst (λ w. PartsBelow w (length a) e.node) y (low i e at))
 
--- nodes that are equal by their test are one
-both_true : (a b : Bool) → (a && b) ≡ true → (a ≡ true) × (b ≡ true)
-both_true true b e = (refl, e)
-both_true false b e = absurd (cc)
-
+-- numbers that are equal by their test are one
 same_type : (t u : TypeId) → nat_eq t.0 u.0 ≡ true → t ≡ u
 same_type t u e = let p = eqb-true t.0 u.0 e in λ i. record { 0 = p i }
 
-pub node_eq-true : (x y : Node) → node_eq.eq-value.it x y ≡ true → x ≡ y
-node_eq-true (node.Free m t) (node.Free n u) h = let p = both_true (name_eq m n) (nat_eq t.0 u.0) h in ap₂ node.Free ((name_eq-Decides m n).0 p.0) (same_type t u p.1)
-node_eq-true (node.Bound n) (node.Bound m) h = grind arith
-node_eq-true (node.Const m t) (node.Const n u) h = let p = both_true (name_eq m n) (nat_eq t.0 u.0) h in ap₂ node.Const ((name_eq-Decides m n).0 p.0) (same_type t u p.1)
-node_eq-true (node.App f x) (node.App g y) h = grind arith
-node_eq-true (node.Lam t x) (node.Lam u y) h = grind arith
-node_eq-true _ _ h = absurd (cc)
+same_term : (f g : TermId) → nat_eq f.0 g.0 ≡ true → f ≡ g
+same_term f g e = let p = eqb-true f.0 g.0 e in λ i. record { 0 = p i }
 
-and_true : (a b : Bool) → a ≡ true → b ≡ true → (a && b) ≡ true
-and_true true b e f = f
-and_true false b e f = absurd (cc)
+number-refl : (n : ℕ) → nat_eq n n ≡ true
+number-refl n = eq-eqb n n refl
+
+-- nodes that are equal by their test are one
+pub node_eq-true : (x y : Node) → node_eq.eq-value.it x y ≡ true → x ≡ y
+node_eq-true (node.Free m t) (node.Free n u) h = let p = and_parts (name_eq m n) (nat_eq t.0 u.0) h in ap₂ node.Free ((name_eq-Decides m n).0 p.0) (same_type t u p.1)
+node_eq-true (node.Bound n) (node.Bound m) h = ap node.Bound (eqb-true n m h)
+node_eq-true (node.Const m t) (node.Const n u) h = let p = and_parts (name_eq m n) (nat_eq t.0 u.0) h in ap₂ node.Const ((name_eq-Decides m n).0 p.0) (same_type t u p.1)
+node_eq-true (node.App f x) (node.App g y) h = let p = and_parts (nat_eq f.0 g.0) (nat_eq x.0 y.0) h in ap₂ node.App (same_term f g p.0) (same_term x y p.1)
+node_eq-true (node.Lam t x) (node.Lam u y) h = let p = and_parts (nat_eq t.0 u.0) (nat_eq x.0 y.0) h in ap₂ node.Lam (same_type t u p.0) (same_term x y p.1)
+node_eq-true _ _ h = absurd (false≢true h)
 
 pub node_eq-refl : (n : Node) → node_eq.eq-value.it n n ≡ true
-node_eq-refl (node.Free m t) = and_true (name_eq m m) (nat_eq t.0 t.0) ((name_eq-Decides m m).1 refl) (grind arith)
-node_eq-refl (node.Bound n) = grind arith
-node_eq-refl (node.Const m t) = and_true (name_eq m m) (nat_eq t.0 t.0) ((name_eq-Decides m m).1 refl) (grind arith)
-node_eq-refl (node.App f x) = grind arith
-node_eq-refl (node.Lam t x) = grind arith
+node_eq-refl (node.Free m t) = and_from (name_eq m m) (nat_eq t.0 t.0) ((name_eq-Decides m m).1 refl) (number-refl t.0)
+node_eq-refl (node.Bound n) = number-refl n
+node_eq-refl (node.Const m t) = and_from (name_eq m m) (nat_eq t.0 t.0) ((name_eq-Decides m m).1 refl) (number-refl t.0)
+node_eq-refl (node.App f x) = and_from (nat_eq f.0 f.0) (nat_eq x.0 x.0) (number-refl f.0) (number-refl x.0)
+node_eq-refl (node.Lam t x) = and_from (nat_eq t.0 t.0) (nat_eq x.0 x.0) (number-refl t.0) (number-refl x.0)
 
 -- entries that are equal by their test have one node
 pub entry_eq-true : (x y : Entry) → entry_eq.eq-value.it x y ≡ true → x.node ≡ y.node
@@ -123,7 +124,16 @@ entry_eq-true x y h = node_eq-true x.node y.node h
 pub entry_eq-same : (x y : Entry) → x.node ≡ y.node → entry_eq.eq-value.it x y ≡ true
 entry_eq-same x y e = subst (λ n. node_eq.eq-value.it x.node n ≡ true) e (node_eq-refl x.node)
 
--- a node is known by its tree
+-- the parts of a tree's head
+name_of : Term → Name
+name_of (free n t) = n
+name_of (constant n t) = n
+name_of _ = []
+
+number_of : Term → ℕ
+number_of (bound n) = n
+number_of _ = 0
+
 left_of : Term → Term
 left_of (app f x) = f
 left_of _ = bound 0
@@ -139,11 +149,31 @@ type_in (constant n t) = t
 type_in (lam t x) = t
 type_in _ = variable []
 
+-- the heads of two trees are of one kind
+abbrev AreAlike : Term → Term → Type 0
+AreAlike (free m t) (free n u) = Unit {0}
+AreAlike (bound m) (bound n) = Unit {0}
+AreAlike (constant m t) (constant n u) = Unit {0}
+AreAlike (app f x) (app g y) = Unit {0}
+AreAlike (lam t x) (lam u y) = Unit {0}
+AreAlike _ _ = ⊥
+
+AreAlike-refl : (t : Term) → AreAlike t t
+AreAlike-refl (free n t) = tt
+AreAlike-refl (bound n) = tt
+AreAlike-refl (constant n t) = tt
+AreAlike-refl (app f x) = tt
+AreAlike-refl (lam t x) = tt
+
+AreAlike-same : (t u : Term) → t ≡ u → AreAlike t u
+AreAlike-same t u e = subst (AreAlike t) e (AreAlike-refl t)
+
+-- a node is known by its tree
 pub tree_of_node-same : (trees : Trees) → type.IsDistinct trees.types → IsDistinct trees.terms → (m n : Node) → PartsBelow (length trees.terms) (length trees.types) m → PartsBelow (length trees.terms) (length trees.types) n → tree_of_node trees m ≡ tree_of_node trees n → m ≡ n
-unfolding left_of right_of type_in
-tree_of_node-same trees c d (node.Free a t) (node.Free b u) hm hn e = let f : a ≡ b = cc in ap₂ node.Free f (type_law.tree_at-same c t u hm hn (ap type_in e))
-tree_of_node-same trees c d (node.Bound a) (node.Bound b) hm hn e = cc
-tree_of_node-same trees c d (node.Const a t) (node.Const b u) hm hn e = let f : a ≡ b = cc in ap₂ node.Const f (type_law.tree_at-same c t u hm hn (ap type_in e))
+unfolding name_of number_of left_of right_of type_in
+tree_of_node-same trees c d (node.Free a t) (node.Free b u) hm hn e = ap₂ node.Free (ap name_of e) (type_law.tree_at-same c t u hm hn (ap type_in e))
+tree_of_node-same trees c d (node.Bound a) (node.Bound b) hm hn e = ap node.Bound (ap number_of e)
+tree_of_node-same trees c d (node.Const a t) (node.Const b u) hm hn e = ap₂ node.Const (ap name_of e) (type_law.tree_at-same c t u hm hn (ap type_in e))
 tree_of_node-same trees c d (node.App f x) (node.App g y) hm hn e = ap₂ node.App (term_in-same d f g hm.0 hn.0 (ap left_of e)) (term_in-same d x y hm.1 hn.1 (ap right_of e))
 tree_of_node-same trees c d (node.Lam t x) (node.Lam u y) hm hn e = ap₂ node.Lam (type_law.tree_at-same c t u hm.0 hn.0 (ap type_in e)) (term_in-same d x y hm.1 hn.1 (ap right_of e))
-tree_of_node-same trees c d _ _ hm hn e = absurd (cc)
+tree_of_node-same trees c d m n hm hn e = absurd (AreAlike-same (tree_of_node trees m) (tree_of_node trees n) e)

@@ -1,12 +1,12 @@
 -- What a call that makes a term answers, once its tree is made and judged.
 use Rattle.std.proofs.Common.{◌≡◌, ℕ, ◌<◌, ◌≤◌, refl, sym, ap, ◌∙◌, subst, arith, Option, Some, None, Result, Ok, Err, cond, length, List, [], ◌∷◌, get_or, ◌⊎◌, inl, inr}
-use Rattle.std.specs.Prelude.{IfErr, IsSome, slice_get, unwrap_or}
+use Rattle.std.specs.Prelude.{IfErr, OnOk, IsSome, slice_get, unwrap_or}
 use Rattle.std.proofs.lemmas.Option.{slice_get_cases}
 use Rattle.std.proofs.Math.Path.{ap₂}
 use Rattle.hol_spec.specs.Types.{HolType, type_eq}
 use Rattle.hol_spec.specs.Names.{Name}
-use Rattle.hol_spec.specs.Primitives.{bool}
-use Rattle.hol_spec.specs.Terms.{Term, free, bound, lam, IsTerm, HasType, type_of, equation}
+use Rattle.hol_spec.specs.Primitives.{bool, function, equality_name, equality_type}
+use Rattle.hol_spec.specs.Terms.{Term, free, bound, constant, app, lam, IsTerm, HasType, type_of, equation}
 use Rattle.hol_laws.specs.TermLaws.{type_eq-refl, type_of-equation}
 use Rattle.hol_spec.specs.TermBinding.{close}
 use Rattle.hol_spec.specs.Limits.{TermWithin, greatest_size, greatest_depth}
@@ -21,7 +21,7 @@ use Rattle.hol_type.specs.TableLaws as type_law
 use Rattle.hol_term.specs.declared.memo.Change.TheVariants.{Close}
 use Rattle.hol_term.specs.declared.node.Measures.{Measures}
 use Rattle.hol_term.specs.Tables.{Trees, term_at, type_at, Holds, Keeps, IsTermAt, IsTypeNumber}
-use Rattle.hol_term.specs.TableLaws.{Some-term_in, term_in-Stays}
+use Rattle.hol_term.specs.TableLaws.{Some-term_in, Stays-trans, term_in-Stays}
 use Rattle.hol_term.specs.Shapes.{equation_of}
 use Rattle.hol_term.specs.Walks.{changed}
 use Rattle.hol_term.proofs.Typings.{not_equal}
@@ -31,6 +31,11 @@ use Rattle.hol_term.specs.Refusals.{RefusesTerm, RefusesTyped}
 pub IfErr-map : {T E : Type 0} {P Q : E → Type 0} (r : Result T E) → ((e : E) → P e → Q e) → IfErr r P → IfErr r Q
 IfErr-map (Ok v) f h = tt
 IfErr-map (Err e) f h = f e h
+
+-- what holds in any case holds where a call succeeds
+pub OnOk-always : {T E P : Type 0} (r : Result T E) → P → OnOk r P
+OnOk-always (Ok v) h = h
+OnOk-always (Err e) h = tt
 
 -- a table lacks a number that has no term
 pub known_term : (trees : Trees) (id : ℕ) → IsTermAt trees id → id < length trees.terms
@@ -93,3 +98,18 @@ made_abs a b d g v ty body id r name t k l lt lty is hv hb h =
     = Some-term_in d.terms body (changed (term_at b v ∷ []) Close 0 (term_at b id)) hb ∙ ap₂ (λ w u. changed (w ∷ []) Close 0 u) vt (sym (term_in-Stays k.stays id lt)) in
     let outer : type_at d ty ≡ type_at a ty = sym (type_law.tree_at-Stays (type_law.Stays-trans k.types.stays l.types.stays) ty lty) in
     h ∙ ap Some (ap₂ lam outer inner ∙ ap (λ u. lam u (close (name, u) (term_at a id))) is)
+
+-- an equation whose sides are of the table
+pub made_equation : (a b d g : Trees) (e l m r id : ℕ) (t : HolType) → Keeps a b → Keeps b d → l < length a.terms → r < length a.terms → Holds b e (constant equality_name (equality_type t)) → Holds d m (app (term_at b e) (term_at b l)) → Holds g id (app (term_at d m) (term_at d r)) → Holds g id (equation t (term_at a l) (term_at a r))
+made_equation a b d g e l m r id t k k' hl hr he hm h =
+    let sign : term_at b e ≡ constant equality_name (equality_type t) = Some-term_in b.terms e (constant equality_name (equality_type t)) he in
+    let left : term_at d m ≡ app (constant equality_name (equality_type t)) (term_at a l)
+    = Some-term_in d.terms m (app (term_at b e) (term_at b l)) hm ∙ ap₂ app sign (sym (term_in-Stays k.stays l hl)) in
+    h ∙ ap Some (ap₂ app left (sym (term_in-Stays (Stays-trans k.stays k'.stays) r hr)))
+
+-- the type of the relations over a type of the table
+pub relation_at : (a b d : Trees) (ty truth predicate : ℕ) → Keeps a b → Keeps b d → ty < length a.types → type_at b truth ≡ bool → type_at d predicate ≡ function (type_at b ty) (type_at b truth) → function (type_at d ty) (type_at d predicate) ≡ equality_type (type_at a ty)
+relation_at a b d ty truth predicate k l lt is_bool is =
+    let first : type_at b ty ≡ type_at a ty = sym (type_law.tree_at-Stays k.types.stays ty lt) in
+    let last : type_at d ty ≡ type_at a ty = sym (type_law.tree_at-Stays (type_law.Stays-trans k.types.stays l.types.stays) ty lt) in
+    ap₂ function last (is ∙ ap₂ function first is_bool)

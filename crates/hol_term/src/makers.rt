@@ -244,8 +244,7 @@ impl TermTable {
     {
         let variable = self.free_node(&var.name, var.ty)?;
         let body = self.changed(&[variable], Change::Close, id)?;
-        let made = self.add(Node::Lam(var.ty, body))?;
-        Ok(made)
+        self.add(Node::Lam(var.ty, body))
     }
 
     /// The body of a binder with `arg` put for its variable, whatever its size and depth.
@@ -256,8 +255,7 @@ impl TermTable {
         ensures made { IfOk result (λ id. Holds self.new id.0 (put_term (term_at self.old arg.0) (term_at self.old body.0))) }
         ensures keeps { Keeps self.old self.new }
     {
-        let made = self.changed(&[arg], Change::Replace, body)?;
-        Ok(made)
+        self.changed(&[arg], Change::Replace, body)
     }
 
     /// The equation of two trees at a type, whatever its size and depth.
@@ -271,8 +269,7 @@ impl TermTable {
     {
         let constant = self.equality(ty)?;
         let left = self.add(Node::App(constant, l))?;
-        let made = self.add(Node::App(left, r))?;
-        Ok(made)
+        self.add(Node::App(left, r))
     }
 
     // The constant of equality over a type.
@@ -285,11 +282,21 @@ impl TermTable {
         let Ok(name) = Name::single(self.alloc, b"=") else {
             return Err(Memory);
         };
+        let relation = self.relation_type(ty)?;
+        self.add(Node::Const(name, relation))
+    }
+
+    // The type of equality over a type. No term is made.
+    fn relation_type(&mut self, ty: TypeId) -> Result<TypeId, Memory>
+        requires { ty.0 < length self.old.types }
+        ensures known { IfOk result (λ id. id.0 < length self.new.types) }
+        ensures made { IfOk result (λ id. type_at self.new id.0 ≡ equality_type (type_at self.old ty.0)) }
+        ensures terms { self.new.terms ≡ self.old.terms }
+        ensures keeps { Keeps self.old self.new }
+    {
         let truth = self.bool_type()?;
         let predicate = self.function_type(ty, truth)?;
-        let relation = self.function_type(ty, predicate)?;
-        let made = self.add(Node::Const(name, relation))?;
-        Ok(made)
+        self.function_type(ty, predicate)
     }
 
     // What a change with these arguments makes of a tree.
@@ -313,8 +320,7 @@ impl TermTable {
             depth: 0,
             change,
         };
-        let made = self.remade(args, root, &mut memo)?;
-        Ok(made)
+        self.remade(args, root, &mut memo)
     }
 
     // What was made, if it is within the limits; else all that came after the mark is given up.

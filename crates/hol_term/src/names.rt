@@ -75,8 +75,17 @@ fn copied(alloc: Global, names: &[Name]) -> Result<Vec<Name>, Memory>
     ensures { IfOk result (λ copy. copy.items ≡ names.now) }
 {
     let mut copy = Vec::new(alloc);
+    push_copies(names, &mut copy)?;
+    Ok(copy)
+}
+
+// Puts a copy of each name where there is none yet.
+fn push_copies(names: &[Name], copy: &mut Vec<Name>) -> Result<(), Memory>
+    requires none { copy.old.items ≡ [] }
+    ensures { OnOk result (copy.new.items ≡ names.now) }
+{
     for name in names {
         copy.push(name.clone()?)?;
     }
-    Ok(copy)
+    Ok(())
 }

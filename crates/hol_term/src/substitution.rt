@@ -117,8 +117,7 @@ impl TermTable {
         ensures keeps { Keeps self.old self.new }
     {
         let mut images = Images::new(self.alloc);
-        let made = self.image(type_pairs, term_pairs, id, &mut images)?;
-        Ok(made)
+        self.image(type_pairs, term_pairs, id, &mut images)
     }
 
     // What the pairs make of a term. Memory is taken for what is noted and for the trees that are new.
@@ -168,26 +167,22 @@ impl TermTable {
         match self.view(id) {
             TermView::Free(name, ty) => {
                 let name = name.clone()?;
-                let made = self.free_image(type_pairs, term_pairs, name, ty)?;
-                Ok(made)
+                self.free_image(type_pairs, term_pairs, name, ty)
             }
             TermView::Bound(_) => Ok(id),
             TermView::Const(name, ty) => {
                 let name = name.clone()?;
-                let made = self.constant_image(type_pairs, name, ty)?;
-                Ok(made)
+                self.constant_image(type_pairs, name, ty)
             }
             TermView::App(f, x) => {
                 let function = self.image(type_pairs, term_pairs, f, images)?;
                 let argument = self.image(type_pairs, term_pairs, x, images)?;
-                let made = self.add(Node::App(function, argument))?;
-                Ok(made)
+                self.add(Node::App(function, argument))
             }
             TermView::Lam(ty, body) => {
                 let inner = self.image(type_pairs, term_pairs, body, images)?;
                 let binder = self.type_image(type_pairs, ty)?;
-                let made = self.add(Node::Lam(binder, inner))?;
-                Ok(made)
+                self.add(Node::Lam(binder, inner))
             }
         }
     }
@@ -209,10 +204,7 @@ impl TermTable {
         let put = self.type_image(type_pairs, ty)?;
         match put_for(term_pairs, &name, put) {
             Some(id) => Ok(id),
-            None => {
-                let made = self.add(Node::Free(name, put))?;
-                Ok(made)
-            }
+            None => self.add(Node::Free(name, put)),
         }
     }
 
@@ -230,8 +222,7 @@ impl TermTable {
         ensures keeps { Keeps self.old self.new }
     {
         let put = self.type_image(type_pairs, ty)?;
-        let made = self.add(Node::Const(name, put))?;
-        Ok(made)
+        self.add(Node::Const(name, put))
     }
 
     // What the pairs make of a type. No term is made.

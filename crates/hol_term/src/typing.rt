@@ -1,11 +1,14 @@
 //! How a tree is made with its measures and its type.
-ghost use Rattle.std.specs.Prelude.{◌≡◌, ◌<◌, ◌+◌, ◌-◌, ◌^◌, min, Option, length, IfOk, OnOk};
+ghost use Rattle.std.specs.Prelude.{◌≡◌, ◌<◌, ◌+◌, ◌-◌, ◌^◌, [], ◌∷◌, min, Option, length, IfOk, OnOk};
 ghost use Rattle.std.specs.Option.{option_map};
 ghost use Rattle.hol_spec.specs.Types.{HolType};
 ghost use Rattle.hol_spec.specs.Primitives.{function as function_type};
 ghost use Rattle.hol_spec.specs.Terms.{type_of, lam, application_type};
 ghost use Rattle.hol_spec.specs.Limits.{type_size, type_depth};
+ghost use Rattle.hol_type.specs.declared.table.TypeId.{TypeId as ATypeId};
 ghost use Rattle.hol_type.specs.Tables as type;
+ghost use Rattle.hol_term.specs.declared.seats.Seat.{Seat as ASeat};
+ghost use Rattle.hol_term.specs.Noted.{IsNoted};
 ghost use Rattle.hol_term.specs.Tables.{term_at, type_at, Holds, Keeps, IsDistinct, IsTypeNumber};
 ghost use Rattle.hol_term.specs.Nodes.{tree_of_node, PartsBelow, AreMeasures};
 ghost use Rattle.hol_term.specs.Scopes.{KeepsLists};
@@ -106,10 +109,27 @@ impl TermTable {
             return Ok(None);
         }
         let mut typings = Typings::new(self.alloc);
+        self.abstraction_inferred(ty, body, &mut typings)
+    }
+
+    // The type of an abstraction under no binders, if it has one, where nothing is found yet.
+    fn abstraction_inferred(
+        &mut self,
+        ty: TypeId,
+        body: TermId,
+        typings: &mut Typings,
+    ) -> Result<Option<TypeId>, Memory>
+        requires ty { ty.0 < length self.old.types }
+        requires body { body.0 < length self.old.terms }
+        requires scopes { typings.old.scopes ≡ [] ∷ [] }
+        requires found { (s : ASeat) (r : Option ATypeId) → IsNoted typings.old.found s r → ⊥ }
+        ensures typed { IfOk result (λ r. IsTypeNumber self.new.types r (type_of (lam (type_at self.old ty.0) (term_at self.old body.0)))) }
+        ensures terms { self.new.terms ≡ self.old.terms }
+        ensures keeps { Keeps self.old self.new }
+    {
         let scope = typings.scopes.enter(NO_BINDERS, ty)?;
-        let codomain = self.inferred(Seat { id: body, scope }, &mut typings)?;
-        let made = self.abstracted(ty, codomain)?;
-        Ok(made)
+        let codomain = self.inferred(Seat { id: body, scope }, typings)?;
+        self.abstracted(ty, codomain)
     }
 
     // The type of a tree under binders, if it has one. A part without loose numbers has the type that it is kept with.
@@ -159,8 +179,7 @@ impl TermTable {
             Parts::Lam(ty, body) => {
                 let scope = typings.scopes.enter(scope, ty)?;
                 let codomain = self.inferred(Seat { id: body, scope }, typings)?;
-                let made = self.abstracted(ty, codomain)?;
-                Ok(made)
+                self.abstracted(ty, codomain)
             }
         }
     }

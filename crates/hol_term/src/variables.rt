@@ -1,5 +1,5 @@
 //! The variables of a term.
-ghost use Rattle.std.specs.Prelude.{◌≡◌, ◌++◌, ◌<◌, length, IfOk, OnOk};
+ghost use Rattle.std.specs.Prelude.{◌≡◌, ◌++◌, ◌<◌, [], length, IfOk, OnOk};
 ghost use Rattle.hol_spec.specs.Lists.{distinct, union};
 ghost use Rattle.hol_spec.specs.NameEquality.{name_eq};
 ghost use Rattle.hol_spec.specs.Terms.{variable_eq, free_places, type_variable_places};
@@ -25,8 +25,7 @@ impl TermTable {
         ensures one_each { type.IsDistinct self.now.types }
     {
         let mut seen = Seen::new(self.alloc);
-        self.come_to(id, &mut seen)?;
-        self.free_among(seen.ids())
+        self.free_vars_seen(id, &mut seen)
     }
 
     /// The type variables of a term, in order of first occurrence, those of a binder's type before those of its body.
@@ -35,8 +34,35 @@ impl TermTable {
         ensures { IfOk result (λ names. names.items ≡ distinct name_eq (type_variable_places (term_at self.now id.0))) }
     {
         let mut seen = Seen::new(self.alloc);
-        self.come_to(id, &mut seen)?;
-        let names = self.names_among(seen.ids())?;
+        let mut names = Names::new(self.alloc);
+        self.type_vars_seen(id, &mut seen, &mut names)
+    }
+
+    // The free variables of a term of which nothing is seen yet.
+    fn free_vars_seen(&self, id: TermId, seen: &mut Seen) -> Result<Vec<Variable>, Memory>
+        requires id { id.0 < length self.now.terms }
+        requires empty { seen.old ≡ [] }
+        ensures variables { IfOk result (λ variables. variables_of self.now variables.items ≡ distinct variable_eq (free_places (term_at self.now id.0))) }
+        ensures known { IfOk result (λ variables. HaveTypes self.now variables.items) }
+    {
+        self.come_to(id, seen)?;
+        self.free_among(seen.ids())
+    }
+
+    // The type variables of a term of which nothing is seen yet.
+    fn type_vars_seen(
+        &self,
+        id: TermId,
+        seen: &mut Seen,
+        names: &mut Names,
+    ) -> Result<Vec<Name>, Memory>
+        requires id { id.0 < length self.now.terms }
+        requires empty { seen.old ≡ [] }
+        requires none { names.old ≡ [] }
+        ensures { IfOk result (λ names. names.items ≡ distinct name_eq (type_variable_places (term_at self.now id.0))) }
+    {
+        self.come_to(id, seen)?;
+        self.unite_heads(seen.ids(), names)?;
         names.listed(self.alloc)
     }
 
@@ -67,10 +93,21 @@ impl TermTable {
         ensures known { IfOk result (λ variables. HaveTypes self.now variables.items) }
     {
         let mut found = Vec::new(self.alloc);
-        for id in ids {
-            self.push_free(*id, &mut found)?;
-        }
+        self.push_free_among(ids, &mut found)?;
         Ok(found)
+    }
+
+    // Puts the free variables that are among some trees where there is none yet.
+    fn push_free_among(&self, ids: &[TermId], found: &mut Vec<Variable>) -> Result<(), Memory>
+        requires ids { AreKnown self.now ids.now }
+        requires none { found.old.items ≡ [] }
+        ensures variables { OnOk result (variables_of self.now found.new.items ≡ gathered free_head (terms_at self.now ids.now)) }
+        ensures known { OnOk result (HaveTypes self.now found.new.items) }
+    {
+        for id in ids {
+            self.push_free(*id, found)?;
+        }
+        Ok(())
     }
 
     // Puts a tree last, if it is a free variable.
@@ -89,16 +126,16 @@ impl TermTable {
         }
     }
 
-    // The type variables in the heads of some trees, each once.
-    fn names_among(&self, ids: &[TermId]) -> Result<Names, Memory>
-        requires { AreKnown self.now ids.now }
-        ensures { IfOk result (λ names. names ≡ distinct name_eq (gathered type_head (terms_at self.now ids.now))) }
+    // Takes the type variables in the heads of some trees, each once, where there is none yet.
+    fn unite_heads(&self, ids: &[TermId], names: &mut Names) -> Result<(), Memory>
+        requires known { AreKnown self.now ids.now }
+        requires none { names.old ≡ [] }
+        ensures { OnOk result (names.new ≡ distinct name_eq (gathered type_head (terms_at self.now ids.now))) }
     {
-        let mut names = Names::new(self.alloc);
         for id in ids {
-            self.unite_head(*id, &mut names)?;
+            self.unite_head(*id, names)?;
         }
-        Ok(names)
+        Ok(())
     }
 
     // Takes the type variables in the head of a tree.

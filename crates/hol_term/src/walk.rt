@@ -66,30 +66,19 @@ impl TermTable {
         ensures memo { OnOk result (IsMemo self.new args.now memo.new) }
     {
         match self.parts(place.id) {
-            Parts::Leaf => {
-                let id = self.remade_leaf(args, place)?;
-                Ok(id)
-            }
+            Parts::Leaf => self.remade_leaf(args, place),
             Parts::Bound(n) => match replaced(args, place, n)? {
-                Replacement::Renamed(n) => {
-                    let id = self.add(Node::Bound(n))?;
-                    Ok(id)
-                }
-                Replacement::Argument(id) => {
-                    let made = self.remade(args, lifted(id, place.depth), memo)?;
-                    Ok(made)
-                }
+                Replacement::Renamed(n) => self.add(Node::Bound(n)),
+                Replacement::Argument(id) => self.remade(args, lifted(id, place.depth), memo),
             },
             Parts::App(f, x) => {
                 let function = self.remade(args, part(place, f, place.depth), memo)?;
                 let argument = self.remade(args, part(place, x, place.depth), memo)?;
-                let id = self.add(Node::App(function, argument))?;
-                Ok(id)
+                self.add(Node::App(function, argument))
             }
             Parts::Lam(ty, body) => {
                 let body = self.remade(args, part(place, body, place.depth + 1), memo)?;
-                let id = self.add(Node::Lam(ty, body))?;
-                Ok(id)
+                self.add(Node::Lam(ty, body))
             }
         }
     }
@@ -105,8 +94,7 @@ impl TermTable {
         ensures keeps { Keeps self.old self.new }
     {
         if is_closed_over(args, place) {
-            let id = self.add(Node::Bound(place.depth))?;
-            Ok(id)
+            self.add(Node::Bound(place.depth))
         } else {
             let _distinct = self.mark();
             Ok(place.id)

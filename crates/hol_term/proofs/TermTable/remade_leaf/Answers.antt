@@ -1,10 +1,15 @@
+use Rattle.std.proofs.lemmas.Result.{IfOk-weaker}
+use Rattle.hol_term.specs.TableLaws.{Keeps-refl}
 use Rattle.hol_term.proofs.Remade.{leaf_alone, leaf_closed}
 use Rattle.hol_term.proofs.TermTable.remade_leaf.Goals as goal
 
-pub returns-in_ok-id-clause-made : goal.returns-in_ok-id-clause-made
-returns-in_ok-id-clause-made c =
+pub returns-then-is_closed_over-clause-made : goal.returns-then-is_closed_over-clause-made
+returns-then-is_closed_over-clause-made c =
     let h = c.is_closed_over.ensures.0 c.if-is_closed_over.true in
-    leaf_closed c.args.self.now c.add.new.self c.args.args.now c.args.place c.in_ok-id.id c.requires.closing h.0 h.1 c.in_ok-id.ensures.made
+    IfOk-weaker c.add.result _ _ (λ id e. leaf_closed c.args.self.now c.add.new.self c.args.args.now c.args.place id c.requires.closing h.0 h.1 e) c.add.ensures.made
+
+pub returns-else-is_closed_over-clause-keeps : goal.returns-else-is_closed_over-clause-keeps
+returns-else-is_closed_over-clause-keeps c = Keeps-refl c.args.self.now
 
 pub returns-else-is_closed_over-clause-made : goal.returns-else-is_closed_over-clause-made
 returns-else-is_closed_over-clause-made c =

@@ -1,7 +1,8 @@
-use Rattle.std.proofs.lemmas.Result.{IfOk-weaker}
+use Rattle.std.proofs.lemmas.Result.{IfOk-weaker, on_err_weaker}
 use Rattle.hol_term.specs.Substitutions.{term_pairs_at, ArePairsFitting, image_of}
 use Rattle.hol_term.specs.Tables.{term_at}
-use Rattle.hol_term.proofs.Settled.{IfErr-map, known_term}
+use Rattle.hol_term.specs.TableLaws.{Keeps-refl}
+use Rattle.hol_term.proofs.Settled.{IfErr-map, OnOk-always, known_term}
 use Rattle.hol_term.proofs.ImageLaws.{AreTermPairs-known, ArePairsFitting-at, sub_term, subst_refusal}
 use Rattle.hol_type.specs.Tables as type
 use Rattle.hol_term.proofs.TermTable.subst.Goals as goal
@@ -11,6 +12,30 @@ substituted-made-requires-clause-pairs c = record { known_types = c.requires.typ
 
 pub substituted-made-requires-clause-id : goal.substituted-made-requires-clause-id
 substituted-made-requires-clause-id c = known_term c.args.self.now c.args.id.0 c.requires.id
+
+pub settle-requires-clause-earlier : goal.settle-requires-clause-earlier
+settle-requires-clause-earlier c = (c.args.self.now, record { keeps = c.substituted-made.ensures.keeps; own = c.mark-mark.ensures.own; types = c.mark-mark.ensures.types; terms = c.mark-mark.ensures.terms })
+
+pub settle-requires-clause-made : goal.settle-requires-clause-made
+settle-requires-clause-made c = c.substituted-made.ensures.known
+
+pub returns-clause-known : goal.returns-clause-known
+returns-clause-known c = c.settle.ensures.known
+
+pub returns-clause-made : goal.returns-clause-made
+returns-clause-made c = c.settle.ensures.made (image_of c.args.self.now c.args.type_pairs.now c.args.term_pairs.now (term_at c.args.self.now c.args.id.0)) c.substituted-made.ensures.made
+
+pub returns-clause-within : goal.returns-clause-within
+returns-clause-within c = c.settle.ensures.within (image_of c.args.self.now c.args.type_pairs.now c.args.term_pairs.now (term_at c.args.self.now c.args.id.0)) c.substituted-made.ensures.made
+
+pub returns-clause-keeps : goal.returns-clause-keeps
+returns-clause-keeps c = c.settle.ensures.keeps c.args.self.now (record { keeps = c.substituted-made.ensures.keeps; own = c.mark-mark.ensures.own; types = c.mark-mark.ensures.types; terms = c.mark-mark.ensures.terms })
+
+pub returns-clause-unchanged : goal.returns-clause-unchanged
+returns-clause-unchanged c = on_err_weaker c.settle.result (λ back. back c.args.self.now (record { keeps = c.substituted-made.ensures.keeps; own = c.mark-mark.ensures.own; types = c.mark-mark.ensures.types; terms = c.mark-mark.ensures.terms })) c.settle.ensures.unchanged
+
+pub returns-clause-fits : goal.returns-clause-fits
+returns-clause-fits c = OnOk-always c.settle.result (c.fits.ensures.0 c.if-not-fits.false)
 
 pub returns-clause-typed : goal.returns-clause-typed
 returns-clause-typed c =

@@ -1,10 +1,10 @@
 use Rattle.std.proofs.Common.{subst}
 use Rattle.std.proofs.lemmas.List.{drop_more}
 use Rattle.hol_term.proofs.FoundLaws.{IsNaming, naming_begins, naming_goes_on}
-use Rattle.hol_term.proofs.TermTable.names_among.Goals as goal
+use Rattle.hol_term.proofs.TermTable.unite_heads.Goals as goal
 
 pub loop-id-init : goal.loop-id-init
-loop-id-init c = rw c.new-names.ensures.empty (naming_begins _ _ c.requires)
+loop-id-init c = rw c.requires.none (naming_begins _ _ c.requires.known)
 
 pub loop-id-preserved : goal.loop-id-preserved
 loop-id-preserved c =

@@ -1,10 +1,10 @@
 use Rattle.std.proofs.Common.{subst}
 use Rattle.std.proofs.lemmas.List.{drop_more}
 use Rattle.hol_term.proofs.FoundLaws.{IsFinding, finding_begins, finding_goes_on}
-use Rattle.hol_term.proofs.TermTable.free_among.Goals as goal
+use Rattle.hol_term.proofs.TermTable.push_free_among.Goals as goal
 
 pub loop-id-init : goal.loop-id-init
-loop-id-init c = rw c.new-found.ensures.items (finding_begins _ _ c.requires)
+loop-id-init c = rw c.requires.none (finding_begins _ _ c.requires.ids)
 
 pub loop-id-preserved : goal.loop-id-preserved
 loop-id-preserved c =

@@ -1,0 +1,19 @@
+use Rattle.std.proofs.Common.{subst, sym}
+use Rattle.hol_term.specs.Tables.{Keeps}
+use Rattle.hol_term.specs.TableLaws.{Keeps-refl}
+use Rattle.hol_term.proofs.TermTable.settle.Goals as goal
+
+pub cut-requires : goal.cut-requires
+cut-requires c = c.requires.earlier
+
+pub cut-requires-in-Err : goal.cut-requires-in-Err
+cut-requires-in-Err c = c.requires.earlier
+
+pub returns-in-Ok-judge-clause-keeps : goal.returns-in-Ok-judge-clause-keeps
+returns-in-Ok-judge-clause-keeps c = λ before h. h.keeps
+
+pub returns-in-Err-judge-clause-keeps : goal.returns-in-Err-judge-clause-keeps
+returns-in-Err-judge-clause-keeps c = λ before h. subst (Keeps before) (sym (c.cut.ensures before h)) (Keeps-refl before)
+
+pub returns-in-Err-clause-keeps : goal.returns-in-Err-clause-keeps
+returns-in-Err-clause-keeps c = λ before h. subst (Keeps before) (sym (c.cut-in-Err.ensures before h)) (Keeps-refl before)
