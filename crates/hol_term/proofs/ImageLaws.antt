@@ -1,5 +1,5 @@
 -- What a substitution makes, term by term.
-use Rattle.std.proofs.Common.{◌≡◌, ◌<◌, ◌⊎◌, ⊎_elim, refl, sym, ap, ◌∙◌, subst, arith, List, [], ◌∷◌, length, Option, Some, None}
+use Rattle.std.proofs.Common.{◌≡◌, ℕ, ◌<◌, ◌⊎◌, ⊎_elim, refl, sym, ap, ◌∙◌, subst, arith, List, [], ◌∷◌, length, Option, Some, None}
 use Rattle.std.specs.Prelude.{unwrap_or, IsSome}
 use Rattle.std.specs.Map.{lookup}
 use Rattle.std.proofs.Math.Path.{ap₂}
@@ -9,7 +9,7 @@ use Rattle.bridge_base.specs.declared.faults.Fault.TheVariants.{Refused, Memory}
 use Rattle.bridge_base.specs.declared.faults.Kind.TheVariants.{TooLarge, TooDeep}
 use Rattle.hol_spec.specs.Types.{HolType}
 use Rattle.hol_spec.specs.Substitution.{TypePairs, substitute}
-use Rattle.hol_spec.specs.Terms.{Term, free, app, lam, variable_eq, type_of, IsTerm}
+use Rattle.hol_spec.specs.Terms.{Term, free, constant, app, lam, variable_eq, type_of, IsTerm}
 use Rattle.hol_spec.specs.TermSubstitution.{TermPairs, sub, AreFitting}
 use Rattle.hol_laws.specs.TermSubstitutionLaws.{type_of-sub}
 use Rattle.hol_type.specs.declared.table.TypeId.{TypeId}
@@ -67,6 +67,17 @@ module _ (a b : Trees) (k : Keeps a b) where
         here ei er =
             let both : (id.0 < length b.terms) × Holds b made.0 (image_of b types terms (term_at b id.0)) = (omega (arith, k.longer, lt), held ∙ ap Some (image_at-Keeps id lt)) in
             subst (λ (w : TermId). (w.0 < length b.terms) × Holds b r.0 (image_of b types terms (term_at b w.0))) (sym ei) (subst (λ (v : TermId). (id.0 < length b.terms) × Holds b v.0 (image_of b types terms (term_at b id.0))) (sym er) both)
+
+-- what is made of the term that a number has is made of the number's
+module _ (a g : Trees) (types : List (Name × TypeId)) (terms : List (Variable × TermId)) (id : ℕ) (n m : Name) (ty : HolType) (same : m ≡ n) where
+  image_at-Holds : (t : Term) → Holds a id t → image_of a types terms t ≡ image_of a types terms (term_at a id)
+  image_at-Holds t h = ap (image_of a types terms) (sym (Some-term_in a.terms id t h))
+
+  pub free_image_at : Holds a id (free n ty) → (made : TermId) → Holds g made.0 (image_of a types terms (free m ty)) → Holds g made.0 (image_of a types terms (term_at a id))
+  free_image_at at made h = h ∙ ap Some (ap (λ k. image_of a types terms (free k ty)) same ∙ image_at-Holds (free n ty) at)
+
+  pub constant_image_at : Holds a id (constant n ty) → (made : TermId) → Holds g made.0 (constant m (substitute (type.pairs_at a.types types) ty)) → Holds g made.0 (image_of a types terms (term_at a id))
+  constant_image_at at made h = h ∙ ap Some (ap (λ k. image_of a types terms (constant k ty)) same ∙ image_at-Holds (constant n ty) at)
 
 -- a free variable, in the table with its new type: what is put for it, or itself
 module _ (a b : Trees) (k : Keeps a b) (types : List (Name × TypeId)) (terms : List (Variable × TermId)) (g : AreKnownPairs a types terms) (n : Name) (ty put : TypeId) (is : type_at b put.0 ≡ substitute (type.pairs_at a.types types) (type_at a ty.0)) where

@@ -1,5 +1,5 @@
 -- What a memo has for a key.
-use Rattle.std.proofs.Common.{◌≡◌, ℕ, zero, suc, refl, sym, ap, ◌∙◌, arith, List, [], ◌∷◌, Option, Some, None, Bool, true, false, inl, inr, ◌⊎◌, ⊎_elim}
+use Rattle.std.proofs.Common.{◌≡◌, ℕ, zero, suc, refl, sym, ap, ◌∙◌, List, [], ◌∷◌, Option, Some, None, Bool, true, false, inl, inr, ◌⊎◌, ⊎_elim}
 use Rattle.std.proofs.lemmas.Bool.{eqb-true}
 use Rattle.std.specs.Prelude.{slice_get, nat_eq, ◌&&◌, if◌then◌else◌, IfSome}
 use Rattle.std.specs.Map.{lookup}
@@ -21,7 +21,7 @@ and_both true b e = (refl, e)
 and_both false b e = absurd (cc)
 
 change_same : (c d : Change) → change_eq.eq-value.it c d ≡ true → c ≡ d
-change_same (Raise k) (Raise j) h = grind arith
+change_same (Raise k) (Raise j) h = ap Raise (eqb-true k j h)
 change_same Replace Replace h = refl
 change_same Close Close h = refl
 change_same _ _ h = absurd (cc)

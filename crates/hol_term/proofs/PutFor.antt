@@ -1,8 +1,8 @@
 -- What the pairs of a substitution put for a variable, from the first pair to the last, and whether they fit.
-use Rattle.std.proofs.Common.{◌≡◌, ◌<◌, refl, sym, ap, ◌∙◌, List, [], ◌∷◌, length, Bool, true, false, cond, Option, Some, None, nat_eq, arith}
+use Rattle.std.proofs.Common.{◌≡◌, ◌<◌, refl, sym, ap, ◌∙◌, List, [], ◌∷◌, length, Bool, true, false, cond, Option, Some, None, nat_eq}
 use Rattle.std.specs.Prelude.{◌↔◌}
 use Rattle.std.specs.Map.{lookup}
-use Rattle.std.proofs.lemmas.Bool.{eqb-true}
+use Rattle.std.proofs.lemmas.Bool.{eqb-true, eq-eqb, false≢true}
 use Rattle.std.proofs.lemmas.Option.{same_Some}
 use Rattle.hol_spec.specs.Names.{Name}
 use Rattle.hol_spec.specs.Types.{HolType, type_eq}
@@ -24,7 +24,7 @@ type_numbers types d t u ht hu = go (nat_eq t.0 u.0) refl
   where
     go : (b : Bool) → nat_eq t.0 u.0 ≡ b → nat_eq t.0 u.0 ≡ type_eq (tree_at types t.0) (tree_at types u.0)
     go true e = e ∙ sym (type_eq-refl (tree_at types t.0)) ∙ ap (λ n. type_eq (tree_at types t.0) (tree_at types n)) (eqb-true t.0 u.0 e)
-    go false e = e ∙ sym (not_equal (tree_at types t.0) (tree_at types u.0) (types_apart types d t u ht hu (λ same. let h : nat_eq t.0 u.0 ≡ true = grind arith in cc)))
+    go false e = e ∙ sym (not_equal (tree_at types t.0) (tree_at types u.0) (types_apart types d t u ht hu (λ same. false≢true (sym e ∙ eq-eqb t.0 u.0 same))))
 
 -- in every table the rest of the pairs puts for the variable what all of them put
 abbrev pub Skips : List (Variable × TermId) → List (Variable × TermId) → Name → TypeId → Type 0

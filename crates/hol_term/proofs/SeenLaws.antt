@@ -1,6 +1,6 @@
 -- Which numbers and names were noted.
-use Rattle.std.proofs.Common.{◌≡◌, ℕ, zero, suc, refl, sym, ap, ◌∙◌, cond, List, [], ◌∷◌, ◌++◌, Some, Bool, true, false, ⊎_elim, arith}
-use Rattle.std.proofs.lemmas.Bool.{eqb-true}
+use Rattle.std.proofs.Common.{◌≡◌, ℕ, zero, suc, refl, sym, ap, ◌∙◌, cond, List, [], ◌∷◌, ◌++◌, Some, Bool, true, false, ⊎_elim}
+use Rattle.std.proofs.lemmas.Bool.{eqb-true, eq-eqb}
 use Rattle.std.specs.Prelude.{slice_get, IsTrue, ◌↔◌}
 use Rattle.std.specs.List.{list_any}
 use Rattle.std.proofs.lemmas.Option.{same_Some}
@@ -15,7 +15,7 @@ pub id_same : (p q : TermId) → id_eq.eq-value.it p q ≡ true → p ≡ q
 id_same p q h = let x = eqb-true p.0 q.0 h in λ i. record { 0 = x i }
 
 id_itself : (p : TermId) → id_eq.eq-value.it p p ≡ true
-id_itself p = grind arith
+id_itself p = eq-eqb p.0 p.0 refl
 
 among_if : (p : TermId) (ids : List TermId) → list_any (id_eq.eq-value.it p) ids ≡ true → IsAmong ids p
 among_if p [] h = absurd (cc)

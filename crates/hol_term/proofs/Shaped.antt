@@ -1,14 +1,14 @@
 -- Equations and redexes, found by their parts.
-use Rattle.std.proofs.Common.{◌≡◌, ℕ, ◌<◌, refl, sym, ap, ◌∙◌, arith, length, Bool, true, false, cond, Option, Some, None, List, [], ◌∷◌}
+use Rattle.std.proofs.Common.{◌≡◌, refl, sym, ap, ◌∙◌, Bool, true, false, cond, Option, Some, None, List}
 use Rattle.std.specs.Option.{option_map}
 use Rattle.std.proofs.Math.Path.{ap₂}
 use Rattle.hol_spec.specs.NameEquality.{name_eq}
 use Rattle.hol_laws.specs.NameEqualityLaws.{name_eq-Decides}
 use Rattle.hol_spec.specs.Names.{Name}
-use Rattle.hol_spec.specs.Types.{HolType, HolTypes, variable, operator, none, more, types_of}
+use Rattle.hol_spec.specs.Types.{HolType, variable, operator, none, more}
 use Rattle.hol_spec.specs.Primitives.{bool, function, function_parts, arrow_name}
 use Rattle.hol_type.specs.declared.table.TypeId.{TypeId}
-use Rattle.hol_type.specs.Tables.{tree_at, two_at, types_at}
+use Rattle.hol_type.specs.Tables.{tree_at, two_at}
 use Rattle.hol_term.specs.Shapes.{IsRelation}
 
 from_test : (b : Bool) (n : Name) (p q : HolType × HolType) → (b ≡ true → n ≡ arrow_name) → cond b (Some p) None ≡ Some q → (n ≡ arrow_name) × (p ≡ q)

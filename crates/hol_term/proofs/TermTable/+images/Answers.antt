@@ -1,10 +1,13 @@
-use Rattle.std.proofs.Common.{◌<◌, length, arith}
+use Rattle.std.proofs.Common.{◌<◌, length, arith, ap, sym, ◌∙◌, Some}
 use Rattle.std.proofs.lemmas.Option.{slice_get_within}
 use Rattle.std.proofs.lemmas.Result.{IfOk-weaker}
+use Rattle.hol_spec.specs.Terms.{bound}
 use Rattle.hol_type.specs.TableLaws as type_law
-use Rattle.hol_term.specs.TableLaws.{Keeps-refl, Keeps-trans}
+use Rattle.hol_term.specs.Substitutions.{image_of}
+use Rattle.hol_term.specs.Tables.{type_at}
+use Rattle.hol_term.specs.TableLaws.{Keeps-refl, Keeps-trans, Some-term_in}
 use Rattle.hol_term.proofs.Settled.{OnOk-always}
-use Rattle.hol_term.proofs.ImageLaws.{AreKnownPairs-Keeps, AreImages-Keeps, noted_images, image_app, image_lam}
+use Rattle.hol_term.proofs.ImageLaws.{AreKnownPairs-Keeps, AreImages-Keeps, noted_images, free_image_at, constant_image_at, image_app, image_lam}
 use Rattle.hol_term.proofs.TermTable.+images.Goals as goal
 
 pub image-image_anew-requires : goal.image-image_anew-requires
@@ -78,15 +81,37 @@ image_anew-returns-in_err-binder-in-Lam-clause-keeps t c = Keeps-trans c.image-i
 pub image_anew-add-requires-in-Lam : goal.image_anew-add-requires-in-Lam
 image_anew-add-requires-in-Lam t c = (c.in_ok-binder-in-Lam.ensures.known, omega (arith, c.in_ok-inner-in-Lam.ensures.known, c.type_image.ensures.keeps.longer))
 
+pub image_anew-returns-in_err-name-in-Free-clause-keeps : goal.image_anew-returns-in_err-name-in-Free-clause-keeps
+image_anew-returns-in_err-name-in-Free-clause-keeps t c = Keeps-refl c.args.self.now
+
+pub image_anew-returns-in_err-name-in-Const-clause-keeps : goal.image_anew-returns-in_err-name-in-Const-clause-keeps
+image_anew-returns-in_err-name-in-Const-clause-keeps t c = Keeps-refl c.args.self.now
+
+pub image_anew-returns-in_ok-name-in-Free-clause-made : goal.image_anew-returns-in_ok-name-in-Free-clause-made
+image_anew-returns-in_ok-name-in-Free-clause-made t c =
+    IfOk-weaker c.free_image.result _ _
+    (free_image_at c.args.self.now c.free_image.new.self c.args.type_pairs.now c.args.term_pairs.now c.args.id.0 c.in-Free.name.now c.in_ok-name-in-Free.name (type_at c.args.self.now c.in-Free.ty.0) c.in_ok-name-in-Free.ensures.cases c.in-Free.ensures.is)
+    c.free_image.ensures.made
+
 pub image_anew-returns-in_ok-name-in-Free-clause-images : goal.image_anew-returns-in_ok-name-in-Free-clause-images
 image_anew-returns-in_ok-name-in-Free-clause-images t c =
     OnOk-always c.free_image.result (AreImages-Keeps c.args.self.now c.free_image.new.self c.free_image.ensures.keeps c.args.type_pairs.now c.args.term_pairs.now c.requires.pairs c.args.images.now c.requires.images)
+
+pub image_anew-returns-in-Bound-clause-made : goal.image_anew-returns-in-Bound-clause-made
+image_anew-returns-in-Bound-clause-made t c =
+    c.in-Bound.ensures.is ∙ ap (λ u. Some (image_of c.args.self.now c.args.type_pairs.now c.args.term_pairs.now u)) (sym (Some-term_in c.args.self.now.terms c.args.id.0 (bound c.in-Bound.field-0) c.in-Bound.ensures.is))
 
 pub image_anew-returns-in-Bound-clause-keeps : goal.image_anew-returns-in-Bound-clause-keeps
 image_anew-returns-in-Bound-clause-keeps t c = Keeps-refl c.args.self.now
 
 pub image_anew-returns-in-Bound-clause-images : goal.image_anew-returns-in-Bound-clause-images
 image_anew-returns-in-Bound-clause-images t c = c.requires.images
+
+pub image_anew-returns-in_ok-name-in-Const-clause-made : goal.image_anew-returns-in_ok-name-in-Const-clause-made
+image_anew-returns-in_ok-name-in-Const-clause-made t c =
+    IfOk-weaker c.constant_image.result _ _
+    (constant_image_at c.args.self.now c.constant_image.new.self c.args.type_pairs.now c.args.term_pairs.now c.args.id.0 c.in-Const.name.now c.in_ok-name-in-Const.name (type_at c.args.self.now c.in-Const.ty.0) c.in_ok-name-in-Const.ensures.cases c.in-Const.ensures.is)
+    c.constant_image.ensures.made
 
 pub image_anew-returns-in_ok-name-in-Const-clause-images : goal.image_anew-returns-in_ok-name-in-Const-clause-images
 image_anew-returns-in_ok-name-in-Const-clause-images t c =

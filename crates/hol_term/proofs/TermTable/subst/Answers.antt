@@ -1,7 +1,6 @@
 use Rattle.std.proofs.lemmas.Result.{IfOk-weaker, on_err_weaker}
 use Rattle.hol_term.specs.Substitutions.{term_pairs_at, ArePairsFitting, image_of}
 use Rattle.hol_term.specs.Tables.{term_at}
-use Rattle.hol_term.specs.TableLaws.{Keeps-refl}
 use Rattle.hol_term.proofs.Settled.{IfErr-map, OnOk-always, known_term}
 use Rattle.hol_term.proofs.ImageLaws.{AreTermPairs-known, ArePairsFitting-at, sub_term, subst_refusal}
 use Rattle.hol_type.specs.Tables as type
