@@ -1,5 +1,5 @@
 -- The tokens that a byte ends, one after the other.
-use Rattle.std.proofs.Common.{◌≡◌, ℕ, sym, ap, subst, ◌∙◌, List, Option, None, Some, Result, Ok, Err, OnOk}
+use Rattle.std.proofs.Common.{◌≡◌, ℕ, refl, sym, ap, subst, ◌∙◌, List, Option, None, Some, Result, Ok, Err, OnOk}
 use Rattle.lp_spec.specs.Modules.{Declaration}
 use Rattle.lp_spec.specs.Tokens as tokens
 use Rattle.lp_spec.specs.ReadingFaults as reading
@@ -8,9 +8,11 @@ use Rattle.dk_read.specs.declared.faults.Stop.{Stop}
 use Rattle.dk_read.specs.declared.parser.Parser.{Parser}
 use Rattle.dk_read.specs.declared.text.Text.{Text}
 use Rattle.dk_read.specs.Names.{Named}
-use Rattle.dk_read.specs.States.{before, state_of, refused_by, OnRefusal, Becomes, IsReady, IsReading, Grows}
+use Rattle.dk_read.specs.declared.terms.State.{State}
+use Rattle.dk_read.specs.declared.terms.State.TheVariants as state
+use Rattle.dk_read.specs.States.{before, state_in, state_of, refused_by, OnRefusal, Becomes, Breaks, IsReady, IsReading, Grows}
 use Rattle.dk_read.proofs.Grown.{known-Grows, state-Grows}
-use Rattle.dk_read.specs.Texts.{Takes}
+use Rattle.dk_read.specs.Texts.{Takes, Closes}
 
 -- a token leaves the reading in order
 pub next_ordered : (old new : Parser) (p : ℕ) (token : tokens.Token) → IsState (before old) (state_of old) → reading.advance (before old) (state_of old) p token ≡ reading.Goes (before new) (state_of new) → IsState (before new) (state_of new)
@@ -55,3 +57,23 @@ token_stops p q m s token taken parser t e same h =
 -- what is taken under another name
 pub takes_as : (o n : reading.Progress) (t : Text) (r : Result (Unit {0}) Stop) → o ≡ n → Takes n t r → Takes o t r
 takes_as o n t r e h = subst (λ w. Takes w t r) (sym e) h
+
+-- a byte behind a token that goes on
+pub token_goes : (p q : ℕ) (old new : Parser) (token : tokens.Token) (taken : tokens.Taken) (t : Text) (r : Result (Unit {0}) Stop) → reading.advance (before old) (state_of old) q token ≡ reading.Goes (before new) (state_of new) → Takes (reading.after_byte p (before new) (state_of new) taken) t r → Takes (reading.after_byte p (before old) (state_of old) (tokens.after (tokens.at q token) taken)) t r
+token_goes p q old new token taken t r e h = takes_as _ _ t r (after_then p q (before old) (before new) (state_of old) (state_of new) token taken e) h
+
+-- what ends under another name
+pub closes_as : (a b : reading.Answer) (t : Text) (r : Result (Unit {0}) Stop) → a ≡ b → Closes b t r → Closes a t r
+closes_as a b t r e h = subst (λ w. Closes w t r) (sym e) h
+
+-- a text that ends anywhere but between two declarations is broken there
+broken_there : (p : Parser) (s : State) (place : ℕ) → (s ≡ state.Between → ⊥) → reading.answers (reading.Goes (before p) (state_in p s)) (tokens.ended place) ≡ reading.refused (reading.broken (reading.Goes (before p) (state_in p s)) place)
+broken_there p state.Between place h = absurd (h refl)
+broken_there p (state.AfterKeyword form) place h = refl
+broken_there p (state.AfterName form n) place h = refl
+broken_there p state.AtTerm place h = refl
+broken_there p (state.AfterFirst q n) place h = refl
+broken_there p (state.InApplication f) place h = refl
+
+pub ends_broken : (p : Parser) (t : Text) (place : ℕ) (f : Stop) → (p.state ≡ state.Between → ⊥) → Breaks (reading.broken (reading.Goes (before p) (state_of p)) place) t.parser.names f → Closes (reading.answers (reading.Goes (before p) (state_of p)) (tokens.ended place)) t (Err f)
+ends_broken p t place f h k = OnRefusal-map (refused_by t.parser.names f) (λ r e. broken_there p p.state place h ∙ ap reading.refused e) k

@@ -1,5 +1,5 @@
 -- Declarations that end, and parentheses that close.
-use Rattle.std.proofs.Common.{◌≡◌, ℕ, ◌<◌, refl, sym, ap, subst, ◌∙◌, List, [], ◌∷◌, ◌++◌, length, Option, None, Some, Result}
+use Rattle.std.proofs.Common.{◌≡◌, ℕ, ◌<◌, ◌≤◌, refl, sym, ap, subst, ◌∙◌, List, [], ◌∷◌, ◌++◌, length, Option, None, Some, Result, arith}
 use Rattle.lp_spec.specs.declared.form.Form.{Form}
 use Rattle.lp_spec.specs.declared.form.Form.TheVariants.{Symbol}
 use Rattle.std.specs.Prelude.{unwrap_or}
@@ -126,6 +126,10 @@ first_applies old one name x q p t u g e same =
 pub token-Grows : (ns ms : List Named) (t : Token) → ((n : ℕ) → n < length ns → name_at ms n ≡ name_at ns n) → IsTokenKnown ns t → token_in ns t ≡ token_in ms t
 token-Grows ns ms (token.Name n) s h = ap tokens.Name (sym (s n h))
 token-Grows ns ms _ s h = refl
+
+pub IsTokenKnown-longer : (ns ms : List Named) (t : Token) → length ns ≤ length ms → IsTokenKnown ns t → IsTokenKnown ms t
+IsTokenKnown-longer ns ms (token.Name n) k h = omega (arith, k, h)
+IsTokenKnown-longer ns ms _ k h = tt
 
 pub no_colon : (t : Token) → (t ≡ token.Colon → ⊥) → NoColon t
 no_colon token.Colon h = absurd (h refl)

@@ -16,7 +16,7 @@ use Rattle.dk_read.specs.declared.stage.Stage.TheVariants as stage
 use Rattle.dk_read.specs.States.{fault_of}
 use Rattle.dk_read.specs.Texts.{Ends, Refuses}
 use Rattle.dk_read.proofs.Answered.{within_answer}
-use Rattle.dk_read.specs.Readers.{Reading, IsFed, IsWithin, HasRoom, IsStage, Comes, progress_of, place_of, fault_in, fed_with, IsCut}
+use Rattle.dk_read.specs.Readers.{Reading, IsFed, IsWithin, HasRoom, IsStage, Comes, IsGoing, progress_of, place_of, fault_in, fed_with, IsCut, StaysStopped}
 
 -- a reader that has stopped
 stopped_by : (r : Reading) (o : Option DkFault) (f : DkFault) (text : List ℕ) → o ≡ Some f → r.fault ≡ o → IsFed r text → Ends (reading.answer_within r.limit text) (Err f)
@@ -45,7 +45,7 @@ cut_answer n text front back more e h =
     ap (λ b. if b then reading.answer whole else reading.cut_at n (reading.read_bytes reading.unread (take n whole))) long
     ∙ ap (λ w. reading.cut_at n (reading.read_bytes reading.unread w)) cut
 
-pub cut_feeds : (r : Reading) (f : DkFault) (n : ℕ) (text front back : List ℕ) → r.limit ≡ Some n → length (text ++ front) ≡ n → 1 ≤ length back → IsCut (reading.cut_at n (reading.read_bytes reading.unread (text ++ front))) f → fed_with (Some f) r (text ++ (front ++ back))
+cut_feeds : (r : Reading) (f : DkFault) (n : ℕ) (text front back : List ℕ) → r.limit ≡ Some n → length (text ++ front) ≡ n → 1 ≤ length back → IsCut (reading.cut_at n (reading.read_bytes reading.unread (text ++ front))) f → fed_with (Some f) r (text ++ (front ++ back))
 cut_feeds r fault.Memory n text front back l e h k = tt
 cut_feeds r (fault.Refused p k0) n text front back l e h k = λ more. subst (λ a. Refuses a p k0) (sym (ap (λ w. reading.answer_within w (text ++ (front ++ back) ++ more)) l ∙ cut_answer n text front back more e h)) k
 
@@ -53,16 +53,12 @@ cut_feeds r (fault.Refused p k0) n text front back l e h k = λ more. subst (λ 
 too_long : (a : reading.Answer) (m : ℕ) → a ≡ reading.refused (reading.refusal m reading.DkTooLong) → m < 18446744073709551616 → Refuses a m kind.DkTooLong
 too_long a m e h = record { r = reading.refusal m reading.DkTooLong; is = e; place = omega (arith, h); fault = refl }
 
-pub goes_past : (progress : reading.Progress) (n : ℕ) (s : Stage) → fault_in s ≡ None → Comes progress s → n < 18446744073709551616 → Refuses (reading.cut_at n progress) n kind.DkTooLong
-goes_past progress n (stage.Opening k) g h w = too_long _ n (ap (reading.cut_at n) h) w
-goes_past progress n (stage.Inside t) g h w = too_long _ n (ap (reading.cut_at n) h) w
-goes_past progress n (stage.Stopped f) g h w = absurd (cc)
+goes_past : (n : ℕ) (progress : reading.Progress) → IsGoing progress → n < 18446744073709551616 → Refuses (reading.cut_at n progress) n kind.DkTooLong
+goes_past n (reading.Opening p wanted) g w = too_long _ n refl w
+goes_past n (reading.Inside p pending m s) g w = too_long _ n refl w
+goes_past n (reading.Refused r) g w = absurd g
 
 -- what a reading that goes on has read
-abbrev IsGoing : reading.Progress → Type 0
-IsGoing (reading.Refused r) = ⊥
-IsGoing _ = Unit {0}
-
 byte_place : (p : ℕ) (pending : Pending) (o : reading.Outcome) → IsGoing (reading.progress p pending o) → place_of (reading.progress p pending o) ≡ p
 byte_place p pending (reading.Goes m s) g = refl
 byte_place p pending (reading.Stops r) g = absurd g
@@ -101,7 +97,7 @@ bytes_place done (b ∷ bytes) g =
     let more = bytes_place (reading.read_byte done b) bytes g in
     omega (arith, one, more)
 
-stage_going : (s : Stage) → fault_in s ≡ None → IsGoing (progress_of s)
+pub stage_going : (s : Stage) → fault_in s ≡ None → IsGoing (progress_of s)
 stage_going (stage.Opening n) e = tt
 stage_going (stage.Inside t) e = tt
 stage_going (stage.Stopped f) e = absurd (cc)
@@ -150,7 +146,7 @@ room_within : (limit : Option ℕ) (n : ℕ) (text piece : List ℕ) → n ≡ l
 room_within None n text piece e w h = tt
 room_within (Some most) n text piece e w h = omega (arith, e, w, h, length-append text piece)
 
-pub comes_fed : (old new : Stage) (text piece : List ℕ) → progress_of old ≡ reading.read_bytes reading.unread text → Comes (reading.read_bytes (progress_of old) piece) new → Comes (reading.read_bytes reading.unread (text ++ piece)) new
+comes_fed : (old new : Stage) (text piece : List ℕ) → progress_of old ≡ reading.read_bytes reading.unread text → Comes (reading.read_bytes (progress_of old) piece) new → Comes (reading.read_bytes reading.unread (text ++ piece)) new
 comes_fed old new text piece e comes = subst (λ d. Comes d new) (ap (λ d. reading.read_bytes d piece) e ∙ sym (read_bytes-append reading.unread text piece)) comes
 
 pub piece_feeds : (limit : Option ℕ) (old new : Stage) (text piece : List ℕ) → fault_in old ≡ None → IsStage new → progress_of old ≡ reading.read_bytes reading.unread text → IsWithin limit text → HasRoom limit (place_of (progress_of old)) (length piece) → Comes (reading.read_bytes (progress_of old) piece) new → fed_with (fault_in new) (record { limit = limit; progress = progress_of new; fault = fault_in new }) (text ++ piece)
@@ -158,17 +154,38 @@ piece_feeds limit old new text piece going h e within room comes =
     read_feeds limit new (text ++ piece) h (room_within limit (place_of (progress_of old)) text piece (fed_place old text going e) within room) (comes_fed old new text piece e comes)
 
 -- a stage that has stopped stays
-pub stays_stopped : (s : Stage) (f : DkFault) (piece : List ℕ) → s ≡ stage.Stopped f → Comes (reading.read_bytes (progress_of s) piece) (stage.Stopped f)
+stays_stopped : (s : Stage) (f : DkFault) (piece : List ℕ) → s ≡ stage.Stopped f → Comes (reading.read_bytes (progress_of s) piece) (stage.Stopped f)
 stays_stopped s (fault.Refused p k) piece e = ap (λ (x : Stage). reading.read_bytes (progress_of x) piece) e ∙ read_bytes-Refused (reading.refusal p (fault_of k)) piece
 stays_stopped s fault.Memory piece e = tt
 
--- what is cut at its limit
-pub last_cut : (s : Stage) (n : ℕ) (progress : reading.Progress) → fault_in s ≡ None → n < 18446744073709551616 → Comes progress s → IsCut (reading.cut_at n progress) (fault.Refused n kind.DkTooLong)
-last_cut s n progress g w h = goes_past progress n s g h w
+pub stays_so : (s : Stage) (f : DkFault) (piece : List ℕ) → s ≡ stage.Stopped f → Comes (reading.read_bytes (progress_of s) piece) s
+stays_so s f piece e = subst (Comes (reading.read_bytes (progress_of s) piece)) (sym e) (stays_stopped s f piece e)
 
-pub fault_cut : (f : DkFault) (n : ℕ) (progress : reading.Progress) → IsStage (stage.Stopped f) → Comes progress (stage.Stopped f) → IsCut (reading.cut_at n progress) f
-fault_cut (fault.Refused p k) n progress w h = placed _ p k (ap (reading.cut_at n) h) w
-fault_cut fault.Memory n progress w h = tt
+-- a reader that has stopped within the front of a text is one that was fed the whole
+fed_more : (r : Reading) (f : DkFault) (text front back : List ℕ) → r.fault ≡ Some f → IsFed r (text ++ front) → IsFed r (text ++ (front ++ back))
+fed_more r (fault.Refused p k) text front back e fed =
+    let refuses = subst (λ o. fed_with o r (text ++ front)) e fed in
+    subst (λ o. fed_with o r (text ++ (front ++ back))) (sym e) (λ more. subst (λ w. Refuses (reading.answer_within r.limit w) p k) (sym (regrouped text front back more)) (refuses (back ++ more)))
+fed_more r fault.Memory text front back e fed = subst (λ o. fed_with o r (text ++ (front ++ back))) (sym e) tt
+
+-- a reader that stops at its limit, unless a fault before it has stopped it
+module _ (mid new : Reading) (n : ℕ) (stops : mid.fault ≡ None → new.fault ≡ Some (fault.Refused n kind.DkTooLong)) (stays : StaysStopped mid new) where
+  stops_by : (o : Option DkFault) → mid.fault ≡ o → new.fault ≡ None → ⊥
+  stops_by None e h = absurd (cc (stops e, h))
+  stops_by (Some f) e h = absurd (cc (stays f e, e, h))
+
+  pub stops_there : new.fault ≡ None → ⊥
+  stops_there h = stops_by mid.fault refl h
+
+  fed_by : (o : Option DkFault) (text front back : List ℕ) → mid.fault ≡ o → new.limit ≡ Some n → n < 18446744073709551616 → length (text ++ front) ≡ n → 1 ≤ length back → (mid.fault ≡ None → IsGoing mid.progress) → IsFed mid (text ++ front) → IsFed new (text ++ (front ++ back))
+  fed_by None text front back e limit few whole some going fed =
+      let read = subst (λ o. fed_with o mid (text ++ front)) e fed in
+      subst (λ o. fed_with o new (text ++ (front ++ back))) (sym (stops e))
+      (cut_feeds new (fault.Refused n kind.DkTooLong) n text front back limit whole some (subst (λ d. Refuses (reading.cut_at n d) n kind.DkTooLong) read.0 (goes_past n mid.progress (going e) few)))
+  fed_by (Some f) text front back e limit few whole some going fed = subst (λ r. IsFed r (text ++ (front ++ back))) (sym (stays f e)) (fed_more mid f text front back e fed)
+
+  pub fed_there : (text front back : List ℕ) → new.limit ≡ Some n → n < 18446744073709551616 → length (text ++ front) ≡ n → 1 ≤ length back → (mid.fault ≡ None → IsGoing mid.progress) → IsFed mid (text ++ front) → IsFed new (text ++ (front ++ back))
+  fed_there text front back limit few whole some going fed = fed_by mid.fault text front back refl limit few whole some going fed
 
 -- the end of a text that ended within the signature's
 pub ends_early : (n : ℕ) (wanted : List ℕ) → 0 < length wanted → n < 18446744073709551616 → Refuses (reading.read_end (reading.Opening n wanted)) n kind.NoPrelude

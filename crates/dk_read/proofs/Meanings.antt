@@ -7,6 +7,7 @@ use Rattle.lp_spec.specs.declared.form.Form.{Form}
 use Rattle.lp_spec.specs.Trees.{Tree, SortType, Var}
 use Rattle.lp_spec.specs.Modules.{Declaration, signature}
 use Rattle.lp_spec.specs.Reading.{Scope, variable_of, symbol_of}
+use Rattle.lp_spec.specs.Tokens as tokens
 use Rattle.lp_spec.specs.ReadingFaults as reading
 use Rattle.lp_term.specs.declared.LpId.{LpId}
 use Rattle.lp_term.specs.Tables.{Holds}
@@ -123,3 +124,8 @@ pub stuck_after : (p q : Parser) (first place n : ℕ) (f : Stop) → p.state �
 stuck_after p q first place n f e means =
     subst (λ s. Breaks (reading.broken (reading.Goes (before p) (state_in p s)) place) q.names f) (sym e)
     (OnRefusal-map (refused_by q.names f) (λ r h. stuck_by (before p) (head_of p) (frames_of p) first place (name_at p.names n) r h) means)
+
+-- no token comes after one that means nothing, whichever it is
+pub after_unknown : (m : List Declaration) (h : reading.Head) (frames : List reading.Frame) (first place : ℕ) (name : List ℕ) (token : tokens.Token) (q : Parser) (f : Stop) → Means (reading.meaning m frames name) first name q (Err f) → Becomes (reading.goes_on m h frames first name (reading.meaning m frames name) place token) q (Err f)
+after_unknown m h frames first place name token q f means =
+    OnRefusal-map (refused_by q.names f) (λ r k. ap (λ o. reading.goes_on m h frames first name o place token) k.0 ∙ ap reading.Stops (sym k.1)) means

@@ -89,6 +89,11 @@ place_of (reading.Opening p wanted) = p
 place_of (reading.Inside p pending m s) = p
 place_of (reading.Refused r) = 0
 
+-- a reading that has come to no fault
+abbrev pub IsGoing : reading.Progress → Type 0
+IsGoing (reading.Refused r) = ⊥
+IsGoing _ = Unit {0}
+
 abbrev pub limit_of : Limit → Option ℕ
 limit_of (limit.Bytes n) = Some n
 limit_of limit.Free = None

@@ -95,3 +95,8 @@ common _ _ = 0
 abbrev pub EndsTokens : reading.Answer → Text → Result (Unit {0}) Stop → Type 0
 EndsTokens a t (Ok _) = a ≡ reading.answers (reading.Goes (before t.parser) (state_of t.parser)) (tokens.ended t.place)
 EndsTokens a t (Err s) = OnRefusal (refused_by t.parser.names s) (λ r. a ≡ reading.refused r)
+
+-- the text has ended and reads as the declarations so far, or the answer is this refusal
+abbrev pub Closes : reading.Answer → Text → Result (Unit {0}) Stop → Type 0
+Closes a t (Ok _) = a ≡ reading.reads (before t.parser)
+Closes a t (Err s) = OnRefusal (refused_by t.parser.names s) (λ r. a ≡ reading.refused r)

@@ -604,8 +604,10 @@ impl Parser {
         ensures becomes { Becomes (reading.goes_on (before self.old) (head_of self.old) (frames_of self.old) first (name_at self.old.names name) (reading.meaning (before self.old) (frames_of self.old) (name_at self.old.names name)) place (token_in self.old.names token)) self.new result }
         ensures ready { OnOk result (IsReady self.new) }
     {
-        let atom = self.meaning(first, name)?;
-        self.apply(Some(atom), place, token)
+        match self.meaning(first, name) {
+            Ok(atom) => self.apply(Some(atom), place, token),
+            Err(stop) => Err(stop),
+        }
     }
 
     // The token between two declarations.

@@ -1,10 +1,11 @@
 //! The reader of modules.
-ghost use Rattle.std.specs.Prelude.{◌≡◌, ◌<◌, ◌≤◌, ◌+◌, ◌-◌, ◌^◌, ◌++◌, [], ◌∷◌, None, Some, length, is_some, IfOk, OnOk, OnErr, IfErr};
+ghost use Rattle.std.specs.Prelude.{ℕ, ◌≡◌, ◌<◌, ◌≤◌, ◌+◌, ◌-◌, ◌^◌, ◌++◌, List, [], ◌∷◌, None, Some, length, is_some, IfOk, OnOk, OnErr, IfErr};
 ghost use Rattle.dk_read.specs.declared.faults.DkFault.TheVariants as fault;
+ghost use Rattle.dk_read.specs.declared.faults.DkKind.TheVariants as kind;
 ghost use Rattle.lp_spec.specs.ReadingFaults as reading;
 ghost use Rattle.holide_sig.specs.Modules.{declarations_of};
 ghost use Rattle.dk_read.specs.Texts.{Ends};
-ghost use Rattle.dk_read.specs.Readers.{Reading, IsStage, Comes, progress_of, place_of, held_of, HasRoom, IsFed, limit_of, EndsWith, ReadsAs, Accepts, NeverTooLong, EndsStopped, Feeds, GoesOn, Answers, StaysStopped, Judges, HasName, IsCut};
+ghost use Rattle.dk_read.specs.Readers.{Reading, place_of, held_of, HasRoom, IsFed, IsGoing, limit_of, EndsWith, ReadsAs, Accepts, NeverTooLong, EndsStopped, Feeds, GoesOn, Answers, StaysStopped, Judges, HasName};
 
 use crate::faults::{DkFault, DkKind};
 use crate::stage::Stage;
@@ -87,7 +88,8 @@ impl Reader {
 
     // Whether a fault has stopped the reader.
     fn is_stopped(&self) -> bool
-        ensures { result ≡ is_some self.now.fault }
+        ensures stopped { result ≡ is_some self.now.fault }
+        ensures going { self.now.fault ≡ None → IsGoing self.now.progress }
     {
         match &self.stage {
             Stage::Stopped(_) => true,
@@ -142,7 +144,8 @@ impl Reader {
 
     // How many bytes have been read, unless a fault has come.
     fn place(&self) -> u64
-        ensures { result ≡ place_of self.now.progress }
+        ensures place { result ≡ place_of self.now.progress }
+        ensures read { self.now.fault ≡ None → (text : List ℕ) → IsFed self.now text → result ≡ length text }
     {
         self.stage.place()
     }
@@ -152,7 +155,15 @@ impl Reader {
         ensures limit { self.new.limit ≡ self.old.limit }
         ensures fault { self.new.fault ≡ Some fault.Memory }
     {
-        self.stage = Stage::Stopped(DkFault::Memory);
+        self.stop(DkFault::Memory);
+    }
+
+    // Stops by this fault.
+    fn stop(&mut self, fault: DkFault)
+        ensures limit { self.new.limit ≡ self.old.limit }
+        ensures fault { self.new.fault ≡ Some fault }
+    {
+        self.stage.put(Stage::Stopped(fault));
     }
 
     // Takes a piece that there is room for.
@@ -164,8 +175,7 @@ impl Reader {
         ensures feeds { Feeds self.old piece.now self.new }
         ensures goes { GoesOn self.old piece.now self.new }
     {
-        let stage = std::mem::replace(&mut self.stage, Stage::Stopped(DkFault::Memory));
-        self.stage = stage.read(self.alloc, piece);
+        self.stage.read(self.alloc, piece);
     }
 
     // Takes the front of a piece that goes past the limit.
@@ -181,8 +191,24 @@ impl Reader {
         // A place is a number of 64 bits, so the front ends at one.
         let _place = self.place();
         let (front, _back) = piece.split_at(room as usize);
-        let stage = std::mem::replace(&mut self.stage, Stage::Stopped(DkFault::Memory));
-        self.stage = Stage::Stopped(last(stage.read(self.alloc, front), most));
+        self.read(front);
+        self.stop_at(most);
+    }
+
+    // Stops at the limit, unless a fault before it has stopped the reader.
+    fn stop_at(&mut self, most: u64)
+        ensures limit { self.new.limit ≡ self.old.limit }
+        ensures stops { self.old.fault ≡ None → self.new.fault ≡ Some (fault.Refused most kind.DkTooLong) }
+        ensures stays { StaysStopped self.old self.new }
+        ensures going { self.old.fault ≡ None → IsGoing self.old.progress }
+    {
+        let going = !self.is_stopped();
+        if going {
+            self.stop(DkFault::Refused {
+                place: most,
+                kind: DkKind::DkTooLong,
+            });
+        }
     }
 
     /// The fault that has stopped the reader, copied.
@@ -264,19 +290,5 @@ fn copy(alloc: Global, kind: &DkKind) -> Result<DkKind, Memory>
             let bytes = Vec::from_slice(alloc, name.as_bytes())?;
             Ok(DkKind::NameTwice(Ident::new(bytes)))
         }
-    }
-}
-
-// Why a text is refused that goes on where this stage has come to its limit.
-fn last(stage: Stage, most: u64) -> DkFault
-    requires { most < 2 ^ 64 }
-    ensures { (progress : reading.Progress) → Comes progress stage → IsCut (reading.cut_at most progress) result }
-{
-    match stage {
-        Stage::Stopped(fault) => fault,
-        _ => DkFault::Refused {
-            place: most,
-            kind: DkKind::DkTooLong,
-        },
     }
 }

@@ -1,8 +1,9 @@
 //! How far the reading of a text is.
-ghost use Rattle.std.specs.Prelude.{◌≡◌, ◌<◌, ◌≤◌, ◌+◌, ◌^◌, [], length, drop};
+ghost use Rattle.std.specs.Prelude.{◌≡◌, ◌<◌, ◌≤◌, ◌+◌, ◌^◌, [], length, drop, OnOk, IfErr};
 ghost use Rattle.lp_spec.specs.Text.{prelude};
 ghost use Rattle.lp_spec.specs.Tokens as tokens;
 ghost use Rattle.lp_spec.specs.ReadingFaults as reading;
+ghost use Rattle.dk_read.specs.declared.stage.Stage.TheVariants as stage;
 ghost use Rattle.dk_read.specs.States.{IsReading};
 ghost use Rattle.dk_read.specs.Texts.{common, inside};
 ghost use Rattle.dk_read.specs.Readers.{progress_of, place_of, IsStage, Comes};
@@ -32,20 +33,37 @@ impl Stage {
         }
     }
 
-    /// The stage after the next piece.
-    pub(crate) fn read(self, alloc: Global, piece: &[u8]) -> Stage
-        requires stage { IsStage self }
-        requires few { place_of (progress_of self) + length piece.now < 2 ^ 64 }
-        ensures comes { Comes (reading.read_bytes (progress_of self) piece.now) result }
-        ensures stage { IsStage result }
+    /// Takes the next piece.
+    pub(crate) fn read(&mut self, alloc: Global, piece: &[u8])
+        requires stage { IsStage self.old }
+        requires few { place_of (progress_of self.old) + length piece.now < 2 ^ 64 }
+        ensures comes { Comes (reading.read_bytes (progress_of self.old) piece.now) self.new }
+        ensures stage { IsStage self.new }
     {
         match self {
-            Stage::Opening(count) => open(alloc, count, piece),
-            Stage::Inside(text) => read_inside(text, piece),
-            Stage::Stopped(fault) => Stage::Stopped(fault),
+            Stage::Opening(count) => {
+                let next = open(alloc, *count, piece);
+                self.put(next);
+            }
+            Stage::Inside(text) => {
+                if let Err(fault) = go_on(text, piece) {
+                    self.put(Stage::Stopped(fault));
+                }
+            }
+            Stage::Stopped(_) => {}
         }
     }
+
+    /// Puts another stage in the place of this one, which is let go.
+    pub(crate) fn put(&mut self, next: Stage)
+        ensures { self.new ≡ next }
+    {
+        let_go(std::mem::replace(self, next));
+    }
 }
+
+// Lets a stage go.
+fn let_go(_stage: Stage) {}
 
 // The next piece of the signature's text, and what comes after it.
 fn open(alloc: Global, count: usize, piece: &[u8]) -> Stage
@@ -89,9 +107,24 @@ fn read_inside(text: Text, piece: &[u8]) -> Stage
     ensures stage { IsStage result }
 {
     let mut inner = text;
-    match inner.take_all(piece) {
+    match go_on(&mut inner, piece) {
         Ok(()) => Stage::Inside(inner),
-        Err(stop) => Stage::Stopped(inner.parser.fault(stop)),
+        Err(fault) => Stage::Stopped(fault),
+    }
+}
+
+// Takes the next piece of the text after the signature's, or tells the fault that it shows.
+fn go_on(text: &mut Text, piece: &[u8]) -> Result<(), DkFault>
+    requires reading { IsReading text.old.parser }
+    requires few { text.old.place + length piece.now < 2 ^ 64 }
+    ensures goes { OnOk result (reading.read_bytes (inside text.old) piece.now ≡ inside text.new) }
+    ensures reading { OnOk result (IsReading text.new.parser) }
+    ensures stops { IfErr result (λ f. Comes (reading.read_bytes (inside text.old) piece.now) (stage.Stopped f)) }
+    ensures place { IfErr result (λ f. IsStage (stage.Stopped f)) }
+{
+    match text.take_all(piece) {
+        Ok(()) => Ok(()),
+        Err(stop) => Err(text.parser.fault(stop)),
     }
 }
 

@@ -1,12 +1,12 @@
 //! The reading of bytes. A word or a comment is taken whole, as far as the piece goes; each other byte ends at most two
 //! tokens.
-ghost use Rattle.std.specs.Prelude.{◌≡◌, ℕ, List, ◌<◌, ◌≤◌, ◌+◌, ◌^◌, ◌++◌, [], ◌∷◌, not, ◌==◌, length, get_or, true, IfOk, OnOk, IfSome};
+ghost use Rattle.std.specs.Prelude.{◌≡◌, ℕ, List, ◌<◌, ◌≤◌, ◌+◌, ◌^◌, ◌++◌, [], ◌∷◌, not, ◌==◌, length, get_or, true, Err, IfOk, OnOk, IfErr, IfSome};
 ghost use Rattle.lp_spec.specs.Text.{prelude};
 ghost use Rattle.lp_spec.specs.Tokens as tokens;
 ghost use Rattle.dk_read.specs.declared.text.Pending.TheVariants as pending;
 ghost use Rattle.lp_spec.specs.ReadingFaults as reading;
 ghost use Rattle.dk_read.specs.States.{before, state_of, token_in, IsReading, IsTokenKnown};
-ghost use Rattle.dk_read.specs.Texts.{run, Takes, TakesSome, Passed, inside, pending_in, Signs, EndsTokens, Ends, held_of};
+ghost use Rattle.dk_read.specs.Texts.{run, Takes, TakesSome, Passed, inside, pending_in, Signs, EndsTokens, Closes, Ends, held_of};
 
 use crate::faults::{DkFault, Stop};
 use crate::parser::Parser;
@@ -111,8 +111,10 @@ impl Text {
         ensures reading { OnOk result (IsReading self.new.parser) }
         ensures place { OnOk result (self.new.place ≡ self.old.place + 1) }
     {
-        self.parser.advance(first, token)?;
-        self.begin(byte)
+        match self.parser.advance(first, token) {
+            Ok(()) => self.begin(byte),
+            Err(stop) => Err(stop),
+        }
     }
 
     // The word that the byte ends, and the byte behind it.
@@ -123,8 +125,10 @@ impl Text {
         ensures reading { OnOk result (IsReading self.new.parser) }
         ensures place { OnOk result (self.new.place ≡ self.old.place + 1) }
     {
-        self.parser.word(first, &self.word)?;
-        self.begin(byte)
+        match self.parser.word(first, &self.word) {
+            Ok(()) => self.begin(byte),
+            Err(stop) => Err(stop),
+        }
     }
 
     // The next byte.
@@ -474,16 +478,55 @@ impl Text {
         ensures ends { Ends (reading.read_end (inside self)) result }
     {
         let mut text = self;
-        if let Err(stop) = text.end_tokens() {
-            return Err(text.parser.fault(stop));
+        match text.close() {
+            Ok(()) => Ok(text.into_module()),
+            Err(fault) => Err(fault),
         }
-        match text.parser.state {
-            State::Between => Ok(text.parser.module),
-            _ => {
-                let stop = text.parser.stuck(text.place);
-                Err(text.parser.fault(stop))
-            }
+    }
+
+    // Ends the text, or tells why it can't end here.
+    fn close(&mut self) -> Result<(), DkFault>
+        requires reading { IsReading self.old.parser }
+        requires few { self.old.place < 2 ^ 64 }
+        ensures reads { OnOk result (reading.read_end (inside self.old) ≡ reading.reads (before self.new.parser)) }
+        ensures reading { OnOk result (IsReading self.new.parser) }
+        ensures refuses { IfErr result (λ f. Ends (reading.read_end (inside self.old)) (Err f)) }
+    {
+        match self.close_between() {
+            Ok(()) => Ok(()),
+            Err(stop) => Err(self.parser.fault(stop)),
         }
+    }
+
+    // Ends the text between two declarations.
+    fn close_between(&mut self) -> Result<(), Stop>
+        requires reading { IsReading self.old.parser }
+        ensures closes { Closes (reading.read_end (inside self.old)) self.new result }
+        ensures reading { OnOk result (IsReading self.new.parser) }
+    {
+        match self.end_tokens() {
+            Ok(()) => self.rest_between(),
+            Err(stop) => Err(stop),
+        }
+    }
+
+    // After the last token a reading is between two declarations.
+    fn rest_between(&mut self) -> Result<(), Stop>
+        requires reading { IsReading self.old.parser }
+        ensures closes { Closes (reading.answers (reading.Goes (before self.old.parser) (state_of self.old.parser)) (tokens.ended self.old.place)) self.new result }
+        ensures reading { OnOk result (IsReading self.new.parser) }
+    {
+        match self.parser.state {
+            State::Between => Ok(()),
+            _ => Err(self.parser.stuck(self.place)),
+        }
+    }
+
+    // The module that has been read.
+    fn into_module(self) -> Module
+        ensures { result ≡ self.parser.module }
+    {
+        self.parser.module
     }
 
     /// A reading of the text after the signature's own.
