@@ -58,12 +58,9 @@ impl Stage {
     pub(crate) fn put(&mut self, next: Stage)
         ensures { self.new ≡ next }
     {
-        let_go(std::mem::replace(self, next));
+        drop(std::mem::replace(self, next));
     }
 }
-
-// Lets a stage go.
-fn let_go(_stage: Stage) {}
 
 // The next piece of the signature's text, and what comes after it.
 fn open(alloc: Global, count: usize, piece: &[u8]) -> Stage
@@ -109,7 +106,10 @@ fn read_inside(text: Text, piece: &[u8]) -> Stage
     let mut inner = text;
     match go_on(&mut inner, piece) {
         Ok(()) => Stage::Inside(inner),
-        Err(fault) => Stage::Stopped(fault),
+        Err(fault) => {
+            drop(inner);
+            Stage::Stopped(fault)
+        }
     }
 }
 

@@ -480,7 +480,10 @@ impl Text {
         let mut text = self;
         match text.close() {
             Ok(()) => Ok(text.into_module()),
-            Err(fault) => Err(fault),
+            Err(fault) => {
+                drop(text);
+                Err(fault)
+            }
         }
     }
 
