@@ -48,8 +48,15 @@ impl Parser {
         ensures state { IfOk result (λ p. state_of p ≡ reading.Between) }
     {
         let module = Module::new(alloc)?;
-        let (names, nameless) = first_names(alloc, &module)?;
-        let atoms = Atoms::new(alloc)?;
+        let Ok((names, nameless)) = first_names(alloc, &module) else {
+            drop(module);
+            return Err(Memory);
+        };
+        let Ok(atoms) = Atoms::new(alloc) else {
+            drop(names);
+            drop(module);
+            return Err(Memory);
+        };
         Ok(Parser {
             alloc,
             module,
@@ -730,11 +737,27 @@ fn first_names(alloc: Global, empty: &Module) -> Result<(Names, usize), Memory>
     ensures symbols { IfOk result (λ r. HasSymbols r.0 13) }
 {
     let mut names = Names::new(alloc);
+    match add_first(&mut names, empty) {
+        Ok(nameless) => Ok((names, nameless)),
+        Err(Memory) => {
+            drop(names);
+            Err(Memory)
+        }
+    }
+}
+
+// The empty name, of which the number is answered, and the names of the signature's symbols.
+fn add_first(names: &mut Names, empty: &Module) -> Result<usize, Memory>
+    requires fresh { names.old ≡ [] }
+    requires none { declarations_of empty.now ≡ [] }
+    ensures nameless { IfOk result (IsNameless names.new) }
+    ensures symbols { OnOk result (HasSymbols names.new 13) }
+{
     let nameless = names.number(b"")?;
     for symbol in 0..SIGNATURE {
-        add_symbol(&mut names, empty.symbol_name(symbol), symbol)?;
+        add_symbol(names, empty.symbol_name(symbol), symbol)?;
     }
-    Ok((names, nameless))
+    Ok(nameless)
 }
 
 // One more symbol of the signature.
