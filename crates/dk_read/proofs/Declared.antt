@@ -22,7 +22,7 @@ use Rattle.dk_read.specs.declared.terms.Token.{Token}
 use Rattle.dk_read.specs.declared.terms.Token.TheVariants as token
 use Rattle.dk_read.specs.declared.parser.Parser.{Parser}
 use Rattle.dk_read.specs.Names.{Named, name_at}
-use Rattle.dk_read.specs.States.{before, frames_of, head_in, head_of, state_in, tree_in, IsIdKnown, token_in, Becomes, Unwinds, Grows, NoColon, IsTokenKnown}
+use Rattle.dk_read.specs.States.{before, frames_of, head_in, head_of, state_in, state_of, tree_in, IsIdKnown, token_in, Becomes, Unwinds, Grows, NoColon, IsTokenKnown}
 use Rattle.dk_read.proofs.Grown.{tree_in-Keeps}
 
 -- an outcome under another name
@@ -138,3 +138,24 @@ no_colon _ h = tt
 -- the token after an identifier that begins a term
 pub first_becomes : (p : Parser) (s : State) (first place n : ℕ) (t : Token) → s ≡ state.AfterFirst first n → NoColon t → reading.advance (before p) (state_in p s) place (token_in p.names t) ≡ reading.goes_on (before p) (head_of p) (frames_of p) first (name_at p.names n) (reading.meaning (before p) (frames_of p) (name_at p.names n)) place (token_in p.names t)
 first_becomes p s first place n t e h = ap (λ (x : State). reading.advance (before p) (state_in p x) place (token_in p.names t)) e ∙ first_goes (before p) (head_of p) (frames_of p) first (name_at p.names n) place p.names t h
+
+-- a token where the reading is in this state
+pub at_state : (p : Parser) (s : State) (place : ℕ) (t : Token) → p.state ≡ s → reading.advance (before p) (state_of p) place (token_in p.names t) ≡ reading.advance (before p) (state_in p s) place (token_in p.names t)
+at_state p s place t e = ap (λ (x : State). reading.advance (before p) (state_in p x) place (token_in p.names t)) e
+
+-- and where it is this one
+pub at_token : (p : Parser) (s : State) (place : ℕ) (t u : Token) → p.state ≡ s → t ≡ u → reading.advance (before p) (state_of p) place (token_in p.names t) ≡ reading.advance (before p) (state_in p s) place (token_in p.names u)
+at_token p s place t u e f = at_state p s place t e ∙ ap (λ (x : Token). reading.advance (before p) (state_in p s) place (token_in p.names x)) f
+
+-- where a term begins, and where only a name or a `:` can come
+pub term_begins : (m : List Declaration) (h : reading.Head) (frames : List reading.Frame) (p : ℕ) (ns : List Named) (t : Token) → ((n : ℕ) → t ≡ token.Name n → ⊥) → reading.advance m (reading.AtTerm h frames) p (token_in ns t) ≡ reading.applies m h frames None p (token_in ns t)
+term_begins m h frames p ns (token.Name n) k = absurd (k n refl)
+term_begins m h frames p ns _ k = refl
+
+pub name_wanted : (m : List Declaration) (form : Form) (p : ℕ) (ns : List Named) (t : Token) → ((n : ℕ) → t ≡ token.Name n → ⊥) → reading.advance m (reading.AfterKeyword form) p (token_in ns t) ≡ reading.stops p reading.BadText
+name_wanted m form p ns (token.Name n) k = absurd (k n refl)
+name_wanted m form p ns _ k = refl
+
+pub colon_wanted : (m : List Declaration) (form : Form) (name : List ℕ) (p : ℕ) (ns : List Named) (t : Token) → (t ≡ token.Colon → ⊥) → reading.advance m (reading.AfterName form name) p (token_in ns t) ≡ reading.stops p reading.BadText
+colon_wanted m form name p ns token.Colon k = absurd (k refl)
+colon_wanted m form name p ns _ k = refl

@@ -6,6 +6,8 @@ use Rattle.dk_read.specs.declared.terms.Binder.TheVariants as binder
 use Rattle.dk_read.specs.declared.terms.Frame.TheVariants as frame
 use Rattle.dk_read.specs.Names.{name_at}
 use Rattle.dk_read.specs.States.{declared, IsSoundIn}
+use Rattle.lp_term.specs.TableLaws.{Keeps-refl}
+use Rattle.dk_read.proofs.Grown.{head_in-Keeps}
 use Rattle.dk_read.proofs.Bindings.{bind_out, binds_out, popped}
 use Rattle.dk_read.proofs.parser.Parser.last_binder.Goals as goal
 
@@ -54,3 +56,47 @@ returns-in-Some-Abstraction-clause-binds c =
     let f = frame.Abstraction c.in-Some-Abstraction.name c.in-Some-Abstraction.domain c.in-Some-Abstraction.hidden in
     let sound : IsSoundIn p.module p.names p.nameless p.atoms p.binders p.head (f ∷ fs) = subst (IsSoundIn p.module p.names p.nameless p.atoms p.binders p.head) (split-Abstraction c) c.requires.sound in
     binds_out p.module.table p.names c.put-in-Some-Abstraction.new.self c.put-in-Some-Abstraction.ensures.keeps (declared p) fs (reverse p.frames.items) f (binder.Abstraction c.in-Some-Abstraction.domain) (name_at p.names c.in-Some-Abstraction.name) refl sound.frames.1 (split-Abstraction c)
+
+pub put-requires : goal.put-requires
+put-requires c =
+    let p = c.args.self.now in
+    let f = frame.Product c.in-Some-Product.name c.in-Some-Product.domain c.in-Some-Product.hidden in
+    let count : vec_len p.frames ≡ length p.frames.items = grind (arith, common_steps) in
+    let split : reverse p.frames.items ≡ f ∷ reverse c.pop.new.self.items =
+    popped p.frames.items c.pop.new.self.items c.deref.result.now (vec_len p.frames) f c.deref.ensures.value count c.pop.ensures.rest (sym c.last.ensures.value ∙ ap option_copied c.in-Some-Product.is ∙ ap Some c.in-Some-Product.field-0-is) in
+    let sound : IsSoundIn p.module p.names p.nameless p.atoms p.binders p.head (f ∷ reverse c.pop.new.self.items) = subst (IsSoundIn p.module p.names p.nameless p.atoms p.binders p.head) split c.requires.sound in
+    sound.frames.0.name
+
+pub returns-in-Some-Product-clause-head : goal.returns-in-Some-Product-clause-head
+returns-in-Some-Product-clause-head c =
+    let p = c.args.self.now in
+    head_in-Keeps p.module.table p.module.table (Keeps-refl p.module.table) p.names c.put.new.self c.put.ensures.keeps p.head c.requires.sound.head
+
+pub returns-in-Some-Product-clause-known : goal.returns-in-Some-Product-clause-known
+returns-in-Some-Product-clause-known c =
+    let p = c.args.self.now in
+    let f = frame.Product c.in-Some-Product.name c.in-Some-Product.domain c.in-Some-Product.hidden in
+    let sound : IsSoundIn p.module p.names p.nameless p.atoms p.binders p.head (f ∷ reverse c.pop.new.self.items) = subst (IsSoundIn p.module p.names p.nameless p.atoms p.binders p.head) (split-Product c) c.requires.sound in
+    sound.frames.0.domain
+
+pub put-requires-in-Some-Abstraction : goal.put-requires-in-Some-Abstraction
+put-requires-in-Some-Abstraction c =
+    let p = c.args.self.now in
+    let f = frame.Abstraction c.in-Some-Abstraction.name c.in-Some-Abstraction.domain c.in-Some-Abstraction.hidden in
+    let count : vec_len p.frames ≡ length p.frames.items = grind (arith, common_steps) in
+    let split : reverse p.frames.items ≡ f ∷ reverse c.pop-in-Some-Abstraction.new.self.items =
+    popped p.frames.items c.pop-in-Some-Abstraction.new.self.items c.deref.result.now (vec_len p.frames) f c.deref.ensures.value count c.pop-in-Some-Abstraction.ensures.rest (sym c.last.ensures.value ∙ ap option_copied c.in-Some-Abstraction.is ∙ ap Some c.in-Some-Abstraction.field-0-is) in
+    let sound : IsSoundIn p.module p.names p.nameless p.atoms p.binders p.head (f ∷ reverse c.pop-in-Some-Abstraction.new.self.items) = subst (IsSoundIn p.module p.names p.nameless p.atoms p.binders p.head) split c.requires.sound in
+    sound.frames.0.name
+
+pub returns-in-Some-Abstraction-clause-head : goal.returns-in-Some-Abstraction-clause-head
+returns-in-Some-Abstraction-clause-head c =
+    let p = c.args.self.now in
+    head_in-Keeps p.module.table p.module.table (Keeps-refl p.module.table) p.names c.put-in-Some-Abstraction.new.self c.put-in-Some-Abstraction.ensures.keeps p.head c.requires.sound.head
+
+pub returns-in-Some-Abstraction-clause-known : goal.returns-in-Some-Abstraction-clause-known
+returns-in-Some-Abstraction-clause-known c =
+    let p = c.args.self.now in
+    let f = frame.Abstraction c.in-Some-Abstraction.name c.in-Some-Abstraction.domain c.in-Some-Abstraction.hidden in
+    let sound : IsSoundIn p.module p.names p.nameless p.atoms p.binders p.head (f ∷ reverse c.pop-in-Some-Abstraction.new.self.items) = subst (IsSoundIn p.module p.names p.nameless p.atoms p.binders p.head) (split-Abstraction c) c.requires.sound in
+    sound.frames.0.domain
