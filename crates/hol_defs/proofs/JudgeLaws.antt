@@ -153,23 +153,6 @@ module _ (a b c : Bool) (j k l : Kind) where
   pub none_of_three : a ≡ true → b ≡ true → c ≡ true → first_failing ((a, j) ∷ (b, k) ∷ (c, l) ∷ []) ≡ None
   none_of_three e f g = passing a j ((b, k) ∷ (c, l) ∷ []) e ∙ passing b k ((c, l) ∷ []) f ∙ passing c l [] g
 
--- the first of four conditions that fails
-module _ (a b c d : Bool) (j k l m : Kind) where
-  pub first_of_four : a ≡ false → first_failing ((a, j) ∷ (b, k) ∷ (c, l) ∷ (d, m) ∷ []) ≡ Some j
-  first_of_four e = failing a j ((b, k) ∷ (c, l) ∷ (d, m) ∷ []) e
-
-  pub second_of_four : a ≡ true → b ≡ false → first_failing ((a, j) ∷ (b, k) ∷ (c, l) ∷ (d, m) ∷ []) ≡ Some k
-  second_of_four e f = passing a j ((b, k) ∷ (c, l) ∷ (d, m) ∷ []) e ∙ failing b k ((c, l) ∷ (d, m) ∷ []) f
-
-  pub third_of_four : a ≡ true → b ≡ true → c ≡ false → first_failing ((a, j) ∷ (b, k) ∷ (c, l) ∷ (d, m) ∷ []) ≡ Some l
-  third_of_four e f g = passing a j ((b, k) ∷ (c, l) ∷ (d, m) ∷ []) e ∙ passing b k ((c, l) ∷ (d, m) ∷ []) f ∙ failing c l ((d, m) ∷ []) g
-
-  pub fourth_of_four : a ≡ true → b ≡ true → c ≡ true → d ≡ false → first_failing ((a, j) ∷ (b, k) ∷ (c, l) ∷ (d, m) ∷ []) ≡ Some m
-  fourth_of_four e f g h = passing a j ((b, k) ∷ (c, l) ∷ (d, m) ∷ []) e ∙ passing b k ((c, l) ∷ (d, m) ∷ []) f ∙ passing c l ((d, m) ∷ []) g ∙ failing d m [] h
-
-  pub none_of_four : a ≡ true → b ≡ true → c ≡ true → d ≡ true → first_failing ((a, j) ∷ (b, k) ∷ (c, l) ∷ (d, m) ∷ []) ≡ None
-  none_of_four e f g h = passing a j ((b, k) ∷ (c, l) ∷ (d, m) ∷ []) e ∙ passing b k ((c, l) ∷ (d, m) ∷ []) f ∙ passing c l ((d, m) ∷ []) g ∙ passing d m [] h
-
 -- where none of four conditions fails, the last one holds
 pub last_holds : (a b c d : Bool) (j k l m : Kind) → first_failing ((a, j) ∷ (b, k) ∷ (c, l) ∷ (d, m) ∷ []) ≡ None → d ≡ true
 last_holds false b c d j k l m e = absurd (cc)

@@ -1,9 +1,9 @@
 -- What is judged of a list of constants, by numbers, and its refusals.
-use Rattle.std.proofs.Common.{◌≡◌, sym, ap, ◌∙◌, List, [], ◌∷◌, map, Bool, true, false, None, Some}
-use Rattle.std.specs.Prelude.{not, is_some}
+use Rattle.std.proofs.Common.{◌≡◌, refl, sym, ap, ◌∙◌, List, [], ◌∷◌, map, Bool, true, false, None, Some, Ok, Err, Result, Global}
+use Rattle.std.specs.Prelude.{◌&&◌, not, IfOk, OnOk}
+use Rattle.std.specs.declared.vec.Vec.{Vec}
 use Rattle.std.specs.List.{list_all, list_any}
 use Rattle.hol_spec.specs.Names.{Name}
-use Rattle.hol_spec.specs.Lists.{union}
 use Rattle.hol_spec.specs.Defining.{is_closed, has_type_variables_of}
 use Rattle.hol_spec.specs.DefinitionLists.{ConstantPairs, names_of, defining_equations, is_definition_list}
 use Rattle.hol_spec.specs.Sequents.{Sequent}
@@ -12,59 +12,97 @@ use Rattle.proof_laws.specs.RuleTaken.{list_parts}
 use Rattle.hol_type.specs.Tables as type
 use Rattle.hol_term.specs.declared.TermId.{TermId}
 use Rattle.hol_term.specs.declared.Variable.{Variable}
-use Rattle.hol_term.specs.Tables.{Trees, term_at, terms_at}
+use Rattle.hol_term.specs.Tables.{Trees, terms_at}
+use Rattle.bridge_base.specs.declared.faults.Fault.{Fault}
+use Rattle.bridge_base.specs.declared.faults.Fault.TheVariants as fault
+use Rattle.bridge_base.specs.declared.faults.Kind.{Kind}
 use Rattle.bridge_base.specs.declared.faults.Kind.TheVariants.{NameTaken, NotClosed, ExtraTypeVars, BadDefinitionList}
 use Rattle.hol_defs.specs.declared.lists.Equation.{Equation}
-use Rattle.hol_defs.specs.Faults.{list_fault}
-use Rattle.hol_defs.specs.Lists.{same_variable, pairs_at, equation_at, equations_of, term_of, is_list, AreEquationsKnown, ArePairsKnown, AreFound, AreDefined, AreNew}
+use Rattle.hol_defs.specs.Faults.{first_failing, list_fault, Refuses}
+use Rattle.hol_defs.specs.Lists.{definitions_fault, equations_fault, undefined_fault, sequent_at, pairs_at, equation_at, is_list, AreEquationsKnown, ArePairsKnown, AreFound, AreDefined, AreNew}
 use Rattle.hol_defs.specs.Symbols.{Taken, symbols_at, AreKnownSymbols}
 use Rattle.hol_defs.specs.Indexes.{generics_of}
-use Rattle.hol_defs.proofs.JudgeLaws.{first_holds, last_holds, second_of_four, third_of_four, fourth_of_four, none_of_four}
-use Rattle.hol_defs.proofs.PairLaws.{equations-are, all-defined, all-found, defined-by, no_list, not_all, a_list, new-names}
+use Rattle.hol_defs.proofs.JudgeLaws.{passing, first_holds, last_holds, first_of_three, second_of_three, third_of_three, none_of_three}
+use Rattle.hol_defs.proofs.PairLaws.{each, list-is, all-defined, all-found, defined-by, new-names}
 
-module _ (trees : Trees) (one_each : type.IsDistinct trees.types) (symbols : List Symbol) (ps : List (Name × Variable)) (hs : List TermId) (concl : TermId) (vs : List Variable) (es : List Equation)
-    (is : vs ≡ union same_variable [] (map (λ p. p.1) ps)) (known : ArePairsKnown trees ps) (said : map (equation_at trees) es ≡ equations_of trees vs hs) (es_known : AreEquationsKnown trees es)
-    (free : list_any (is_taken_constant symbols) (names_of (pairs_at trees ps)) ≡ false) where
-  abbrev pairs : ConstantPairs
-  pairs = pairs_at trees ps
+still_fails : (a b c d : Bool) (j k l m : Kind) → first_failing ((a, j) ∷ (b, k) ∷ (c, l) ∷ []) ≡ Some m → first_failing ((a, j) ∷ (b, k) ∷ (c && d, l) ∷ []) ≡ Some m
+still_fails false b c d j k l m e = e
+still_fails true false c d j k l m e = e
+still_fails true true false d j k l m e = e
+still_fails true true true d j k l m e = absurd (cc)
 
-  abbrev seq : Sequent
-  seq = record { hypotheses = terms_at trees hs; conclusion = term_at trees concl.0 }
+one_left : (a b c d : Bool) (j k l : Kind) → first_failing ((a, j) ∷ (b, k) ∷ (c, l) ∷ []) ≡ None → first_failing ((a, j) ∷ (b, k) ∷ (c && d, l) ∷ []) ≡ first_failing ((d, l) ∷ [])
+one_left false b c d j k l e = absurd (cc)
+one_left true false c d j k l e = absurd (cc)
+one_left true true false d j k l e = absurd (cc)
+one_left true true true d j k l e = refl
 
-  all_said : map (equation_at trees) es ≡ defining_equations pairs (terms_at trees hs)
-  all_said = said ∙ equations-are trees one_each ps vs is known hs
+module _ (pairs : ConstantPairs) (one : Sequent) where
+  abbrev closed : Bool
+  closed = list_all (λ e. is_closed e.1) (defining_equations pairs one.hypotheses)
 
-  new : not (list_any (is_taken_constant symbols) (names_of pairs)) ≡ true
-  new = ap not free
+  abbrev own : Bool
+  own = list_all (λ e. has_type_variables_of e.0.1 e.1) (defining_equations pairs one.hypotheses)
 
-  closed : (b : Bool) → list_all (λ e. is_closed e.1) (map (equation_at trees) es) ≡ b → list_all (λ e. is_closed e.1) (defining_equations pairs (terms_at trees hs)) ≡ b
-  closed b e = sym (ap (list_all (λ e. is_closed e.1)) all_said) ∙ e
+  by_parts : definitions_fault pairs one ≡ first_failing ((closed, NotClosed) ∷ (own, ExtraTypeVars) ∷ (is_list pairs one && each pairs one, BadDefinitionList) ∷ [])
+  by_parts = ap (λ b. first_failing ((closed, NotClosed) ∷ (own, ExtraTypeVars) ∷ (b, BadDefinitionList) ∷ [])) (list-is pairs one)
 
-  own : (b : Bool) → list_all (λ e. has_type_variables_of e.0.1 e.1) (map (equation_at trees) es) ≡ b → list_all (λ e. has_type_variables_of e.0.1 e.1) (defining_equations pairs (terms_at trees hs)) ≡ b
-  own b e = sym (ap (list_all (λ e. has_type_variables_of e.0.1 e.1)) all_said) ∙ e
+  -- what is refused before an equation is looked for each pair is refused
+  pub definitions_fault-refused : (f : Fault) → Refuses f (equations_fault pairs one) → Refuses f (definitions_fault pairs one)
+  definitions_fault-refused (fault.Refused kind) h = by_parts ∙ still_fails closed own (is_list pairs one) (each pairs one) NotClosed ExtraTypeVars BadDefinitionList kind h
+  definitions_fault-refused fault.Memory h = tt
 
-  pub open_refused : list_all (λ e. is_closed e.1) (map (equation_at trees) es) ≡ false → list_fault symbols pairs seq ≡ Some NotClosed
-  open_refused e = second_of_four _ _ _ _ _ _ _ _ new (closed false e)
+  -- where nothing is refused before, each pair's equation is left
+  one_equation : equations_fault pairs one ≡ None → definitions_fault pairs one ≡ first_failing ((each pairs one, BadDefinitionList) ∷ [])
+  one_equation e = by_parts ∙ one_left closed own (is_list pairs one) (each pairs one) NotClosed ExtraTypeVars BadDefinitionList e
 
-  module _ (e : list_all (λ e. is_closed e.1) (map (equation_at trees) es) ≡ true) where
-    pub extra_refused : list_all (λ e. has_type_variables_of e.0.1 e.1) (map (equation_at trees) es) ≡ false → list_fault symbols pairs seq ≡ Some ExtraTypeVars
-    extra_refused f = third_of_four _ _ _ _ _ _ _ _ new (closed true e) (own false f)
+-- a list with a name that is taken
+pub list_fault-taken : (symbols : List Symbol) (pairs : ConstantPairs) (one : Sequent) → list_any (is_taken_constant symbols) (names_of pairs) ≡ true → list_fault symbols pairs one ≡ Some NameTaken
+list_fault-taken symbols pairs one taken = ap (λ b. first_failing ((not b, NameTaken) ∷ (closed pairs one, NotClosed) ∷ (own pairs one, ExtraTypeVars) ∷ (is_definition_list pairs one, BadDefinitionList) ∷ [])) taken
 
-    module _ (f : list_all (λ e. has_type_variables_of e.0.1 e.1) (map (equation_at trees) es) ≡ true) where
-      pub list_refused : is_list pairs seq ≡ false → list_fault symbols pairs seq ≡ Some BadDefinitionList
-      list_refused g = fourth_of_four _ _ _ _ _ _ _ _ new (closed true e) (own true f) (no_list pairs seq g)
+-- what is judged of a list none of whose names is taken
+pub list_fault-new : (symbols : List Symbol) (pairs : ConstantPairs) (one : Sequent) → list_any (is_taken_constant symbols) (names_of pairs) ≡ false → list_fault symbols pairs one ≡ definitions_fault pairs one
+list_fault-new symbols pairs one free = ap (λ b. first_failing ((not b, NameTaken) ∷ (closed pairs one, NotClosed) ∷ (own pairs one, ExtraTypeVars) ∷ (is_definition_list pairs one, BadDefinitionList) ∷ [])) free
 
-      pub undefined_refused : list_all (λ p. is_some (term_of es p.1)) ps ≡ false → list_fault symbols pairs seq ≡ Some BadDefinitionList
-      undefined_refused g =
-          fourth_of_four _ _ _ _ _ _ _ _ new (closed true e) (own true f) (not_all pairs seq (all-defined trees one_each pairs (terms_at trees hs) es all_said es_known ps known ∙ g))
+-- what is judged of a list by the equations that are put: closed, with their own type variables, and a list or not
+module _ (trees : Trees) (pairs : ConstantPairs) (one : Sequent) (es : List Equation) (said : map (equation_at trees) es ≡ defining_equations pairs one.hypotheses) (a b : Bool) (is : a ≡ list_all (λ e. is_closed e.1) (map (equation_at trees) es)) where
+  put_closed : (v : Bool) → a ≡ v → closed pairs one ≡ v
+  put_closed v e = sym (is ∙ ap (list_all (λ e. is_closed e.1)) said) ∙ e
 
-      pub none_refused : (ts : List TermId) → is_list pairs seq ≡ true → AreFound ps es ts → list_fault symbols pairs seq ≡ None
-      none_refused ts g h =
-          none_of_four _ _ _ _ _ _ _ _ new (closed true e) (own true f) (a_list pairs seq g (all-defined trees one_each pairs (terms_at trees hs) es all_said es_known ps known ∙ all-found ps es ts h))
+  pub equations_fault-open : a ≡ false → equations_fault pairs one ≡ Some NotClosed
+  equations_fault-open e = first_of_three _ _ _ _ _ _ (put_closed false e)
+
+  module _ (own_is : b ≡ list_all (λ e. has_type_variables_of e.0.1 e.1) (map (equation_at trees) es)) where
+    put_own : (v : Bool) → b ≡ v → own pairs one ≡ v
+    put_own v e = sym (own_is ∙ ap (list_all (λ e. has_type_variables_of e.0.1 e.1)) said) ∙ e
+
+    pub equations_fault-extra : a ≡ true → b ≡ false → equations_fault pairs one ≡ Some ExtraTypeVars
+    equations_fault-extra e f = second_of_three _ _ _ _ _ _ (put_closed true e) (put_own false f)
+
+    pub equations_fault-no_list : a ≡ true → b ≡ true → is_list pairs one ≡ false → equations_fault pairs one ≡ Some BadDefinitionList
+    equations_fault-no_list e f g = third_of_three _ _ _ _ _ _ (put_closed true e) (put_own true f) g
+
+    pub equations_fault-none : a ≡ true → b ≡ true → is_list pairs one ≡ true → equations_fault pairs one ≡ None
+    equations_fault-none e f g = none_of_three _ _ _ _ _ _ (put_closed true e) (put_own true f) g
+
+-- what hypotheses say, where their equations are put and nothing else is refused
+module _ (trees : Trees) (one_each : type.IsDistinct trees.types) (ps : List (Name × Variable)) (hs : List TermId) (concl : TermId) (es : List Equation) (known : ArePairsKnown trees ps)
+    (said : map (equation_at trees) es ≡ defining_equations (pairs_at trees ps) (terms_at trees hs)) (es_known : AreEquationsKnown trees es) where
+  -- what is left to be judged are the pairs without an equation
+  pub definitions_fault-judged : equations_fault (pairs_at trees ps) (sequent_at trees hs concl) ≡ None → definitions_fault (pairs_at trees ps) (sequent_at trees hs concl) ≡ undefined_fault ps es
+  definitions_fault-judged e =
+      one_equation (pairs_at trees ps) (sequent_at trees hs concl) e
+      ∙ ap (λ b. first_failing ((b, BadDefinitionList) ∷ [])) (all-defined trees one_each (pairs_at trees ps) (terms_at trees hs) es said es_known ps known)
 
   -- the terms that are found define the constants
-  pub found_defined : (ts : List TermId) → AreFound ps es ts → AreDefined trees pairs (terms_at trees hs) ps ts
-  found_defined ts h = defined-by trees one_each pairs (terms_at trees hs) es all_said es_known ps ts known h
+  pub terms-defined : (r : Result (Vec TermId Global) Fault) → IfOk r (λ ts. AreFound ps es ts.items) → IfOk r (λ ts. AreDefined trees (pairs_at trees ps) (terms_at trees hs) ps ts.items)
+  terms-defined (Ok ts) h = defined-by trees one_each (pairs_at trees ps) (terms_at trees hs) es said es_known ps ts.items known h
+  terms-defined (Err f) h = tt
+
+-- where terms are found each pair has an equation
+pub undefined_fault-found : (ps : List (Name × Variable)) (es : List Equation) (r : Result (Vec TermId Global) Fault) → IfOk r (λ ts. AreFound ps es ts.items) → OnOk r (undefined_fault ps es ≡ None)
+undefined_fault-found ps es (Ok ts) h = passing _ BadDefinitionList [] (all-found ps es ts.items h)
+undefined_fault-found ps es (Err f) h = tt
 
 -- names of which nothing is refused are new
 pub list-new : (trees : Trees) (xs : List Taken) (ps : List (Name × Variable)) (one : Sequent) → AreKnownSymbols trees xs → list_fault (symbols_at trees xs) (pairs_at trees ps) one ≡ None → AreNew (generics_of xs) ps

@@ -6,10 +6,7 @@ use Rattle.std.proofs.lemmas.Bool.Decides.{nat_tests}
 use Rattle.std.proofs.Math.Path.{ap₂}
 use Rattle.std.proofs.lemmas.List.{map-append, append-nil}
 use Rattle.std.proofs.lemmas.Grind.{flat_map-append}
-use Rattle.hol_defs.specs.declared.entry.Entry.{Entry}
-use Rattle.hol_defs.specs.declared.entry.Entry.TheVariants as entry
-use Rattle.hol_defs.specs.declared.entry.NewType.{NewType}
-use Rattle.hol_defs.specs.Indexes.{taken_of, inputs_in, inputs_of, generics_in, uses_in, uses_of, arities_in, is_used, IsIndexed}
+use Rattle.hol_defs.specs.Indexes.{inputs_in, inputs_of, generics_in, uses_in, uses_of, arities_in, is_used, IsIndexed}
 use Rattle.std.specs.Map.{lookup}
 use Rattle.hol_spec.specs.Names.{Name}
 use Rattle.hol_spec.specs.NameEquality.{name_eq}
@@ -22,6 +19,7 @@ use Rattle.hol_term.specs.declared.TermId.{TermId}
 use Rattle.hol_defs.specs.Symbols.{Taken, symbols_at, AreConstantTypes, AreKnownSymbols, TakesOperator}
 use Rattle.hol_defs.specs.SymbolLaws.{symbols_at-append, symbols_at-Keeps, AreKnownSymbols-append, AreKnownSymbols-Keeps}
 use Rattle.hol_spec.specs.NewTypes.{new_type, abstraction_type, representation_type}
+use Rattle.hol_spec.specs.Primitives.{function}
 use Rattle.bridge_base.specs.declared.faults.Kind.TheVariants.{TooLarge, TooDeep}
 use Rattle.hol_defs.specs.Faults.{first_failing, limit_fault, types_made}
 use Rattle.hol_defs.proofs.JudgeLaws.{failing, passing}
@@ -54,6 +52,21 @@ AreVariables-more {a = a} {b = b} {c = c} names ids name id h k known made = rec
       map-append (λ (i : TypeId). type.tree_at c.types i.0) ids (id ∷ []) ∙ ap₂ (λ l t. l ++ t ∷ []) (sym (type_law.types_at-Stays k.types.stays ids h.known) ∙ h.made) (type_law.Holds-tree_at c.types id.0 (variable name) made)
       ∙ sym (map-append variable names (name ∷ []));
 }
+
+-- the types of the constants, made one after the other
+pub AreConstantTypes-made : {a b c d : Trees} → Keeps a b → Keeps b c → Keeps c d → (names : TypeNames) (whole part abs rep : TypeId) → whole.0 < length a.types → part.0 < length b.types → type_at b part.0 ≡ new_type names → abs.0 < length c.types
+    → type_at c abs.0 ≡ function (type_at b whole.0) (type_at b part.0) → rep.0 < length d.types → type_at d rep.0 ≡ function (type_at c part.0) (type_at c whole.0) → AreConstantTypes d.types names (type_at a whole.0) abs rep
+AreConstantTypes-made {a = a} {b = b} {c = c} {d = d} k l m names whole part abs rep w p new ka from kr to =
+    let wb : whole.0 < length b.types = omega (arith, w, k.types.longer) in
+    let first : type_at a whole.0 ≡ type_at b whole.0 = type_law.tree_at-Stays k.types.stays whole.0 w in
+    let second : type_at b whole.0 ≡ type_at c whole.0 = type_law.tree_at-Stays l.types.stays whole.0 wb in
+    let same : type_at b part.0 ≡ type_at c part.0 = type_law.tree_at-Stays l.types.stays part.0 p in
+    record {
+      abstraction = omega (arith, ka, m.types.longer);
+      representation = kr;
+      from = sym (type_law.tree_at-Stays m.types.stays abs.0 ka) ∙ from ∙ ap₂ function (sym first) new;
+      to = to ∙ ap₂ function (sym same ∙ new) (sym second ∙ sym first);
+    }
 
 is_le : (a b : ℕ) → a ≤ b → nat_le a b ≡ true
 is_le a b h = grind (arith, nat_tests)
@@ -200,16 +213,14 @@ lookup-last [] n x m h e = ap (λ b. cond b (Some x) None) e
 lookup-last (y ∷ es) n x m h e = lookup-behind (name_eq m y.0) y.1 (lookup (name_eq m) es) (lookup (name_eq m) (es ++ (n, x) ∷ [])) h (λ k. lookup-last es n x m k e)
 
 -- the tables have an operator more, with its constants
-pub IsIndexed-operator : (es fs : List Entry) (i : List Name) (g h : List (Name × TypeId)) (u : List (Name × ℕ)) (ns : List Name) (a b : List (Name × ℕ)) (x : NewType) (op abs rep : Name) (k : ℕ) → IsIndexed (map taken_of es) i g u ns a
-    → op ≡ x.op → abs ≡ x.abs → rep ≡ x.rep → k ≡ length x.names.items → fs ≡ es ++ entry.TypeOp x ∷ [] → h ≡ g ++ (abs, x.abs_type) ∷ (rep, x.rep_type) ∷ [] → b ≡ a ++ (op, k) ∷ [] → IsIndexed (map taken_of fs) i h u ns b
-IsIndexed-operator es fs i g h u ns a b x op abs rep k was eop eabs erep ek ef eh eb =
-    let xs = map taken_of es in
-    let last = taken_of (entry.TypeOp x) ∷ [] in
-    let is : map taken_of fs ≡ xs ++ last = ap (map taken_of) ef ∙ map-append taken_of es (entry.TypeOp x ∷ []) in
-    rw is (record {
+pub IsIndexed-operator : (xs ys : List Taken) (i : List Name) (g h : List (Name × TypeId)) (u : List (Name × ℕ)) (ns : List Name) (a b : List (Name × ℕ)) (names : TypeNames) (c : TypeId) (f : TermId) (abs rep : TypeId) → IsIndexed xs i g u ns a
+    → ys ≡ xs ++ Taken.type_operator names c f abs rep ∷ [] → h ≡ g ++ (names.abstraction, abs) ∷ (names.representation, rep) ∷ [] → b ≡ a ++ (names.operator, length names.variables) ∷ [] → IsIndexed ys i h u ns b
+IsIndexed-operator xs ys i g h u ns a b names c f abs rep was e eh eb =
+    let last = Taken.type_operator names c f abs rep ∷ [] in
+    rw (e, eh, eb) (record {
       inputs_are = was.inputs_are ∙ sym (append-nil (inputs_of xs)) ∙ sym (flat_map-append inputs_in xs last);
-      generics_are = eh ∙ (λ j. was.generics_are j ++ (eabs j, x.abs_type) ∷ (erep j, x.rep_type) ∷ []) ∙ sym (flat_map-append generics_in xs last);
+      generics_are = ap (λ l. l ++ (names.abstraction, abs) ∷ (names.representation, rep) ∷ []) was.generics_are ∙ sym (flat_map-append generics_in xs last);
       uses_are = was.uses_are ∙ sym (append-nil (uses_of xs)) ∙ sym (flat_map-append uses_in xs last);
       names_are = λ n. was.names_are n ∙ ap (is_used n) (sym (append-nil (uses_of xs)) ∙ sym (flat_map-append uses_in xs last));
-      arities_are = eb ∙ (λ j. was.arities_are j ++ (eop j, ek j) ∷ []) ∙ sym (flat_map-append arities_in xs last);
+      arities_are = ap (λ l. l ++ (names.operator, length names.variables) ∷ []) was.arities_are ∙ sym (flat_map-append arities_in xs last);
     })

@@ -188,28 +188,15 @@ shuffled true true false d f = refl
 shuffled true false k d f = refl
 shuffled false v k d f = refl
 
-no-and : (b : Bool) → (b && false) ≡ false
-no-and true = refl
-no-and false = refl
-
 -- a list of definitions is a list, and each variable of it is defined
 module _ (pairs : ConstantPairs) (one : Sequent) where
-  abbrev each : Bool
+  abbrev pub each : Bool
   each = list_all (λ v. is_some (definiens pairs one.hypotheses v)) (pair_variables pairs)
 
-  list-is : is_definition_list pairs one ≡ (is_list pairs one && each)
+  pub list-is : is_definition_list pairs one ≡ (is_list pairs one && each)
   list-is =
       shuffled (no_repeats name_eq (names_of pairs)) (no_repeats variable_eq (pair_variables pairs)) (nat_eq (length one.hypotheses) (length pairs)) each
       (list_all (λ v. is_in variable_eq v (pair_variables pairs)) (free_places one.conclusion))
-
-  pub no_list : is_list pairs one ≡ false → is_definition_list pairs one ≡ false
-  no_list e = list-is ∙ ap (λ b. b && each) e
-
-  pub not_all : each ≡ false → is_definition_list pairs one ≡ false
-  not_all e = list-is ∙ ap (λ b. is_list pairs one && b) e ∙ no-and (is_list pairs one)
-
-  pub a_list : is_list pairs one ≡ true → each ≡ true → is_definition_list pairs one ≡ true
-  a_list e f = list-is ∙ (λ i. e i && f i)
 
 -- the symbols that are taken are the definitions
 pub constants-symbols : (trees : Trees) (all : ConstantPairs) (hs : List Term) (ps : List (Name × Variable)) (ts : List TermId) → AreDefined trees all hs ps ts

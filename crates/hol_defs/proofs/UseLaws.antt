@@ -1,11 +1,14 @@
 -- What the use of a constant or of an operator takes.
-use Rattle.std.proofs.Common.{◌≡◌, ℕ, refl, ap, sym, ◌∙◌, List, [], ◌∷◌, ◌++◌, map, length, Bool, true, false, cond, Option, None, Some}
+use Rattle.std.proofs.Common.{◌≡◌, ℕ, Global, arith, refl, ap, sym, ◌∙◌, List, [], ◌∷◌, ◌++◌, map, length, Bool, true, false, cond, Option, None, Some}
 use Rattle.std.specs.Prelude.{◌||◌, is_some, take, MatchOption}
 use Rattle.std.specs.List.{list_any}
-use Rattle.std.proofs.lemmas.List.{append-nil, map-append}
+use Rattle.std.specs.Vec.{vec_len}
+use Rattle.std.specs.declared.vec.Vec.{Vec}
+use Rattle.std.proofs.lemmas.List.{append-nil, take-map}
 use Rattle.std.proofs.lemmas.List.Folds.{list_any-append}
-use Rattle.std.proofs.lemmas.Grind.{flat_map-append}
+use Rattle.std.proofs.lemmas.Grind.{common_steps, flat_map-append}
 use Rattle.std.proofs.Math.Path.{ap₂}
+use Rattle.std.proofs.Math.Seq.{take-append_seam}
 use Rattle.hol_spec.specs.Names.{Name}
 use Rattle.hol_spec.specs.NameEquality.{name_eq}
 use Rattle.hol_laws.specs.NameEqualityLaws.{name_eq-Decides}
@@ -16,9 +19,9 @@ use Rattle.hol_laws.specs.SubstitutionLaws.{is_instance-Decides}
 use Rattle.hol_spec.specs.Symbols.{Symbol, input_constant, input_operator, is_input_constant, is_input_operator, generic_type, operator_arity, new_constant, new_operator}
 use Rattle.hol_type.specs.declared.table.TypeId.{TypeId}
 use Rattle.hol_type.specs.Tables.{pairs_at}
+use Rattle.hol_term.specs.declared.TermId.{TermId}
 use Rattle.hol_defs.specs.declared.entry.Entry.{Entry}
-use Rattle.hol_defs.specs.declared.entry.Entry.TheVariants as entry
-use Rattle.hol_defs.specs.Indexes.{taken_of, uses_in, uses_of, inputs_in, generics_in, arities_in, same_use, is_used, IsIndexed}
+use Rattle.hol_defs.specs.Indexes.{taken_of, uses_in, uses_of, inputs_in, inputs_of, generics_in, arities_in, same_use, is_used, IsIndexed}
 use Rattle.hol_defs.specs.Symbols.{Taken}
 
 nothing_more : (symbols : List Symbol) (b : Bool) (x : Symbol) → b ≡ true → symbols ≡ symbols ++ cond b [] (x ∷ [])
@@ -91,11 +94,38 @@ IsIndexed-use xs i g u ns a n k h new = record {
   arities_are = h.arities_are ∙ sym (append-nil _) ∙ sym (flat_map-append arities_in xs (Taken.input_operator n k ∷ []));
 }
 
--- with what the calls made, that are these
-pub IsIndexed-used : (es fs : List Entry) (i : List Name) (g : List (Name × TypeId)) (u v : List (Name × ℕ)) (ns ms : List Name) (a : List (Name × ℕ)) (n m l : Name) (k : ℕ) → IsIndexed (map taken_of es) i g u ns a
-    → is_in same_use (n, k) (uses_of (map taken_of es)) ≡ false → m ≡ n → l ≡ n → fs ≡ es ++ entry.InputOp m k ∷ [] → v ≡ union same_use u ((n, k) ∷ []) → ms ≡ union name_eq ns (l ∷ []) → IsIndexed (map taken_of fs) i g v ms a
-IsIndexed-used es fs i g u v ns ms a n m l k h new em el ef ev ems =
-    rw (ef, ev, ems, em, el, map-append taken_of es (entry.InputOp n k ∷ [])) (IsIndexed-use (map taken_of es) i g u ns a n k h new)
+-- with what the calls made, that is this
+pub IsIndexed-used : (xs ys : List Taken) (i : List Name) (g : List (Name × TypeId)) (u v : List (Name × ℕ)) (ns ms : List Name) (a : List (Name × ℕ)) (n : Name) (k : ℕ) → IsIndexed xs i g u ns a → is_in same_use (n, k) (uses_of xs) ≡ false
+    → ys ≡ xs ++ Taken.input_operator n k ∷ [] → v ≡ union same_use u ((n, k) ∷ []) → ms ≡ union name_eq ns (n ∷ []) → IsIndexed ys i g v ms a
+IsIndexed-used xs ys i g u v ns ms a n k h new e ev ems = rw (e, ev, ems) (IsIndexed-use xs i g u ns a n k h new)
+
+-- the tables have an input constant more
+pub IsIndexed-input : (xs ys : List Taken) (i j : List Name) (g : List (Name × TypeId)) (u : List (Name × ℕ)) (ns : List Name) (a : List (Name × ℕ)) (n : Name) → IsIndexed xs i g u ns a → is_in name_eq n (inputs_of xs) ≡ false
+    → ys ≡ xs ++ Taken.input_constant n ∷ [] → j ≡ union name_eq i (n ∷ []) → IsIndexed ys j g u ns a
+IsIndexed-input xs ys i j g u ns a n h new e ej = rw (e, ej) (record {
+  inputs_are = with_new (is_in name_eq n i) i n (ap (is_in name_eq n) h.inputs_are ∙ new) ∙ ap (λ l. l ++ n ∷ []) h.inputs_are ∙ sym (flat_map-append inputs_in xs (Taken.input_constant n ∷ []));
+  generics_are = h.generics_are ∙ sym (append-nil _) ∙ sym (flat_map-append generics_in xs (Taken.input_constant n ∷ []));
+  uses_are = h.uses_are ∙ sym (append-nil _) ∙ sym (flat_map-append uses_in xs (Taken.input_constant n ∷ []));
+  names_are = λ m. h.names_are m ∙ ap (is_used m) (sym (append-nil _) ∙ sym (flat_map-append uses_in xs (Taken.input_constant n ∷ [])));
+  arities_are = h.arities_are ∙ sym (append-nil _) ∙ sym (flat_map-append arities_in xs (Taken.input_constant n ∷ []));
+})
+
+-- the tables have a defined constant more
+pub IsIndexed-constant : (xs ys : List Taken) (i : List Name) (g h : List (Name × TypeId)) (u : List (Name × ℕ)) (ns : List Name) (a : List (Name × ℕ)) (n : Name) (t : TermId) (ty : TypeId) → IsIndexed xs i g u ns a → ys ≡ xs ++ Taken.constant n t ty ∷ []
+    → h ≡ g ++ (n, ty) ∷ [] → IsIndexed ys i h u ns a
+IsIndexed-constant xs ys i g h u ns a n t ty was e eh = rw (e, eh) (record {
+  inputs_are = was.inputs_are ∙ sym (append-nil _) ∙ sym (flat_map-append inputs_in xs (Taken.constant n t ty ∷ []));
+  generics_are = ap (λ l. l ++ (n, ty) ∷ []) was.generics_are ∙ sym (flat_map-append generics_in xs (Taken.constant n t ty ∷ []));
+  uses_are = was.uses_are ∙ sym (append-nil _) ∙ sym (flat_map-append uses_in xs (Taken.constant n t ty ∷ []));
+  names_are = λ m. was.names_are m ∙ ap (is_used m) (sym (append-nil _) ∙ sym (flat_map-append uses_in xs (Taken.constant n t ty ∷ [])));
+  arities_are = was.arities_are ∙ sym (append-nil _) ∙ sym (flat_map-append arities_in xs (Taken.constant n t ty ∷ []));
+})
+
+-- the entries without what was put last keep the symbols that there were
+pub taken_of-cut : (old : Vec Entry Global) (fs gs : List Entry) (x : Taken) (count : ℕ) → map taken_of fs ≡ map taken_of old.items ++ x ∷ [] → count ≡ vec_len old → gs ≡ take count fs → map taken_of gs ≡ map taken_of old.items
+taken_of-cut old fs gs x count e n is =
+    let long : count ≡ length (map taken_of old.items) = grind (arith, common_steps) in
+    ap (map taken_of) is ∙ sym (take-map taken_of count fs) ∙ ap (take count) e ∙ ap (λ k. take k (map taken_of old.items ++ x ∷ [])) long ∙ take-append_seam (map taken_of old.items) (x ∷ [])
 
 -- a set without what was taken last
 pub take-united : {A : Type 0} (same : A → A → Bool) (xs : List A) (x : A) → take (length xs) (union same xs (x ∷ [])) ≡ xs

@@ -2,20 +2,24 @@
 use Rattle.std.specs.Prelude.{◌≡◌, ◌<◌, ◌==◌, nat_eq, List, [], ◌∷◌, length, map, Bool, ◌&&◌, ◌++◌, false, is_some, Option, None, Some}
 use Rattle.std.specs.List.{AllByRecursion, filter, filter_map, list_all}
 use Rattle.std.specs.Map.{lookup}
+use Rattle.hol_spec.specs.Defining.{is_closed, has_type_variables_of}
 use Rattle.hol_spec.specs.Names.{Name}
 use Rattle.hol_spec.specs.NameEquality.{name_eq}
 use Rattle.hol_spec.specs.Lists.{is_in}
 use Rattle.hol_spec.specs.Repeats.{no_repeats}
 use Rattle.hol_spec.specs.Sequents.{Sequent}
 use Rattle.hol_spec.specs.Terms.{Term, Variable as AVariable, variable_eq, free_places, HasType}
-use Rattle.hol_spec.specs.DefinitionLists.{ConstantPairs, names_of, variables_of as pair_variables, definiens, variable_equation}
+use Rattle.hol_spec.specs.DefinitionLists.{ConstantPairs, names_of, variables_of as pair_variables, definiens, defining_equations, is_definition_list, variable_equation}
 use Rattle.hol_type.specs.declared.table.TypeId.{TypeId}
 use Rattle.hol_term.specs.declared.TermId.{TermId}
 use Rattle.hol_term.specs.declared.Variable.{Variable}
 use Rattle.hol_term.specs.Subterms.{variables_of}
 use Rattle.hol_term.specs.Tables.{Trees, term_at, terms_at, type_at, IsTermAt}
+use Rattle.bridge_base.specs.declared.faults.Kind.{Kind}
+use Rattle.bridge_base.specs.declared.faults.Kind.TheVariants.{NotClosed, ExtraTypeVars, BadDefinitionList}
 use Rattle.hol_defs.specs.declared.lists.Equation.{Equation}
 use Rattle.hol_defs.specs.declared.lists.Mark.{Mark}
+use Rattle.hol_defs.specs.Faults.{first_failing}
 use Rattle.hol_defs.specs.Indexes.{generics_of}
 use Rattle.hol_defs.specs.Symbols.{Taken, constant}
 
@@ -64,9 +68,9 @@ AreTerms trees (id ∷ ids) = IsTermAt trees id.0 × AreTerms trees ids
 abbrev pub term_of : List Equation → Variable → Option TermId
 term_of equations v = lookup (same_variable v) (map (λ e. (e.variable, e.term)) equations)
 
--- a pair's variable has no equation
-abbrev pub IsUndefined : List (Name × Variable) → List Equation → Type 0
-IsUndefined pairs equations = list_all (λ p. is_some (term_of equations p.1)) pairs ≡ false
+-- what is judged of the equations of the pairs' variables: each has one
+abbrev pub undefined_fault : List (Name × Variable) → List Equation → Option Kind
+undefined_fault pairs equations = first_failing ((list_all (λ p. is_some (term_of equations p.1)) pairs, BadDefinitionList) ∷ [])
 
 -- these are the terms of the pairs' variables
 abbrev pub AreFound : List (Name × Variable) → List Equation → List TermId → Type 0
@@ -108,3 +112,21 @@ is_list pairs one =
     no_repeats name_eq (names_of pairs) && no_repeats variable_eq (pair_variables pairs)
     && nat_eq (length one.hypotheses) (length pairs)
     && list_all (λ v. is_in variable_eq v (pair_variables pairs)) (free_places one.conclusion)
+
+-- the sequent with these hypotheses and this conclusion
+abbrev pub sequent_at : Trees → List TermId → TermId → Sequent
+sequent_at trees hyps concl = record { hypotheses = terms_at trees hyps; conclusion = term_at trees concl.0 }
+
+-- what is judged of a list before an equation is looked for each pair
+abbrev pub equations_fault : ConstantPairs → Sequent → Option Kind
+equations_fault pairs one =
+    first_failing
+    ((list_all (λ e. is_closed e.1) (defining_equations pairs one.hypotheses), NotClosed) ∷ (list_all (λ e. has_type_variables_of e.0.1 e.1) (defining_equations pairs one.hypotheses), ExtraTypeVars)
+    ∷ (is_list pairs one, BadDefinitionList) ∷ [])
+
+-- what is judged of a list, the names aside
+abbrev pub definitions_fault : ConstantPairs → Sequent → Option Kind
+definitions_fault pairs one =
+    first_failing
+    ((list_all (λ e. is_closed e.1) (defining_equations pairs one.hypotheses), NotClosed) ∷ (list_all (λ e. has_type_variables_of e.0.1 e.1) (defining_equations pairs one.hypotheses), ExtraTypeVars)
+    ∷ (is_definition_list pairs one, BadDefinitionList) ∷ [])

@@ -1,5 +1,5 @@
 //! Definitions of constants.
-ghost use Rattle.std.specs.Prelude.{◌≡◌, ◌<◌, ◌++◌, ◌∷◌, [], None, length, IfErr, OnOk, OnErr};
+ghost use Rattle.std.specs.Prelude.{◌≡◌, ◌<◌, ◌++◌, ◌∷◌, [], None, length, map, IfErr, OnOk, OnErr};
 ghost use Rattle.std.specs.Map.{lookup};
 ghost use Rattle.hol_spec.specs.Definitions.{Definition};
 ghost use Rattle.hol_spec.specs.NameEquality.{name_eq};
@@ -7,7 +7,7 @@ ghost use Rattle.hol_spec.specs.Symbols.{Symbol};
 ghost use Rattle.hol_spec.specs.Terms.{HasType};
 ghost use Rattle.hol_term.specs.Tables.{term_at, type_at, IsTermAt};
 ghost use Rattle.hol_defs.specs.Faults.{constant_fault, Refuses};
-ghost use Rattle.hol_defs.specs.Indexes.{generics_of};
+ghost use Rattle.hol_defs.specs.Indexes.{generics_of, taken_of};
 ghost use Rattle.hol_defs.specs.Symbols.{Taken, symbols_at, AreKnownSymbols};
 
 use crate::Symbols;
@@ -67,11 +67,9 @@ impl Symbols {
         ensures takes { OnOk result (self.new ≡ self.old ++ Taken.constant name.now term ty ∷ []) }
         ensures unchanged { OnErr result (self.new ≡ self.old) }
     {
-        let own = name.clone()?;
-        let entry = Entry::Const(name.clone()?, term, ty);
         let count = self.taken.len();
-        self.taken.push(entry)?;
-        match self.generics.add(own, ty) {
+        push_constant(&mut self.taken, name, term, ty)?;
+        match self.generics.add(name, ty) {
             Ok(()) => Ok(()),
             Err(_) => {
                 self.taken.truncate(count);
@@ -79,4 +77,18 @@ impl Symbols {
             }
         }
     }
+}
+
+// Puts a defined constant last.
+fn push_constant(
+    taken: &mut Vec<Entry>,
+    name: &Name,
+    term: TermId,
+    ty: TypeId,
+) -> Result<(), Memory>
+    ensures takes { OnOk result (map taken_of taken.new.items ≡ map taken_of taken.old.items ++ Taken.constant name.now term ty ∷ []) }
+    ensures unchanged { OnErr result (taken.new.items ≡ taken.old.items) }
+{
+    taken.push(Entry::Const(name.clone()?, term, ty))?;
+    Ok(())
 }

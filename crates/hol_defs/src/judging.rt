@@ -1,5 +1,5 @@
 //! What is judged of a defining term.
-ghost use Rattle.std.specs.Prelude.{◌≡◌, ◌<◌, length, IfOk, OnOk};
+ghost use Rattle.std.specs.Prelude.{◌≡◌, ◌<◌, [], length, IfOk, OnOk};
 ghost use Rattle.std.specs.List.{list_all};
 ghost use Rattle.hol_spec.specs.Defining.{is_closed as is_closed_term, has_type_variables_of};
 ghost use Rattle.hol_spec.specs.Lists.{is_in, union};
@@ -48,9 +48,21 @@ pub(crate) fn has_variables(
     ensures { IfOk result (λ has. has ≡ has_type_variables_of (type_at table.now ty.0) (term_at table.now term.0)) }
 {
     let mut own = NameSet::new(alloc);
+    let has = has_names(table, ty, term, &mut own);
+    drop(own);
+    has
+}
+
+// The same, with a set for the type variables of the type.
+fn has_names(table: &TermTable, ty: TypeId, term: TermId, own: &mut NameSet) -> Result<bool, Memory>
+    requires ty { ty.0 < length table.now.types }
+    requires term { term.0 < length table.now.terms }
+    requires own { own.old ≡ [] }
+    ensures { IfOk result (λ has. has ≡ has_type_variables_of (type_at table.now ty.0) (term_at table.now term.0)) }
+{
     own.unite(table.types().vars(ty)?)?;
     let names = table.type_vars(term)?;
-    Ok(are_among(&own, &names))
+    Ok(are_among(own, &names))
 }
 
 // Whether each name is in a set.
@@ -65,8 +77,22 @@ pub(crate) fn copied(alloc: Global, names: &[Name]) -> Result<Vec<Name>, Memory>
     ensures { IfOk result (λ copy. copy.items ≡ names.now) }
 {
     let mut copy = Vec::new(alloc);
+    match push_copies(&mut copy, names) {
+        Ok(()) => Ok(copy),
+        Err(Memory) => {
+            drop(copy);
+            Err(Memory)
+        }
+    }
+}
+
+// Puts copies of the names.
+fn push_copies(copy: &mut Vec<Name>, names: &[Name]) -> Result<(), Memory>
+    requires { copy.old.items ≡ [] }
+    ensures { OnOk result (copy.new.items ≡ names.now) }
+{
     for name in names {
         copy.push(name.clone()?)?;
     }
-    Ok(copy)
+    Ok(())
 }

@@ -1,10 +1,10 @@
 //! Definitions of lists of constants.
-ghost use Rattle.std.specs.Prelude.{◌≡◌, ◌<◌, ◌&&◌, ◌++◌, ◌∷◌, [], List, None, length, map, MatchOption, IfOk, IfErr, IfSome, OnOk, OnErr};
+ghost use Rattle.std.specs.Prelude.{◌≡◌, ◌<◌, ◌&&◌, ◌++◌, ◌∷◌, [], List, None, length, map, IfOk, IfErr, IfSome, OnOk, OnErr};
 ghost use Rattle.std.specs.List.{list_all, list_any};
 ghost use Rattle.std.specs.Map.{lookup};
 ghost use Rattle.std.specs.Option.{option_map};
 ghost use Rattle.hol_spec.specs.Defining.{is_closed as is_closed_term, has_type_variables_of};
-ghost use Rattle.hol_spec.specs.DefinitionLists.{definitions_in, names_of as names_in, variable_equation};
+ghost use Rattle.hol_spec.specs.DefinitionLists.{definitions_in, defining_equations, names_of as names_in, variable_equation};
 ghost use Rattle.hol_spec.specs.Lists.{is_in, union};
 ghost use Rattle.hol_spec.specs.Repeats.{no_repeats};
 ghost use Rattle.hol_spec.specs.NameEquality.{name_eq};
@@ -16,7 +16,7 @@ ghost use Rattle.hol_term.specs.Tables.{term_at, terms_at, IsTermAt};
 ghost use Rattle.hol_defs.specs.Faults.{list_fault, Refuses};
 ghost use Rattle.hol_term.specs.Subterms.{variables_of, HaveTypes};
 ghost use Rattle.hol_defs.specs.Indexes.{generics_of};
-ghost use Rattle.hol_defs.specs.Lists.{constants_of, equation_at, equations_of, is_list as is_list_of, pairs_at, same_variable, term_of, AreDefined, AreEquationsKnown, AreFound, AreNew, ArePairsKnown, AreTerms, IsEquationKnown, IsMarked, IsUndefined};
+ghost use Rattle.hol_defs.specs.Lists.{constants_of, definitions_fault, equation_at, equations_fault, equations_of, is_list as is_list_of, pairs_at, same_variable, sequent_at, term_of, undefined_fault, AreDefined, AreEquationsKnown, AreFound, AreNew, ArePairsKnown, AreTerms, IsEquationKnown, IsMarked};
 ghost use Rattle.hol_defs.specs.Symbols.{Taken, symbols_at, AreKnownSymbols};
 
 use crate::Symbols;
@@ -68,7 +68,9 @@ impl Symbols {
     {
         match self.judge_list(table, pairs, hyps, concl) {
             Ok(terms) => {
-                self.take_list(pairs, &terms)?;
+                let taken = self.take_list(pairs, &terms);
+                drop(terms);
+                taken?;
                 Ok(())
             }
             Err(fault) => Err(fault),
@@ -95,22 +97,10 @@ impl Symbols {
         if self.has_taken(table, pairs) {
             return Err(Fault::Refused(Kind::NameTaken));
         }
-        let _types = table.types().count();
-        let variables = variables(self.alloc, pairs)?;
-        let equations = equations(self.alloc, table, &variables, hyps)?;
-        if !are_closed(table, &equations)? {
-            return Err(Fault::Refused(Kind::NotClosed));
-        }
-        if !have_own_variables(self.alloc, table, &equations)? {
-            return Err(Fault::Refused(Kind::ExtraTypeVars));
-        }
-        if !is_list(self.alloc, table, pairs, hyps, concl, &variables)? {
-            return Err(Fault::Refused(Kind::BadDefinitionList));
-        }
-        match definientia(self.alloc, pairs, equations)? {
-            Some(terms) => Ok(terms),
-            None => Err(Fault::Refused(Kind::BadDefinitionList)),
-        }
+        let mut variables = VariableSet::new(self.alloc);
+        let terms = judge_definitions(self.alloc, table, pairs, hyps, concl, &mut variables);
+        drop(variables);
+        terms
     }
 
     // Whether one of the names is taken.
@@ -168,38 +158,101 @@ impl Symbols {
     }
 }
 
-// The variables of the pairs, each once.
-fn variables(alloc: Global, pairs: &[(Name, Variable)]) -> Result<VariableSet, Memory>
-    ensures { IfOk result (λ set. set ≡ union same_variable [] (map (λ p. p.1) pairs.now)) }
+// Judges the definitions of a list, the names aside, with a set for the variables of the pairs.
+fn judge_definitions(
+    alloc: Global,
+    table: &TermTable,
+    pairs: &[(Name, Variable)],
+    hyps: &[TermId],
+    concl: TermId,
+    variables: &mut VariableSet,
+) -> Result<Vec<TermId>, Fault>
+    requires pairs { ArePairsKnown table.now pairs.now }
+    requires hyps { AreTerms table.now hyps.now }
+    requires concl { IsTermAt table.now concl.0 }
+    requires variables { variables.old ≡ [] }
+    ensures defined { IfOk result (λ terms. AreDefined table.now (pairs_at table.now pairs.now) (terms_at table.now hyps.now) pairs.now terms.items) }
+    ensures fits { OnOk result (definitions_fault (pairs_at table.now pairs.now) (sequent_at table.now hyps.now concl) ≡ None) }
+    ensures refusal { IfErr result (λ fault. Refuses fault (definitions_fault (pairs_at table.now pairs.now) (sequent_at table.now hyps.now concl))) }
 {
-    let mut set = VariableSet::new(alloc);
+    let _types = table.types().count();
+    add_variables(variables, pairs)?;
+    let mut equations = Vec::new(alloc);
+    match judge_equations(alloc, table, pairs, hyps, concl, variables, &mut equations) {
+        Ok(()) => definientia(alloc, pairs, equations),
+        Err(fault) => {
+            drop(equations);
+            Err(fault)
+        }
+    }
+}
+
+// Judges what the hypotheses say of the variables of the pairs, each once, and the list, and puts what they say.
+fn judge_equations(
+    alloc: Global,
+    table: &TermTable,
+    pairs: &[(Name, Variable)],
+    hyps: &[TermId],
+    concl: TermId,
+    variables: &VariableSet,
+    equations: &mut Vec<Equation>,
+) -> Result<(), Fault>
+    requires pairs { ArePairsKnown table.now pairs.now }
+    requires hyps { AreTerms table.now hyps.now }
+    requires concl { IsTermAt table.now concl.0 }
+    requires variables { variables.now ≡ union same_variable [] (map (λ p. p.1) pairs.now) }
+    requires distinct { type.IsDistinct table.now.types }
+    requires none { equations.old.items ≡ [] }
+    ensures said { OnOk result (map (equation_at table.now) equations.new.items ≡ defining_equations (pairs_at table.now pairs.now) (terms_at table.now hyps.now)) }
+    ensures known { OnOk result (AreEquationsKnown table.now equations.new.items) }
+    ensures fits { OnOk result (equations_fault (pairs_at table.now pairs.now) (sequent_at table.now hyps.now concl) ≡ None) }
+    ensures refusal { IfErr result (λ fault. Refuses fault (equations_fault (pairs_at table.now pairs.now) (sequent_at table.now hyps.now concl))) }
+{
+    push_equations(table, variables, hyps, equations)?;
+    if !are_closed(table, equations)? {
+        return Err(Fault::Refused(Kind::NotClosed));
+    }
+    if !have_own_variables(alloc, table, equations)? {
+        return Err(Fault::Refused(Kind::ExtraTypeVars));
+    }
+    if !is_list(alloc, table, pairs, hyps, concl, variables)? {
+        return Err(Fault::Refused(Kind::BadDefinitionList));
+    }
+    Ok(())
+}
+
+// Takes the variables of the pairs, each once.
+fn add_variables(set: &mut VariableSet, pairs: &[(Name, Variable)]) -> Result<(), Memory>
+    requires { set.old ≡ [] }
+    ensures { OnOk result (set.new ≡ union same_variable [] (map (λ p. p.1) pairs.now)) }
+{
     for pair in pairs {
         set.add(Variable {
             name: pair.1.name.clone()?,
             ty: pair.1.ty,
         })?;
     }
-    Ok(set)
+    Ok(())
 }
 
-// What the hypotheses say of these variables.
-fn equations(
-    alloc: Global,
+// Puts what the hypotheses say of these variables.
+fn push_equations(
     table: &TermTable,
     variables: &VariableSet,
     hyps: &[TermId],
-) -> Result<Vec<Equation>, Memory>
+    all: &mut Vec<Equation>,
+) -> Result<(), Memory>
     requires hyps { AreTerms table.now hyps.now }
     requires variables { HaveTypes table.now variables.now }
     requires distinct { type.IsDistinct table.now.types }
-    ensures said { IfOk result (λ all. map (equation_at table.now) all.items ≡ equations_of table.now variables.now hyps.now) }
-    ensures known { IfOk result (λ all. AreEquationsKnown table.now all.items) }
+    requires none { all.old.items ≡ [] }
+    ensures said { OnOk result (map (equation_at table.now) all.new.items ≡ equations_of table.now variables.now hyps.now) }
+    ensures known { OnOk result (AreEquationsKnown table.now all.new.items) }
 {
-    let mut all = Vec::new(alloc);
     for hyp in hyps {
-        push_equation(table, variables, *hyp, &mut all)?;
+        push_equation(table, variables, *hyp, all)?;
     }
-    Ok(all)
+    Ok(())
 }
 
 // Puts what a hypothesis says last, if it is an equation of one of these variables.
@@ -324,8 +377,18 @@ fn are_names_once(alloc: Global, pairs: &[(Name, Variable)]) -> Result<bool, Mem
     ensures { IfOk result (λ are. are ≡ no_repeats name_eq (map (λ p. p.0) pairs.now)) }
 {
     let mut names = NameSet::new(alloc);
+    let are = are_once(&mut names, pairs);
+    drop(names);
+    are
+}
+
+// The same, with a set for the names.
+fn are_once(names: &mut NameSet, pairs: &[(Name, Variable)]) -> Result<bool, Memory>
+    requires { names.old ≡ [] }
+    ensures { IfOk result (λ are. are ≡ no_repeats name_eq (map (λ p. p.0) pairs.now)) }
+{
     for pair in pairs {
-        names.add(pair.0.clone()?)?;
+        names.add_copy(&pair.0)?;
     }
     Ok(names.len() == pairs.len())
 }
@@ -351,32 +414,50 @@ fn are_in(set: &VariableSet, variables: &[Variable]) -> bool
     variables.iter().all(|variable| set.has(variable))
 }
 
-// The term that the first equation of each variable has.
-fn first_terms(alloc: Global, equations: Vec<Equation>) -> Result<FirstTerms, Memory>
-    ensures { IfOk result (λ terms. (v : AVariable) → lookup (same_variable v) terms ≡ term_of equations.items v) }
-{
-    let mut found = FirstTerms::new(alloc);
-    for equation in equations {
-        found.note(equation.variable, equation.term)?;
-    }
-    Ok(found)
-}
-
-// The terms that define the variables of the pairs, in the order of the pairs, if each of them has one.
+// The terms that define the variables of the pairs, in the order of the pairs. It is refused where one of them has none.
 fn definientia(
     alloc: Global,
     pairs: &[(Name, Variable)],
     equations: Vec<Equation>,
-) -> Result<Option<Vec<TermId>>, Memory>
-    ensures { IfOk result (λ found. MatchOption found (IsUndefined pairs.now equations.items) (λ terms. AreFound pairs.now equations.items terms.items)) }
+) -> Result<Vec<TermId>, Fault>
+    ensures found { IfOk result (λ terms. AreFound pairs.now equations.items terms.items) }
+    ensures refusal { IfErr result (λ fault. Refuses fault (undefined_fault pairs.now equations.items)) }
 {
-    let found = first_terms(alloc, equations)?;
+    let mut found = FirstTerms::new(alloc);
+    let terms = first_terms(alloc, pairs, equations, &mut found);
+    drop(found);
+    terms
+}
+
+// The same, with a table for the terms of the equations.
+fn first_terms(
+    alloc: Global,
+    pairs: &[(Name, Variable)],
+    equations: Vec<Equation>,
+    found: &mut FirstTerms,
+) -> Result<Vec<TermId>, Fault>
+    requires { found.old ≡ [] }
+    ensures found { IfOk result (λ terms. AreFound pairs.now equations.items terms.items) }
+    ensures refusal { IfErr result (λ fault. Refuses fault (undefined_fault pairs.now equations.items)) }
+{
+    note_all(found, equations)?;
     let mut terms = Vec::new(alloc);
     for pair in pairs {
         match found.find(&pair.1) {
             Some(term) => terms.push(term)?,
-            None => return Ok(None),
+            None => return Err(Fault::Refused(Kind::BadDefinitionList)),
         }
     }
-    Ok(Some(terms))
+    Ok(terms)
+}
+
+// Notes the term that the first equation of each variable has.
+fn note_all(found: &mut FirstTerms, equations: Vec<Equation>) -> Result<(), Memory>
+    requires { found.old ≡ [] }
+    ensures { OnOk result ((v : AVariable) → lookup (same_variable v) found.new ≡ term_of equations.items v) }
+{
+    for equation in equations {
+        found.note(equation.variable, equation.term)?;
+    }
+    Ok(())
 }

@@ -13,13 +13,14 @@ ghost use Rattle.hol_spec.specs.Terms.{Term, HasType, app};
 ghost use Rattle.hol_type.specs.Tables as type;
 ghost use Rattle.hol_term.specs.Tables.{Trees, term_at, type_at, IsTermAt, Keeps};
 ghost use Rattle.hol_defs.specs.Faults.{are_new as are_new_names, operator_fault, limit_fault, types_made, Refuses};
-ghost use Rattle.hol_defs.specs.Indexes.{arities_of, generics_of, names_of};
-ghost use Rattle.hol_defs.specs.Symbols.{Taken, named, symbols_at, AreConstantTypes, AreKnownSymbols, TakesOperator};
+ghost use Rattle.hol_defs.specs.Indexes.{arities_of, generics_of, taken_of};
+ghost use Rattle.hol_defs.specs.Symbols.{named, symbols_at, AreConstantTypes, AreKnownSymbols, TakesOperator};
+ghost use Rattle.hol_defs.specs.Views.{operator_of_view};
 
-use crate::Symbols;
 use crate::entry::{Entry, NewType};
 use crate::judging::{are_among, copied, is_closed};
 use crate::tables::{Arities, Generics, NameSet};
+use crate::{Symbols, TypeOpView};
 use bridge_base::{Fault, Kind, Memory};
 use hol_name::Name;
 use hol_spec::{GREATEST_DEPTH, GREATEST_SIZE};
@@ -136,48 +137,31 @@ impl Symbols {
         ensures keeps { Keeps table.old table.new }
     {
         let types = constant_types(self.alloc, table, op, names, whole)?;
-        let definition = NewType {
-            op: op.clone()?,
-            abs: abs.clone()?,
-            rep: rep.clone()?,
-            names: copied(self.alloc, names)?,
+        self.push_op(TypeOpView {
+            op,
+            abs,
+            rep,
+            names,
             whole,
             predicate,
             abs_type: types.abs,
             rep_type: types.rep,
-        };
-        self.push_op(definition)?;
+        })?;
         Ok(())
     }
 
     // Takes a type operator and its constants, of which none is taken.
-    fn push_op(&mut self, definition: NewType) -> Result<(), Memory>
-        requires abs { lookup (name_eq definition.abs) (generics_of self.old) ≡ None }
-        requires rep { lookup (name_eq definition.rep) (generics_of self.old) ≡ None }
-        requires apart { name_eq definition.rep definition.abs ≡ false }
-        requires op { lookup (name_eq definition.op) (arities_of self.old) ≡ None }
-        ensures takes { OnOk result (self.new ≡ self.old ++ Taken.type_operator (names_of definition) definition.whole definition.predicate definition.abs_type definition.rep_type ∷ []) }
+    fn push_op(&mut self, definition: TypeOpView) -> Result<(), Memory>
+        requires abs { lookup (name_eq definition.abs.now) (generics_of self.old) ≡ None }
+        requires rep { lookup (name_eq definition.rep.now) (generics_of self.old) ≡ None }
+        requires apart { name_eq definition.rep.now definition.abs.now ≡ false }
+        requires op { lookup (name_eq definition.op.now) (arities_of self.old) ≡ None }
+        ensures takes { OnOk result (self.new ≡ self.old ++ operator_of_view definition.entry ∷ []) }
         ensures unchanged { OnErr result (self.new ≡ self.old) }
     {
-        let op = definition.op.clone()?;
-        let abs = definition.abs.clone()?;
-        let rep = definition.rep.clone()?;
-        let arity = definition.names.len();
-        let types = ConstantTypes {
-            abs: definition.abs_type,
-            rep: definition.rep_type,
-        };
         let count = self.taken.len();
-        self.taken.push(Entry::TypeOp(definition))?;
-        match add_operator(
-            &mut self.generics,
-            &mut self.arities,
-            op,
-            arity,
-            abs,
-            rep,
-            types,
-        ) {
+        push_operator(self.alloc, &mut self.taken, definition)?;
+        match add_operator(&mut self.generics, &mut self.arities, definition) {
             Ok(()) => Ok(()),
             Err(_) => {
                 self.taken.truncate(count);
@@ -187,28 +171,46 @@ impl Symbols {
     }
 }
 
+// Puts a type operator last.
+fn push_operator(
+    alloc: Global,
+    taken: &mut Vec<Entry>,
+    definition: TypeOpView,
+) -> Result<(), Memory>
+    ensures takes { OnOk result (map taken_of taken.new.items ≡ map taken_of taken.old.items ++ operator_of_view definition.entry ∷ []) }
+    ensures unchanged { OnErr result (taken.new.items ≡ taken.old.items) }
+{
+    taken.push(Entry::TypeOp(NewType {
+        op: definition.op.clone()?,
+        abs: definition.abs.clone()?,
+        rep: definition.rep.clone()?,
+        names: copied(alloc, definition.names)?,
+        whole: definition.whole,
+        predicate: definition.predicate,
+        abs_type: definition.abs_type,
+        rep_type: definition.rep_type,
+    }))?;
+    Ok(())
+}
+
 // Notes an operator and its constants.
 fn add_operator(
     generics: &mut Generics,
     arities: &mut Arities,
-    op: Name,
-    arity: usize,
-    abs: Name,
-    rep: Name,
-    types: ConstantTypes,
+    definition: TypeOpView,
 ) -> Result<(), Memory>
-    requires abs { lookup (name_eq abs) generics.old ≡ None }
-    requires rep { lookup (name_eq rep) generics.old ≡ None }
-    requires apart { name_eq rep abs ≡ false }
-    requires op { lookup (name_eq op) arities.old ≡ None }
-    ensures generics { OnOk result (generics.new ≡ generics.old ++ (abs, types.abs) ∷ (rep, types.rep) ∷ []) }
-    ensures arities { OnOk result (arities.new ≡ arities.old ++ (op, arity) ∷ []) }
+    requires abs { lookup (name_eq definition.abs.now) generics.old ≡ None }
+    requires rep { lookup (name_eq definition.rep.now) generics.old ≡ None }
+    requires apart { name_eq definition.rep.now definition.abs.now ≡ false }
+    requires op { lookup (name_eq definition.op.now) arities.old ≡ None }
+    ensures generics { OnOk result (generics.new ≡ generics.old ++ (definition.entry.abs.now, definition.entry.abs_type) ∷ (definition.entry.rep.now, definition.entry.rep_type) ∷ []) }
+    ensures arities { OnOk result (arities.new ≡ arities.old ++ (definition.entry.op.now, length definition.entry.names.now) ∷ []) }
     ensures no_generics { OnErr result (generics.new ≡ generics.old) }
     ensures no_arity { OnErr result (arities.new ≡ arities.old) }
 {
     let count = generics.len();
-    add_constants(generics, abs, rep, types)?;
-    match arities.add(op, arity) {
+    add_constants(generics, definition)?;
+    match arities.add(definition.op, definition.names.len()) {
         Ok(()) => Ok(()),
         Err(_) => {
             generics.cut(count);
@@ -218,21 +220,16 @@ fn add_operator(
 }
 
 // Notes the generic types of two constants.
-fn add_constants(
-    generics: &mut Generics,
-    abs: Name,
-    rep: Name,
-    types: ConstantTypes,
-) -> Result<(), Memory>
-    requires abs { lookup (name_eq abs) generics.old ≡ None }
-    requires rep { lookup (name_eq rep) generics.old ≡ None }
-    requires apart { name_eq rep abs ≡ false }
-    ensures added { OnOk result (generics.new ≡ generics.old ++ (abs, types.abs) ∷ (rep, types.rep) ∷ []) }
+fn add_constants(generics: &mut Generics, definition: TypeOpView) -> Result<(), Memory>
+    requires abs { lookup (name_eq definition.abs.now) generics.old ≡ None }
+    requires rep { lookup (name_eq definition.rep.now) generics.old ≡ None }
+    requires apart { name_eq definition.rep.now definition.abs.now ≡ false }
+    ensures added { OnOk result (generics.new ≡ generics.old ++ (definition.entry.abs.now, definition.entry.abs_type) ∷ (definition.entry.rep.now, definition.entry.rep_type) ∷ []) }
     ensures unchanged { OnErr result (generics.new ≡ generics.old) }
 {
     let count = generics.len();
-    generics.add(abs, types.abs)?;
-    match generics.add(rep, types.rep) {
+    generics.add(definition.abs, definition.abs_type)?;
+    match generics.add(definition.rep, definition.rep_type) {
         Ok(()) => Ok(()),
         Err(_) => {
             generics.cut(count);
@@ -267,13 +264,33 @@ fn are_type_variables(
     requires { term.0 < length table.now.terms }
     ensures { IfOk result (λ are. are ≡ are_type_variables_of names.now (term_at table.now term.0)) }
 {
-    let variables = table.type_vars(term)?;
     let mut own = NameSet::new(alloc);
-    own.unite(copied(alloc, names)?)?;
-    let all = are_among(&own, &variables);
     let mut places = NameSet::new(alloc);
+    let are = are_those_of(alloc, table, names, term, &mut own, &mut places);
+    drop(places);
+    drop(own);
+    are
+}
+
+// The same, with a set for the names and one for the type variables.
+fn are_those_of(
+    alloc: Global,
+    table: &TermTable,
+    names: &[Name],
+    term: TermId,
+    own: &mut NameSet,
+    places: &mut NameSet,
+) -> Result<bool, Memory>
+    requires term { term.0 < length table.now.terms }
+    requires own { own.old ≡ [] }
+    requires places { places.old ≡ [] }
+    ensures { IfOk result (λ are. are ≡ are_type_variables_of names.now (term_at table.now term.0)) }
+{
+    own.unite(copied(alloc, names)?)?;
+    let variables = table.type_vars(term)?;
+    let all = are_among(own, &variables);
     places.unite(variables)?;
-    let only = are_among(&places, names);
+    let only = are_among(places, names);
     Ok(all_of(own.len() == names.len(), only, all))
 }
 
@@ -352,8 +369,26 @@ fn part_type(
     ensures made { IfOk result (λ id. type_at table.new id.0 ≡ operator op.now (types_of (map variable names.now))) }
     ensures keeps { Keeps table.old table.new }
 {
-    let variables = type_variables(alloc, table, names)?;
-    let Ok(part) = table.ty_op(op, &variables) else {
+    let mut variables = Vec::new(alloc);
+    let part = operator_over(table, op, names, &mut variables);
+    drop(variables);
+    part
+}
+
+// The same, with a list for the type variables.
+fn operator_over(
+    table: &mut TermTable,
+    op: &Name,
+    names: &[Name],
+    variables: &mut Vec<TypeId>,
+) -> Result<TypeId, Memory>
+    requires { variables.old.items ≡ [] }
+    ensures known { IfOk result (λ id. id.0 < length table.new.types) }
+    ensures made { IfOk result (λ id. type_at table.new id.0 ≡ operator op.now (types_of (map variable names.now))) }
+    ensures keeps { Keeps table.old table.new }
+{
+    push_variables(table, names, variables)?;
+    let Ok(part) = table.ty_op(op, variables) else {
         return Err(Memory);
     };
     Ok(part)
@@ -375,28 +410,30 @@ fn function_type(
     let Ok(arrow) = Name::single(alloc, b"->") else {
         return Err(Memory);
     };
-    let Ok(made) = table.ty_op(&arrow, &[domain, codomain]) else {
-        return Err(Memory);
-    };
-    Ok(made)
+    let made = table.ty_op(&arrow, &[domain, codomain]);
+    drop(arrow);
+    match made {
+        Ok(id) => Ok(id),
+        Err(_) => Err(Memory),
+    }
 }
 
-// The type variables of these names.
-fn type_variables(
-    alloc: Global,
+// Puts the type variables of these names.
+fn push_variables(
     table: &mut TermTable,
     names: &[Name],
-) -> Result<Vec<TypeId>, Memory>
-    ensures known { IfOk result (λ ids. type.AreKnown table.new.types ids.items) }
-    ensures made { IfOk result (λ ids. type.types_at table.new.types ids.items ≡ map variable names.now) }
+    ids: &mut Vec<TypeId>,
+) -> Result<(), Memory>
+    requires { ids.old.items ≡ [] }
+    ensures known { OnOk result (type.AreKnown table.new.types ids.new.items) }
+    ensures made { OnOk result (type.types_at table.new.types ids.new.items ≡ map variable names.now) }
     ensures keeps { Keeps table.old table.new }
 {
-    let mut ids = Vec::new(alloc);
     for name in names {
         let Ok(id) = table.ty_var(name) else {
             return Err(Memory);
         };
         ids.push(id)?;
     }
-    Ok(ids)
+    Ok(())
 }

@@ -60,6 +60,15 @@ impl NameSet {
         Ok(())
     }
 
+    // Takes a copy of a name, if it is new.
+    pub(crate) fn add_copy(&mut self, name: &Name) -> Result<(), Memory>
+        ensures added { OnOk result (self.new ≡ union name_eq self.old (name.now ∷ [])) }
+        ensures unchanged { OnErr result (self.new ≡ self.old) }
+    {
+        self.add(name.clone()?)?;
+        Ok(())
+    }
+
     // Takes what is new of some names.
     pub(crate) fn unite(&mut self, names: Vec<Name>) -> Result<(), Memory>
         ensures united { OnOk result (self.new ≡ union name_eq self.old names.items) }
@@ -203,11 +212,12 @@ impl Uses {
     }
 
     // Takes an operator, if it is new at this number of arguments.
-    pub(crate) fn add(&mut self, operator: (Name, usize)) -> Result<(), Memory>
-        ensures added { OnOk result (self.new ≡ union same_use self.old (operator ∷ [])) }
+    pub(crate) fn add(&mut self, name: &Name, arity: usize) -> Result<(), Memory>
+        ensures added { OnOk result (self.new ≡ union same_use self.old ((name.now, arity) ∷ [])) }
         ensures unchanged { OnErr result (self.new ≡ self.old) }
     {
-        self.uses.insert_full(operator)?;
+        let own = name.clone()?;
+        self.uses.insert_full((own, arity))?;
         Ok(())
     }
 
@@ -257,12 +267,13 @@ impl Generics {
     }
 
     // Notes the generic type of a constant that has none.
-    pub(crate) fn add(&mut self, name: Name, ty: TypeId) -> Result<(), Memory>
-        requires { lookup (name_eq name) self.old ≡ None }
-        ensures added { OnOk result (self.new ≡ self.old ++ (name, ty) ∷ []) }
+    pub(crate) fn add(&mut self, name: &Name, ty: TypeId) -> Result<(), Memory>
+        requires { lookup (name_eq name.now) self.old ≡ None }
+        ensures added { OnOk result (self.new ≡ self.old ++ (name.now, ty) ∷ []) }
         ensures unchanged { OnErr result (self.new ≡ self.old) }
     {
-        self.types.insert(name, ty)?;
+        let own = name.clone()?;
+        self.types.insert(own, ty)?;
         Ok(())
     }
 
@@ -305,12 +316,13 @@ impl Arities {
     }
 
     // Notes how many arguments an operator takes of which this isn't known.
-    pub(crate) fn add(&mut self, name: Name, count: usize) -> Result<(), Memory>
-        requires { lookup (name_eq name) self.old ≡ None }
-        ensures added { OnOk result (self.new ≡ self.old ++ (name, count) ∷ []) }
+    pub(crate) fn add(&mut self, name: &Name, count: usize) -> Result<(), Memory>
+        requires { lookup (name_eq name.now) self.old ≡ None }
+        ensures added { OnOk result (self.new ≡ self.old ++ (name.now, count) ∷ []) }
         ensures unchanged { OnErr result (self.new ≡ self.old) }
     {
-        self.counts.insert(name, count)?;
+        let own = name.clone()?;
+        self.counts.insert(own, count)?;
         Ok(())
     }
 }

@@ -1,5 +1,5 @@
 //! Uses of constants and operators: an input is taken where it is first used.
-ghost use Rattle.std.specs.Prelude.{◌≡◌, ◌<◌, ◌++◌, ◌∷◌, [], None, Some, false, length, IfOk, IfErr, OnOk, OnErr};
+ghost use Rattle.std.specs.Prelude.{◌≡◌, ◌<◌, ◌++◌, ◌∷◌, [], None, Some, false, length, map, IfOk, IfErr, OnOk, OnErr};
 ghost use Rattle.hol_spec.specs.Lists.{is_in, union};
 ghost use Rattle.hol_spec.specs.NameEquality.{name_eq};
 ghost use Rattle.hol_spec.specs.Substitution.{is_instance as is_instance_of};
@@ -7,7 +7,7 @@ ghost use Rattle.hol_spec.specs.Symbols.{generic_type, operator_arity, new_const
 ghost use Rattle.hol_type.specs.Tables.{tree_at};
 ghost use Rattle.hol_term.specs.Tables.{Trees, type_at};
 ghost use Rattle.hol_defs.specs.Generics.{generic_at, IsGenericKnown};
-ghost use Rattle.hol_defs.specs.Indexes.{inputs_of, uses_of, same_use};
+ghost use Rattle.hol_defs.specs.Indexes.{inputs_of, taken_of, uses_of, same_use};
 ghost use Rattle.hol_defs.specs.Refusals.{FitsGeneric, FitsArity, RefusesConstant, RefusesOperator};
 ghost use Rattle.hol_defs.specs.Symbols.{Taken, symbols_at, AreKnownSymbols};
 
@@ -88,10 +88,12 @@ impl Symbols {
         ensures known { (trees : Trees) → AreKnownSymbols trees self.old → AreKnownSymbols trees self.new }
     {
         let operator = (name.clone()?, arity);
-        if self.is_use(&operator) {
+        let is_use = self.is_use(&operator);
+        drop(operator);
+        if is_use {
             return Ok(());
         }
-        self.take_input_operator(name, operator)?;
+        self.take_input_operator(name, arity)?;
         Ok(())
     }
 
@@ -101,11 +103,9 @@ impl Symbols {
         ensures takes { OnOk result (self.new ≡ self.old ++ Taken.input_constant name.now ∷ []) }
         ensures unchanged { OnErr result (self.new ≡ self.old) }
     {
-        let own = name.clone()?;
-        let entry = Entry::InputConst(name.clone()?);
         let count = self.taken.len();
-        self.taken.push(entry)?;
-        match self.inputs.add(own) {
+        push_input(&mut self.taken, name)?;
+        match self.inputs.add_copy(name) {
             Ok(()) => Ok(()),
             Err(_) => {
                 self.taken.truncate(count);
@@ -115,17 +115,14 @@ impl Symbols {
     }
 
     // Takes an input operator that isn't taken with so many arguments.
-    fn take_input_operator(&mut self, name: &Name, operator: (Name, usize)) -> Result<(), Memory>
-        requires name { operator.0 ≡ name.now }
-        requires new { is_in same_use operator (uses_of self.old) ≡ false }
-        ensures takes { OnOk result (self.new ≡ self.old ++ Taken.input_operator operator.0 operator.1 ∷ []) }
+    fn take_input_operator(&mut self, name: &Name, arity: usize) -> Result<(), Memory>
+        requires { is_in same_use (name.now, arity) (uses_of self.old) ≡ false }
+        ensures takes { OnOk result (self.new ≡ self.old ++ Taken.input_operator name.now arity ∷ []) }
         ensures unchanged { OnErr result (self.new ≡ self.old) }
     {
-        let own = name.clone()?;
-        let entry = Entry::InputOp(name.clone()?, operator.1);
         let count = self.taken.len();
-        self.taken.push(entry)?;
-        match add_use(&mut self.uses, &mut self.names, operator, own) {
+        push_input_operator(&mut self.taken, name, arity)?;
+        match add_use(&mut self.uses, &mut self.names, name, arity) {
             Ok(()) => Ok(()),
             Err(_) => {
                 self.taken.truncate(count);
@@ -135,21 +132,34 @@ impl Symbols {
     }
 }
 
+// Puts an input constant last.
+fn push_input(taken: &mut Vec<Entry>, name: &Name) -> Result<(), Memory>
+    ensures takes { OnOk result (map taken_of taken.new.items ≡ map taken_of taken.old.items ++ Taken.input_constant name.now ∷ []) }
+    ensures unchanged { OnErr result (taken.new.items ≡ taken.old.items) }
+{
+    taken.push(Entry::InputConst(name.clone()?))?;
+    Ok(())
+}
+
+// Puts an input operator last.
+fn push_input_operator(taken: &mut Vec<Entry>, name: &Name, arity: usize) -> Result<(), Memory>
+    ensures takes { OnOk result (map taken_of taken.new.items ≡ map taken_of taken.old.items ++ Taken.input_operator name.now arity ∷ []) }
+    ensures unchanged { OnErr result (taken.new.items ≡ taken.old.items) }
+{
+    taken.push(Entry::InputOp(name.clone()?, arity))?;
+    Ok(())
+}
+
 // Notes an operator at a number of arguments, and its name.
-fn add_use(
-    uses: &mut Uses,
-    names: &mut NameSet,
-    operator: (Name, usize),
-    name: Name,
-) -> Result<(), Memory>
-    ensures uses { OnOk result (uses.new ≡ union same_use uses.old (operator ∷ [])) }
-    ensures names { OnOk result (names.new ≡ union name_eq names.old (name ∷ [])) }
+fn add_use(uses: &mut Uses, names: &mut NameSet, name: &Name, arity: usize) -> Result<(), Memory>
+    ensures uses { OnOk result (uses.new ≡ union same_use uses.old ((name.now, arity) ∷ [])) }
+    ensures names { OnOk result (names.new ≡ union name_eq names.old (name.now ∷ [])) }
     ensures no_use { OnErr result (uses.new ≡ uses.old) }
     ensures no_name { OnErr result (names.new ≡ names.old) }
 {
     let count = uses.len();
-    uses.add(operator)?;
-    match names.add(name) {
+    uses.add(name, arity)?;
+    match names.add_copy(name) {
         Ok(()) => Ok(()),
         Err(_) => {
             uses.cut(count);

@@ -1,8 +1,6 @@
-use Rattle.std.proofs.Common.{◌≡◌}
-use Rattle.std.specs.Map.{lookup}
-use Rattle.hol_term.specs.declared.Variable.{Variable}
-use Rattle.hol_defs.specs.Lists.{same_variable, term_of}
+use Rattle.std.proofs.Common.{take}
+use Rattle.hol_defs.specs.Lists.{AreFound}
 use Rattle.hol_defs.proofs.lists.first_terms.Given as goal
 
-abbrev pub invariant-loop-equation : goal.invariant-loop-equation
-invariant-loop-equation l = (v : Variable) → lookup (same_variable v) l.found ≡ term_of l.yielded v
+abbrev pub invariant-loop-pair : goal.invariant-loop-pair
+invariant-loop-pair l = AreFound (take l.pair-index l.pairs) l.fn.equations.items l.terms.items

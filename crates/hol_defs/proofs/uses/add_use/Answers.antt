@@ -5,4 +5,5 @@ use Rattle.hol_defs.proofs.UseLaws.{take-united}
 use Rattle.hol_defs.proofs.uses.add_use.Goals as goal
 
 pub returns-in-Err-clause-no_use : goal.returns-in-Err-clause-no_use
-returns-in-Err-clause-no_use c = c.cut.ensures ∙ ap (λ n. take n c.add.new.self) c.len-count.ensures ∙ ap (take (length c.args.uses.now)) c.in_ok-add.ensures.added ∙ take-united same_use c.args.uses.now c.args.operator
+returns-in-Err-clause-no_use c =
+    c.cut.ensures ∙ ap (λ n. take n c.add.new.self) c.len-count.ensures ∙ ap (take (length c.args.uses.now)) c.in_ok-add.ensures.added ∙ take-united same_use c.args.uses.now (c.args.name.now, c.args.arity)

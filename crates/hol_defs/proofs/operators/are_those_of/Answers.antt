@@ -6,12 +6,12 @@ use Rattle.hol_spec.specs.Lists.{is_in, union}
 use Rattle.hol_spec.specs.NameEquality.{name_eq}
 use Rattle.hol_term.specs.Tables.{term_at}
 use Rattle.hol_defs.proofs.JudgeLaws.{are_variables-listed}
-use Rattle.hol_defs.proofs.operators.are_type_variables.Goals as goal
+use Rattle.hol_defs.proofs.operators.are_those_of.Goals as goal
 
 pub returns : goal.returns
 returns c =
-    let mine = c.in_ok-unite.ensures.united ∙ ap₂ (union name_eq) c.new-own.ensures.empty c.in_ok-copied.ensures in
-    let places = c.in_ok-unite-2.ensures.united ∙ ap (λ l. union name_eq l c.in_ok-variables.variables.items) c.new-places.ensures.empty in
+    let mine = c.in_ok-unite.ensures.united ∙ ap₂ (union name_eq) c.requires.own c.in_ok-copied.ensures in
+    let places = c.in_ok-unite-2.ensures.united ∙ ap (λ l. union name_eq l c.in_ok-variables.variables.items) c.requires.places in
     let once = ap (λ n. nat_eq n (length c.args.names.now)) c.len.ensures in
     let all = c.are_among-all.ensures ∙ ap (list_all (λ n. is_in name_eq n c.unite.new.self)) c.deref.ensures.value in
     c.all_of.ensures ∙ (λ i. once i && c.are_among-only.ensures i && all i)
