@@ -212,12 +212,11 @@ impl Uses {
     }
 
     // Takes an operator, if it is new at this number of arguments.
-    pub(crate) fn add(&mut self, name: &Name, arity: usize) -> Result<(), Memory>
-        ensures added { OnOk result (self.new ≡ union same_use self.old ((name.now, arity) ∷ [])) }
+    pub(crate) fn add(&mut self, operator: (Name, usize)) -> Result<(), Memory>
+        ensures added { OnOk result (self.new ≡ union same_use self.old (operator ∷ [])) }
         ensures unchanged { OnErr result (self.new ≡ self.old) }
     {
-        let own = name.clone()?;
-        self.uses.insert_full((own, arity))?;
+        self.uses.insert_full(operator)?;
         Ok(())
     }
 

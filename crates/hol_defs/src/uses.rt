@@ -158,7 +158,7 @@ fn add_use(uses: &mut Uses, names: &mut NameSet, name: &Name, arity: usize) -> R
     ensures no_name { OnErr result (names.new ≡ names.old) }
 {
     let count = uses.len();
-    uses.add(name, arity)?;
+    uses.add((name.clone()?, arity))?;
     match names.add_copy(name) {
         Ok(()) => Ok(()),
         Err(_) => {

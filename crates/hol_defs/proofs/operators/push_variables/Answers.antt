@@ -12,6 +12,9 @@ loop-name-init c = subst (AreVariables c.args.table.now c.args.table.now []) (sy
 pub returns-in_default-clause-keeps : goal.returns-in_default-clause-keeps
 returns-in_default-clause-keeps c = Keeps-trans c.loop-name.invariant.keeps c.in_default.ensures.keeps
 
+pub returns-in_err-push-clause-keeps : goal.returns-in_err-push-clause-keeps
+returns-in_err-push-clause-keeps c = Keeps-trans c.loop-name.invariant.keeps c.in-Ok.ensures.keeps
+
 pub loop-name-preserved : goal.loop-name-preserved
 loop-name-preserved c =
     rw (take_more c.args.names.now c.loop-name.name-index c.name-item.result c.loop-name-test.true, ← c.name-item.is, c.in_ok-push.ensures.items) (
