@@ -1,7 +1,9 @@
 -- Where symbols are found, and which symbols these are.
-use Rattle.std.proofs.Common.{◌≡◌, ℕ, ◌<◌, refl, ap, sym, ◌∙◌, List, [], ◌∷◌, length, Bool, true, false, cond, Option, None, Some}
-use Rattle.std.specs.Prelude.{◌||◌, is_some, IfSome}
+use Rattle.std.proofs.Common.{◌≡◌, ℕ, ◌<◌, refl, ap, sym, ◌∙◌, arith, List, [], ◌∷◌, map, length, get_or, Bool, true, false, cond, Option, None, Some}
+use Rattle.std.specs.Prelude.{◌||◌, is_some, slice_get, IfSome}
 use Rattle.std.specs.List.{list_any}
+use Rattle.std.proofs.lemmas.List.{length-map}
+use Rattle.std.proofs.lemmas.Option.{slice_get-get_or, slice_get-map}
 use Rattle.std.specs.Map.{lookup}
 use Rattle.std.specs.Option.{option_or, option_map}
 use Rattle.std.proofs.Math.Path.{ap₂}
@@ -12,8 +14,9 @@ use Rattle.hol_spec.specs.Primitives.{primitive_type, primitive_arity}
 use Rattle.hol_spec.specs.Symbols.{Symbol, is_input_constant, is_input_operator, is_input_operator_named, first_defined_type, first_defined_arity, is_taken_constant, is_taken_operator}
 use Rattle.hol_type.specs.declared.table.TypeId.{TypeId}
 use Rattle.hol_term.specs.Tables.{Trees}
+use Rattle.hol_defs.specs.declared.entry.Entry.{Entry}
 use Rattle.hol_defs.specs.Generics.{number_at}
-use Rattle.hol_defs.specs.Indexes.{inputs_of, generics_of, uses_of, arities_of, same_use, is_used}
+use Rattle.hol_defs.specs.Indexes.{taken_of, inputs_of, generics_of, uses_of, arities_of, same_use, is_used}
 use Rattle.hol_defs.specs.Kinds.{constant_kind, operator_kind, first_kind}
 use Rattle.hol_defs.specs.Symbols.{Taken, symbols_at, AreKnownSymbols}
 use Rattle.hol_defs.specs.Symbols as one
@@ -145,3 +148,9 @@ unsettled trees n xs e = sym (arities-found trees n xs) ∙ second_none (primiti
     second_none None None b e = refl
     second_none None (Some x) b e = absurd (cc)
     second_none (Some x) p b e = absurd (cc)
+
+-- the symbol at a place is that of the entry there
+pub entry-shown : (entries : List Entry) (now : List Taken) (place : ℕ) (x y : Entry) → map taken_of entries ≡ now → place < length now → x ≡ get_or entries place x → x ≡ y → slice_get now place ≡ Some (taken_of y)
+entry-shown entries now place x y is inside at e =
+    let l : place < length entries = omega (arith, inside, ap length is, length-map entries taken_of) in
+    sym (ap (λ l. slice_get l place) is) ∙ slice_get-map taken_of entries place ∙ ap (option_map taken_of) (slice_get-get_or entries place x l ∙ ap Some (sym at ∙ e))

@@ -1,5 +1,5 @@
 -- What the definition of a type operator is judged by, and what it comes to.
-use Rattle.std.proofs.Common.{◌≡◌, refl, sym, ap, subst, ◌∙◌, List, [], ◌∷◌, Bool, true, false, None}
+use Rattle.std.proofs.Common.{◌≡◌, refl, sym, ap, subst, ◌∙◌, List, [], ◌∷◌, Bool, true, false, Option, None}
 use Rattle.std.specs.Prelude.{not, ◌||◌}
 use Rattle.std.specs.Option.{option_or}
 use Rattle.std.proofs.Math.Path.{ap₂}
@@ -10,6 +10,7 @@ use Rattle.hol_spec.specs.Terms.{Term, app, HasType}
 use Rattle.hol_spec.specs.Definitions.{TypeNames}
 use Rattle.hol_spec.specs.Symbols.{Symbol, is_taken_constant, is_taken_operator}
 use Rattle.bridge_base.specs.declared.faults.Fault.{Fault}
+use Rattle.bridge_base.specs.declared.faults.Fault.TheVariants as fault
 use Rattle.bridge_base.specs.declared.faults.Kind.{Kind}
 use Rattle.bridge_base.specs.declared.faults.Kind.TheVariants.{NameTaken, NotClosed, BadTypeVars}
 use Rattle.hol_spec.specs.Defining.{is_closed}
@@ -47,6 +48,11 @@ own_function u p w f t e k = same_function (sym e ∙ k)
 
 pub own_type : (u p w f t : Term) (a c : HolType) → u ≡ app p w → u ≡ app f t → HasType w a → HasType t c → a ≡ c
 own_type u p w f t a c e k h i = let s : w ≡ t = same_argument (sym e ∙ k) in same_Some _ _ (sym h ∙ subst (λ v. HasType v c) (sym s) i)
+
+-- what the names or the predicate refuse is refused
+pub operator_refused : (symbols : List Symbol) (names : TypeNames) (p f : Term) (limits : Option Kind) → p ≡ f → (why : Fault) → Refuses why (operator_fault symbols names p) → Refuses why (option_or (operator_fault symbols names f) limits)
+operator_refused symbols names p f limits same (fault.Refused kind) r = ap (λ o. option_or o limits) (sym (ap (operator_fault symbols names) same) ∙ r)
+operator_refused symbols names p f limits same fault.Memory r = tt
 
 module _ (symbols : List Symbol) (names : TypeNames) (p f : Term) (a c : HolType) (same : p ≡ f) (typed : a ≡ c) (none : operator_fault symbols names p ≡ None) where
   -- nothing is refused

@@ -4,7 +4,7 @@ use Rattle.std.specs.Prelude.{◌||◌, is_some, take, MatchOption}
 use Rattle.std.specs.List.{list_any}
 use Rattle.std.specs.Vec.{vec_len}
 use Rattle.std.specs.declared.vec.Vec.{Vec}
-use Rattle.std.proofs.lemmas.List.{append-nil, take-map}
+use Rattle.std.proofs.lemmas.List.{append-nil, map-append, take-map}
 use Rattle.std.proofs.lemmas.List.Folds.{list_any-append}
 use Rattle.std.proofs.lemmas.Grind.{common_steps, flat_map-append}
 use Rattle.std.proofs.Math.Path.{ap₂}
@@ -120,6 +120,10 @@ IsIndexed-constant xs ys i g h u ns a n t ty was e eh = rw (e, eh) (record {
   names_are = λ m. was.names_are m ∙ ap (is_used m) (sym (append-nil _) ∙ sym (flat_map-append uses_in xs (Taken.constant n t ty ∷ [])));
   arities_are = was.arities_are ∙ sym (append-nil _) ∙ sym (flat_map-append arities_in xs (Taken.constant n t ty ∷ []));
 })
+
+-- the symbols with an entry more
+pub taken_of-last : (old new : List Entry) (x : Entry) (y : Taken) → new ≡ old ++ x ∷ [] → taken_of x ≡ y → map taken_of new ≡ map taken_of old ++ y ∷ []
+taken_of-last old new x y e is = ap (map taken_of) e ∙ map-append taken_of old (x ∷ []) ∙ ap (λ z. map taken_of old ++ z ∷ []) is
 
 -- the entries without what was put last keep the symbols that there were
 pub taken_of-cut : (old : Vec Entry Global) (fs gs : List Entry) (x : Taken) (count : ℕ) → map taken_of fs ≡ map taken_of old.items ++ x ∷ [] → count ≡ vec_len old → gs ≡ take count fs → map taken_of gs ≡ map taken_of old.items

@@ -1,6 +1,6 @@
-use Rattle.std.proofs.Common.{sym, subst, ◌∷◌, []}
+use Rattle.std.proofs.Common.{ap, sym, subst, ◌∙◌, ◌∷◌, []}
 use Rattle.hol_defs.specs.Symbols.{Taken, symbols_at, AreKnownSymbols}
-use Rattle.hol_defs.specs.SymbolLaws.{AreKnownSymbols-append}
+use Rattle.hol_defs.specs.SymbolLaws.{symbols_at-append, AreKnownSymbols-append}
 use Rattle.hol_spec.specs.Defining.{is_closed}
 use Rattle.hol_spec.specs.Symbols.{is_taken_constant}
 use Rattle.hol_term.specs.Tables.{term_at}
@@ -19,3 +19,10 @@ returns-in_ok-take_const-in-Ok-clause-known c = subst (AreKnownSymbols c.args.ta
       record { term = known_term c.args.table.now c.args.term.0 c.requires.term; ty = c.type_of.ensures.known; typed = c.type_of.ensures.is },
       tt,
     ))
+
+pub returns-in_ok-take_const-in-Ok-clause-takes : goal.returns-in_ok-take_const-in-Ok-clause-takes
+returns-in_ok-take_const-in-Ok-clause-takes c =
+    ap (symbols_at c.args.table.now) c.in_ok-take_const-in-Ok.ensures.takes ∙ symbols_at-append c.args.table.now c.args.self.now (Taken.constant c.args.name.now c.args.term c.type_of.result ∷ [])
+
+pub returns-in_err-take_const-in-Ok-clause-known : goal.returns-in_err-take_const-in-Ok-clause-known
+returns-in_err-take_const-in-Ok-clause-known c = subst (AreKnownSymbols c.args.table.now) (sym c.in_err-take_const-in-Ok.ensures.unchanged) c.requires.known

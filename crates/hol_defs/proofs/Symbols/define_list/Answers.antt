@@ -36,3 +36,6 @@ returns-in_ok-taken-in-Ok-clause-known c =
     let ts = c.in-Ok.terms.items in
     subst (AreKnownSymbols trees) (sym (c.in_ok-taken-in-Ok.ensures.takes ∙ ap (λ l. c.args.self.now ++ constants_of ps l) c.deref.ensures.value)) (
     AreKnownSymbols-append trees c.args.self.now (constants_of ps ts) c.requires.known (constants-known trees (pairs_at trees ps) hs ps ts c.requires.pairs c.in-Ok.ensures.defined))
+
+pub returns-in_err-taken-in-Ok-clause-known : goal.returns-in_err-taken-in-Ok-clause-known
+returns-in_err-taken-in-Ok-clause-known c = subst (AreKnownSymbols c.args.table.now) (sym c.in_err-taken-in-Ok.ensures.unchanged) c.requires.known

@@ -7,13 +7,34 @@ use Rattle.hol_spec.specs.Symbols.{Symbol}
 use Rattle.proof_laws.specs.SymbolGrowth.{symmetric}
 use Rattle.hol_type.specs.Tables.{tree_at}
 use Rattle.hol_term.specs.Tables.{term_at, type_at}
+use Rattle.hol_term.specs.TableLaws.{Keeps-refl}
 use Rattle.hol_defs.specs.Faults.{limit_fault, types_made, Refuses}
 use Rattle.hol_defs.specs.Symbols.{named, symbols_at, AreKnownSymbols}
 use Rattle.hol_defs.specs.SymbolLaws.{AreKnownSymbols-Keeps}
 use Rattle.hol_defs.proofs.IndexLaws.{undefined, unsettled}
-use Rattle.hol_defs.proofs.OperatorEnds.{own_function, own_type, new_names, none_refused, limit_refused}
+use Rattle.hol_defs.proofs.OperatorEnds.{own_function, own_type, new_names, none_refused, operator_refused, limit_refused}
 use Rattle.hol_defs.proofs.OperatorLaws.{operator-symbols, operator-known}
 use Rattle.hol_defs.proofs.Symbols.define_op.Goals as goal
+
+pub returns-in-Err-clause-refusal : goal.returns-in-Err-clause-refusal
+returns-in-Err-clause-refusal c = λ f t d k h.
+    let trees = c.args.table.now in
+    let names = named c.args.op.now c.args.abs.now c.args.rep.now c.args.names.now in
+    let p = term_at trees c.application_parts.result.0.0 in
+    operator_refused (symbols_at trees c.args.self.now) names p f (limit_fault (types_made names d)) (own_function (term_at trees c.args.term.0) p (term_at trees c.application_parts.result.1.0) f t c.application_parts.ensures.parts k) c.in-Err.fault
+    c.in-Err.ensures.refusal
+
+pub returns-in-Err-clause-keeps : goal.returns-in-Err-clause-keeps
+returns-in-Err-clause-keeps c = Keeps-refl c.args.table.now
+
+pub returns-in-Err-within_limits-clause-keeps : goal.returns-in-Err-within_limits-clause-keeps
+returns-in-Err-within_limits-clause-keeps c = Keeps-refl c.args.table.now
+
+pub returns-in_err-take_op-clause-keeps : goal.returns-in_err-take_op-clause-keeps
+returns-in_err-take_op-clause-keeps c = c.in_err-take_op.ensures.keeps
+
+pub returns-clause-keeps : goal.returns-clause-keeps
+returns-clause-keeps c = c.in_ok-take_op.ensures.keeps
 
 pub returns-in-Err-within_limits-clause-refusal : goal.returns-in-Err-within_limits-clause-refusal
 returns-in-Err-within_limits-clause-refusal c = λ f t d k h.

@@ -1,8 +1,8 @@
-use Rattle.std.proofs.Common.{List, map, true, sym, ap, ◌∙◌}
+use Rattle.std.proofs.Common.{List, map, true, sym, ap, subst, ◌∙◌}
 use Rattle.std.specs.List.{list_all}
 use Rattle.hol_spec.specs.Defining.{is_closed, has_type_variables_of}
 use Rattle.hol_defs.specs.declared.lists.Equation.{Equation}
-use Rattle.hol_defs.specs.Lists.{equation_at, pairs_at, sequent_at}
+use Rattle.hol_defs.specs.Lists.{equation_at, pairs_at, sequent_at, AreEquationsKnown}
 use Rattle.hol_defs.proofs.JudgeLaws.{known_term}
 use Rattle.hol_defs.proofs.ListFaults.{equations_fault-open, equations_fault-extra, equations_fault-no_list, equations_fault-none}
 use Rattle.hol_defs.proofs.PairLaws.{equations-are, variables-known}
@@ -11,8 +11,17 @@ use Rattle.hol_defs.proofs.lists.judge_equations.Goals as goal
 pub push_equations-requires-clause-variables : goal.push_equations-requires-clause-variables
 push_equations-requires-clause-variables c = variables-known c.args.table.now c.args.pairs.now c.args.variables.now c.requires.variables c.requires.pairs
 
+pub are_closed-requires : goal.are_closed-requires
+are_closed-requires c = subst (AreEquationsKnown c.args.table.now) (sym c.deref.ensures.value) c.in_ok-push_equations.ensures.known
+
+pub have_own_variables-requires : goal.have_own_variables-requires
+have_own_variables-requires c = subst (AreEquationsKnown c.args.table.now) (sym c.deref-2.ensures.value) c.in_ok-push_equations.ensures.known
+
 pub is_list-requires-clause-concl : goal.is_list-requires-clause-concl
 is_list-requires-clause-concl c = known_term c.args.table.now c.args.concl.0 c.requires.concl
+
+pub returns-clause-known : goal.returns-clause-known
+returns-clause-known c = c.in_ok-push_equations.ensures.known
 
 pub returns-clause-said : goal.returns-clause-said
 returns-clause-said c = c.in_ok-push_equations.ensures.said ∙ equations-are c.args.table.now c.requires.distinct c.args.pairs.now c.args.variables.now c.requires.variables c.requires.pairs c.args.hyps.now
