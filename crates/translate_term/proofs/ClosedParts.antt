@@ -13,7 +13,7 @@ use Rattle.lp_spec.specs.Trees.{Tree, Sym, App, Pi}
 use Rattle.lp_spec.specs.Modules.{applied, products, types, term_of, proof_of}
 use Rattle.lp_term.specs.declared.LpId.{LpId}
 use Rattle.lp_term.specs.Tables.{tree_at, Holds, Keeps}
-use Rattle.lp_term.specs.TableLaws.{Holds-tree_at, Keeps-trans, tree_at-Stays}
+use Rattle.lp_term.specs.TableLaws.{Holds-tree_at, tree_at-Stays}
 use Rattle.holide_sig.specs.declared.module.Module.{Module}
 use Rattle.module_spec.specs.Scopes.{type_tree, term_tree}
 use Rattle.sequent.specs.declared.closed.ClosedType.{ClosedType}
@@ -47,11 +47,10 @@ pairwise-length P (x ∷ xs) [] h = absurd h
 pairwise-length P (x ∷ xs) (y ∷ ys) h = ap suc (pairwise-length P xs ys h.1)
 
 -- a product over one more part
-pub product_made : (t0 t1 t2 t3 : List Tree) (part domain product made : LpId) (x : Tree) (head : ℕ) → Keeps t0 t1 → Keeps t1 t2 → product.0 < length t0 → Holds t1 part.0 x → Holds t2 domain.0 (App (Sym head) (tree_at t1 part.0))
-    → Holds t3 made.0 (Pi (tree_at t2 domain.0) (tree_at t2 product.0)) → tree_at t3 made.0 ≡ Pi (App (Sym head) x) (tree_at t0 product.0)
-product_made t0 t1 t2 t3 part domain product made x head j k known h d p =
-    Holds-tree_at t3 made.0 _ p
-    ∙ ap₂ Pi (Holds-tree_at t2 domain.0 _ d ∙ ap (App (Sym head)) (Holds-tree_at t1 part.0 x h)) (sym (tree_at-Stays (Keeps-trans j k).stays product.0 known))
+pub product_made : (t0 t1 t2 : List Tree) (part product made : LpId) (x : Tree) (head : ℕ) → Keeps t0 t1 → product.0 < length t0 → Holds t1 part.0 x → Holds t2 made.0 (Pi (App (Sym head) (tree_at t1 part.0)) (tree_at t1 product.0))
+    → tree_at t2 made.0 ≡ Pi (App (Sym head) x) (tree_at t0 product.0)
+product_made t0 t1 t2 part product made x head k known h p =
+    Holds-tree_at t2 made.0 _ p ∙ ap₂ (λ a b. Pi (App (Sym head) a) b) (Holds-tree_at t1 part.0 x h) (sym (tree_at-Stays k.stays product.0 known))
 
 module _ (given : Numbered) where
   domains-last : (depth : ℕ) (hs : List Term) (h : Term) (t : Tree)

@@ -17,8 +17,8 @@ use Rattle.sequent.specs.Closed.{closed_type_view, closed_term_view, closed_view
 use Rattle.translate_term.specs.declared.closed.Work.TheVariants as work
 use Rattle.translate_term.specs.Told.{TellsClosed}
 use Rattle.translate_term.specs.Walks.{Grows}
-use Rattle.translate_term.specs.Closed.{Numbered, scope_under, IsTypeOf, IsTermOf, IsInside, IsNumbered, IsClosedStart, AreHypotheses, AreVariables, hypothesis_domains, variable_domains}
-use Rattle.translate_term.proofs.ParameterScopes.{numbered_of, sequent_tree-under, hypotheses-are, conclusion-is, variables-are, count-is}
+use Rattle.translate_term.specs.Closed.{Numbered, scope_under, IsTypeOf, IsTermOf, IsInside, IsNumbered, IsClosedStart, AreHypotheses, AreVariables, hypothesis_domains, numbered_of, statement_under, variable_domains}
+use Rattle.translate_term.proofs.ParameterScopes.{sequent_tree-under, hypotheses-are, conclusion-is, variables-are, count-is}
 use Rattle.translate_term.proofs.ClosedTurns.{IsNumbered-Grows}
 use Rattle.translate_term.proofs.ClosedParts.{pairwise-length, term_start}
 
@@ -63,17 +63,24 @@ module _ (symbols : Symbols) (s : Sequent) (m : Module) (closed : Closed) (told 
       → AreVariables given (map (λ (v : Variable). v.1) (free_variables_of s)) now closed.type_vars (map closed_type_view closed.free_vars.items) inside
   variables_start now inside g k = record { numbered = IsNumbered-Grows g given closed.type_vars numbered; are = variables-are (declarations_of m) symbols s (closed_view closed) told; known = k }
 
-  pub product_is : (terms proofs : ℕ) (c p h v : Tree) → terms ≡ closed.type_vars + length closed.free_vars.items → proofs ≡ closed.type_vars + length closed.free_vars.items + length closed.hyps.items
-      → c ≡ term_tree symbols (scope_under given proofs) s.conclusion → p ≡ proof_of c → h ≡ products (hypothesis_domains given terms s.hypotheses) p
-      → v ≡ products (variable_domains given closed.type_vars (map (λ (v : Variable). v.1) (free_variables_of s))) h → products (replicate closed.type_vars types) v ≡ sequent_tree symbols s
-  product_is terms proofs c p h v t f ec ep eh ev =
-      let variables = map (λ (v : Variable). v.1) (free_variables_of s) in
+  pub statement_is : (terms proofs : ℕ) (c p h : Tree) → terms ≡ closed.type_vars + length closed.free_vars.items → proofs ≡ closed.type_vars + length closed.free_vars.items + length closed.hyps.items
+      → c ≡ term_tree symbols (scope_under given proofs) s.conclusion → p ≡ proof_of c → h ≡ products (hypothesis_domains given terms s.hypotheses) p → h ≡ statement_under given s
+  statement_is terms proofs c p h t f ec ep eh =
       let n = length (type_variables_of s) in
       let count : closed.type_vars ≡ n = sym numbered.count in
       let a = variables-count in
       let b = hypotheses-count in
       let under : terms ≡ n + length (free_variables_of s) = omega (arith, t, a, count) in
       let over : proofs ≡ n + length (free_variables_of s) + length s.hypotheses = omega (arith, f, a, b, count) in
-      ap (products (replicate closed.type_vars types)) (ev ∙ ap (products (variable_domains given closed.type_vars variables)) (eh ∙ ap (products (hypothesis_domains given terms s.hypotheses)) (ep ∙ ap proof_of ec)))
-      ∙ (λ i. products (replicate (count i) types) (products (variable_domains given (count i) variables) (products (hypothesis_domains given (under i) s.hypotheses) (proof_of (term_tree symbols (scope_under given (over i)) s.conclusion)))))
+      eh
+      ∙ ap (products (hypothesis_domains given terms s.hypotheses)) (ep ∙ ap proof_of ec)
+      ∙ (λ i. products (hypothesis_domains given (under i) s.hypotheses) (proof_of (term_tree symbols (scope_under given (over i)) s.conclusion)))
+
+  pub product_is : (h v : Tree) → h ≡ statement_under given s → v ≡ products (variable_domains given closed.type_vars (map (λ (v : Variable). v.1) (free_variables_of s))) h
+      → products (replicate closed.type_vars types) v ≡ sequent_tree symbols s
+  product_is h v eh ev =
+      let variables = map (λ (v : Variable). v.1) (free_variables_of s) in
+      let count : closed.type_vars ≡ length (type_variables_of s) = sym numbered.count in
+      ap (products (replicate closed.type_vars types)) (ev ∙ ap (products (variable_domains given closed.type_vars variables)) eh)
+      ∙ (λ i. products (replicate (count i) types) (products (variable_domains given (count i) variables) (statement_under given s)))
       ∙ sym (sequent_tree-under (declarations_of m) symbols s (closed_view closed) told)

@@ -1,10 +1,9 @@
 -- What a turn does to a walk over a closed sequent's parts.
-use Rattle.std.proofs.Common.{◌≡◌, ℕ, suc, ◌+◌, ◌-◌, ◌<◌, ◌≤◌, List, [], ◌∷◌, map, length, Some, Option, refl, sym, ap, subst, ◌∙◌, arith}
+use Rattle.std.proofs.Common.{◌≡◌, ℕ, suc, ◌+◌, ◌-◌, ◌<◌, ◌≤◌, List, [], ◌∷◌, map, length, Some, refl, sym, ap, subst, ◌∙◌, arith}
 use Rattle.std.specs.Borrow.{Bor}
 use Rattle.std.specs.Prelude.{IsSome, is_some}
 use Rattle.std.specs.List.{AllByRecursion}
 use Rattle.std.proofs.Math.Path.{ap₂}
-use Rattle.std.proofs.lemmas.Option.{same_Some}
 use Rattle.bridge_base.specs.Binding.{Pairwise}
 use Rattle.hol_spec.specs.Names.{Name}
 use Rattle.hol_spec.specs.Types as type
@@ -18,8 +17,8 @@ use Rattle.hol_laws.specs.Members.{All-left, All-right}
 use Rattle.lp_spec.specs.Trees.{Tree, Var, Sym, App, Lam}
 use Rattle.lp_spec.specs.Modules.{applied, term_of}
 use Rattle.lp_term.specs.declared.LpId.{LpId}
-use Rattle.lp_term.specs.Tables.{tree_at, trees_at, AreKnown, Holds, Keeps}
-use Rattle.lp_term.specs.TableLaws.{Holds-tree_at, Holds-within, Keeps-trans, tree_at-Holds, tree_at-Stays}
+use Rattle.lp_term.specs.Tables.{tree_at, trees_at, AreKnown, Holds}
+use Rattle.lp_term.specs.TableLaws.{Holds-tree_at, Holds-within, tree_at-Holds}
 use Rattle.holide_sig.specs.declared.module.Module.{Module}
 use Rattle.holide_sig.specs.Modules.{declarations_of}
 use Rattle.module_spec.specs.Scopes.{Symbols, TypeScope, operator_symbol, type_tree, type_trees, term_tree, constant_tree}
@@ -31,7 +30,7 @@ use Rattle.translate_term.specs.declared.closed.Work.TheVariants as work
 use Rattle.translate_term.specs.Told.{TellsTypes, TellsConstant, told_operator}
 use Rattle.translate_term.specs.Patterns.{IsTypeTree}
 use Rattle.translate_term.specs.Walks.{Grows}
-use Rattle.translate_term.specs.Closed.{Numbered, types_under, scope_under, IsInside, IsTypeOf, IsTermOf, Makes, IsNumbered, IsClosedStart, IsClosedWalk, IsTypeVisit, IsTermVisit}
+use Rattle.translate_term.specs.Closed.{Numbered, types_under, scope_under, IsInside, IsTypeOf, IsTermOf, Makes, IsNumbered, IsClosedStart, IsClosedWalk, IsPut, IsTypeVisit, IsTermVisit}
 use Rattle.translate_term.specs.GrowLaws.{IsHeld-Grows, declarations_of-Grows, trees_at-Keeps, AreKnown-Keeps}
 use Rattle.translate_term.proofs.ParameterScopes.{TellsTerm-AreInstances, type-placed, variable-placed, term_tree-inside_under}
 
@@ -39,13 +38,15 @@ pub IsNumbered-Grows : {m n : Module} → Grows m n → (given : Numbered) (k : 
 IsNumbered-Grows {m = m} {n = n} g given k h = record { held = IsHeld-Grows m n g h.held; declared = declarations_of-Grows m n g h.held ∙ h.declared; count = h.count }
 
 -- a tree that was made is put on those that were made before
-pub walk_made : (given : Numbered) (root : Tree) (m now : Module) (k : ℕ) (tasks : List Work) (made : List LpId) (x : Tree) (r : LpId) → Grows m now → IsNumbered given m k → AreKnown m.table made → Holds now.table r.0 x
-    → Makes given root tasks (x ∷ trees_at m.table made) → IsClosedWalk given root now k tasks (r ∷ made)
-walk_made given root m now k tasks made x r g numbered known h makes = record {
-  numbered = IsNumbered-Grows g given k numbered;
-  known = (Holds-within now.table r.0 x h, AreKnown-Keeps g.table made known);
-  makes = subst (Makes given root tasks) (ap₂ (λ t l. t ∷ l) (sym (Holds-tree_at now.table r.0 x h)) (sym (trees_at-Keeps g.table made known))) makes;
-}
+pub walk_made : (given : Numbered) (root : Tree) (m now : Module) (k : ℕ) (tasks : List Work) (made after : List LpId) (x : Tree) → Grows m now → IsNumbered given m k → AreKnown m.table made → IsPut made after now.table x
+    → Makes given root tasks (x ∷ trees_at m.table made) → IsClosedWalk given root now k tasks after
+walk_made given root m now k tasks made after x g numbered known p makes =
+    subst (IsClosedWalk given root now k tasks) (sym p.is)
+    (record {
+      numbered = IsNumbered-Grows g given k numbered;
+      known = (Holds-within now.table p.id.0 x p.holds, AreKnown-Keeps g.table made known);
+      makes = subst (Makes given root tasks) (ap₂ (λ t l. t ∷ l) (sym (Holds-tree_at now.table p.id.0 x p.holds)) (sym (trees_at-Keeps g.table made known))) makes;
+    })
 
 -- The heads of closed types.
 module _ (given : Numbered) where
@@ -185,38 +186,37 @@ module _ (given : Numbered) where
       }
 
 -- Visits of types.
-module _ (given : Numbered) (root : Tree) (m : Module) (k depth : ℕ) (tasks : List Work) (made : List LpId) where
+module _ (given : Numbered) (root : Tree) (m : Module) (k depth : ℕ) (tasks : List Work) (made after : List LpId) where
   -- a type variable
-  pub type_leaf : (now : Module) (i : ℕ) (r : LpId) → Grows m now → Holds now.table r.0 (Var (depth - i - 1)) → IsTypeVisit given root m k (form.ClosedType.parameter i) depth tasks made → IsClosedWalk given root now k tasks (r ∷ made)
-  type_leaf now i r g h v = walk_made given root m now k tasks made _ r g v.numbered v.known (h ∙ ap Some (sym (type-parameter given i depth v.ty v.of))) v.makes
+  pub type_leaf : (now : Module) (i : ℕ) → Grows m now → IsPut made after now.table (Var (depth - i - 1)) → IsTypeVisit given root m k (form.ClosedType.parameter i) depth tasks made → IsClosedWalk given root now k tasks after
+  type_leaf now i g p v = walk_made given root m now k tasks made after _ g v.numbered v.known (subst (IsPut made after now.table) (sym (type-parameter given i depth v.ty v.of)) p) v.makes
 
   -- the symbol of an operator is found
-  pub operator-found : (n : Name) (cs : List form.ClosedType) (o : Option ℕ) → o ≡ told_operator (declarations_of m) n (length cs) → IsTypeVisit given root m k (form.ClosedType.operator n (closed_types_of cs)) depth tasks made → IsSome o
-  operator-found n cs o e v = ap is_some (e ∙ ap (λ d. told_operator d n (length cs)) v.numbered.declared ∙ (type-operator given n cs v.ty v.of).symbol)
+  pub operator-found : (n : Name) (cs : List form.ClosedType) (arity : ℕ) → arity ≡ length cs → IsTypeVisit given root m k (form.ClosedType.operator n (closed_types_of cs)) depth tasks made → IsSome (told_operator (declarations_of m) n arity)
+  operator-found n cs arity e v = ap is_some (ap₂ (λ d j. told_operator d n j) v.numbered.declared e ∙ (type-operator given n cs v.ty v.of).symbol)
 
   -- and applied to the arguments, which are set out
-  pub type_set_out : (now : Module) (n : Name) (cs : List form.ClosedType) (s : ℕ) (r : LpId) (after : List Work) → Grows m now → Some s ≡ told_operator (declarations_of m) n (length cs) → Holds now.table r.0 (Sym s)
-      → ((given : Numbered) (root head : Tree) (made : List Tree) (ts : List HolType) → Pairwise (IsTypeOf given) cs ts → Makes given root tasks (applied head (map (type_tree given.symbols (types_under given depth)) ts) ∷ made) → Makes given root after (head ∷ made))
-      → IsTypeVisit given root m k (form.ClosedType.operator n (closed_types_of cs)) depth tasks made → IsClosedWalk given root now k after (r ∷ made)
-  type_set_out now n cs s r after g e h sets v =
+  pub type_set_out : (now : Module) (n : Name) (cs : List form.ClosedType) (arity : ℕ) (next : List Work) → arity ≡ length cs → Grows m now → ((s : ℕ) → told_operator (declarations_of m) n arity ≡ Some s → IsPut made after now.table (Sym s))
+      → ((given : Numbered) (root head : Tree) (made : List Tree) (ts : List HolType) → Pairwise (IsTypeOf given) cs ts → Makes given root tasks (applied head (map (type_tree given.symbols (types_under given depth)) ts) ∷ made) → Makes given root next (head ∷ made))
+      → IsTypeVisit given root m k (form.ClosedType.operator n (closed_types_of cs)) depth tasks made → IsClosedWalk given root now k next after
+  type_set_out now n cs arity next e g put sets v =
       let o = type-operator given n cs v.ty v.of in
       let scope = types_under given depth in
-      let same : s ≡ operator_symbol given.symbols n (count o.ts) = same_Some _ _ (e ∙ ap (λ d. told_operator d n (length cs)) v.numbered.declared ∙ o.symbol) in
-      let is : type_tree given.symbols scope v.ty ≡ applied (Sym s) (map (type_tree given.symbols scope) (listed o.ts)) =
-      ap (type_tree given.symbols scope) o.is ∙ ap₂ (λ j l. applied (Sym j) l) (sym same) (trees-listed given scope o.ts) in
-      walk_made given root m now k after made (Sym s) r g v.numbered v.known h
+      let s = operator_symbol given.symbols n (count o.ts) in
+      let is : type_tree given.symbols scope v.ty ≡ applied (Sym s) (map (type_tree given.symbols scope) (listed o.ts)) = ap (type_tree given.symbols scope) o.is ∙ ap (applied (Sym s)) (trees-listed given scope o.ts) in
+      walk_made given root m now k next made after (Sym s) g v.numbered v.known (put s (ap₂ (λ d j. told_operator d n j) v.numbered.declared e ∙ o.symbol))
       (sets given root (Sym s) (trees_at m.table made) (listed o.ts) o.are (subst (λ t. Makes given root tasks (t ∷ trees_at m.table made)) is v.makes))
 
 -- Visits of terms.
 module _ (given : Numbered) (root : Tree) (m : Module) (k depth : ℕ) (tasks : List Work) (made : List LpId) where
   -- a free variable
-  pub term_leaf : (now : Module) (j : ℕ) (r : LpId) → Grows m now → Holds now.table r.0 (Var (depth - (k + j) - 1)) → IsTermVisit given root m k (form.ClosedTerm.parameter j) depth tasks made → IsClosedWalk given root now k tasks (r ∷ made)
-  term_leaf now j r g h v =
-      walk_made given root m now k tasks made _ r g v.numbered v.known
-      (h ∙ ap (λ n. Some (Var (depth - (n + j) - 1))) (sym v.numbered.count) ∙ ap Some (sym (term-parameter given j depth v.term v.of))) v.makes
+  pub term_leaf : (now : Module) (j : ℕ) (after : List LpId) → Grows m now → IsPut made after now.table (Var (depth - (k + j) - 1)) → IsTermVisit given root m k (form.ClosedTerm.parameter j) depth tasks made → IsClosedWalk given root now k tasks after
+  term_leaf now j after g p v =
+      let is = ap (λ n. Var (depth - (n + j) - 1)) (sym v.numbered.count) ∙ sym (term-parameter given j depth v.term v.of) in
+      walk_made given root m now k tasks made after _ g v.numbered v.known (subst (IsPut made after now.table) is p) v.makes
 
-  pub term_number : (now : Module) (i : ℕ) (r : LpId) → Grows m now → Holds now.table r.0 (Var i) → IsTermVisit given root m k (form.ClosedTerm.bound i) depth tasks made → IsClosedWalk given root now k tasks (r ∷ made)
-  term_number now i r g h v = walk_made given root m now k tasks made _ r g v.numbered v.known (h ∙ ap Some (sym (term-bound given i depth v.term v.of))) v.makes
+  pub term_number : (now : Module) (i : ℕ) (after : List LpId) → Grows m now → IsPut made after now.table (Var i) → IsTermVisit given root m k (form.ClosedTerm.bound i) depth tasks made → IsClosedWalk given root now k tasks after
+  term_number now i after g p v = walk_made given root m now k tasks made after _ g v.numbered v.known (subst (IsPut made after now.table) (sym (term-bound given i depth v.term v.of)) p) v.makes
 
   pub constant_set_out : (n : Bor Name) (ty : Bor ClosedType) → IsTermVisit given root m k (form.ClosedTerm.constant n.now (closed_type_view ty.now)) depth tasks made
       → IsClosedWalk given root m k (work.MakeType ty depth ∷ work.Constant n ∷ tasks) made
@@ -276,12 +276,12 @@ module _ (given : Numbered) (root : Tree) (m : Module) (k : ℕ) (tasks : List W
       → (symbols : Symbols) × (scope : TypeScope) × (t : HolType) × IsTypeTree symbols scope t m n.now ty
   constant_start n ty made rest e h = let w = subst (IsClosedWalk given root m k (work.Constant n ∷ tasks)) e h in (given.symbols, w.makes.0, w.makes.1, constant-typed n ty rest w)
 
-  pub constant_turn : (n : Bor Name) (ty : LpId) (made rest : List LpId) (now : Module) (r : LpId) → made ≡ ty ∷ rest → Grows m now
-      → ((symbols : Symbols) (scope : TypeScope) (t : HolType) → IsTypeTree symbols scope t m n.now ty → Holds now.table r.0 (constant_tree symbols scope n.now t))
-      → IsClosedWalk given root m k (work.Constant n ∷ tasks) made → IsClosedWalk given root now k tasks (r ∷ rest)
-  constant_turn n ty made rest now r e g h v =
+  pub constant_turn : (n : Bor Name) (ty : LpId) (made rest after : List LpId) (now : Module) → made ≡ ty ∷ rest → Grows m now
+      → ((symbols : Symbols) (scope : TypeScope) (t : HolType) → IsTypeTree symbols scope t m n.now ty → IsPut rest after now.table (constant_tree symbols scope n.now t))
+      → IsClosedWalk given root m k (work.Constant n ∷ tasks) made → IsClosedWalk given root now k tasks after
+  constant_turn n ty made rest after now e g put v =
       let w = subst (IsClosedWalk given root m k (work.Constant n ∷ tasks)) e v in
-      walk_made given root m now k tasks rest _ r g w.numbered w.known.1 (h given.symbols w.makes.0 w.makes.1 (constant-typed n ty rest w)) w.makes.4
+      walk_made given root m now k tasks rest after _ g w.numbered w.known.1 (put given.symbols w.makes.0 w.makes.1 (constant-typed n ty rest w)) w.makes.4
 
   -- an application
   pub application-two : (made : List LpId) → IsClosedWalk given root m k (work.Apply ∷ tasks) made → 1 < length made
@@ -292,11 +292,11 @@ module _ (given : Numbered) (root : Tree) (m : Module) (k : ℕ) (tasks : List W
   pub application-known : (x f : LpId) (made rest : List LpId) → made ≡ x ∷ f ∷ rest → IsClosedWalk given root m k (work.Apply ∷ tasks) made → (f.0 < length m.table) × (x.0 < length m.table)
   application-known x f made rest e v = let w = subst (IsClosedWalk given root m k (work.Apply ∷ tasks)) e v in (w.known.1.0, w.known.0)
 
-  pub application_turn : (x f : LpId) (made rest : List LpId) (now : Module) (r : LpId) → made ≡ x ∷ f ∷ rest → Grows m now → Holds now.table r.0 (App (tree_at m.table f.0) (tree_at m.table x.0))
-      → IsClosedWalk given root m k (work.Apply ∷ tasks) made → IsClosedWalk given root now k tasks (r ∷ rest)
-  application_turn x f made rest now r e g h v =
+  pub application_turn : (x f : LpId) (made rest after : List LpId) (now : Module) → made ≡ x ∷ f ∷ rest → Grows m now → IsPut rest after now.table (App (tree_at m.table f.0) (tree_at m.table x.0))
+      → IsClosedWalk given root m k (work.Apply ∷ tasks) made → IsClosedWalk given root now k tasks after
+  application_turn x f made rest after now e g p v =
       let w = subst (IsClosedWalk given root m k (work.Apply ∷ tasks)) e v in
-      walk_made given root m now k tasks rest _ r g w.numbered w.known.1.1 h w.makes
+      walk_made given root m now k tasks rest after _ g w.numbered w.known.1.1 p w.makes
 
   -- an abstraction
   pub abstraction-two : (made : List LpId) → IsClosedWalk given root m k (work.Bind ∷ tasks) made → 1 < length made
@@ -307,13 +307,11 @@ module _ (given : Numbered) (root : Tree) (m : Module) (k : ℕ) (tasks : List W
   pub abstraction-known : (b a : LpId) (made rest : List LpId) → made ≡ b ∷ a ∷ rest → IsClosedWalk given root m k (work.Bind ∷ tasks) made → (a.0 < length m.table) × (b.0 < length m.table)
   abstraction-known b a made rest e v = let w = subst (IsClosedWalk given root m k (work.Bind ∷ tasks)) e v in (w.known.1.0, w.known.0)
 
-  pub abstraction_turn : (b a : LpId) (made rest : List LpId) (middle : List Tree) (now : Module) (domain r : LpId) → made ≡ b ∷ a ∷ rest → Keeps m.table middle → Keeps middle now.table → now.decls ≡ m.decls
-      → Holds middle domain.0 (term_of (tree_at m.table a.0)) → Holds now.table r.0 (Lam (tree_at middle domain.0) (tree_at middle b.0))
-      → IsClosedWalk given root m k (work.Bind ∷ tasks) made → IsClosedWalk given root now k tasks (r ∷ rest)
-  abstraction_turn b a made rest middle now domain r s p q d h e v =
-      let w = subst (IsClosedWalk given root m k (work.Bind ∷ tasks)) s v in
-      walk_made given root m now k tasks rest _ r (record { table = Keeps-trans p q; decls = d }) w.numbered w.known.1.1
-      (e ∙ ap₂ (λ x y. Some (Lam x y)) (Holds-tree_at middle domain.0 _ h) (sym (tree_at-Stays p.stays b.0 w.known.0))) w.makes
+  pub abstraction_turn : (b a : LpId) (made rest after : List LpId) (now : Module) → made ≡ b ∷ a ∷ rest → Grows m now → IsPut rest after now.table (Lam (term_of (tree_at m.table a.0)) (tree_at m.table b.0))
+      → IsClosedWalk given root m k (work.Bind ∷ tasks) made → IsClosedWalk given root now k tasks after
+  abstraction_turn b a made rest after now e g p v =
+      let w = subst (IsClosedWalk given root m k (work.Bind ∷ tasks)) e v in
+      walk_made given root m now k tasks rest after _ g w.numbered w.known.1.1 p w.makes
 
 -- A walk at its beginning and at its end.
 pub walk_begins : (given : Numbered) (root : Tree) (m : Module) (k : ℕ) (task : Work) → IsClosedStart given root m k task → IsClosedWalk given root m k (task ∷ []) []

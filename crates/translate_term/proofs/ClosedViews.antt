@@ -1,5 +1,6 @@
 -- What the parts of a closed sequent stand for, level by level.
-use Rattle.std.proofs.Common.{rules, ◌≡◌, ℕ, map, ap, ◌∙◌, Vec, Global}
+use Rattle.std.proofs.Common.{rules, ◌≡◌, ℕ, map, ap, sym, ◌∙◌, Box, Vec, Global}
+use Rattle.std.proofs.Math.Path.{ap₂}
 use Rattle.hol_spec.specs.Names.{Name}
 use Rattle.hol_spec.specs.ClosedForm as form
 use Rattle.sequent.specs.declared.closed.ClosedTerm as terms
@@ -37,3 +38,15 @@ term_constant n a = search (rules, terms.the_lemmas)
 
 pub view-term_constant : (t : ClosedTerm) (n : Name) (a : ClosedType) → t ≡ terms.Constant n a → closed_term_view t ≡ form.ClosedTerm.constant n (closed_type_view a)
 view-term_constant t n a e = ap closed_term_view e ∙ term_constant n a
+
+term_application : (f x : Box ClosedTerm Global) → closed_term_view (terms.App f x) ≡ form.ClosedTerm.app (closed_term_view f.value) (closed_term_view x.value)
+term_application f x = search (rules, terms.the_lemmas)
+
+pub view-term_application : (t f x : ClosedTerm) (g y : Box ClosedTerm Global) → t ≡ terms.App g y → f ≡ g.value → x ≡ y.value → closed_term_view t ≡ form.ClosedTerm.app (closed_term_view f) (closed_term_view x)
+view-term_application t f x g y e a b = ap closed_term_view e ∙ term_application g y ∙ ap₂ (λ u v. form.ClosedTerm.app (closed_term_view u) (closed_term_view v)) (sym a) (sym b)
+
+term_abstraction : (a : ClosedType) (b : Box ClosedTerm Global) → closed_term_view (terms.Lam a b) ≡ form.ClosedTerm.lam (closed_type_view a) (closed_term_view b.value)
+term_abstraction a b = search (rules, terms.the_lemmas)
+
+pub view-term_abstraction : (t : ClosedTerm) (a : ClosedType) (b : ClosedTerm) (c : Box ClosedTerm Global) → t ≡ terms.Lam a c → b ≡ c.value → closed_term_view t ≡ form.ClosedTerm.lam (closed_type_view a) (closed_term_view b)
+view-term_abstraction t a b c e d = ap closed_term_view e ∙ term_abstraction a c ∙ ap (λ u. form.ClosedTerm.lam (closed_type_view a) (closed_term_view u)) (sym d)

@@ -5,6 +5,10 @@ use Rattle.translate_term.specs.declared.tasks.Task.{Task}
 use Rattle.translate_term.specs.declared.tasks.Task.TheVariants.{Visit, Join}
 use Rattle.translate_term.specs.Tasks.{IsNoted, IsDone, AreAll, visits, OrIs, work, Ends}
 
+pub OnOk-always : {T E Q : Type 0} (r : Result T E) → Q → OnOk r Q
+OnOk-always (Ok v) q = q
+OnOk-always (Err e) q = tt
+
 pub OnOk-map : {T E P Q : Type 0} (r : Result T E) → (P → Q) → OnOk r P → OnOk r Q
 OnOk-map (Ok v) f h = f h
 OnOk-map (Err e) f h = tt
@@ -94,3 +98,7 @@ module _ {K : Type 0} where
   -- any visit is some work
   pub visit-less : (size : K → ℕ) (key : K) (tasks : List (Task K)) → 0 < size key → work size tasks < work size (Visit key ∷ tasks)
   visit-less size key tasks h = omega (arith, h)
+
+  -- and so is any way back
+  pub join-less : (size : K → ℕ) (key : K) (tasks : List (Task K)) → work size tasks < work size (Join key ∷ tasks)
+  join-less size key tasks = omega arith

@@ -1,6 +1,6 @@
 -- Free variables and constants under no binder.
-use Rattle.std.proofs.Common.{◌≡◌, ℕ, ◌<◌, sym, ap, ◌∙◌, subst, List, length, map, Option, Some, None, Result, Ok, Err}
-use Rattle.std.specs.Prelude.{OnOk, IsSome, is_some}
+use Rattle.std.proofs.Common.{◌≡◌, ℕ, ◌<◌, sym, ap, ◌∙◌, subst, List, length, map, Option, Some, None}
+use Rattle.std.specs.Prelude.{IsSome, is_some}
 use Rattle.std.specs.Option.{unwrap_or}
 use Rattle.std.specs.Map.{lookup}
 use Rattle.std.proofs.Math.Path.{fun_ext, ap₂}
@@ -29,10 +29,6 @@ use Rattle.translate_term.specs.GrowLaws.{IsHeld-Grows, declarations_of-Grows}
 use Rattle.translate_term.proofs.ScopeLists.{term-found, term-absent}
 use Rattle.std.proofs.lemmas.Option.{same_Some}
 
-pub OnOk-always : {T E Q : Type 0} (r : Result T E) → Q → OnOk r Q
-OnOk-always (Ok v) q = q
-OnOk-always (Err e) q = tt
-
 module _ (given : Given) (m : Module) (types : List HolType) (distinct : type.IsDistinct types) (variables : List (Variable × LpId)) (n : Name) (ty : TypeId) (known : ty.0 < length types) (told_here : AreGiven given m types variables) where
   filling : Tree
   filling = filler (type_tree given.symbols (told_types given.types) (type.tree_at types ty.0))
@@ -46,11 +42,11 @@ module _ (given : Given) (m : Module) (types : List HolType) (distinct : type.Is
       ∙ ap Some (sym (lift_zero (unwrap_or (lookup (variable_eq (n, type.tree_at types ty.0)) given.terms) filling)))
 
   -- and one that isn't
-  pub free-filled : (trees new : List Tree) (id r : LpId) → lookup (same_variable (record { name = n; ty = ty })) variables ≡ None → lp.Holds trees id.0 (type_wanted given (type.tree_at types ty.0)) → lp.Holds new r.0 (filler (lp.tree_at trees id.0))
+  pub free-filled : (new : List Tree) (r : LpId) → lookup (same_variable (record { name = n; ty = ty })) variables ≡ None → lp.Holds new r.0 (filler (type_wanted given (type.tree_at types ty.0)))
       → lp.Holds new r.0 (term_wanted given 0 (free n (type.tree_at types ty.0)))
   unfolding filling
-  free-filled trees new id r h made is =
-      is ∙ ap (λ a. Some (filler a)) (lp_laws.Holds-tree_at trees id.0 _ made)
+  free-filled new r h is =
+      is
       ∙ ap Some (sym (term-absent types distinct m.table n ty known variables filling told_here.known h))
       ∙ ap (λ l. Some (unwrap_or (lookup (variable_eq (n, type.tree_at types ty.0)) l) filling)) told_here.told
       ∙ ap Some (sym (lift_zero (unwrap_or (lookup (variable_eq (n, type.tree_at types ty.0)) given.terms) filling)))

@@ -28,9 +28,6 @@ pub no-item : {X : Type 0} (xs : List X) → length xs < 1 → xs ≡ []
 no-item [] h = refl
 no-item (x ∷ xs) h = absurd (omega (arith, h))
 
--- a list on which items were put
+-- a list on which two items were put
 pub put-two : {X : Type 0} (a b : X) (l m n : List X) → m ≡ a ∷ l → n ≡ b ∷ m → n ≡ b ∷ a ∷ l
 put-two a b l m n d e = e ∙ ap (λ k. b ∷ k) d
-
-pub put-three : {X : Type 0} (a b c : X) (k l m n : List X) → l ≡ a ∷ k → m ≡ b ∷ l → n ≡ c ∷ m → n ≡ c ∷ b ∷ a ∷ k
-put-three a b c k l m n d e f = f ∙ ap (λ j. c ∷ j) (put-two a b k l m d e)

@@ -31,7 +31,7 @@ use Rattle.module_laws.specs.TermScopeLaws.{AreInstances, term_tree-agrees}
 use Rattle.module_laws.specs.TheoremTyping.{IsFormula, HasInstances, term-IsFormula}
 use Rattle.proof_laws.specs.SymbolGrowth.{symmetric}
 use Rattle.translate_term.specs.Told.{TellsType, TellsTerm, TellsClosed}
-use Rattle.translate_term.specs.Closed.{Numbered, types_under, scope_under, IsInside, IsTypeOf, IsTermOf, hypothesis_domains, variable_domains}
+use Rattle.translate_term.specs.Closed.{Numbered, types_under, scope_under, IsInside, IsTypeOf, IsTermOf, hypothesis_domains, variable_domains, numbered_of, statement_under}
 
 -- a told term's constants are instances
 pub TellsTerm-AreInstances : (declarations : List Declaration) (symbols : Symbols) (t : Term) → TellsTerm declarations symbols t → AreInstances symbols t
@@ -135,9 +135,6 @@ products-append [] ys t = refl
 products-append (x ∷ xs) ys t = ap (Pi x) (products-append xs ys t)
 
 -- what the parameters of a sequent are
-abbrev pub numbered_of : List Declaration → Symbols → Sequent → Numbered
-numbered_of declarations symbols s = record { declarations = declarations; symbols = symbols; names = type_variables_of s; variables = free_variables_of s }
-
 module _ (declarations : List Declaration) (symbols : Symbols) (s : Sequent) (closed : ClosedSequent) (told_here : TellsClosed declarations symbols s closed) where
   abbrev given : Numbered
   given = numbered_of declarations symbols s
@@ -148,7 +145,7 @@ module _ (declarations : List Declaration) (symbols : Symbols) (s : Sequent) (cl
   -- THE PRODUCT OF A SEQUENT, each part of it under so many binders
   pub sequent_tree-under : sequent_tree symbols s
       ≡ products (replicate (length (type_variables_of s)) types) (products (variable_domains given (length (type_variables_of s)) (map (λ (v : Variable). v.1) (free_variables_of s)))
-      (products (hypothesis_domains given outside s.hypotheses) (proof_of (term_tree symbols (scope_under given (outside + length s.hypotheses)) s.conclusion))))
+      (statement_under given s))
   sequent_tree-under =
       let names = type_variables_of s in
       let variables = free_variables_of s in

@@ -25,9 +25,9 @@ use Rattle.lp_spec.specs.Substitution.{sub}
 use Rattle.translate_term.specs.declared.memo.Place.{Place}
 use Rattle.translate_term.specs.declared.tasks.Task.{Task}
 use Rattle.translate_term.specs.declared.tasks.Task.TheVariants.{Visit, Join}
-use Rattle.translate_term.specs.Tasks.{IsNoted, IsDone, AreAll, visits, PartsAre}
+use Rattle.translate_term.specs.Tasks.{IsNoted, IsDone, AreAll, visits, work, PartsAre}
 use Rattle.translate_term.specs.Told.{TellsType, TellsTerm}
-use Rattle.translate_term.specs.Walks.{Grows, Given, IsGiven, IsTypeMemo, IsTypeStart, IsTermKnown, IsTermMemo, IsTermStart, IsTermWalk, IsApplication, IsAbstraction, HasParts, type_wanted, term_wanted, place_size}
+use Rattle.translate_term.specs.Walks.{Grows, Given, IsGiven, IsTypeMemo, IsTypeStart, IsMadeAt, IsTermKnown, IsTermMemo, IsTermStart, IsTermWalk, IsApplication, IsAbstraction, HasParts, type_wanted, term_wanted, place_size}
 use Rattle.translate_term.proofs.EndsLaws.{Ends-done, Ends-noted, Ends-set_out, noted-sound}
 use Rattle.translate_term.specs.GrowLaws.{IsGiven-Grows, AreGiven-Grows, IsTermMemo-Keeps}
 use Rattle.std.proofs.lemmas.Option.{same_Some}
@@ -131,32 +131,31 @@ module _ (given : Given) (root : Place) (m : Module) (trees : Trees) (names : Li
   pub told-in : (t : Term) → Holds trees place.id.0 t → IsTermKnown given trees place → TellsTerm given.declarations given.symbols t
   told-in t h k = told-as t h k
 
-  module _ (now : Module) (grows : Grows m now) (noted : List (Place × LpId)) (mark : LpId) (after : List (TypeId × LpId)) (only : (i : Place) (r : LpId) → IsNoted noted i r → IsNoted made i r ⊎ ((i ≡ place) × (r ≡ mark)))
-      (new : IsNoted noted place mark) (kept : (i : Place) (r : LpId) → IsNoted made i r → (i ≡ place) ⊎ IsNoted noted i r) (t : Term) (h : Holds trees place.id.0 t) (is : lp.Holds now.table mark.0 (term_wanted given place.depth t))
-      (types_noted : IsTypeMemo given trees.types now.table after) where
-    term_noted : IsTermMemo given trees m.table made → IsTermMemo given trees now.table noted
+  module _ (now : Module) (grows : Grows m now) (after : List (Place × LpId)) (types_after : List (TypeId × LpId)) (t : Term) (h : Holds trees place.id.0 t) (is : IsMadeAt place made after now.table (term_wanted given place.depth t))
+      (types_noted : IsTypeMemo given trees.types now.table types_after) where
+    term_noted : IsTermMemo given trees m.table made → IsTermMemo given trees now.table after
     term_noted old =
-        noted-sound (λ i r. lp.Holds now.table r.0 (term_wanted given i.depth (term_at trees i.id.0))) made noted place mark only
-        (subst (λ u. lp.Holds now.table mark.0 (term_wanted given place.depth u)) (sym (Some-term_in trees.terms place.id.0 t h)) is) (IsTermMemo-Keeps grows.table given trees made old)
+        noted-sound (λ i r. lp.Holds now.table r.0 (term_wanted given i.depth (term_at trees i.id.0))) made after place is.mark is.only
+        (subst (λ u. lp.Holds now.table is.mark.0 (term_wanted given place.depth u)) (sym (Some-term_in trees.terms place.id.0 t h)) is.holds) (IsTermMemo-Keeps grows.table given trees made old)
 
     -- a term without parts
-    pub term_leaf : IsTermWalk given root m trees names variables (Visit place ∷ tasks) made types → IsTermWalk given root now trees names variables tasks noted after
+    pub term_leaf : IsTermWalk given root m trees names variables (Visit place ∷ tasks) made types → IsTermWalk given root now trees names variables tasks after types_after
     term_leaf w = record {
       reads = IsGiven-Grows grows given names w.reads;
       variables_told = AreGiven-Grows grows given trees.types variables w.variables_told;
       types_noted = types_noted;
       noted = term_noted w.noted;
-      ends = Ends-noted (IsTermKnown given trees) (HasParts trees) root tasks made noted place mark new kept w.ends.1;
+      ends = Ends-noted (IsTermKnown given trees) (HasParts trees) root tasks made after place is.mark is.noted is.kept w.ends.1;
     }
 
     -- a term whose parts were made
-    pub term_joined : IsTermWalk given root m trees names variables (Join place ∷ tasks) made types → IsTermWalk given root now trees names variables tasks noted after
+    pub term_joined : IsTermWalk given root m trees names variables (Join place ∷ tasks) made types → IsTermWalk given root now trees names variables tasks after types_after
     term_joined w = record {
       reads = IsGiven-Grows grows given names w.reads;
       variables_told = AreGiven-Grows grows given trees.types variables w.variables_told;
       types_noted = types_noted;
       noted = term_noted w.noted;
-      ends = Ends-noted (IsTermKnown given trees) (HasParts trees) root tasks made noted place mark new kept w.ends.2;
+      ends = Ends-noted (IsTermKnown given trees) (HasParts trees) root tasks made after place is.mark is.noted is.kept w.ends.2;
     }
 
 -- the parts of a term are those of its head
@@ -218,3 +217,12 @@ size-positive (lam t b) = omega arith
 
 pub place_size-positive : (trees : Trees) (place : Place) → 0 < place_size trees place
 place_size-positive trees place = size-positive (term_at trees place.id.0)
+
+-- the parts of a term and the way back are less work than the whole
+pub application-less : (trees : Trees) (place : Place) (tasks : List (Task Place)) (f x : TermId) → Holds trees place.id.0 (app (term_at trees f.0) (term_at trees x.0))
+    → work (place_size trees) (Visit (record { id = f; depth = place.depth }) ∷ Visit (record { id = x; depth = place.depth }) ∷ Join place ∷ tasks) < work (place_size trees) (Visit place ∷ tasks)
+application-less trees place tasks f x h = let e = ap term_size (Some-term_in trees.terms place.id.0 _ h) in omega (arith, e)
+
+pub abstraction-less : (trees : Trees) (place : Place) (tasks : List (Task Place)) (ty : TypeId) (b : TermId) → Holds trees place.id.0 (lam (type_at trees ty.0) (term_at trees b.0))
+    → work (place_size trees) (Visit (record { id = b; depth = place.depth + 1 }) ∷ Join place ∷ tasks) < work (place_size trees) (Visit place ∷ tasks)
+abstraction-less trees place tasks ty b h = let e = ap term_size (Some-term_in trees.terms place.id.0 _ h) in omega (arith, e)

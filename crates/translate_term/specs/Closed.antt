@@ -6,12 +6,13 @@ use Rattle.hol_spec.specs.Names.{Name}
 use Rattle.hol_spec.specs.Types.{HolType, variable_places}
 use Rattle.hol_spec.specs.Terms.{Term, Variable, type_variable_places, free_places}
 use Rattle.hol_spec.specs.Lists.{IsIn}
+use Rattle.hol_spec.specs.Sequents.{Sequent, type_variables_of, free_variables_of}
 use Rattle.hol_spec.specs.ClosedForm as form
 use Rattle.hol_spec.specs.ClosedForm.{close_type, close_term}
 use Rattle.lp_spec.specs.Trees.{Tree, App, Lam}
-use Rattle.lp_spec.specs.Modules.{Declaration, term_of, proof_of}
+use Rattle.lp_spec.specs.Modules.{Declaration, products, term_of, proof_of}
 use Rattle.lp_term.specs.declared.LpId.{LpId}
-use Rattle.lp_term.specs.Tables.{trees_at, AreKnown}
+use Rattle.lp_term.specs.Tables.{trees_at, AreKnown, Holds}
 use Rattle.holide_sig.specs.declared.module.Module.{Module}
 use Rattle.holide_sig.specs.Modules.{declarations_of, IsHeld}
 use Rattle.module_spec.specs.Scopes.{Symbols, TypeScope, Scope, type_tree, term_tree, constant_tree}
@@ -86,6 +87,12 @@ pub record IsClosedWalk (given : Numbered) (root : Tree) (m : Module) (type_vars
   pub known : AreKnown m.table made
   pub makes : Makes given root tasks (trees_at m.table made)
 
+-- a tree was made, and put on those that were made before
+pub record IsPut (old new : List LpId) (trees : List Tree) (tree : Tree) : Type 0 where
+  pub id : LpId
+  pub is : new ≡ id ∷ old
+  pub holds : Holds trees id.0 tree
+
 -- the tree of a type or a term, as a walk that begins with it makes it
 pub record IsClosedStart (given : Numbered) (root : Tree) (m : Module) (type_vars : ℕ) (task : Work) : Type 0 where
   pub numbered : IsNumbered given m type_vars
@@ -153,3 +160,12 @@ hypothesis_domains given depth (h ∷ hs) = proof_of (term_tree given.symbols (s
 abbrev pub variable_domains : Numbered → ℕ → List HolType → List Tree
 variable_domains given depth [] = []
 variable_domains given depth (t ∷ ts) = term_of (type_tree given.symbols (types_under given depth) t) ∷ variable_domains given (suc depth) ts
+
+-- the parameters of a sequent, and the product over its hypotheses under the binders of these
+abbrev pub numbered_of : List Declaration → Symbols → Sequent → Numbered
+numbered_of declarations symbols s = record { declarations = declarations; symbols = symbols; names = type_variables_of s; variables = free_variables_of s }
+
+abbrev pub statement_under : Numbered → Sequent → Tree
+statement_under given s =
+    let outside = length given.names + length given.variables in
+    products (hypothesis_domains given outside s.hypotheses) (proof_of (term_tree given.symbols (scope_under given (outside + length s.hypotheses)) s.conclusion))

@@ -103,6 +103,14 @@ pub record IsTermKnown (given : Given) (trees : Trees) (place : Place) : Type 0 
 abbrev pub IsTermMemo : Given → Trees → List Tree → List (Place × LpId) → Type 0
 IsTermMemo given trees lps made = (place : Place) (r : LpId) → IsNoted made place r → lp.Holds lps r.0 (term_wanted given place.depth (term_at trees place.id.0))
 
+-- a tree was made of the term at a place, and noted in the memo
+pub record IsMadeAt (place : Place) (old new : List (Place × LpId)) (trees : List Tree) (tree : Tree) : Type 0 where
+  pub mark : LpId
+  pub only : (i : Place) (r : LpId) → IsNoted new i r → IsNoted old i r ⊎ ((i ≡ place) × (r ≡ mark))
+  pub noted : IsNoted new place mark
+  pub kept : (i : Place) (r : LpId) → IsNoted old i r → (i ≡ place) ⊎ IsNoted new i r
+  pub holds : lp.Holds trees mark.0 tree
+
 -- the parts of a term at a place, at theirs: a function and its argument, or the body of an abstraction
 pub record IsApplication (trees : Trees) (place : Place) (parts : List Place) : Type 0 where
   pub function : TermId

@@ -1,17 +1,18 @@
 //! The walk over the parts of a closed sequent, and the products over its parameters.
-ghost use Rattle.std.specs.Prelude.{◌≡◌, ◌+◌, ◌-◌, ◌<◌, ◌^◌, ◌∷◌, ℕ, List, length, map, replicate, IfOk, OnOk};
+ghost use Rattle.std.specs.Prelude.{◌≡◌, ◌+◌, ◌-◌, ◌<◌, ◌^◌, ◌∷◌, ℕ, List, length, map, replicate, Some, IsSome, IfOk, OnOk};
 ghost use Rattle.bridge_base.specs.Binding.{Pairwise};
 ghost use Rattle.hol_spec.specs.Sequents.{Sequent};
 ghost use Rattle.hol_spec.specs.Terms.{Term as ATerm};
 ghost use Rattle.hol_spec.specs.Types.{HolType};
-ghost use Rattle.lp_spec.specs.Modules.{applied, products, types as sorts};
-ghost use Rattle.lp_spec.specs.Trees.{Tree, Var};
-ghost use Rattle.lp_term.specs.Tables.{tree_at, Holds};
+ghost use Rattle.lp_spec.specs.Modules.{applied, products, term_of, types as sorts};
+ghost use Rattle.lp_spec.specs.Trees.{Tree, App, Lam, Pi, Sym};
+ghost use Rattle.lp_term.specs.Tables.{tree_at, tree_of_node, Holds, PartsBelow};
 ghost use Rattle.holide_sig.specs.Modules.{declarations_of, IsHeld};
-ghost use Rattle.module_spec.specs.Scopes.{Symbols, sequent_tree, type_tree};
+ghost use Rattle.module_spec.specs.Scopes.{Symbols, TypeScope, constant_tree, sequent_tree, type_tree};
 ghost use Rattle.sequent.specs.Closed.{closed_term_view, closed_type_view, closed_types_of, closed_view};
-ghost use Rattle.translate_term.specs.Closed.{AreHypotheses, AreVariables, IsClosedStart, IsClosedWalk, IsTermVisit, IsTypeOf, IsTypeVisit, Makes, Numbered, hypothesis_domains, term_work, type_work, types_under, types_work, variable_domains, work_of};
-ghost use Rattle.translate_term.specs.Told.{TellsClosed};
+ghost use Rattle.translate_term.specs.Closed.{AreHypotheses, AreVariables, IsClosedStart, IsClosedWalk, IsPut, IsTermVisit, IsTypeOf, IsTypeVisit, Makes, Numbered, hypothesis_domains, numbered_of, statement_under, term_work, type_work, types_under, types_work, variable_domains, work_of};
+ghost use Rattle.translate_term.specs.Patterns.{IsTypeTree};
+ghost use Rattle.translate_term.specs.Told.{TellsClosed, told_operator};
 ghost use Rattle.translate_term.specs.Walks.{Grows};
 
 use crate::generic::constant_of;
@@ -50,17 +51,7 @@ pub(crate) fn closed_type(
     ensures made { IfOk result (λ r. (symbols : Symbols) (s : Sequent) → TellsClosed (declarations_of target.old) symbols s (closed_view closed.now) → Holds target.new.table r.0 (sequent_tree symbols s)) }
     ensures grows { Grows target.old target.new }
 {
-    let variables = closed.type_vars as u128;
-    let terms = variables + closed.free_vars.len() as u128;
-    let proofs = terms + closed.hyps.len() as u128;
-    let conclusion = tree_of(
-        alloc,
-        target,
-        closed.type_vars,
-        Work::MakeTerm(&closed.concl, proofs),
-    )?;
-    let proof = call(&mut target.table, PROOF, &[conclusion])?;
-    let under_terms = over_hypotheses(alloc, target, closed.type_vars, terms, &closed.hyps, proof)?;
+    let under_terms = statement(alloc, target, closed)?;
     let under_types = over_variables(
         alloc,
         target,
@@ -69,6 +60,25 @@ pub(crate) fn closed_type(
         under_terms,
     )?;
     over_types(target, closed.type_vars, under_types)
+}
+
+// The product over the hypotheses of a closed sequent, which ends in the proofs of its conclusion.
+fn statement(alloc: Global, target: &mut Module, closed: &Closed) -> Result<LpId, Memory>
+    requires held { IsHeld target.old }
+    requires told { (symbols : Symbols) × (s : Sequent) × TellsClosed (declarations_of target.old) symbols s (closed_view closed.now) }
+    ensures made { IfOk result (λ r. (symbols : Symbols) (s : Sequent) → TellsClosed (declarations_of target.old) symbols s (closed_view closed.now) → Holds target.new.table r.0 (statement_under (numbered_of (declarations_of target.old) symbols s) s)) }
+    ensures grows { Grows target.old target.new }
+{
+    let terms = closed.type_vars as u128 + closed.free_vars.len() as u128;
+    let proofs = terms + closed.hyps.len() as u128;
+    let conclusion = tree_of(
+        alloc,
+        target,
+        closed.type_vars,
+        Work::MakeTerm(&closed.concl, proofs),
+    )?;
+    let proof = call(&mut target.table, PROOF, &[conclusion])?;
+    over_hypotheses(alloc, target, closed.type_vars, terms, &closed.hyps, proof)
 }
 
 // The product over hypotheses, the first of which stands under so many binders.
@@ -90,8 +100,7 @@ fn over_hypotheses(
     while let [front @ .., last] = rest {
         let depth = outside + front.len() as u128;
         let formula = tree_of(alloc, target, type_vars, Work::MakeTerm(last, depth))?;
-        let domain = call(&mut target.table, PROOF, &[formula])?;
-        product = target.table.node(LpNode::Pi(domain, product))?;
+        product = product_over(target, PROOF, formula, product)?;
         rest = front;
     }
     Ok(product)
@@ -114,11 +123,25 @@ fn over_variables(
     while let [front @ .., last] = rest {
         let depth = type_vars as u128 + front.len() as u128;
         let ty = tree_of(alloc, target, type_vars, Work::MakeType(last, depth))?;
-        let domain = call(&mut target.table, TERM, &[ty])?;
-        product = target.table.node(LpNode::Pi(domain, product))?;
+        product = product_over(target, TERM, ty, product)?;
         rest = front;
     }
     Ok(product)
+}
+
+// The product over what a symbol makes of a tree.
+fn product_over(
+    target: &mut Module,
+    symbol: usize,
+    tree: LpId,
+    inside: LpId,
+) -> Result<LpId, Memory>
+    requires { (tree.0 < length target.old.table) × (inside.0 < length target.old.table) }
+    ensures made { IfOk result (λ r. Holds target.new.table r.0 (Pi (App (Sym symbol) (tree_at target.old.table tree.0)) (tree_at target.old.table inside.0))) }
+    ensures grows { Grows target.old target.new }
+{
+    let domain = call(&mut target.table, symbol, &[tree])?;
+    target.table.node(LpNode::Pi(domain, inside))
 }
 
 // The product over so many type variables.
@@ -150,11 +173,30 @@ fn tree_of(
 {
     let mut tasks = Stack::new(alloc);
     let mut made = Stack::new(alloc);
-    tasks.push(root)?;
-    while let Some(task) = tasks.pop() {
-        turn(alloc, target, type_vars, task, &mut tasks, &mut made)?;
+    let tree = walked(alloc, target, type_vars, root, &mut tasks, &mut made);
+    drop(made);
+    drop(tasks);
+    tree
+}
+
+// The tree that a walk makes, this task first.
+fn walked<'a>(
+    alloc: Global,
+    target: &mut Module,
+    type_vars: usize,
+    task: Work<'a>,
+    tasks: &mut Stack<Work<'a>>,
+    made: &mut Stack<LpId>,
+) -> Result<LpId, Memory>
+    requires { (given : Numbered) × (tree : Tree) × IsClosedWalk given tree target.old type_vars (task ∷ tasks.old) made.old }
+    ensures made { IfOk result (λ r. (given : Numbered) (tree : Tree) → IsClosedWalk given tree target.old type_vars (task.entry ∷ tasks.old) made.old → Holds target.new.table r.0 tree) }
+    ensures grows { Grows target.old target.new }
+{
+    tasks.push(task)?;
+    while let Some(next) = tasks.pop() {
+        turn(alloc, target, type_vars, next, tasks, made)?;
     }
-    Ok(one(&mut made))
+    Ok(one(made))
 }
 
 // One turn of the walk.
@@ -176,19 +218,15 @@ fn turn<'a>(
         Work::MakeTerm(term, depth) => visit_term(target, type_vars, term, depth, tasks, made),
         Work::Constant(name) => {
             let ty = one(made);
-            let tree = constant_of(alloc, target, name, ty)?;
-            made.push(tree)
+            put_constant(alloc, target, name, ty, made)
         }
         Work::Apply => {
             let (function, argument) = two(made);
-            let tree = target.table.node(LpNode::App(function, argument))?;
-            made.push(tree)
+            put_node(target, LpNode::App(function, argument), made)
         }
         Work::Bind => {
             let (ty, body) = two(made);
-            let domain = call(&mut target.table, TERM, &[ty])?;
-            let tree = target.table.node(LpNode::Lam(domain, body))?;
-            made.push(tree)
+            put_abstraction(target, ty, body, made)
         }
     }
 }
@@ -209,13 +247,11 @@ fn visit_type<'a>(
 {
     match ty {
         ClosedType::Parameter(place) => {
-            let tree = binder(target, depth, *place as u128)?;
-            made.push(tree)
+            let number = binder(depth, *place as u128);
+            put_node(target, LpNode::Var(number), made)
         }
         ClosedType::Operator(name, args) => {
-            let symbol = operator(alloc, target, name, args.len())?.unwrap();
-            let tree = target.table.node(LpNode::Sym(symbol))?;
-            made.push(tree)?;
+            put_operator(alloc, target, name, args.len(), made)?;
             set_out(tasks, args, depth)
         }
     }
@@ -237,32 +273,59 @@ fn visit_term<'a>(
 {
     match term {
         ClosedTerm::Parameter(place) => {
-            let tree = binder(target, depth, type_vars as u128 + *place as u128)?;
-            made.push(tree)
+            let number = binder(depth, type_vars as u128 + *place as u128);
+            put_node(target, LpNode::Var(number), made)
         }
-        ClosedTerm::Bound(number) => {
-            let tree = target.table.node(LpNode::Var(*number))?;
-            made.push(tree)
-        }
-        ClosedTerm::Constant(name, ty) => {
-            tasks.push(Work::Constant(name))?;
-            tasks.push(Work::MakeType(ty, depth))
-        }
-        ClosedTerm::App(function, argument) => {
-            tasks.push(Work::Apply)?;
-            tasks.push(Work::MakeTerm(argument, depth))?;
-            tasks.push(Work::MakeTerm(function, depth))
-        }
+        ClosedTerm::Bound(number) => put_node(target, LpNode::Var(*number), made),
+        ClosedTerm::Constant(name, ty) => push_two(
+            tasks,
+            Work::MakeType(ty, depth),
+            Work::Constant(name),
+        ),
+        ClosedTerm::App(function, argument) => push_three(
+            tasks,
+            Work::MakeTerm(function, depth),
+            Work::MakeTerm(argument, depth),
+            Work::Apply,
+        ),
         ClosedTerm::Lam(ty, body) => {
             // No memory holds so many binders.
             let Some(inside) = depth.checked_add(1) else {
                 return Err(Memory);
             };
-            tasks.push(Work::Bind)?;
-            tasks.push(Work::MakeTerm(body, inside))?;
-            tasks.push(Work::MakeType(ty, depth))
+            push_three(
+                tasks,
+                Work::MakeType(ty, depth),
+                Work::MakeTerm(body, inside),
+                Work::Bind,
+            )
         }
     }
+}
+
+// Puts two tasks on those that are left, the first on top.
+fn push_two<'a>(
+    tasks: &mut Stack<Work<'a>>,
+    first: Work<'a>,
+    second: Work<'a>,
+) -> Result<(), Memory>
+    ensures { OnOk result (tasks.new ≡ first.entry ∷ second.entry ∷ tasks.old) }
+{
+    tasks.push(second)?;
+    tasks.push(first)
+}
+
+// Puts three tasks on those that are left, the first on top.
+fn push_three<'a>(
+    tasks: &mut Stack<Work<'a>>,
+    first: Work<'a>,
+    second: Work<'a>,
+    third: Work<'a>,
+) -> Result<(), Memory>
+    ensures { OnOk result (tasks.new ≡ first.entry ∷ second.entry ∷ third.entry ∷ tasks.old) }
+{
+    tasks.push(third)?;
+    push_two(tasks, first, second)
 }
 
 // Sets out to apply what was made to these arguments, the first innermost.
@@ -276,8 +339,7 @@ fn set_out<'a>(
 {
     let mut rest = args;
     while let [front @ .., last] = rest {
-        tasks.push(Work::Apply)?;
-        tasks.push(Work::MakeType(last, depth))?;
+        push_two(tasks, Work::MakeType(last, depth), Work::Apply)?;
         rest = front;
     }
     Ok(())
@@ -301,11 +363,66 @@ fn two(made: &mut Stack<LpId>) -> (LpId, LpId)
     (first, second)
 }
 
-// The variable of the parameter at a place, under so many binders.
-fn binder(target: &mut Module, depth: u128, place: u128) -> Result<LpId, Memory>
-    ensures made { IfOk result (λ r. Holds target.new.table r.0 (Var (depth - place - 1))) }
+// The number of the variable of the parameter at a place, under so many binders.
+fn binder(depth: u128, place: u128) -> u128
+    ensures { result ≡ depth - place - 1 }
+{
+    depth.saturating_sub(place).saturating_sub(1)
+}
+
+// Makes a node, and puts it on what was made.
+fn put_node(target: &mut Module, node: LpNode, made: &mut Stack<LpId>) -> Result<(), Memory>
+    requires { PartsBelow (length target.old.table) node }
+    ensures made { OnOk result (IsPut made.old made.new target.new.table (tree_of_node target.old.table node)) }
     ensures grows { Grows target.old target.new }
 {
-    let number = depth.saturating_sub(place).saturating_sub(1);
-    target.table.node(LpNode::Var(number))
+    let tree = target.table.node(node)?;
+    made.push(tree)
+}
+
+// Makes the symbol of an operator, and puts it on what was made.
+fn put_operator(
+    alloc: Global,
+    target: &mut Module,
+    name: &Name,
+    arity: usize,
+    made: &mut Stack<LpId>,
+) -> Result<(), Memory>
+    requires { IsSome (told_operator (declarations_of target.old) name.now arity) }
+    ensures made { OnOk result ((symbol : ℕ) → told_operator (declarations_of target.old) name.now arity ≡ Some symbol → IsPut made.old made.new target.new.table (Sym symbol)) }
+    ensures grows { Grows target.old target.new }
+{
+    let symbol = operator(alloc, target, name, arity)?.unwrap();
+    put_node(target, LpNode::Sym(symbol), made)
+}
+
+// Makes a constant of the tree of its type, and puts it on what was made.
+fn put_constant(
+    alloc: Global,
+    target: &mut Module,
+    name: &Name,
+    ty: LpId,
+    made: &mut Stack<LpId>,
+) -> Result<(), Memory>
+    requires { (symbols : Symbols) × (scope : TypeScope) × (t : HolType) × IsTypeTree symbols scope t target.old name.now ty }
+    ensures made { OnOk result ((symbols : Symbols) (scope : TypeScope) (t : HolType) → IsTypeTree symbols scope t target.old name.now ty → IsPut made.old made.new target.new.table (constant_tree symbols scope name.now t)) }
+    ensures grows { Grows target.old target.new }
+{
+    let tree = constant_of(alloc, target, name, ty)?;
+    made.push(tree)
+}
+
+// Makes the abstraction of a body over the terms of a type, and puts it on what was made.
+fn put_abstraction(
+    target: &mut Module,
+    ty: LpId,
+    body: LpId,
+    made: &mut Stack<LpId>,
+) -> Result<(), Memory>
+    requires { (ty.0 < length target.old.table) × (body.0 < length target.old.table) }
+    ensures made { OnOk result (IsPut made.old made.new target.new.table (Lam (term_of (tree_at target.old.table ty.0)) (tree_at target.old.table body.0))) }
+    ensures grows { Grows target.old target.new }
+{
+    let domain = call(&mut target.table, TERM, &[ty])?;
+    put_node(target, LpNode::Lam(domain, body), made)
 }

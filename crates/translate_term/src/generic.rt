@@ -1,6 +1,6 @@
 //! A constant of the tree of its type: its symbol at what the variables of its generic type have there. The generic type is read
 //! back from the declared type of the symbol, which is a product over its variables.
-ghost use Rattle.std.specs.Prelude.{◌≡◌, ◌⊎◌, ◌<◌, ◌∷◌, ◌++◌, ℕ, List, length, map, replicate, Some, IfOk, IfSome, IfNone, OnOk};
+ghost use Rattle.std.specs.Prelude.{◌≡◌, ◌⊎◌, ◌<◌, [], ◌∷◌, ◌++◌, ℕ, List, length, map, replicate, Some, IfOk, IfSome, IfNone, OnOk};
 ghost use Rattle.hol_spec.specs.Substitution.{type_arguments as arguments_of};
 ghost use Rattle.hol_spec.specs.Types.{HolType};
 ghost use Rattle.lp_spec.specs.Trees.{Tree};
@@ -144,13 +144,34 @@ fn matched(alloc: Global, trees: &LpTable, pattern: LpId, instance: LpId) -> Res
     ensures noted { IfOk result (λ found. (want : ℕ → Tree) → tree_at trees.now instance.0 ≡ sub want (tree_at trees.now pattern.0) → (k : ℕ) (id : AnId) → IsNoted found k id → (id.0 < length trees.now) × (tree_at trees.now id.0 ≡ want k)) }
     ensures all { IfOk result (λ found. (k : ℕ) → Mentions k (tree_at trees.now pattern.0) → IsDone found k) }
 {
-    let mut tasks = Stack::new(alloc);
     let mut found = Found::new(alloc);
-    tasks.push(meet(pattern, instance))?;
-    while let Some(task) = tasks.pop() {
-        turn(trees, task, &mut tasks, &mut found)?;
+    let mut tasks = Stack::new(alloc);
+    let ended = met(trees, meet(pattern, instance), &mut tasks, &mut found);
+    drop(tasks);
+    match ended {
+        Ok(()) => Ok(found),
+        Err(Memory) => {
+            drop(found);
+            Err(Memory)
+        }
     }
-    Ok(found)
+}
+
+// Finds what the variables of a pattern have in its instance.
+fn met(
+    trees: &LpTable,
+    task: Meeting,
+    tasks: &mut Stack<Meeting>,
+    found: &mut Found,
+) -> Result<(), Memory>
+    requires { (want : ℕ → Tree) × (root : Tree) × IsMatching want root trees.now (task ∷ tasks.old) found.old }
+    ensures { OnOk result ((want : ℕ → Tree) (root : Tree) → IsMatching want root trees.now (task ∷ tasks.old) found.old → IsMatching want root trees.now [] found.new) }
+{
+    tasks.push(task)?;
+    while let Some(next) = tasks.pop() {
+        turn(trees, next, tasks, found)?;
+    }
+    Ok(())
 }
 
 fn meet(pattern: LpId, instance: LpId) -> Meeting

@@ -1,7 +1,7 @@
 //! Which symbols of a module stand for operators and constants: they are found by their names.
-ghost use Rattle.std.specs.Prelude.{◌≡◌, ◌++◌, decimal, IfOk, OnOk};
+ghost use Rattle.std.specs.Prelude.{◌≡◌, ◌++◌, codes, decimal, IfOk, OnOk};
 ghost use Rattle.hol_spec.specs.Mangling.{mangled};
-ghost use Rattle.holide_sig.specs.Modules.{declarations_of};
+ghost use Rattle.holide_sig.specs.Modules.{declarations_of, symbol_number};
 ghost use Rattle.module_spec.specs.Image.{input_operator_name};
 ghost use Rattle.module_spec.specs.Numerals.{numeral};
 ghost use Rattle.translate_term.specs.Told.{told_constant, told_operator};
@@ -31,12 +31,11 @@ pub(crate) fn operator(
     if name.is_single(b"ind") {
         return Ok(Some(IND));
     }
-    let input = input_operator(alloc, name, arity)?;
-    if let Some(symbol) = source.find(&input) {
+    let input = input_operator(alloc, source, name, arity)?;
+    if let Some(symbol) = input {
         return Ok(Some(symbol));
     }
-    let defined = text(alloc, b"o_", name)?;
-    Ok(source.find(&defined))
+    named(alloc, source, b"o_", name)
 }
 
 // The symbol of a constant.
@@ -49,22 +48,40 @@ pub(crate) fn constant(alloc: Global, source: &Module, name: &Name) -> Result<Op
     if name.is_single(b"select") {
         return Ok(Some(SELECT));
     }
-    let input = text(alloc, b"i_", name)?;
-    if let Some(symbol) = source.find(&input) {
+    let input = named(alloc, source, b"i_", name)?;
+    if let Some(symbol) = input {
         return Ok(Some(symbol));
     }
-    let defined = text(alloc, b"c_", name)?;
-    Ok(source.find(&defined))
+    named(alloc, source, b"c_", name)
 }
 
-// The name of an input operator with so many arguments.
-fn input_operator(alloc: Global, name: &Name, arity: usize) -> Result<Vec<u8>, Memory>
-    ensures { IfOk result (λ text. text.items ≡ input_operator_name arity name.now) }
+// The symbol of an input operator with so many arguments.
+fn input_operator(
+    alloc: Global,
+    source: &Module,
+    name: &Name,
+    arity: usize,
+) -> Result<Option<usize>, Memory>
+    ensures { IfOk result (λ symbol. symbol ≡ symbol_number (declarations_of source.now) (input_operator_name arity name.now)) }
 {
-    let mut front = Vec::from_slice(alloc, b"t")?;
-    push_numeral(&mut front, arity)?;
-    front.extend_from_slice(b"_")?;
-    text(alloc, &front, name)
+    let mut text = Vec::from_slice(alloc, b"t")?;
+    let symbol = find_input(source, name, arity, &mut text);
+    drop(text);
+    symbol
+}
+
+// The symbol of a text with a number, and the name after it.
+fn find_input(
+    source: &Module,
+    name: &Name,
+    number: usize,
+    text: &mut Vec<u8>,
+) -> Result<Option<usize>, Memory>
+    ensures { IfOk result (λ symbol. symbol ≡ symbol_number (declarations_of source.now) (text.old.items ++ (numeral number ++ (codes "_" ++ mangled name.now)))) }
+{
+    push_numeral(text, number)?;
+    text.extend_from_slice(b"_")?;
+    find_mangled(source, name, text)
 }
 
 // Adds a number as names write it.
@@ -83,13 +100,22 @@ fn push_digits(text: &mut Vec<u8>, number: usize) -> Result<(), Memory>
     Ok(())
 }
 
-// The mangled text of a name after some bytes.
-fn text(alloc: Global, front: &[u8], name: &Name) -> Result<Vec<u8>, Memory>
-    ensures { IfOk result (λ text. text.items ≡ front.now ++ mangled name.now) }
+// The symbol of some bytes with the mangled text of a name after them.
+fn named(alloc: Global, source: &Module, front: &[u8], name: &Name) -> Result<Option<usize>, Memory>
+    ensures { IfOk result (λ symbol. symbol ≡ symbol_number (declarations_of source.now) (front.now ++ mangled name.now)) }
 {
     let mut text = Vec::from_slice(alloc, front)?;
+    let symbol = find_mangled(source, name, &mut text);
+    drop(text);
+    symbol
+}
+
+// The symbol of a text with the mangled text of a name after it.
+fn find_mangled(source: &Module, name: &Name, text: &mut Vec<u8>) -> Result<Option<usize>, Memory>
+    ensures { IfOk result (λ symbol. symbol ≡ symbol_number (declarations_of source.now) (text.old.items ++ mangled name.now)) }
+{
     for byte in name.mangled() {
         text.push(byte)?;
     }
-    Ok(text)
+    Ok(source.find(text))
 }

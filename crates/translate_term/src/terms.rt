@@ -10,12 +10,13 @@ ghost use Rattle.lp_spec.specs.Modules.{term_of as terms_of};
 ghost use Rattle.lp_spec.specs.Trees.{lift};
 ghost use Rattle.lp_term.specs.declared.LpId.{LpId as AnId};
 ghost use Rattle.lp_term.specs.Tables as lp;
+ghost use Rattle.module_spec.specs.Scopes.{filler};
 ghost use Rattle.translate_term.specs.declared.memo.Place.{Place as APlace};
 ghost use Rattle.translate_term.specs.declared.tasks.Task.{Task as ATask};
 ghost use Rattle.translate_term.specs.declared.tasks.Task.TheVariants as task;
 ghost use Rattle.translate_term.specs.Tasks.{work};
 ghost use Rattle.translate_term.specs.Told.{TellsConstant, TellsType};
-ghost use Rattle.translate_term.specs.Walks.{AreGiven, Given, Grows, IsGiven, IsTermKnown, IsTermStart, IsTermWalk, IsTypeMemo, IsTypeStart, place_size, term_wanted, type_wanted};
+ghost use Rattle.translate_term.specs.Walks.{AreGiven, Given, Grows, IsGiven, IsMadeAt, IsTermKnown, IsTermStart, IsTermWalk, IsTypeMemo, IsTypeStart, place_size, term_wanted, type_wanted};
 
 use crate::generic::constant_of;
 use crate::memo::{Place, TermMemo, TypeMemo};
@@ -57,9 +58,27 @@ pub(crate) fn term_tree(
         made: TermMemo::new(alloc),
         types: TypeMemo::new(alloc),
     };
+    let tree = walked(alloc, target, table, scope, root, &mut walk);
+    drop(walk);
+    tree
+}
+
+// The tree of the term at a place that a walk is to visit next.
+fn walked(
+    alloc: Global,
+    target: &mut Module,
+    table: &TermTable,
+    scope: &Scope,
+    root: Place,
+    walk: &mut Walk,
+) -> Result<LpId, Memory>
+    requires { (given : Given) × IsTermWalk given root target.old table.now scope.now.types scope.now.terms (task.Visit root ∷ walk.old.tasks) walk.old.made walk.old.types }
+    ensures made { IfOk result (λ r. (given : Given) → IsTermWalk given root target.old table.now scope.now.types scope.now.terms (task.Visit root ∷ walk.old.tasks) walk.old.made walk.old.types → lp.Holds target.new.table r.0 (term_wanted given root.depth (term_at table.now root.id.0))) }
+    ensures grows { Grows target.old target.new }
+{
     walk.tasks.push(Task::Visit(root))?;
     while let Some(task) = walk.tasks.pop() {
-        turn(alloc, target, table, scope, task, &mut walk)?;
+        turn(alloc, target, table, scope, task, walk)?;
     }
     Ok(walk.made.find(root).unwrap())
 }
@@ -103,22 +122,47 @@ fn visit(
         None => match table.view(place.id) {
             TermView::App(f, x) => set_out_two(walk, place, f, x),
             TermView::Lam(_, body) => set_out_one(walk, place, body),
-            TermView::Bound(k) => {
-                let tree = target.table.node(LpNode::Var(k))?;
-                walk.made.note(place, tree)
-            }
+            TermView::Bound(k) => note_node(target, LpNode::Var(k), place, &mut walk.made),
             TermView::Free(name, ty) => {
                 let tree = variable(alloc, target, table, scope, &mut walk.types, name, ty)?;
-                let lifted = target.table.lift(place.depth, tree)?;
-                walk.made.note(place, lifted)
+                note_lifted(target, tree, place, &mut walk.made)
             }
             TermView::Const(name, ty) => {
                 let tree = constant(alloc, target, table, scope, &mut walk.types, name, ty)?;
-                let lifted = target.table.lift(place.depth, tree)?;
-                walk.made.note(place, lifted)
+                note_lifted(target, tree, place, &mut walk.made)
             }
         },
     }
+}
+
+// Makes a node, and notes it for a place.
+fn note_node(
+    target: &mut Module,
+    node: LpNode,
+    place: Place,
+    made: &mut TermMemo,
+) -> Result<(), Memory>
+    requires { lp.PartsBelow (length target.old.table) node }
+    ensures made { OnOk result (IsMadeAt place made.old made.new target.new.table (lp.tree_of_node target.old.table node)) }
+    ensures grows { Grows target.old target.new }
+{
+    let tree = target.table.node(node)?;
+    made.note(place, tree)
+}
+
+// Lifts a tree over the binders round a place, and notes it there.
+fn note_lifted(
+    target: &mut Module,
+    tree: LpId,
+    place: Place,
+    made: &mut TermMemo,
+) -> Result<(), Memory>
+    requires { tree.0 < length target.old.table }
+    ensures made { OnOk result (IsMadeAt place made.old made.new target.new.table (lift place.depth (lp.tree_at target.old.table tree.0))) }
+    ensures grows { Grows target.old target.new }
+{
+    let lifted = target.table.lift(place.depth, tree)?;
+    made.note(place, lifted)
 }
 
 // Sets out to make both parts of an application, and then to come back to it.
@@ -172,13 +216,30 @@ fn variable(
         name: name.clone()?,
         ty,
     };
-    match scope.terms.find(&wanted) {
+    let told = scope.terms.find(&wanted);
+    drop(wanted);
+    match told {
         Some(tree) => Ok(tree),
-        None => {
-            let filled = type_of(alloc, target, table.types(), &scope.types, memo, ty)?;
-            filling(&mut target.table, filled)
-        }
+        None => some_term(alloc, target, table, scope, memo, ty),
     }
+}
+
+// Some term of a type, under no binder.
+fn some_term(
+    alloc: Global,
+    target: &mut Module,
+    table: &TermTable,
+    scope: &Scope,
+    memo: &mut TypeMemo,
+    ty: TypeId,
+) -> Result<LpId, Memory>
+    requires { (given : Given) × IsTypeStart given ty target.old table.now.types scope.now.types memo.old }
+    ensures made { IfOk result (λ r. (given : Given) → IsTypeStart given ty target.old table.now.types scope.now.types memo.old → lp.Holds target.new.table r.0 (filler (type_wanted given (hol.type_at table.now ty.0)))) }
+    ensures noted { OnOk result ((given : Given) → IsTypeStart given ty target.old table.now.types scope.now.types memo.old → IsTypeMemo given table.now.types target.new.table memo.new) }
+    ensures grows { Grows target.old target.new }
+{
+    let filled = type_of(alloc, target, table.types(), &scope.types, memo, ty)?;
+    filling(&mut target.table, filled)
 }
 
 // A constant under no binder: its symbol at what the variables of its generic type have in its type.
@@ -218,8 +279,12 @@ fn join(
         TermView::App(f, x) => {
             let function = walk.made.find(at(f, place.depth)).unwrap();
             let argument = walk.made.find(at(x, place.depth)).unwrap();
-            let tree = target.table.node(LpNode::App(function, argument))?;
-            walk.made.note(place, tree)
+            note_node(
+                target,
+                LpNode::App(function, argument),
+                place,
+                &mut walk.made,
+            )
         }
         TermView::Lam(ty, body) => {
             let inside = walk.made.find(at(body, place.depth + 1)).unwrap();
@@ -232,8 +297,7 @@ fn join(
                 ty,
                 place.depth,
             )?;
-            let tree = target.table.node(LpNode::Lam(domain, inside))?;
-            walk.made.note(place, tree)
+            note_node(target, LpNode::Lam(domain, inside), place, &mut walk.made)
         }
         TermView::Free(..) | TermView::Bound(_) | TermView::Const(..) => Ok(()),
     }

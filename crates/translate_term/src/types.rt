@@ -40,9 +40,29 @@ pub(crate) fn type_of(
     ensures grows { Grows target.old target.new }
 {
     let mut tasks = Stack::new(alloc);
+    let tree = walked(alloc, target, table, scope, root, &mut tasks, memo);
+    drop(tasks);
+    tree
+}
+
+// The tree of the type that a walk is to visit next.
+fn walked(
+    alloc: Global,
+    target: &mut Module,
+    table: &TypeTable,
+    scope: &ScopeTypes,
+    root: TypeId,
+    tasks: &mut Stack<Task<TypeId>>,
+    memo: &mut TypeMemo,
+) -> Result<LpId, Memory>
+    requires { (given : Given) × IsTypeWalk given root target.old table.now scope.now (task.Visit root ∷ tasks.old) memo.old }
+    ensures made { IfOk result (λ r. (given : Given) → IsTypeWalk given root target.old table.now scope.now (task.Visit root ∷ tasks.old) memo.old → lp.Holds target.new.table r.0 (type_wanted given (tree_at table.now root.0))) }
+    ensures noted { OnOk result ((given : Given) → IsTypeWalk given root target.old table.now scope.now (task.Visit root ∷ tasks.old) memo.old → IsTypeMemo given table.now target.new.table memo.new) }
+    ensures grows { Grows target.old target.new }
+{
     tasks.push(Task::Visit(root))?;
     while let Some(task) = tasks.pop() {
-        turn(alloc, target, table, scope, task, &mut tasks, memo)?;
+        turn(alloc, target, table, scope, task, tasks, memo)?;
     }
     Ok(memo.find(root).unwrap())
 }

@@ -10,7 +10,7 @@ loop-rest-init c = (λ given root head made ts p m. record { left = ts; are = p;
 pub loop-rest-preserved : goal.loop-rest-preserved
 loop-rest-preserved c =
     let split = front-item c.loop-rest.rest.now c.last-item.result c.last-item.is c.in-len1-up.len_at_least in
-    rw (c.in_ok-push-2.ensures.pushed, c.in_ok-push.ensures.pushed) (
+    rw c.in_ok-push_two.ensures (
       λ given root head made ts p m. arguments_goes_on given root head made c.args.depth c.loop-rest.rest.now _ _ c.loop-rest.tasks split (c.loop-rest.invariant.0 given root head made ts p m),
       work_goes_on c.loop-rest.rest.now _ c.last-item.result _ split ∙ c.loop-rest.invariant.1,
       omega (arith, c.loop-rest.invariant.2, length-take (length c.loop-rest.rest.now - 1) c.loop-rest.rest.now),

@@ -1,15 +1,18 @@
 use Rattle.std.proofs.Common.{⊎_elim}
+use Rattle.lp_term.specs.Tables.{tree_at}
 use Rattle.translate_term.proofs.MatchTurns.{matching_begins}
 use Rattle.translate_term.proofs.generic.matched.Goals as goal
 
-pub loop-task-init : goal.loop-task-init
-loop-task-init c = λ want f. rw (c.in_ok-push.ensures.pushed, c.new-tasks.ensures.empty, c.meet.ensures) (matching_begins want _ c.args.pattern c.args.instance _ c.requires.pattern c.requires.instance f c.new-found.ensures.empty)
+pub met-ended-requires : goal.met-ended-requires
+met-ended-requires c =
+    (c.requires.fits.0, tree_at c.args.trees.now c.args.pattern.0, rw (c.new-tasks.ensures.empty, c.meet.ensures) (matching_begins c.requires.fits.0 _ c.args.pattern c.args.instance _ c.requires.pattern c.requires.instance c.requires.fits.1 c.new-found.ensures.empty))
 
-pub loop-task-preserved : goal.loop-task-preserved
-loop-task-preserved c = λ want f. c.in_ok-turn.ensures.matching want _ (rw c.in-Some.ensures.popped at c.loop-task.invariant want f)
+pub returns-in-Ok-clause-noted : goal.returns-in-Ok-clause-noted
+returns-in-Ok-clause-noted c =
+    λ want f. (c.in-Ok.ensures want (tree_at c.args.trees.now c.args.pattern.0) (rw (c.new-tasks.ensures.empty, c.meet.ensures) (matching_begins want _ c.args.pattern c.args.instance _ c.requires.pattern c.requires.instance f c.new-found.ensures.empty))).noted
 
-pub returns-clause-noted : goal.returns-clause-noted
-returns-clause-noted c = λ want f. (c.loop-task.invariant want f).noted
-
-pub returns-clause-all : goal.returns-clause-all
-returns-clause-all c = λ k m. let w = rw c.in_default.ensures.popped at c.loop-task.invariant c.requires.fits.0 c.requires.fits.1 in ⊎_elim (λ d. d) (λ l. absurd l) (w.all k m)
+pub returns-in-Ok-clause-all : goal.returns-in-Ok-clause-all
+returns-in-Ok-clause-all c =
+    λ k m.
+    let w = c.in-Ok.ensures c.requires.fits.0 (tree_at c.args.trees.now c.args.pattern.0) (rw (c.new-tasks.ensures.empty, c.meet.ensures) (matching_begins c.requires.fits.0 _ c.args.pattern c.args.instance _ c.requires.pattern c.requires.instance c.requires.fits.1 c.new-found.ensures.empty)) in
+    ⊎_elim (λ d. d) (λ l. absurd l) (w.all k m)

@@ -1,4 +1,5 @@
 use Rattle.std.proofs.lemmas.Result.{IfOk-weaker}
+use Rattle.lp_term.specs.TableLaws.{Keeps-trans}
 use Rattle.translate_term.proofs.FillingLaws.{filling-keeps, filling-made}
 use Rattle.translate_term.proofs.nodes.filling.Goals as goal
 
@@ -14,3 +15,16 @@ pub returns-clause-keeps : goal.returns-clause-keeps
 returns-clause-keeps c =
     filling-keeps _ _ _ _ _ _ _ c.args.ty c.in_ok-lifted.lifted c.in_ok-variable.variable c.in_ok-equation.equation c.in_ok-domain.domain c.in_ok-test.test c.requires c.in_ok-lifted.ensures.keeps c.in_ok-variable.ensures.keeps
     c.in_ok-equation.ensures.keeps c.in_ok-domain.ensures.keeps c.in_ok-test.ensures.keeps c.call-3.ensures.keeps
+
+pub returns-in_err-variable-clause-keeps : goal.returns-in_err-variable-clause-keeps
+returns-in_err-variable-clause-keeps c = Keeps-trans c.in_ok-lifted.ensures.keeps c.node.ensures.keeps
+
+pub returns-in_err-equation-clause-keeps : goal.returns-in_err-equation-clause-keeps
+returns-in_err-equation-clause-keeps c = Keeps-trans c.in_ok-lifted.ensures.keeps (Keeps-trans c.in_ok-variable.ensures.keeps c.call.ensures.keeps)
+
+pub returns-in_err-domain-clause-keeps : goal.returns-in_err-domain-clause-keeps
+returns-in_err-domain-clause-keeps c = Keeps-trans c.in_ok-lifted.ensures.keeps (Keeps-trans c.in_ok-variable.ensures.keeps (Keeps-trans c.in_ok-equation.ensures.keeps c.call-2.ensures.keeps))
+
+pub returns-in_err-test-clause-keeps : goal.returns-in_err-test-clause-keeps
+returns-in_err-test-clause-keeps c =
+    Keeps-trans c.in_ok-lifted.ensures.keeps (Keeps-trans c.in_ok-variable.ensures.keeps (Keeps-trans c.in_ok-equation.ensures.keeps (Keeps-trans c.in_ok-domain.ensures.keeps c.node-2.ensures.keeps)))

@@ -1,8 +1,9 @@
 use Rattle.std.proofs.Common.{◌∙◌, ap, Some}
 use Rattle.std.proofs.lemmas.Result.{IfOk-weaker}
 use Rattle.hol_type.specs.Tables as type
-use Rattle.translate_term.specs.GrowLaws.{IsTypeMemo-Keeps}
-use Rattle.translate_term.proofs.LeafLaws.{OnOk-always, constant-typed, constant-unlifted}
+use Rattle.translate_term.specs.GrowLaws.{Grows-trans, IsTypeMemo-Keeps}
+use Rattle.translate_term.proofs.EndsLaws.{OnOk-always}
+use Rattle.translate_term.proofs.LeafLaws.{constant-typed, constant-unlifted}
 use Rattle.translate_term.proofs.terms.constant.Goals as goal
 
 pub constant_of-requires : goal.constant_of-requires
@@ -23,3 +24,6 @@ pub returns-clause-noted : goal.returns-clause-noted
 returns-clause-noted c =
     let noted = rw c.types.ensures.types at c.in_ok-tree.ensures.noted in
     OnOk-always c.constant_of.result (λ given s t. IsTypeMemo-Keeps c.constant_of.ensures.grows.table given _ _ (noted given s))
+
+pub returns-clause-grows : goal.returns-clause-grows
+returns-clause-grows c = Grows-trans c.in_ok-tree.ensures.grows c.constant_of.ensures.grows

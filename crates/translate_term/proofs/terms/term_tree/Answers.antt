@@ -1,24 +1,12 @@
-use Rattle.translate_term.specs.GrowLaws.{Grows-refl, Grows-trans}
-use Rattle.translate_term.proofs.MadeLaws.{is_some-unless, if_some}
+use Rattle.std.proofs.lemmas.Result.{IfOk-weaker}
 use Rattle.translate_term.proofs.TermTurns.{term_begins}
 use Rattle.translate_term.proofs.terms.term_tree.Goals as goal
 
-pub loop-task-init : goal.loop-task-init
-loop-task-init c = (Grows-refl _, λ given s. rw (c.in_ok-push.ensures.pushed, c.new.ensures.empty) (term_begins given _ _ _ _ _ _ _ c.new-2.ensures.empty c.new-3.ensures.empty s))
-
-pub turn-requires : goal.turn-requires
-turn-requires c = (c.requires.0, _, rw c.in-Some.ensures.popped at c.loop-task.invariant.1 c.requires.0 c.requires.1)
-
-pub loop-task-preserved : goal.loop-task-preserved
-loop-task-preserved c = (
-  Grows-trans c.loop-task.invariant.0 c.in_ok-turn.ensures.grows,
-  λ given s. c.in_ok-turn.ensures.walk given _ (rw c.in-Some.ensures.popped at c.loop-task.invariant.1 given s),
-)
-
-pub unwrap-requires : goal.unwrap-requires
-unwrap-requires c =
-    let w = rw c.in_default.ensures.popped at c.loop-task.invariant.1 c.requires.0 c.requires.1 in
-    is_some-unless c.find.result c.find.ensures.absent (λ absent. absent w.ends.0 w.ends.1)
+pub walked-tree-requires : goal.walked-tree-requires
+walked-tree-requires c = (c.requires.0, rw c.new.ensures.empty (term_begins _ _ _ _ _ _ _ _ c.new-2.ensures.empty c.new-3.ensures.empty c.requires.1))
 
 pub returns-clause-made : goal.returns-clause-made
-returns-clause-made c = λ given s. (c.loop-task.invariant.1 given s).noted _ _ (if_some _ c.find.result c.unwrap.result c.unwrap.ensures c.find.ensures.noted)
+returns-clause-made c =
+    IfOk-weaker c.walked-tree.result _ _
+    (λ r h given s. h given (rw c.new.ensures.empty (term_begins given _ _ _ _ _ _ _ c.new-2.ensures.empty c.new-3.ensures.empty s)))
+    c.walked-tree.ensures.made

@@ -23,3 +23,9 @@ returns-clause-walk c =
     type_join given root _ _ names c.args.id rest _ _ (Grows-table c.args.target.now _ c.in_ok-tree.ensures.keeps) _ c.in_ok-tree.tree only new kept c.in-Op.name.now c.in-Op.args.now c.in_ok-parts.parts.items c.unwrap-symbol.result
     c.in-Op.ensures.is c.in_ok-parts.ensures (sym c.unwrap-symbol.ensures ∙ c.in_ok-operator.ensures) (rw c.deref.ensures.value at c.in_ok-tree.ensures.made) w)
     c.note.ensures.noted c.note.ensures.new c.note.ensures.kept
+
+pub returns-clause-grows : goal.returns-clause-grows
+returns-clause-grows c = Grows-table c.args.target.now _ c.in_ok-tree.ensures.keeps
+
+pub returns-in_err-tree-clause-grows : goal.returns-in_err-tree-clause-grows
+returns-in_err-tree-clause-grows c = Grows-table c.args.target.now _ c.call.ensures.keeps

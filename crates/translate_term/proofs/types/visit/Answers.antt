@@ -1,6 +1,7 @@
 use Rattle.hol_type.specs.TableLaws.{AreBelow-known}
 use Rattle.std.proofs.Common.{arith}
-use Rattle.translate_term.proofs.EndsLaws.{OnOk-map, OnOk-map3, visit-less, set_out-less}
+use Rattle.translate_term.proofs.EndsLaws.{OnOk-always, OnOk-map, OnOk-map3, visit-less, set_out-less}
+use Rattle.translate_term.specs.GrowLaws.{Grows-refl}
 use Rattle.translate_term.proofs.TypeTurns.{type_done, type_set_out, type_variable, arguments-less, size_at-positive}
 use Rattle.translate_term.proofs.types.visit.Goals as goal
 
@@ -24,3 +25,12 @@ returns-in-Op-clause-walk c =
 
 pub returns-in-Op-clause-less : goal.returns-in-Op-clause-less
 returns-in-Op-clause-less c = OnOk-map c.set_out.result (λ e. rw e (set_out-less _ c.args.id c.in-Op.args.now _ (arguments-less _ c.args.id c.in-Op.field-0.now c.in-Op.args.now c.in-Op.ensures.is))) c.set_out.ensures
+
+pub returns-in_ok-tree-in-Var-clause-less : goal.returns-in_ok-tree-in-Var-clause-less
+returns-in_ok-tree-in-Var-clause-less c = OnOk-always c.note.result (visit-less _ c.args.id _ (size_at-positive _ c.args.id))
+
+pub returns-in-Some-clause-grows : goal.returns-in-Some-clause-grows
+returns-in-Some-clause-grows c = Grows-refl _
+
+pub returns-in-Op-clause-grows : goal.returns-in-Op-clause-grows
+returns-in-Op-clause-grows c = Grows-refl _
