@@ -1,5 +1,5 @@
 -- What a turn does to a walk over types.
-use Rattle.std.proofs.Common.{◌≡◌, ℕ, ◌+◌, ◌<◌, refl, sym, ap, ◌∙◌, subst, arith, List, [], ◌∷◌, length, Option, Some, ◌⊎◌, inr}
+use Rattle.std.proofs.Common.{◌≡◌, ℕ, ◌+◌, ◌<◌, refl, sym, ap, ◌∙◌, subst, arith, List, [], ◌∷◌, length, Some, ◌⊎◌, inr}
 use Rattle.std.specs.Prelude.{IsSome, is_some}
 use Rattle.hol_spec.specs.Names.{Name}
 use Rattle.hol_spec.specs.Types.{HolType, HolTypes, variable, operator, none, count, types_of}
@@ -93,17 +93,16 @@ module _ (given : Given) (root : TypeId) (m : Module) (types : List HolType) (na
     made-trees (x ∷ args) [] s a = absurd a
 
     -- an operator whose arguments were made
-    pub type_join : (n : Name) (args : List TypeId) (parts : List LpId) (symbol : ℕ) → Holds types id.0 (operator n (types_of (types_at types args))) → AreNoted made args parts
-        → Some symbol ≡ told_operator (declarations_of m) n (length args) → lp.Holds now.table mark.0 (applied (Sym symbol) (lp.trees_at m.table parts))
+    pub type_join : (n : Name) (args : List TypeId) (parts : List LpId) → Holds types id.0 (operator n (types_of (types_at types args))) → AreNoted made args parts
+        → ((symbol : ℕ) → told_operator (declarations_of m) n (length args) ≡ Some symbol → lp.Holds now.table mark.0 (applied (Sym symbol) (lp.trees_at m.table parts)))
         → IsTypeWalk given root m types names (Join id ∷ tasks) made → IsTypeWalk given root now types names tasks noted
-    type_join n args parts symbol h a s is w =
+    type_join n args parts h a is w =
         let told = (told-operator given types id n args w.ends.0 h).0 in
-        let same : symbol ≡ operator_symbol given.symbols n (count (types_of (types_at types args))) =
-        same_Some _ _ (s ∙ ap₂ (λ d k. told_operator d n k) w.reads.declared (sym (count-types_of types args)) ∙ told) in
-        let tree : applied (Sym symbol) (lp.trees_at m.table parts) ≡ type_wanted given (operator n (types_of (types_at types args))) = ap₂ (λ k l. applied (Sym k) l) same (made-trees args parts w.noted a) in
+        let symbol = operator_symbol given.symbols n (count (types_of (types_at types args))) in
+        let tree : applied (Sym symbol) (lp.trees_at m.table parts) ≡ type_wanted given (operator n (types_of (types_at types args))) = ap (applied (Sym symbol)) (made-trees args parts w.noted a) in
         record {
           reads = IsGiven-Grows grows given names w.reads;
-          noted = type_noted (is ∙ ap Some tree ∙ ap (λ t. Some (type_wanted given t)) (sym (Holds-tree_at types id.0 _ h))) w.noted;
+          noted = type_noted (is symbol (ap₂ (λ d k. told_operator d n k) w.reads.declared (sym (count-types_of types args)) ∙ told) ∙ ap Some tree ∙ ap (λ t. Some (type_wanted given t)) (sym (Holds-tree_at types id.0 _ h))) w.noted;
           ends = Ends-noted (IsTypeKnown given types) (HasArguments types) root tasks made noted id mark new kept w.ends.2;
         }
 
@@ -120,11 +119,11 @@ noted-known given types trees made s [] (p ∷ parts) a = absurd a
 noted-known given types trees made s (x ∷ args) [] a = absurd a
 
 -- the symbol of an operator is found
-pub symbol-found : (given : Given) (root : TypeId) (m : Module) (types : List HolType) (names : List (Name × LpId)) (id : TypeId) (tasks : List (Task TypeId)) (made : List (TypeId × LpId)) (n : Name) (args : List TypeId) (o : Option ℕ)
-    → Holds types id.0 (operator n (types_of (types_at types args))) → o ≡ told_operator (declarations_of m) n (length args) → IsTypeWalk given root m types names (Join id ∷ tasks) made → IsSome o
-symbol-found given root m types names id tasks made n args o h s w =
+pub symbol-found : (given : Given) (root : TypeId) (m : Module) (types : List HolType) (names : List (Name × LpId)) (id : TypeId) (tasks : List (Task TypeId)) (made : List (TypeId × LpId)) (n : Name) (args : List TypeId)
+    → Holds types id.0 (operator n (types_of (types_at types args))) → IsTypeWalk given root m types names (Join id ∷ tasks) made → IsSome (told_operator (declarations_of m) n (length args))
+symbol-found given root m types names id tasks made n args h w =
     let told = (told-operator given types id n args w.ends.0 h).0 in
-    ap is_some (s ∙ ap₂ (λ d k. told_operator d n k) w.reads.declared (sym (count-types_of types args)) ∙ told)
+    ap is_some (ap₂ (λ d k. told_operator d n k) w.reads.declared (sym (count-types_of types args)) ∙ told)
 
 sum-sizes : (types : List HolType) (ids : List TypeId) → sum_of (size_at types) ids ≡ types_size (types_of (types_at types ids))
 sum-sizes types [] = refl

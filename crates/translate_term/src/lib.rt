@@ -131,7 +131,9 @@ pub fn constant(
     ensures declared { declarations_of target.new ≡ declarations_of target.old }
 {
     let mut memo = TypeMemo::new(alloc);
-    let tree = type_of(alloc, target, table, &scope.types, &mut memo, ty)?;
+    let made = type_of(alloc, target, table, &scope.types, &mut memo, ty);
+    drop(memo);
+    let tree = made?;
     constant_of(alloc, target, name, tree)
 }
 

@@ -1,16 +1,19 @@
 //! The walk that makes the tree of a type.
-ghost use Rattle.std.specs.Prelude.{◌≡◌, ◌<◌, ◌∷◌, List, length, IfOk, OnOk};
+ghost use Rattle.std.specs.Prelude.{◌≡◌, ◌<◌, ◌∷◌, ℕ, List, length, Some, IsSome, IfOk, OnOk};
 ghost use Rattle.hol_spec.specs.Limits.{type_size};
 ghost use Rattle.hol_spec.specs.Names.{Name as AName};
 ghost use Rattle.hol_type.specs.declared.table.TypeId.{TypeId as ATypeId};
 ghost use Rattle.hol_type.specs.Tables.{tree_at};
+ghost use Rattle.lp_spec.specs.Modules.{applied};
+ghost use Rattle.lp_spec.specs.Trees.{Sym};
 ghost use Rattle.lp_term.specs.declared.LpId.{LpId as AnId};
 ghost use Rattle.lp_term.specs.Tables as lp;
+ghost use Rattle.holide_sig.specs.Modules.{declarations_of};
 ghost use Rattle.module_laws.specs.ListedScopes.{told_types};
 ghost use Rattle.translate_term.specs.declared.tasks.Task.{Task as ATask};
 ghost use Rattle.translate_term.specs.declared.tasks.Task.TheVariants as task;
 ghost use Rattle.translate_term.specs.Tasks.{AreAll, IsDone, IsNoted, work};
-ghost use Rattle.translate_term.specs.Told.{types_in};
+ghost use Rattle.translate_term.specs.Told.{told_operator, types_in};
 ghost use Rattle.translate_term.specs.Walks.{AreNoted, Given, Grows, IsGiven, IsTypeMemo, IsTypeStart, IsTypeWalk, size_at, type_wanted};
 
 use crate::memo::TypeMemo;
@@ -142,9 +145,27 @@ fn join(
         return Ok(());
     };
     let parts = parts(alloc, memo, args)?;
-    let symbol = operator(alloc, target, name, args.len())?.unwrap();
-    let tree = call(&mut target.table, symbol, &parts)?;
+    let made = applied_to(alloc, target, name, args.len(), &parts);
+    drop(parts);
+    let tree = made?;
     memo.note(id, tree)
+}
+
+// The symbol of an operator with so many arguments, applied to trees.
+fn applied_to(
+    alloc: Global,
+    target: &mut Module,
+    name: &Name,
+    arity: usize,
+    trees: &[LpId],
+) -> Result<LpId, Memory>
+    requires found { IsSome (told_operator (declarations_of target.old) name.now arity) }
+    requires known { lp.AreKnown target.old.table trees.now }
+    ensures made { IfOk result (λ r. (symbol : ℕ) → told_operator (declarations_of target.old) name.now arity ≡ Some symbol → lp.Holds target.new.table r.0 (applied (Sym symbol) (lp.trees_at target.old.table trees.now))) }
+    ensures grows { Grows target.old target.new }
+{
+    let symbol = operator(alloc, target, name, arity)?.unwrap();
+    call(&mut target.table, symbol, trees)
 }
 
 // What was made of some types.

@@ -1,7 +1,7 @@
-use Rattle.std.proofs.Common.{◌∙◌, ◌-◌, arith, length, refl}
+use Rattle.std.proofs.Common.{◌∙◌, ◌-◌, arith, length, refl, sym}
 use Rattle.std.proofs.lemmas.List.{length-take}
 use Rattle.translate_term.proofs.ListSteps.{front-item, no-item}
-use Rattle.translate_term.proofs.ClosedParts.{arguments_goes_on, arguments_end, work_goes_on}
+use Rattle.translate_term.proofs.ClosedParts.{arguments_goes_on, arguments_end, work_goes_on, work_end}
 use Rattle.translate_term.proofs.closed.set_out.Goals as goal
 
 pub loop-rest-init : goal.loop-rest-init
@@ -20,3 +20,6 @@ pub returns-clause-makes : goal.returns-clause-makes
 returns-clause-makes c =
     λ given root head made ts p m.
     arguments_end given root head made c.args.depth c.loop-rest.rest.now c.loop-rest.tasks (no-item c.loop-rest.rest.now c.in_default.len_below) (c.loop-rest.invariant.0 given root head made ts p m)
+
+pub returns-clause-work : goal.returns-clause-work
+returns-clause-work c = sym (work_end c.loop-rest.rest.now _ (no-item c.loop-rest.rest.now c.in_default.len_below)) ∙ c.loop-rest.invariant.1

@@ -19,3 +19,9 @@ one-requires c = walk-one c.requires.0 c.requires.1 _ _ _ (rw c.in_default.ensur
 
 pub returns-clause-made : goal.returns-clause-made
 returns-clause-made c = λ given tree w. walk_ends given tree _ _ c.one.result _ _ c.one.ensures (rw c.in_default.ensures.popped at c.loop-next.invariant.1 given tree w)
+
+pub loop-next-smaller : goal.loop-next-smaller
+loop-next-smaller c = rw c.in-Some.ensures.popped c.in_ok-turn.ensures.less
+
+pub returns-in_err-turn-clause-grows : goal.returns-in_err-turn-clause-grows
+returns-in_err-turn-clause-grows c = Grows-trans c.loop-next.invariant.0 c.turn.ensures.grows

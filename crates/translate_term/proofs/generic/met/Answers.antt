@@ -11,3 +11,6 @@ returns c = λ want root m. rw c.in_default.ensures.popped at c.loop-next.invari
 
 pub turn-requires : goal.turn-requires
 turn-requires c = (c.requires.0, c.requires.1, rw c.in-Some.ensures.popped at c.loop-next.invariant c.requires.0 c.requires.1 c.requires.2)
+
+pub loop-next-smaller : goal.loop-next-smaller
+loop-next-smaller c = rw c.in-Some.ensures.popped c.in_ok-turn.ensures.less

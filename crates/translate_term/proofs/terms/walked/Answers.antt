@@ -21,3 +21,9 @@ unwrap-requires c =
 
 pub returns-clause-made : goal.returns-clause-made
 returns-clause-made c = λ given w. (c.loop-task.invariant.1 given w).noted _ _ (if_some _ c.find.result c.unwrap.result c.unwrap.ensures c.find.ensures.noted)
+
+pub loop-task-smaller : goal.loop-task-smaller
+loop-task-smaller c = rw c.in-Some.ensures.popped c.in_ok-turn.ensures.less
+
+pub returns-in_err-turn-clause-grows : goal.returns-in_err-turn-clause-grows
+returns-in_err-turn-clause-grows c = Grows-trans c.loop-task.invariant.0 c.turn.ensures.grows

@@ -24,3 +24,9 @@ returns-clause-made c = λ given w. (c.loop-task.invariant.1 given w).noted _ _ 
 
 pub returns-clause-noted : goal.returns-clause-noted
 returns-clause-noted c = λ given w. (c.loop-task.invariant.1 given w).noted
+
+pub loop-task-smaller : goal.loop-task-smaller
+loop-task-smaller c = rw c.in-Some.ensures.popped c.in_ok-turn.ensures.less
+
+pub returns-in_err-turn-clause-grows : goal.returns-in_err-turn-clause-grows
+returns-in_err-turn-clause-grows c = Grows-trans c.loop-task.invariant.0 c.turn.ensures.grows
