@@ -37,6 +37,11 @@ pub constants-more : (ps : List (Name × Variable)) (i : ℕ) (p : Name × Varia
     → state.Objects.more (state.Object.constant p.0) made ≡ constant_objects (map (λ q. q.0) (drop i ps))
 constants-more ps i p made e h = ap (state.Objects.more (state.Object.constant p.0)) h ∙ sym (ap (λ qs. constant_objects (map (λ q. q.0) qs)) (drop-at ps i p e))
 
+-- where none is left, all are made
+pub constants-all : (ps : List (Name × Variable)) (n : ℕ) (made : state.Objects) → n ≡ 0 → made ≡ constant_objects (map (λ q. q.0) (drop n ps)) → made ≡ constant_objects (map (λ q. q.0) ps)
+constants-all [] n made z h = h ∙ ap (λ k. constant_objects (map (λ (q : Name × Variable). q.0) (drop k []))) z
+constants-all (p ∷ ps) n made z h = h ∙ ap (λ k. constant_objects (map (λ q. q.0) (drop k (p ∷ ps)))) z
+
 -- pairs over a table that keeps what it had
 module _ {a b : Trees} (k : Keeps a b) where
   pub constant_pairs_at-Keeps : (ps : List (Name × Variable)) → AreConstantPairsKnown a ps → constant_pairs_at a ps ≡ constant_pairs_at b ps

@@ -1,9 +1,11 @@
 -- The conditions of what is made: met where a call answers Ok, and refused with its fault.
-use Rattle.std.proofs.Common.{◌≡◌, ℕ, ◌≤◌, ◌<◌, refl, arith, List, [], ◌∷◌, Bool, true, false, Option, None, Some, option_map, Result, Ok}
+use Rattle.std.proofs.Common.{◌≡◌, ℕ, ◌≤◌, ◌<◌, refl, sym, arith, List, [], ◌∷◌, length, Bool, true, false, Option, None, Some, option_map, Result, Ok}
 use Rattle.std.specs.Prelude.{IsSome, is_some, nat_le, nat_eq}
 use Rattle.std.proofs.lemmas.Grind.{common_steps}
-use Rattle.hol_spec.specs.Types.{HolType}
-use Rattle.hol_spec.specs.Terms.{Term, Variable, lam, type_of, IsTerm}
+use Rattle.hol_spec.specs.Names.{Name}
+use Rattle.hol_spec.specs.Types.{HolType, operator, types_of}
+use Rattle.hol_spec.specs.Terms.{Term, Variable, constant, lam, type_of, IsTerm}
+use Rattle.hol_spec.specs.Symbols.{Symbol, generic_type, operator_arity, new_constant, new_operator}
 use Rattle.hol_spec.specs.TermBinding.{close}
 use Rattle.hol_laws.specs.TermTyping.{type_of-close}
 use Rattle.hol_spec.specs.Limits.{greatest_size, greatest_depth, type_size, type_depth, term_size, term_depth, TypeWithin, TermWithin}
@@ -13,13 +15,17 @@ use Rattle.bridge_base.specs.declared.faults.Fault.{Fault}
 use Rattle.bridge_base.specs.declared.faults.Fault.TheVariants.{Memory, Refused}
 use Rattle.bridge_base.specs.declared.faults.Kind.{Kind}
 use Rattle.bridge_base.specs.declared.faults.Kind.TheVariants as kind
+use Rattle.hol_laws.specs.RenamingLaws.{length_map}
+use Rattle.hol_type.specs.declared.table.TypeId.{TypeId}
 use Rattle.hol_type.specs.Refusals.{Refuses, RefusesType}
+use Rattle.hol_type.specs.Tables.{tree_at, types_at}
 use Rattle.hol_term.specs.Refusals.{RefusesTerm, RefusesTyped}
 use Rattle.hol_defs.specs.Refusals.{FitsGeneric, FitsArity, RefusesConstant, RefusesOperator}
 use Rattle.article_spec.specs.Results.{◌>>◌, Fails}
 use Rattle.hol_spec.specs.Measures.{Measure}
 use Rattle.article_spec.specs.Conditions.{demand, in_limits, type_in_limits, term_in_limits, arity_fits, generic_fits}
-use Rattle.stack_machine.specs.Refusals.{application_fits}
+use Rattle.stack_machine.specs.Refusals.{application_fits, constant_fits, operator_fits}
+use Rattle.stack_machine.proofs.Obeyed.{condition_fails}
 
 at_most : (n m : ℕ) → n ≤ m → nat_le n m ≡ true
 at_most n m h = grind (arith, common_steps, h)
@@ -104,6 +110,39 @@ generic_fails Memory o a h = tt
 generic_fails (Refused kind.BadConstType) None a h = absurd (h tt)
 generic_fails (Refused kind.BadConstType) (Some generic) a h = rw (not_true (is_instance generic a) h) refl
 generic_fails (Refused k) o a h = absurd h
+
+-- there are as many types as numbers
+pub types_count : (trees : List HolType) (ids : List TypeId) → length ids ≡ length (types_at trees ids)
+types_count trees ids = sym (length_map (λ (id : TypeId). tree_at trees id.0) ids)
+
+-- an operator's number of arguments is judged first, and then its type
+module _ (symbols : List Symbol) (n : Name) (ts : List HolType) where
+  pub operator_within : FitsArity (operator_arity symbols n) (length ts) → TypeWithin (operator n (types_of ts)) → operator_fits symbols n ts ≡ Ok tt
+  operator_within h w = rw (arity_within (operator_arity symbols n) (length ts) h) (type_within (operator n (types_of ts)) w)
+
+  pub operator_unused : (fault : Fault) → RefusesOperator fault (operator_arity symbols n) (length ts) → Fails fault (operator_fits symbols n ts)
+  operator_unused fault h = condition_fails fault (arity_fits (operator_arity symbols n) (length ts)) (type_in_limits (operator n (types_of ts))) (arity_fails fault (operator_arity symbols n) (length ts) h)
+
+  pub operator_unmade : (fault : Fault) → FitsArity (operator_arity symbols n) (length ts) → RefusesType fault (operator n (types_of ts)) → Fails fault (operator_fits symbols n ts)
+  operator_unmade fault h r = then_fails fault (arity_fits (operator_arity symbols n) (length ts)) (type_in_limits (operator n (types_of ts))) (arity_within (operator_arity symbols n) (length ts) h) (type_fails fault (operator n (types_of ts)) r)
+
+-- a constant's generic type is judged first, and then its limits
+module _ (symbols : List Symbol) (n : Name) (a : HolType) where
+  pub constant_within : FitsGeneric (generic_type symbols n) a → TermWithin (constant n a) → constant_fits symbols n a ≡ Ok tt
+  constant_within h w = rw (generic_within (generic_type symbols n) a h) (term_within (constant n a) w)
+
+  pub constant_unused : (fault : Fault) → RefusesConstant fault (generic_type symbols n) a → Fails fault (constant_fits symbols n a)
+  constant_unused fault h = condition_fails fault (generic_fits (generic_type symbols n) a) (term_in_limits (constant n a)) (generic_fails fault (generic_type symbols n) a h)
+
+  pub constant_unmade : (fault : Fault) → FitsGeneric (generic_type symbols n) a → RefusesTerm fault (constant n a) → Fails fault (constant_fits symbols n a)
+  constant_unmade fault h r = then_fails fault (generic_fits (generic_type symbols n) a) (term_in_limits (constant n a)) (generic_within (generic_type symbols n) a h) (term_fails fault (constant n a) r)
+
+-- what is settled takes no symbol
+pub no_operator : (symbols : List Symbol) (n : Name) (k : ℕ) → is_some (operator_arity symbols n) ≡ true → new_operator symbols n k ≡ []
+no_operator symbols n k h = rw h refl
+
+pub no_constant : (symbols : List Symbol) (n : Name) → is_some (generic_type symbols n) ≡ true → new_constant symbols n ≡ []
+no_constant symbols n h = rw h refl
 
 -- an abstraction of a term is a term
 pub abstraction_typed : (v : Variable) (t : Term) → IsTerm t → IsTerm (lam v.1 (close v t))

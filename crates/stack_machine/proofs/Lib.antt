@@ -1,5 +1,6 @@
 mod Passing
 mod Cells
+mod Pushed
 mod Fitting
 mod Elements
 mod Turned

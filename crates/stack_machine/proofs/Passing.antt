@@ -15,6 +15,11 @@ pub both : {T E : Type 0} (r : Result T E) (P Q : T → Type 0) → IfOk r P →
 both (Ok x) P Q h k = (h, k)
 both (Err e) P Q h k = tt
 
+-- what is known of every answer is known where there is one
+pub OnOk-IfOk : {T E : Type 0} (r : Result T E) (P : T → Type 0) (Q : Type 0) → IfOk r P → ((x : T) → P x → Q) → OnOk r Q
+OnOk-IfOk (Ok x) P Q h f = f x h
+OnOk-IfOk (Err e) P Q h f = tt
+
 pub OnOk-map : {T E : Type 0} (r : Result T E) (P Q : Type 0) → OnOk r P → (P → Q) → OnOk r Q
 OnOk-map (Ok x) P Q h f = f h
 OnOk-map (Err e) P Q h f = tt

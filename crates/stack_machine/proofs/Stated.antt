@@ -34,6 +34,7 @@ use Rattle.article_spec.specs.Inference.{step_by}
 use Rattle.article_spec.specs.Stating.{assume_or_meet, export, restatement, stated}
 use Rattle.hol_term.specs.declared.TermId.{TermId}
 use Rattle.hol_term.specs.Tables.{Trees, AreKnown, IsTermAt}
+use Rattle.hol_term.specs.TableLaws.{Keeps-refl}
 use Rattle.sequent.specs.declared.Sequent.{Sequent as Numbered}
 use Rattle.sequent.specs.Sequents as numbers
 use Rattle.compose.specs.declared.pool.Said.{Said}
@@ -49,7 +50,7 @@ use Rattle.stack_machine.specs.MakingLaws.{count-step, AreSteps-more, AreSteps-p
 use Rattle.stack_machine.specs.Stored.{Stored, AreSaid, IsSaid, IsStore, Grows, run_of, store_view}
 use Rattle.stack_machine.specs.StoredLaws.{IsFront-refl, Grows-refl}
 use Rattle.stack_machine.specs.Shown.{in_state}
-use Rattle.stack_machine.specs.Inferring.{Exports, Infers, by_step, assuming, exported, exporting, recording, restating}
+use Rattle.stack_machine.specs.Inferring.{Exports, Infers, InfersTwo, by_step, assuming, exported, exporting, recording, restating}
 use Rattle.stack_machine.proofs.Passing.{IfOk-map, IfErr-map, OnOk-map, OnErr-map, OnErr-map2}
 use Rattle.stack_machine.proofs.Stores.{AreSaid-more, IsStore-run, Grows-run, more-steps, sequent-more}
 use Rattle.stack_machine.proofs.Inferred.{Concludes-made, Concludes-more, Concludes-refused, Concludes-taken, limited-Ok, limited-fails}
@@ -255,9 +256,17 @@ pub Infers-memory : {old : Stored} {f : State → Result State Kind} (r : Result
 Infers-memory (Ok i) h = absurd h
 Infers-memory {old = old} {f = f} (Err x) h = record { taken = tt; made = tt; refused = subst (λ y. (s : State) (below : List state.Object) → Fails y (f (in_state s below old.run))) (sym h) (λ s below. tt); run = refl; grows = Grows-refl old }
 
+pub Concludes-memory : {k : Kept} {rule : Result Step Kind} (r : Result ℕ Fault) → IsErrAnd r (λ x. x ≡ Memory) → Concludes k rule k r
+Concludes-memory (Ok i) h = absurd h
+Concludes-memory {k = k} {rule = rule} (Err x) h = record { concluded = tt; refused = subst (λ y. Fails y (limited rule)) (sym h) tt; unchanged = refl; keeps = Keeps-refl k.trees }
+
 pub Exports-memory : {old : Stored} {f : State → Result State Kind} (r : Result (Unit {0}) Fault) → IsErrAnd r (λ x. x ≡ Memory) → Exports old f old r
 Exports-memory (Ok i) h = absurd h
 Exports-memory {old = old} {f = f} (Err x) h = record { taken = tt; refused = subst (λ y. (s : State) (below : List state.Object) → Fails y (f (in_state s below old.run))) (sym h) (λ s below. tt); run = refl; grows = Grows-refl old }
+
+pub InfersTwo-memory : {old : Stored} {f : State → Result State Kind} (r : Result (ℕ × ℕ) Fault) → IsErrAnd r (λ x. x ≡ Memory) → InfersTwo old f old r
+InfersTwo-memory (Ok i) h = absurd h
+InfersTwo-memory {old = old} {f = f} (Err x) h = record { taken = tt; made = tt; refused = subst (λ y. (s : State) (below : List state.Object) → Fails y (f (in_state s below old.run))) (sym h) (λ s below. tt); run = refl; grows = Grows-refl old }
 
 -- an export again, where nothing is kept
 pub Exports-again : {old : Stored} {f : State → Result State Kind} (q : Result (Unit {0}) Kind) (r : Result (Unit {0}) Fault) → ((s : State) (below : List state.Object) → f (in_state s below old.run) ≡ (q >> Ok (in_state s below old.run)))

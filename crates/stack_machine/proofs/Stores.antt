@@ -92,6 +92,10 @@ module _ {a b : Kept} {ns : List Name} {cs : List Cell} {us ws : List Said} {p :
   pub run-Grows : run_of b us ws p ≡ run_of a us ws p
   run-Grows = ap (λ made. run_view made (steps_in us) (steps_in ws) p) g.made
 
+-- what was made stays where no symbol is taken
+pub none_taken : (made : List Made) (new : List Symbol) → new ≡ [] → made ++ map Made.symbol new ≡ made
+none_taken made new e = rw e (append-nil made)
+
 -- a call that takes symbols where it answers Ok
 module _ {A E : Type 0} (r : Result A E) (a b : Kept) (k : Keeps a.trees b.trees) (new : List Symbol) (takes : OnOk r (b.made ≡ a.made ++ map Made.symbol new)) (unchanged : OnErr r (b.made ≡ a.made)) where
   pub more-taken : IsMore a b

@@ -1,12 +1,12 @@
 -- Pairs that are read from lists.
-use Rattle.std.proofs.Common.{◌≡◌, refl, sym, ap, subst, ◌∙◌, Option, Some, None, Result, Ok, Err}
+use Rattle.std.proofs.Common.{◌≡◌, refl, sym, ap, subst, ◌∙◌, List, Option, Some, None, Result, Ok, Err}
 use Rattle.std.specs.Option.{ok_or}
 use Rattle.bridge_base.specs.declared.faults.Fault.{Fault}
 use Rattle.bridge_base.specs.declared.faults.Fault.TheVariants.{Memory, Refused}
 use Rattle.bridge_base.specs.declared.faults.Kind.{Kind}
 use Rattle.bridge_base.specs.declared.faults.Kind.TheVariants.{WrongKind}
 use Rattle.article_spec.specs.State as state
-use Rattle.article_spec.specs.Operands.{as_list, pair_of}
+use Rattle.article_spec.specs.Operands.{as_list, each, list_of, pair_of}
 use Rattle.article_spec.specs.Results.{◌>>=◌, Fails}
 use Rattle.stack_machine.specs.Reading.{one_object, two_of, two_objects, with_first}
 use Rattle.stack_machine.proofs.Obeyed.{first_fails, next_fails, next}
@@ -42,6 +42,18 @@ two_of-one xs x fault h = go (one_object xs) fault h
     go o Memory h = tt
     go None (Refused k) h = let same : WrongKind ≡ k = cc in ap Err same
     go (Some y) (Refused k) h = absurd (cc)
+
+-- the objects of a list are read, where the object is a list
+module _ {A : Type 0} (as_one : state.Object → Result A Kind) (x : state.Object) where
+  pub list_of-fails : (fault : Fault) → Fails fault (as_list x) → Fails fault (list_of as_one x)
+  list_of-fails fault h = first_fails fault (as_list x) (each as_one) h
+
+  module _ (xs : state.Objects) (e : as_list x ≡ Ok xs) where
+    pub each-fails : (fault : Fault) → Fails fault (each as_one xs) → Fails fault (list_of as_one x)
+    each-fails fault h = next_fails fault (as_list x) (each as_one) xs e h
+
+    pub each-taken : (ys : List A) → each as_one xs ≡ Ok ys → list_of as_one x ≡ Ok ys
+    each-taken ys h = next (as_list x) (each as_one) xs (Ok ys) e h
 
 module _ {A B : Type 0} (as_one : state.Object → Result A Kind) (as_two : state.Object → Result B Kind) where
   -- two objects are read one after the other

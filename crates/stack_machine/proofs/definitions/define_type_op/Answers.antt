@@ -1,6 +1,9 @@
 use Rattle.std.proofs.Common.{refl, [], ◌∷◌}
 use Rattle.article_spec.specs.State as state
 use Rattle.stack_machine.specs.declared.object.Object.TheVariants as object
+use Rattle.hol_defs.specs.Symbols.{named}
+use Rattle.hol_rules.specs.Steps.{type_laws}
+use Rattle.stack_machine.specs.Inferring.{defining_type}
 use Rattle.stack_machine.specs.Shown.{shown}
 use Rattle.stack_machine.specs.Stored.{name_at}
 use Rattle.stack_machine.proofs.Obeyed.{first_fails, next_fails, stopped}
@@ -46,7 +49,7 @@ put_five-requires c = (c.in_ok-op.ensures c.args.store.now).there
 pub returns-in_err-first : goal.returns-in_err-first
 returns-in_err-first c =
     let m = c.args.store.now in
-    defining_type-fails 5 (state.Object.constant (name_at m c.in_ok-rep.rep.0) ∷ state.Object.constant (name_at m c.in_ok-abs.abs.0) ∷ state.Object.type_operator (name_at m c.in_ok-op.op.0) ∷ [])
+    defining_type-fails {f = defining_type (type_laws m.run.made (named (name_at m c.in_ok-op.op.0) (name_at m c.in_ok-abs.abs.0) (name_at m c.in_ok-rep.rep.0) c.in_ok-names.names.items) c.in_ok-one.one)} 5 (state.Object.constant (name_at m c.in_ok-rep.rep.0) ∷ state.Object.constant (name_at m c.in_ok-abs.abs.0) ∷ state.Object.type_operator (name_at m c.in_ok-op.op.0) ∷ [])
     (λ s. obey-DefineTypeOp (shown m c.args.stack.now s) _ _ _ _ _ _ _ _ _ _ (c.in_ok-one.ensures m).taken c.in_ok-names.ensures.taken (c.in_ok-rep.ensures m).taken (c.in_ok-abs.ensures m).taken (c.in_ok-op.ensures m).taken)
     c.requires _ _ c.from_residual-in_err-first.ensures.1 (rw c.deref.ensures.value at c.in_err-first.ensures)
 
@@ -57,7 +60,7 @@ returns c =
     let rep = name-Grows made.grows c.in_ok-rep.rep ((c.in_ok-rep.ensures m).known c.requires) in
     let abs = name-Grows made.grows c.in_ok-abs.abs ((c.in_ok-abs.ensures m).known c.requires) in
     let op = name-Grows made.grows c.in_ok-op.op ((c.in_ok-op.ensures m).known c.requires) in
-    defining_type-obeys 5 (state.Object.constant (name_at m c.in_ok-rep.rep.0) ∷ state.Object.constant (name_at m c.in_ok-abs.abs.0) ∷ state.Object.type_operator (name_at m c.in_ok-op.op.0) ∷ [])
+    defining_type-obeys {f = defining_type (type_laws m.run.made (named (name_at m c.in_ok-op.op.0) (name_at m c.in_ok-abs.abs.0) (name_at m c.in_ok-rep.rep.0) c.in_ok-names.names.items) c.in_ok-one.one)} 5 (state.Object.constant (name_at m c.in_ok-rep.rep.0) ∷ state.Object.constant (name_at m c.in_ok-abs.abs.0) ∷ state.Object.type_operator (name_at m c.in_ok-op.op.0) ∷ [])
     (λ s. obey-DefineTypeOp (shown m c.args.stack.now s) _ _ _ _ _ _ _ _ _ _ (c.in_ok-one.ensures m).taken c.in_ok-names.ensures.taken (c.in_ok-rep.ensures m).taken (c.in_ok-abs.ensures m).taken (c.in_ok-op.ensures m).taken)
     c.requires (object.Constant c.in_ok-rep.rep ∷ object.Constant c.in_ok-abs.abs ∷ object.TypeOperator c.in_ok-op.op ∷ []) made c.put_five.ensures
     (rep.0, (abs.0, (op.0, tt))) (rw (rep.1, abs.1, op.1) refl)

@@ -1,8 +1,9 @@
 use Rattle.std.proofs.Common.{sym, subst}
 use Rattle.hol_spec.specs.Terms.{IsTerm as IsTypedTerm}
+use Rattle.hol_spec.specs.Rules.{abstraction}
 use Rattle.hol_term.specs.Tables.{term_at, type_at}
-use Rattle.stack_machine.proofs.Fitting.{abstraction_typed}
-use Rattle.stack_machine.proofs.Passing.{IfOk-map}
+use Rattle.stack_machine.proofs.Fitting.{abstraction_typed, term_fails, term_within}
+use Rattle.stack_machine.proofs.Passing.{IfErr-map, IfOk-map, OnOk-IfOk}
 use Rattle.stack_machine.proofs.Stores.{IsStore-Grows, Grows-Grows, run-Grows}
 use Rattle.stack_machine.proofs.store.Store.abstraction_over.Goals as goal
 
@@ -23,3 +24,9 @@ returns-clause-known c = IfOk-map c.abs.result _ _ c.abs.ensures.made (λ id h. 
 
 pub returns-clause-made : goal.returns-clause-made
 returns-clause-made c = rw (← c.self.view_is) (IfOk-map c.abs.result _ _ c.abs.ensures.made (λ id h. h.is))
+
+pub returns-clause-fits : goal.returns-clause-fits
+returns-clause-fits c = rw (← c.self.view_is) (OnOk-IfOk c.abs.result _ _ c.abs.ensures.within (λ id h. term_within _ h))
+
+pub returns-clause-refused : goal.returns-clause-refused
+returns-clause-refused c = rw (← c.self.view_is) (IfErr-map c.abs.result _ _ c.abs.ensures.refusal (λ fault h. term_fails fault (abstraction (c.args.variable.now.name, type_at c.self.inside.proof.trees c.args.variable.now.ty.0) (term_at c.self.inside.proof.trees c.args.body.0)) h))

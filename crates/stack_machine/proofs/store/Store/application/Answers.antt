@@ -1,6 +1,7 @@
 use Rattle.std.proofs.Common.{sym, subst}
 use Rattle.hol_spec.specs.Terms.{IsTerm as IsTypedTerm}
-use Rattle.stack_machine.proofs.Passing.{IfOk-map, both}
+use Rattle.stack_machine.proofs.Fitting.{application_fails, application_within}
+use Rattle.stack_machine.proofs.Passing.{IfErr-map, IfOk-map, OnOk-IfOk, both}
 use Rattle.stack_machine.proofs.Stores.{IsStore-Grows, Grows-Grows, run-Grows}
 use Rattle.stack_machine.proofs.store.Store.application.Goals as goal
 
@@ -18,3 +19,9 @@ returns-clause-known c = IfOk-map c.app.result _ _ (both c.app.result _ _ c.app.
 
 pub returns-clause-made : goal.returns-clause-made
 returns-clause-made c = rw (← c.self.view_is) (IfOk-map c.app.result _ _ c.app.ensures.made (λ id h. h.is))
+
+pub returns-clause-fits : goal.returns-clause-fits
+returns-clause-fits c = rw (← c.self.view_is) (OnOk-IfOk c.app.result _ _ (both c.app.result _ _ c.app.ensures.typed c.app.ensures.within) (λ id h. application_within _ h.0 h.1))
+
+pub returns-clause-refused : goal.returns-clause-refused
+returns-clause-refused c = rw (← c.self.view_is) (IfErr-map c.app.result _ _ c.app.ensures.refusal (λ fault h. application_fails fault _ h))

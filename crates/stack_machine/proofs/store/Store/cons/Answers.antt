@@ -1,8 +1,9 @@
-use Rattle.std.proofs.Common.{◌≡◌, subst, sym, ◌∙◌, ◌∷◌, [], ◌++◌, length}
+use Rattle.std.proofs.Common.{◌≡◌, ap, subst, sym, ◌∙◌, ◌∷◌, [], ◌++◌, length}
 use Rattle.stack_machine.specs.declared.object.Cell.{Cell}
 use Rattle.stack_machine.specs.declared.object.List.TheVariants.{Cell as CellOf}
 use Rattle.stack_machine.specs.Making.{Run}
 use Rattle.stack_machine.specs.Stored.{run_of, stored, list_view, cell_view, IsKnown, IsListKnown}
+use Rattle.stack_machine.specs.StoredLaws.{Grows-refl}
 use Rattle.stack_machine.proofs.Cells.{pushed-Grows, pushed-AreCells, pushed-known, pushed-list}
 use Rattle.stack_machine.proofs.store.Store.cons.Goals as goal
 
@@ -35,3 +36,15 @@ returns-clause-made c = rw (← c.self.view_is, c.in_ok-push.ensures.items)
 
 pub returns-clause-grows : goal.returns-clause-grows
 returns-clause-grows c = rw (← c.self.view_is, c.in_ok-push.ensures.items) (pushed-Grows c.self.inside.proof.trees c.self.inside.names.items (run c) c.self.inside.cells.items (new_cell c))
+
+pub invariant_of-self : goal.invariant_of-self
+invariant_of-self c = rw c.in_err-push.ensures.items c.self.invariant
+
+pub returns-in_err-push-clause-grows : goal.returns-in_err-push-clause-grows
+returns-in_err-push-clause-grows c = rw (← c.self.view_is, c.in_err-push.ensures.items) (Grows-refl _)
+
+pub returns-in_err-push-clause-run : goal.returns-in_err-push-clause-run
+returns-in_err-push-clause-run c = ap (λ m. m.run) c.self.view_is
+
+pub returns-clause-run : goal.returns-clause-run
+returns-clause-run c = ap (λ m. m.run) c.self.view_is

@@ -1,3 +1,4 @@
+use Rattle.stack_machine.proofs.Passing.{IfOk-map, both}
 use Rattle.stack_machine.proofs.Stores.{IsStore-more, Grows-more, more-taken, run-taken, run-untaken}
 use Rattle.stack_machine.proofs.store.Store.constant_term.Goals as goal
 
@@ -18,3 +19,9 @@ returns-clause-takes c = rw (← c.self.view_is, ← c.name_in-name.ensures) (ru
 
 pub returns-clause-unchanged : goal.returns-clause-unchanged
 returns-clause-unchanged c = rw (← c.self.view_is) (run-untaken c.make_constant.result c.self.inside.proof c.make_constant.new.proof c.make_constant.ensures.keeps _ c.make_constant.ensures.takes c.make_constant.ensures.unchanged c.self.inside.assumptions c.self.inside.exports c.self.inside.pool)
+
+pub returns-clause-known : goal.returns-clause-known
+returns-clause-known c = IfOk-map c.make_constant.result _ _ (both c.make_constant.result _ _ c.make_constant.ensures.known c.make_constant.ensures.typed) (λ id h. record { known = h.0; typed = h.1 })
+
+pub returns-clause-made : goal.returns-clause-made
+returns-clause-made c = rw (← c.self.view_is, ← c.name_in-name.ensures) c.make_constant.ensures.made

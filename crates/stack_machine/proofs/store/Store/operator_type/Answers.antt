@@ -1,5 +1,7 @@
-use Rattle.std.proofs.Common.{◌≡◌, subst, Ok, OnOk, IfErr}
+use Rattle.std.proofs.Common.{◌≡◌, subst, Ok, IfOk, OnOk, IfErr}
+use Rattle.hol_spec.specs.Types.{operator, types_of}
 use Rattle.hol_type.specs.Tables.{types_at}
+use Rattle.hol_term.specs.Tables.{type_at}
 use Rattle.article_spec.specs.Results.{Fails}
 use Rattle.stack_machine.specs.Refusals.{operator_fits}
 use Rattle.stack_machine.specs.Stored.{name_at, taken_symbols}
@@ -23,3 +25,9 @@ returns-clause-takes c = rw (← c.self.view_is, ← c.name_in-name.ensures) (ru
 
 pub returns-clause-unchanged : goal.returns-clause-unchanged
 returns-clause-unchanged c = rw (← c.self.view_is) (run-untaken c.make_operator.result c.self.inside.proof c.make_operator.new.proof c.make_operator.ensures.keeps _ c.make_operator.ensures.takes c.make_operator.ensures.unchanged c.self.inside.assumptions c.self.inside.exports c.self.inside.pool)
+
+pub returns-clause-known : goal.returns-clause-known
+returns-clause-known c = c.make_operator.ensures.known
+
+pub returns-clause-made : goal.returns-clause-made
+returns-clause-made c = subst (λ m. IfOk c.make_operator.result (λ id. type_at c.make_operator.new.proof.trees id.0 ≡ operator (name_at m c.args.name.0) (types_of (types_at m.trees.types c.args.args.now)))) c.self.view_is (rw (← c.name_in-name.ensures) c.make_operator.ensures.made)
