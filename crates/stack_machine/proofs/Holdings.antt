@@ -1,5 +1,5 @@
 -- What is held where objects are held one after another.
-use Rattle.std.proofs.Common.{◌≡◌, ℕ, zero, suc, ◌+◌, ◌<◌, ◌≤◌, refl, sym, ap, subst, ◌∙◌, arith, Bool, true, List, [], ◌∷◌, length, Some, ◌⊎◌, inl, inr}
+use Rattle.std.proofs.Common.{◌≡◌, ℕ, zero, suc, ◌+◌, ◌<◌, ◌≤◌, refl, sym, ap, subst, ◌∙◌, arith, Bool, true, false, List, [], ◌∷◌, length, Some, ◌⊎◌, inl, inr}
 use Rattle.std.specs.Prelude.{slice_get, slice_set}
 use Rattle.std.specs.List.{fold}
 use Rattle.std.proofs.lemmas.List.{length-set}
@@ -180,3 +180,18 @@ module _ (h : Holding) (cells : List Cell) (i : ℕ) (c : Cell) (e : slice_get c
           let was = closed j d (omega arith) f (parts_above j k s) in
           (held_on (more_parts h c) d.head was.0, list_held_on (more_parts h c) d.tail was.1)
       by_order (inr ge) = here (omega arith)
+
+-- a cell that isn't held holds nothing
+pub closed_past : (h : Holding) (cells : List Cell) (i : ℕ) → slice_get h.cells i ≡ Some false → IsClosedFrom (i + 1) h cells → IsClosedFrom i h cells
+closed_past h cells i e closed j d k f s = by_order (cases_lt i j)
+  where
+    by_order : (i < j) ⊎ (j ≤ i) → IsHeld h d.head × IsListHeld h d.tail
+    by_order (inl lt) = closed j d (omega arith) f s
+    by_order (inr ge) =
+        let same : j ≡ i = omega arith in
+        let set = subst (IsSet h.cells) same s in
+        absurd (cc)
+
+-- past the last cell there is none
+pub closed_none : (h : Holding) (cells : List Cell) → IsClosedFrom (length cells) h cells
+closed_none h cells i c l e s = let w = slice_get_within cells i c e in absurd (omega (arith, l, w))

@@ -1,10 +1,12 @@
--- A loop that keeps what has a set flag, in place.
-use Rattle.std.proofs.Common.{◌≡◌, ℕ, ◌+◌, ◌<◌, ◌≤◌, sym, ap, subst, ◌∙◌, arith, Bool, true, false, List, [], ◌∷◌, ◌++◌, length, take, drop, set, map, get_or, append_assoc, add-one, drop-cons, ◌⊎◌, inl, inr}
+-- A loop that keeps what has a set flag, in place, and one that numbers it.
+use Rattle.std.proofs.Common.{◌≡◌, ℕ, ◌+◌, ◌<◌, ◌≤◌, sym, ap, subst, ◌∙◌, arith, Bool, true, false, cond, List, [], ◌∷◌, ◌++◌, length, take, drop, set, map, get_or, append_assoc, add-one, drop-cons, ◌⊎◌, inl, inr}
 use Rattle.std.specs.List.{items_where_true, swap}
 use Rattle.std.proofs.Math.Path.{ap₂}
 use Rattle.std.proofs.lemmas.Bool.{cases_lt}
 use Rattle.std.proofs.lemmas.List.Edits.{swap_is, map_over_more}
-use Rattle.std.proofs.lemmas.List.{get_or_default, set-set, take-set-le, take_more_set, drop-set-lt}
+use Rattle.std.proofs.Math.ListN.{drop_of_length-le}
+use Rattle.std.proofs.lemmas.List.{append-nil, get_or_default, set-set, take-set-le, take_more_set, drop-set-lt}
+use Rattle.stack_machine.specs.Collecting.{new_numbers}
 
 -- the rest of a list begins with its item there
 drop_here : {X : Type 0} (xs : List X) (i : ℕ) (d : X) → i < length xs → drop i xs ≡ get_or xs i d ∷ drop (i + 1) xs
@@ -49,3 +51,13 @@ passed_more flags (y ∷ ys) k i l e t =
 -- one item more is rewritten
 pub written_more : {X : Type 0} (f : X → X) (xs ys zs : List X) (i : ℕ) (d x : X) → zs ≡ xs → i < length zs → length ys ≡ length zs → ys ≡ map f (take i xs) ++ drop i xs → x ≡ f (get_or ys i d) → set ys i x ≡ map f (take (i + 1) xs) ++ drop (i + 1) xs
 written_more f xs ys zs i d x s l n e w = rw w (map_over_more f xs ys i (get_or ys i d) (omega (arith, ap length s)) e (get_or_default ys i d (get_or ys i d) (omega arith)))
+
+-- one number more, and all numbers
+pub numbered_more : (flags : List Bool) (numbers more all : List ℕ) (i n m : ℕ) → i < length flags → cond (get_or flags i false) (n + 1) n ≡ m → more ≡ numbers ++ n ∷ [] → numbers ++ new_numbers n (drop i flags) ≡ all
+    → more ++ new_numbers m (drop (i + 1) flags) ≡ all
+numbered_more flags numbers more all i n m l g e h =
+    let next : new_numbers n (drop i flags) ≡ n ∷ new_numbers m (drop (i + 1) flags) = ap (new_numbers n) (drop_here flags i false l) ∙ ap (λ k. n ∷ new_numbers k (drop (i + 1) flags)) g in
+    ap (λ xs. xs ++ new_numbers m (drop (i + 1) flags)) e ∙ append_assoc numbers (n ∷ []) (new_numbers m (drop (i + 1) flags)) ∙ ap (λ xs. numbers ++ xs) (sym next) ∙ h
+
+pub numbered_all : (flags : List Bool) (numbers all : List ℕ) (i n : ℕ) → length flags ≤ i → numbers ++ new_numbers n (drop i flags) ≡ all → numbers ≡ all
+numbered_all flags numbers all i n l h = sym (append-nil numbers) ∙ ap (λ bs. numbers ++ new_numbers n bs) (sym (drop_of_length-le flags l)) ∙ h

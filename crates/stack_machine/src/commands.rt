@@ -29,9 +29,9 @@ fn types_on(alloc: Global, store: &Store, stack: &Stack, depth: usize) -> Result
 }
 
 /// The empty list.
-fn nil(store: &mut Store, stack: &mut Stack) -> Result<(), Fault>
-    requires { AreKnown store.old stack.old }
-    ensures { Obeys word.Nil store.old stack.old store.new stack.new result }
+fn nil(store: &Store, stack: &mut Stack) -> Result<(), Fault>
+    requires { AreKnown store.now stack.old }
+    ensures { Obeys word.Nil store.now stack.old store.now stack.new result }
 {
     stack.push(Object::List(List::Empty))?;
     Ok(())
@@ -50,9 +50,9 @@ fn cons(store: &mut Store, stack: &mut Stack) -> Result<(), Fault>
 }
 
 /// The first element of a list, and on it the rest.
-fn head_and_tail(store: &mut Store, stack: &mut Stack) -> Result<(), Fault>
-    requires { AreKnown store.old stack.old }
-    ensures { Obeys word.HdTl store.old stack.old store.new stack.new result }
+fn head_and_tail(store: &Store, stack: &mut Stack) -> Result<(), Fault>
+    requires { AreKnown store.now stack.old }
+    ensures { Obeys word.HdTl store.now stack.old store.now stack.new result }
 {
     let list = list_on(stack, 0)?;
     let List::Cell(id) = list else {
@@ -65,9 +65,9 @@ fn head_and_tail(store: &mut Store, stack: &mut Stack) -> Result<(), Fault>
 }
 
 /// The type operator of a name.
-fn type_operator(store: &mut Store, stack: &mut Stack) -> Result<(), Fault>
-    requires { AreKnown store.old stack.old }
-    ensures { Obeys word.TypeOp store.old stack.old store.new stack.new result }
+fn type_operator(store: &Store, stack: &mut Stack) -> Result<(), Fault>
+    requires { AreKnown store.now stack.old }
+    ensures { Obeys word.TypeOp store.now stack.old store.now stack.new result }
 {
     let name = name_on(stack, 0)?;
     stack.put(1, Object::TypeOperator(name));
@@ -98,9 +98,9 @@ fn operator_type(alloc: Global, store: &mut Store, stack: &mut Stack) -> Result<
 }
 
 /// The constant of a name.
-fn constant(store: &mut Store, stack: &mut Stack) -> Result<(), Fault>
-    requires { AreKnown store.old stack.old }
-    ensures { Obeys word.Const store.old stack.old store.new stack.new result }
+fn constant(store: &Store, stack: &mut Stack) -> Result<(), Fault>
+    requires { AreKnown store.now stack.old }
+    ensures { Obeys word.Const store.now stack.old store.now stack.new result }
 {
     let name = name_on(stack, 0)?;
     stack.put(1, Object::Constant(name));
@@ -120,9 +120,9 @@ fn constant_term(store: &mut Store, stack: &mut Stack) -> Result<(), Fault>
 }
 
 /// The variable of a name and a type.
-fn variable(store: &mut Store, stack: &mut Stack) -> Result<(), Fault>
-    requires { AreKnown store.old stack.old }
-    ensures { Obeys word.Var store.old stack.old store.new stack.new result }
+fn variable(store: &Store, stack: &mut Stack) -> Result<(), Fault>
+    requires { AreKnown store.now stack.old }
+    ensures { Obeys word.Var store.now stack.old store.now stack.new result }
 {
     let ty = type_on(stack, 0)?;
     let name = name_on(stack, 1)?;
@@ -166,9 +166,9 @@ fn abstraction_term(store: &mut Store, stack: &mut Stack) -> Result<(), Fault>
 }
 
 /// Takes an object off.
-fn drop_object(store: &mut Store, stack: &mut Stack) -> Result<(), Fault>
-    requires { AreKnown store.old stack.old }
-    ensures { Obeys word.Pop store.old stack.old store.new stack.new result }
+fn drop_object(store: &Store, stack: &mut Stack) -> Result<(), Fault>
+    requires { AreKnown store.now stack.old }
+    ensures { Obeys word.Pop store.now stack.old store.now stack.new result }
 {
     let _object = object_on(stack, 0)?;
     stack.drop_top(1);

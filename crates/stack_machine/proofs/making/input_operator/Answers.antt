@@ -1,7 +1,6 @@
-use Rattle.std.proofs.Common.{sym, subst, ◌∙◌}
+use Rattle.std.proofs.Common.{◌∙◌}
 use Rattle.hol_spec.specs.Proofs.{symbols_of}
 use Rattle.hol_type.specs.Tables.{types_at}
-use Rattle.hol_defs.specs.Refusals.{FitsArity}
 use Rattle.stack_machine.proofs.Fitting.{operator_unmade, operator_unused, operator_within, types_count}
 use Rattle.stack_machine.proofs.Passing.{always, handed_on}
 use Rattle.stack_machine.proofs.making.input_operator.Goals as goal
