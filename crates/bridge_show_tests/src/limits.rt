@@ -1,107 +1,123 @@
 //! Articles at the limits of size, of depth, of the number of parameters and of the length of a line.
-use crate::answers::{BINARY_TYPE, P, UNARY_TYPE, VERSION, add, answer_to, article};
+use bridge_cases::all_hold;
 use std::alloc::{AllocError, Global};
-use std::test::Fail;
 
-// An article that makes a term and so many times applies a constant to two copies of the last.
-fn doubled(alloc: Global, times: usize) -> Result<Vec<u8>, AllocError> {
-    let mut text = article(
-        alloc,
-        &[
-            VERSION,
-            "\"g\" const",
-            BINARY_TYPE,
-            "constTerm 0 def",
-            P,
-            "1 def",
-        ],
-    )?;
-    for _ in 0..times {
-        add(&mut text, "0 ref 1 ref appTerm 1 ref appTerm 1 def")?;
-    }
-    Ok(text)
-}
+const TESTS: &str = r##"
+[usual]
+words = ["bridge", "show", "a"]
+pieces = [4096]
+
+# A term is made, and so many times a constant is applied to two copies of the last.
+[[test]]
+name = "shared_terms_are_built_up_to_the_limit"
+
+[[test.case]]
+article.a = [
+    "$version", '"g" const', "$binary_type", "constTerm 0 def", "$p", "1 def",
+    { times = 16, part = "0 ref 1 ref appTerm 1 ref appTerm 1 def" },
+]
+
+[[test.case]]
+article.a = [
+    "$version", '"g" const', "$binary_type", "constTerm 0 def", "$p", "1 def",
+    { times = 17, part = "0 ref 1 ref appTerm 1 ref appTerm 1 def" },
+]
+number = 1
+note = "article 1 line 208: TooLarge (23)\n"
+
+# A constant is applied so many times, the last time to a variable.
+[[test]]
+name = "deep_terms_are_built_up_to_the_limit"
+
+[[test.case]]
+article.a = [
+    "$version", '"f" const', "$unary_type", "constTerm 0 def pop",
+    { times = 1020, part = "0 ref" }, "$p", { times = 1020, part = "appTerm" },
+]
+
+[[test.case]]
+article.a = [
+    "$version", '"f" const', "$unary_type", "constTerm 0 def pop",
+    { times = 1021, part = "0 ref" }, "$p", { times = 1021, part = "appTerm" },
+]
+number = 1
+note = "article 1 line 3092: TooDeep (24)\n"
+
+[[test]]
+name = "a_line_is_read_up_to_the_limit"
+
+[[test.case]]
+text.a = [{ times = 1048577, part = "#" }]
+number = 1
+note = "article 1 line 1: LineTooLong (22)\n"
+"##;
 
 #[test]
-fn shared_terms_are_built_up_to_the_limit(rt: HostRuntime) -> Result<(), Fail> {
-    let built = answer_to(rt.alloc(), &doubled(rt.alloc(), 16)?)?;
-    assert_eq!(rt; built.number, 0);
-    assert_eq!(rt; built.note.as_slice(), b"".as_slice());
-    let refused = answer_to(rt.alloc(), &doubled(rt.alloc(), 17)?)?;
-    assert_eq!(rt;
-        refused.note.as_slice(),
-        b"article 1 line 208: TooLarge (23)\n".as_slice()
-    );
+fn limits(rt: HostRuntime) {
+    assert!(rt; all_hold(&rt, TESTS));
+}
+
+// Articles that assume a sequent with as many hypotheses as it may have, and with one more.
+const HYPOTHESES: &str = r#"
+[usual]
+words = ["bridge", "show", "a"]
+pieces = [4096]
+
+[[test]]
+name = "hypotheses_are_taken_up_to_the_limit"
+
+[[test.case]]
+article.a = ["$most", "nil", { times = 511, part = "cons" }, "$p", "axiom"]
+unsaid = "out"
+
+[[test.case]]
+article.a = ["$more", "nil", { times = 512, part = "cons" }, "$p", "axiom"]
+number = 1
+note = "article 1 line 4107: TooManyParams (25)\n"
+
+[usual.texts]
+"#;
+
+// The file with these, whose variables are made here: each has a name of its own.
+fn hypotheses(alloc: Global) -> Result<String, AllocError> {
+    let mut file = String::from_str(alloc, HYPOTHESES)?;
+    add_variables(&mut file, "most", 511)?;
+    add_variables(&mut file, "more", 512)?;
+    Ok(file)
+}
+
+// Adds the text of that name, in which so many variables stand behind the first two commands.
+fn add_variables(file: &mut String, name: &str, count: usize) -> Result<(), AllocError> {
+    file.push_str(name)?;
+    file.push_str(" = '6 version")?;
+    for length in 1..=count {
+        file.push_str(" \"")?;
+        add_name(file, length)?;
+        file.push_str("\" \"bool\" typeOp nil opType var varTerm")?;
+    }
+    file.push_str("'\n")?;
     Ok(())
 }
 
-// An article that so many times applies a constant, the last time to a variable.
-fn nested(alloc: Global, times: usize) -> Result<Vec<u8>, AllocError> {
-    let mut text = article(
-        alloc,
-        &[VERSION, "\"f\" const", UNARY_TYPE, "constTerm 0 def pop"],
-    )?;
-    for _ in 0..times {
-        add(&mut text, "0 ref")?;
+fn add_name(file: &mut String, length: usize) -> Result<(), AllocError> {
+    for _ in 0..length {
+        file.push('x')?;
     }
-    add(&mut text, P)?;
-    for _ in 0..times {
-        add(&mut text, "appTerm")?;
-    }
-    Ok(text)
-}
-
-#[test]
-fn deep_terms_are_built_up_to_the_limit(rt: HostRuntime) -> Result<(), Fail> {
-    let built = answer_to(rt.alloc(), &nested(rt.alloc(), 1020)?)?;
-    assert_eq!(rt; built.number, 0);
-    assert_eq!(rt; built.note.as_slice(), b"".as_slice());
-    let refused = answer_to(rt.alloc(), &nested(rt.alloc(), 1021)?)?;
-    assert_eq!(rt;
-        refused.note.as_slice(),
-        b"article 1 line 3092: TooDeep (24)\n".as_slice()
-    );
     Ok(())
 }
 
-// An article that assumes a sequent with so many variables as its hypotheses, and another as its conclusion.
-fn assumed(alloc: Global, count: usize) -> Result<Vec<u8>, AllocError> {
-    let mut text = article(alloc, &[VERSION])?;
-    let mut name = Vec::new(alloc);
-    for _ in 0..count {
-        name.push(b'x')?;
-        text.push(b'"')?;
-        text.extend_from_slice(&name)?;
-        add(&mut text, "\" \"bool\" typeOp nil opType var varTerm")?;
+fn hypotheses_hold(rt: &HostRuntime) -> bool {
+    match hypotheses(rt.alloc()) {
+        Ok(file) => {
+            let hold = all_hold(rt, file.as_str());
+            drop(file);
+            hold
+        }
+        Err(_) => false,
     }
-    add(&mut text, "nil")?;
-    for _ in 0..count {
-        add(&mut text, "cons")?;
-    }
-    add(&mut text, P)?;
-    add(&mut text, "axiom")?;
-    Ok(text)
 }
 
 #[test]
-fn hypotheses_are_taken_up_to_the_limit(rt: HostRuntime) -> Result<(), Fail> {
-    let taken = answer_to(rt.alloc(), &assumed(rt.alloc(), 511)?)?;
-    assert_eq!(rt; taken.number, 0);
-    let refused = answer_to(rt.alloc(), &assumed(rt.alloc(), 512)?)?;
-    assert_eq!(rt;
-        refused.note.as_slice(),
-        b"article 1 line 4107: TooManyParams (25)\n".as_slice()
-    );
-    Ok(())
-}
-
-#[test]
-fn a_line_is_read_up_to_the_limit(rt: HostRuntime) -> Result<(), Fail> {
-    let comment = vec![in rt.alloc(); b'#'; 1048577]?;
-    let answer = answer_to(rt.alloc(), &comment)?;
-    assert_eq!(rt;
-        answer.note.as_slice(),
-        b"article 1 line 1: LineTooLong (22)\n".as_slice()
-    );
-    Ok(())
+fn hypotheses_are_taken_up_to_the_limit(rt: HostRuntime) {
+    assert!(rt; hypotheses_hold(&rt));
 }

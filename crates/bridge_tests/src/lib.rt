@@ -4,8 +4,6 @@
 #![tactic(auto)]
 
 #[cfg(test)]
-mod answers;
-#[cfg(test)]
 mod checks;
 #[cfg(test)]
 mod decodes;
@@ -15,3 +13,5 @@ mod faults;
 mod forms;
 #[cfg(test)]
 mod translations;
+#[cfg(test)]
+mod wrong;

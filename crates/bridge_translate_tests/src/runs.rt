@@ -1,60 +1,24 @@
 //! Modules of runs of several articles: what one has exported the next may assume, and a file may be named twice.
-use crate::answers::{
-    EQUALITY, Files, P, Q, R, REFLEXIVITY, UNARY_TYPE, VAR_Y, VAR_Z, VERSION, Y, Z, is_run,
-};
-use std::test::Fail;
+use bridge_cases::all_hold;
 
-// Exports I = I under p and q, for the identity I of truth values.
-const EXPORTING: &[&str] = &[
-    VERSION,
-    UNARY_TYPE,
-    "0 def pop",
-    VAR_Y,
-    Y,
-    "absTerm refl",
-    P,
-    Q,
-    "nil cons cons",
-    EQUALITY,
-    VAR_Y,
-    Y,
-    "absTerm appTerm",
-    VAR_Y,
-    Y,
-    "absTerm appTerm thm",
-];
+const TESTS: &str = r#"
+# The first article exports I = I under p and q, for the identity I of truth values. The second assumes it under q and p, and exports it
+# under q, p and r.
+[usual]
+article.a = [
+    "$version", "$unary_type", "0 def pop", "$var_y", "$y", "absTerm refl", "$p", "$q", "nil cons cons", "$equality", "$var_y",
+    "$y", "absTerm appTerm", "$var_y", "$y", "absTerm appTerm thm",
+]
+article.b = [
+    "$version", "$unary_type", "0 def pop", "$q", "$p", "nil cons cons", "$equality", "$var_z", "$z", "absTerm appTerm", "$var_z",
+    "$z", "absTerm appTerm 1 def axiom", "$q", "$p", "$r", "nil cons cons cons 1 ref thm",
+]
+out = ["$prelude", "$lemmas", "$lines"]
 
-// Assumes it under q and p, and exports it under q, p and r.
-const ASSUMING: &[&str] = &[
-    VERSION,
-    UNARY_TYPE,
-    "0 def pop",
-    Q,
-    P,
-    "nil cons cons",
-    EQUALITY,
-    VAR_Z,
-    Z,
-    "absTerm appTerm",
-    VAR_Z,
-    Z,
-    "absTerm appTerm 1 def axiom",
-    Q,
-    P,
-    R,
-    "nil cons cons cons 1 ref thm",
-];
-
-const ARTICLES: Files<'static> = Files {
-    a: EXPORTING,
-    b: ASSUMING,
-};
-
-#[test]
-fn export_then_assumption(rt: HostRuntime) -> Result<(), Fail> {
-    let translate = ["bridge", "translate", "a", "b"];
-    let verify = ["bridge", "verify", "a", "b"];
-    let lines: &[u8] = b"(; bound 76225024 ;)
+[[test]]
+name = "export_then_assumption"
+texts.lines = '''
+(; bound 76225024 ;)
 thm T0 : proof (eq (arr bool bool) (v0 : term bool => v0) (v0 : term bool => v0)) := refl (arr bool bool) (v0 : term bool => v0).
 (; bound 168196608 ;)
 thm E0 : v0 : term bool -> v1 : term bool -> v2 : proof v0 -> v3 : proof v1 -> proof (eq (arr bool bool) (v4 : term bool => v4) (v4 : term bool => v4)) := v0 : term bool => v1 : term bool => v2 : proof v0 => v3 : proof v1 => T0.
@@ -62,74 +26,85 @@ thm E0 : v0 : term bool -> v1 : term bool -> v2 : proof v0 -> v3 : proof v1 -> p
 thm T2 : v0 : term bool -> v1 : term bool -> v2 : proof v0 -> v3 : proof v1 -> proof (eq (arr bool bool) (v4 : term bool => v4) (v4 : term bool => v4)) := v0 : term bool => v1 : term bool => v2 : proof v0 => v3 : proof v1 => E0 v1 v0 v3 v2.
 (; bound 425259008 ;)
 thm E1 : v0 : term bool -> v1 : term bool -> v2 : term bool -> v3 : proof v0 -> v4 : proof v1 -> v5 : proof v2 -> proof (eq (arr bool bool) (v6 : term bool => v6) (v6 : term bool => v6)) := v0 : term bool => v1 : term bool => v2 : term bool => v3 : proof v0 => v4 : proof v1 => v5 : proof v2 => T2 v0 v1 v3 v4.
-";
-    let counts: &[u8] =
-        b"articles 2\nassumptions 0\nexports 2\ndeclarations 6\nbounds 17138475520\n";
-    assert!(rt; is_run(rt.alloc(), &translate, &verify, ARTICLES, lines, counts)?);
-    Ok(())
-}
+'''
+texts.counts = '''
+articles 2
+assumptions 0
+exports 2
+declarations 6
+bounds 17138475520
+'''
+case = [
+    { words = ["bridge", "translate", "a", "b"], note = "$counts" },
+    { words = ["bridge", "verify", "a", "b"], note = ["$counts", "verified\n"] },
+]
 
-#[test]
-fn assumption_then_export(rt: HostRuntime) -> Result<(), Fail> {
-    let translate = ["bridge", "translate", "b", "a"];
-    let verify = ["bridge", "verify", "b", "a"];
-    let lines: &[u8] =
-        b"A0 : v0 : term bool -> v1 : term bool -> v2 : proof v0 -> v3 : proof v1 -> proof (eq (arr bool bool) (v4 : term bool => v4) (v4 : term bool => v4)).
+[[test]]
+name = "assumption_then_export"
+texts.lines = '''
+A0 : v0 : term bool -> v1 : term bool -> v2 : proof v0 -> v3 : proof v1 -> proof (eq (arr bool bool) (v4 : term bool => v4) (v4 : term bool => v4)).
 (; bound 425259008 ;)
 thm E0 : v0 : term bool -> v1 : term bool -> v2 : term bool -> v3 : proof v0 -> v4 : proof v1 -> v5 : proof v2 -> proof (eq (arr bool bool) (v6 : term bool => v6) (v6 : term bool => v6)) := v0 : term bool => v1 : term bool => v2 : term bool => v3 : proof v0 => v4 : proof v1 => v5 : proof v2 => A0 v0 v1 v3 v4.
 (; bound 76225024 ;)
 thm T2 : proof (eq (arr bool bool) (v0 : term bool => v0) (v0 : term bool => v0)) := refl (arr bool bool) (v0 : term bool => v0).
 (; bound 168196608 ;)
 thm E1 : v0 : term bool -> v1 : term bool -> v2 : proof v0 -> v3 : proof v1 -> proof (eq (arr bool bool) (v4 : term bool => v4) (v4 : term bool => v4)) := v0 : term bool => v1 : term bool => v2 : proof v0 => v3 : proof v1 => T2.
-";
-    let counts: &[u8] =
-        b"articles 2\nassumptions 1\nexports 2\ndeclarations 6\nbounds 16886039552\n";
-    assert!(rt; is_run(rt.alloc(), &translate, &verify, ARTICLES, lines, counts)?);
-    Ok(())
-}
+'''
+texts.counts = '''
+articles 2
+assumptions 1
+exports 2
+declarations 6
+bounds 16886039552
+'''
+case = [
+    { words = ["bridge", "translate", "b", "a"], note = "$counts" },
+    { words = ["bridge", "verify", "b", "a"], note = ["$counts", "verified\n"] },
+]
 
-#[test]
-fn file_named_twice(rt: HostRuntime) -> Result<(), Fail> {
-    let files = Files {
-        a: REFLEXIVITY,
-        b: &[],
-    };
-    let translate = ["bridge", "translate", "a", "a"];
-    let verify = ["bridge", "verify", "a", "a"];
-    let lines: &[u8] = b"(; bound 13144256 ;)
+[[test]]
+name = "file_named_twice"
+article.a = ["$reflexivity"]
+texts.lines = '''
+(; bound 13144256 ;)
 thm T0 : v0 : term bool -> proof (eq bool v0 v0) := v0 : term bool => refl bool v0.
 (; bound 10648000 ;)
 thm E0 : v0 : term bool -> proof (eq bool v0 v0) := v0 : term bool => T0 v0.
-";
-    let counts: &[u8] =
-        b"articles 2\nassumptions 0\nexports 1\ndeclarations 4\nbounds 16240151168\n";
-    assert!(rt; is_run(rt.alloc(), &translate, &verify, files, lines, counts)?);
-    Ok(())
-}
+'''
+texts.counts = '''
+articles 2
+assumptions 0
+exports 1
+declarations 4
+bounds 16240151168
+'''
+case = [
+    { words = ["bridge", "translate", "a", "a"], note = "$counts" },
+    { words = ["bridge", "verify", "a", "a"], note = ["$counts", "verified\n"] },
+]
 
-#[test]
-fn weakened_sequent_named_twice(rt: HostRuntime) -> Result<(), Fail> {
-    let pieces = [
-        VERSION,
-        Q,
-        "nil cons",
-        P,
-        "axiom",
-        Q,
-        R,
-        "nil cons cons",
-        P,
-        "thm",
-    ];
-    let files = Files { a: &pieces, b: &[] };
-    let translate = ["bridge", "translate", "a", "a"];
-    let verify = ["bridge", "verify", "a", "a"];
-    let lines: &[u8] = b"A0 : v0 : term bool -> v1 : term bool -> v2 : proof v0 -> proof v1.
+[[test]]
+name = "weakened_sequent_named_twice"
+article.a = ["$version", "$q", "nil cons", "$p", "axiom", "$q", "$r", "nil cons cons", "$p", "thm"]
+texts.lines = '''
+A0 : v0 : term bool -> v1 : term bool -> v2 : proof v0 -> proof v1.
 (; bound 64000000 ;)
 thm E0 : v0 : term bool -> v1 : term bool -> v2 : term bool -> v3 : proof v0 -> v4 : proof v1 -> proof v2 := v0 : term bool => v1 : term bool => v2 : term bool => v3 : proof v0 => v4 : proof v1 => A0 v0 v2 v3.
-";
-    let counts: &[u8] =
-        b"articles 2\nassumptions 1\nexports 1\ndeclarations 4\nbounds 16280358912\n";
-    assert!(rt; is_run(rt.alloc(), &translate, &verify, files, lines, counts)?);
-    Ok(())
+'''
+texts.counts = '''
+articles 2
+assumptions 1
+exports 1
+declarations 4
+bounds 16280358912
+'''
+case = [
+    { words = ["bridge", "translate", "a", "a"], note = "$counts" },
+    { words = ["bridge", "verify", "a", "a"], note = ["$counts", "verified\n"] },
+]
+"#;
+
+#[test]
+fn runs(rt: HostRuntime) {
+    assert!(rt; all_hold(&rt, TESTS));
 }

@@ -1,59 +1,54 @@
 //! Trials with generated articles: their six lines, and words that ask for none.
-use crate::answers::{Files, is_answered, is_stopped, shelf, sink, texts};
-use bridge_run::bridge;
-use std::alloc::{AllocError, Global};
-use std::test::Fail;
+use bridge_cases::all_hold;
 
-// The files that the shelf has, of which a trial reads none.
-const FILES: Files<'static> = Files { a: &[], b: &[] };
+const TESTS: &str = r#"
+[usual]
+article.a = []
+article.b = []
 
-const LINES: &[u8] =
-    b"articles 1\nassumptions 0\nexports 1\ndeclarations 16\nbounds 21639702528\nverified\n";
+[[test]]
+name = "trial_of_two_blocks"
+
+[[test.case]]
+words = ["bridge", "trial", "2"]
+out = '''
+articles 1
+assumptions 0
+exports 1
+declarations 16
+bounds 21639702528
+verified
+'''
+
+[[test]]
+name = "no_number_of_blocks"
+number = 2
+note = "usage: bridge verify FILE.. | translate FILE.. | check FILE [--budget N] | decode FILE | show FILE.. | trial N\n"
+case = [
+    { words = ["bridge", "trial", "0"] },
+    { words = ["bridge", "trial", "007"] },
+    { words = ["bridge", "trial", "100001"] },
+    { words = ["bridge", "trial", "+2"] },
+    { words = ["bridge", "trial", "-2"] },
+    { words = ["bridge", "trial", "2 "] },
+    { words = ["bridge", "trial", ""] },
+    { words = ["bridge", "trial", "184467440737095516162"] },
+    { words = ["bridge", "trial"] },
+    { words = ["bridge", "trial", "1", "2"] },
+]
+
+[[test]]
+name = "output_that_fails_at_a_trial"
+pieces = [4096]
+
+[[test.case]]
+words = ["bridge", "trial", "1"]
+out_fails = [1]
+number = 4
+note = "write fault\n"
+"#;
 
 #[test]
-fn trial_of_two_blocks(rt: HostRuntime) -> Result<(), Fail> {
-    let words: &[&str] = &["bridge", "trial", "2"];
-    assert!(rt; is_answered(rt.alloc(), words, FILES, 0, LINES, b"")?);
-    Ok(())
-}
-
-// Whether the answer to these words is the usage line.
-fn is_usage(alloc: Global, words: &[&str]) -> Result<bool, AllocError> {
-    let usage: &[u8] =
-        b"usage: bridge verify FILE.. | translate FILE.. | check FILE [--budget N] | decode FILE | show FILE.. | trial N\n";
-    is_stopped(alloc, words, FILES, 2, usage)
-}
-
-#[test]
-fn no_number_of_blocks(rt: HostRuntime) -> Result<(), Fail> {
-    for word in [
-        "0",
-        "007",
-        "100001",
-        "+2",
-        "-2",
-        "2 ",
-        "",
-        "184467440737095516162",
-    ] {
-        assert!(rt; is_usage(rt.alloc(), &["bridge", "trial", word])?, "{word}");
-    }
-    assert!(rt; is_usage(rt.alloc(), &["bridge", "trial"])?);
-    assert!(rt; is_usage(rt.alloc(), &["bridge", "trial", "1", "2"])?);
-    Ok(())
-}
-
-// What is answered where standard output fails at its first call.
-#[test]
-fn output_that_fails_at_a_trial(rt: HostRuntime) -> Result<(), Fail> {
-    let alloc = rt.alloc();
-    let words = texts(alloc, &["bridge", "trial", "1"])?;
-    let mut shelf = shelf(alloc, FILES, 4096)?;
-    let mut out = sink(alloc, &[1])?;
-    let mut note = sink(alloc, &[])?;
-    let status = bridge(alloc, &words, &mut shelf, &mut out, &mut note);
-    assert_eq!(rt; status.number(), 4);
-    assert!(rt; out.contents().is_empty());
-    assert_eq!(rt; note.contents(), b"write fault\n".as_slice());
-    Ok(())
+fn trials(rt: HostRuntime) {
+    assert!(rt; all_hold(&rt, TESTS));
 }

@@ -1,0 +1,61 @@
+//! The texts that all files of tests have.
+
+/// They are the prelude of each module and the two lemmas behind it, articles, and pieces of articles.
+pub(crate) const TEXTS: &str = r##"
+[texts]
+# With these each module begins.
+prelude = '''
+type : Type.
+bool : type.
+ind : type.
+arr : type -> type -> type.
+def term : type -> Type.
+[a, b] term (arr a b) --> term a -> term b.
+eq : a : type -> term (arr a (arr a bool)).
+select : a : type -> term (arr (arr a bool) a).
+proof : term bool -> Type.
+refl : a : type -> x : term a -> proof (eq a x x).
+fun_ext : a : type -> b : type -> f : term (arr a b) -> g : term (arr a b) -> (x : term a -> proof (eq b (f x) (g x))) -> proof (eq (arr a b) f g).
+app_thm : a : type -> b : type -> f : term (arr a b) -> g : term (arr a b) -> x : term a -> y : term a -> proof (eq (arr a b) f g) -> proof (eq a x y) -> proof (eq b (f x) (g y)).
+prop_ext : p : term bool -> q : term bool -> (proof p -> proof q) -> (proof q -> proof p) -> proof (eq bool p q).
+eq_mp : p : term bool -> q : term bool -> proof (eq bool p q) -> proof p -> proof q.
+'''
+lemmas = '''
+(; bound 10764582912 ;)
+thm sym : v0 : type -> v1 : term v0 -> v2 : term v0 -> v3 : proof (eq v0 v1 v2) -> proof (eq v0 v2 v1) := v0 : type => v1 : term v0 => v2 : term v0 => v3 : proof (eq v0 v1 v2) => eq_mp (eq v0 v1 v1) (eq v0 v2 v1) (app_thm v0 bool (eq v0 v1) (eq v0 v2) v1 v1 (app_thm v0 (arr v0 bool) (eq v0) (eq v0) v1 v2 (refl (arr v0 (arr v0 bool)) (eq v0)) v3) (refl v0 v1)) (refl v0 v1).
+(; bound 5451776000 ;)
+thm trans : v0 : type -> v1 : term v0 -> v2 : term v0 -> v3 : term v0 -> v4 : proof (eq v0 v1 v2) -> v5 : proof (eq v0 v2 v3) -> proof (eq v0 v1 v3) := v0 : type => v1 : term v0 => v2 : term v0 => v3 : term v0 => v4 : proof (eq v0 v1 v2) => v5 : proof (eq v0 v2 v3) => eq_mp (eq v0 v1 v2) (eq v0 v1 v3) (app_thm v0 bool (eq v0 v1) (eq v0 v1) v2 v3 (refl (arr v0 bool) (eq v0 v1)) v5) v4.
+'''
+
+# What follows in the module of reflexivity.
+theorems = '''
+(; bound 13144256 ;)
+thm T0 : v0 : term bool -> proof (eq bool v0 v0) := v0 : term bool => refl bool v0.
+(; bound 10648000 ;)
+thm E0 : v0 : term bool -> proof (eq bool v0 v0) := v0 : term bool => T0 v0.
+'''
+
+# The article that proves and exports `p = p`.
+reflexivity = '6 version "p" "bool" typeOp nil opType 0 def var varTerm 1 def refl nil "=" const "->" typeOp 0 ref "->" typeOp 0 ref 0 ref nil cons cons opType nil cons cons opType constTerm 1 ref appTerm 1 ref appTerm thm'
+
+# Pieces of articles: the first two commands, variables of type `bool`, terms that are one, the types `bool`, `bool -> bool` and
+# `bool -> bool -> bool`, equality of truth values and at the type under 0, and the identity of truth values.
+version = '6 version'
+var_p = '"p" "bool" typeOp nil opType var'
+var_q = '"q" "bool" typeOp nil opType var'
+var_x = '"x" "bool" typeOp nil opType var'
+var_y = '"y" "bool" typeOp nil opType var'
+var_z = '"z" "bool" typeOp nil opType var'
+p = '"p" "bool" typeOp nil opType var varTerm'
+q = '"q" "bool" typeOp nil opType var varTerm'
+r = '"r" "bool" typeOp nil opType var varTerm'
+x = '"x" "bool" typeOp nil opType var varTerm'
+y = '"y" "bool" typeOp nil opType var varTerm'
+z = '"z" "bool" typeOp nil opType var varTerm'
+bool = '"bool" typeOp nil opType'
+unary_type = '"->" typeOp "bool" typeOp nil opType "bool" typeOp nil opType nil cons cons opType'
+binary_type = '"->" typeOp "bool" typeOp nil opType "->" typeOp "bool" typeOp nil opType "bool" typeOp nil opType nil cons cons opType nil cons cons opType'
+equals = '"=" const "->" typeOp "bool" typeOp nil opType "->" typeOp "bool" typeOp nil opType "bool" typeOp nil opType nil cons cons opType nil cons cons opType constTerm'
+equality = '"=" const "->" typeOp 0 ref "->" typeOp 0 ref "bool" typeOp nil opType nil cons cons opType nil cons cons opType constTerm'
+identity = '"x" "bool" typeOp nil opType var "x" "bool" typeOp nil opType var varTerm absTerm'
+"##;

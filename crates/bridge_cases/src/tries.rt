@@ -1,0 +1,214 @@
+//! A case that is tried: whether what comes is what has to, and what came instead.
+ghost use Rattle.std.specs.Prelude.{◌<◌};
+
+use crate::answers::answer;
+use crate::cases::{Case, Wrong, items, listed, number, number_of, numbers, said, word, words_of};
+use crate::files::files;
+use crate::parts::text_at;
+use bridge_base::{MemShelf, MemSink};
+use std::alloc::Global;
+use std::str;
+use toml::Value;
+
+// How many bytes the shelf gives a read, where a case doesn't say.
+const PIECES: [u64; 5] = [1, 2, 3, 7, 4096];
+
+/// Whether a case comes out as it says, for each of its command lines and in whatever pieces it says.
+pub(crate) fn holds(rt: &HostRuntime, case: &Case<'_>) -> Result<bool, Wrong> {
+    let words = items(said(case, "words").ok_or(Wrong("words"))?, "words")?;
+    match words.first() {
+        Some(Value::Array(_)) => holds_for_each(rt, case, words),
+        _ => holds_for(rt, case, words),
+    }
+}
+
+// Whether it does for each of these command lines.
+fn holds_for_each(rt: &HostRuntime, case: &Case<'_>, lines: &[Value]) -> Result<bool, Wrong> {
+    for line in lines {
+        if !holds_for(rt, case, items(line, "words")?)? {
+            return Ok(false);
+        }
+    }
+    Ok(true)
+}
+
+// Whether it does for these words.
+fn holds_for(rt: &HostRuntime, case: &Case<'_>, words: &[Value]) -> Result<bool, Wrong> {
+    match listed(case, "pieces")? {
+        [] => holds_usually(rt, case, words),
+        pieces => holds_in(rt, case, words, pieces),
+    }
+}
+
+// Whether it does in the usual pieces.
+fn holds_usually(rt: &HostRuntime, case: &Case<'_>, words: &[Value]) -> Result<bool, Wrong> {
+    for most in PIECES {
+        if !holds_with(rt, case, words, most)? {
+            return Ok(false);
+        }
+    }
+    Ok(true)
+}
+
+// Whether it does in these pieces.
+fn holds_in(
+    rt: &HostRuntime,
+    case: &Case<'_>,
+    words: &[Value],
+    pieces: &[Value],
+) -> Result<bool, Wrong> {
+    for most in pieces {
+        if !holds_with(rt, case, words, number_of(most, "pieces")?)? {
+            return Ok(false);
+        }
+    }
+    Ok(true)
+}
+
+// Whether it does in pieces of so many bytes.
+fn holds_with(
+    rt: &HostRuntime,
+    case: &Case<'_>,
+    words: &[Value],
+    most: u64,
+) -> Result<bool, Wrong> {
+    match usize::try_from(most) {
+        Ok(most) if 0 < most => holds_by(rt, case, words, most),
+        _ => Err(Wrong("pieces")),
+    }
+}
+
+// The same, where that is more than none: the shelf is made, lent and let go, and so are the sinks below.
+fn holds_by(rt: &HostRuntime, case: &Case<'_>, words: &[Value], most: usize) -> Result<bool, Wrong>
+    requires { 0 < most }
+{
+    let alloc = rt.alloc();
+    let failing = numbers(alloc, case, "shelf_fails")?;
+    let mut shelf = MemShelf::new(files(alloc, case)?, most, failing);
+    let holds = holds_over(rt, case, words, &mut shelf);
+    drop(shelf);
+    holds
+}
+
+// An empty sink, which fails at the calls that are listed under a key.
+fn sink(alloc: Global, case: &Case<'_>, key: &'static str) -> Result<MemSink, Wrong> {
+    let failing = numbers(alloc, case, key)?;
+    Ok(MemSink::new(Vec::new(alloc), failing))
+}
+
+// Whether it does over this shelf.
+fn holds_over(
+    rt: &HostRuntime,
+    case: &Case<'_>,
+    words: &[Value],
+    shelf: &mut MemShelf,
+) -> Result<bool, Wrong> {
+    let mut out = sink(rt.alloc(), case, "out_fails")?;
+    let holds = holds_into(rt, case, words, shelf, &mut out);
+    drop(out);
+    holds
+}
+
+// Whether it does with this sink for standard output.
+fn holds_into(
+    rt: &HostRuntime,
+    case: &Case<'_>,
+    words: &[Value],
+    shelf: &mut MemShelf,
+    out: &mut MemSink,
+) -> Result<bool, Wrong> {
+    let mut note = sink(rt.alloc(), case, "note_fails")?;
+    let holds = holds_of(rt, case, words, shelf, out, &mut note);
+    drop(note);
+    holds
+}
+
+// Whether it does with these sinks: the program answers, and what came is looked at.
+fn holds_of(
+    rt: &HostRuntime,
+    case: &Case<'_>,
+    words: &[Value],
+    shelf: &mut MemShelf,
+    out: &mut MemSink,
+    note: &mut MemSink,
+) -> Result<bool, Wrong> {
+    let words = words_of(rt.alloc(), words, "words")?;
+    let answer = answer(rt.alloc(), case, &words, shelf, out, note);
+    drop(words);
+    is_right(rt, case, answer?, out, note)
+}
+
+// Whether this number, and what the sinks hold, are what has to come. Else what came is told.
+fn is_right(
+    rt: &HostRuntime,
+    case: &Case<'_>,
+    number: u8,
+    out: &MemSink,
+    note: &MemSink,
+) -> Result<bool, Wrong> {
+    let alloc = rt.alloc();
+    let right = is_number(case, number)?
+        && is_called(case, out.calls())?
+        && is_text(alloc, case, "out", out.contents())?
+        && is_text(alloc, case, "note", note.contents())?;
+    if !right {
+        tell(rt, case, number, out, note)?;
+    }
+    Ok(right)
+}
+
+// Whether the number of the answer is the one that is said, or 0.
+fn is_number(case: &Case<'_>, came: u8) -> Result<bool, Wrong> {
+    Ok(number(case, "number")?.unwrap_or(0) == u64::from(came))
+}
+
+// Whether standard output was called as often as is said, if it is.
+fn is_called(case: &Case<'_>, calls: u64) -> Result<bool, Wrong> {
+    Ok(number(case, "out_calls")?.unwrap_or(calls) == calls)
+}
+
+// Whether standard output or standard error holds what it has to, where something is said of it.
+fn is_text(alloc: Global, case: &Case<'_>, key: &'static str, came: &[u8]) -> Result<bool, Wrong> {
+    if word(case, "unsaid", "")? == key {
+        return Ok(true);
+    }
+    let begun = word(case, "begun", "")? == key;
+    let text = text_at(alloc, case, key)?;
+    let fits = fits(came, &text, begun);
+    drop(text);
+    Ok(fits)
+}
+
+// Whether this text came, or where it is only begun, less of it from its beginning.
+fn fits(came: &[u8], text: &[u8], begun: bool) -> bool {
+    if begun {
+        text.starts_with(came) && came.len() < text.len()
+    } else {
+        text == came
+    }
+}
+
+// Tells what came, and in which case.
+fn tell(
+    rt: &HostRuntime,
+    case: &Case<'_>,
+    number: u8,
+    out: &MemSink,
+    note: &MemSink,
+) -> Result<(), Wrong> {
+    let name = word(case, "name", "")?;
+    let place = case.place;
+    let calls = out.calls();
+    println!(rt;
+        "{name}, case {place} is answered {number}, with {calls} calls of standard output"
+    )?;
+    tell_text(rt, "standard output", out.contents())?;
+    tell_text(rt, "standard error", note.contents())
+}
+
+// Tells what a sink holds.
+fn tell_text(rt: &HostRuntime, device: &str, text: &[u8]) -> Result<(), Wrong> {
+    let text = str::from_utf8(text).unwrap_or("bytes that are no text");
+    println!(rt; "{device}:\n{text}")?;
+    Ok(())
+}
