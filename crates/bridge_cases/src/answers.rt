@@ -13,7 +13,7 @@ pub(crate) fn answer(
     out: &mut MemSink,
     note: &mut MemSink,
 ) -> Result<u8, Wrong> {
-    match word(case, "by", "bridge")? {
+    match word(case, "by")? {
         "bridge" => Ok(number_of(bridge(alloc, words, shelf, out, note))),
         "verify" => Ok(number_of(verify(alloc, words, shelf, out, note))),
         "translate" => Ok(number_of(translate(alloc, words, shelf, out, note))),
@@ -32,11 +32,12 @@ fn answer_of_a_module(
     out: &mut MemSink,
     note: &mut MemSink,
 ) -> Result<u8, Wrong> {
-    match (by, words, number(case, "budget")?) {
-        ("check", [file], Some(budget)) => {
+    match (by, words) {
+        ("check", [file]) => {
+            let budget = number(case, "budget")?;
             Ok(number_of(check(alloc, file, budget, shelf, out, note)))
         }
-        ("decode", [file], None) => Ok(number_of(decode(alloc, file, shelf, out, note))),
+        ("decode", [file]) => Ok(number_of(decode(alloc, file, shelf, out, note))),
         _ => Err(Wrong("by")),
     }
 }

@@ -25,17 +25,17 @@ impl From<io::Error> for Wrong {
     }
 }
 
-/// A case, its test, what is usual in its file, and the texts that all files have; and its place in the test, from 1.
+/// A case, its test, what is usual in its file, and what is in all files; and its place in the test, from 1.
 #[derive(Clone, Copy)]
 pub(crate) struct Case<'a> {
     pub(crate) place: usize,
     pub(crate) own: &'a Table,
     pub(crate) test: &'a Table,
     pub(crate) usual: &'a Table,
-    pub(crate) common: &'a Table,
+    pub(crate) everywhere: &'a Table,
 }
 
-/// What is said under a key by the case, else by its test, else usually.
+/// What is said under a key by the case, else by its test, else usually in the file, else in all files.
 pub(crate) fn said<'a>(case: &Case<'a>, key: &str) -> Option<&'a Value> {
     match case.own.get(key) {
         Some(value) => Some(value),
@@ -43,33 +43,35 @@ pub(crate) fn said<'a>(case: &Case<'a>, key: &str) -> Option<&'a Value> {
     }
 }
 
-// The same of what stands around the case: its test, and what is usual.
+// The same of what stands around the case.
 fn said_around<'a>(case: &Case<'a>, key: &str) -> Option<&'a Value> {
     match case.test.get(key) {
         Some(value) => Some(value),
-        None => case.usual.get(key),
+        None => said_usually(case, key),
     }
 }
 
-/// The text that is said under a key, or this one where nothing is.
-pub(crate) fn word<'a>(
-    case: &Case<'a>,
-    key: &'static str,
-    otherwise: &'a str,
-) -> Result<&'a str, Wrong> {
-    match said(case, key) {
-        None => Ok(otherwise),
-        Some(Value::String(word)) => Ok(word.as_str()),
-        Some(_) => Err(Wrong(key)),
+// The same of what is usual.
+fn said_usually<'a>(case: &Case<'a>, key: &str) -> Option<&'a Value> {
+    match case.usual.get(key) {
+        Some(value) => Some(value),
+        None => case.everywhere.get(key),
     }
 }
 
-/// The number that is said under a key, if one is.
-pub(crate) fn number(case: &Case<'_>, key: &'static str) -> Result<Option<u64>, Wrong> {
-    match said(case, key) {
-        None => Ok(None),
-        Some(value) => Ok(Some(number_of(value, key)?)),
-    }
+/// The value that is said under a key.
+pub(crate) fn value<'a>(case: &Case<'a>, key: &'static str) -> Result<&'a Value, Wrong> {
+    said(case, key).ok_or(Wrong(key))
+}
+
+/// The text that is said under a key.
+pub(crate) fn word<'a>(case: &Case<'a>, key: &'static str) -> Result<&'a str, Wrong> {
+    word_of(value(case, key)?, key)
+}
+
+/// The number that is said under a key.
+pub(crate) fn number(case: &Case<'_>, key: &'static str) -> Result<u64, Wrong> {
+    number_of(value(case, key)?, key)
 }
 
 /// The number that a value is.
@@ -80,12 +82,9 @@ pub(crate) fn number_of(value: &Value, key: &'static str) -> Result<u64, Wrong> 
     }
 }
 
-/// The values that are listed under a key, none where nothing is said.
+/// The values that are listed under a key.
 pub(crate) fn listed<'a>(case: &Case<'a>, key: &'static str) -> Result<&'a [Value], Wrong> {
-    match said(case, key) {
-        None => Ok(&[]),
-        Some(value) => items(value, key),
-    }
+    items(value(case, key)?, key)
 }
 
 /// The values that a value lists.

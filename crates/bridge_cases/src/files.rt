@@ -1,5 +1,5 @@
 //! The files of a case.
-use crate::cases::{Case, Wrong, said};
+use crate::cases::{Case, Wrong, value};
 use crate::parts::{Sort, joined};
 use std::alloc::Global;
 use toml::{Table, Value};
@@ -21,7 +21,7 @@ fn add_files(
     add_files_at(alloc, case, "article", Sort::Article, files)
 }
 
-// Adds the files that are said under a key, if any are.
+// Adds the files that are said under a key.
 fn add_files_at(
     alloc: Global,
     case: &Case<'_>,
@@ -29,10 +29,9 @@ fn add_files_at(
     sort: Sort,
     files: &mut Vec<(String, Vec<u8>)>,
 ) -> Result<(), Wrong> {
-    match said(case, key) {
-        None => Ok(()),
-        Some(Value::Table(table)) => add_files_of(alloc, case, table, sort, files),
-        Some(_) => Err(Wrong(key)),
+    match value(case, key)? {
+        Value::Table(table) => add_files_of(alloc, case, table, sort, files),
+        _ => Err(Wrong(key)),
     }
 }
 

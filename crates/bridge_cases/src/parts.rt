@@ -1,5 +1,5 @@
 //! Texts that are joined of parts.
-use crate::cases::{Case, Wrong, number_of, said, word_of};
+use crate::cases::{Case, Wrong, number_of, value, word_of};
 use std::alloc::{AllocError, Global};
 use toml::{Table, Value};
 
@@ -13,11 +13,8 @@ pub(crate) enum Sort {
 }
 
 /// The text of the parts that are said under a key.
-pub(crate) fn text_at(alloc: Global, case: &Case<'_>, key: &str) -> Result<Vec<u8>, Wrong> {
-    match said(case, key) {
-        None => Ok(Vec::new(alloc)),
-        Some(parts) => joined(alloc, case, parts, Sort::Text),
-    }
+pub(crate) fn text_at(alloc: Global, case: &Case<'_>, key: &'static str) -> Result<Vec<u8>, Wrong> {
+    joined(alloc, case, value(case, key)?, Sort::Text)
 }
 
 /// The text of these parts.
@@ -119,7 +116,7 @@ fn text_of<'a>(case: &Case<'a>, part: &'a str) -> Result<&'a str, Wrong> {
 
 // The text of a name, of the case, else of its test, else of the file, else of those that all files have.
 fn named<'a>(case: &Case<'a>, name: &str) -> Option<&'a str> {
-    for table in [case.own, case.test, case.usual, case.common] {
+    for table in [case.own, case.test, case.usual, case.everywhere] {
         if let Some(text) = named_in(table, name) {
             return Some(text);
         }

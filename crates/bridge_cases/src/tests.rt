@@ -1,27 +1,27 @@
 //! The tests of a file, and whether all of them hold.
 use crate::cases::{Case, Wrong, listed, word};
-use crate::texts::TEXTS;
 use crate::tries::holds;
+use crate::usual::USUAL;
 use toml::{Table, Value};
 
 /// Whether the file has a test and each of its tests holds. What doesn't hold is told on standard output, by the name of the test
 /// and the number of the case in it, counted from 1, with what came instead.
 pub fn all_hold(rt: &HostRuntime, file: &str) -> bool {
-    match toml::table_from_str(rt.alloc(), TEXTS) {
-        Ok(common) => {
-            let hold = all_hold_with(rt, &common, file);
-            drop(common);
+    match toml::table_from_str(rt.alloc(), USUAL) {
+        Ok(everywhere) => {
+            let hold = all_hold_with(rt, &everywhere, file);
+            drop(everywhere);
             hold
         }
         Err(_) => false,
     }
 }
 
-// The same, with the texts that all files have.
-fn all_hold_with(rt: &HostRuntime, common: &Table, file: &str) -> bool {
+// The same, with what is in all files.
+fn all_hold_with(rt: &HostRuntime, everywhere: &Table, file: &str) -> bool {
     match toml::table_from_str(rt.alloc(), file) {
         Ok(table) => {
-            let hold = all_hold_in(rt, common, &table);
+            let hold = all_hold_in(rt, everywhere, &table);
             drop(table);
             hold
         }
@@ -57,12 +57,12 @@ const KEYS: &[&str] = &[
 ];
 
 // The same of a file that was read.
-fn all_hold_in(rt: &HostRuntime, common: &Table, file: &Table) -> bool {
+fn all_hold_in(rt: &HostRuntime, everywhere: &Table, file: &Table) -> bool {
     match (file.get("usual"), file.get("test")) {
         (Some(Value::Table(usual)), Some(Value::Array(tests))) if !tests.is_empty() => {
             has_only(rt, file, FILE_KEYS)
                 && has_only(rt, usual, KEYS)
-                && each_holds(rt, common, usual, tests)
+                && each_holds(rt, everywhere, usual, tests)
         }
         _ => says_no(rt, "the file", "usual or test"),
     }
@@ -95,16 +95,16 @@ fn says_no(rt: &HostRuntime, place: &str, key: &str) -> bool {
 }
 
 // Whether each of these tests holds. Those after one that does not are tried too.
-fn each_holds(rt: &HostRuntime, common: &Table, usual: &Table, tests: &[Value]) -> bool {
+fn each_holds(rt: &HostRuntime, everywhere: &Table, usual: &Table, tests: &[Value]) -> bool {
     let mut hold = true;
     for test in tests {
-        hold = test_holds(rt, common, usual, test) && hold;
+        hold = test_holds(rt, everywhere, usual, test) && hold;
     }
     hold
 }
 
 // Whether a test holds.
-fn test_holds(rt: &HostRuntime, common: &Table, usual: &Table, test: &Value) -> bool {
+fn test_holds(rt: &HostRuntime, everywhere: &Table, usual: &Table, test: &Value) -> bool {
     match test {
         Value::Table(test) => {
             let case = Case {
@@ -112,7 +112,7 @@ fn test_holds(rt: &HostRuntime, common: &Table, usual: &Table, test: &Value) -> 
                 own: test,
                 test,
                 usual,
-                common,
+                everywhere,
             };
             has_only(rt, test, KEYS) && each_case_holds(rt, &case)
         }
@@ -146,7 +146,7 @@ fn case_holds(rt: &HostRuntime, test: &Case<'_>, index: usize, own: &Value) -> b
                 own,
                 test: test.test,
                 usual: test.usual,
-                common: test.common,
+                everywhere: test.everywhere,
             };
             has_only(rt, own, KEYS) && comes_out(rt, &case)
         }
@@ -164,7 +164,7 @@ fn comes_out(rt: &HostRuntime, case: &Case<'_>) -> bool {
 
 // Tells what keeps a case from being tried, and says no.
 fn is_wrong(rt: &HostRuntime, case: &Case<'_>, wrong: Wrong) -> bool {
-    let name = word(case, "name", "").unwrap_or("");
+    let name = word(case, "name").unwrap_or("");
     let place = case.place;
     let key = wrong.0;
     let _ = println!(rt; "{name}, case {place}: {key}");

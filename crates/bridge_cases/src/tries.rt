@@ -10,12 +10,9 @@ use std::alloc::Global;
 use std::str;
 use toml::Value;
 
-// How many bytes the shelf gives a read, where a case doesn't say.
-const PIECES: [u64; 5] = [1, 2, 3, 7, 4096];
-
 /// Whether a case comes out as it says, for each of its command lines and in whatever pieces it says.
 pub(crate) fn holds(rt: &HostRuntime, case: &Case<'_>) -> Result<bool, Wrong> {
-    let words = items(said(case, "words").ok_or(Wrong("words"))?, "words")?;
+    let words = listed(case, "words")?;
     match words.first() {
         Some(Value::Array(_)) => holds_for_each(rt, case, words),
         _ => holds_for(rt, case, words),
@@ -35,22 +32,12 @@ fn holds_for_each(rt: &HostRuntime, case: &Case<'_>, lines: &[Value]) -> Result<
 // Whether it does for these words.
 fn holds_for(rt: &HostRuntime, case: &Case<'_>, words: &[Value]) -> Result<bool, Wrong> {
     match listed(case, "pieces")? {
-        [] => holds_usually(rt, case, words),
+        [] => Err(Wrong("pieces")),
         pieces => holds_in(rt, case, words, pieces),
     }
 }
 
-// Whether it does in the usual pieces.
-fn holds_usually(rt: &HostRuntime, case: &Case<'_>, words: &[Value]) -> Result<bool, Wrong> {
-    for most in PIECES {
-        if !holds_with(rt, case, words, most)? {
-            return Ok(false);
-        }
-    }
-    Ok(true)
-}
-
-// Whether it does in these pieces.
+// Whether it does in each of these pieces.
 fn holds_in(
     rt: &HostRuntime,
     case: &Case<'_>,
@@ -157,22 +144,25 @@ fn is_right(
     Ok(right)
 }
 
-// Whether the number of the answer is the one that is said, or 0.
+// Whether the number of the answer is the one that is said.
 fn is_number(case: &Case<'_>, came: u8) -> Result<bool, Wrong> {
-    Ok(number(case, "number")?.unwrap_or(0) == u64::from(came))
+    Ok(number(case, "number")? == u64::from(came))
 }
 
 // Whether standard output was called as often as is said, if it is.
 fn is_called(case: &Case<'_>, calls: u64) -> Result<bool, Wrong> {
-    Ok(number(case, "out_calls")?.unwrap_or(calls) == calls)
+    match said(case, "out_calls") {
+        None => Ok(true),
+        Some(said) => Ok(number_of(said, "out_calls")? == calls),
+    }
 }
 
 // Whether standard output or standard error holds what it has to, where something is said of it.
 fn is_text(alloc: Global, case: &Case<'_>, key: &'static str, came: &[u8]) -> Result<bool, Wrong> {
-    if word(case, "unsaid", "")? == key {
+    if word(case, "unsaid")? == key {
         return Ok(true);
     }
-    let begun = word(case, "begun", "")? == key;
+    let begun = word(case, "begun")? == key;
     let text = text_at(alloc, case, key)?;
     let fits = fits(came, &text, begun);
     drop(text);
@@ -196,7 +186,7 @@ fn tell(
     out: &MemSink,
     note: &MemSink,
 ) -> Result<(), Wrong> {
-    let name = word(case, "name", "")?;
+    let name = word(case, "name")?;
     let place = case.place;
     let calls = out.calls();
     println!(rt;

@@ -99,6 +99,7 @@ fn add_variables(file: &mut String, name: &str, count: usize) -> Result<(), Allo
     Ok(())
 }
 
+// Adds a name of so many letters.
 fn add_name(file: &mut String, length: usize) -> Result<(), AllocError> {
     for _ in 0..length {
         file.push('x')?;
@@ -106,6 +107,7 @@ fn add_name(file: &mut String, length: usize) -> Result<(), AllocError> {
     Ok(())
 }
 
+// Whether that file holds.
 fn hypotheses_hold(rt: &HostRuntime) -> bool {
     match hypotheses(rt.alloc()) {
         Ok(file) => {

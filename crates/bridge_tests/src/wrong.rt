@@ -18,7 +18,7 @@ case = [{ }, { out_calls = 0 }, { text.a = "$prelude" }, { unsaid = "out" }, { p
 "#;
 
 // And what doesn't hold.
-const WRONG: [&str; 21] = [
+const WRONG: [&str; 22] = [
     "",
     "test",
     "[test]",
@@ -38,10 +38,12 @@ const WRONG: [&str; 21] = [
     "[[test]]\ncase = [{ out_calls = 1 }]",
     "[[test]]\ncase = [{ note_fails = [1] }]",
     "[[test]]\ncase = [{ pieces = [0] }]",
+    "[[test]]\ncase = [{ pieces = [] }]",
     "[[test]]\ncase = [{ words = [[\"bridge\", \"help\"], [\"bridge\", \"check\", \"a\"]] }]",
     "[[test]]\ncase = [{ by = \"trial\" }]",
 ];
 
+// Whether these tests hold, behind what is usual.
 fn is_held(rt: &HostRuntime, tests: &str) -> bool {
     match file(rt.alloc(), tests) {
         Ok(file) => {
@@ -53,12 +55,14 @@ fn is_held(rt: &HostRuntime, tests: &str) -> bool {
     }
 }
 
+// The file with these tests.
 fn file(alloc: Global, tests: &str) -> Result<String, AllocError> {
     let mut file = String::from_str(alloc, USUAL)?;
     file.push_str(tests)?;
     Ok(file)
 }
 
+// Whether none of the wrong ones holds.
 fn none_is_held(rt: &HostRuntime) -> bool {
     for tests in WRONG {
         if is_held(rt, tests) {

@@ -1,7 +1,21 @@
-//! The texts that all files of tests have.
+//! What is usual in all files of tests, and the texts that all of them have.
 
-/// They are the prelude of each module and the two lemmas behind it, articles, and pieces of articles.
-pub(crate) const TEXTS: &str = r##"
+/// What a file doesn't say, and the texts: the prelude of each module and the two lemmas behind it, articles, and pieces of articles.
+pub(crate) const USUAL: &str = r##"
+by = "bridge"
+text = {}
+article = {}
+pieces = [1, 2, 3, 7, 4096]
+shelf_fails = []
+out_fails = []
+note_fails = []
+
+number = 0
+out = ""
+note = ""
+begun = ""
+unsaid = ""
+
 [texts]
 # With these each module begins.
 prelude = '''
