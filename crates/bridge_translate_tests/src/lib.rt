@@ -1,5 +1,7 @@
 //! Tests of the commands `translate`, `verify` and `trial` under `bridge`, over shelves and sinks in memory: the whole modules and the counts of
 //! articles of a few commands, of several articles in a run, the line and the kind of a refused one, and faults of the outside.
+//!
+//! They are files of tests, which `bridge_cases` runs: a further case is a few lines of such a file.
 #![tactic(auto)]
 
 #[cfg(test)]
