@@ -19,14 +19,14 @@ use Rattle.hol_term.specs.TableLaws.{term_in-Stays, term_in-same}
 use Rattle.hol_rules.specs.declared.made.Parameters.{Parameters}
 use Rattle.hol_rules.specs.declared.made.Parameters.TheVariants as parameters
 use Rattle.hol_rules.specs.declared.premises.Sides.{Sides}
-use Rattle.hol_rules.specs.Kept.{Kept, Grows}
+use Rattle.hol_rules.specs.Kept.{Kept, Grows, step_count}
 use Rattle.hol_rules.specs.Views.{parameters_view, new_step}
 use Rattle.hol_rules.specs.Conclusions.{Concludes}
 use Rattle.hol_rules.specs.Premises.{AreNumbersOf, IsNumberOf, AreSides}
 use Rattle.hol_rules.specs.Steps.{refl_step, assume_step, eq_mp_step, sym_step, trans_step}
 use Rattle.hol_rules.proofs.Concluded.{Grows-refl, concludes}
 use Rattle.hol_rules.proofs.RuleSteps.{Makes, unmet, refl-makes, assume-makes, eq_mp-makes, sym-makes, trans-makes}
-use Rattle.hol_rules.proofs.SideLaws.{known_term}
+use Rattle.hol_rules.proofs.SideLaws.{known_term, number_term}
 use Rattle.std.proofs.Math.Path.{ap₂}
 
 -- after types and terms came, the step is what the rule wants, and it follows
@@ -65,6 +65,9 @@ not_alike trees d p q t u n m apart = go (term_eq t u) refl
 alike : (trees : Trees) (p q : TermId) (t u : Term) → IsNumberOf trees p t → IsNumberOf trees q u → p.0 ≡ q.0 → t ≡ u
 alike trees p q t u n m e = sym n.is ∙ ap (term_at trees) e ∙ m.is
 
+pub refl-concl : (old : Kept) (t : TermId) → IsTermAt old.trees t.0 → (mid : Kept) (concl : TermId) → ((a : HolType) → HasType (term_at old.trees t.0) a → IsNumberOf mid.trees concl (equation a (term_at old.trees t.0) (term_at old.trees t.0))) → concl.0 < length mid.trees.terms
+refl-concl old t h mid concl n = let a = some_of (type_of (term_at old.trees t.0)) h in (n a.0 a.1).known
+
 pub refl-ends : (old mid : Kept) → Grows old mid → (t : TermId) → IsTermAt old.trees t.0 → (concl : TermId) → ((a : HolType) → HasType (term_at old.trees t.0) a → IsNumberOf mid.trees concl (equation a (term_at old.trees t.0) (term_at old.trees t.0)))
     → (hyps : List TermId) → AreNumbersOf mid.trees hyps [] → Ends old (refl_step (term_at old.trees t.0)) mid (new_step mid.trees by_rule.Refl [] (parameters.Term t) (record { hyps = hyps; concl = concl }))
 refl-ends old mid g t h concl n hyps k =
@@ -79,12 +82,30 @@ assume-ends k p known truth hyps h =
     ends_by (Grows-refl k) (assume-makes k.made (term_at k.trees p.0) truth) _
     (stepped k.trees by_rule.Assume [] (parameters.Term p) _ refl hyps (term_at k.trees p.0 ∷ []) h p (term_at k.trees p.0) (record { known = known; is = refl }))
 
+-- the number of a step is one after types and terms came
+pub step-grown : {old mid : Kept} → Grows old mid → (i : ℕ) → i < step_count old → i < step_count mid
+step-grown g i l = subst (λ made. i < length (steps_of made)) (sym g.made) l
+
+-- the sides of a premise have its type
+module _ (k : Kept) (i : ℕ) (sides : Sides) (s : AreSides k i sides) where
+  pub left_side-typed : HasType (term_at k.trees sides.left.0) s.equation.ty
+  left_side-typed = subst (λ t. HasType t s.equation.ty) (sym s.left.is) s.left_typed
+
+  pub right_side-typed : HasType (term_at k.trees sides.right.0) s.equation.ty
+  right_side-typed = subst (λ t. HasType t s.equation.ty) (sym s.right.is) s.right_typed
+
+  pub left_side-term : IsTermAt k.trees sides.left.0
+  left_side-term = number_term k.trees sides.left s.equation.left s.equation.ty s.left s.left_typed
+
+  pub right_side-term : IsTermAt k.trees sides.right.0
+  right_side-term = number_term k.trees sides.right s.equation.right s.equation.ty s.right s.right_typed
+
 module _ (k : Kept) (proof : IsProof k.made) (i : ℕ) (l : i < length (steps_of k.made)) (sides : Sides) (s : AreSides k i sides) where
   pub sym-ends : (mid : Kept) → Grows k mid → (concl : TermId) → ((a : HolType) → HasType (term_at k.trees sides.right.0) a → IsNumberOf mid.trees concl (equation a (term_at k.trees sides.right.0) (term_at k.trees sides.left.0)))
       → (hyps : List TermId) → AreNumbersOf mid.trees hyps (sequent_at mid.made i).hypotheses → Ends k (sym_step k.made i) mid (new_step mid.trees by_rule.Sym (i ∷ []) parameters.Nothing (record { hyps = hyps; concl = concl }))
   sym-ends mid g concl n hyps h =
       let e = s.equation in
-      let typed : HasType (term_at k.trees sides.right.0) e.ty = subst (λ t. HasType t e.ty) (sym s.right.is) s.right_typed in
+      let typed = right_side-typed k i sides s in
       let c : IsNumberOf mid.trees concl (equation e.ty e.right e.left) = subst (IsNumberOf mid.trees concl) (ap₂ (equation e.ty) s.right.is s.left.is) (n e.ty typed) in
       let hs = subst (λ made. AreNumbersOf mid.trees hyps (sequent_at made i).hypotheses) g.made h in
       ends_by g (sym-makes k.made proof i l e s.parts) _ (stepped mid.trees by_rule.Sym (i ∷ []) parameters.Nothing _ refl hyps (sequent_at k.made i).hypotheses hs concl _ c)
@@ -106,7 +127,7 @@ module _ (k : Kept) (proof : IsProof k.made) (i : ℕ) (l : i < length (steps_of
       trans-ends same mid g concl n hyps h =
           let e = s.equation in
           let f = r.equation in
-          let typed : HasType (term_at k.trees sides.left.0) e.ty = subst (λ t. HasType t e.ty) (sym s.left.is) s.left_typed in
+          let typed = left_side-typed k i sides s in
           let c : IsNumberOf mid.trees concl (equation e.ty e.left f.right) = subst (IsNumberOf mid.trees concl) (ap₂ (equation e.ty) s.left.is r.right.is) (n e.ty typed) in
           let hs = subst (λ made. AreNumbersOf mid.trees hyps (joined (sequent_at made i).hypotheses (sequent_at made j).hypotheses)) g.made h in
           ends_by g (trans-makes k.made proof i l e s.parts j m f r.parts (alike k.trees more.left sides.right f.left e.right r.left s.right same)) _

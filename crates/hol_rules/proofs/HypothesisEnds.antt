@@ -21,16 +21,14 @@ use Rattle.std.proofs.Math.Path.{ap₂}
 module _ (k : Kept) (i j : ℕ) (l : i < length (steps_of k.made)) (m : j < length (steps_of k.made)) where
   pub deduct_antisym-ends : (p q : TermId) → IsNumberOf k.trees p (sequent_at k.made i).conclusion → HasType (sequent_at k.made i).conclusion bool → IsNumberOf k.trees q (sequent_at k.made j).conclusion
       → (mid : Kept) → Grows k mid → (concl : TermId) → ((a : HolType) → HasType (term_at k.trees p.0) a → IsNumberOf mid.trees concl (equation a (term_at k.trees p.0) (term_at k.trees q.0)))
-      → (first second hyps : List TermId) → AreNumbersOf mid.trees first (removed (sequent_at mid.made i).hypotheses (sequent_at mid.made j).conclusion) → AreNumbersOf mid.trees second (removed (sequent_at mid.made j).hypotheses (sequent_at mid.made i).conclusion)
-      → AreNumbersOf mid.trees hyps (joined (terms_at mid.trees first) (terms_at mid.trees second)) → Ends k (deduct_antisym_step k.made i j) mid (new_step mid.trees by_rule.DeductAntisym (i ∷ j ∷ []) parameters.Nothing (record { hyps = hyps; concl = concl }))
-  deduct_antisym-ends p q n typed o mid g concl c first second hyps f s h =
+      → (hyps : List TermId) → AreNumbersOf mid.trees hyps (joined (removed (sequent_at mid.made i).hypotheses (sequent_at mid.made j).conclusion) (removed (sequent_at mid.made j).hypotheses (sequent_at mid.made i).conclusion))
+      → Ends k (deduct_antisym_step k.made i j) mid (new_step mid.trees by_rule.DeductAntisym (i ∷ j ∷ []) parameters.Nothing (record { hyps = hyps; concl = concl }))
+  deduct_antisym-ends p q n typed o mid g concl c hyps h =
       let one = sequent_at k.made i in
       let two = sequent_at k.made j in
       let truth : HasType (term_at k.trees p.0) bool = subst (λ t. HasType t bool) (sym n.is) typed in
       let made : IsNumberOf mid.trees concl (equation bool one.conclusion two.conclusion) = subst (IsNumberOf mid.trees concl) (ap₂ (equation bool) n.is o.is) (c bool truth) in
-      let left = f.are ∙ ap (λ m. removed (sequent_at m i).hypotheses (sequent_at m j).conclusion) g.made in
-      let right = s.are ∙ ap (λ m. removed (sequent_at m j).hypotheses (sequent_at m i).conclusion) g.made in
-      let hs : AreNumbersOf mid.trees hyps (joined (removed one.hypotheses two.conclusion) (removed two.hypotheses one.conclusion)) = record { known = h.known; are = h.are ∙ ap₂ joined left right } in
+      let hs : AreNumbersOf mid.trees hyps (joined (removed one.hypotheses two.conclusion) (removed two.hypotheses one.conclusion)) = subst (λ m. AreNumbersOf mid.trees hyps (joined (removed (sequent_at m i).hypotheses (sequent_at m j).conclusion) (removed (sequent_at m j).hypotheses (sequent_at m i).conclusion))) g.made h in
       ends_by g (deduct_antisym-makes k.made i j l m) _ (stepped mid.trees by_rule.DeductAntisym (i ∷ j ∷ []) parameters.Nothing _ refl hyps _ hs concl _ made)
 
   pub prove_hyp-ends : (own rest hyps : List TermId) → terms_at k.trees own ≡ (sequent_at k.made i).hypotheses → AreNumbersOf k.trees rest (removed (sequent_at k.made j).hypotheses (sequent_at k.made i).conclusion) → AreNumbersOf k.trees hyps (joined (terms_at k.trees own) (terms_at k.trees rest))

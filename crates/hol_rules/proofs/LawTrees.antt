@@ -1,5 +1,5 @@
 -- The trees of the laws of a new type.
-use Rattle.std.proofs.Common.{◌≡◌, ◌<◌, refl, sym, ap, subst, ◌∙◌, arith, List, [], ◌∷◌, ◌++◌, map, length, true}
+use Rattle.std.proofs.Common.{◌≡◌, ◌<◌, refl, sym, ap, subst, ◌∙◌, arith, List, [], ◌∷◌, ◌++◌, map, length, true, Result, Ok, Err, IfOk}
 use Rattle.std.proofs.lemmas.List.{map-append}
 use Rattle.std.proofs.Math.Path.{ap₂}
 use Rattle.hol_spec.specs.Names.{Name}
@@ -68,6 +68,16 @@ applied a b f x id F X m n l h = record { known = l; is = Some-term_in b.terms i
 pub equated : (a b : Trees) (ty : TypeId) (f x id : TermId) (T : HolType) (F X : Term) → IsTypeOf a ty T → IsNumberOf a f F → IsNumberOf a x X → id.0 < length b.terms → Holds b id.0 (equation (type_at a ty.0) (term_at a f.0) (term_at a x.0)) → IsNumberOf b id (equation T F X)
 equated a b ty f x id T F X t m n l h = record { known = l; is = Some-term_in b.terms id.0 _ h ∙ (λ i. equation (t.is i) (m.is i) (n.is i)) }
 
+-- the same of an answer
+pub IfOk-applied : {E : Type 0} (a b : Trees) (f x : TermId) (r : Result TermId E) (F X : Term) → IsNumberOf a f F → IsNumberOf a x X → IfOk r (λ id. id.0 < length b.terms) → IfOk r (λ id. Holds b id.0 (app (term_at a f.0) (term_at a x.0))) → IfOk r (λ id. IsNumberOf b id (app F X))
+IfOk-applied a b f x (Ok id) F X m n l h = applied a b f x id F X m n l h
+IfOk-applied a b f x (Err e) F X m n l h = tt
+
+pub IfOk-equated : {E : Type 0} (a b : Trees) (ty : TypeId) (f x : TermId) (r : Result TermId E) (T : HolType) (F X : Term) → IsTypeOf a ty T → IsNumberOf a f F → IsNumberOf a x X → IfOk r (λ id. id.0 < length b.terms)
+    → IfOk r (λ id. Holds b id.0 (equation (type_at a ty.0) (term_at a f.0) (term_at a x.0))) → IfOk r (λ id. IsNumberOf b id (equation T F X))
+IfOk-equated a b ty f x (Ok id) T F X t m n l h = equated a b ty f x id T F X t m n l h
+IfOk-equated a b ty f x (Err e) T F X t m n l h = tt
+
 own-variable : (v : AVariable) → variable_eq v v ≡ true
 own-variable v = (variable_eq-Decides v v).1 refl
 
@@ -87,6 +97,11 @@ module _ (v : AVariable) (m n : Name) (a b : HolType) where
 pub abstracted : (a b : Trees) (v : Variable) (w : AVariable) (f x id : TermId) (ty : TypeId) (T : HolType) (F X : Term) → variable_view a v ≡ w → IsTypeOf a ty T → IsNumberOf a f F → IsNumberOf a x X
     → IsNumberOf b id (equation (type_at a ty.0) (abstraction (variable_view a v) (term_at a f.0)) (abstraction (variable_view a v) (term_at a x.0))) → IsNumberOf b id (equation T (abstraction w F) (abstraction w X))
 abstracted a b v w f x id ty T F X e t m n h = record { known = h.known; is = h.is ∙ (λ i. equation (t.is i) (abstraction (e i) (m.is i)) (abstraction (e i) (n.is i))) }
+
+pub IfOk-abstracted : {E : Type 0} (a b : Trees) (v : Variable) (w : AVariable) (f x : TermId) (r : Result TermId E) (ty : TypeId) (T : HolType) (F X : Term) → variable_view a v ≡ w → IsTypeOf a ty T → IsNumberOf a f F → IsNumberOf a x X
+    → (t : Term) → equation T (abstraction w F) (abstraction w X) ≡ t → IfOk r (λ id. IsNumberOf b id (equation (type_at a ty.0) (abstraction (variable_view a v) (term_at a f.0)) (abstraction (variable_view a v) (term_at a x.0)))) → IfOk r (λ id. IsNumberOf b id t)
+IfOk-abstracted a b v w f x (Ok id) ty T F X e s m n t q h = subst (IsNumberOf b id) q (abstracted a b v w f x id ty T F X e s m n h)
+IfOk-abstracted a b v w f x (Err u) ty T F X e s m n t q h = tt
 
 -- a law without hypotheses
 pub law-stated : (trees : Trees) (hyps : List TermId) (concl : TermId) (t : Term) → hyps ≡ [] → IsNumberOf trees concl t → IsStated trees (record { hyps = hyps; concl = concl }) (derived [] t)

@@ -1,3 +1,4 @@
+mod Answering
 mod Measuring
 mod PairLaws
 mod Growth

@@ -1,16 +1,19 @@
 -- Constants that are made for variables, one after another.
-use Rattle.std.proofs.Common.{◌≡◌, ◌<◌, refl, sym, ap, subst, ◌∙◌, arith, List, [], ◌∷◌, ◌++◌, length, ℕ, zero, suc, get_or}
+use Rattle.std.proofs.Common.{◌≡◌, ◌<◌, refl, sym, ap, subst, ◌∙◌, arith, List, [], ◌∷◌, ◌++◌, length, ℕ, zero, suc, get_or, Result, IfOk}
 use Rattle.hol_spec.specs.Names.{Name}
 use Rattle.hol_spec.specs.DefinitionLists.{constants_put}
 use Rattle.hol_spec.specs.Terms.{constant}
+use Rattle.hol_spec.specs.TermSubstitution.{sub}
 use Rattle.hol_type.specs.TableLaws as type_law
 use Rattle.hol_term.specs.declared.TermId.{TermId}
 use Rattle.hol_term.specs.declared.Variable.{Variable}
-use Rattle.hol_term.specs.Substitutions.{term_pairs_at, AreTermPairsKnown}
-use Rattle.hol_term.specs.Tables.{Trees, term_at, type_at, Keeps}
-use Rattle.hol_term.specs.TableLaws.{Keeps-refl, Keeps-trans}
+use Rattle.hol_term.specs.Substitutions.{image_of, term_pairs_at, AreKnownPairs, AreTermPairsKnown}
+use Rattle.hol_term.specs.Tables.{Trees, term_at, type_at, Holds, Keeps}
+use Rattle.hol_term.specs.TableLaws.{Keeps-refl, Keeps-trans, term_in-Stays}
 use Rattle.hol_defs.specs.Lists.{variable_at, pairs_at, ArePairsKnown}
 use Rattle.hol_rules.specs.Premises.{IsNumberOf}
+use Rattle.std.proofs.Math.Path.{ap₂}
+use Rattle.hol_rules.proofs.ConstantImage.{IfOk-held}
 use Rattle.hol_rules.proofs.PairLaws.{AreTermPairsKnown-Keeps, term_pairs_at-Keeps}
 
 -- what is put so far, in a table that has kept what it had
@@ -55,3 +58,13 @@ pub known-at : (a : Trees) (ps : List (Name × Variable)) (i : ℕ) (p : Name ×
 known-at a [] i p h l e = absurd (omega arith)
 known-at a (q ∷ ps) zero p h l e = subst (λ (x : Name × Variable). x.1.ty.0 < length a.types) (sym e) h.0
 known-at a (q ∷ ps) (suc i) p h l e = known-at a ps i p h.1 (omega arith) e
+
+-- what is put, as a slice
+pub put-known : (a : Trees) (slice put : List (Variable × TermId)) → slice ≡ put → AreTermPairsKnown a put → AreKnownPairs a [] slice
+put-known a slice put e h = record { known_types = tt; known_terms = subst (AreTermPairsKnown a) (sym e) h }
+
+-- what it makes of a term
+pub IfOk-put : {E : Type 0} (a b d : Trees) → Keeps a b → (pairs : List (Name × Variable)) (slice put : List (Variable × TermId)) → slice ≡ put → term_pairs_at b put ≡ constants_put (pairs_at a pairs) → (term : TermId) → term.0 < length a.terms → (r : Result TermId E)
+    → IfOk r (λ id. id.0 < length d.terms) → IfOk r (λ id. Holds d id.0 (image_of b [] slice (term_at b term.0))) → IfOk r (λ id. IsNumberOf d id (sub [] (constants_put (pairs_at a pairs)) (term_at a term.0)))
+IfOk-put a b d k pairs slice put e is term l =
+    IfOk-held d (image_of b [] slice (term_at b term.0)) (sub [] (constants_put (pairs_at a pairs)) (term_at a term.0)) (ap₂ (sub []) (ap (term_pairs_at b) e ∙ is) (sym (term_in-Stays k.stays term.0 l)))

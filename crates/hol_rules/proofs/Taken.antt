@@ -64,6 +64,20 @@ module _ (trees : Trees) (symbols after : List Taken) where
     pub operator-isnt_new : length after ≤ length symbols → new_operator (symbols_at trees symbols) n k ≡ []
     operator-isnt_new l = let a = as_many (new_operator (symbols_at trees symbols) n k) is in new_operator-stays (symbols_at trees symbols) n k (omega (arith, l, a, own_count))
 
+-- what is noted of one symbol or none
+module _ (trees : Trees) (symbols : List Taken) (ms : List OneMade) (n : Name) where
+  pub noted-one_constant : is_taken_constant (symbols_at trees symbols) n ≡ false → ms ++ one.InputConst n ∷ [] ≡ ms ++ map (λ _. one.InputConst n) (new_constant (symbols_at trees symbols) n)
+  noted-one_constant new = ap (λ b. ms ++ map (λ _. one.InputConst n) (if b then [] else Symbol.input_constant n ∷ [])) (sym new)
+
+  pub noted-no_constant : new_constant (symbols_at trees symbols) n ≡ [] → ms ≡ ms ++ map (λ _. one.InputConst n) (new_constant (symbols_at trees symbols) n)
+  noted-no_constant none = sym (append-nil ms) ∙ ap (λ l. ms ++ map (λ _. one.InputConst n) l) (sym none)
+
+  pub noted-one_operator : (k : ℕ) → (is_some (operator_arity (symbols_at trees symbols) n) || list_any (is_input_operator n k) (symbols_at trees symbols)) ≡ false → ms ++ one.InputOp n k ∷ [] ≡ ms ++ map (λ _. one.InputOp n k) (new_operator (symbols_at trees symbols) n k)
+  noted-one_operator k new = ap (λ b. ms ++ map (λ _. one.InputOp n k) (if b then [] else Symbol.input_operator n k ∷ [])) (sym new)
+
+  pub noted-no_operator : (k : ℕ) → new_operator (symbols_at trees symbols) n k ≡ [] → ms ≡ ms ++ map (λ _. one.InputOp n k) (new_operator (symbols_at trees symbols) n k)
+  noted-no_operator k none = sym (append-nil ms) ∙ ap (λ l. ms ++ map (λ _. one.InputOp n k) l) (sym none)
+
 -- symbols that may be taken one after another
 abbrev pub AreTakenAfter : List Symbol → List Symbol → Type 0
 AreTakenAfter symbols [] = Unit {0}
@@ -157,3 +171,37 @@ module _ (trees : Trees) (symbols : List Taken) (xs : List Step) (ms : List OneM
     pub made_view-no_operator : made_view trees after xs ms ≡ made_view trees symbols xs ms ++ map Made.symbol (new_operator (symbols_of (made_view trees symbols xs ms)) n k)
     made_view-no_operator =
         made_view-same no_operator ∙ sym (append-nil (made_view trees symbols xs ms)) ∙ ap (λ l. made_view trees symbols xs ms ++ map Made.symbol l) (sym none ∙ ap (λ ss. new_operator ss n k) (sym h.symbols_taken))
+
+  -- a constant that is used, and an operator: one that is new is noted, and else nothing
+  module _ (n : Name) (is : symbols_at trees after ≡ S ++ new_constant S n) (known : AreKnownSymbols trees after) where
+    pub IsKept-used_constant : IsKept trees after xs (ms ++ map (λ _. one.InputConst n) (new_constant S n)) memo
+    IsKept-used_constant = go (is_taken_constant S n) refl
+      where
+        go : (b : Bool) → is_taken_constant S n ≡ b → IsKept trees after xs (ms ++ map (λ _. one.InputConst n) (new_constant S n)) memo
+        go true e = let none = ap (λ b. if b then [] else Symbol.input_constant n ∷ []) e in subst (λ l. IsKept trees after xs l memo) (noted-no_constant trees symbols ms n none) (IsKept-no_constant n is none known)
+        go false e = subst (λ l. IsKept trees after xs l memo) (noted-one_constant trees symbols ms n e) (IsKept-constant n is e known)
+
+    pub made_view-used_constant : made_view trees after xs (ms ++ map (λ _. one.InputConst n) (new_constant S n)) ≡ made_view trees symbols xs ms ++ map Made.symbol (new_constant (symbols_of (made_view trees symbols xs ms)) n)
+    made_view-used_constant = go (is_taken_constant S n) refl
+      where
+        go : (b : Bool) → is_taken_constant S n ≡ b → made_view trees after xs (ms ++ map (λ _. one.InputConst n) (new_constant S n)) ≡ made_view trees symbols xs ms ++ map Made.symbol (new_constant (symbols_of (made_view trees symbols xs ms)) n)
+        go true e = let none = ap (λ b. if b then [] else Symbol.input_constant n ∷ []) e in ap (made_view trees after xs) (sym (noted-no_constant trees symbols ms n none)) ∙ made_view-no_constant n is none
+        go false e = ap (made_view trees after xs) (sym (noted-one_constant trees symbols ms n e)) ∙ made_view-constant n is e
+
+  module _ (n : Name) (k : ℕ) (is : symbols_at trees after ≡ S ++ new_operator S n k) (known : AreKnownSymbols trees after) where
+    abbrev used : Bool
+    used = is_some (operator_arity S n) || list_any (is_input_operator n k) S
+
+    pub IsKept-used_operator : IsKept trees after xs (ms ++ map (λ _. one.InputOp n k) (new_operator S n k)) memo
+    IsKept-used_operator = go used refl
+      where
+        go : (b : Bool) → used ≡ b → IsKept trees after xs (ms ++ map (λ _. one.InputOp n k) (new_operator S n k)) memo
+        go true e = let none = ap (λ b. if b then [] else Symbol.input_operator n k ∷ []) e in subst (λ l. IsKept trees after xs l memo) (noted-no_operator trees symbols ms n k none) (IsKept-no_operator n k is none known)
+        go false e = subst (λ l. IsKept trees after xs l memo) (noted-one_operator trees symbols ms n k e) (IsKept-operator n k is e known)
+
+    pub made_view-used_operator : made_view trees after xs (ms ++ map (λ _. one.InputOp n k) (new_operator S n k)) ≡ made_view trees symbols xs ms ++ map Made.symbol (new_operator (symbols_of (made_view trees symbols xs ms)) n k)
+    made_view-used_operator = go used refl
+      where
+        go : (b : Bool) → used ≡ b → made_view trees after xs (ms ++ map (λ _. one.InputOp n k) (new_operator S n k)) ≡ made_view trees symbols xs ms ++ map Made.symbol (new_operator (symbols_of (made_view trees symbols xs ms)) n k)
+        go true e = let none = ap (λ b. if b then [] else Symbol.input_operator n k ∷ []) e in ap (made_view trees after xs) (sym (noted-no_operator trees symbols ms n k none)) ∙ made_view-no_operator n k is none
+        go false e = ap (made_view trees after xs) (sym (noted-one_operator trees symbols ms n k e)) ∙ made_view-operator n k is e

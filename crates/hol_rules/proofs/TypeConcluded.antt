@@ -1,5 +1,5 @@
 -- The definition of a type operator that ends.
-use Rattle.std.proofs.Common.{◌≡◌, ℕ, ◌+◌, sym, ap, subst, ◌∙◌, Bool, true, false, Result, Ok, Err}
+use Rattle.std.proofs.Common.{◌≡◌, ℕ, ◌+◌, sym, ap, subst, ◌∙◌, Bool, true, Result, Ok, Err}
 use Rattle.std.specs.Result.{IsErrAnd}
 use Rattle.std.specs.Prelude.{◌&&◌, nat_le}
 use Rattle.bridge_base.specs.declared.faults.Fault.{Fault}
@@ -68,16 +68,16 @@ module _ (k : Kept) (names : TypeNames) (i : ℕ) (parts : TypeParts) (h : AreTy
     abbrev are_few : Bool
     are_few = nat_le (parameter_count (sequent_at mid.trees laws.first)) greatest_parameter_count && nat_le (parameter_count (sequent_at mid.trees laws.second)) greatest_parameter_count
 
-    counted : (b r : Bool) → b ≡ are_few → b ≡ r → in_limits (type_measures names c f) ≡ demand r TooManyParams
-    counted b r e n = measures-counted names c f small ∙ ap (λ d. demand d TooManyParams) (sym counts ∙ sym e ∙ n)
+    counted : in_limits (type_measures names c f) ≡ demand are_few TooManyParams
+    counted = measures-counted names c f small ∙ ap (λ d. demand d TooManyParams) (sym counts)
 
     -- the number of parameters is judged last
-    pub type-many : (b : Bool) → b ≡ are_few → b ≡ false → type_laws k.made names i ≡ Err TooManyParams
-    type-many b e n = limit-fails (Refused TooManyParams) (counted b false e n)
+    pub type-many : (fault : Fault) → Fails fault (demand are_few TooManyParams) → Fails fault (type_laws k.made names i)
+    type-many fault e = limit-fails fault (subst (Fails fault) (sym counted) e)
 
     -- within the limits
-    pub type-is : (b : Bool) → b ≡ are_few → b ≡ true → type_laws k.made names i ≡ Ok (made_of_type names i c f)
-    type-is b e n = limits ∙ ap (λ r. r >> Ok (made_of_type names i c f)) (counted b true e n)
+    pub type-is : are_few ≡ true → type_laws k.made names i ≡ Ok (made_of_type names i c f)
+    type-is e = limits ∙ ap (λ r. r >> Ok (made_of_type names i c f)) (counted ∙ ap (λ d. demand d TooManyParams) e)
 
     -- what is concluded there
     pub type-ended : (new : Kept) (ids : ℕ × ℕ) → (ids.0 ≡ step_count mid) × (ids.1 ≡ step_count mid + 1) → new.made ≡ with_type mid.made (made_of_type names i (type_at mid.trees parts.whole.0) (term_at mid.trees parts.predicate.0)) → Keeps mid.trees new.trees

@@ -1,8 +1,12 @@
 //! How a rule ends: its sequent is judged by the limits, and its step is kept.
-ghost use Rattle.std.specs.Prelude.{◌≡◌, ◌++◌, ◌∷◌, [], Ok, IfOk, OnErr};
+ghost use Rattle.std.specs.Prelude.{◌≡◌, ◌<◌, ◌++◌, ◌∷◌, [], Ok, length, vec_len, vec_capacity, IfOk, IfErr, OnOk, OnErr};
+ghost use Rattle.article_spec.specs.Conditions.{sequent_in_limits};
+ghost use Rattle.article_spec.specs.Results.{Fails};
 ghost use Rattle.hol_spec.specs.Proofs.{IsStep};
 ghost use Rattle.hol_spec.specs.Proofs as proof;
-ghost use Rattle.sequent.specs.Sequents.{IsKnown};
+ghost use Rattle.hol_params.specs.Noted.{AreNoted};
+ghost use Rattle.sequent.specs.Sequents.{sequent_at, IsKnown};
+ghost use Rattle.hol_rules.specs.declared.made.Made.TheVariants as one;
 ghost use Rattle.hol_rules.specs.Conclusions.{Concludes};
 ghost use Rattle.hol_rules.specs.Kept.{step_count};
 ghost use Rattle.hol_rules.specs.Views.{step_view, new_step, AreParametersKnown, IsStepKnown};
@@ -11,8 +15,11 @@ use crate::judge::judge;
 use crate::made::{Made, Parameters, Step, StepId};
 use crate::proof::Proof;
 use bridge_base::{Fault, Memory};
+use hol_params::ParamMemo;
 use hol_spec::StepKind;
+use hol_term::TermTable;
 use sequent::Sequent;
+use std::alloc::Global;
 
 impl Proof {
     // The step by this rule, if its sequent is within the limits.
@@ -28,8 +35,7 @@ impl Proof {
         requires follows { IsStep self.old.made (new_step self.old.trees kind premises.now parameters sequent) }
         ensures { Concludes self.old (Ok (new_step self.old.trees kind premises.now parameters sequent)) self.new result }
     {
-        judge(&self.terms, &mut self.params, &sequent)?;
-        let premises = Vec::from_slice(self.alloc, premises)?;
+        let premises = self.judged(premises, &sequent)?;
         let step = Step {
             kind,
             premises,
@@ -40,6 +46,21 @@ impl Proof {
         Ok(id)
     }
 
+    // The numbers of the premises, copied, if the sequent is within the limits.
+    pub(crate) fn judged(
+        &mut self,
+        premises: &[StepId],
+        sequent: &Sequent,
+    ) -> Result<Vec<StepId>, Fault>
+        requires { IsKnown self.old.trees sequent.now }
+        ensures copied { IfOk result (λ copy. copy.items ≡ premises.now) }
+        ensures within { OnOk result (sequent_in_limits (sequent_at self.old.trees sequent.now) ≡ Ok tt) }
+        ensures refused { IfErr result (λ fault. Fails fault (sequent_in_limits (sequent_at self.old.trees sequent.now))) }
+        ensures unchanged { self.new ≡ self.old }
+    {
+        judged_premises(self.alloc, &self.terms, &mut self.params, premises, sequent)
+    }
+
     // The step becomes the last.
     fn keep(&mut self, step: Step) -> Result<StepId, Memory>
         requires known { IsStepKnown self.old.trees step }
@@ -48,15 +69,60 @@ impl Proof {
         ensures kept { IfOk result (λ id. self.new ≡ record self.old { made = self.old.made ++ proof.Made.step (step_view self.old.trees step) ∷ [] }) }
         ensures unchanged { OnErr result (self.new ≡ self.old) }
     {
-        let id = self.steps.len();
-        let count = self.made.len();
-        self.made.push(Made::Step(id))?;
-        match self.steps.push(step) {
-            Ok(()) => Ok(id),
-            Err(_) => {
-                self.made.truncate(count);
-                Err(Memory)
-            }
+        keep_step(&mut self.steps, &mut self.made, step)
+    }
+}
+
+// The numbers of the premises, copied, if the sequent is within the limits.
+fn judged_premises(
+    alloc: Global,
+    terms: &TermTable,
+    params: &mut ParamMemo,
+    premises: &[StepId],
+    sequent: &Sequent,
+) -> Result<Vec<StepId>, Fault>
+    requires known { IsKnown terms.now sequent.now }
+    requires noted { AreNoted terms.now params.old }
+    ensures copied { IfOk result (λ copy. copy.items ≡ premises.now) }
+    ensures within { OnOk result (sequent_in_limits (sequent_at terms.now sequent.now) ≡ Ok tt) }
+    ensures refused { IfErr result (λ fault. Fails fault (sequent_in_limits (sequent_at terms.now sequent.now))) }
+    ensures noted { AreNoted terms.now params.new }
+{
+    judge(terms, params, sequent)?;
+    let copy = Vec::from_slice(alloc, premises)?;
+    Ok(copy)
+}
+
+// The step becomes the last, and is noted as made. The answer is its number.
+fn keep_step(steps: &mut Vec<Step>, made: &mut Vec<Made>, step: Step) -> Result<StepId, Memory>
+    ensures number { IfOk result (λ id. id ≡ length steps.old.items) }
+    ensures kept { OnOk result (steps.new.items ≡ steps.old.items ++ step ∷ []) }
+    ensures noted { OnOk result (made.new.items ≡ made.old.items ++ one.Step (length steps.old.items) ∷ []) }
+    ensures unchanged { OnErr result (steps.new.items ≡ steps.old.items) }
+    ensures unnoted { OnErr result (made.new.items ≡ made.old.items) }
+{
+    let id = noted_step(steps, made)?;
+    steps.push_reserved(step);
+    Ok(id)
+}
+
+// The next step is noted as made, where there is room for it. The answer is its number.
+fn noted_step(steps: &mut Vec<Step>, made: &mut Vec<Made>) -> Result<StepId, Memory>
+    ensures number { IfOk result (λ id. id ≡ length steps.old.items) }
+    ensures room { OnOk result (vec_len steps.new < vec_capacity steps.new) }
+    ensures noted { OnOk result (made.new.items ≡ made.old.items ++ one.Step (length steps.old.items) ∷ []) }
+    ensures unnoted { OnErr result (made.new.items ≡ made.old.items) }
+    ensures unchanged { steps.new.items ≡ steps.old.items }
+{
+    let id = steps.len();
+    let count = made.len();
+    made.reserve(1)?;
+    made.push_reserved(Made::Step(id));
+    match steps.reserve(1) {
+        Ok(()) => Ok(id),
+        Err(_) => {
+            made.truncate(count);
+            Err(Memory)
         }
     }
 }

@@ -3,6 +3,7 @@ ghost use Rattle.std.specs.Prelude.{◌≡◌, ◌<◌, ◌++◌, ◌∷◌, [],
 ghost use Rattle.article_spec.specs.Results.{Fails};
 ghost use Rattle.hol_defs.specs.Faults.{list_fault};
 ghost use Rattle.hol_defs.specs.Lists.{pairs_at, ArePairsKnown};
+ghost use Rattle.hol_defs.specs.Symbols.{symbols_at, AreKnownSymbols};
 ghost use Rattle.hol_spec.specs.DefinitionLists.{constants_put};
 ghost use Rattle.hol_spec.specs.Proofs.{sequent_at, symbols_of, IsStep};
 ghost use Rattle.hol_spec.specs.Proofs as proof;
@@ -20,10 +21,11 @@ ghost use Rattle.hol_rules.specs.Views.{step_view, IsStepKnown};
 ghost use Rattle.hol_rules.specs.declared.made.Made.TheVariants as one;
 
 use crate::definitions::constant_of;
-use crate::judge::judge;
+use crate::functions::own_variable;
 use crate::made::{Made, Parameters, Step, StepId};
 use crate::proof::Proof;
 use bridge_base::{Fault, Memory};
+use hol_defs::Symbols;
 use hol_name::Name;
 use hol_spec::StepKind;
 use hol_term::{TermId, TermTable, Variable};
@@ -108,11 +110,11 @@ impl Proof {
         requires follows { IsStep (self.old.made ++ map proof.Made.symbol (constants_in (pairs_at self.old.trees pairs.now) (numbers.sequent_at self.old.trees premise.now))) (list_step self.old.trees pairs.now one sequent) }
         ensures { Defines self.old (constants_in (pairs_at self.old.trees pairs.now) (numbers.sequent_at self.old.trees premise.now)) (Ok (list_step self.old.trees pairs.now one sequent)) self.new result }
     {
-        judge(&self.terms, &mut self.params, &sequent)?;
-        let own = copied(self.alloc, pairs)?;
+        let premises = self.judged(&[one], &sequent)?;
+        let own = self.own_pairs(pairs)?;
         let step = Step {
             kind: StepKind::DefineConstList,
-            premises: Vec::from_slice(self.alloc, &[one])?,
+            premises,
             parameters: Parameters::List(own),
             sequent,
         };
@@ -120,8 +122,14 @@ impl Proof {
         Ok(id)
     }
 
-    // The constants are defined, and the step becomes the last. Room is made first, so that nothing fails once the
-    // constants are taken.
+    // The pairs, each copied.
+    fn own_pairs(&self, pairs: &[(Name, Variable)]) -> Result<Vec<(Name, Variable)>, Memory>
+        ensures { IfOk result (λ copy. copy.items ≡ pairs.now) }
+    {
+        copied(self.alloc, pairs)
+    }
+
+    // The constants are defined, and the step becomes the last.
     fn keep_list(
         &mut self,
         pairs: &[(Name, Variable)],
@@ -136,23 +144,81 @@ impl Proof {
         ensures kept { IfOk result (λ id. self.new ≡ record self.old { made = (self.old.made ++ map proof.Made.symbol (constants_in (pairs_at self.old.trees pairs.now) (numbers.sequent_at self.old.trees premise.now))) ++ proof.Made.step (step_view self.old.trees step) ∷ [] }) }
         ensures unchanged { OnErr result (self.new ≡ self.old) }
     {
-        let id = self.steps.len();
-        let count = self.made.len();
-        self.steps.reserve(1)?;
-        note_made(self.alloc, &mut self.made, pairs, id)?;
-        let hyps = premise.hyps.ids();
-        match self
-            .symbols
-            .define_list(&mut self.terms, pairs, hyps, premise.concl)
-        {
-            Ok(()) => {
-                self.steps.push_reserved(step);
-                Ok(id)
-            }
-            Err(_) => {
-                self.made.truncate(count);
-                Err(Memory)
-            }
+        keep_constants(
+            self.alloc,
+            &mut self.symbols,
+            &mut self.terms,
+            &mut self.steps,
+            &mut self.made,
+            pairs,
+            premise,
+            step,
+        )
+    }
+}
+
+// The constants are taken, and the step becomes the last. The answer is its number.
+fn keep_constants(
+    alloc: Global,
+    symbols: &mut Symbols,
+    terms: &mut TermTable,
+    steps: &mut Vec<Step>,
+    made: &mut Vec<Made>,
+    pairs: &[(Name, Variable)],
+    premise: &Sequent,
+    step: Step,
+) -> Result<StepId, Memory>
+    requires known { AreKnownSymbols terms.old symbols.old }
+    requires pairs { ArePairsKnown terms.old pairs.now }
+    requires premise { IsSequent (numbers.sequent_at terms.old premise.now) }
+    ensures number { IfOk result (λ id. id ≡ length steps.old.items) }
+    ensures takes { OnOk result (symbols_at terms.old symbols.new ≡ symbols_at terms.old symbols.old ++ constants_in (pairs_at terms.old pairs.now) (numbers.sequent_at terms.old premise.now)) }
+    ensures fits { OnOk result (list_fault (symbols_at terms.old symbols.old) (pairs_at terms.old pairs.now) (numbers.sequent_at terms.old premise.now) ≡ None) }
+    ensures noted { OnOk result (made.new.items ≡ made.old.items ++ (named_constants pairs.now ++ one.Step (length steps.old.items) ∷ [])) }
+    ensures kept { OnOk result (steps.new.items ≡ steps.old.items ++ step ∷ []) }
+    ensures untaken { OnErr result (symbols.new ≡ symbols.old) }
+    ensures unnoted { OnErr result (made.new.items ≡ made.old.items) }
+    ensures unkept { OnErr result (steps.new.items ≡ steps.old.items) }
+    ensures known { AreKnownSymbols terms.old symbols.new }
+    ensures table { terms.new ≡ terms.old }
+{
+    let id = steps.len();
+    steps.reserve(1)?;
+    take_constants(alloc, symbols, terms, made, pairs, premise, id)?;
+    steps.push_reserved(step);
+    Ok(id)
+}
+
+// The constants are taken, and noted as made before the step of this number. They are noted first, so that nothing fails
+// once they are taken.
+fn take_constants(
+    alloc: Global,
+    symbols: &mut Symbols,
+    terms: &mut TermTable,
+    made: &mut Vec<Made>,
+    pairs: &[(Name, Variable)],
+    premise: &Sequent,
+    id: StepId,
+) -> Result<(), Memory>
+    requires known { AreKnownSymbols terms.old symbols.old }
+    requires pairs { ArePairsKnown terms.old pairs.now }
+    requires premise { IsSequent (numbers.sequent_at terms.old premise.now) }
+    ensures takes { OnOk result (symbols_at terms.old symbols.new ≡ symbols_at terms.old symbols.old ++ constants_in (pairs_at terms.old pairs.now) (numbers.sequent_at terms.old premise.now)) }
+    ensures fits { OnOk result (list_fault (symbols_at terms.old symbols.old) (pairs_at terms.old pairs.now) (numbers.sequent_at terms.old premise.now) ≡ None) }
+    ensures noted { OnOk result (made.new.items ≡ made.old.items ++ (named_constants pairs.now ++ one.Step id ∷ [])) }
+    ensures untaken { OnErr result (symbols.new ≡ symbols.old) }
+    ensures unnoted { OnErr result (made.new.items ≡ made.old.items) }
+    ensures known { AreKnownSymbols terms.old symbols.new }
+    ensures table { terms.new ≡ terms.old }
+{
+    let count = made.len();
+    note_made(alloc, made, pairs, id)?;
+    let hyps = premise.hyps.ids();
+    match symbols.define_list(terms, pairs, hyps, premise.concl) {
+        Ok(()) => Ok(()),
+        Err(_) => {
+            made.truncate(count);
+            Err(Memory)
         }
     }
 }
@@ -170,8 +236,9 @@ fn with_constants_of(
     ensures keeps { Keeps terms.old terms.new }
 {
     let put = constants_of(alloc, terms, pairs)?;
-    let made = terms.substituted(&[], &put, term)?;
-    Ok(made)
+    let made = terms.substituted(&[], &put, term);
+    drop(put);
+    made
 }
 
 // The constants, each for its variable.
@@ -186,16 +253,32 @@ fn constants_of(
     ensures keeps { Keeps terms.old terms.new }
 {
     let mut put = Vec::new(alloc);
-    for (name, variable) in pairs {
-        let constant = constant_of(alloc, terms, name, variable.ty)?;
-        let own_name = variable.name.clone()?;
-        let own = Variable {
-            name: own_name,
-            ty: variable.ty,
-        };
-        put.push((own, constant))?;
+    match put_constants(alloc, terms, pairs, &mut put) {
+        Ok(()) => Ok(put),
+        Err(_) => Err(Memory),
     }
-    Ok(put)
+}
+
+// The constants, each for its variable, become what is put.
+fn put_constants(
+    alloc: Global,
+    terms: &mut TermTable,
+    pairs: &[(Name, Variable)],
+    put: &mut Vec<(Variable, TermId)>,
+) -> Result<(), Memory>
+    requires pairs { ArePairsKnown terms.old pairs.now }
+    requires empty { put.old.items ≡ [] }
+    ensures known { OnOk result (AreTermPairsKnown terms.new put.new.items) }
+    ensures put { OnOk result (term_pairs_at terms.new put.new.items ≡ constants_put (pairs_at terms.old pairs.now)) }
+    ensures keeps { Keeps terms.old terms.new }
+{
+    for (name, variable) in pairs {
+        put.reserve(1)?;
+        let constant = constant_of(alloc, terms, name, variable.ty)?;
+        let own = own_variable(variable)?;
+        put.push_reserved((own, constant));
+    }
+    Ok(())
 }
 
 // The constants of the pairs are put last, and then the step of this number.
@@ -220,7 +303,8 @@ fn made_constants(alloc: Global, pairs: &[(Name, Variable)]) -> Result<Vec<Made>
 {
     let mut made = Vec::new(alloc);
     for (name, _) in pairs {
-        made.push(Made::Const(name.clone()?))?;
+        made.reserve(1)?;
+        made.push_reserved(Made::Const(name.clone()?));
     }
     Ok(made)
 }
@@ -231,13 +315,10 @@ fn copied(alloc: Global, pairs: &[(Name, Variable)]) -> Result<Vec<(Name, Variab
 {
     let mut copy = Vec::new(alloc);
     for (name, variable) in pairs {
+        copy.reserve(1)?;
         let own_name = name.clone()?;
-        let variable_name = variable.name.clone()?;
-        let own = Variable {
-            name: variable_name,
-            ty: variable.ty,
-        };
-        copy.push((own_name, own))?;
+        let own = own_variable(variable)?;
+        copy.push_reserved((own_name, own));
     }
     Ok(copy)
 }

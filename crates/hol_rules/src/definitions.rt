@@ -2,12 +2,15 @@
 ghost use Rattle.std.specs.Prelude.{◌≡◌, ◌<◌, ◌++◌, ◌∷◌, [], None, Ok, length, IfOk, IfErr, OnOk, OnErr};
 ghost use Rattle.article_spec.specs.Results.{Fails};
 ghost use Rattle.hol_defs.specs.Faults.{constant_fault};
+ghost use Rattle.hol_defs.specs.Symbols.{symbols_at, AreKnownSymbols};
+ghost use Rattle.hol_rules.specs.declared.made.Made.TheVariants as one;
 ghost use Rattle.hol_rules.specs.declared.made.Parameters.TheVariants as given;
 ghost use Rattle.hol_spec.specs.Definitions.{Definition};
 ghost use Rattle.hol_spec.specs.Proofs.{symbols_of, IsStep};
 ghost use Rattle.hol_spec.specs.Proofs as proof;
 ghost use Rattle.hol_spec.specs.Symbols.{Symbol};
 ghost use Rattle.hol_spec.specs.Terms.{constant as constant_tree};
+ghost use Rattle.hol_spec.specs.Types.{variable as type_variable};
 ghost use Rattle.hol_spec.specs.declared.StepKind.TheVariants.{DefineConst};
 ghost use Rattle.hol_term.specs.Tables.{term_at, type_at, IsTermAt, Keeps};
 ghost use Rattle.sequent.specs.Sequents.{IsKnown};
@@ -17,10 +20,10 @@ ghost use Rattle.hol_rules.specs.Premises.{IsNumberOf};
 ghost use Rattle.hol_rules.specs.Steps.{define_const_step};
 ghost use Rattle.hol_rules.specs.Views.{new_step, step_view, IsStepKnown};
 
-use crate::judge::judge;
 use crate::made::{Made, Parameters, Step, StepId};
 use crate::proof::Proof;
 use bridge_base::{Fault, Memory};
+use hol_defs::Symbols;
 use hol_name::Name;
 use hol_spec::StepKind;
 use hol_term::{TermId, TermTable};
@@ -70,11 +73,11 @@ impl Proof {
         requires follows { IsStep (self.old.made ++ proof.Made.symbol (Symbol.defined (Definition.constant name.now (term_at self.old.trees t.0))) ∷ []) (new_step self.old.trees DefineConst [] (given.Const name.now t) sequent) }
         ensures { Defines self.old (Symbol.defined (Definition.constant name.now (term_at self.old.trees t.0)) ∷ []) (Ok (new_step self.old.trees DefineConst [] (given.Const name.now t) sequent)) self.new result }
     {
-        judge(&self.terms, &mut self.params, &sequent)?;
+        let premises = self.judged(&[], &sequent)?;
         let own = name.clone()?;
         let step = Step {
             kind: StepKind::DefineConst,
-            premises: Vec::new(self.alloc),
+            premises,
             parameters: Parameters::Const(own, t),
             sequent,
         };
@@ -82,8 +85,7 @@ impl Proof {
         Ok(id)
     }
 
-    // The constant is defined, and the step becomes the last. Room is made first, so that nothing fails once the
-    // constant is taken.
+    // The constant is defined, and the step becomes the last.
     fn keep_const(&mut self, name: &Name, t: TermId, step: Step) -> Result<StepId, Memory>
         requires term { IsTermAt self.old.trees t.0 }
         requires known { IsStepKnown self.old.trees step }
@@ -92,19 +94,77 @@ impl Proof {
         ensures kept { IfOk result (λ id. self.new ≡ record self.old { made = (self.old.made ++ proof.Made.symbol (Symbol.defined (Definition.constant name.now (term_at self.old.trees t.0))) ∷ []) ++ proof.Made.step (step_view self.old.trees step) ∷ [] }) }
         ensures unchanged { OnErr result (self.new ≡ self.old) }
     {
-        let own = name.clone()?;
-        let id = self.steps.len();
-        self.made.reserve(2)?;
-        self.steps.reserve(1)?;
-        match self.symbols.define(&mut self.terms, name, t) {
-            Ok(()) => {
-                self.made.push_reserved(Made::Const(own));
-                self.made.push_reserved(Made::Step(id));
-                self.steps.push_reserved(step);
-                Ok(id)
-            }
-            Err(_) => Err(Memory),
+        keep_constant(
+            &mut self.symbols,
+            &mut self.terms,
+            &mut self.steps,
+            &mut self.made,
+            name,
+            t,
+            step,
+        )
+    }
+}
+
+// The constant is taken, and the step becomes the last. Its answer is the step's number.
+fn keep_constant(
+    symbols: &mut Symbols,
+    terms: &mut TermTable,
+    steps: &mut Vec<Step>,
+    made: &mut Vec<Made>,
+    name: &Name,
+    t: TermId,
+    step: Step,
+) -> Result<StepId, Memory>
+    requires known { AreKnownSymbols terms.old symbols.old }
+    requires term { IsTermAt terms.old t.0 }
+    ensures number { IfOk result (λ id. id ≡ length steps.old.items) }
+    ensures takes { OnOk result (symbols_at terms.old symbols.new ≡ symbols_at terms.old symbols.old ++ Symbol.defined (Definition.constant name.now (term_at terms.old t.0)) ∷ []) }
+    ensures fits { OnOk result (constant_fault (symbols_at terms.old symbols.old) name.now (term_at terms.old t.0) ≡ None) }
+    ensures noted { OnOk result (made.new.items ≡ (made.old.items ++ one.Const name.now ∷ []) ++ one.Step (length steps.old.items) ∷ []) }
+    ensures kept { OnOk result (steps.new.items ≡ steps.old.items ++ step ∷ []) }
+    ensures untaken { OnErr result (symbols.new ≡ symbols.old) }
+    ensures unnoted { OnErr result (made.new.items ≡ made.old.items) }
+    ensures unkept { OnErr result (steps.new.items ≡ steps.old.items) }
+    ensures known { AreKnownSymbols terms.old symbols.new }
+    ensures table { terms.new ≡ terms.old }
+{
+    let id = steps.len();
+    steps.reserve(1)?;
+    take_constant(symbols, terms, made, name, t, id)?;
+    steps.push_reserved(step);
+    Ok(id)
+}
+
+// The constant is taken, and noted as made before the step of this number. Room is made first, so that nothing fails
+// once it is taken.
+fn take_constant(
+    symbols: &mut Symbols,
+    terms: &mut TermTable,
+    made: &mut Vec<Made>,
+    name: &Name,
+    t: TermId,
+    id: StepId,
+) -> Result<(), Memory>
+    requires known { AreKnownSymbols terms.old symbols.old }
+    requires term { IsTermAt terms.old t.0 }
+    ensures takes { OnOk result (symbols_at terms.old symbols.new ≡ symbols_at terms.old symbols.old ++ Symbol.defined (Definition.constant name.now (term_at terms.old t.0)) ∷ []) }
+    ensures fits { OnOk result (constant_fault (symbols_at terms.old symbols.old) name.now (term_at terms.old t.0) ≡ None) }
+    ensures noted { OnOk result (made.new.items ≡ (made.old.items ++ one.Const name.now ∷ []) ++ one.Step id ∷ []) }
+    ensures untaken { OnErr result (symbols.new ≡ symbols.old) }
+    ensures unnoted { OnErr result (made.new.items ≡ made.old.items) }
+    ensures known { AreKnownSymbols terms.old symbols.new }
+    ensures table { terms.new ≡ terms.old }
+{
+    made.reserve(2)?;
+    let own = name.clone()?;
+    match symbols.define(terms, name, t) {
+        Ok(()) => {
+            made.push_reserved(Made::Const(own));
+            made.push_reserved(Made::Step(id));
+            Ok(())
         }
+        Err(_) => Err(Memory),
     }
 }
 
@@ -123,14 +183,26 @@ pub(crate) fn constant_of(
     let Ok(variable) = Name::single(alloc, b"A") else {
         return Err(Memory);
     };
-    let Ok(general) = terms.ty_var(&variable) else {
+    let Ok(constant) = general_constant(terms, name, &variable) else {
+        return Err(Memory);
+    };
+    let mut pairs = Vec::new(alloc);
+    pairs.push((variable, ty))?;
+    let made = terms.substituted(&pairs, &[], constant);
+    drop(pairs);
+    made
+}
+
+// The constant of this name at a type variable.
+fn general_constant(terms: &mut TermTable, name: &Name, variable: &Name) -> Result<TermId, Memory>
+    ensures made { IfOk result (λ id. IsNumberOf terms.new id (constant_tree name.now (type_variable variable.now))) }
+    ensures keeps { Keeps terms.old terms.new }
+{
+    let Ok(general) = terms.ty_var(variable) else {
         return Err(Memory);
     };
     let Ok(constant) = terms.constant(name, general) else {
         return Err(Memory);
     };
-    let mut pairs = Vec::new(alloc);
-    pairs.push((variable, ty))?;
-    let made = terms.substituted(&pairs, &[], constant)?;
-    Ok(made)
+    Ok(constant)
 }

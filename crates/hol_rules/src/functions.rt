@@ -121,6 +121,14 @@ impl Proof {
     }
 }
 
+// A variable, copied.
+pub(crate) fn own_variable(var: &Variable) -> Result<Variable, Memory>
+    ensures { IfOk result (λ own. own ≡ var.now) }
+{
+    let name = var.name.clone()?;
+    Ok(Variable { name, ty: var.ty })
+}
+
 // Whether a variable is free in some of the terms.
 fn is_free_in_any(
     terms: &TermTable,

@@ -1,14 +1,17 @@
 //! The rules that change hypotheses, and those that state a sequent.
-ghost use Rattle.std.specs.Prelude.{◌<◌};
+ghost use Rattle.std.specs.Prelude.{◌<◌, IfOk};
+ghost use Rattle.hol_spec.specs.Proofs.{sequent_at};
+ghost use Rattle.hol_spec.specs.Rules.{joined, removed};
 ghost use Rattle.hol_rules.specs.Conclusions.{Concludes};
 ghost use Rattle.hol_rules.specs.Kept.{step_count};
+ghost use Rattle.hol_rules.specs.Premises.{AreNumbersOf};
 ghost use Rattle.hol_rules.specs.Steps.{deduct_antisym_step, prove_hyp_step};
 
 use crate::made::{Parameters, StepId};
 use crate::proof::Proof;
-use bridge_base::Fault;
+use bridge_base::{Fault, Memory};
 use hol_spec::StepKind;
-use sequent::Sequent;
+use sequent::{Hyps, Sequent};
 
 impl Proof {
     /// Two truth values, each derived from the other, are equal.
@@ -20,15 +23,25 @@ impl Proof {
         let p = self.concl(one);
         let q = self.concl(two);
         let concl = self.equation(p, q)?;
-        let first = self.removed(one, two)?;
-        let second = self.removed(two, one)?;
-        let hyps = self.united(&first, &second)?;
+        let hyps = self.apart(one, two)?;
         self.conclude(
             StepKind::DeductAntisym,
             &[one, two],
             Parameters::Nothing,
             Sequent { hyps, concl },
         )
+    }
+
+    // The hypotheses of two steps, those of each without the conclusion of the other.
+    fn apart(&self, one: StepId, two: StepId) -> Result<Hyps, Memory>
+        requires one { one < step_count self.now }
+        requires two { two < step_count self.now }
+        ensures { IfOk result (λ hyps. AreNumbersOf self.now.trees hyps (joined (removed (sequent_at self.now.made one).hypotheses (sequent_at self.now.made two).conclusion) (removed (sequent_at self.now.made two).hypotheses (sequent_at self.now.made one).conclusion))) }
+    {
+        let first = self.removed(one, two)?;
+        let second = self.removed(two, one)?;
+        let hyps = self.united(&first, &second)?;
+        Ok(hyps)
     }
 
     /// A theorem without the hypothesis that another one proves: `two` has it, `one` proves it.

@@ -134,8 +134,7 @@ fn composed(
     let first = constant_of(alloc, terms, inner, inner_type)?;
     let second = constant_of(alloc, terms, outer, outer_type)?;
     let part = terms.application(first, x)?;
-    let made = terms.application(second, part)?;
-    Ok(made)
+    terms.application(second, part)
 }
 
 // The abstractions of two trees over a variable, in an equation at this type.
@@ -155,8 +154,7 @@ fn abstractions(
 {
     let left = terms.abstraction(variable, left)?;
     let right = terms.abstraction(variable, right)?;
-    let made = terms.equation(ty, left, right)?;
-    Ok(made)
+    terms.equation(ty, left, right)
 }
 
 // The conclusion of the first law, `(\a. abs (rep a)) = (\a. a)`.
@@ -178,13 +176,31 @@ pub(crate) fn first_law(
         name,
         ty: types.part,
     };
-    let Ok(own) = terms.free(&variable.name, types.part) else {
+    let made = first_law_over(alloc, terms, abs, rep, types, &variable);
+    drop(variable);
+    made
+}
+
+// The conclusion of the first law, over this variable.
+fn first_law_over(
+    alloc: Global,
+    terms: &mut TermTable,
+    abs: &Name,
+    rep: &Name,
+    types: NewTypes,
+    variable: &Variable,
+) -> Result<TermId, Memory>
+    requires types { AreKnownTypes terms.old types }
+    requires variable { variable.now.ty.0 < length terms.old.types }
+    ensures made { IfOk result (λ id. IsNumberOf terms.new id (first_tree abs.now rep.now (type_at terms.old variable.now.ty.0) (type_at terms.old types.abs.0) (type_at terms.old types.rep.0))) }
+    ensures keeps { Keeps terms.old terms.new }
+{
+    let Ok(own) = terms.free(&variable.name, variable.ty) else {
         return Err(Memory);
     };
     let both = composed(alloc, terms, abs, types.abs, rep, types.rep, own)?;
-    let ty = function_type(alloc, terms, types.part, types.part)?;
-    let made = abstractions(terms, &variable, both, own, ty)?;
-    Ok(made)
+    let ty = function_type(alloc, terms, variable.ty, variable.ty)?;
+    abstractions(terms, variable, both, own, ty)
 }
 
 // The conclusion of the second law, `(\r. rep (abs r) = r) = (\r. f r)`, where f has no free variable.
@@ -208,14 +224,35 @@ pub(crate) fn second_law(
         return Err(Memory);
     };
     let variable = Variable { name, ty: whole };
-    let Ok(own) = terms.free(&variable.name, whole) else {
+    let made = second_law_over(alloc, terms, abs, rep, types, &variable, predicate);
+    drop(variable);
+    made
+}
+
+// The conclusion of the second law, over this variable.
+fn second_law_over(
+    alloc: Global,
+    terms: &mut TermTable,
+    abs: &Name,
+    rep: &Name,
+    types: NewTypes,
+    variable: &Variable,
+    predicate: TermId,
+) -> Result<TermId, Memory>
+    requires types { AreKnownTypes terms.old types }
+    requires variable { variable.now.ty.0 < length terms.old.types }
+    requires predicate { predicate.0 < length terms.old.terms }
+    requires closed { IsWithoutVariables (term_at terms.old predicate.0) }
+    ensures made { IfOk result (λ id. IsNumberOf terms.new id (second_tree abs.now rep.now (type_at terms.old variable.now.ty.0) (type_at terms.old types.abs.0) (type_at terms.old types.rep.0) (term_at terms.old predicate.0))) }
+    ensures keeps { Keeps terms.old terms.new }
+{
+    let Ok(own) = terms.free(&variable.name, variable.ty) else {
         return Err(Memory);
     };
     let both = composed(alloc, terms, rep, types.rep, abs, types.abs, own)?;
-    let back = terms.equation(whole, both, own)?;
+    let back = terms.equation(variable.ty, both, own)?;
     let holds = terms.application(predicate, own)?;
     let truth = truth_type(alloc, terms)?;
-    let ty = function_type(alloc, terms, whole, truth)?;
-    let made = abstractions(terms, &variable, back, holds, ty)?;
-    Ok(made)
+    let ty = function_type(alloc, terms, variable.ty, truth)?;
+    abstractions(terms, variable, back, holds, ty)
 }

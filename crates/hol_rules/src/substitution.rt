@@ -11,6 +11,7 @@ ghost use Rattle.hol_rules.specs.Kept.{step_count, Grows};
 ghost use Rattle.hol_rules.specs.Premises.{IsNumberOf, IsStated};
 ghost use Rattle.hol_rules.specs.Steps.{subst_step, substituted};
 
+use crate::functions::own_variable;
 use crate::made::{Parameters, StepId, Substitution};
 use crate::proof::Proof;
 use bridge_base::{Fault, Kind, Memory};
@@ -141,7 +142,8 @@ fn copied_types(alloc: Global, pairs: &[(Name, TypeId)]) -> Result<Vec<(Name, Ty
 {
     let mut copy = Vec::new(alloc);
     for (name, ty) in pairs {
-        copy.push((name.clone()?, *ty))?;
+        copy.reserve(1)?;
+        copy.push_reserved((name.clone()?, *ty));
     }
     Ok(copy)
 }
@@ -155,12 +157,9 @@ fn copied_terms(
 {
     let mut copy = Vec::new(alloc);
     for (variable, id) in pairs {
-        let name = variable.name.clone()?;
-        let own = Variable {
-            name,
-            ty: variable.ty,
-        };
-        copy.push((own, *id))?;
+        copy.reserve(1)?;
+        let own = own_variable(variable)?;
+        copy.push_reserved((own, *id));
     }
     Ok(copy)
 }

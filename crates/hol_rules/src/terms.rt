@@ -2,6 +2,7 @@
 ghost use Rattle.std.specs.Prelude.{◌≡◌, ◌<◌, ◌++◌, length, map, IfOk, IfErr, OnOk, OnErr};
 ghost use Rattle.bridge_base.specs.declared.faults.Fault.TheVariants as the_fault;
 ghost use Rattle.hol_defs.specs.Refusals.{FitsGeneric, FitsArity, RefusesConstant, RefusesOperator};
+ghost use Rattle.hol_defs.specs.Symbols.{symbols_at, AreKnownSymbols};
 ghost use Rattle.hol_spec.specs.Limits.{TermWithin, TypeWithin};
 ghost use Rattle.hol_spec.specs.Proofs as proof;
 ghost use Rattle.hol_spec.specs.Proofs.{symbols_of};
@@ -10,18 +11,20 @@ ghost use Rattle.hol_spec.specs.Symbols.{generic_type, operator_arity, new_const
 ghost use Rattle.hol_spec.specs.Terms.{IsTerm, free as free_tree, constant as constant_tree, app as app_tree};
 ghost use Rattle.hol_spec.specs.Types.{variable, operator, types_of};
 ghost use Rattle.hol_term.specs.Refusals.{RefusesTerm, RefusesTyped};
-ghost use Rattle.hol_term.specs.Tables.{term_at, type_at, IsTermAt};
+ghost use Rattle.hol_term.specs.Tables.{term_at, type_at, IsTermAt, Trees};
 ghost use Rattle.hol_type.specs.Refusals.{RefusesType};
 ghost use Rattle.hol_type.specs.Tables as type;
 ghost use Rattle.hol_rules.specs.Kept.{Grows};
 ghost use Rattle.hol_rules.specs.Premises.{IsNumberOf};
 ghost use Rattle.hol_rules.specs.Views.{variable_view};
+ghost use Rattle.hol_rules.specs.declared.made.Made.TheVariants as one;
 
 use crate::made::Made;
 use crate::proof::Proof;
 use bridge_base::Fault;
+use hol_defs::Symbols;
 use hol_name::Name;
-use hol_term::{TermId, Variable};
+use hol_term::{TermId, TermTable, Variable};
 use hol_type::TypeId;
 
 impl Proof {
@@ -109,23 +112,7 @@ impl Proof {
         ensures unchanged { OnErr result (self.new.made ≡ self.old.made) }
         ensures trees { self.new.trees ≡ self.old.trees }
     {
-        let own = name.clone()?;
-        let count = self.symbols.count();
-        let place = self.made.len();
-        self.made.push(Made::InputConst(own))?;
-        match self.symbols.use_const(&mut self.terms, name, ty) {
-            Ok(()) => {
-                if self.symbols.count() > count {
-                    return Ok(());
-                }
-                self.made.truncate(place);
-                Ok(())
-            }
-            Err(fault) => {
-                self.made.truncate(place);
-                Err(fault)
-            }
-        }
+        use_constant(&mut self.symbols, &mut self.terms, &mut self.made, name, ty)
     }
 
     /// The use of an operator of this name with `arity` arguments: it is taken where it is no operator yet. It is
@@ -137,22 +124,82 @@ impl Proof {
         ensures unchanged { OnErr result (self.new.made ≡ self.old.made) }
         ensures trees { self.new.trees ≡ self.old.trees }
     {
-        let own = name.clone()?;
-        let count = self.symbols.count();
-        let place = self.made.len();
-        self.made.push(Made::InputOp(own, arity))?;
-        match self.symbols.use_op(name, arity) {
-            Ok(()) => {
-                if self.symbols.count() > count {
-                    return Ok(());
-                }
-                self.made.truncate(place);
-                Ok(())
+        use_operator(&mut self.symbols, &mut self.made, name, arity)
+    }
+}
+
+// The use of a constant, which is noted as made where it is taken. It is noted first, so that nothing fails once it is
+// taken.
+fn use_constant(
+    symbols: &mut Symbols,
+    terms: &mut TermTable,
+    made: &mut Vec<Made>,
+    name: &Name,
+    ty: TypeId,
+) -> Result<(), Fault>
+    requires known { AreKnownSymbols terms.old symbols.old }
+    requires ty { ty.0 < length terms.old.types }
+    ensures takes { OnOk result (symbols_at terms.old symbols.new ≡ symbols_at terms.old symbols.old ++ new_constant (symbols_at terms.old symbols.old) name.now) }
+    ensures noted { OnOk result (made.new.items ≡ made.old.items ++ map (λ _. one.InputConst name.now) (new_constant (symbols_at terms.old symbols.old) name.now)) }
+    ensures fits { OnOk result (FitsGeneric (generic_type (symbols_at terms.old symbols.old) name.now) (type_at terms.old ty.0)) }
+    ensures refusal { IfErr result (λ fault. RefusesConstant fault (generic_type (symbols_at terms.old symbols.old) name.now) (type_at terms.old ty.0)) }
+    ensures untaken { OnErr result (symbols.new ≡ symbols.old) }
+    ensures unnoted { OnErr result (made.new.items ≡ made.old.items) }
+    ensures known { AreKnownSymbols terms.old symbols.new }
+    ensures table { terms.new ≡ terms.old }
+{
+    made.reserve(1)?;
+    let own = name.clone()?;
+    let count = symbols.count();
+    let place = made.len();
+    made.push_reserved(Made::InputConst(own));
+    match symbols.use_const(terms, name, ty) {
+        Ok(()) => {
+            if symbols.count() > count {
+                return Ok(());
             }
-            Err(fault) => {
-                self.made.truncate(place);
-                Err(fault)
+            made.truncate(place);
+            Ok(())
+        }
+        Err(fault) => {
+            made.truncate(place);
+            Err(fault)
+        }
+    }
+}
+
+// The use of an operator, which is noted as made where it is taken. It is noted first, so that nothing fails once it is
+// taken.
+fn use_operator(
+    symbols: &mut Symbols,
+    made: &mut Vec<Made>,
+    name: &Name,
+    arity: usize,
+) -> Result<(), Fault>
+    ensures takes { OnOk result ((trees : Trees) → symbols_at trees symbols.new ≡ symbols_at trees symbols.old ++ new_operator (symbols_at trees symbols.old) name.now arity) }
+    ensures noted { OnOk result ((trees : Trees) → made.new.items ≡ made.old.items ++ map (λ _. one.InputOp name.now arity) (new_operator (symbols_at trees symbols.old) name.now arity)) }
+    ensures fits { OnOk result ((trees : Trees) → FitsArity (operator_arity (symbols_at trees symbols.old) name.now) arity) }
+    ensures refusal { IfErr result (λ fault. (trees : Trees) → RefusesOperator fault (operator_arity (symbols_at trees symbols.old) name.now) arity) }
+    ensures untaken { OnErr result (symbols.new ≡ symbols.old) }
+    ensures unnoted { OnErr result (made.new.items ≡ made.old.items) }
+    ensures known { (trees : Trees) → AreKnownSymbols trees symbols.old → AreKnownSymbols trees symbols.new }
+{
+    made.reserve(1)?;
+    let own = name.clone()?;
+    let count = symbols.count();
+    let place = made.len();
+    made.push_reserved(Made::InputOp(own, arity));
+    match symbols.use_op(name, arity) {
+        Ok(()) => {
+            if symbols.count() > count {
+                return Ok(());
             }
+            made.truncate(place);
+            Ok(())
+        }
+        Err(fault) => {
+            made.truncate(place);
+            Err(fault)
         }
     }
 }

@@ -1,26 +1,29 @@
 //! Definitions of type operators.
-ghost use Rattle.std.specs.Prelude.{◌≡◌, ◌<◌, ◌∷◌, [], ◌++◌, ◌+◌, ◌-◌, ◌^◌, ◌&&◌, if◌then◌else◌, List, None, length, min, nat_le, IfOk, IfErr, OnOk, OnErr};
-ghost use Rattle.article_spec.specs.Conditions.{in_limits};
+ghost use Rattle.std.specs.Prelude.{◌≡◌, ◌<◌, ◌∷◌, [], ◌++◌, ◌+◌, ◌-◌, ◌^◌, ◌&&◌, if◌then◌else◌, List, None, length, min, nat_le, true, IfOk, IfErr, OnOk, OnErr};
+ghost use Rattle.article_spec.specs.Conditions.{demand, in_limits};
 ghost use Rattle.article_spec.specs.Results.{Fails};
 ghost use Rattle.bridge_base.specs.declared.faults.Fault.TheVariants.{Refused};
-ghost use Rattle.bridge_base.specs.declared.faults.Kind.TheVariants.{NameTaken, NotTheSequent};
+ghost use Rattle.bridge_base.specs.declared.faults.Kind.TheVariants.{NameTaken, NotTheSequent, TooManyParams};
 ghost use Rattle.hol_defs.specs.Faults.{are_new as are_new_names, operator_fault, Refuses};
 ghost use Rattle.hol_defs.specs.Symbols.{named, symbols_at, AreKnownSymbols};
 ghost use Rattle.hol_spec.specs.Definitions.{Definition, TypeNames};
 ghost use Rattle.hol_spec.specs.Limits.{greatest_parameter_count};
 ghost use Rattle.hol_spec.specs.Names.{Name as AName};
 ghost use Rattle.hol_spec.specs.Proofs.{symbols_of};
+ghost use Rattle.hol_spec.specs.Rules.{Parameters as RuleParameters};
 ghost use Rattle.hol_spec.specs.Sequents.{parameter_count};
 ghost use Rattle.hol_spec.specs.Symbols.{Symbol};
 ghost use Rattle.hol_spec.specs.Terms.{Term, app, HasType};
 ghost use Rattle.hol_spec.specs.Types.{HolType};
-ghost use Rattle.hol_term.specs.Tables.{term_at, type_at, IsTermAt, Keeps};
+ghost use Rattle.hol_params.specs.Noted.{AreNoted};
+ghost use Rattle.hol_term.specs.Tables.{term_at, type_at, IsTermAt, Keeps, Trees};
 ghost use Rattle.sequent.specs.Sequents.{sequent_at, IsKnown};
 ghost use Rattle.hol_rules.specs.declared.made.Made.TheVariants as one_made;
 ghost use Rattle.hol_rules.specs.Conclusions.{with_type, DefinesType};
 ghost use Rattle.hol_rules.specs.Kept.{step_count, Grows};
 ghost use Rattle.hol_rules.specs.Laws.{larger_law_size, second_law_depth, AreLaws, AreLawSteps, AreSmall, AreTypeParts, IsLawPushed, IsLawStep, IsWithoutVariables};
 ghost use Rattle.hol_rules.specs.Steps.{made_of_type, type_laws, type_measures};
+ghost use Rattle.hol_rules.specs.Views.{parameters_view, AreParametersKnown};
 
 use crate::laws::{first_law, new_types, second_law};
 use crate::made::{Made, Parameters, Step, StepId};
@@ -28,6 +31,7 @@ use crate::proof::Proof;
 use bridge_base::{Fault, Kind, Memory};
 use hol_defs::Symbols;
 use hol_name::Name;
+use hol_params::ParamMemo;
 use hol_spec::{GREATEST_DEPTH, GREATEST_PARAMETER_COUNT, GREATEST_SIZE, StepKind};
 use hol_term::{TermId, TermTable, TermView};
 use hol_type::TypeId;
@@ -73,9 +77,7 @@ impl Proof {
         judge_measures(self.terms(), names.len(), parts)?;
         self.is_proof();
         let laws = self.laws(op, abs, rep, names, parts)?;
-        if !self.are_counted(&laws)? {
-            return Err(Fault::Refused(Kind::TooManyParams));
-        }
+        self.judge_laws(&laws)?;
         let ids = self.keep_type(op, abs, rep, names, one, parts, laws)?;
         Ok(ids)
     }
@@ -159,6 +161,20 @@ impl Proof {
         laws_of(self.alloc, &mut self.terms, op, abs, rep, names, parts)
     }
 
+    // Refuses laws of which one has too many parameters.
+    fn judge_laws(&mut self, laws: &Laws) -> Result<(), Fault>
+        requires first { IsKnown self.old.trees laws.now.first }
+        requires second { IsKnown self.old.trees laws.now.second }
+        ensures few { OnOk result ((nat_le (parameter_count (sequent_at self.old.trees laws.now.first)) greatest_parameter_count && nat_le (parameter_count (sequent_at self.old.trees laws.now.second)) greatest_parameter_count) ≡ true) }
+        ensures refused { IfErr result (λ fault. Fails fault (demand (nat_le (parameter_count (sequent_at self.old.trees laws.now.first)) greatest_parameter_count && nat_le (parameter_count (sequent_at self.old.trees laws.now.second)) greatest_parameter_count) TooManyParams)) }
+        ensures unchanged { self.new ≡ self.old }
+    {
+        if !self.are_counted(laws)? {
+            return Err(Fault::Refused(Kind::TooManyParams));
+        }
+        Ok(())
+    }
+
     // Whether neither law has too many parameters.
     fn are_counted(&mut self, laws: &Laws) -> Result<bool, Memory>
         requires first { IsKnown self.old.trees laws.now.first }
@@ -166,15 +182,10 @@ impl Proof {
         ensures counted { IfOk result (λ counted. counted ≡ (nat_le (parameter_count (sequent_at self.old.trees laws.now.first)) greatest_parameter_count && nat_le (parameter_count (sequent_at self.old.trees laws.now.second)) greatest_parameter_count)) }
         ensures unchanged { self.new ≡ self.old }
     {
-        if self.params.count(&self.terms, &laws.first)? > GREATEST_PARAMETER_COUNT {
-            return Ok(false);
-        }
-        let count = self.params.count(&self.terms, &laws.second)?;
-        Ok(count <= GREATEST_PARAMETER_COUNT)
+        are_few(&self.terms, &mut self.params, laws)
     }
 
-    // The type operator is defined, and the steps of its laws become the last. The steps are let go again where the
-    // operator isn't taken.
+    // The type operator is defined, and the steps of its laws become the last.
     fn keep_type(
         &mut self,
         op: &Name,
@@ -193,33 +204,75 @@ impl Proof {
         ensures unchanged { OnErr result (self.new.made ≡ self.old.made) }
         ensures keeps { Keeps self.old.trees self.new.trees }
     {
-        let (first, second) = push_laws(
+        keep_laws(
             self.alloc,
-            &mut self.steps,
-            op,
-            abs,
-            rep,
-            names,
-            one,
-            laws,
-        )?;
-        match take_type(
             &mut self.symbols,
             &mut self.terms,
+            &mut self.steps,
             &mut self.made,
             op,
             abs,
             rep,
             names,
+            one,
             parts.concl,
-            first,
-            second,
-        ) {
-            Ok(()) => Ok((first, second)),
-            Err(_) => {
-                self.steps.truncate(first);
-                Err(Memory)
-            }
+            laws,
+        )
+    }
+}
+
+// Whether neither law has too many parameters.
+fn are_few(terms: &TermTable, params: &mut ParamMemo, laws: &Laws) -> Result<bool, Memory>
+    requires first { IsKnown terms.now laws.now.first }
+    requires second { IsKnown terms.now laws.now.second }
+    requires noted { AreNoted terms.now params.old }
+    ensures counted { IfOk result (λ counted. counted ≡ (nat_le (parameter_count (sequent_at terms.now laws.now.first)) greatest_parameter_count && nat_le (parameter_count (sequent_at terms.now laws.now.second)) greatest_parameter_count)) }
+    ensures noted { AreNoted terms.now params.new }
+{
+    if params.count(terms, &laws.first)? > GREATEST_PARAMETER_COUNT {
+        return Ok(false);
+    }
+    let count = params.count(terms, &laws.second)?;
+    Ok(count <= GREATEST_PARAMETER_COUNT)
+}
+
+// The type operator is taken, and the steps of its laws become the last. The steps are let go again where the operator
+// isn't taken. The answer is their numbers.
+fn keep_laws(
+    alloc: Global,
+    symbols: &mut Symbols,
+    terms: &mut TermTable,
+    steps: &mut Vec<Step>,
+    made: &mut Vec<Made>,
+    op: &Name,
+    abs: &Name,
+    rep: &Name,
+    names: &[Name],
+    one: StepId,
+    concl: TermId,
+    laws: Laws,
+) -> Result<(StepId, StepId), Memory>
+    requires known { AreKnownSymbols terms.old symbols.old }
+    requires term { IsTermAt terms.old concl.0 }
+    requires application { (f : Term) × ((t : Term) × (term_at terms.old concl.0 ≡ app f t)) }
+    ensures numbers { IfOk result (λ ids. (ids.0 ≡ length steps.old.items) × (ids.1 ≡ length steps.old.items + 1)) }
+    ensures takes { OnOk result ((f t : Term) (c : HolType) → term_at terms.old concl.0 ≡ app f t → HasType t c → symbols_at terms.new symbols.new ≡ symbols_at terms.old symbols.old ++ Symbol.defined (Definition.type_operator (named op.now abs.now rep.now names.now) c f) ∷ []) }
+    ensures noted { OnOk result (made.new.items ≡ ((made.old.items ++ one_made.TypeOp op.now ∷ []) ++ one_made.Step (length steps.old.items) ∷ []) ++ one_made.Step (length steps.old.items + 1) ∷ []) }
+    ensures kept { OnOk result (AreLawSteps (named op.now abs.now rep.now names.now) one laws steps.old.items steps.new.items) }
+    ensures untaken { OnErr result (symbols.new ≡ symbols.old) }
+    ensures unnoted { OnErr result (made.new.items ≡ made.old.items) }
+    ensures unkept { OnErr result (steps.new.items ≡ steps.old.items) }
+    ensures known { AreKnownSymbols terms.new symbols.new }
+    ensures keeps { Keeps terms.old terms.new }
+{
+    let (first, second) = push_laws(alloc, steps, op, abs, rep, names, one, laws)?;
+    match take_type(
+        symbols, terms, made, op, abs, rep, names, concl, first, second,
+    ) {
+        Ok(()) => Ok((first, second)),
+        Err(_) => {
+            steps.truncate(first);
+            Err(Memory)
         }
     }
 }
@@ -248,8 +301,8 @@ fn take_type(
     ensures known { AreKnownSymbols terms.new symbols.new }
     ensures keeps { Keeps terms.old terms.new }
 {
-    let own = op.clone()?;
     made.reserve(3)?;
+    let own = op.clone()?;
     match symbols.define_op(terms, op, abs, rep, names, concl) {
         Ok(()) => {
             made.push_reserved(Made::TypeOp(own));
@@ -322,9 +375,10 @@ fn push_law(
     ensures pushed { OnOk result (IsLawPushed kind (named op.now abs.now rep.now names.now) one sequent steps.old.items steps.new.items) }
     ensures unchanged { OnErr result (steps.new.items ≡ steps.old.items) }
 {
-    let step = law_step(alloc, kind, op, abs, rep, names, one, sequent)?;
     let id = steps.len();
-    steps.push(step)?;
+    steps.reserve(1)?;
+    let step = law_step(alloc, kind, op, abs, rep, names, one, sequent)?;
+    steps.push_reserved(step);
     Ok(id)
 }
 
@@ -342,21 +396,35 @@ fn law_step(
     ensures { IfOk result (λ step. IsLawStep kind (named op.now abs.now rep.now names.now) one sequent step) }
 {
     let premises = Vec::from_slice(alloc, &[one])?;
-    let names = copied(alloc, names)?;
-    let op = op.clone()?;
-    let abs = abs.clone()?;
-    let rep = rep.clone()?;
-    let parameters = Parameters::TypeOp {
-        op,
-        abs,
-        rep,
-        names,
-    };
+    let parameters = law_parameters(alloc, op, abs, rep, names)?;
     Ok(Step {
         kind,
         premises,
         parameters,
         sequent,
+    })
+}
+
+// What the rule of a law was given: the names, each copied.
+fn law_parameters(
+    alloc: Global,
+    op: &Name,
+    abs: &Name,
+    rep: &Name,
+    names: &[Name],
+) -> Result<Parameters, Memory>
+    ensures given { IfOk result (λ p. (trees : Trees) → parameters_view trees p ≡ RuleParameters.type_operator (named op.now abs.now rep.now names.now)) }
+    ensures known { IfOk result (λ p. (trees : Trees) → AreParametersKnown trees p) }
+{
+    let names = copied(alloc, names)?;
+    let op = op.clone()?;
+    let abs = abs.clone()?;
+    let rep = rep.clone()?;
+    Ok(Parameters::TypeOp {
+        op,
+        abs,
+        rep,
+        names,
     })
 }
 
@@ -397,7 +465,8 @@ fn copied(alloc: Global, names: &[Name]) -> Result<Vec<Name>, Memory>
 {
     let mut copy = Vec::new(alloc);
     for name in names {
-        copy.push(name.clone()?)?;
+        copy.reserve(1)?;
+        copy.push_reserved(name.clone()?);
     }
     Ok(copy)
 }

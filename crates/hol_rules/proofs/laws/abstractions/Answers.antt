@@ -5,11 +5,29 @@ use Rattle.hol_term.specs.TableLaws.{Keeps-trans}
 use Rattle.hol_rules.specs.Premises.{IsNumberOf}
 use Rattle.hol_rules.specs.Views.{variable_view}
 use Rattle.hol_rules.proofs.ConstantImage.{held}
-use Rattle.hol_rules.proofs.LawTrees.{equated, own-number, own-type, number-kept, type-kept, variable-kept}
+use Rattle.hol_rules.proofs.LawTrees.{IfOk-equated, own-number, own-type, number-kept, type-kept, variable-kept}
 use Rattle.hol_rules.proofs.laws.abstractions.Goals as goal
 
-pub returns-in_err-made-clause-keeps : goal.returns-in_err-made-clause-keeps
-returns-in_err-made-clause-keeps c = Keeps-trans (Keeps-trans c.abstraction.ensures.keeps c.abstraction-2.ensures.keeps) c.equation.ensures.keeps
+pub abstraction-requires-2-clause-variable : goal.abstraction-requires-2-clause-variable
+abstraction-requires-2-clause-variable c = (type-kept c.abstraction.ensures.keeps (own-type c.args.terms.now c.args.variable.now.ty c.requires.variable)).known
+
+pub abstraction-requires-2-clause-body : goal.abstraction-requires-2-clause-body
+abstraction-requires-2-clause-body c = (number-kept c.abstraction.ensures.keeps (own-number c.args.terms.now c.args.right c.requires.right)).known
+
+pub equation-requires-clause-ty : goal.equation-requires-clause-ty
+equation-requires-clause-ty c = (type-kept (Keeps-trans c.abstraction.ensures.keeps c.abstraction-2.ensures.keeps) (own-type c.args.terms.now c.args.ty c.requires.ty)).known
+
+pub equation-requires-clause-left : goal.equation-requires-clause-left
+equation-requires-clause-left c = (number-kept c.abstraction-2.ensures.keeps (own-number c.abstraction.new.self c.in_ok-left.left c.in_ok-left.ensures.known)).known
+
+pub equation-requires-clause-right : goal.equation-requires-clause-right
+equation-requires-clause-right c = c.in_ok-right.ensures.known
+
+pub returns-in_err-right-clause-keeps : goal.returns-in_err-right-clause-keeps
+returns-in_err-right-clause-keeps c = Keeps-trans c.abstraction.ensures.keeps c.abstraction-2.ensures.keeps
+
+pub returns-clause-keeps : goal.returns-clause-keeps
+returns-clause-keeps c = Keeps-trans (Keeps-trans c.abstraction.ensures.keeps c.abstraction-2.ensures.keeps) c.equation.ensures.keeps
 
 pub returns-clause-made : goal.returns-clause-made
 returns-clause-made c =
@@ -21,7 +39,4 @@ returns-clause-made c =
     let same = variable-kept c.abstraction.ensures.keeps v c.requires.variable in
     let tree = (number-kept c.abstraction.ensures.keeps (own-number k0 c.args.right c.requires.right)).is in
     let second = subst (IsNumberOf k2 c.in_ok-right.right) (λ i. abstraction (same i) (tree i)) (held k2 c.in_ok-right.right (abstraction (variable_view k1 v) (term_at k1 c.args.right.0)) c.in_ok-right.ensures.known c.in_ok-right.ensures.made) in
-    equated k2 c.equation.new.self c.args.ty c.in_ok-left.left c.in_ok-right.right c.in_ok-made.made _ _ _ (type-kept (Keeps-trans c.abstraction.ensures.keeps c.abstraction-2.ensures.keeps) (own-type k0 c.args.ty c.requires.ty)) first second c.in_ok-made.ensures.known c.in_ok-made.ensures.made
-
-pub returns-clause-keeps : goal.returns-clause-keeps
-returns-clause-keeps c = Keeps-trans (Keeps-trans c.abstraction.ensures.keeps c.abstraction-2.ensures.keeps) c.equation.ensures.keeps
+    IfOk-equated k2 c.equation.new.self c.args.ty c.in_ok-left.left c.in_ok-right.right c.equation.result _ _ _ (type-kept (Keeps-trans c.abstraction.ensures.keeps c.abstraction-2.ensures.keeps) (own-type k0 c.args.ty c.requires.ty)) first second c.equation.ensures.known c.equation.ensures.made

@@ -39,3 +39,12 @@ returns-clause-made c =
 
 pub returns-clause-keeps : goal.returns-clause-keeps
 returns-clause-keeps c = Keeps-trans (Keeps-trans c.new_types.ensures.keeps c.first_law.ensures.keeps) c.second_law.ensures.keeps
+
+pub returns-in_err-types-clause-keeps : goal.returns-in_err-types-clause-keeps
+returns-in_err-types-clause-keeps c = c.new_types.ensures.keeps
+
+pub returns-in_err-first-clause-keeps : goal.returns-in_err-first-clause-keeps
+returns-in_err-first-clause-keeps c = Keeps-trans c.new_types.ensures.keeps c.first_law.ensures.keeps
+
+pub returns-in_err-second-clause-keeps : goal.returns-in_err-second-clause-keeps
+returns-in_err-second-clause-keeps c = Keeps-trans (Keeps-trans c.new_types.ensures.keeps c.first_law.ensures.keeps) c.second_law.ensures.keeps

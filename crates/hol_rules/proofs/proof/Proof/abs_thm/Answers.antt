@@ -1,3 +1,4 @@
+use Rattle.hol_rules.proofs.Concluded.{stopped, Grows-refl}
 use Rattle.hol_rules.proofs.proof.Proof.abs_thm.Goals as goal
 
 pub abs_thm_where-requires-clause-free : goal.abs_thm_where-requires-clause-free
@@ -11,3 +12,6 @@ abs_thm_where-requires-clause-one c = rw c.is_free_in_hyps.ensures.unchanged c.r
 
 pub returns : goal.returns
 returns c = rw c.is_free_in_hyps.ensures.unchanged at c.abs_thm_where.ensures
+
+pub returns-in_err-free : goal.returns-in_err-free
+returns-in_err-free c = stopped (rw c.is_free_in_hyps.ensures.unchanged (Grows-refl c.args.self.now)) _ c.from_residual.result c.from_residual.ensures.1

@@ -6,3 +6,9 @@ invariant_of-self c = IsKept-Keeps c.constant_of.ensures.keeps c.self.inside.sym
 
 pub returns-clause-grows : goal.returns-clause-grows
 returns-clause-grows c = rw (← c.self.view_is) (Grows-Keeps c.constant_of.ensures.keeps c.self.inside.symbols c.self.inside.steps.items c.self.inside.made.items c.self.invariant)
+
+pub constant_of-requires : goal.constant_of-requires
+constant_of-requires c = rw (← c.self.view_is) at c.requires
+
+pub returns-clause-made : goal.returns-clause-made
+returns-clause-made c = rw (← c.self.view_is) c.constant_of.ensures.made

@@ -1,28 +1,28 @@
-use Rattle.std.proofs.Common.{refl, ap, ◌∙◌}
-use Rattle.hol_rules.proofs.Pushed.{made_view-pushed, IsKept-pushed, take-pushed}
+use Rattle.std.proofs.Common.{refl, sym, ap, ◌∙◌}
+use Rattle.hol_rules.proofs.Answering.{IfOk-more, OnErr-both, OnErr-more, OnOk-both, OnOk-IfOk, OnOk-OnErr}
+use Rattle.hol_rules.proofs.Pushed.{made_view-pushed, step_count-kept, IsKept-pushed}
 use Rattle.hol_rules.proofs.proof.Proof.keep.Goals as goal
-use Rattle.hol_rules.proofs.proof.Proof.keep.Goals.{in-Ok, in-Err}
 
-pub invariant_of-self-in-Ok : goal.invariant_of-self-in-Ok
-invariant_of-self-in-Ok c = rw (c.in-Ok.ensures.items, c.in_ok-push.ensures.items, c.len-id.ensures ∙ c.self.inside.steps.ok.0) (
-    let r = rw (← c.self.view_is) at c.requires.known in
-    let f = rw (← c.self.view_is) at c.requires.follows in
-    IsKept-pushed c.self.inside.terms c.self.inside.symbols c.self.inside.steps.items c.self.inside.made.items c.self.invariant c.args.step r f
-    )
+pub invariant_of-self : goal.invariant_of-self
+invariant_of-self c =
+    let s = c.self.inside in
+    let r = c.keep_step.result in
+    let known = rw (← c.self.view_is) at c.requires.known in
+    let follows = rw (← c.self.view_is) at c.requires.follows in
+    OnOk-OnErr r (OnOk-both _ _ r c.keep_step.ensures.kept c.keep_step.ensures.noted) (OnErr-both _ _ r c.keep_step.ensures.unchanged c.keep_step.ensures.unnoted) (λ p. rw (p.0, p.1) (IsKept-pushed s.terms s.symbols s.steps.items s.made.items c.self.invariant c.args.step known follows)) (λ q. rw (q.0, q.1) c.self.invariant)
+
+pub returns-clause-number : goal.returns-clause-number
+returns-clause-number c =
+    let s = c.self.inside in
+    IfOk-more c.keep_step.result c.keep_step.ensures.number (λ id e. rw (← c.self.view_is) (e ∙ sym (step_count-kept s.terms s.symbols s.steps.items s.made.items c.self.invariant c.args.step)))
 
 pub returns-clause-kept : goal.returns-clause-kept
-returns-clause-kept c = elim c.match-push.branch [
-  | in-Ok w ↦ rw (w.result-is, w.self-is, ← c.self.view_is, w.in-Ok.ensures.items, c.in_ok-push.ensures.items, c.len-id.ensures ∙ c.self.inside.steps.ok.0) (
-      ap (λ made. record { trees = c.self.inside.terms; made = made }) (made_view-pushed c.self.inside.terms c.self.inside.symbols c.self.inside.steps.items c.self.inside.made.items c.self.invariant c.args.step)
-      )
-  | in-Err w ↦ rw w.result-is tt
-]
-
-pub invariant_of-self-in-Err : goal.invariant_of-self-in-Err
-invariant_of-self-in-Err c = rw (c.in-Err.ensures.items, c.truncate.ensures.items, c.in_ok-push.ensures.items, c.len-count.ensures ∙ c.self.inside.made.ok.0, take-pushed c.self.inside.made.items _) c.self.invariant
+returns-clause-kept c =
+    let s = c.self.inside in
+    let r = c.keep_step.result in
+    OnOk-IfOk r (OnOk-both _ _ r c.keep_step.ensures.kept c.keep_step.ensures.noted) (λ p id. rw (← c.self.view_is, p.0, p.1) (ap (λ made. record { trees = s.terms; made = made }) (made_view-pushed s.terms s.symbols s.steps.items s.made.items c.self.invariant c.args.step)))
 
 pub returns-clause-unchanged : goal.returns-clause-unchanged
-returns-clause-unchanged c = elim c.match-push.branch [
-  | in-Ok w ↦ rw w.result-is tt
-  | in-Err w ↦ rw (w.result-is, w.self-is, ← c.self.view_is, w.in-Err.ensures.items, w.truncate.ensures.items, c.in_ok-push.ensures.items, c.len-count.ensures ∙ c.self.inside.made.ok.0, take-pushed c.self.inside.made.items _) refl
-]
+returns-clause-unchanged c =
+    let r = c.keep_step.result in
+    OnErr-more r (OnErr-both _ _ r c.keep_step.ensures.unchanged c.keep_step.ensures.unnoted) (λ q. rw (← c.self.view_is, q.0, q.1) refl)

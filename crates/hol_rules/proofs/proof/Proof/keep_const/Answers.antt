@@ -1,39 +1,59 @@
-use Rattle.std.proofs.Common.{refl, ap, ◌∙◌, ◌∷◌, []}
+use Rattle.std.proofs.Common.{refl, sym, ap, ◌∙◌, ◌∷◌, []}
 use Rattle.hol_spec.specs.Definitions.{Definition}
 use Rattle.hol_spec.specs.Symbols.{Symbol}
 use Rattle.hol_term.specs.Tables.{term_at}
-use Rattle.hol_rules.specs.declared.made.Made.TheVariants as one
+use Rattle.hol_rules.proofs.Answering.{IfOk-more, OnErr-both, OnErr-more, OnOk-both, OnOk-IfOk, OnOk-OnErr}
+use Rattle.hol_rules.proofs.Pushed.{step_count-kept}
 use Rattle.hol_rules.proofs.ConstantEnds.{const-newly}
 use Rattle.hol_rules.proofs.Defined.{made_view-defined, IsKept-defined}
+use Rattle.hol_rules.specs.declared.made.Made.TheVariants as one
 use Rattle.hol_rules.proofs.proof.Proof.keep_const.Goals as goal
 
-pub invariant_of-self-in-Ok : goal.invariant_of-self-in-Ok
-invariant_of-self-in-Ok c =
-    let trees = c.self.inside.terms in
+pub keep_constant-requires-clause-known : goal.keep_constant-requires-clause-known
+keep_constant-requires-clause-known c = c.self.invariant.symbols_known
+
+pub keep_constant-requires-clause-term : goal.keep_constant-requires-clause-term
+keep_constant-requires-clause-term c = rw (← c.self.view_is) at c.requires.term
+
+pub invariant_of-self : goal.invariant_of-self
+invariant_of-self c =
+    let s = c.self.inside in
+    let trees = s.terms in
+    let r = c.keep_constant.result in
+    let e = c.keep_constant.ensures in
     let t = term_at trees c.args.t.0 in
     let h = rw (← c.self.view_is) at c.requires.term in
     let known = rw (← c.self.view_is) at c.requires.known in
     let follows = rw (← c.self.view_is) at c.requires.follows in
-    let takes = rw c.in-Ok.ensures.table at c.in-Ok.ensures.takes in
-    let all = rw c.in-Ok.ensures.table at c.in-Ok.ensures.known in
-    rw (c.in-Ok.ensures.table, c.push_reserved-in-Ok-2.ensures.items, c.reserve-2.ensures.items, c.push_reserved-in-Ok.ensures.items, c.push_reserved.ensures.items, c.reserve.ensures.items, c.len-id.ensures ∙ c.self.inside.steps.ok.0) (
-    IsKept-defined trees c.self.inside.symbols c.self.inside.steps.items c.self.inside.made.items c.self.invariant c.define.new.self (one.Const c.in_ok-own.own ∷ []) (Symbol.defined (Definition.constant c.args.name.now t) ∷ [])
-    (const-newly trees c.self.inside.symbols c.define.new.self c.self.inside.steps.items c.args.name.now c.in_ok-own.own t h c.in_ok-own.ensures.cases takes all c.in-Ok.ensures.fits) c.args.step known follows
-    )
+    OnOk-OnErr r (OnOk-both _ _ r (OnOk-both _ _ r e.takes e.fits) (OnOk-both _ _ r e.noted e.kept)) (OnErr-both _ _ r e.untaken (OnErr-both _ _ r e.unnoted e.unkept))
+    (λ p. rw (e.table, p.1.0, p.1.1) (
+    IsKept-defined trees s.symbols s.steps.items s.made.items c.self.invariant c.keep_constant.new.symbols (one.Const c.args.name.now ∷ []) (Symbol.defined (Definition.constant c.args.name.now t) ∷ [])
+    (const-newly trees s.symbols c.keep_constant.new.symbols s.steps.items c.args.name.now c.args.name.now t h refl p.0.0 e.known p.0.1) c.args.step known follows
+    ))
+    (λ q. rw (e.table, q.0, q.1.0, q.1.1) c.self.invariant)
 
-pub returns-in-Ok-clause-kept : goal.returns-in-Ok-clause-kept
-returns-in-Ok-clause-kept c =
-    let trees = c.self.inside.terms in
+pub returns-clause-number : goal.returns-clause-number
+returns-clause-number c =
+    let s = c.self.inside in
+    IfOk-more c.keep_constant.result c.keep_constant.ensures.number (λ id e. rw (← c.self.view_is) (e ∙ sym (step_count-kept s.terms s.symbols s.steps.items s.made.items c.self.invariant c.args.step)))
+
+pub returns-clause-kept : goal.returns-clause-kept
+returns-clause-kept c =
+    let s = c.self.inside in
+    let trees = s.terms in
+    let r = c.keep_constant.result in
+    let e = c.keep_constant.ensures in
     let t = term_at trees c.args.t.0 in
     let h = rw (← c.self.view_is) at c.requires.term in
-    let takes = rw c.in-Ok.ensures.table at c.in-Ok.ensures.takes in
-    let all = rw c.in-Ok.ensures.table at c.in-Ok.ensures.known in
-    rw (← c.self.view_is, c.in-Ok.ensures.table, c.push_reserved-in-Ok-2.ensures.items, c.reserve-2.ensures.items, c.push_reserved-in-Ok.ensures.items, c.push_reserved.ensures.items, c.reserve.ensures.items, c.len-id.ensures ∙ c.self.inside.steps.ok.0) (
+    OnOk-IfOk r (OnOk-both _ _ r (OnOk-both _ _ r e.takes e.fits) (OnOk-both _ _ r e.noted e.kept)) (λ p id. rw (← c.self.view_is, e.table, p.1.0, p.1.1) (
     ap (λ made. record { trees = trees; made = made }) (
-    made_view-defined trees c.self.inside.symbols c.self.inside.steps.items c.self.inside.made.items c.self.invariant c.define.new.self (one.Const c.in_ok-own.own ∷ []) (Symbol.defined (Definition.constant c.args.name.now t) ∷ [])
-    (const-newly trees c.self.inside.symbols c.define.new.self c.self.inside.steps.items c.args.name.now c.in_ok-own.own t h c.in_ok-own.ensures.cases takes all c.in-Ok.ensures.fits) c.args.step
+    made_view-defined trees s.symbols s.steps.items s.made.items c.self.invariant c.keep_constant.new.symbols (one.Const c.args.name.now ∷ []) (Symbol.defined (Definition.constant c.args.name.now t) ∷ [])
+    (const-newly trees s.symbols c.keep_constant.new.symbols s.steps.items c.args.name.now c.args.name.now t h refl p.0.0 e.known p.0.1) c.args.step
     )
-    )
+    ))
 
-pub returns-in-Err-clause-unchanged : goal.returns-in-Err-clause-unchanged
-returns-in-Err-clause-unchanged c = rw (← c.self.view_is, c.in-Err.ensures.table, c.in-Err.ensures.unchanged, c.reserve-2.ensures.items, c.reserve.ensures.items) refl
+pub returns-clause-unchanged : goal.returns-clause-unchanged
+returns-clause-unchanged c =
+    let r = c.keep_constant.result in
+    let e = c.keep_constant.ensures in
+    OnErr-more r (OnErr-both _ _ r e.untaken (OnErr-both _ _ r e.unnoted e.unkept)) (λ q. rw (← c.self.view_is, e.table, q.0, q.1.0, q.1.1) refl)

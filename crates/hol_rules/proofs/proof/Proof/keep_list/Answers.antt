@@ -1,49 +1,48 @@
-use Rattle.std.proofs.Common.{refl, ap, ◌∙◌}
-use Rattle.std.proofs.Math.Seq.{take-append_seam}
+use Rattle.std.proofs.Common.{refl, sym, ap, ◌∙◌}
+use Rattle.hol_rules.proofs.Answering.{IfOk-more, OnErr-both, OnErr-more, OnOk-both, OnOk-IfOk, OnOk-OnErr}
+use Rattle.hol_rules.proofs.Pushed.{step_count-kept}
+use Rattle.hol_rules.proofs.ListTaken.{made_view-list, IsKept-list}
 use Rattle.sequent.specs.Sequents as numbers
-use Rattle.hol_rules.proofs.ListTaken.{hyps-terms, concl-term, made_view-list, IsKept-list}
 use Rattle.hol_rules.proofs.proof.Proof.keep_list.Goals as goal
 
-pub define_list-requires-clause-hyps : goal.define_list-requires-clause-hyps
-define_list-requires-clause-hyps c =
-    let premise = rw (← c.self.view_is) at c.requires.premise in
-    rw c.ids-hyps.ensures.numbers (hyps-terms c.self.inside.terms c.args.premise.now premise)
+pub keep_constants-requires-clause-known : goal.keep_constants-requires-clause-known
+keep_constants-requires-clause-known c = c.self.invariant.symbols_known
 
-pub define_list-requires-clause-concl : goal.define_list-requires-clause-concl
-define_list-requires-clause-concl c =
-    let premise = rw (← c.self.view_is) at c.requires.premise in
-    concl-term c.self.inside.terms c.args.premise.now premise
+pub keep_constants-requires-clause-pairs : goal.keep_constants-requires-clause-pairs
+keep_constants-requires-clause-pairs c = rw (← c.self.view_is) at c.requires.pairs
 
-pub invariant_of-self-in-Ok : goal.invariant_of-self-in-Ok
-invariant_of-self-in-Ok c =
-    let trees = c.self.inside.terms in
+pub keep_constants-requires-clause-premise : goal.keep_constants-requires-clause-premise
+keep_constants-requires-clause-premise c = rw (← c.self.view_is) at c.requires.premise
+
+pub invariant_of-self : goal.invariant_of-self
+invariant_of-self c =
+    let s = c.self.inside in
+    let trees = s.terms in
+    let r = c.keep_constants.result in
+    let e = c.keep_constants.ensures in
     let premise = rw (← c.self.view_is) at c.requires.premise in
     let known = rw (← c.self.view_is) at c.requires.known in
     let follows = rw (← c.self.view_is) at c.requires.follows in
-    let takes = rw (c.in-Ok.ensures.table, c.ids-hyps.ensures.numbers) at c.in-Ok.ensures.takes in
-    let all = rw c.in-Ok.ensures.table at c.in-Ok.ensures.known in
-    let fits = rw c.ids-hyps.ensures.numbers at c.in-Ok.ensures.fits in
-    rw (c.in-Ok.ensures.table, c.push_reserved.ensures.items, c.reserve.ensures.items, c.in_ok-note_made.ensures.noted, c.len-id.ensures ∙ c.self.inside.steps.ok.0) (
-    IsKept-list trees c.self.inside.symbols c.self.inside.steps.items c.self.inside.made.items c.self.invariant c.define_list.new.self c.args.pairs.now (numbers.sequent_at trees c.args.premise.now) premise takes all fits c.args.step known follows
-    )
+    OnOk-OnErr r (OnOk-both _ _ r (OnOk-both _ _ r e.takes e.fits) (OnOk-both _ _ r e.noted e.kept)) (OnErr-both _ _ r e.untaken (OnErr-both _ _ r e.unnoted e.unkept))
+    (λ p. rw (e.table, p.1.0, p.1.1) (IsKept-list trees s.symbols s.steps.items s.made.items c.self.invariant c.keep_constants.new.symbols c.args.pairs.now (numbers.sequent_at trees c.args.premise.now) premise p.0.0 e.known p.0.1 c.args.step known follows))
+    (λ q. rw (e.table, q.0, q.1.0, q.1.1) c.self.invariant)
 
-pub returns-in-Ok-clause-kept : goal.returns-in-Ok-clause-kept
-returns-in-Ok-clause-kept c =
-    let trees = c.self.inside.terms in
+pub returns-clause-number : goal.returns-clause-number
+returns-clause-number c =
+    let s = c.self.inside in
+    IfOk-more c.keep_constants.result c.keep_constants.ensures.number (λ id e. rw (← c.self.view_is) (e ∙ sym (step_count-kept s.terms s.symbols s.steps.items s.made.items c.self.invariant c.args.step)))
+
+pub returns-clause-kept : goal.returns-clause-kept
+returns-clause-kept c =
+    let s = c.self.inside in
+    let trees = s.terms in
+    let r = c.keep_constants.result in
+    let e = c.keep_constants.ensures in
     let premise = rw (← c.self.view_is) at c.requires.premise in
-    let takes = rw (c.in-Ok.ensures.table, c.ids-hyps.ensures.numbers) at c.in-Ok.ensures.takes in
-    let all = rw c.in-Ok.ensures.table at c.in-Ok.ensures.known in
-    let fits = rw c.ids-hyps.ensures.numbers at c.in-Ok.ensures.fits in
-    rw (← c.self.view_is, c.in-Ok.ensures.table, c.push_reserved.ensures.items, c.reserve.ensures.items, c.in_ok-note_made.ensures.noted, c.len-id.ensures ∙ c.self.inside.steps.ok.0) (
-    ap (λ made. record { trees = trees; made = made }) (
-    made_view-list trees c.self.inside.symbols c.self.inside.steps.items c.self.inside.made.items c.self.invariant c.define_list.new.self c.args.pairs.now (numbers.sequent_at trees c.args.premise.now) premise takes all fits c.args.step
-    )
-    )
+    OnOk-IfOk r (OnOk-both _ _ r (OnOk-both _ _ r e.takes e.fits) (OnOk-both _ _ r e.noted e.kept)) (λ p id. rw (← c.self.view_is, e.table, p.1.0, p.1.1) (ap (λ made. record { trees = trees; made = made }) (made_view-list trees s.symbols s.steps.items s.made.items c.self.invariant c.keep_constants.new.symbols c.args.pairs.now (numbers.sequent_at trees c.args.premise.now) premise p.0.0 e.known p.0.1 c.args.step)))
 
-pub invariant_of-self-in-Err-1 : goal.invariant_of-self-in-Err-1
-invariant_of-self-in-Err-1 c =
-    rw (c.in-Err.ensures.table, c.in-Err.ensures.unchanged, c.reserve.ensures.items, c.truncate.ensures.items, c.in_ok-note_made.ensures.noted, c.len-count.ensures ∙ c.self.inside.made.ok.0, take-append_seam c.self.inside.made.items _) c.self.invariant
-
-pub returns-in-Err-clause-unchanged : goal.returns-in-Err-clause-unchanged
-returns-in-Err-clause-unchanged c =
-    rw (← c.self.view_is, c.in-Err.ensures.table, c.in-Err.ensures.unchanged, c.reserve.ensures.items, c.truncate.ensures.items, c.in_ok-note_made.ensures.noted, c.len-count.ensures ∙ c.self.inside.made.ok.0, take-append_seam c.self.inside.made.items _) refl
+pub returns-clause-unchanged : goal.returns-clause-unchanged
+returns-clause-unchanged c =
+    let r = c.keep_constants.result in
+    let e = c.keep_constants.ensures in
+    OnErr-more r (OnErr-both _ _ r e.untaken (OnErr-both _ _ r e.unnoted e.unkept)) (λ q. rw (← c.self.view_is, e.table, q.0, q.1.0, q.1.1) refl)

@@ -40,3 +40,9 @@ returns-in_err-types c = stopped c.image.ensures.grows _ c.from_residual-in_err-
 
 pub returns-in_err-terms : goal.returns-in_err-terms
 returns-in_err-terms c = stopped c.image.ensures.grows _ c.from_residual-in_err-terms.result c.from_residual-in_err-terms.ensures.1
+
+pub returns-in_err-sequent : goal.returns-in_err-sequent
+returns-in_err-sequent c = stopped c.image.ensures.grows _ c.from_residual.result c.from_residual.ensures.1
+
+pub conclude-requires-clause-sequent : goal.conclude-requires-clause-sequent
+conclude-requires-clause-sequent c = c.in_ok-sequent.ensures.made.known

@@ -1,42 +1,48 @@
-use Rattle.std.proofs.Common.{◌<◌, ◌≤◌, ◌∙◌, length, arith}
-use Rattle.hol_rules.proofs.Pushed.{take-pushed}
-use Rattle.hol_rules.proofs.Taken.{constant-is_new, constant-isnt_new, IsKept-constant, IsKept-no_constant, made_view-constant, made_view-no_constant}
+use Rattle.hol_rules.proofs.Answering.{OnErr-both, OnErr-more, OnOk-both, OnOk-more, OnOk-OnErr}
+use Rattle.hol_rules.proofs.Taken.{IsKept-used_constant, made_view-used_constant}
+use Rattle.std.proofs.Common.{sym, subst, OnOk, IfErr, refl}
+use Rattle.hol_defs.specs.Refusals.{FitsGeneric, RefusesConstant}
+use Rattle.hol_spec.specs.Symbols.{generic_type}
+use Rattle.hol_term.specs.Tables.{type_at}
 use Rattle.hol_rules.proofs.proof.Proof.use_const.Goals as goal
 
-pub invariant_of-self-then-count : goal.invariant_of-self-then-count
-invariant_of-self-then-count c =
-    let symbols = c.self.inside.symbols in
-    let grown : length symbols < length c.use_const.new.self = omega (arith, c.if-count.true, c.count.ensures, c.count-count.ensures) in
-    let takes = rw c.in-Ok.ensures.table at c.in-Ok.ensures.takes in
-    let known = rw c.in-Ok.ensures.table at c.in-Ok.ensures.known in
-    rw (c.in-Ok.ensures.table, c.in_ok-push.ensures.items, c.in_ok-own.ensures.cases) (
-    IsKept-constant c.self.inside.terms symbols c.self.inside.steps.items c.self.inside.made.items c.self.invariant c.use_const.new.self c.args.name.now takes (constant-is_new c.self.inside.terms symbols c.use_const.new.self c.args.name.now takes grown) known
-    )
+pub use_constant-requires-clause-known : goal.use_constant-requires-clause-known
+use_constant-requires-clause-known c = c.self.invariant.symbols_known
 
-pub returns-then-count-clause-takes : goal.returns-then-count-clause-takes
-returns-then-count-clause-takes c =
-    let symbols = c.self.inside.symbols in
-    let grown : length symbols < length c.use_const.new.self = omega (arith, c.if-count.true, c.count.ensures, c.count-count.ensures) in
-    let takes = rw c.in-Ok.ensures.table at c.in-Ok.ensures.takes in
-    rw (← c.self.view_is, c.in-Ok.ensures.table, c.in_ok-push.ensures.items, c.in_ok-own.ensures.cases) (
-    made_view-constant c.self.inside.terms symbols c.self.inside.steps.items c.self.inside.made.items c.self.invariant c.use_const.new.self c.args.name.now takes (constant-is_new c.self.inside.terms symbols c.use_const.new.self c.args.name.now takes grown)
-    )
+pub use_constant-requires-clause-ty : goal.use_constant-requires-clause-ty
+use_constant-requires-clause-ty c = rw (← c.self.view_is) at c.requires
 
-pub invariant_of-self-in-Ok : goal.invariant_of-self-in-Ok
-invariant_of-self-in-Ok c =
-    let symbols = c.self.inside.symbols in
-    let stays : length c.use_const.new.self ≤ length symbols = omega (arith, c.if-count.false, c.count.ensures, c.count-count.ensures) in
-    let takes = rw c.in-Ok.ensures.table at c.in-Ok.ensures.takes in
-    let known = rw c.in-Ok.ensures.table at c.in-Ok.ensures.known in
-    rw (c.in-Ok.ensures.table, c.truncate.ensures.items, c.in_ok-push.ensures.items, c.len-place.ensures ∙ c.self.inside.made.ok.0, take-pushed c.self.inside.made.items _) (
-    IsKept-no_constant c.self.inside.terms symbols c.self.inside.steps.items c.self.inside.made.items c.self.invariant c.use_const.new.self c.args.name.now takes (constant-isnt_new c.self.inside.terms symbols c.use_const.new.self c.args.name.now takes stays) known
-    )
+pub invariant_of-self : goal.invariant_of-self
+invariant_of-self c =
+    let s = c.self.inside in
+    let r = c.use_constant.result in
+    let e = c.use_constant.ensures in
+    OnOk-OnErr r (OnOk-both _ _ r e.takes e.noted) (OnErr-both _ _ r e.untaken e.unnoted)
+    (λ p. rw (e.table, p.1) (IsKept-used_constant s.terms s.symbols s.steps.items s.made.items c.self.invariant c.use_constant.new.symbols c.args.name.now p.0 e.known))
+    (λ q. rw (e.table, q.0, q.1) c.self.invariant)
 
-pub returns-else-count-clause-takes : goal.returns-else-count-clause-takes
-returns-else-count-clause-takes c =
-    let symbols = c.self.inside.symbols in
-    let stays : length c.use_const.new.self ≤ length symbols = omega (arith, c.if-count.false, c.count.ensures, c.count-count.ensures) in
-    let takes = rw c.in-Ok.ensures.table at c.in-Ok.ensures.takes in
-    rw (← c.self.view_is, c.in-Ok.ensures.table, c.truncate.ensures.items, c.in_ok-push.ensures.items, c.len-place.ensures ∙ c.self.inside.made.ok.0, take-pushed c.self.inside.made.items _) (
-    made_view-no_constant c.self.inside.terms symbols c.self.inside.steps.items c.self.inside.made.items c.self.invariant c.use_const.new.self c.args.name.now takes (constant-isnt_new c.self.inside.terms symbols c.use_const.new.self c.args.name.now takes stays)
-    )
+pub returns-clause-takes : goal.returns-clause-takes
+returns-clause-takes c =
+    let s = c.self.inside in
+    let r = c.use_constant.result in
+    let e = c.use_constant.ensures in
+    OnOk-more r (OnOk-both _ _ r e.takes e.noted) (λ p. rw (← c.self.view_is, e.table, p.1) (made_view-used_constant s.terms s.symbols s.steps.items s.made.items c.self.invariant c.use_constant.new.symbols c.args.name.now p.0 e.known))
+
+pub returns-clause-fits : goal.returns-clause-fits
+returns-clause-fits c =
+    let s = c.self.inside in
+    rw (← c.self.view_is) (subst (λ ss. OnOk c.use_constant.result (FitsGeneric (generic_type ss c.args.name.now) (type_at s.terms c.args.ty.0))) (sym c.self.invariant.symbols_taken) c.use_constant.ensures.fits)
+
+pub returns-clause-refusal : goal.returns-clause-refusal
+returns-clause-refusal c =
+    let s = c.self.inside in
+    rw (← c.self.view_is) (subst (λ ss. IfErr c.use_constant.result (λ fault. RefusesConstant fault (generic_type ss c.args.name.now) (type_at s.terms c.args.ty.0))) (sym c.self.invariant.symbols_taken) c.use_constant.ensures.refusal)
+
+pub returns-clause-unchanged : goal.returns-clause-unchanged
+returns-clause-unchanged c =
+    let r = c.use_constant.result in
+    let e = c.use_constant.ensures in
+    OnErr-more r (OnErr-both _ _ r e.untaken e.unnoted) (λ q. rw (← c.self.view_is, e.table, q.0, q.1) refl)
+
+pub returns-clause-trees : goal.returns-clause-trees
+returns-clause-trees c = rw (← c.self.view_is) c.use_constant.ensures.table
