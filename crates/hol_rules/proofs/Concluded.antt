@@ -23,6 +23,7 @@ use Rattle.std.proofs.Math.Path.{ap₂}
 pub Grows-refl : (k : Kept) → Grows k k
 Grows-refl k = record { trees = Keeps-refl k.trees; made = refl }
 
+-- what changed nothing made nothing
 pub Grows-same : {old mid : Kept} → mid ≡ old → Grows old mid
 Grows-same {old = old} e = subst (Grows old) (sym e) (Grows-refl old)
 

@@ -65,6 +65,7 @@ not_alike trees d p q t u n m apart = go (term_eq t u) refl
 alike : (trees : Trees) (p q : TermId) (t u : Term) → IsNumberOf trees p t → IsNumberOf trees q u → p.0 ≡ q.0 → t ≡ u
 alike trees p q t u n m e = sym n.is ∙ ap (term_at trees) e ∙ m.is
 
+-- the equation of a term and itself has a number
 pub refl-concl : (old : Kept) (t : TermId) → IsTermAt old.trees t.0 → (mid : Kept) (concl : TermId) → ((a : HolType) → HasType (term_at old.trees t.0) a → IsNumberOf mid.trees concl (equation a (term_at old.trees t.0) (term_at old.trees t.0))) → concl.0 < length mid.trees.terms
 refl-concl old t h mid concl n = let a = some_of (type_of (term_at old.trees t.0)) h in (n a.0 a.1).known
 

@@ -1,7 +1,8 @@
 -- Truth values among numbers, and what is stated of them.
-use Rattle.std.proofs.Common.{◌≡◌, ℕ, ◌<◌, refl, sym, ap, ◌∙◌, List, [], ◌∷◌, length, Bool, true, false, ◌&&◌, Err}
+use Rattle.std.proofs.Common.{◌≡◌, ℕ, ◌<◌, refl, sym, ap, subst, ◌∙◌, List, [], ◌∷◌, length, Bool, true, false, ◌&&◌, Err}
 use Rattle.std.specs.List.{AllByRecursion, list_all}
-use Rattle.bridge_base.specs.declared.faults.Kind.TheVariants.{NotBool, NotTheSequent}
+use Rattle.bridge_base.specs.declared.faults.Fault.{Fault}
+use Rattle.bridge_base.specs.declared.faults.Kind.TheVariants.{NotBool}
 use Rattle.hol_spec.specs.Lists.{distinct}
 use Rattle.hol_spec.specs.Primitives.{bool}
 use Rattle.hol_spec.specs.Terms.{Term, term_eq, HasType}
@@ -9,7 +10,8 @@ use Rattle.hol_spec.specs.Sequents.{Sequent as ASequent, within}
 use Rattle.hol_spec.specs.Rules as rule
 use Rattle.hol_spec.specs.Proofs.{steps_of, sequent_at}
 use Rattle.hol_spec.specs.declared.StepKind.TheVariants as by_rule
-use Rattle.article_spec.specs.Conditions.{demand, all_bool, is_of_type}
+use Rattle.article_spec.specs.Conditions.{demand, all_bool, follows, is_of_type}
+use Rattle.article_spec.specs.Results.{Fails}
 use Rattle.article_spec.specs.Stating.{stated}
 use Rattle.hol_term.specs.declared.TermId.{TermId}
 use Rattle.hol_term.specs.Tables.{Trees, term_at, terms_at, AreKnown, IsDistinct}
@@ -20,8 +22,8 @@ use Rattle.hol_rules.specs.Kept.{Kept}
 use Rattle.hol_rules.specs.Views.{new_step}
 use Rattle.hol_rules.specs.Premises.{AreNumbersOf, AreTermsAt, IsStated}
 use Rattle.hol_rules.specs.Steps.{axiom_step, restate_step}
-use Rattle.hol_rules.proofs.Concluded.{Grows-refl}
-use Rattle.hol_rules.proofs.RuleSteps.{met, unmet, of_type}
+use Rattle.hol_rules.proofs.Concluded.{Grows-refl, fails-both}
+use Rattle.hol_rules.proofs.RuleSteps.{met, of_type}
 use Rattle.hol_rules.proofs.MoreSteps.{axiom-makes, restate-makes}
 use Rattle.hol_rules.proofs.SideLaws.{known_term}
 use Rattle.hol_rules.proofs.Ends.{Ends, ends_by}
@@ -83,8 +85,8 @@ module _ (k : Kept) (ids : List TermId) (concl : TermId) (given s : Sequent) (al
     pub restate-ends : (j : ℕ) → j < length (steps_of k.made) → within (sequent_at k.made j) (stated hs c) ≡ true → Ends k (restate_step k.made j hs c) k (new_step k.trees by_rule.Restate (j ∷ []) (parameters.Sequent given) s)
     restate-ends j l w = ends_by (Grows-refl k) (restate-makes hs c apart_truths.1 apart_truths.0 k.made j l all w) _ (λ i. record { kind = by_rule.Restate; premises = j ∷ []; parameters = rule.Parameters.sequent (g.is i); sequent = h.is i })
 
-    pub restate-apart : (j : ℕ) → within (sequent_at k.made j) (stated hs c) ≡ false → restate_step k.made j hs c ≡ Err NotTheSequent
-    restate-apart j w = met (list_all (is_of_type bool) (c ∷ hs)) NotBool _ all ∙ unmet (within (sequent_at k.made j) (stated hs c)) NotTheSequent _ w
+    pub restate-fails : (j : ℕ) (fault : Fault) → Fails fault (follows (sequent_at k.made j) (stated hs c)) → Fails fault (restate_step k.made j hs c)
+    restate-fails j fault f = subst (Fails fault) (sym (met (list_all (is_of_type bool) (c ∷ hs)) NotBool _ all)) (fails-both (follows (sequent_at k.made j) (stated hs c)) _ fault f)
 
 -- what a comparison of numbers says of the sequents
 pub stated_within : (trees : Trees) → IsDistinct trees.terms → (a b : Sequent) (s t : ASequent) → numbers.IsKnown trees a → numbers.sequent_at trees a ≡ s → IsStated trees b t → (r : Bool)

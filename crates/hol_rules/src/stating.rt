@@ -1,10 +1,12 @@
 //! The rules that state a sequent.
 ghost use Rattle.std.specs.Prelude.{◌≡◌, ◌<◌, ◌∷◌, Ok, IfOk, IfErr, OnOk, length, true};
 ghost use Rattle.std.specs.List.{AllByRecursion, list_all};
-ghost use Rattle.article_spec.specs.Conditions.{all_bool, is_of_type};
+ghost use Rattle.article_spec.specs.Conditions.{all_bool, follows, is_of_type};
 ghost use Rattle.article_spec.specs.Results.{Fails};
 ghost use Rattle.article_spec.specs.Stating as stating;
 ghost use Rattle.hol_spec.specs.Primitives.{bool as bool_type};
+ghost use Rattle.hol_spec.specs.Proofs.{sequent_at as sequent_of};
+ghost use Rattle.hol_spec.specs.Sequents.{within};
 ghost use Rattle.hol_term.specs.declared.TermId.{TermId as AnId};
 ghost use Rattle.hol_term.specs.Tables.{term_at, terms_at, AreKnown, IsDistinct, IsTermAt};
 ghost use Rattle.sequent.specs.Sequents.{sequent_at, IsKnown};
@@ -42,16 +44,29 @@ impl Proof {
     {
         self.judge_truth(hyps, concl)?;
         let given = self.stated(hyps, concl)?;
-        let sequent = self.stated(hyps, concl)?;
-        if !Sequent::within(self.sequent(one), &sequent) {
-            return Err(Fault::Refused(Kind::NotTheSequent));
-        }
+        let sequent = self.restated(one, hyps, concl)?;
         self.conclude(
             StepKind::Restate,
             &[one],
             Parameters::Sequent(given),
             sequent,
         )
+    }
+
+    // The sequent of these hypotheses, repeats dropped, and this conclusion, if it says no more than a step.
+    fn restated(&self, one: StepId, hyps: &[TermId], concl: TermId) -> Result<Sequent, Fault>
+        requires one { one < step_count self.now }
+        requires hyps { AreTermsAt self.now.trees hyps.now }
+        requires concl { IsTermAt self.now.trees concl.0 }
+        ensures stated { IfOk result (λ sequent. IsStated self.now.trees sequent (stating.stated (terms_at self.now.trees hyps.now) (term_at self.now.trees concl.0))) }
+        ensures within { OnOk result (within (sequent_of self.now.made one) (stating.stated (terms_at self.now.trees hyps.now) (term_at self.now.trees concl.0)) ≡ true) }
+        ensures refused { IfErr result (λ fault. Fails fault (follows (sequent_of self.now.made one) (stating.stated (terms_at self.now.trees hyps.now) (term_at self.now.trees concl.0)))) }
+    {
+        let sequent = self.stated(hyps, concl)?;
+        if !Sequent::within(self.sequent(one), &sequent) {
+            return Err(Fault::Refused(Kind::NotTheSequent));
+        }
+        Ok(sequent)
     }
 
     // Refuses what is no truth value.

@@ -22,3 +22,27 @@ returns-clause-made c =
 
 pub returns-clause-keeps : goal.returns-clause-keeps
 returns-clause-keeps c = Keeps-trans c.linked.ensures.keeps c.substituted.ensures.keeps
+
+pub returns-in_err-whole-clause-keeps : goal.returns-in_err-whole-clause-keeps
+returns-in_err-whole-clause-keeps c = c.linked.ensures.keeps
+
+pub returns-in_err-image-clause-keeps : goal.returns-in_err-image-clause-keeps
+returns-in_err-image-clause-keeps c = Keeps-trans c.linked.ensures.keeps c.substituted.ensures.keeps
+
+pub returns-in_err-links-clause-keeps : goal.returns-in_err-links-clause-keeps
+returns-in_err-links-clause-keeps c = Keeps-trans c.linked.ensures.keeps c.substituted.ensures.keeps
+
+pub returns-in_err-hyps-clause-keeps : goal.returns-in_err-hyps-clause-keeps
+returns-in_err-hyps-clause-keeps c = Keeps-trans c.linked.ensures.keeps c.substituted.ensures.keeps
+
+pub linked-requires-clause-ids : goal.linked-requires-clause-ids
+linked-requires-clause-ids c = rw c.ids-ids.ensures.numbers c.requires.sequent.0
+
+pub linked-requires-clause-last : goal.linked-requires-clause-last
+linked-requires-clause-last c = c.requires.sequent.1
+
+pub substituted-requires-clause-id : goal.substituted-requires-clause-id
+substituted-requires-clause-id c = c.in_ok-whole.ensures.made.known
+
+pub unlinked-requires : goal.unlinked-requires
+unlinked-requires c = c.in_ok-image.ensures.known

@@ -1,4 +1,4 @@
-use Rattle.std.proofs.Common.{rules, sym, ◌∙◌}
+use Rattle.std.proofs.Common.{sym, ◌∙◌}
 use Rattle.bridge_base.specs.declared.faults.Fault.TheVariants.{Refused}
 use Rattle.bridge_base.specs.declared.faults.Kind.TheVariants.{VarInHyps}
 use Rattle.hol_rules.proofs.FunctionEnds.{abs_thm-ends, abs_thm-free, left_term, left_at_typed, right_is}

@@ -1,4 +1,4 @@
-use Rattle.std.proofs.Common.{rules, sym, ◌∙◌}
+use Rattle.std.proofs.Common.{sym, ◌∙◌}
 use Rattle.bridge_base.specs.declared.faults.Fault.TheVariants.{Refused}
 use Rattle.bridge_base.specs.declared.faults.Kind.TheVariants.{TypeMismatch}
 use Rattle.hol_rules.proofs.FunctionEnds.{app_thm-ends, app_thm-mismatch, first_term, first_at_typed, number-grown}
