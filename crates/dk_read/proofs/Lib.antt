@@ -11,6 +11,7 @@ pub mod Signs
 pub mod WordBytes
 pub mod Runs
 pub mod Taken
+pub mod NextBytes
 pub mod Openings
 pub mod Ended
 pub mod Unlimited
