@@ -22,7 +22,7 @@ use Rattle.dk_read.specs.declared.terms.Token.{Token}
 use Rattle.dk_read.specs.declared.terms.Token.TheVariants as token
 use Rattle.dk_read.specs.declared.parser.Parser.{Parser}
 use Rattle.dk_read.specs.Names.{Named, name_at}
-use Rattle.dk_read.specs.States.{before, frames_of, head_in, head_of, state_in, state_of, tree_in, IsIdKnown, token_in, Becomes, Unwinds, Grows, NoColon, IsTokenKnown}
+use Rattle.dk_read.specs.States.{before, frames_of, head_in, head_of, state_in, state_of, tree_in, IsIdKnown, token_in, Becomes, Unwinds, Grows, NoColon, IsSign, IsTokenKnown}
 use Rattle.dk_read.proofs.Grown.{tree_in-Keeps}
 
 -- an outcome under another name
@@ -159,3 +159,16 @@ name_wanted m form p ns _ k = refl
 pub colon_wanted : (m : List Declaration) (form : Form) (name : List ℕ) (p : ℕ) (ns : List Named) (t : Token) → (t ≡ token.Colon → ⊥) → reading.advance m (reading.AfterName form name) p (token_in ns t) ≡ reading.stops p reading.BadText
 colon_wanted m form name p ns token.Colon k = absurd (k refl)
 colon_wanted m form name p ns _ k = refl
+
+-- a token that is no atom's first, after an application and where there is none
+pub sign_after : (t : Token) → ((n : ℕ) → t ≡ token.Name n → ⊥) → (t ≡ token.TypeWord → ⊥) → (t ≡ token.LeftParen → ⊥) → IsSign t
+sign_after (token.Name n) h k l = absurd (h n refl)
+sign_after token.TypeWord h k l = absurd (k refl)
+sign_after token.LeftParen h k l = absurd (l refl)
+sign_after _ h k l = tt
+
+pub nothing_applies : (m : List Declaration) (h : reading.Head) (frames : List reading.Frame) (p : ℕ) (ns : List Named) (t : Token) → IsSign t → reading.applies m h frames None p (token_in ns t) ≡ reading.stops p reading.BadText
+nothing_applies m h frames p ns (token.Name n) k = absurd k
+nothing_applies m h frames p ns token.TypeWord k = absurd k
+nothing_applies m h frames p ns token.LeftParen k = absurd k
+nothing_applies m h frames p ns _ k = refl
