@@ -1,4 +1,4 @@
-use Rattle.std.proofs.Common.{◌≡◌, ◌∙◌, ◌≤◌, ◌-◌, ◌++◌, sym, ap, subst, length, length-append, arith}
+use Rattle.std.proofs.Common.{◌≡◌, ◌∙◌, ◌≤◌, ◌++◌, sym, subst, length, length-append, arith}
 use Rattle.dk_read.specs.Readers.{HasRoom, IsWithin, IsFed, place_of, fed_with}
 use Rattle.dk_read.proofs.Ended.{stops_there, fed_there}
 use Rattle.dk_read.proofs.reader.Reader.cut.Goals as goal
