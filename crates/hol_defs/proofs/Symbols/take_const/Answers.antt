@@ -1,4 +1,4 @@
-use Rattle.std.proofs.Common.{ap, sym, ◌∙◌, ◌++◌, ◌∷◌, [], map}
+use Rattle.std.proofs.Common.{ap, ◌∙◌, ◌++◌, ◌∷◌, [], map}
 use Rattle.hol_defs.specs.Indexes.{taken_of}
 use Rattle.hol_defs.specs.Symbols.{Taken}
 use Rattle.hol_defs.proofs.UseLaws.{IsIndexed-constant, taken_of-cut}

@@ -1,4 +1,4 @@
-use Rattle.std.proofs.Common.{ap, sym, ◌∙◌, ◌++◌, ◌∷◌, [], map}
+use Rattle.std.proofs.Common.{ap, ◌∙◌, ◌++◌, ◌∷◌, [], map}
 use Rattle.hol_spec.specs.Lists.{is_in}
 use Rattle.hol_spec.specs.NameEquality.{name_eq}
 use Rattle.hol_defs.specs.Indexes.{inputs_of, taken_of}

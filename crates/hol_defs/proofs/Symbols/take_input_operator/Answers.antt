@@ -1,4 +1,4 @@
-use Rattle.std.proofs.Common.{ap, sym, ◌∙◌, ◌++◌, ◌∷◌, [], map}
+use Rattle.std.proofs.Common.{ap, ◌∙◌, ◌++◌, ◌∷◌, [], map}
 use Rattle.hol_spec.specs.Lists.{is_in}
 use Rattle.hol_defs.specs.Indexes.{same_use, taken_of, uses_of}
 use Rattle.hol_defs.specs.Symbols.{Taken}

@@ -1,4 +1,4 @@
-use Rattle.std.proofs.Common.{◌≡◌, sym, subst, ◌∙◌, None}
+use Rattle.std.proofs.Common.{◌≡◌, sym, subst, None}
 use Rattle.std.specs.Prelude.{OnOk, IfErr}
 use Rattle.hol_type.specs.Tables as type
 use Rattle.hol_defs.specs.Faults.{Refuses}
