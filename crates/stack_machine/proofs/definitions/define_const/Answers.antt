@@ -1,8 +1,8 @@
-use Rattle.std.proofs.Common.{refl, ap, ◌∙◌, [], ◌∷◌, drop}
+use Rattle.std.proofs.Common.{ap, [], ◌∷◌}
 use Rattle.article_spec.specs.State as state
 use Rattle.stack_machine.specs.declared.object.Object.TheVariants as object
 use Rattle.stack_machine.specs.Shown.{shown}
-use Rattle.stack_machine.specs.Stored.{name_at, IsName}
+use Rattle.stack_machine.specs.Stored.{name_at}
 use Rattle.stack_machine.proofs.Obeyed.{first_fails, next_fails, stopped}
 use Rattle.stack_machine.proofs.Defined.{defining-fails, defining-obeys, name-Grows}
 use Rattle.stack_machine.proofs.DefiningRules.{obey-DefineConst}

@@ -1,4 +1,3 @@
-use Rattle.std.proofs.Common.{Ok, Err, Result, IfOk}
 use Rattle.article_spec.specs.Operands.{as_name}
 use Rattle.stack_machine.proofs.Read.{elements-unread, elements-read}
 use Rattle.stack_machine.proofs.Passing.{IfOk-map}
