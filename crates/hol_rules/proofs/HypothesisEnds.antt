@@ -1,5 +1,5 @@
 -- The rules that change hypotheses, at their ends.
-use Rattle.std.proofs.Common.{◌≡◌, ℕ, ◌<◌, refl, sym, subst, ◌∙◌, List, [], ◌∷◌, length}
+use Rattle.std.proofs.Common.{ℕ, ◌<◌, refl, sym, subst, List, [], ◌∷◌, length}
 use Rattle.hol_spec.specs.Types.{HolType}
 use Rattle.hol_spec.specs.Primitives.{bool}
 use Rattle.hol_spec.specs.Terms.{HasType, equation}
@@ -7,7 +7,7 @@ use Rattle.hol_spec.specs.Rules.{joined, removed}
 use Rattle.hol_spec.specs.Proofs.{steps_of, sequent_at}
 use Rattle.hol_spec.specs.declared.StepKind.TheVariants as by_rule
 use Rattle.hol_term.specs.declared.TermId.{TermId}
-use Rattle.hol_term.specs.Tables.{term_at, terms_at}
+use Rattle.hol_term.specs.Tables.{term_at}
 use Rattle.hol_rules.specs.declared.made.Parameters.TheVariants as parameters
 use Rattle.hol_rules.specs.Kept.{Kept, Grows}
 use Rattle.hol_rules.specs.Views.{new_step}
@@ -31,8 +31,6 @@ module _ (k : Kept) (i j : ℕ) (l : i < length (steps_of k.made)) (m : j < leng
       let hs : AreNumbersOf mid.trees hyps (joined (removed one.hypotheses two.conclusion) (removed two.hypotheses one.conclusion)) = subst (λ m. AreNumbersOf mid.trees hyps (joined (removed (sequent_at m i).hypotheses (sequent_at m j).conclusion) (removed (sequent_at m j).hypotheses (sequent_at m i).conclusion))) g.made h in
       ends_by g (deduct_antisym-makes k.made i j l m) _ (stepped mid.trees by_rule.DeductAntisym (i ∷ j ∷ []) parameters.Nothing _ refl hyps _ hs concl _ made)
 
-  pub prove_hyp-ends : (own rest hyps : List TermId) → terms_at k.trees own ≡ (sequent_at k.made i).hypotheses → AreNumbersOf k.trees rest (removed (sequent_at k.made j).hypotheses (sequent_at k.made i).conclusion) → AreNumbersOf k.trees hyps (joined (terms_at k.trees own) (terms_at k.trees rest))
-      → (concl : TermId) → IsNumberOf k.trees concl (sequent_at k.made j).conclusion → Ends k (prove_hyp_step k.made i j) k (new_step k.trees by_rule.ProveHyp (i ∷ j ∷ []) parameters.Nothing (record { hyps = hyps; concl = concl }))
-  prove_hyp-ends own rest hyps o r h concl n =
-      let hs : AreNumbersOf k.trees hyps (joined (sequent_at k.made i).hypotheses (removed (sequent_at k.made j).hypotheses (sequent_at k.made i).conclusion)) = record { known = h.known; are = h.are ∙ ap₂ joined o r.are } in
-      ends_by (Grows-refl k) (prove_hyp-makes k.made i j l m) _ (stepped k.trees by_rule.ProveHyp (i ∷ j ∷ []) parameters.Nothing _ refl hyps _ hs concl _ n)
+  pub prove_hyp-ends : (hyps : List TermId) → AreNumbersOf k.trees hyps (joined (sequent_at k.made i).hypotheses (removed (sequent_at k.made j).hypotheses (sequent_at k.made i).conclusion)) → (concl : TermId) → IsNumberOf k.trees concl (sequent_at k.made j).conclusion
+      → Ends k (prove_hyp_step k.made i j) k (new_step k.trees by_rule.ProveHyp (i ∷ j ∷ []) parameters.Nothing (record { hyps = hyps; concl = concl }))
+  prove_hyp-ends hyps h concl n = ends_by (Grows-refl k) (prove_hyp-makes k.made i j l m) _ (stepped k.trees by_rule.ProveHyp (i ∷ j ∷ []) parameters.Nothing _ refl hyps _ h concl _ n)

@@ -51,9 +51,28 @@ impl Proof {
     {
         self.judge_list(pairs, one)?;
         let premise = self.premise(one)?;
+        let made = self.define_from(pairs, one, &premise);
+        drop(premise);
+        made
+    }
+
+    // The constants of a list are defined by a step's sequent, which is this one.
+    fn define_from(
+        &mut self,
+        pairs: &[(Name, Variable)],
+        one: StepId,
+        premise: &Sequent,
+    ) -> Result<StepId, Fault>
+        requires pairs { ArePairsKnown self.old.trees pairs.now }
+        requires one { one < step_count self.old }
+        requires stated { IsStated self.old.trees premise.now (sequent_at self.old.made one) }
+        requires typed { IsSequent (sequent_at self.old.made one) }
+        requires fits { list_fault (symbols_of self.old.made) (pairs_at self.old.trees pairs.now) (sequent_at self.old.made one) ≡ None }
+        ensures { Defines self.old (constants_in (pairs_at self.old.trees pairs.now) (sequent_at self.old.made one)) (define_const_list_step self.old.made (pairs_at self.old.trees pairs.now) one) self.new result }
+    {
         let concl = self.with_constants(pairs, premise.concl)?;
         let hyps = self.hyps_of(&[])?;
-        self.conclude_list(pairs, one, &premise, Sequent { hyps, concl })
+        self.conclude_list(pairs, one, premise, Sequent { hyps, concl })
     }
 
     // Judges the definitions of a list of constants by a theorem's hypotheses.

@@ -50,8 +50,7 @@ impl Proof {
         requires two { two < step_count self.old }
         ensures { Concludes self.old (prove_hyp_step self.old.made one two) self.new result }
     {
-        let rest = self.removed(two, one)?;
-        let hyps = self.united(&self.sequent(one).hyps, &rest)?;
+        let hyps = self.discharged(one, two)?;
         let concl = self.concl(two);
         self.conclude(
             StepKind::ProveHyp,
@@ -59,5 +58,16 @@ impl Proof {
             Parameters::Nothing,
             Sequent { hyps, concl },
         )
+    }
+
+    // The hypotheses of a step, and those of another without the conclusion of the first.
+    fn discharged(&self, one: StepId, two: StepId) -> Result<Hyps, Memory>
+        requires one { one < step_count self.now }
+        requires two { two < step_count self.now }
+        ensures { IfOk result (λ hyps. AreNumbersOf self.now.trees hyps (joined (sequent_at self.now.made one).hypotheses (removed (sequent_at self.now.made two).hypotheses (sequent_at self.now.made one).conclusion))) }
+    {
+        let rest = self.removed(two, one)?;
+        let hyps = self.united(&self.sequent(one).hyps, &rest)?;
+        Ok(hyps)
     }
 }

@@ -50,14 +50,20 @@ impl Proof {
             return Err(Fault::Refused(Kind::BadSubst));
         }
         let sequent = self.image(type_pairs, term_pairs, one)?;
-        let types = copied_types(self.alloc, type_pairs)?;
-        let terms = copied_terms(self.alloc, term_pairs)?;
-        self.conclude(
-            StepKind::Subst,
-            &[one],
-            Parameters::Subst(Substitution { types, terms }),
-            sequent,
-        )
+        let given = self.given(type_pairs, term_pairs)?;
+        self.conclude(StepKind::Subst, &[one], Parameters::Subst(given), sequent)
+    }
+
+    // What is put, copied.
+    fn given(
+        &self,
+        type_pairs: &[(Name, TypeId)],
+        term_pairs: &[(Variable, TermId)],
+    ) -> Result<Substitution, Memory>
+        ensures types { IfOk result (λ put. put.types.items ≡ type_pairs.now) }
+        ensures terms { IfOk result (λ put. put.terms.items ≡ term_pairs.now) }
+    {
+        own_substitution(self.alloc, type_pairs, term_pairs)
     }
 
     // What the pairs make of a step's sequent.
@@ -134,6 +140,20 @@ fn unlinked(alloc: Global, terms: &TermTable, whole: TermId, count: usize) -> Re
         rest = next;
     }
     Ok(Links { terms: links, rest })
+}
+
+// What is put, copied.
+fn own_substitution(
+    alloc: Global,
+    type_pairs: &[(Name, TypeId)],
+    term_pairs: &[(Variable, TermId)],
+) -> Result<Substitution, Memory>
+    ensures types { IfOk result (λ put. put.types.items ≡ type_pairs.now) }
+    ensures terms { IfOk result (λ put. put.terms.items ≡ term_pairs.now) }
+{
+    let types = copied_types(alloc, type_pairs)?;
+    let terms = copied_terms(alloc, term_pairs)?;
+    Ok(Substitution { types, terms })
 }
 
 // The types that are put, each copied with its variable.
