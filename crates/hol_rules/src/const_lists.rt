@@ -1,5 +1,5 @@
 //! Definitions of lists of constants.
-ghost use Rattle.std.specs.Prelude.{◌≡◌, ◌<◌, ◌++◌, ◌∷◌, [], None, Ok, length, map, IfOk, IfErr, OnOk, OnErr};
+ghost use Rattle.std.specs.Prelude.{◌≡◌, ◌<◌, ◌++◌, ◌∷◌, [], None, Ok, length, map, vec_len, vec_capacity, IfOk, IfErr, OnOk, OnErr};
 ghost use Rattle.article_spec.specs.Results.{Fails};
 ghost use Rattle.hol_defs.specs.Faults.{list_fault};
 ghost use Rattle.hol_defs.specs.Lists.{pairs_at, ArePairsKnown};
@@ -201,10 +201,38 @@ fn keep_constants(
     ensures known { AreKnownSymbols terms.old symbols.new }
     ensures table { terms.new ≡ terms.old }
 {
+    let id = take_before(alloc, symbols, terms, steps, made, pairs, premise)?;
+    steps.push_reserved(step);
+    Ok(id)
+}
+
+// The constants are taken before the next step, for which there is room. The answer is the step's number.
+fn take_before(
+    alloc: Global,
+    symbols: &mut Symbols,
+    terms: &mut TermTable,
+    steps: &mut Vec<Step>,
+    made: &mut Vec<Made>,
+    pairs: &[(Name, Variable)],
+    premise: &Sequent,
+) -> Result<StepId, Memory>
+    requires known { AreKnownSymbols terms.old symbols.old }
+    requires pairs { ArePairsKnown terms.old pairs.now }
+    requires premise { IsSequent (numbers.sequent_at terms.old premise.now) }
+    ensures number { IfOk result (λ id. id ≡ length steps.old.items) }
+    ensures room { OnOk result (vec_len steps.new < vec_capacity steps.new) }
+    ensures takes { OnOk result (symbols_at terms.old symbols.new ≡ symbols_at terms.old symbols.old ++ constants_in (pairs_at terms.old pairs.now) (numbers.sequent_at terms.old premise.now)) }
+    ensures fits { OnOk result (list_fault (symbols_at terms.old symbols.old) (pairs_at terms.old pairs.now) (numbers.sequent_at terms.old premise.now) ≡ None) }
+    ensures noted { OnOk result (made.new.items ≡ made.old.items ++ (named_constants pairs.now ++ one.Step (length steps.old.items) ∷ [])) }
+    ensures untaken { OnErr result (symbols.new ≡ symbols.old) }
+    ensures unnoted { OnErr result (made.new.items ≡ made.old.items) }
+    ensures unkept { steps.new.items ≡ steps.old.items }
+    ensures known { AreKnownSymbols terms.old symbols.new }
+    ensures table { terms.new ≡ terms.old }
+{
     let id = steps.len();
     steps.reserve(1)?;
     take_constants(alloc, symbols, terms, made, pairs, premise, id)?;
-    steps.push_reserved(step);
     Ok(id)
 }
 

@@ -1,5 +1,5 @@
 //! Definitions of constants.
-ghost use Rattle.std.specs.Prelude.{◌≡◌, ◌<◌, ◌++◌, ◌∷◌, [], None, Ok, length, IfOk, IfErr, OnOk, OnErr};
+ghost use Rattle.std.specs.Prelude.{◌≡◌, ◌<◌, ◌++◌, ◌∷◌, [], None, Ok, length, vec_len, vec_capacity, IfOk, IfErr, OnOk, OnErr};
 ghost use Rattle.article_spec.specs.Results.{Fails};
 ghost use Rattle.hol_defs.specs.Faults.{constant_fault};
 ghost use Rattle.hol_defs.specs.Symbols.{symbols_at, AreKnownSymbols};
@@ -106,7 +106,7 @@ impl Proof {
     }
 }
 
-// The constant is taken, and the step becomes the last. Its answer is the step's number.
+// The constant is taken, and the step becomes the last. The answer is its number.
 fn keep_constant(
     symbols: &mut Symbols,
     terms: &mut TermTable,
@@ -129,10 +129,36 @@ fn keep_constant(
     ensures known { AreKnownSymbols terms.old symbols.new }
     ensures table { terms.new ≡ terms.old }
 {
+    let id = take_before(symbols, terms, steps, made, name, t)?;
+    steps.push_reserved(step);
+    Ok(id)
+}
+
+// The constant is taken before the next step, for which there is room. The answer is the step's number.
+fn take_before(
+    symbols: &mut Symbols,
+    terms: &mut TermTable,
+    steps: &mut Vec<Step>,
+    made: &mut Vec<Made>,
+    name: &Name,
+    t: TermId,
+) -> Result<StepId, Memory>
+    requires known { AreKnownSymbols terms.old symbols.old }
+    requires term { IsTermAt terms.old t.0 }
+    ensures number { IfOk result (λ id. id ≡ length steps.old.items) }
+    ensures room { OnOk result (vec_len steps.new < vec_capacity steps.new) }
+    ensures takes { OnOk result (symbols_at terms.old symbols.new ≡ symbols_at terms.old symbols.old ++ Symbol.defined (Definition.constant name.now (term_at terms.old t.0)) ∷ []) }
+    ensures fits { OnOk result (constant_fault (symbols_at terms.old symbols.old) name.now (term_at terms.old t.0) ≡ None) }
+    ensures noted { OnOk result (made.new.items ≡ (made.old.items ++ one.Const name.now ∷ []) ++ one.Step (length steps.old.items) ∷ []) }
+    ensures untaken { OnErr result (symbols.new ≡ symbols.old) }
+    ensures unnoted { OnErr result (made.new.items ≡ made.old.items) }
+    ensures unkept { steps.new.items ≡ steps.old.items }
+    ensures known { AreKnownSymbols terms.old symbols.new }
+    ensures table { terms.new ≡ terms.old }
+{
     let id = steps.len();
     steps.reserve(1)?;
     take_constant(symbols, terms, made, name, t, id)?;
-    steps.push_reserved(step);
     Ok(id)
 }
 
