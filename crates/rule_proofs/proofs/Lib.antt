@@ -9,6 +9,7 @@ mod StandLaws
 mod StandTrees
 mod AddLaws
 mod SequentLaws
+mod ParameterLaws
 mod TheoremLaws
 mod PlaceOf
 mod ConclusionLaws

@@ -4,6 +4,7 @@ pub mod Placing
 pub mod Told
 pub mod Equations
 pub mod Numbers
+pub mod Parameters
 pub mod Rescoped
 pub mod Images
 pub mod Constants

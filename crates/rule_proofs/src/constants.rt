@@ -18,9 +18,10 @@ ghost use Rattle.translate_term.specs.Told.{TellsTerm, TellsType};
 ghost use Rattle.translate_term.specs.Walks.{Grows};
 ghost use Rattle.rule_proofs.specs.Constants.{by_variable, scope_with, IsEquatedFormula, IsEquationFormula, TellsConstants};
 ghost use Rattle.rule_proofs.specs.Environments.{Given, Ready, Stands};
+ghost use Rattle.rule_proofs.specs.Parameters.{AreParams};
 ghost use Rattle.rule_proofs.specs.Told.{TellsStep};
 
-use crate::premise::Premise;
+use crate::premise::{Premise, params_of};
 use crate::rows::Equated;
 use crate::scope::Environment;
 use crate::trees::{REFL, call};
@@ -30,6 +31,7 @@ use hol_rules::Proof;
 use hol_term::{TermId, TermTable, Variable};
 use holide_sig::Module;
 use lp_term::LpId;
+use sequent::Params;
 use translate_term::constant;
 
 /// From a theorem whose hypotheses define the variables of these pairs: what it says of the constants that are put for them.
@@ -47,20 +49,39 @@ pub fn constant_list(
     ensures made { IfOk result (λ r. (given : Given) → Stands given target.old proof.now.trees env.now → TellsConstants given (pairs_view proof.now.trees pairs.now) → TellsStep given proof.now one.id → Holds target.new.table r.0 (premise_tree (constants_scope given.symbols given.scope (constants_put (pairs_view proof.now.trees pairs.now))) (one.symbol, sequent_at proof.now.made one.id))) }
     ensures grows { Grows target.old target.new }
 {
+    let params = params_of(env.alloc, proof, one.id)?;
+    let mut args = Vec::new(env.alloc);
+    let made = constant_list_over(target, proof, env, pairs, one, &params, &mut args);
+    drop(args);
+    drop(params);
+    made
+}
+
+/// The same, where the theorem's parameters are known. The arguments are added to none.
+fn constant_list_over(
+    target: &mut Module,
+    proof: &Proof,
+    env: &Environment,
+    pairs: &[(Name, Variable)],
+    one: Premise,
+    params: &Params,
+    args: &mut Vec<LpId>,
+) -> Result<LpId, Memory>
+    requires one { one.id < step_count proof.now }
+    requires pairs { AreConstantPairsKnown proof.now.trees pairs.now }
+    requires list { IsTrue (is_definition_list (pairs_view proof.now.trees pairs.now) (sequent_at proof.now.made one.id)) }
+    requires params { AreParams proof.now one.id params.now }
+    requires none { args.old.items ≡ [] }
+    requires told { (given : Given) × Stands given target.old proof.now.trees env.now × TellsConstants given (pairs_view proof.now.trees pairs.now) × TellsStep given proof.now one.id }
+    ensures made { IfOk result (λ r. (given : Given) → Stands given target.old proof.now.trees env.now → TellsConstants given (pairs_view proof.now.trees pairs.now) → TellsStep given proof.now one.id → Holds target.new.table r.0 (premise_tree (constants_scope given.symbols given.scope (constants_put (pairs_view proof.now.trees pairs.now))) (one.symbol, sequent_at proof.now.made one.id))) }
+    ensures grows { Grows target.old target.new }
+{
     proof.is_proof();
     let sequent = proof.sequent(one.id);
-    let params = sequent.params(env.alloc, proof.terms())?;
-    let mut args = Vec::new(env.alloc);
-    env.add_type_variables(target, params.type_vars.names(), &mut args)?;
-    env.add_constants(
-        target,
-        proof,
-        pairs,
-        params.free_vars.variables(),
-        &mut args,
-    )?;
-    env.add_self_proofs(target, proof, sequent.hyps.ids(), &mut args)?;
-    call(&mut target.table, one.symbol, &args)
+    env.add_type_variables(target, params.type_vars.names(), args)?;
+    env.add_constants(target, proof, pairs, params.free_vars.variables(), args)?;
+    env.add_self_proofs(target, proof, sequent.hyps.ids(), args)?;
+    call(&mut target.table, one.symbol, args)
 }
 
 impl Environment {

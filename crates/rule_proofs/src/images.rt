@@ -21,10 +21,11 @@ ghost use Rattle.translate_term.specs.Told.{TellsType};
 ghost use Rattle.translate_term.specs.Walks.{Grows};
 ghost use Rattle.rule_proofs.specs.Environments.{Given, IsTold, Ready, Stands};
 ghost use Rattle.rule_proofs.specs.Images.{made_term, retyped, term_pairs, type_pairs, variable_image, HasOwnVariable, IsSubstituted};
+ghost use Rattle.rule_proofs.specs.Parameters.{AreParams};
 ghost use Rattle.rule_proofs.specs.Told.{TellsStep};
 
 use crate::matching::{becomes, makes_term, put_term, put_type};
-use crate::premise::Premise;
+use crate::premise::{Premise, params_of};
 use crate::scope::Environment;
 use crate::trees::call;
 use bridge_base::Memory;
@@ -33,6 +34,7 @@ use hol_rules::{Proof, StepId, Substitution};
 use hol_term::{TermId, TermTable, Variable};
 use holide_sig::Module;
 use lp_term::LpId;
+use sequent::Params;
 
 /// From a theorem: what a substitution makes of it, which is the step itself.
 pub fn subst(
@@ -51,31 +53,86 @@ pub fn subst(
     ensures made { IfOk result (λ r. (given : Given) → Stands given target.old proof.now.trees env.now → TellsStep given proof.now id → Holds target.new.table r.0 (subst_tree given.symbols given.scope (type_pairs proof.now.trees put.now) (term_pairs proof.now.trees put.now) (one.symbol, sequent_at proof.now.made one.id))) }
     ensures grows { Grows target.old target.new }
 {
-    let table = proof.terms();
+    let params = params_of(env.alloc, proof, one.id)?;
+    let made = subst_over(target, proof, env, id, put, one, &params);
+    drop(params);
+    made
+}
+
+/// The same, where the theorem's parameters are known.
+fn subst_over(
+    target: &mut Module,
+    proof: &Proof,
+    env: &Environment,
+    id: StepId,
+    put: &Substitution,
+    one: Premise,
+    params: &Params,
+) -> Result<LpId, Memory>
+    requires id { id < step_count proof.now }
+    requires one { one.id < step_count proof.now }
+    requires put { AreKnownPairs proof.now.trees put.now.types.items put.now.terms.items }
+    requires substituted { IsSubstituted proof.now put.now id one.id }
+    requires params { AreParams proof.now one.id params.now }
+    requires told { (given : Given) × Stands given target.old proof.now.trees env.now × TellsStep given proof.now id }
+    ensures made { IfOk result (λ r. (given : Given) → Stands given target.old proof.now.trees env.now → TellsStep given proof.now id → Holds target.new.table r.0 (subst_tree given.symbols given.scope (type_pairs proof.now.trees put.now) (term_pairs proof.now.trees put.now) (one.symbol, sequent_at proof.now.made one.id))) }
+    ensures grows { Grows target.old target.new }
+{
+    let own_params = params_of(env.alloc, proof, id)?;
+    let mut args = Vec::new(env.alloc);
+    let made = subst_onto(
+        target,
+        proof,
+        env,
+        id,
+        put,
+        one,
+        params,
+        &own_params,
+        &mut args,
+    );
+    drop(args);
+    drop(own_params);
+    made
+}
+
+/// The same, where the step's own parameters are known too. The arguments are added to none.
+fn subst_onto(
+    target: &mut Module,
+    proof: &Proof,
+    env: &Environment,
+    id: StepId,
+    put: &Substitution,
+    one: Premise,
+    params: &Params,
+    own_params: &Params,
+    args: &mut Vec<LpId>,
+) -> Result<LpId, Memory>
+    requires id { id < step_count proof.now }
+    requires one { one.id < step_count proof.now }
+    requires put { AreKnownPairs proof.now.trees put.now.types.items put.now.terms.items }
+    requires substituted { IsSubstituted proof.now put.now id one.id }
+    requires params { AreParams proof.now one.id params.now }
+    requires own_params { AreParams proof.now id own_params.now }
+    requires none { args.old.items ≡ [] }
+    requires told { (given : Given) × Stands given target.old proof.now.trees env.now × TellsStep given proof.now id }
+    ensures made { IfOk result (λ r. (given : Given) → Stands given target.old proof.now.trees env.now → TellsStep given proof.now id → Holds target.new.table r.0 (subst_tree given.symbols given.scope (type_pairs proof.now.trees put.now) (term_pairs proof.now.trees put.now) (one.symbol, sequent_at proof.now.made one.id))) }
+    ensures grows { Grows target.old target.new }
+{
     let sequent = proof.sequent(one.id);
     let own = proof.sequent(id);
-    let params = sequent.params(env.alloc, table)?;
-    let own_params = own.params(env.alloc, table)?;
-    let mut args = Vec::new(env.alloc);
-    env.add_type_images(target, proof, put, params.type_vars.names(), &mut args)?;
     let variables = own_params.free_vars.variables();
+    env.add_type_images(target, proof, put, params.type_vars.names(), args)?;
     env.add_term_images(
         target,
         proof,
         put,
         variables,
         params.free_vars.variables(),
-        &mut args,
+        args,
     )?;
-    env.add_hypothesis_images(
-        target,
-        proof,
-        put,
-        own.hyps.ids(),
-        sequent.hyps.ids(),
-        &mut args,
-    )?;
-    call(&mut target.table, one.symbol, &args)
+    env.add_hypothesis_images(target, proof, put, own.hyps.ids(), sequent.hyps.ids(), args)?;
+    call(&mut target.table, one.symbol, args)
 }
 
 impl Environment {

@@ -14,6 +14,7 @@ ghost use Rattle.module_spec.specs.Scopes.{TypeScope, term_tree, theorem_tree, t
 ghost use Rattle.translate_term.specs.Told.{TellsType};
 ghost use Rattle.translate_term.specs.Walks.{Grows};
 ghost use Rattle.rule_proofs.specs.Environments.{Given, IsTold, Ready, Stands, TellProofs, TellTypes, unproved};
+ghost use Rattle.rule_proofs.specs.Parameters.{AreParams};
 ghost use Rattle.rule_proofs.specs.Told.{TellsStep};
 
 use crate::scope::Environment;
@@ -25,6 +26,8 @@ use hol_term::{TermId, Variable};
 use hol_type::TypeId;
 use holide_sig::Module;
 use lp_term::{LpId, LpNode};
+use sequent::Params;
+use std::alloc::Global;
 use translate_term::{filler, tm, ty};
 
 // The numbers of the signature's first symbols: `type`, which stands where no proof is known, and `bool`.
@@ -37,6 +40,14 @@ const BOOL: usize = 1;
 pub struct Premise {
     pub id: StepId,
     pub symbol: usize,
+}
+
+/// The parameters of a step's sequent.
+pub(crate) fn params_of(alloc: Global, proof: &Proof, id: StepId) -> Result<Params, Memory>
+    requires { id < step_count proof.now }
+    ensures { IfOk result (AreParams proof.now id) }
+{
+    proof.sequent(id).params(alloc, proof.terms())
 }
 
 impl Environment {
@@ -250,13 +261,34 @@ impl Environment {
         ensures made { IfOk result (λ r. (given : Given) → Stands given target.old proof.now.trees self.now → TellsStep given proof.now premise.id → Holds target.new.table r.0 (theorem_tree given.scope premise.symbol (sequent_at proof.now.made premise.id))) }
         ensures grows { Grows target.old target.new }
     {
-        let sequent = proof.sequent(premise.id);
-        let params = sequent.params(self.alloc, proof.terms())?;
+        let params = params_of(self.alloc, proof, premise.id)?;
         let mut args = Vec::new(self.alloc);
-        self.add_type_variables(target, params.type_vars.names(), &mut args)?;
-        self.add_free_variables(target, proof, params.free_vars.variables(), &mut args)?;
-        self.add_hypotheses(target, sequent.hyps.ids(), &mut args)?;
-        call(&mut target.table, premise.symbol, &args)
+        let made = self.theorem_over(target, proof, premise, &params, &mut args);
+        drop(args);
+        drop(params);
+        made
+    }
+
+    /// A premise as a theorem, where its parameters are known. The arguments are added to none.
+    fn theorem_over(
+        &self,
+        target: &mut Module,
+        proof: &Proof,
+        premise: Premise,
+        params: &Params,
+        args: &mut Vec<LpId>,
+    ) -> Result<LpId, Memory>
+        requires premise { premise.id < step_count proof.now }
+        requires params { AreParams proof.now premise.id params.now }
+        requires none { args.old.items ≡ [] }
+        requires told { (given : Given) × Stands given target.old proof.now.trees self.now × TellsStep given proof.now premise.id }
+        ensures made { IfOk result (λ r. (given : Given) → Stands given target.old proof.now.trees self.now → TellsStep given proof.now premise.id → Holds target.new.table r.0 (theorem_tree given.scope premise.symbol (sequent_at proof.now.made premise.id))) }
+        ensures grows { Grows target.old target.new }
+    {
+        self.add_type_variables(target, params.type_vars.names(), args)?;
+        self.add_free_variables(target, proof, params.free_vars.variables(), args)?;
+        self.add_hypotheses(target, proof.sequent(premise.id).hyps.ids(), args)?;
+        call(&mut target.table, premise.symbol, args)
     }
 
     // Adds a premise as a theorem.

@@ -52,16 +52,37 @@ impl Environment {
         ensures made { IfOk result (λ env. (given : Given) (trees : Trees) → IsPlaced given target.old trees params.now.type_vars params.now.free_vars hyps.now inside → Stands given target.new trees env) }
         ensures grows { Grows target.old target.new }
     {
+        let mut made = Environment::new(alloc);
+        made.place(target, params, hyps, inside)?;
+        Ok(made)
+    }
+
+    /// Lets the binders of a sequent's parameters stand for these where so many binders more are inside theirs, and nothing is told yet.
+    fn place(
+        &mut self,
+        target: &mut Module,
+        params: &Params,
+        hyps: &[TermId],
+        inside: u128,
+    ) -> Result<(), Memory>
+        requires inside { inside < 2 ^ 64 }
+        requires types { self.old.types.entries ≡ [] }
+        requires terms { self.old.terms.entries ≡ [] }
+        requires proofs { self.old.proofs.entries ≡ [] }
+        requires scope_types { self.old.scope.types ≡ [] }
+        requires scope_terms { self.old.scope.terms ≡ [] }
+        ensures made { OnOk result ((given : Given) (trees : Trees) → IsPlaced given target.old trees params.now.type_vars params.now.free_vars hyps.now inside → Stands given target.new trees self.new) }
+        ensures grows { Grows target.old target.new }
+    {
         let names = params.type_vars.names();
         let variables = params.free_vars.variables();
         let proofs = inside + hyps.len() as u128;
         let terms = proofs + variables.len() as u128;
         let types = terms + names.len() as u128;
-        let mut made = Environment::new(alloc);
-        made.place_types(target, names, types)?;
-        made.place_terms(target, variables, terms)?;
-        made.place_proofs(target, hyps, proofs)?;
-        Ok(made)
+        self.place_types(target, names, types)?;
+        self.place_terms(target, variables, terms)?;
+        self.place_proofs(target, hyps, proofs)?;
+        Ok(())
     }
 
     /// What stands for them under one binder more, which stands for a variable.
@@ -76,8 +97,7 @@ impl Environment {
         ensures grows { Grows target.old target.new }
     {
         let mut made = Environment::of(alloc, target, params, hyps, 1)?;
-        let tree = target.table.node(LpNode::Var(0))?;
-        made.set_term(variable, tree)?;
+        made.bind_variable(target, variable)?;
         Ok(made)
     }
 
@@ -93,9 +113,28 @@ impl Environment {
         ensures grows { Grows target.old target.new }
     {
         let mut made = Environment::of(alloc, target, params, hyps, 1)?;
-        let tree = target.table.node(LpNode::Var(0))?;
-        made.set_proof(id, tree)?;
+        made.bind_proof(target, id)?;
         Ok(made)
+    }
+
+    /// Lets the innermost binder stand for a variable.
+    fn bind_variable(&mut self, target: &mut Module, variable: &Variable) -> Result<(), Memory>
+        ensures bound { OnOk result ((given : Given) (trees : Trees) → Stands given target.old trees self.old → variable.now.ty.0 < length trees.types → Stands (with_scope given (set_term (variable_view trees variable.now) (Var 0) given.scope)) target.new trees self.new) }
+        ensures grows { Grows target.old target.new }
+    {
+        let tree = target.table.node(LpNode::Var(0))?;
+        self.set_term(variable, tree)?;
+        Ok(())
+    }
+
+    /// Lets it prove a formula.
+    fn bind_proof(&mut self, target: &mut Module, id: TermId) -> Result<(), Memory>
+        ensures bound { OnOk result ((given : Given) (trees : Trees) → Stands given target.old trees self.old → id.0 < length trees.terms → Stands (with_scope given (set_proof (term_at trees id.0) (Var 0) given.scope)) target.new trees self.new) }
+        ensures grows { Grows target.old target.new }
+    {
+        let tree = target.table.node(LpNode::Var(0))?;
+        self.set_proof(id, tree)?;
+        Ok(())
     }
 
     // The environment in which nothing is told.

@@ -32,6 +32,9 @@ loop-id-init c = record { grows = Grows-refl _; alone = ProofsAlone-refl _; plac
 pub returns-in_err-tree-clause-grows : goal.returns-in_err-tree-clause-grows
 returns-in_err-tree-clause-grows c = Grows-trans c.loop-id.invariant.grows (Grows-table _ _ c.node.ensures.keeps)
 
+pub returns-in_err-set_proof-clause-grows : goal.returns-in_err-set_proof-clause-grows
+returns-in_err-set_proof-clause-grows c = Grows-trans c.loop-id.invariant.grows (Grows-table _ _ c.node.ensures.keeps)
+
 pub returns-clause-proofs : goal.returns-clause-proofs
 returns-clause-proofs c = λ trees other scope one have h.
     places-end term_eq (λ ts es f. TellProofs trees ts es other f) _ _ _ _ _ _ _ _ (ap (terms_at trees) (drop-all c.args.hyps.now c.loop-id.id-index (omega (arith, c.loop-id-test.false)))) (c.loop-id.invariant.places trees other one have) scope h

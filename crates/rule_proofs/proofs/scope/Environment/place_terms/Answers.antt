@@ -31,6 +31,9 @@ loop-variable-init c = record { grows = Grows-refl _; alone = TermsAlone-refl _;
 pub returns-in_err-tree-clause-grows : goal.returns-in_err-tree-clause-grows
 returns-in_err-tree-clause-grows c = Grows-trans c.loop-variable.invariant.grows (Grows-table _ _ c.node.ensures.keeps)
 
+pub returns-in_err-set_term-clause-grows : goal.returns-in_err-set_term-clause-grows
+returns-in_err-set_term-clause-grows c = Grows-trans c.loop-variable.invariant.grows (Grows-table _ _ c.node.ensures.keeps)
+
 pub returns-clause-terms : goal.returns-clause-terms
 returns-clause-terms c = λ trees other scope one have h.
     places-end variable_eq (λ ts es f. TellTerms trees.types ts es other f) _ _ _ _ _ _ _ _ (ap (variables_of trees) (drop-all c.args.variables.now c.loop-variable.variable-index (omega (arith, c.loop-variable-test.false)))) (c.loop-variable.invariant.places trees other one have) scope h

@@ -25,6 +25,9 @@ loop-name-init c = record { grows = Grows-refl _; alone = TypesAlone-refl _; pla
 pub returns-in_err-tree-clause-grows : goal.returns-in_err-tree-clause-grows
 returns-in_err-tree-clause-grows c = Grows-trans c.loop-name.invariant.grows (Grows-table _ _ c.node.ensures.keeps)
 
+pub returns-in_err-set_type-clause-grows : goal.returns-in_err-set_type-clause-grows
+returns-in_err-set_type-clause-grows c = Grows-trans c.loop-name.invariant.grows (Grows-table _ _ c.node.ensures.keeps)
+
 pub returns-clause-types : goal.returns-clause-types
 returns-clause-types c = λ scope h.
     places-end name_eq TellTypes _ _ _ _ _ _ _ _ (drop-all c.args.names.now c.loop-name.name-index (omega (arith, c.loop-name-test.false))) c.loop-name.invariant.places scope h

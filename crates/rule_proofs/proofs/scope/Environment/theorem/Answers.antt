@@ -1,61 +1,10 @@
-use Rattle.std.proofs.Common.{◌∙◌, sym, ap, subst, Some, []}
-use Rattle.std.specs.List.{AllByRecursion}
-use Rattle.std.proofs.lemmas.Result.{IfOk-weaker}
-use Rattle.hol_spec.specs.Proofs.{sequent_at}
-use Rattle.hol_spec.specs.Sequents.{type_variables_of, free_variables_of}
-use Rattle.hol_spec.specs.Terms.{Variable}
-use Rattle.hol_term.specs.Subterms.{variables_of}
-use Rattle.hol_term.specs.Tables.{terms_at, AreKnown as AreTermsOf}
-use Rattle.lp_spec.specs.Modules.{applied}
-use Rattle.lp_spec.specs.Trees.{Sym}
-use Rattle.lp_term.specs.Tables.{trees_at, AreKnown}
-use Rattle.translate_term.specs.Told.{TellsType}
-use Rattle.translate_term.specs.GrowLaws.{Grows-trans, Grows-table}
-use Rattle.rule_proofs.proofs.SequentLaws.{variables-told}
-use Rattle.rule_proofs.proofs.TheoremLaws.{Ready-start, theorem-args}
-use Rattle.rule_proofs.specs.EnvironmentLaws.{Stands-Grows}
 use Rattle.rule_proofs.proofs.scope.Environment.theorem.Goals as goal
 
-pub add_free_variables-requires-clause-told : goal.add_free_variables-requires-clause-told
-add_free_variables-requires-clause-told c =
-    let trees = c.args.proof.now.trees in
-    let s = sequent_at c.args.proof.now.made c.args.premise.id in
-    let given = c.requires.told.0 in
-    let are = ap (variables_of trees) c.variables.ensures ∙ (rw c.terms.ensures at c.in_ok-params.ensures.free_vars) ∙ ap free_variables_of c.sequent-sequent.ensures.is in (
-      given,
-      Stands-Grows c.add_type_variables.ensures.grows given trees c.args.self.now c.requires.told.1,
-      subst (AllByRecursion (λ (v : Variable). TellsType given.declarations given.symbols v.1)) (sym are) (variables-told given.declarations given.symbols s c.requires.told.2),
-    )
-
-pub call-requires : goal.call-requires
-call-requires c =
-    let trees = c.args.proof.now.trees in
-    let s = sequent_at c.args.proof.now.made c.args.premise.id in
-    let given = c.requires.told.0 in
-    let are = ap (variables_of trees) c.variables.ensures ∙ (rw c.terms.ensures at c.in_ok-params.ensures.free_vars) ∙ ap free_variables_of c.sequent-sequent.ensures.is in
-    let told = subst (AllByRecursion (λ (v : Variable). TellsType given.declarations given.symbols v.1)) (sym are) (variables-told given.declarations given.symbols s c.requires.told.2) in
-    let first = c.in_ok-add_type_variables.ensures.ready given trees [] (Ready-start given c.args.target.now trees c.args.self.now _ c.new-args.ensures.items c.requires.told.1) in
-    let second = c.in_ok-add_free_variables.ensures.ready given _ first told in
-    let third = c.in_ok-add_hypotheses.ensures.ready given trees _ second (subst (AreTermsOf trees) (sym c.ids.ensures.numbers) c.sequent-sequent.ensures.known.0) in
-    subst (AreKnown c.add_hypotheses.new.target.table) (sym c.deref.ensures.value) third.known
+pub theorem_over-made-requires-clause-none : goal.theorem_over-made-requires-clause-none
+theorem_over-made-requires-clause-none c = c.new-args.ensures.items
 
 pub returns-clause-made : goal.returns-clause-made
-returns-clause-made c =
-    let trees = c.args.proof.now.trees in
-    let s = sequent_at c.args.proof.now.made c.args.premise.id in
-    let names = c.names.ensures ∙ (rw c.terms.ensures at c.in_ok-params.ensures.type_vars) ∙ ap type_variables_of c.sequent-sequent.ensures.is in
-    let variables = ap (variables_of trees) c.variables.ensures ∙ (rw c.terms.ensures at c.in_ok-params.ensures.free_vars) ∙ ap free_variables_of c.sequent-sequent.ensures.is in
-    let hyps = ap (terms_at trees) c.ids.ensures.numbers ∙ ap (λ s. s.hypotheses) c.sequent-sequent.ensures.is in
-    IfOk-weaker c.call.result _ _
-    (λ r h given stands told.
-    let all = subst (AllByRecursion (λ (v : Variable). TellsType given.declarations given.symbols v.1)) (sym variables) (variables-told given.declarations given.symbols s told) in
-    let first = c.in_ok-add_type_variables.ensures.ready given trees [] (Ready-start given c.args.target.now trees c.args.self.now _ c.new-args.ensures.items stands) in
-    let second = c.in_ok-add_free_variables.ensures.ready given _ first all in
-    let third = c.in_ok-add_hypotheses.ensures.ready given trees _ second (subst (AreTermsOf trees) (sym c.ids.ensures.numbers) c.sequent-sequent.ensures.known.0) in
-    h ∙ ap (λ l. Some (applied (Sym c.args.premise.symbol) l))
-    (ap (trees_at c.add_hypotheses.new.target.table) c.deref.ensures.value ∙ third.are ∙ theorem-args given.scope s c.names.result.now _ _ names variables hyps))
-    c.call.ensures.made
+returns-clause-made c = c.theorem_over-made.ensures.made
 
 pub returns-clause-grows : goal.returns-clause-grows
-returns-clause-grows c =
-    Grows-trans c.add_type_variables.ensures.grows (Grows-trans c.add_free_variables.ensures.grows (Grows-trans c.add_hypotheses.ensures.grows (Grows-table _ _ c.call.ensures.keeps)))
+returns-clause-grows c = c.theorem_over-made.ensures.grows

@@ -1,18 +1,11 @@
-use Rattle.translate_term.specs.GrowLaws.{Grows-trans, Grows-table}
-use Rattle.rule_proofs.proofs.SetLaws.{Stands-set_term}
-use Rattle.rule_proofs.specs.EnvironmentLaws.{Stands-Grows}
+use Rattle.translate_term.specs.GrowLaws.{Grows-trans}
 use Rattle.rule_proofs.proofs.scope.Environment.under_variable.Goals as goal
 
-pub returns-in_err-tree-clause-grows : goal.returns-in_err-tree-clause-grows
-returns-in_err-tree-clause-grows c = Grows-trans c.of.ensures.grows (Grows-table _ _ c.node.ensures.keeps)
-
-pub returns-in_err-set_term-clause-grows : goal.returns-in_err-set_term-clause-grows
-returns-in_err-set_term-clause-grows c = Grows-trans c.of.ensures.grows (Grows-table _ _ c.node.ensures.keeps)
-
-pub returns-clause-grows : goal.returns-clause-grows
-returns-clause-grows c = Grows-trans c.of.ensures.grows (Grows-table _ _ c.node.ensures.keeps)
+pub returns-in_err-bind_variable-clause-grows : goal.returns-in_err-bind_variable-clause-grows
+returns-in_err-bind_variable-clause-grows c = Grows-trans c.of.ensures.grows c.bind_variable.ensures.grows
 
 pub returns-clause-made : goal.returns-clause-made
-returns-clause-made c = λ given trees placed known.
-    Stands-set_term given _ trees c.in_ok-made.made c.set_term.new.self c.args.variable.now c.in_ok-tree.tree _ known c.in_ok-tree.ensures.made c.in_ok-set_term.ensures.terms c.in_ok-set_term.ensures.alone
-    (Stands-Grows (Grows-table _ _ c.in_ok-tree.ensures.keeps) given trees c.in_ok-made.made (c.in_ok-made.ensures.made given trees placed))
+returns-clause-made c = λ given trees placed known. c.in_ok-bind_variable.ensures.bound given trees (c.in_ok-made.ensures.made given trees placed) known
+
+pub returns-clause-grows : goal.returns-clause-grows
+returns-clause-grows c = Grows-trans c.of.ensures.grows c.bind_variable.ensures.grows
