@@ -57,7 +57,7 @@ pub fn constant_list(
     made
 }
 
-/// The same, where the theorem's parameters are known. The arguments are added to none.
+/// What such a theorem says of the constants, where its parameters are known. The arguments are added to none.
 fn constant_list_over(
     target: &mut Module,
     proof: &Proof,

@@ -59,7 +59,7 @@ pub fn subst(
     made
 }
 
-/// The same, where the theorem's parameters are known.
+/// What a substitution makes of a theorem whose parameters are known.
 fn subst_over(
     target: &mut Module,
     proof: &Proof,
@@ -96,7 +96,7 @@ fn subst_over(
     made
 }
 
-/// The same, where the step's own parameters are known too. The arguments are added to none.
+/// What it makes of the theorem where the step's own parameters are known too. The arguments are added to none.
 fn subst_onto(
     target: &mut Module,
     proof: &Proof,
