@@ -1,5 +1,5 @@
 use Rattle.std.proofs.Common.{◌<◌, length, arith}
-use Rattle.rule_proofs.proofs.DomainLaws.{read_more, read_stops}
+use Rattle.rule_proofs.proofs.DomainLaws.{read_all, read_more, read_stops}
 use Rattle.rule_proofs.proofs.KeepLaws.{AreKnown-more}
 use Rattle.rule_proofs.proofs.trees.domains.Goals as goal
 
@@ -20,3 +20,10 @@ loop-place-preserved c =
           read_more c.args.table.now domains inside c.loop-place._place c.loop-place.domains.items c.loop-place.rest c.in-Pi.domain c.in-Pi.inside (omega (arith, c.in-Pi.ensures.lower.0, c.loop-place.invariant.rest))
           (omega (arith, c.in-Pi.ensures.lower.1, c.loop-place.invariant.rest)) (c.loop-place.invariant.read domains inside h e) (let l : c.loop-place._place < length domains = omega (arith, e, c.loop-place-test.true) in l) c.in-Pi.ensures.is;
     })
+
+pub returns-clause-known : goal.returns-clause-known
+returns-clause-known c = c.loop-place.invariant.known
+
+pub returns-clause-are : goal.returns-clause-are
+returns-clause-are c = λ domains inside h e.
+    read_all c.args.table.now domains inside c.loop-place._place c.loop-place.domains.items c.loop-place.rest (c.loop-place.invariant.read domains inside h e) (omega (arith, e, c.loop-place-test.false))
