@@ -3,7 +3,7 @@ use Rattle.std.specs.Prelude.{ℕ, ◌≡◌, ◌+◌, ◌≤◌, List, [], ◌+
 use Rattle.std.proofs.Common.{sym, ap, subst, ◌∙◌, append_assoc, take-add, arith}
 use Rattle.std.proofs.lemmas.List.{append-nil, length-append, take-append-le}
 use Rattle.std.proofs.Math.Seq.{take-length, take-append-add}
-use Rattle.bridge_base.specs.Outside.{Rose, HasCause, Files, has, file, Gains, GainsFront, Gives}
+use Rattle.bridge_base.specs.Outside.{Rose, HasCause, Files, has, file, Gains, GainsFront, Gives, Begins}
 use Rattle.std.specs.Map.{lookup}
 use Rattle.std.specs.Str.{bytes_eq}
 
@@ -64,6 +64,18 @@ gives_both None None (Some c) xs ys first second = second
 gives_both None (Some b) c xs ys first second = absurd first
 gives_both (Some a) None c xs ys first second = absurd first
 gives_both (Some a) (Some b) None xs ys first second = second
+
+-- what tells the same began nothing
+pub begins_none : (a : Option (List (List ℕ))) → Begins a [] a
+begins_none None = tt
+begins_none (Some names) = sym (append-nil names)
+
+-- names begun in two parts were begun in order
+pub begins_both : (a b c : Option (List (List ℕ))) (xs ys : List (List ℕ)) → Begins a xs b → Begins b ys c → Begins a (xs ++ ys) c
+begins_both a b None xs ys first second = tt
+begins_both (Some a) (Some b) (Some c) xs ys first second = second ∙ ap (λ z. z ++ ys) first ∙ append_assoc a xs ys
+begins_both a None (Some c) xs ys first second = absurd second
+begins_both None (Some b) (Some c) xs ys first second = absurd first
 
 -- what was given until nothing is left is the whole
 pub given_whole : (a b : Option (List ℕ)) (xs : List ℕ) → Gives a xs b → IfSome b (λ rest. rest ≡ []) → IfSome a (λ whole. whole ≡ xs)

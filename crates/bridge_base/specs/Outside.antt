@@ -45,3 +45,13 @@ Gives None bytes None = Unit {0}
 Gives (Some old) bytes (Some new) = old ≡ bytes ++ new
 Gives None bytes (Some new) = ⊥
 Gives (Some old) bytes None = ⊥
+
+-- the names that are told grow by these, or are told no more
+abbrev pub Begins : Option (List (List ℕ)) → List (List ℕ) → Option (List (List ℕ)) → Type 0
+Begins old names None = Unit {0}
+Begins (Some old) names (Some new) = new ≡ old ++ names
+Begins None names (Some new) = ⊥
+
+-- the names that are told grow by a front of these, or are told no more
+abbrev pub BeginsFront : Option (List (List ℕ)) → List (List ℕ) → Option (List (List ℕ)) → Type 0
+BeginsFront old names new = (k : ℕ) × (k ≤ length names) × Begins old (take k names) new

@@ -71,13 +71,15 @@ impl MemShelf {
 }
 
 impl Shelf for MemShelf {
-    ghost use Rattle.std.specs.Prelude.{Some};
+    ghost use Rattle.std.specs.Prelude.{None, Some};
 
     ghost told = { λ shelf. Some shelf.opened.files };
 
     ghost left = { λ shelf. Some shelf.opened.left };
 
     ghost faults = { λ shelf. shelf.calls.faults };
+
+    ghost begun = { λ _. None };
 
     /// Begins the file of that name. Fails at a listed call, and where there is no such file.
     fn begin(&mut self, name: &str) -> Result<(), Failed>

@@ -40,13 +40,15 @@ impl QuietShelf {
 }
 
 impl Shelf for QuietShelf {
-    ghost use Rattle.std.specs.Prelude.{Some};
+    ghost use Rattle.std.specs.Prelude.{None, Some};
 
     ghost told = { λ shelf. Some shelf.files };
 
     ghost left = { λ shelf. Some shelf.left };
 
     ghost faults = { λ _. 0 };
+
+    ghost begun = { λ _. None };
 
     /// Begins the file of that name, or an empty file. Never fails.
     fn begin(&mut self, name: &str) -> Result<(), Failed>

@@ -57,6 +57,8 @@ impl<R: Files> Shelf for FileShelf<R> {
 
     ghost faults = { λ shelf. shelf.faults };
 
+    ghost begun = { λ _. None };
+
     /// Opens the file of that path. Fails where the system can't open it, and then no file is begun.
     fn begin(&mut self, name: &str) -> Result<(), Failed>
         ensures ok { OnOk result (self.new ≡ record { begun = true; faults = self.old.faults }) }
