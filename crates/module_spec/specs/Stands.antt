@@ -1,5 +1,5 @@
 -- What a module says for its run: it is a well-typed module, it leaves unproved only what the run gave, it defines only what the run
--- defined, and its exports are the run's.
+-- defined, its theorems bear no symbol's name, and its exports are the run's.
 use Rattle.std.specs.Prelude.{ℕ, suc, ◌≡◌, ◌+◌, ◌&&◌, ◌||◌, Bool, true, false, List, [], ◌∷◌, ◌++◌, length, nat_eq, replicate, slice_get, Some, None, codes}
 use Rattle.std.specs.List.{filter, IsAmong}
 use Rattle.std.specs.Option.{option_map_or}
@@ -27,6 +27,13 @@ use Rattle.module_spec.specs.Image.{input_constant_name, input_operator_name, co
 pub record IsExportName (name : List ℕ) : Type 0 where
   pub number : ℕ
   pub is : name ≡ codes "E" ++ numeral number
+
+-- the name of a theorem: that of one of the two lemmas, or `T` or `E` and a number; a symbol of higher-order logic has another
+pub data IsTheoremName (name : List ℕ) : Type 0 where
+  symmetry : name ≡ codes "sym" → IsTheoremName name
+  transitivity : name ≡ codes "trans" → IsTheoremName name
+  step : (i : ℕ) → name ≡ codes "T" ++ numeral i → IsTheoremName name
+  export : IsExportName name → IsTheoremName name
 
 -- Whether a name is that of an export; 69 is `E`. That it decides it is `is_export_name-Decides`.
 abbrev pub is_export_name : List ℕ → Bool
@@ -112,4 +119,5 @@ pub record Stands (m : List Declaration) (run : Accepted) : Type 0 where
   pub typed : WellTyped m
   pub unproved : (i : ℕ) (d : Declaration) → slice_get m i ≡ Some d → d.body ≡ None → IsUnproved m run i d
   pub definitions : (i : ℕ) (d : Declaration) → slice_get m i ≡ Some d → d.form ≡ Def → IsDefined m run d
+  pub theorems : (i : ℕ) (d : Declaration) → slice_get m i ≡ Some d → d.form ≡ Thm → IsTheoremName d.name
   pub exports : AreExports m run 0 run.exports (filter (λ d. is_export_name d.name) m)

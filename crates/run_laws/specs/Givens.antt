@@ -22,7 +22,7 @@ use Rattle.hol_spec.specs.Proofs.{Step, symbols_of, steps_of, sequent_at, Accept
 use Rattle.article_spec.specs.SoundRuns.{assumed_from, IsSoundRun}
 use Rattle.hol_spec.specs.Lists.{IsIn}
 use Rattle.hol_laws.specs.Members.{IsIn-distinct, All-at, All-each}
-use Rattle.lp_spec.specs.declared.form.Form.TheVariants.{Def}
+use Rattle.lp_spec.specs.declared.form.Form.TheVariants.{Def, Thm}
 use Rattle.lp_spec.specs.Modules.{Declaration, symbol, products, abstractions, term_of}
 use Rattle.module_spec.specs.TypeEnc.{place}
 use Rattle.module_spec.specs.Enc.{Enc, StandsForTerm}
@@ -32,7 +32,7 @@ use Rattle.module_spec.specs.Items.{Content, constant, defined_constant, Item, s
 use Rattle.module_spec.specs.MadeItems.{contents_of, content_by, items_of}
 use Rattle.module_spec.specs.Reach.{kept, renumbered, renumbered_content}
 use Rattle.module_spec.specs.Image.{symbol_name, type_definition_name, step_name, name_in, is_one_of, image, constant_name, operator_name}
-use Rattle.module_spec.specs.Stands.{IsConstantType, IsLawKind, IsGiven, IsDefined}
+use Rattle.module_spec.specs.Stands.{IsConstantType, IsLawKind, IsGiven, IsDefined, IsTheoremName}
 use Rattle.module_laws.specs.BodyTyping.{IsIn-map}
 use Rattle.module_laws.specs.KeptModules.{IsIn-kept}
 use Rattle.module_laws.specs.ItemConditions.{IsDefining, IsContent}
@@ -43,6 +43,7 @@ use Rattle.module_laws.specs.AcceptedItems.{says-step}
 use Rattle.run_laws.specs.Origins.{Origin}
 use Rattle.run_laws.specs.Named.{HasNames, IsStepName, step_name-is, is-assumed, at-place}
 use Rattle.run_laws.specs.ExportOrder.{HaveRows, sequent-step}
+use Rattle.run_laws.specs.RunModules.{declaration-name}
 use Rattle.run_laws.specs.Meanings.{ContentMeant}
 use Rattle.run_laws.specs.Standing.{Always, items, keep, number, stays, symbols, declared, stays-meant, item-stands, BothMeant}
 use Rattle.proof_laws.specs.SymbolGrowth.{symmetric}
@@ -58,6 +59,11 @@ no_definition : (symbols : Symbols) (number : ℕ → ℕ) (name : List ℕ) (b 
     → (declaration_of symbols name (renumbered_content number (content_by b kind js ss g s))).form ≡ Def → ⊥
 no_definition symbols number name true kind js ss g s f = absurd (cc)
 no_definition symbols number name false kind js ss g s f = absurd (cc)
+
+no_theorem : (symbols : Symbols) (number : ℕ → ℕ) (name : List ℕ) (b : Bool) → b ≡ false → (kind : StepKind) (js : List ℕ) (ss : List Sequent) (g : Parameters) (s : Sequent)
+    → (declaration_of symbols name (renumbered_content number (content_by b kind js ss g s))).form ≡ Thm → ⊥
+no_theorem symbols number name true e kind js ss g s f = absurd (cc)
+no_theorem symbols number name false e kind js ss g s f = absurd (cc)
 
 -- a member is among the list
 pub among : {A : Type 0} (xs : List A) (x : A) → IsIn xs x → IsAmong xs x
@@ -159,6 +165,19 @@ module _ (m : List Declaration) (symbols : Symbols) where
     symbol-defined name c (Symbol.defined (Definition.type_operator names a f)) front h i (inr (inr (inl e))) w meant def = let f = sym (ap (λ b. (made_of name b).form) e) ∙ def in absurd (cc)
     symbol-defined name c (Symbol.defined (Definition.type_operator names a f)) front h i (inr (inr (inr k))) w meant def = absurd k
 
+    -- the declaration of a symbol is no theorem
+    pub symbol-no_theorem : (name : List ℕ) (c : Content) (x : Symbol) → IsIn (contents_of x) c → (made_of name c).form ≡ Thm → ⊥
+    symbol-no_theorem name c (Symbol.input_constant n) (inl e) thm = let f = sym (ap (λ b. (made_of name b).form) e) ∙ thm in absurd (cc)
+    symbol-no_theorem name c (Symbol.input_constant n) (inr k) thm = absurd k
+    symbol-no_theorem name c (Symbol.input_operator n j) (inl e) thm = let f = sym (ap (λ b. (made_of name b).form) e) ∙ thm in absurd (cc)
+    symbol-no_theorem name c (Symbol.input_operator n j) (inr k) thm = absurd k
+    symbol-no_theorem name c (Symbol.defined (Definition.constant n u)) (inl e) thm = let f = sym (ap (λ b. (made_of name b).form) e) ∙ thm in absurd (cc)
+    symbol-no_theorem name c (Symbol.defined (Definition.constant n u)) (inr k) thm = absurd k
+    symbol-no_theorem name c (Symbol.defined (Definition.type_operator names a f)) (inl e) thm = let g = sym (ap (λ b. (made_of name b).form) e) ∙ thm in absurd (cc)
+    symbol-no_theorem name c (Symbol.defined (Definition.type_operator names a f)) (inr (inl e)) thm = let g = sym (ap (λ b. (made_of name b).form) e) ∙ thm in absurd (cc)
+    symbol-no_theorem name c (Symbol.defined (Definition.type_operator names a f)) (inr (inr (inl e))) thm = let g = sym (ap (λ b. (made_of name b).form) e) ∙ thm in absurd (cc)
+    symbol-no_theorem name c (Symbol.defined (Definition.type_operator names a f)) (inr (inr (inr k))) thm = absurd k
+
     -- what is unproved has no body
     unproved-is : (name : List ℕ) (b : Bool) → b ≡ false → (kind : StepKind) (js : List ℕ) (ss : List Sequent) (g : Parameters) (s : Sequent)
         → made_of name (content_by b kind js ss g s) ≡ symbol name (made_of name (content_by b kind js ss g s)).ty
@@ -222,3 +241,24 @@ module _ (run : Accepted) (named : HasNames run) (sound : IsSoundRun run) (rows 
       go (Origin.of_step j x kind js ss g p at e w) =
           absurd (no_definition (symbols run named sound) (number run named sound) z.name (has_row x.kind) kind js ss g x.sequent
           (ap (λ c. (declaration_of (symbols run named sound) z.name (renumbered_content (number run named sound) c)).form) (sym e) ∙ def))
+
+  -- WHAT IS PROVED HAS THE NAME OF A THEOREM
+  pub item-theorem : (z : Item) → IsIn (items run named sound) z → (declared run named sound z).form ≡ Thm → IsTheoremName (declared run named sound z).name
+  item-theorem z i thm =
+      subst IsTheoremName (sym (declaration-name (symbols run named sound) z.name (renumbered_content (number run named sound) z.content))) (go (All-at (Origin run run.made Always) (items run named sound) z origins i))
+    where
+      step-theorem : (b : Bool) (kind : StepKind) → has_row kind ≡ b → (j : ℕ) (own : StepKind) (js : List ℕ) (ss : List Sequent) (g : Parameters) (s : Sequent)
+          → z.content ≡ content_by (has_row kind) own js ss g s → IsStepName run j kind z.name → IsTheoremName z.name
+      step-theorem true kind row j own js ss g s e (IsStepName.an_export one v) = IsTheoremName.export (record { number = position_or_len (nat_eq j) run.exports; is = v })
+      step-theorem true kind row j own js ss g s e (IsStepName.a_theorem out theorem v) = IsTheoremName.step j v
+      step-theorem true kind row j own js ss g s e (IsStepName.an_assumption out one k v) = let f : has_row kind ≡ false = ap has_row k in absurd (both_ways (has_row kind) f row)
+      step-theorem true kind row j own js ss g s e (IsStepName.a_law out (inl k) v) = let f : has_row kind ≡ false = ap has_row k in absurd (both_ways (has_row kind) f row)
+      step-theorem true kind row j own js ss g s e (IsStepName.a_law out (inr k) v) = let f : has_row kind ≡ false = ap has_row k in absurd (both_ways (has_row kind) f row)
+      step-theorem false kind row j own js ss g s e n =
+          absurd (no_theorem (symbols run named sound) (number run named sound) z.name (has_row kind) row own js ss g s
+          (ap (λ c. (declaration_of (symbols run named sound) z.name (renumbered_content (number run named sound) c)).form) (sym e) ∙ thm))
+
+      go : Origin run run.made Always z → IsTheoremName z.name
+      go (Origin.of_symbol x one j e) = absurd (symbol-no_theorem (image run) (symbols run named sound) run (number run named sound) z.name z.content x j thm)
+      go (Origin.of_step j x kind js ss g p at e w) =
+          step-theorem (has_row x.kind) x.kind refl j kind js ss g x.sequent e (subst (IsStepName run j x.kind) (sym w) (named-step j x at))
