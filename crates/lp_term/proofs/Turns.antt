@@ -108,6 +108,16 @@ already_wanted {ts = ts} ids place tasks made memo id h args goal w = ⊎_elim
     (λ noted. (w.noted place id noted).1)
     h
 
+-- a tree that the change leaves alone is the one that is wanted
+pub left_alone : (ts args : List Tree) (place : Place) → IsPlace ts place → IsLeftAlone ts place → Holds ts place.id.0 (wanted args ts place)
+left_alone ts args place here alone =
+    let b : place.depth < 2 ^ 64 = omega (arith, here.1) in
+    let e : wanted args ts place ≡ tree_at ts place.id.0 = ⊎_elim
+    (λ zero. ap (λ c. changed args c place.depth (tree_at ts place.id.0)) zero ∙ lift_at-zero place.depth (tree_at ts place.id.0))
+    (λ closed. changed-closed args place.change place.depth (tree_at ts place.id.0) (closed b))
+    alone in
+    tree_at-Holds ts place.id.0 here.0 ∙ ap Some (sym e)
+
 -- a leaf that no change alters
 pub leaf_wanted : {ts : List Tree} (ids : List LpId) (place : Place) (tasks : List Task) (made : List LpId) (memo : List (Place × LpId)) (t : Tree) → Holds ts place.id.0 t → loose t ≡ 0 → IsWanted (Keeps-refl ts) ids place tasks made memo place.id
 leaf_wanted {ts = ts} ids place tasks made memo t h z args goal w =

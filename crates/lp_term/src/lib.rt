@@ -184,8 +184,8 @@ impl LpTable {
         self.walk(self.alloc, args, root(body, Change::Replace))
     }
 
-    // Whether so many binders round the tree leave it no loose variable. It may answer no where they are countless.
-    pub(crate) fn is_closed_under(&self, id: LpId, depth: u128) -> bool
+    /// Whether so many binders round the tree leave it no loose variable. It may answer no where they are countless.
+    pub fn is_closed_under(&self, id: LpId, depth: u128) -> bool
         requires { id.0 < length self.now }
         ensures closed { OnTrue result (depth < 2 ^ 64 → loose_of (tree_at self.now id.0) ≤ depth) }
     {

@@ -1,7 +1,10 @@
 //! The walk that lifts a tree and puts trees into it. It keeps a stack of its own.
 ghost use Rattle.std.specs.Prelude.{◌≡◌, ℕ, ◌<◌, ◌≤◌, ◌+◌, ◌-◌, ◌^◌, [], ◌∷◌, List, length, reverse, slice_get, Some, IfOk, IfSome, IfNone, OnOk, OnErr, ◌⊎◌};
+ghost use Rattle.std.specs.Bool.{OnTrue};
 ghost use Rattle.lp_spec.specs.Trees.{Tree, Var, loose as loose_of};
 ghost use Rattle.lp_term.specs.declared.walk.Task.TheVariants as task;
+ghost use Rattle.lp_term.specs.declared.LpId.{LpId as AnId};
+ghost use Rattle.lp_term.specs.declared.memo.Place.{Place as APlace};
 ghost use Rattle.lp_term.specs.Tables.{tree_at, trees_at, AreKnown, Holds, Keeps, IsDistinct};
 ghost use Rattle.lp_term.specs.Noted.{IsNoted};
 ghost use Rattle.lp_term.specs.Walks.{IsLeftAlone, IsPlace, IsReplaced, IsWalk, wanted, with_parts as node_with_parts, work};
@@ -10,6 +13,9 @@ use crate::memo::{Change, Memo, Place};
 use crate::{LpId, LpNode, LpTable};
 use bridge_base::{Memory, Stack};
 use std::alloc::Global;
+
+/// How many nodes a tree has that is made once for each place, and not again where it stands there again. A smaller one is made again.
+const SHARED: u128 = 128;
 
 /// What is still to be done.
 #[derive(Clone, Copy)]
@@ -48,6 +54,9 @@ impl LpTable {
         ensures unchanged { OnErr result (self.new ≡ self.old) }
     {
         let count = self.count();
+        if is_left_alone(self, root) {
+            return Ok(root.id);
+        }
         match self.walk_on(alloc, args, root) {
             Ok(made) => Ok(made),
             Err(memory) => {
@@ -108,11 +117,31 @@ fn already(table: &LpTable, memo: &Memo, place: Place) -> Option<LpId>
     requires { place.id.0 < length table.now }
     ensures { IfSome result (λ r. ((r ≡ place.id) × IsLeftAlone table.now place) ⊎ IsNoted memo.now place r) }
 {
-    if place.change == Change::Raise(0) || table.is_closed_under(place.id, place.depth) {
+    if is_left_alone(table, place) {
         Some(place.id)
+    } else if table.size(place.id) < SHARED {
+        None
     } else {
         memo.find(place)
     }
+}
+
+// Whether the change leaves the tree of a place alone.
+fn is_left_alone(table: &LpTable, place: Place) -> bool
+    requires { place.id.0 < length table.now }
+    ensures { OnTrue result (IsLeftAlone table.now place) }
+{
+    place.change == Change::Raise(0) || table.is_closed_under(place.id, place.depth)
+}
+
+// Notes the tree of a place, where it is large enough that it pays.
+fn note(memo: &mut Memo, place: Place, id: LpId, size: u128) -> Result<(), Memory>
+    ensures noted { OnOk result ((p : APlace) (r : AnId) → IsNoted memo.new p r → IsNoted memo.old p r ⊎ ((p ≡ place) × (r ≡ id))) }
+{
+    if size < SHARED {
+        return Ok(());
+    }
+    memo.note(place, id)
 }
 
 // Puts a tree on those that are made.
@@ -248,9 +277,10 @@ fn join(table: &mut LpTable, args: &[LpId], place: Place, walk: &mut Walk) -> Re
     ensures less { OnOk result (work table.new args.now walk.new.tasks < work table.old args.now (task.Join place ∷ walk.old.tasks)) }
 {
     let (first, second) = two(&mut walk.made);
+    let size = table.size(place.id);
     let node = with_parts(table.view(place.id), first, second);
     let id = table.node(node)?;
-    walk.memo.note(place, id)?;
+    note(&mut walk.memo, place, id, size)?;
     give(walk, id)
 }
 
