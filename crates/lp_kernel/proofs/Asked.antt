@@ -1,5 +1,6 @@
 -- A turn that asks for the type of a tree.
 use Rattle.std.proofs.Common.{◌≡◌, refl, sym, ap, ◌∙◌, subst, ℕ, zero, suc, length, Option, ◌-◌, ◌<◌, ◌≤◌, arith, true, List, [], ◌∷◌, Some}
+use Rattle.std.proofs.Math.Path.{subst₂}
 use Rattle.lp_spec.specs.Trees.{Tree, Sym, App, Lam, Pi, lift}
 use Rattle.lp_spec.specs.Modules.{Declaration}
 use Rattle.lp_term.specs.declared.LpId.{LpId}
@@ -16,7 +17,7 @@ use Rattle.lp_kernel.specs.declared.state.Frame.TheVariants as frame
 use Rattle.lp_kernel.specs.declared.state.Next.{Next}
 use Rattle.lp_kernel.specs.declared.state.Next.TheVariants as next
 use Rattle.lp_kernel.specs.declared.state.State.{State}
-use Rattle.lp_kernel.specs.Pending.{resume, IsTurned, variable_plan, variable_type, IsFoundIf, IsKnownFrame, AreKnownFrames, IsKnownState, outside}
+use Rattle.lp_kernel.specs.Pending.{resume, IsTurned, variable_plan, variable_type, IsFoundIf, IsApplication, IsKnownFrame, AreKnownFrames, IsKnownState, outside}
 use Rattle.std.proofs.lemmas.Option.{same_Some}
 
 -- a turn that goes on as the plan for the tree does
@@ -27,7 +28,7 @@ module _ (ds : List Declaration) (G : List Tree) (rest : Tree → Plan) where
       (leaves_fewer ds true le (leaves_then ds true (leaves_ask ds true (Infer G u) rest) (leaves_equal ds true is)))
 
 module _ (ds : List Declaration) (ts : List Tree) (c : List LpId) (fs new : List Frame) (id : LpId) (spent : ℕ) where
-  pub asked-application : (f x : LpId) → Holds ts id.0 (App (tree_at ts f.0) (tree_at ts x.0)) → new ≡ frame.Function x ∷ fs → spent ≤ 1
+  pub asked-application : (f x : LpId) → Holds ts id.0 (App (tree_at ts f.0) (tree_at ts x.0)) → new ≡ frame.Function f x id ∷ fs → spent ≤ 1
       → Leaves ds true (Ask (Infer (trees_at ts c) (tree_at ts id.0)) (resume ds ts c fs)) spent (Ask (Infer (trees_at ts c) (tree_at ts f.0)) (resume ds ts c new))
   asked-application f x at e le =
       subst (λ l. Leaves ds true (Ask (Infer (trees_at ts c) (tree_at ts id.0)) (resume ds ts c fs)) spent (Ask (Infer (trees_at ts c) (tree_at ts f.0)) (resume ds ts c l))) (sym e)
@@ -55,6 +56,7 @@ asked-symbol m s id k old new next.No at h le =
     (ap (λ o. and_then (found_if o) (resume (declarations_of m) m.table s.context s.frames)) h)
 asked-symbol m s id k old new (next.Ask t) at h le = absurd h
 asked-symbol m s id k old new next.Over at h le = absurd h
+asked-symbol m s id k old new (next.Under b j f) at h le = absurd h
 
 -- the turns of the leaves: what is found, if anything, at once
 pub asked-found : (m : Module) (s : State) (id : LpId) (t : Tree) (o : Option Tree) (old new : ℕ) (n : Next) → tree_at m.table id.0 ≡ t → infer (declarations_of m) true (trees_at m.table s.context) t ≡ found_if o → IsFoundIf m.table o n → old - new ≤ 1
@@ -67,6 +69,7 @@ asked-found m s id t o old new next.No at is h le =
     (ap (λ p. and_then p (resume (declarations_of m) m.table s.context s.frames)) (is ∙ ap found_if h))
 asked-found m s id t o old new (next.Ask r) at is h le = absurd h
 asked-found m s id t o old new next.Over at is h le = absurd h
+asked-found m s id t o old new (next.Under b j f) at is h le = absurd h
 
 -- a variable's type
 pub entry-of : (ts : List Tree) (c : List LpId) (n : ℕ) (o : Option LpId) → o ≡ slice_get c n → option_map (λ id. tree_at ts id.0) o ≡ slice_get (trees_at ts c) n
@@ -85,11 +88,19 @@ lifted-entry ts us c n k entry r s known e h is =
     ap (option_map (lift (suc n))) (sym (entry-of us c n (Some entry) e))
     ∙ ap Some (ap (lift (suc n)) (sym (tree_at-Stays s entry.0 known)) ∙ ap (λ j. lift j (tree_at ts entry.0)) (sym is) ∙ sym (Holds-tree_at us r.0 _ h))
 
+pub known-application : {ts us : List Tree} → Keeps ts us → (f x w : LpId) → IsApplication ts f x w → IsApplication us f x w
+known-application {us = us} k f x w h = record {
+  function = omega (arith, k.longer, h.function);
+  argument = omega (arith, k.longer, h.argument);
+  whole = omega (arith, k.longer, h.whole);
+  is = subst₂ (λ F X. Holds us w.0 (App F X)) (tree_at-Stays k.stays f.0 h.function) (tree_at-Stays k.stays x.0 h.argument) (k.stays.each w.0 _ h.is);
+}
+
 known-frame : {ts us : List Tree} → Keeps ts us → (f : Frame) → IsKnownFrame ts f → IsKnownFrame us f
-known-frame k (frame.Function x) h = omega (arith, k.longer, h)
-known-frame k (frame.Reached p x) h = (omega (arith, k.longer, h.0), omega (arith, k.longer, h.1))
-known-frame k (frame.Argument a b x) h = (omega (arith, k.longer, h.0), omega (arith, k.longer, h.1), omega (arith, k.longer, h.2))
-known-frame k (frame.Expected a b x y) h = (omega (arith, k.longer, h.0), omega (arith, k.longer, h.1), omega (arith, k.longer, h.2), omega (arith, k.longer, h.3))
+known-frame k (frame.Function f x w) h = known-application k f x w h
+known-frame k (frame.Reached p f x w) h = (omega (arith, k.longer, h.0), known-application k f x w h.1)
+known-frame k (frame.Argument a b j f w) h = (omega (arith, k.longer, h.0), omega (arith, k.longer, h.1), omega (arith, k.longer, h.2), omega (arith, k.longer, h.3))
+known-frame k (frame.Expected a b j w y) h = (omega (arith, k.longer, h.0), omega (arith, k.longer, h.1), omega (arith, k.longer, h.2), omega (arith, k.longer, h.3))
 known-frame k (frame.Domain a b) h = (omega (arith, k.longer, h.0), omega (arith, k.longer, h.1))
 known-frame k (frame.Body a) h = omega (arith, k.longer, h)
 known-frame k (frame.ProductDomain a b) h = (omega (arith, k.longer, h.0), omega (arith, k.longer, h.1))

@@ -19,6 +19,8 @@ use Rattle.lp_conv.specs.GrowthLaws.{Grows-refl, Grows-trans, IsHeld-Grows, decl
 use Rattle.lp_conv.specs.declared.Answer.TheVariants as answer
 use Rattle.lp_kernel.specs.declared.checks.Verdict.{Verdict}
 use Rattle.lp_kernel.specs.declared.checks.Verdict.TheVariants as verdict
+use Rattle.lp_term.specs.declared.LpId.{LpId}
+use Rattle.lp_kernel.specs.Noted.{AreRight}
 use Rattle.lp_kernel.specs.Checks.{SaysYes, SaysNo, IsOverBudget, IsChecked, PassBelow, IsIllTyped, IsPastBudget, IsJudged, EndsWithin, PassWithin, IsRefusedWithin}
 
 -- a check has one reply
@@ -40,6 +42,11 @@ pub record ArePassing (from m : Module) (i : ℕ) : Type 0 where
   pub held : IsHeld m
   pub same : declarations_of m ≡ declarations_of from
   pub below : PassBelow (declarations_of from) i
+
+-- and what is noted is right
+pub record IsCarried (from m : Module) (i : ℕ) (es : List (LpId × LpId)) : Type 0 where
+  pub passing : ArePassing from m i
+  pub right : AreRight (declarations_of m) m.table es
 
 pub passing-start : (m : Module) → IsHeld m → ArePassing m m 0
 passing-start m held = record { grows = Grows-refl m; held = held; same = refl; below = λ k lt. absurd (omega (arith, lt)) }

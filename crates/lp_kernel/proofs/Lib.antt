@@ -2,7 +2,10 @@ pub mod Asked
 pub mod Checked
 pub mod Expected
 pub mod Judged
+pub mod Levels
 pub mod Looped
+pub mod NotedLaws
 pub mod Reached
 pub mod Sound
+pub mod Gathered
 pub mod Told

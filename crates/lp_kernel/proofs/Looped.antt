@@ -1,7 +1,7 @@
 -- What the loop keeps: what is pending is what the question leaves.
 use Rattle.std.proofs.Common.{◌≡◌, refl, sym, ap, ◌∙◌, subst, ℕ, ◌-◌, ◌<◌, ◌≤◌, arith, true, length, List, [], ◌∷◌}
 use Rattle.std.proofs.Math.Path.{fun_ext}
-use Rattle.lp_spec.specs.Trees.{Tree}
+use Rattle.lp_spec.specs.Trees.{Tree, put_all}
 use Rattle.std.proofs.Math.Path.{ap₂}
 use Rattle.lp_spec.specs.Modules.{Declaration}
 use Rattle.lp_term.specs.declared.LpId.{LpId}
@@ -21,26 +21,26 @@ use Rattle.lp_kernel.specs.declared.inference.Inferred.TheVariants as inferred
 use Rattle.lp_conv.specs.Growth.{Grows}
 use Rattle.lp_conv.specs.Answers.{IsOver}
 use Rattle.lp_kernel.specs.Inference.{typing, IsInferred}
-use Rattle.lp_kernel.specs.Pending.{resume, pending, after, below, IsTurned, IsKnownFrame, AreKnownFrames, IsKnownState, IsKnownNext}
+use Rattle.lp_kernel.specs.Pending.{spine_args, resume, pending, after, below, IsTurned, IsKnownFrame, AreKnownFrames, IsKnownState, IsKnownNext}
 use Rattle.lp_conv.specs.GrowthLaws.{trees_at-Stays}
 
 module _ (ds : List Declaration) {ts us : List Tree} (s : Stays ts us) where
   -- how a frame goes on stays
   after-stays : (G : List Tree) (f : Frame) (t : Tree) → IsKnownFrame ts f → after ds us G f t ≡ after ds ts G f t
-  after-stays G (frame.Function x) t h = rw (tree_at-Stays s x.0 h) refl
-  after-stays G (frame.Reached p x) t h = rw (tree_at-Stays s p.0 h.0, tree_at-Stays s x.0 h.1) refl
-  after-stays G (frame.Argument a b x) t h = rw (tree_at-Stays s a.0 h.0, tree_at-Stays s b.0 h.1, tree_at-Stays s x.0 h.2) refl
-  after-stays G (frame.Expected a b x y) t h = rw (tree_at-Stays s a.0 h.0, tree_at-Stays s b.0 h.1, tree_at-Stays s x.0 h.2, tree_at-Stays s y.0 h.3) refl
+  after-stays G (frame.Function f x w) t h = rw (tree_at-Stays s x.0 h.argument) refl
+  after-stays G (frame.Reached p f x w) t h = rw (tree_at-Stays s p.0 h.0, tree_at-Stays s x.0 h.1.argument) refl
+  after-stays G (frame.Argument a b k f w) t h = rw (tree_at-Stays s a.0 h.0, tree_at-Stays s b.0 h.1, tree_at-Stays s f.0 h.2, tree_at-Stays s w.0 h.3) refl
+  after-stays G (frame.Expected a b k x y) t h = rw (tree_at-Stays s a.0 h.0, tree_at-Stays s b.0 h.1, tree_at-Stays s x.0 h.2, tree_at-Stays s y.0 h.3) refl
   after-stays G (frame.Domain a b) t h = rw (tree_at-Stays s a.0 h.0, tree_at-Stays s b.0 h.1) refl
   after-stays G (frame.Body a) t h = rw (tree_at-Stays s a.0 h) refl
   after-stays G (frame.ProductDomain a b) t h = rw (tree_at-Stays s a.0 h.0, tree_at-Stays s b.0 h.1) refl
   after-stays G frame.ProductBody t h = refl
 
   below-known : (c : List LpId) (f : Frame) → AreKnown ts c → AreKnown ts (below c f)
-  below-known c (frame.Function x) h = h
-  below-known c (frame.Reached p x) h = h
-  below-known c (frame.Argument a b x) h = h
-  below-known c (frame.Expected a b x y) h = h
+  below-known c (frame.Function f x w) h = h
+  below-known c (frame.Reached p f x w) h = h
+  below-known c (frame.Argument a b k f w) h = h
+  below-known c (frame.Expected a b k w y) h = h
   below-known c (frame.Domain a b) h = h
   below-known [] (frame.Body a) h = h
   below-known (id ∷ ids) (frame.Body a) h = h.1
@@ -60,6 +60,7 @@ module _ (ds : List Declaration) {ts us : List Tree} (s : Stays ts us) where
   pending-stays st (next.Ask id) h k =
       ap₂ Ask (ap₂ Infer (trees_at-Stays s st.context h.context) (sym (tree_at-Stays s id.0 k))) (fun_ext (λ t. resume-stays st.context st.frames t h.context h.frames))
   pending-stays st (next.Tell id) h k = resume-stays st.context st.frames (tree_at us id.0) h.context h.frames ∙ ap (resume ds ts st.context st.frames) (sym (tree_at-Stays s id.0 k))
+  pending-stays st (next.Under b j f) h k = resume-stays st.context st.frames (put_all (spine_args j (tree_at us f.0)) (tree_at us b.0)) h.context h.frames ∙ ap₂ (λ F B. resume ds ts st.context st.frames (put_all (spine_args j F) B)) (sym (tree_at-Stays s f.0 k.1)) (sym (tree_at-Stays s b.0 k.0))
   pending-stays st next.No h k = refl
   pending-stays st next.Over h k = refl
 
@@ -75,12 +76,14 @@ turned-then m k p all here there s t n o g held hs hn not lt la a b = go o b
         plain : (n : Next) → (n ≡ next.Over → ⊥) → IsTurned m p all here s n → Leaves (declarations_of m) true p (all - here) (pending (declarations_of m) m.table s n)
         plain (next.Ask id) not h = h
         plain (next.Tell id) not h = h
+        plain (next.Under b j f) not h = h
         plain next.No not h = h
         plain next.Over not h = absurd (not refl)
 
     go : (o : Next) → IsTurned k (pending (declarations_of k) k.table s n) here there t o → IsTurned k p all there t o
     go (next.Ask id) h = leaves_fewer (declarations_of k) true (omega (arith, lt, la)) (leaves_then (declarations_of k) true first h)
     go (next.Tell id) h = leaves_fewer (declarations_of k) true (omega (arith, lt, la)) (leaves_then (declarations_of k) true first h)
+    go (next.Under b j f) h = leaves_fewer (declarations_of k) true (omega (arith, lt, la)) (leaves_then (declarations_of k) true first h)
     go next.No h = leaves_fewer (declarations_of k) true (omega (arith, lt, la)) (leaves_then (declarations_of k) true first h)
     go next.Over h = over_leaves (declarations_of k) true first (omega (arith, la)) h
 

@@ -1,13 +1,15 @@
 -- Turns that go on with a type that was found.
-use Rattle.std.proofs.Common.{◌≡◌, refl, sym, ap, ◌∙◌, subst, ℕ, ◌<◌, ◌≤◌, arith, ◌⊎◌, inl, inr, Bool, true, false, length, List, ◌∷◌, Option, Some, None}
+use Rattle.std.proofs.Common.{◌≡◌, refl, sym, ap, ◌∙◌, subst, ℕ, suc, ◌<◌, ◌≤◌, arith, ◌⊎◌, inl, inr, Bool, true, false, length, List, [], ◌∷◌, Option, Some, None}
 use Rattle.std.specs.Prelude.{if◌then◌else◌, nat_eq}
 use Rattle.std.proofs.Math.Path.{fun_ext}
 use Rattle.std.proofs.lemmas.Bool.{eqb-true}
-use Rattle.lp_spec.specs.Trees.{Tree, SortType, SortKind, Var, Sym, App, Lam, Pi, put}
+use Rattle.lp_spec.specs.Trees.{Tree, SortType, SortKind, Var, Sym, App, Lam, Pi, put_all, put_all_at}
 use Rattle.lp_binding.specs.TreeEquality.{tree_eq-refl, tree_eq-true}
 use Rattle.lp_spec.specs.Trees.{tree_eq}
 use Rattle.std.proofs.Math.Path.{ap₂}
 use Rattle.lp_spec.specs.Modules.{Declaration}
+use Rattle.lp_binding.specs.Arguments.{put-put_all}
+use Rattle.lp_shape.specs.Sizes.{put_all-nil}
 use Rattle.lp_term.specs.declared.LpId.{LpId}
 use Rattle.lp_term.specs.declared.LpNode.{LpNode}
 use Rattle.lp_term.specs.declared.LpNode.TheVariants as node
@@ -19,7 +21,17 @@ use Rattle.lp_shape.specs.PlanLaws.{and_then, Leaves, leaves_equal, leaves_then,
 use Rattle.lp_kernel.specs.declared.state.Frame.{Frame}
 use Rattle.lp_kernel.specs.declared.state.Frame.TheVariants as frame
 use Rattle.lp_conv.specs.Answers.{Answered}
-use Rattle.lp_kernel.specs.Pending.{resume, meeting, outside}
+use Rattle.lp_kernel.specs.Pending.{spine_args, resume, meeting, outside, IsApplication, IsFilled}
+
+-- no arguments leave a tree alone
+put_all_at-nil : (d : ℕ) (t : Tree) → put_all_at d [] t ≡ t
+put_all_at-nil d SortType = refl
+put_all_at-nil d SortKind = refl
+put_all_at-nil d (Var n) = grind arith
+put_all_at-nil d (Sym s) = refl
+put_all_at-nil d (App f x) = ap₂ App (put_all_at-nil d f) (put_all_at-nil d x)
+put_all_at-nil d (Lam a b) = ap₂ Lam (put_all_at-nil d a) (put_all_at-nil (suc d) b)
+put_all_at-nil d (Pi a b) = ap₂ Pi (put_all_at-nil d a) (put_all_at-nil (suc d) b)
 
 -- numbers that are equal, and numbers that are not
 pub same-tree : (ts : List Tree) (e f : LpId) → true ≡ nat_eq e.0 f.0 → tree_eq (tree_at ts e.0) (tree_at ts f.0) ≡ true
@@ -35,6 +47,10 @@ other-tree ts e f d he hf h = go (tree_eq (tree_at ts e.0) (tree_at ts f.0)) ref
         let r = ap (λ n. nat_eq e.0 n) p in
         absurd (grind arith)
 
+-- a type with arguments put in, in the table that has grown
+pub filled-here : {ts us : List Tree} → Stays ts us → (b : LpId) (k : ℕ) (f r : LpId) → b.0 < length ts → f.0 < length ts → IsFilled ts b k f us r → tree_at us r.0 ≡ put_all (spine_args k (tree_at us f.0)) (tree_at us b.0)
+filled-here s b k f r hb hf h = h ∙ ap₂ (λ F B. put_all (spine_args k F) B) (tree_at-Stays s f.0 hf) (tree_at-Stays s b.0 hb)
+
 -- what goes on after a sort, in two ways that agree
 if_sort-then : (s : Tree) (p q : Plan) (f g : Tree → Plan) → and_then p f ≡ and_then q g → and_then (if_sort s p) f ≡ and_then (if_sort s q) g
 if_sort-then SortType p q f g e = e
@@ -46,36 +62,66 @@ if_sort-then (Lam a b) p q f g e = refl
 if_sort-then (Pi a b) p q f g e = refl
 
 module _ (ds : List Declaration) (ts : List Tree) (c : List LpId) (fs : List Frame) where
-  -- the turn of a meeting of one type with itself
-  pub told-same : (a b x found made : LpId) (spent : ℕ) → tree_eq (tree_at ts a.0) (tree_at ts found.0) ≡ true → Holds ts made.0 (put (tree_at ts x.0) (tree_at ts b.0)) → spent ≤ 1
-      → Leaves ds true (resume ds ts c (frame.Argument a b x ∷ fs) (tree_at ts found.0)) spent (resume ds ts c fs (tree_at ts made.0))
-  told-same a b x found made spent e h le =
-      let A = tree_at ts a.0 in
-      let X = tree_at ts found.0 in
+  -- a meeting of one type with itself, and of two types
+  meet-same : (A X P : Tree) → tree_eq A X ≡ true → Leaves ds true (Ask (Meet (trees_at ts c) A X) (λ _. resume ds ts c fs P)) 1 (resume ds ts c fs P)
+  meet-same A X P e =
+      leaves_then ds true (leaves_ask ds true (Meet (trees_at ts c) A X) (λ t. resume ds ts c fs P))
+      (leaves_equal ds true (ap (λ q. and_then (if q then Say (Found A) else recheck true (trees_at ts c) A (Ask (Convert A X) (λ _. Say (Found A)))) (λ t. resume ds ts c fs P)) e))
+
+  meet-other : (A X P : Tree) → tree_eq A X ≡ false
+      → Leaves ds true (Ask (Meet (trees_at ts c) A X) (λ _. resume ds ts c fs P)) 1 (Ask (Infer (trees_at ts c) A) (λ s. and_then (if_sort s (Ask (Convert A X) (λ _. Say (Found P)))) (resume ds ts c fs)))
+  meet-other A X P e =
       let rest = resume ds ts c fs in
-      let made-is = Holds-tree_at ts made.0 _ h in
-      leaves_fewer ds true le (leaves_then ds true (leaves_ask ds true (Meet (trees_at ts c) A X) (λ t. rest (put (tree_at ts x.0) (tree_at ts b.0))))
-      (leaves_equal ds true (ap (λ q. and_then (if q then Say (Found A) else recheck true (trees_at ts c) A (Ask (Convert A X) (λ _. Say (Found A)))) (λ t. rest (put (tree_at ts x.0) (tree_at ts b.0)))) e ∙ ap rest (sym made-is))))
+      leaves_then ds true (leaves_ask ds true (Meet (trees_at ts c) A X) (λ t. rest P))
+      (leaves_equal ds true (ap (λ q. and_then (if q then Say (Found A) else recheck true (trees_at ts c) A (Ask (Convert A X) (λ _. Say (Found A)))) (λ t. rest P)) e
+      ∙ ap (Ask (Infer (trees_at ts c) A)) (fun_ext (λ s. if_sort-then s (Ask (Convert A X) (λ _. Say (Found A))) (Ask (Convert A X) (λ _. Say (Found P))) (λ t. rest P) rest refl))))
+
+  -- the turn of a meeting of one type with itself
+  pub told-same : (a b f w found domain : LpId) (k more spent : ℕ) → tree_at ts domain.0 ≡ put_all (spine_args k (tree_at ts f.0)) (tree_at ts a.0) → tree_eq (tree_at ts domain.0) (tree_at ts found.0) ≡ true → more ≡ suc k → spent ≤ 1
+      → Leaves ds true (resume ds ts c (frame.Argument a b k f w ∷ fs) (tree_at ts found.0)) spent (resume ds ts c fs (put_all (spine_args more (tree_at ts w.0)) (tree_at ts b.0)))
+  told-same a b f w found domain k more spent is e m le =
+      let P = λ (j : ℕ). put_all (spine_args j (tree_at ts w.0)) (tree_at ts b.0) in
+      leaves_fewer ds true le
+      (subst (λ j. Leaves ds true (resume ds ts c (frame.Argument a b k f w ∷ fs) (tree_at ts found.0)) 1 (resume ds ts c fs (P j))) (sym m)
+      (subst (λ A. Leaves ds true (Ask (Meet (trees_at ts c) A (tree_at ts found.0)) (λ _. resume ds ts c fs (P (suc k)))) 1 (resume ds ts c fs (P (suc k)))) is (meet-same (tree_at ts domain.0) (tree_at ts found.0) (P (suc k)) e)))
 
   -- the turn of a meeting of two types
-  pub told-other : (a b x found : LpId) (new : List Frame) (spent : ℕ) → tree_eq (tree_at ts a.0) (tree_at ts found.0) ≡ false → new ≡ frame.Expected a b x found ∷ fs → spent ≤ 1
-      → Leaves ds true (resume ds ts c (frame.Argument a b x ∷ fs) (tree_at ts found.0)) spent (Ask (Infer (trees_at ts c) (tree_at ts a.0)) (resume ds ts c new))
-  told-other a b x found new spent e is le =
-      let A = tree_at ts a.0 in
+  pub told-other : (a b f w found domain : LpId) (k more : ℕ) (new : List Frame) (spent : ℕ) → tree_at ts domain.0 ≡ put_all (spine_args k (tree_at ts f.0)) (tree_at ts a.0) → tree_eq (tree_at ts domain.0) (tree_at ts found.0) ≡ false → more ≡ suc k
+      → new ≡ frame.Expected domain b more w found ∷ fs → spent ≤ 1 → Leaves ds true (resume ds ts c (frame.Argument a b k f w ∷ fs) (tree_at ts found.0)) spent (Ask (Infer (trees_at ts c) (tree_at ts domain.0)) (resume ds ts c new))
+  told-other a b f w found domain k more new spent is e m at le =
+      let D = tree_at ts domain.0 in
       let X = tree_at ts found.0 in
-      let rest = resume ds ts c fs in
-      let put-in = put (tree_at ts x.0) (tree_at ts b.0) in
-      subst (λ l. Leaves ds true (resume ds ts c (frame.Argument a b x ∷ fs) X) spent (Ask (Infer (trees_at ts c) A) (resume ds ts c l))) (sym is)
-      (leaves_fewer ds true le (leaves_then ds true (leaves_ask ds true (Meet (trees_at ts c) A X) (λ t. rest put-in))
-      (leaves_equal ds true (ap (λ q. and_then (if q then Say (Found A) else recheck true (trees_at ts c) A (Ask (Convert A X) (λ _. Say (Found A)))) (λ t. rest put-in)) e
-      ∙ ap (Ask (Infer (trees_at ts c) A)) (fun_ext (λ s. if_sort-then s (Ask (Convert A X) (λ _. Say (Found A))) (Ask (Convert A X) (λ _. Say (Found put-in))) (λ t. rest put-in) rest refl))))))
+      let P = λ (j : ℕ). put_all (spine_args j (tree_at ts w.0)) (tree_at ts b.0) in
+      leaves_fewer ds true le
+      (subst (λ l. Leaves ds true (resume ds ts c (frame.Argument a b k f w ∷ fs) X) 1 (Ask (Infer (trees_at ts c) D) (resume ds ts c l))) (sym at)
+      (subst (λ j. Leaves ds true (resume ds ts c (frame.Argument a b k f w ∷ fs) X) 1 (Ask (Infer (trees_at ts c) D) (resume ds ts c (frame.Expected domain b j w found ∷ fs)))) (sym m)
+      (subst (λ A. Leaves ds true (Ask (Meet (trees_at ts c) A X) (λ _. resume ds ts c fs (P (suc k)))) 1 (Ask (Infer (trees_at ts c) D) (resume ds ts c (frame.Expected domain b (suc k) w found ∷ fs)))) is (meet-other D X (P (suc k)) e))))
+
+  -- the argument is asked for, and what is put in the body goes into the type of the application
+  pub asked-argument : (a b f x w : LpId) (k : ℕ) → IsApplication ts f x w
+      → and_then (Ask (Infer (trees_at ts c) (tree_at ts x.0)) (meeting (trees_at ts c) (put_all_at 0 (spine_args k (tree_at ts f.0)) (tree_at ts a.0)) (put_all_at 1 (spine_args k (tree_at ts f.0)) (tree_at ts b.0)) (tree_at ts x.0))) (resume ds ts c fs)
+      ≡ Ask (Infer (trees_at ts c) (tree_at ts x.0)) (resume ds ts c (frame.Argument a b k f w ∷ fs))
+  asked-argument a b f x w k h =
+      let ys = spine_args k (tree_at ts f.0) in
+      let A = put_all_at 0 ys (tree_at ts a.0) in
+      ap (λ P. Ask (Infer (trees_at ts c) (tree_at ts x.0)) (λ X. Ask (Meet (trees_at ts c) A X) (λ _. resume ds ts c fs P)))
+      (put-put_all (tree_at ts x.0) ys (tree_at ts b.0) ∙ ap (λ t. put_all (spine_args (suc k) t) (tree_at ts b.0)) (sym (Holds-tree_at ts w.0 _ h.is)))
+
+  -- the turn of a function whose type is a product that is to have arguments put in
+  pub told-under : (f x w found a b : LpId) (k : ℕ) (new : List Frame) (spent : ℕ) → Holds ts found.0 (Pi (tree_at ts a.0) (tree_at ts b.0)) → IsApplication ts f x w → new ≡ frame.Argument a b k f w ∷ fs → spent ≤ 0
+      → Leaves ds true (resume ds ts c (frame.Function f x w ∷ fs) (put_all (spine_args k (tree_at ts f.0)) (tree_at ts found.0))) spent (Ask (Infer (trees_at ts c) (tree_at ts x.0)) (resume ds ts c new))
+  told-under f x w found a b k new spent h app is le =
+      leaves_fewer ds true le (leaves_equal ds true (
+      ap (λ t. resume ds ts c (frame.Function f x w ∷ fs) (put_all (spine_args k (tree_at ts f.0)) t)) (Holds-tree_at ts found.0 _ h)
+      ∙ asked-argument a b f x w k app
+      ∙ ap (λ l. Ask (Infer (trees_at ts c) (tree_at ts x.0)) (resume ds ts c l)) (sym is)))
 
   -- the turn of a function whose type is a product
-  pub told-product : (x found a b : LpId) (new : List Frame) (spent : ℕ) → Holds ts found.0 (Pi (tree_at ts a.0) (tree_at ts b.0)) → new ≡ frame.Argument a b x ∷ fs → spent ≤ 0
-      → Leaves ds true (resume ds ts c (frame.Function x ∷ fs) (tree_at ts found.0)) spent (Ask (Infer (trees_at ts c) (tree_at ts x.0)) (resume ds ts c new))
-  told-product x found a b new spent h is le =
-      leaves_fewer ds true le (leaves_equal ds true (
-      ap (λ t. resume ds ts c (frame.Function x ∷ fs) t) (Holds-tree_at ts found.0 _ h) ∙ ap (λ l. Ask (Infer (trees_at ts c) (tree_at ts x.0)) (resume ds ts c l)) (sym is)))
+  pub told-product : (f x w found a b : LpId) (new : List Frame) (spent : ℕ) → Holds ts found.0 (Pi (tree_at ts a.0) (tree_at ts b.0)) → IsApplication ts f x w → new ≡ frame.Argument a b 0 f w ∷ fs → spent ≤ 0
+      → Leaves ds true (resume ds ts c (frame.Function f x w ∷ fs) (tree_at ts found.0)) spent (Ask (Infer (trees_at ts c) (tree_at ts x.0)) (resume ds ts c new))
+  told-product f x w found a b new spent h app is le =
+      subst (λ t. Leaves ds true (resume ds ts c (frame.Function f x w ∷ fs) t) spent (Ask (Infer (trees_at ts c) (tree_at ts x.0)) (resume ds ts c new))) (put_all-nil (tree_at ts found.0))
+      (told-under f x w found a b 0 new spent h app is le)
 
   -- the turn of an abstraction's domain
   pub told-domain : (a b found : LpId) (new : List Frame) (d : List LpId) (spent : ℕ) → Holds ts found.0 SortType → new ≡ frame.Body a ∷ fs → d ≡ a ∷ c → spent ≤ 0
@@ -122,10 +168,10 @@ product-of-other ds ts G (node.Sym s) R k h = product-reach ds G (Sym s) R k (he
 product-of-other ds ts G (node.App f x) R k h = let F = App (tree_at ts f.0) (tree_at ts x.0) in product-reach ds G F R k (head_step ds F)
 product-of-other ds ts G (node.Lam a b) R k h = let F = Lam (tree_at ts a.0) (tree_at ts b.0) in product-reach ds G F R k (head_step ds F)
 
-module _ (ds : List Declaration) (ts us : List Tree) (c : List LpId) (fs : List Frame) (x found : LpId) (n : LpNode) where
+module _ (ds : List Declaration) (ts us : List Tree) (c : List LpId) (fs : List Frame) (f x w found : LpId) (n : LpNode) where
   -- a function's type goes through what is reached from it
   through : Stays ts us → found.0 < length ts → Holds ts found.0 (tree_of_node ts n) → ((a b : LpId) → n ≡ node.Pi a b → ⊥)
-      → resume ds us c (frame.Function x ∷ fs) (tree_at us found.0) ≡ and_then (reach ds (tree_at ts found.0)) (λ P. and_then (recheck true (trees_at us c) P (if_product P (λ A B. Ask (Infer (trees_at us c) (tree_at us x.0)) (meeting (trees_at us c) A B (tree_at us x.0))))) (resume ds us c fs))
+      → resume ds us c (frame.Function f x w ∷ fs) (tree_at us found.0) ≡ and_then (reach ds (tree_at ts found.0)) (λ P. and_then (recheck true (trees_at us c) P (if_product P (λ A B. Ask (Infer (trees_at us c) (tree_at us x.0)) (meeting (trees_at us c) A B (tree_at us x.0))))) (resume ds us c fs))
   through s hf at not =
       let R = λ (A : Tree) (B : Tree). Ask (Infer (trees_at us c) (tree_at us x.0)) (meeting (trees_at us c) A B (tree_at us x.0)) in
       let e = Holds-tree_at ts found.0 _ at in
@@ -135,8 +181,8 @@ module _ (ds : List Declaration) (ts us : List Tree) (c : List LpId) (fs : List 
 
   -- the turn of a function whose type reaches a product
   pub told-reached : (product : LpId) (new : List Frame) (spent : ℕ) → Stays ts us → found.0 < length ts → Holds ts found.0 (tree_of_node ts n) → ((a b : LpId) → n ≡ node.Pi a b → ⊥)
-      → Answered ds true (reach ds (tree_at ts found.0)) (Found (tree_at us product.0)) spent → new ≡ frame.Reached product x ∷ fs
-      → Leaves ds true (resume ds us c (frame.Function x ∷ fs) (tree_at us found.0)) spent (Ask (Infer (trees_at us c) (tree_at us product.0)) (resume ds us c new))
+      → Answered ds true (reach ds (tree_at ts found.0)) (Found (tree_at us product.0)) spent → new ≡ frame.Reached product f x w ∷ fs
+      → Leaves ds true (resume ds us c (frame.Function f x w ∷ fs) (tree_at us found.0)) spent (Ask (Infer (trees_at us c) (tree_at us product.0)) (resume ds us c new))
   told-reached product new spent s hf at not h is =
       let R = λ (A : Tree) (B : Tree). Ask (Infer (trees_at us c) (tree_at us x.0)) (meeting (trees_at us c) A B (tree_at us x.0)) in
       subst (λ p. Leaves ds true p spent (Ask (Infer (trees_at us c) (tree_at us product.0)) (resume ds us c new))) (sym (through s hf at not))
@@ -144,19 +190,19 @@ module _ (ds : List Declaration) (ts us : List Tree) (c : List LpId) (fs : List 
       (leaves_found ds true (reach ds (tree_at ts found.0)) (λ P. and_then (recheck true (trees_at us c) P (if_product P R)) (resume ds us c fs)) (tree_at us product.0) h.price spent h.ends h.within))
 
   pub told-unreached : (spent : ℕ) → Stays ts us → found.0 < length ts → Holds ts found.0 (tree_of_node ts n) → ((a b : LpId) → n ≡ node.Pi a b → ⊥)
-      → Answered ds true (reach ds (tree_at ts found.0)) No spent → Leaves ds true (resume ds us c (frame.Function x ∷ fs) (tree_at us found.0)) spent (Say No)
+      → Answered ds true (reach ds (tree_at ts found.0)) No spent → Leaves ds true (resume ds us c (frame.Function f x w ∷ fs) (tree_at us found.0)) spent (Say No)
   told-unreached spent s hf at not h =
       subst (λ p. Leaves ds true p spent (Say No)) (sym (through s hf at not)) (leaves_no ds true (reach ds (tree_at ts found.0)) _ h.price spent h.ends h.within)
 
   pub told-over : (left : ℕ) → Stays ts us → found.0 < length ts → Holds ts found.0 (tree_of_node ts n) → ((a b : LpId) → n ≡ node.Pi a b → ⊥)
-      → ((reply : Reply) (k : ℕ) → Ends ds true (reach ds (tree_at ts found.0)) reply k → left < k) → (reply : Reply) (k : ℕ) → Ends ds true (resume ds us c (frame.Function x ∷ fs) (tree_at us found.0)) reply k → left < k
+      → ((reply : Reply) (k : ℕ) → Ends ds true (reach ds (tree_at ts found.0)) reply k → left < k) → (reply : Reply) (k : ℕ) → Ends ds true (resume ds us c (frame.Function f x w ∷ fs) (tree_at us found.0)) reply k → left < k
   told-over left s hf at not h reply k e = over_then ds true (reach ds (tree_at ts found.0)) _ left h reply k (subst (λ p. Ends ds true p reply k) (through s hf at not) e)
 
 -- the turn of a product that was reached and has a sort
-pub told-checked : (ds : List Declaration) (ts : List Tree) (c : List LpId) (fs : List Frame) (p x found a b : LpId) (n : LpNode) (new : List Frame) (spent : ℕ) → Holds ts found.0 (tree_of_node ts n) → (n ≡ node.SortType) ⊎ (n ≡ node.SortKind) → Holds ts p.0 (Pi (tree_at ts a.0) (tree_at ts b.0))
-    → new ≡ frame.Argument a b x ∷ fs → spent ≤ 0 → Leaves ds true (resume ds ts c (frame.Reached p x ∷ fs) (tree_at ts found.0)) spent (Ask (Infer (trees_at ts c) (tree_at ts x.0)) (resume ds ts c new))
-told-checked ds ts c fs p x found a b n new spent at sort h is le =
-    leaves_fewer ds true le (leaves_equal ds true (ap₂ (λ s t. and_then (if_sort s (if_product t R)) (resume ds ts c fs)) (Holds-tree_at ts found.0 _ at) (Holds-tree_at ts p.0 _ h) ∙ go n sort ∙ ap (λ l. Ask (Infer (trees_at ts c) (tree_at ts x.0)) (resume ds ts c l)) (sym is)))
+pub told-checked : (ds : List Declaration) (ts : List Tree) (c : List LpId) (fs : List Frame) (p f x w found a b : LpId) (n : LpNode) (new : List Frame) (spent : ℕ) → Holds ts found.0 (tree_of_node ts n) → (n ≡ node.SortType) ⊎ (n ≡ node.SortKind) → Holds ts p.0 (Pi (tree_at ts a.0) (tree_at ts b.0)) → IsApplication ts f x w
+    → new ≡ frame.Argument a b 0 f w ∷ fs → spent ≤ 0 → Leaves ds true (resume ds ts c (frame.Reached p f x w ∷ fs) (tree_at ts found.0)) spent (Ask (Infer (trees_at ts c) (tree_at ts x.0)) (resume ds ts c new))
+told-checked ds ts c fs p f x w found a b n new spent at sort h app is le =
+    leaves_fewer ds true le (leaves_equal ds true (ap₂ (λ s t. and_then (if_sort s (if_product t R)) (resume ds ts c fs)) (Holds-tree_at ts found.0 _ at) (Holds-tree_at ts p.0 _ h) ∙ go n sort ∙ ap₂ (λ A B. and_then (R A B) (resume ds ts c fs)) (sym (put_all_at-nil 0 (tree_at ts a.0))) (sym (put_all_at-nil 1 (tree_at ts b.0))) ∙ asked-argument ds ts c fs a b f x w 0 app ∙ ap (λ l. Ask (Infer (trees_at ts c) (tree_at ts x.0)) (resume ds ts c l)) (sym is)))
   where
     R : Tree → Tree → Plan
     R A B = Ask (Infer (trees_at ts c) (tree_at ts x.0)) (meeting (trees_at ts c) A B (tree_at ts x.0))
@@ -171,3 +217,34 @@ pub told-product-domain : (ds : List Declaration) (ts : List Tree) (c : List LpI
 told-product-domain ds ts c fs a b found new d spent h is e le =
     leaves_fewer ds true le (leaves_equal ds true (
     ap (λ t. resume ds ts c (frame.ProductDomain a b ∷ fs) t) (Holds-tree_at ts found.0 _ h) ∙ ap₂ (λ k l. Ask (Infer (trees_at ts k) (tree_at ts b.0)) (resume ds ts k l)) (sym e) (sym is)))
+
+-- what goes on after a sort, where it says no
+if_sort-no : (t : Tree) (rest : Tree → Plan) → and_then (if_sort t (Say No)) rest ≡ Say No
+if_sort-no SortType rest = refl
+if_sort-no SortKind rest = refl
+if_sort-no (Var n) rest = refl
+if_sort-no (Sym s) rest = refl
+if_sort-no (App a b) rest = refl
+if_sort-no (Lam a b) rest = refl
+if_sort-no (Pi a b) rest = refl
+
+no-product : (ts : List Tree) (v : LpNode) (R : Tree → Tree → Plan) → ((a b : LpId) → v ≡ node.Pi a b → ⊥) → if_product (tree_of_node ts v) R ≡ Say No
+no-product ts (node.Pi a b) R h = absurd (h a b refl)
+no-product ts node.SortType R h = refl
+no-product ts node.SortKind R h = refl
+no-product ts (node.Var n) R h = refl
+no-product ts (node.Sym s) R h = refl
+no-product ts (node.App f x) R h = refl
+no-product ts (node.Lam a b) R h = refl
+
+-- the turn of a tree that was reached and is no product
+pub told-no-product : (ds : List Declaration) (ts : List Tree) (c : List LpId) (fs : List Frame) (p f x w found : LpId) (v : LpNode) (spent : ℕ) → Holds ts p.0 (tree_of_node ts v) → ((a b : LpId) → v ≡ node.Pi a b → ⊥) → spent ≤ 0
+    → Leaves ds true (resume ds ts c (frame.Reached p f x w ∷ fs) (tree_at ts found.0)) spent (Say No)
+told-no-product ds ts c fs p f x w found v spent at not le =
+    let R = λ (A : Tree) (B : Tree). Ask (Infer (trees_at ts c) (tree_at ts x.0)) (meeting (trees_at ts c) A B (tree_at ts x.0)) in
+    leaves_fewer ds true le
+    (leaves_equal ds true (ap (λ q. and_then (if_sort (tree_at ts found.0) q) (resume ds ts c fs)) (ap (λ t. if_product t R) (Holds-tree_at ts p.0 _ at) ∙ no-product ts v R not) ∙ if_sort-no (tree_at ts found.0) (resume ds ts c fs)))
+
+-- no arguments are put in
+pub filled-none : (ts : List Tree) (b : LpId) (k : ℕ) (f : LpId) → k ≡ 0 → IsFilled ts b k f ts b
+filled-none ts b k f e = sym (ap (λ n. put_all (spine_args n (tree_at ts f.0)) (tree_at ts b.0)) e ∙ put_all-nil (tree_at ts b.0))

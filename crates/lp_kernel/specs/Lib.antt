@@ -1,3 +1,4 @@
 pub mod Checks
 pub mod Inference
+pub mod Noted
 pub mod Pending

@@ -1,9 +1,9 @@
 -- What is pending while a type is inferred, as a plan.
-use Rattle.std.specs.Prelude.{◌≡◌, ℕ, ◌+◌, ◌*◌, ◌-◌, ◌<◌, true, List, [], ◌∷◌, Option, Some, None, length, suc, option_map, slice_get}
-use Rattle.lp_spec.specs.Trees.{Tree, Pi, lift, put}
+use Rattle.std.specs.Prelude.{◌≡◌, ℕ, zero, ◌+◌, ◌*◌, ◌-◌, ◌<◌, true, List, [], ◌∷◌, ◌++◌, Option, Some, None, length, suc, option_map, slice_get}
+use Rattle.lp_spec.specs.Trees.{Tree, App, Pi, lift, put, put_all}
 use Rattle.lp_spec.specs.Modules.{Declaration, symbol_type}
 use Rattle.lp_term.specs.declared.LpId.{LpId}
-use Rattle.lp_term.specs.Tables.{tree_at, trees_at, AreKnown}
+use Rattle.lp_term.specs.Tables.{tree_at, trees_at, Holds, AreKnown}
 use Rattle.holide_sig.specs.declared.module.Module.{Module}
 use Rattle.holide_sig.specs.Modules.{declarations_of}
 use Rattle.lp_shape.specs.Check.{Infer, Meet, Convert, Reply, Found, No, Plan, Say, Ask, if_type, if_sort, unless_kind, if_product, product_of, Ends}
@@ -13,6 +13,12 @@ use Rattle.lp_kernel.specs.declared.state.Frame.TheVariants as frame
 use Rattle.lp_kernel.specs.declared.state.Next.{Next}
 use Rattle.lp_kernel.specs.declared.state.Next.TheVariants as next
 use Rattle.lp_kernel.specs.declared.state.State.{State}
+
+-- so many last arguments of an application, in their order
+abbrev pub spine_args : ℕ → Tree → List Tree
+spine_args zero t = []
+spine_args (suc k) (App f x) = spine_args k f ++ x ∷ []
+spine_args (suc k) _ = []
 
 -- the context outside the innermost variable
 abbrev pub outside : List LpId → List LpId
@@ -31,10 +37,10 @@ meeting G A B x X = Ask (Meet G A X) (λ _. Say (Found (put x B)))
 
 -- how a frame goes on with a type that was found
 abbrev pub after : List Declaration → List Tree → List Tree → Frame → Tree → Plan
-after ds ts G (frame.Function x) F = product_of ds true G F (λ A B. Ask (Infer G (tree_at ts x.0)) (meeting G A B (tree_at ts x.0)))
-after ds ts G (frame.Reached p x) s = if_sort s (if_product (tree_at ts p.0) (λ A B. Ask (Infer G (tree_at ts x.0)) (meeting G A B (tree_at ts x.0))))
-after ds ts G (frame.Argument a b x) X = meeting G (tree_at ts a.0) (tree_at ts b.0) (tree_at ts x.0) X
-after ds ts G (frame.Expected a b x y) s = if_sort s (Ask (Convert (tree_at ts a.0) (tree_at ts y.0)) (λ _. Say (Found (put (tree_at ts x.0) (tree_at ts b.0)))))
+after ds ts G (frame.Function f x w) F = product_of ds true G F (λ A B. Ask (Infer G (tree_at ts x.0)) (meeting G A B (tree_at ts x.0)))
+after ds ts G (frame.Reached p f x w) s = if_sort s (if_product (tree_at ts p.0) (λ A B. Ask (Infer G (tree_at ts x.0)) (meeting G A B (tree_at ts x.0))))
+after ds ts G (frame.Argument a b k f w) X = Ask (Meet G (put_all (spine_args k (tree_at ts f.0)) (tree_at ts a.0)) X) (λ _. Say (Found (put_all (spine_args (suc k) (tree_at ts w.0)) (tree_at ts b.0))))
+after ds ts G (frame.Expected a b k w y) s = if_sort s (Ask (Convert (tree_at ts a.0) (tree_at ts y.0)) (λ _. Say (Found (put_all (spine_args k (tree_at ts w.0)) (tree_at ts b.0)))))
 after ds ts G (frame.Domain a b) s = if_type s (Ask (Infer (tree_at ts a.0 ∷ G) (tree_at ts b.0)) (λ B. unless_kind B (Say (Found (Pi (tree_at ts a.0) B)))))
 after ds ts G (frame.Body a) B = unless_kind B (Say (Found (Pi (tree_at ts a.0) B)))
 after ds ts G (frame.ProductDomain a b) s = if_type s (Ask (Infer (tree_at ts a.0 ∷ G) (tree_at ts b.0)) (λ o. if_sort o (Say (Found o))))
@@ -49,14 +55,22 @@ resume ds ts c (f ∷ fs) t = and_then (after ds ts (trees_at ts c) f t) (resume
 abbrev pub pending : List Declaration → List Tree → State → Next → Plan
 pending ds ts s (next.Ask id) = Ask (Infer (trees_at ts s.context) (tree_at ts id.0)) (resume ds ts s.context s.frames)
 pending ds ts s (next.Tell id) = resume ds ts s.context s.frames (tree_at ts id.0)
+pending ds ts s (next.Under b k f) = resume ds ts s.context s.frames (put_all (spine_args k (tree_at ts f.0)) (tree_at ts b.0))
 pending ds ts s next.No = Say No
 pending ds ts s next.Over = Say No
 
+-- a function, an argument, and the application of the two
+pub record IsApplication (ts : List Tree) (f x w : LpId) : Type 0 where
+  pub function : f.0 < length ts
+  pub argument : x.0 < length ts
+  pub whole : w.0 < length ts
+  pub is : Holds ts w.0 (App (tree_at ts f.0) (tree_at ts x.0))
+
 abbrev pub IsKnownFrame : List Tree → Frame → Type 0
-IsKnownFrame ts (frame.Function x) = x.0 < length ts
-IsKnownFrame ts (frame.Reached p x) = (p.0 < length ts) × (x.0 < length ts)
-IsKnownFrame ts (frame.Argument a b x) = (a.0 < length ts) × (b.0 < length ts) × (x.0 < length ts)
-IsKnownFrame ts (frame.Expected a b x y) = (a.0 < length ts) × (b.0 < length ts) × (x.0 < length ts) × (y.0 < length ts)
+IsKnownFrame ts (frame.Function f x w) = IsApplication ts f x w
+IsKnownFrame ts (frame.Reached p f x w) = (p.0 < length ts) × IsApplication ts f x w
+IsKnownFrame ts (frame.Argument a b k f w) = (a.0 < length ts) × (b.0 < length ts) × (f.0 < length ts) × (w.0 < length ts)
+IsKnownFrame ts (frame.Expected a b k w y) = (a.0 < length ts) × (b.0 < length ts) × (w.0 < length ts) × (y.0 < length ts)
 IsKnownFrame ts (frame.Domain a b) = (a.0 < length ts) × (b.0 < length ts)
 IsKnownFrame ts (frame.Body a) = a.0 < length ts
 IsKnownFrame ts (frame.ProductDomain a b) = (a.0 < length ts) × (b.0 < length ts)
@@ -73,6 +87,7 @@ pub record IsKnownState (ts : List Tree) (s : State) : Type 0 where
 abbrev pub IsKnownNext : List Tree → Next → Type 0
 IsKnownNext ts (next.Ask id) = id.0 < length ts
 IsKnownNext ts (next.Tell id) = id.0 < length ts
+IsKnownNext ts (next.Under b k f) = (b.0 < length ts) × (f.0 < length ts)
 IsKnownNext ts next.No = Unit {0}
 IsKnownNext ts next.Over = Unit {0}
 
@@ -102,21 +117,44 @@ variable_plan m s n = IsFoundIf m.table (symbol_type (declarations_of m) s) n
 abbrev pub variable_type : List Tree → List LpId → ℕ → Option Tree
 variable_type ts c n = option_map (lift (suc n)) (slice_get (trees_at ts c) n)
 
--- what is next counts one where it asks, and two where it tells
+-- what is next counts two where it asks, three where it tells, and four where a type is to be made
 abbrev pub weight_of : Next → ℕ
-weight_of (next.Ask id) = 1
-weight_of (next.Tell id) = 2
+weight_of (next.Ask id) = 2
+weight_of (next.Tell id) = 3
+weight_of (next.Under b k f) = 4
 weight_of next.No = 0
 weight_of next.Over = 0
 
 -- how much is left to do
 abbrev pub left_of : ℕ → ℕ → Next → ℕ
-left_of left frames n = 2 * left + frames + weight_of n
+left_of left frames n = 4 * left + 2 * frames + weight_of n
 
 -- after a turn that tells, whose frame was taken from these, less is left to do
 abbrev pub IsFewer : State → ℕ → ℕ → State → Next → Type 0
-IsFewer s old new t n = left_of new (length t.frames) n < 2 * old + suc (length s.frames) + 2
+IsFewer s old new t n = left_of new (length t.frames) n < 4 * old + 2 * suc (length s.frames) + 3
 
--- after a turn that asks, less is left to do
+-- after a turn that asks, less is left to do, and less by more than one
 abbrev pub IsFewerAsked : State → ℕ → ℕ → State → Next → Type 0
-IsFewerAsked s old new t n = left_of new (length t.frames) n < 2 * old + length s.frames + 1
+IsFewerAsked s old new t n = suc (left_of new (length t.frames) n) < 4 * old + 2 * length s.frames + 2
+
+-- after a turn that makes a type, or leaves it to be made, less is left to do
+abbrev pub IsFewerMade : State → State → Next → Type 0
+IsFewerMade s t n = 2 * length t.frames + weight_of n < 2 * length s.frames + 4
+
+-- a type with so many last arguments of an application put in
+abbrev pub IsFilled : List Tree → LpId → ℕ → LpId → List Tree → LpId → Type 0
+IsFilled ts b k f us r = tree_at us r.0 ≡ put_all (spine_args k (tree_at ts f.0)) (tree_at ts b.0)
+
+-- the last of so many arguments of an application, and its function, if there is one
+abbrev pub IsLast : List Tree → ℕ → LpId → Option (LpId × LpId) → Type 0
+IsLast ts k f (Some e) = (0 < k) × (e.0.0 < length ts) × (e.1.0 < length ts) × Holds ts f.0 (App (tree_at ts e.0.0) (tree_at ts e.1.0))
+IsLast ts k f None = spine_args k (tree_at ts f.0) ≡ []
+
+-- after a turn for a type that is to have arguments put in
+abbrev pub IsMade : Module → State → LpId → ℕ → LpId → ℕ → State → Next → Type 0
+IsMade m s b k g left t n = IsTurned m (pending (declarations_of m) m.table s (next.Under b k g)) left left t n
+
+-- the argument whose type is asked for, or nothing has changed
+abbrev pub IsAwaited : Module → State → LpId → ℕ → LpId → State → Option LpId → Type 0
+IsAwaited m s b k g t (Some x) = (x.0 < length m.table) × IsKnownState m.table t × (length t.frames ≡ length s.frames) × ((left : ℕ) → IsMade m s b k g left t (next.Ask x))
+IsAwaited m s b k g t None = t ≡ s

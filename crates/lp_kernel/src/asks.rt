@@ -34,7 +34,7 @@ pub(crate) fn ask(
     }
     match base.table.view(id) {
         LpNode::App(f, x) => {
-            state.frames.push(Frame::Function(x))?;
+            state.frames.push(Frame::Function(f, x, id))?;
             Ok(Next::Ask(f))
         }
         LpNode::Lam(a, b) => {

@@ -8,9 +8,12 @@ ghost use Rattle.lp_shape.specs.Check.{body_plan, declaration_plan};
 ghost use Rattle.lp_conv.specs.Growth.{Grows};
 ghost use Rattle.lp_conv.specs.declared.Answer.TheVariants as answer;
 ghost use Rattle.lp_kernel.specs.declared.checks.Verdict.TheVariants as verdict;
+ghost use Rattle.lp_kernel.specs.Noted.{AreRight};
 ghost use Rattle.lp_kernel.specs.Checks.{IsBodyChecked, IsChecked, IsTypedAt, IsJudged, PassWithin, IsRefusedWithin};
 
-use crate::inference::{Inferred, infer};
+use crate::inference::Inferred;
+use crate::memo::Memo;
+use crate::noting::infer_noted;
 use bridge_base::{Budget, Memory};
 use holide_sig::Module;
 use lp_conv::{Answer, conv};
@@ -44,11 +47,33 @@ pub fn check_decl(
     ensures answered { IfOk result (IsChecked (declarations_of base.old) i budget.old.left budget.new.left) }
     ensures sound { IfOk result (λ a. a ≡ answer.Yes → IsTypedAt (declarations_of base.old) i) }
 {
+    let mut memo = Memo::new(alloc);
+    check_noted(alloc, base, &mut memo, i, budget)
+}
+
+// Checks a declaration by what is noted of closed trees.
+fn check_noted(
+    alloc: Global,
+    base: &mut Module,
+    memo: &mut Memo,
+    i: usize,
+    budget: &mut Budget,
+) -> Result<Answer, Memory>
+    requires held { IsHeld base.old }
+    requires is_module { IsModule (declarations_of base.old) }
+    requires right { AreRight (declarations_of base.old) base.old.table memo.old }
+    requires i { i < length base.old.decls }
+    ensures grows { Grows base.old base.new }
+    ensures less { budget.new.left ≤ budget.old.left }
+    ensures answered { IfOk result (IsChecked (declarations_of base.old) i budget.old.left budget.new.left) }
+    ensures sound { IfOk result (λ a. a ≡ answer.Yes → IsTypedAt (declarations_of base.old) i) }
+    ensures right { IfOk result (λ a. AreRight (declarations_of base.new) base.new.table memo.new) }
+{
     let decl = base.decls.get(i);
     let (ty, body) = (decl.ty, decl.body);
-    match infer(alloc, base, &[], ty, budget)? {
+    match infer_noted(alloc, base, memo, ty, budget)? {
         Inferred::Found(sort) => match base.table.view(sort) {
-            LpNode::SortType => check_body(alloc, base, ty, body, budget),
+            LpNode::SortType => check_body(alloc, base, memo, ty, body, budget),
             _ => Ok(Answer::No),
         },
         Inferred::No => Ok(Answer::No),
@@ -60,21 +85,25 @@ pub fn check_decl(
 fn check_body(
     alloc: Global,
     base: &mut Module,
+    memo: &mut Memo,
     ty: LpId,
     body: Option<LpId>,
     budget: &mut Budget,
 ) -> Result<Answer, Memory>
     requires held { IsHeld base.old }
+    requires is_module { IsModule (declarations_of base.old) }
+    requires right { AreRight (declarations_of base.old) base.old.table memo.old }
     requires ty { ty.0 < length base.old.table }
     requires body { IsBodyKnown base.old.table body }
     ensures grows { Grows base.old base.new }
     ensures less { budget.new.left ≤ budget.old.left }
     ensures answered { IfOk result (IsBodyChecked base.old ty body budget.old.left budget.new.left) }
+    ensures right { IfOk result (λ a. AreRight (declarations_of base.new) base.new.table memo.new) }
 {
     let Some(tree) = body else {
         return Ok(Answer::Yes);
     };
-    match infer(alloc, base, &[], tree, budget)? {
+    match infer_noted(alloc, base, memo, tree, budget)? {
         Inferred::Found(found) => conv(alloc, base, ty, found, budget),
         Inferred::No => Ok(Answer::No),
         Inferred::Over => Ok(Answer::Over),
@@ -92,9 +121,10 @@ pub fn check_module(alloc: Global, base: &mut Module, budgets: &[u128]) -> Resul
     ensures accepts { IfOk result (λ v. PassWithin (declarations_of base.old) budgets.now (length base.old.decls) → v ≡ verdict.Accepted) }
     ensures refuses { IfOk result (λ v. (i : ℕ) → IsRefusedWithin (declarations_of base.old) budgets.now i → v ≡ verdict.IllTyped i) }
 {
+    let mut memo = Memo::new(alloc);
     for (i, budget) in budgets.iter().enumerate() {
         let mut left = Budget { left: *budget };
-        match check_decl(alloc, base, i, &mut left)? {
+        match check_noted(alloc, base, &mut memo, i, &mut left)? {
             Answer::Yes => {}
             Answer::No => return Ok(Verdict::IllTyped(i)),
             Answer::Over => return Ok(Verdict::OverBudget(i)),

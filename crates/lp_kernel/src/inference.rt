@@ -7,6 +7,7 @@ ghost use Rattle.lp_kernel.specs.Inference.{typing, IsInferred, IsKnownType, IsT
 
 use crate::asks::ask;
 use crate::context::Context;
+use crate::spines::under;
 use crate::state::{Next, State};
 use crate::tells::tell;
 use bridge_base::{Budget, Memory, Stack};
@@ -61,6 +62,9 @@ pub fn infer(
                     next = tell(alloc, base, &mut state, frame, found, budget)?;
                 }
             },
+            Next::Under(b, k, f) => {
+                next = under(alloc, base, &mut state, b, k, f)?;
+            }
             Next::No => return Ok(Inferred::No),
             Next::Over => return Ok(Inferred::Over),
         }

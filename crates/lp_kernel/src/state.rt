@@ -6,14 +6,16 @@ use lp_term::LpId;
 /// What goes on with a type that was found.
 #[derive(Clone, Copy)]
 pub enum Frame {
-    /// That of the function at this argument.
-    Function(LpId),
-    /// The sort of this product, which the type of the function at this argument reaches.
-    Reached(LpId, LpId),
-    /// That of the argument, of a function with this domain and this body of its type.
-    Argument(LpId, LpId, LpId),
-    /// The sort of the domain, which the type of the argument is to meet.
-    Expected(LpId, LpId, LpId, LpId),
+    /// That of the function, at the argument, with the application of the two.
+    Function(LpId, LpId, LpId),
+    /// The sort of this product, which the type of the function at this argument reaches, with the application of the two.
+    Reached(LpId, LpId, LpId, LpId),
+    /// That of the argument, where the domain and the body of the function's type are to have so many last arguments of the function put
+    /// in, with the function and its application.
+    Argument(LpId, LpId, usize, LpId, LpId),
+    /// The sort of the domain, which the type of the argument is to meet, with the body, which is to have so many last arguments of the
+    /// application put in, the application and the type.
+    Expected(LpId, LpId, usize, LpId, LpId),
     /// The sort of an abstraction's domain, with its body.
     Domain(LpId, LpId),
     /// The type of an abstraction's body, with its domain.
@@ -29,6 +31,8 @@ pub enum Frame {
 pub enum Next {
     Ask(LpId),
     Tell(LpId),
+    /// To go on with this type, once so many last arguments of this application are put in.
+    Under(LpId, usize, LpId),
     No,
     Over,
 }
@@ -38,4 +42,11 @@ pub enum Next {
 pub struct State {
     pub(crate) context: Context,
     pub(crate) frames: Stack<Frame>,
+}
+
+/// A closed tree whose type is asked for by itself, and what goes on with it.
+#[derive(Drop)]
+pub struct Waiting {
+    pub(crate) id: LpId,
+    pub(crate) state: State,
 }

@@ -7,6 +7,7 @@ ghost use Rattle.lp_kernel.specs.Pending.{IsKnownState, IsKnownNext, IsKnownFram
 
 use crate::inference::Inferred;
 use crate::products::reach;
+use crate::spines::filled;
 use crate::state::{Frame, Next, State};
 use bridge_base::{Budget, Memory};
 use holide_sig::Module;
@@ -35,10 +36,14 @@ pub(crate) fn tell(
     ensures fewer { IfOk result (IsFewer state.old budget.old.left budget.new.left state.new) }
 {
     match frame {
-        Frame::Function(x) => tell_function(alloc, base, state, x, found, budget),
-        Frame::Reached(p, x) => tell_reached(base, state, p, x, found),
-        Frame::Argument(a, b, x) => tell_argument(base, state, a, b, x, found, budget),
-        Frame::Expected(a, b, x, y) => tell_expected(alloc, base, state, a, b, x, y, found, budget),
+        Frame::Function(f, x, w) => tell_function(alloc, base, state, f, x, w, found, budget),
+        Frame::Reached(p, f, x, w) => tell_reached(base, state, p, f, x, w, found),
+        Frame::Argument(a, b, k, f, w) => tell_argument(
+            alloc, base, state, a, b, k, f, w, found, budget,
+        ),
+        Frame::Expected(a, b, k, w, y) => tell_expected(
+            alloc, base, state, a, b, k, w, y, found, budget,
+        ),
         Frame::Domain(a, b) => tell_domain(base, state, a, b, found),
         Frame::Body(a) => tell_body(base, state, a, found),
         Frame::ProductDomain(a, b) => tell_product_domain(base, state, a, b, found),
@@ -51,28 +56,30 @@ fn tell_function(
     alloc: Global,
     base: &mut Module,
     state: &mut State,
+    f: LpId,
     x: LpId,
+    w: LpId,
     found: LpId,
     budget: &mut Budget,
 ) -> Result<Next, Memory>
     requires held { IsHeld base.old }
     requires known { IsKnownState base.old.table state.old }
-    requires frame { IsKnownFrame base.old.table (frame.Function x) }
+    requires frame { IsKnownFrame base.old.table (frame.Function f x w) }
     requires found { found.0 < length base.old.table }
     ensures grows { Grows base.old base.new }
     ensures known { IfOk result (λ n. IsKnownState base.new.table state.new) }
     ensures next { IfOk result (IsKnownNext base.new.table) }
     ensures less { budget.new.left ≤ budget.old.left }
-    ensures turned { IfOk result (IsTold base.new (frame.Function x) state.old found budget.old.left budget.new.left state.new) }
+    ensures turned { IfOk result (IsTold base.new (frame.Function f x w) state.old found budget.old.left budget.new.left state.new) }
     ensures fewer { IfOk result (IsFewer state.old budget.old.left budget.new.left state.new) }
 {
     if let LpNode::Pi(a, b) = base.table.view(found) {
-        state.frames.push(Frame::Argument(a, b, x))?;
+        state.frames.push(Frame::Argument(a, b, 0, f, w))?;
         return Ok(Next::Ask(x));
     }
     match reach(alloc, base, found, budget)? {
         Inferred::Found(product) => {
-            state.frames.push(Frame::Reached(product, x))?;
+            state.frames.push(Frame::Reached(product, f, x, w))?;
             Ok(Next::Ask(product))
         }
         Inferred::No => Ok(Next::No),
@@ -85,23 +92,25 @@ fn tell_reached(
     base: &mut Module,
     state: &mut State,
     product: LpId,
+    f: LpId,
     x: LpId,
+    w: LpId,
     found: LpId,
 ) -> Result<Next, Memory>
     requires held { IsHeld base.old }
     requires known { IsKnownState base.old.table state.old }
-    requires frame { IsKnownFrame base.old.table (frame.Reached product x) }
+    requires frame { IsKnownFrame base.old.table (frame.Reached product f x w) }
     requires found { found.0 < length base.old.table }
     ensures grows { Grows base.old base.new }
     ensures known { IfOk result (λ n. IsKnownState base.new.table state.new) }
     ensures next { IfOk result (IsKnownNext base.new.table) }
-    ensures turned { IfOk result (λ n. (left : ℕ) → IsTold base.new (frame.Reached product x) state.old found left left state.new n) }
+    ensures turned { IfOk result (λ n. (left : ℕ) → IsTold base.new (frame.Reached product f x w) state.old found left left state.new n) }
     ensures fewer { IfOk result (λ n. (left : ℕ) → IsFewer state.old left left state.new n) }
 {
     match base.table.view(found) {
         LpNode::SortType | LpNode::SortKind => match base.table.view(product) {
             LpNode::Pi(a, b) => {
-                state.frames.push(Frame::Argument(a, b, x))?;
+                state.frames.push(Frame::Argument(a, b, 0, f, w))?;
                 Ok(Next::Ask(x))
             }
             _ => Ok(Next::No),
@@ -112,34 +121,43 @@ fn tell_reached(
 
 // With the type of an argument.
 fn tell_argument(
+    alloc: Global,
     base: &mut Module,
     state: &mut State,
     a: LpId,
     b: LpId,
-    x: LpId,
+    k: usize,
+    f: LpId,
+    w: LpId,
     found: LpId,
     budget: &mut Budget,
 ) -> Result<Next, Memory>
     requires held { IsHeld base.old }
     requires known { IsKnownState base.old.table state.old }
-    requires frame { IsKnownFrame base.old.table (frame.Argument a b x) }
+    requires frame { IsKnownFrame base.old.table (frame.Argument a b k f w) }
     requires found { found.0 < length base.old.table }
     ensures grows { Grows base.old base.new }
     ensures known { IfOk result (λ n. IsKnownState base.new.table state.new) }
     ensures next { IfOk result (IsKnownNext base.new.table) }
     ensures less { budget.new.left ≤ budget.old.left }
-    ensures turned { IfOk result (IsTold base.new (frame.Argument a b x) state.old found budget.old.left budget.new.left state.new) }
+    ensures turned { IfOk result (IsTold base.new (frame.Argument a b k f w) state.old found budget.old.left budget.new.left state.new) }
     ensures fewer { IfOk result (IsFewer state.old budget.old.left budget.new.left state.new) }
 {
     if !budget.tick() {
         return Ok(Next::Over);
     }
-    if a == found {
-        let made = base.table.put(x, b)?;
-        return Ok(Next::Tell(made));
+    // A spine of 2^64 arguments is want of memory.
+    let Some(more) = k.checked_add(1) else {
+        return Err(Memory);
+    };
+    let domain = filled(alloc, base, a, k, f)?;
+    if domain == found {
+        return Ok(Next::Under(b, more, w));
     }
-    state.frames.push(Frame::Expected(a, b, x, found))?;
-    Ok(Next::Ask(a))
+    state
+        .frames
+        .push(Frame::Expected(domain, b, more, w, found))?;
+    Ok(Next::Ask(domain))
 }
 
 // With the sort of the type that is expected.
@@ -149,28 +167,26 @@ fn tell_expected(
     state: &mut State,
     a: LpId,
     b: LpId,
-    x: LpId,
+    k: usize,
+    w: LpId,
     y: LpId,
     found: LpId,
     budget: &mut Budget,
 ) -> Result<Next, Memory>
     requires held { IsHeld base.old }
     requires known { IsKnownState base.old.table state.old }
-    requires frame { IsKnownFrame base.old.table (frame.Expected a b x y) }
+    requires frame { IsKnownFrame base.old.table (frame.Expected a b k w y) }
     requires found { found.0 < length base.old.table }
     ensures grows { Grows base.old base.new }
     ensures known { IfOk result (λ n. IsKnownState base.new.table state.new) }
     ensures next { IfOk result (IsKnownNext base.new.table) }
     ensures less { budget.new.left ≤ budget.old.left }
-    ensures turned { IfOk result (IsTold base.new (frame.Expected a b x y) state.old found budget.old.left budget.new.left state.new) }
+    ensures turned { IfOk result (IsTold base.new (frame.Expected a b k w y) state.old found budget.old.left budget.new.left state.new) }
     ensures fewer { IfOk result (IsFewer state.old budget.old.left budget.new.left state.new) }
 {
     match base.table.view(found) {
         LpNode::SortType | LpNode::SortKind => match conv(alloc, base, a, y, budget)? {
-            Answer::Yes => {
-                let made = base.table.put(x, b)?;
-                Ok(Next::Tell(made))
-            }
+            Answer::Yes => Ok(Next::Under(b, k, w)),
             Answer::No => Ok(Next::No),
             Answer::Over => Ok(Next::Over),
         },

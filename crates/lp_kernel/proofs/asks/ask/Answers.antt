@@ -3,11 +3,16 @@ use Rattle.lp_spec.specs.Trees.{SortType, SortKind, Var}
 use Rattle.lp_term.specs.TableLaws.{Keeps-refl}
 use Rattle.lp_kernel.specs.declared.state.Next.TheVariants as next
 use Rattle.lp_conv.specs.BudgetLaws.{ticked}
-use Rattle.lp_kernel.proofs.Asked.{asked-application, asked-abstraction, asked-product, asked-symbol, asked-leaf, known-state, IfOk-map}
+use Rattle.lp_kernel.proofs.Asked.{asked-application, asked-abstraction, asked-product, asked-symbol, asked-leaf, known-state, known-pushed, IfOk-map}
 use Rattle.lp_kernel.proofs.asks.ask.Goals as goal
 
 pub returns-in_ok-push-in-App-clause-turned : goal.returns-in_ok-push-in-App-clause-turned
 returns-in_ok-push-in-App-clause-turned c = asked-application _ _ _ _ _ c.args.id _ c.in-App.f c.in-App.x c.in-App.ensures.is c.in_ok-push-in-App.ensures.pushed (omega (arith, ticked _ _ _ c.tick.ensures.taken c.tick.ensures.spent c.if-not-tick.false))
+
+pub returns-in_ok-push-in-App-clause-known : goal.returns-in_ok-push-in-App-clause-known
+returns-in_ok-push-in-App-clause-known c =
+    known-pushed _ c.args.state.now _ _ c.requires.known
+    (record { function = omega (arith, c.in-App.ensures.lower.0, c.requires.id); argument = omega (arith, c.in-App.ensures.lower.1, c.requires.id); whole = c.requires.id; is = c.in-App.ensures.is }) c.in_ok-push-in-App.ensures.pushed
 
 pub returns-in_ok-push-in-Lam-clause-turned : goal.returns-in_ok-push-in-Lam-clause-turned
 returns-in_ok-push-in-Lam-clause-turned c = asked-abstraction _ _ _ _ _ c.args.id _ c.in-Lam.a c.in-Lam.b c.in-Lam.ensures.is c.in_ok-push-in-Lam.ensures.pushed (omega (arith, ticked _ _ _ c.tick.ensures.taken c.tick.ensures.spent c.if-not-tick.false))

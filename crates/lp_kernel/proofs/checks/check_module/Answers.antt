@@ -5,28 +5,29 @@ use Rattle.holide_sig.specs.Modules.{declarations_of}
 use Rattle.lp_conv.specs.GrowthLaws.{Grows-trans}
 use Rattle.lp_kernel.specs.declared.checks.Verdict.TheVariants as verdict
 use Rattle.lp_kernel.proofs.Judged.{passing-start, passing-more, passing-no, passing-over, passing-all, module-accepts, judged-refuses, judged-well_typed}
+use Rattle.lp_kernel.proofs.Levels.{empty-right}
 use Rattle.lp_kernel.proofs.checks.check_module.Goals as goal
 
 pub loop-i-init : goal.loop-i-init
-loop-i-init c = passing-start _ c.requires.held
+loop-i-init c = record { passing = passing-start _ c.requires.held; right = empty-right _ _ c.new-memo.result c.new-memo.ensures.empty }
 
-pub check_decl-requires-clause-held : goal.check_decl-requires-clause-held
-check_decl-requires-clause-held c = c.loop-i.invariant.held
+pub check_noted-requires-clause-held : goal.check_noted-requires-clause-held
+check_noted-requires-clause-held c = c.loop-i.invariant.passing.held
 
-pub check_decl-requires-clause-is_module : goal.check_decl-requires-clause-is_module
-check_decl-requires-clause-is_module c = subst IsModule (sym c.loop-i.invariant.same) c.requires.is_module
+pub check_noted-requires-clause-is_module : goal.check_noted-requires-clause-is_module
+check_noted-requires-clause-is_module c = subst IsModule (sym c.loop-i.invariant.passing.same) c.requires.is_module
 
-pub check_decl-requires-clause-i : goal.check_decl-requires-clause-i
-check_decl-requires-clause-i c = omega (arith, c.loop-i-test.true, c.requires.budgets, ap length c.loop-i.invariant.grows.decls)
+pub check_noted-requires-clause-i : goal.check_noted-requires-clause-i
+check_noted-requires-clause-i c = omega (arith, c.loop-i-test.true, c.requires.budgets, ap length c.loop-i.invariant.passing.grows.decls)
 
-pub returns-in_err-check_decl-clause-grows : goal.returns-in_err-check_decl-clause-grows
-returns-in_err-check_decl-clause-grows c = Grows-trans c.loop-i.invariant.grows c.check_decl.ensures.grows
+pub returns-in_err-check_noted-clause-grows : goal.returns-in_err-check_noted-clause-grows
+returns-in_err-check_noted-clause-grows c = Grows-trans c.loop-i.invariant.passing.grows c.check_noted.ensures.grows
 
 pub returns-in-No : goal.returns-in-No
 returns-in-No c =
-    let no = passing-no c.args.base.now c.loop-i.base _ c.loop-i.i _ _ c.loop-i.invariant c.check_decl.ensures.grows (rw c.in-No.is at c.in_ok-check_decl.ensures.answered) in
+    let no = passing-no c.args.base.now c.loop-i.base _ c.loop-i.i _ _ c.loop-i.invariant.passing c.check_noted.ensures.grows (rw c.in-No.is at c.in_ok-check_noted.ensures.answered) in
     record {
-      grows = Grows-trans c.loop-i.invariant.grows c.check_decl.ensures.grows;
+      grows = Grows-trans c.loop-i.invariant.passing.grows c.check_noted.ensures.grows;
       judged = no;
       well_typed = λ e. absurd (cc);
       accepts = λ pass. module-accepts c.args.base.now c.args.budgets.now c.requires.budgets (verdict.IllTyped c.loop-i.i) no pass;
@@ -35,9 +36,9 @@ returns-in-No c =
 
 pub returns-in-Over : goal.returns-in-Over
 returns-in-Over c =
-    let over = passing-over c.args.base.now c.loop-i.base _ c.loop-i.i _ c.check_decl.new.budget.left c.loop-i.invariant c.check_decl.ensures.grows c.args.budgets.now (slice_get-get_or c.args.budgets.now c.loop-i.i 0 c.loop-i-test.true) (rw c.in-Over.is at c.in_ok-check_decl.ensures.answered) in
+    let over = passing-over c.args.base.now c.loop-i.base _ c.loop-i.i _ c.check_noted.new.budget.left c.loop-i.invariant.passing c.check_noted.ensures.grows c.args.budgets.now (slice_get-get_or c.args.budgets.now c.loop-i.i 0 c.loop-i-test.true) (rw c.in-Over.is at c.in_ok-check_noted.ensures.answered) in
     record {
-      grows = Grows-trans c.loop-i.invariant.grows c.check_decl.ensures.grows;
+      grows = Grows-trans c.loop-i.invariant.passing.grows c.check_noted.ensures.grows;
       judged = over;
       well_typed = λ e. absurd (cc);
       accepts = λ pass. module-accepts c.args.base.now c.args.budgets.now c.requires.budgets (verdict.OverBudget c.loop-i.i) over pass;
@@ -45,13 +46,13 @@ returns-in-Over c =
     }
 
 pub loop-i-preserved : goal.loop-i-preserved
-loop-i-preserved c = passing-more c.args.base.now c.loop-i.base _ c.loop-i.i _ c.check_decl.new.budget.left c.loop-i.invariant c.check_decl.ensures.grows (rw c.in-Yes.is at c.in_ok-check_decl.ensures.answered)
+loop-i-preserved c = record { right = c.in_ok-check_noted.ensures.right; passing = passing-more c.args.base.now c.loop-i.base _ c.loop-i.i _ c.check_noted.new.budget.left c.loop-i.invariant.passing c.check_noted.ensures.grows (rw c.in-Yes.is at c.in_ok-check_noted.ensures.answered) }
 
 pub returns : goal.returns
 returns c =
-    let all = passing-all c.args.base.now c.args.budgets.now c.requires.budgets c.loop-i.base c.loop-i.i c.loop-i.invariant (omega (arith, c.loop-i-test.false, c.loop-i.auto.i-end)) in
+    let all = passing-all c.args.base.now c.args.budgets.now c.requires.budgets c.loop-i.base c.loop-i.i c.loop-i.invariant.passing (omega (arith, c.loop-i-test.false, c.loop-i.auto.i-end)) in
     record {
-      grows = c.loop-i.invariant.grows;
+      grows = c.loop-i.invariant.passing.grows;
       judged = all;
       well_typed = λ e. judged-well_typed (declarations_of c.args.base.now) c.args.budgets.now c.requires.is_module verdict.Accepted all e;
       accepts = λ pass. refl;

@@ -1,3 +1,4 @@
+use Rattle.std.proofs.Common.{arith}
 use Rattle.lp_kernel.specs.declared.state.Next.TheVariants as next
 use Rattle.lp_kernel.specs.declared.inference.Inferred.TheVariants as inferred
 use Rattle.lp_kernel.proofs.Sound.{inferred-sound}
@@ -12,8 +13,8 @@ loop-next-preserved-in-Ask c =
     next-loop _ c.loop-next.base _ c.args.ctx.now c.args.id _ c.loop-next.budget.left _ c.loop-next.state _ (next.Ask c.in-Ask.tree) _ (rw c.in-Ask.is at c.loop-next.invariant) (λ e. cc) c.ask.ensures.grows c.in_ok-next-in-Ask.ensures.known
     c.in_ok-next-in-Ask.ensures.next c.ask.ensures.less c.in_ok-next-in-Ask.ensures.turned
 
-pub loop-next-preserved : goal.loop-next-preserved
-loop-next-preserved c =
+pub loop-next-preserved-in-Some : goal.loop-next-preserved-in-Some
+loop-next-preserved-in-Some c =
     told-loop _ c.loop-next.base _ c.args.ctx.now c.args.id _ c.loop-next.budget.left _ c.loop-next.state _ c.in-Tell.found _ c.in-Some.frame c.pop.new.self (rw c.in-Tell.is at c.loop-next.invariant) c.in-Some.ensures.popped c.tell.ensures.grows
     c.in_ok-next-in-Some.ensures.known c.in_ok-next-in-Some.ensures.next c.tell.ensures.less c.in_ok-next-in-Some.ensures.turned
 
@@ -28,3 +29,8 @@ returns-in-None-clause-sound c = inferred-sound _ c.args.ctx.now c.args.id c.loo
 
 pub returns-in-Over-clause-answered : goal.returns-in-Over-clause-answered
 returns-in-Over-clause-answered c = over-end _ c.loop-next.base c.args.ctx.now c.args.id _ c.loop-next.budget.left c.loop-next.state c.requires.held (rw c.in-Over.is at c.loop-next.invariant)
+
+pub loop-next-preserved : goal.loop-next-preserved
+loop-next-preserved c =
+    next-loop _ c.loop-next.base _ c.args.ctx.now c.args.id _ c.loop-next.budget.left _ c.loop-next.state _ (next.Under c.in-Under.b c.in-Under.k c.in-Under.f) _ (rw c.in-Under.is at c.loop-next.invariant) (λ e. cc) c.under.ensures.grows c.in_ok-next-in-Under.ensures.known
+    c.in_ok-next-in-Under.ensures.next (omega arith) (c.in_ok-next-in-Under.ensures.turned c.loop-next.budget.left)

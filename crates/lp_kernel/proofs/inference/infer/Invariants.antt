@@ -7,4 +7,4 @@ abbrev pub invariant-loop-next : goal.invariant-loop-next
 invariant-loop-next l = IsLoop l.fn.base l.base l.fn.ctx l.fn.id l.fn.budget.left l.budget.left l.state l.next
 
 abbrev pub decreases-loop-next : goal.decreases-loop-next
-decreases-loop-next l = 2 * l.budget.left + length l.state.frames + weight_of l.next
+decreases-loop-next l = 4 * l.budget.left + 2 * length l.state.frames + weight_of l.next

@@ -1,22 +1,29 @@
-use Rattle.std.proofs.Common.{arith, ap, ◌∙◌, Some}
-use Rattle.lp_spec.specs.Trees.{put}
-use Rattle.std.proofs.Math.Path.{ap₂}
-use Rattle.lp_term.specs.TableLaws.{tree_at-Stays}
+use Rattle.std.proofs.Common.{arith}
 use Rattle.lp_conv.specs.BudgetLaws.{ticked}
-use Rattle.lp_kernel.proofs.Asked.{known-state}
-use Rattle.lp_kernel.proofs.Told.{same-tree, other-tree, told-same, told-other}
+use Rattle.lp_conv.specs.GrowthLaws.{IsHeld-Grows}
+use Rattle.lp_kernel.proofs.Asked.{known-state, known-pushed}
+use Rattle.lp_kernel.proofs.Told.{same-tree, other-tree, told-same, told-other, filled-here}
 use Rattle.lp_kernel.proofs.tells.tell_argument.Goals as goal
 
 pub returns-then-eq-clause-known : goal.returns-then-eq-clause-known
-returns-then-eq-clause-known c = known-state c.put.ensures.keeps _ c.requires.known
+returns-then-eq-clause-known c = known-state c.filled.ensures.grows.keeps _ c.requires.known
 
 pub returns-then-eq-clause-turned : goal.returns-then-eq-clause-turned
 returns-then-eq-clause-turned c =
-    told-same _ _ _ _ c.args.a c.args.b c.args.x c.args.found c.in_ok-made.made _ (same-tree _ c.args.a c.args.found c.if-eq.ensures)
-    (c.in_ok-made.ensures.made ∙ ap Some (ap₂ put (tree_at-Stays c.put.ensures.keeps.stays c.args.x.0 c.requires.frame.2) (tree_at-Stays c.put.ensures.keeps.stays c.args.b.0 c.requires.frame.1)))
+    told-same _ c.filled.new.base.table _ _ c.args.a c.args.b c.args.f c.args.w c.args.found c.in_ok-domain.domain c.args.k c.in-Some.more _
+    (filled-here c.filled.ensures.grows.keeps.stays c.args.a c.args.k c.args.f c.in_ok-domain.domain c.requires.frame.0 c.requires.frame.2 c.in_ok-domain.ensures.is)
+    (same-tree _ c.in_ok-domain.domain c.args.found c.if-eq.ensures) (omega (arith, c.in-Some.ensures))
     (omega (arith, ticked _ _ _ c.tick.ensures.taken c.tick.ensures.spent c.if-not-tick.false))
 
 pub returns-clause-turned : goal.returns-clause-turned
 returns-clause-turned c =
-    told-other _ _ _ _ c.args.a c.args.b c.args.x c.args.found _ _ (other-tree _ c.args.a c.args.found c.requires.held.distinct c.requires.frame.0 c.requires.found c.if-eq.ensures)
-    c.in_ok-push.ensures.pushed (omega (arith, ticked _ _ _ c.tick.ensures.taken c.tick.ensures.spent c.if-not-tick.false))
+    told-other _ c.filled.new.base.table _ _ c.args.a c.args.b c.args.f c.args.w c.args.found c.in_ok-domain.domain c.args.k c.in-Some.more _ _
+    (filled-here c.filled.ensures.grows.keeps.stays c.args.a c.args.k c.args.f c.in_ok-domain.domain c.requires.frame.0 c.requires.frame.2 c.in_ok-domain.ensures.is)
+    (other-tree _ c.in_ok-domain.domain c.args.found (IsHeld-Grows _ _ c.filled.ensures.grows c.requires.held).distinct c.in_ok-domain.ensures.known (omega (arith, c.filled.ensures.grows.keeps.longer, c.requires.found)) c.if-eq.ensures)
+    (omega (arith, c.in-Some.ensures)) c.in_ok-push.ensures.pushed (omega (arith, ticked _ _ _ c.tick.ensures.taken c.tick.ensures.spent c.if-not-tick.false))
+
+pub returns-clause-known : goal.returns-clause-known
+returns-clause-known c =
+    let longer = c.filled.ensures.grows.keeps.longer in
+    known-pushed _ c.args.state.now _ _ (known-state c.filled.ensures.grows.keeps _ c.requires.known)
+    (c.in_ok-domain.ensures.known, omega (arith, longer, c.requires.frame.1), omega (arith, longer, c.requires.frame.3), omega (arith, longer, c.requires.found)) c.in_ok-push.ensures.pushed
