@@ -1,6 +1,6 @@
 -- What stays where the table of a reading grows, or its names do.
 use Rattle.std.proofs.Common.{inl, inr, ◌⊎◌, ◌≡◌, ℕ, zero, suc, refl, sym, ap, subst, ◌∙◌, List, [], ◌∷◌, ◌++◌, reverse, length, slice_get, Option, None, Some, arith}
-use Rattle.std.specs.Prelude.{slice_set}
+use Rattle.std.specs.Prelude.{◌<◌, slice_set, unwrap_or}
 use Rattle.lp_spec.specs.Trees.{Tree, Var, Sym}
 use Rattle.std.proofs.lemmas.Option.{same_Some}
 use Rattle.lp_spec.specs.Modules.{Declaration, signature}
@@ -97,6 +97,17 @@ set_at (v ∷ ids) (suc k) (suc n) id x e = elim (set_at ids k n id x e) [ inl f
 
 pub AreOfSymbols-set : (trees : List Tree) (ids : List (Option LpId)) (k : ℕ) (id : LpId) → AreOfSymbols trees ids → Holds trees id.0 (Sym k) → AreOfSymbols trees (slice_set ids k (Some id))
 AreOfSymbols-set trees ids k id h at = λ n x e. elim (set_at ids k n id x e) [ inl f ↦ h n x f | inr f ↦ subst (λ (y : LpId). Holds trees y.0 (Sym n)) f.1 (subst (λ i. Holds trees id.0 (Sym i)) (sym f.0) at) ]
+
+-- the node that is read from a place stands there
+pub unwrap_or-at : (o : Option (Option LpId)) (id : LpId) → Some id ≡ unwrap_or o None → o ≡ Some (Some id)
+unwrap_or-at None id e = absurd (cc)
+unwrap_or-at (Some x) id e = ap Some (sym e)
+
+-- and so does one that was put there
+pub slice_get-slice_set : (ids : List (Option LpId)) (n : ℕ) (x : Option LpId) → n < length (slice_set ids n x) → slice_get (slice_set ids n x) n ≡ Some x
+slice_get-slice_set [] n x few = absurd (omega arith)
+slice_get-slice_set (v ∷ ids) zero x few = refl
+slice_get-slice_set (v ∷ ids) (suc n) x few = slice_get-slice_set ids n x (omega arith)
 
 -- the same reading over a table or names that have grown
 pub grown_in : (m : Module) (new : List Tree) (ns ms : List Named) (z : ℕ) (vs : Atoms) (b : ℕ) (h : Head) (fs : List Frame) → Keeps m.table new → naming.Keeps ns ms → ((x : List ℕ) → looked ms x ≡ looked ns x) → IsSoundIn m ns z vs b h fs → IsSoundIn (record { table = new; decls = m.decls }) ms z vs b h fs

@@ -167,6 +167,14 @@ pub record IsSoundIn (m : Module) (ns : List Named) (nameless : ℕ) (kept : Ato
   pub few : binders ≤ length fs
   pub atoms : AreAtoms m.table kept
 
+-- the node of the variable is kept in the new one, if those of all lower numbers were kept
+abbrev pub KeepsVariable : Parser → Parser → ℕ → LpId → Type 0
+KeepsVariable old new n id = n ≤ length old.atoms.variables.items → slice_get new.atoms.variables.items n ≡ Some id
+
+-- the node of the symbol is kept, if it has a place
+abbrev pub KeepsSymbol : Parser → ℕ → LpId → Type 0
+KeepsSymbol p n id = n < length p.atoms.symbols.items → slice_get p.atoms.symbols.items n ≡ Some (Some id)
+
 abbrev pub IsSound : Parser → Type 0
 IsSound p = IsSoundIn p.module p.names p.nameless p.atoms p.binders p.head (reverse p.frames.items)
 

@@ -1,6 +1,6 @@
 //! The reading of tokens: each leads from one state to the next.
 ghost use Rattle.lp_spec.specs.Modules.{symbol_name};
-ghost use Rattle.std.specs.Prelude.{ℕ, ◌≡◌, ◌<◌, ◌+◌, ◌++◌, [], ◌∷◌, length, None, Some, IfOk, IfSome, IfNone, OnOk, IfErr};
+ghost use Rattle.std.specs.Prelude.{ℕ, ◌≡◌, ◌<◌, ◌+◌, ◌++◌, [], ◌∷◌, length, slice_get, None, Some, IfOk, IfSome, IfNone, OnOk, IfErr};
 ghost use Rattle.lp_spec.specs.ModuleOrder.{MayFollow};
 ghost use Rattle.lp_spec.specs.Trees.{Var, Sym};
 ghost use Rattle.lp_spec.specs.Tokens as tokens;
@@ -12,7 +12,7 @@ ghost use Rattle.dk_read.specs.declared.terms.State.TheVariants as state;
 ghost use Rattle.dk_read.specs.declared.faults.Stop.TheVariants as stop;
 ghost use Rattle.dk_read.specs.Names.{name_at, looked, IsNameless, HasSymbols};
 ghost use Rattle.dk_read.specs.Names as naming;
-ghost use Rattle.dk_read.specs.States.{state_in, state_of, head_of, token_in, frames_of, scope_of, declared, IsSound, IsReady, IsReading, IsStateKnown, IsTokenKnown, IsIdKnown, Becomes, Tells, Breaks, Means, Grows, before, tree_in, frame_in, IsFrameKnown, IsBinderKnown, IsUnwound, bound_frame, Binds, IsPlain, Unwinds, NoDomain, NoEnclosing, IsSign, NoColon, IsWord};
+ghost use Rattle.dk_read.specs.States.{state_in, state_of, head_of, token_in, frames_of, scope_of, declared, IsSound, IsReady, IsReading, IsStateKnown, IsTokenKnown, IsIdKnown, Becomes, Tells, Breaks, Means, Grows, KeepsSymbol, KeepsVariable, before, tree_in, frame_in, IsFrameKnown, IsBinderKnown, IsUnwound, bound_frame, Binds, IsPlain, Unwinds, NoDomain, NoEnclosing, IsSign, NoColon, IsWord};
 
 use crate::faults::{DkFault, DkKind, Stop};
 use crate::names::Names;
@@ -76,6 +76,7 @@ impl Parser {
         requires parts { PartsBelow (length self.old.module.table) node }
         ensures known { IfOk result (λ id. id.0 < length self.new.module.table) }
         ensures made { IfOk result (λ id. Holds self.new.module.table id.0 (tree_of_node self.old.module.table node)) }
+        ensures atoms { self.new.atoms ≡ self.old.atoms }
         ensures grows { Grows self.old self.new }
         ensures memory { IfErr result (λ e. e ≡ stop.Memory) }
     {
@@ -139,6 +140,7 @@ impl Parser {
         requires sound { IsSound self.old }
         ensures known { IfOk result (λ id. id.0 < length self.new.module.table) }
         ensures made { IfOk result (λ id. Holds self.new.module.table id.0 (Var number)) }
+        ensures kept { IfOk result (λ id. KeepsVariable self.old self.new number id) }
         ensures grows { Grows self.old self.new }
         ensures memory { IfErr result (λ e. e ≡ stop.Memory) }
     {
@@ -153,6 +155,7 @@ impl Parser {
         requires sound { IsSound self.old }
         ensures known { IfOk result (λ id. id.0 < length self.new.module.table) }
         ensures made { IfOk result (λ id. Holds self.new.module.table id.0 (Var number)) }
+        ensures kept { IfOk result (λ id. number ≡ length self.old.atoms.variables.items → slice_get self.new.atoms.variables.items number ≡ Some id) }
         ensures grows { Grows self.old self.new }
         ensures memory { IfErr result (λ e. e ≡ stop.Memory) }
     {
@@ -167,6 +170,7 @@ impl Parser {
     fn keep_variable(&mut self, id: LpId) -> Result<(), Stop>
         requires variable { Holds self.old.module.table id.0 (Var (length self.old.atoms.variables.items)) }
         ensures same { self.new.module ≡ self.old.module }
+        ensures kept { OnOk result (slice_get self.new.atoms.variables.items (length self.old.atoms.variables.items) ≡ Some id) }
         ensures grows { Grows self.old self.new }
         ensures memory { IfErr result (λ e. e ≡ stop.Memory) }
     {
@@ -181,6 +185,7 @@ impl Parser {
         requires sound { IsSound self.old }
         ensures known { IfOk result (λ id. id.0 < length self.new.module.table) }
         ensures made { IfOk result (λ id. Holds self.new.module.table id.0 (Sym number)) }
+        ensures kept { IfOk result (λ id. KeepsSymbol self.new number id) }
         ensures grows { Grows self.old self.new }
         ensures memory { IfErr result (λ e. e ≡ stop.Memory) }
     {
@@ -195,6 +200,7 @@ impl Parser {
         requires sound { IsSound self.old }
         ensures known { IfOk result (λ id. id.0 < length self.new.module.table) }
         ensures made { IfOk result (λ id. Holds self.new.module.table id.0 (Sym number)) }
+        ensures kept { IfOk result (λ id. KeepsSymbol self.new number id) }
         ensures grows { Grows self.old self.new }
         ensures memory { IfErr result (λ e. e ≡ stop.Memory) }
     {
@@ -207,6 +213,7 @@ impl Parser {
     fn keep_symbol(&mut self, number: usize, id: LpId)
         requires symbol { Holds self.old.module.table id.0 (Sym number) }
         ensures same { self.new.module ≡ self.old.module }
+        ensures kept { KeepsSymbol self.new number id }
         ensures grows { Grows self.old self.new }
     {
         self.atoms.keep(number, id);

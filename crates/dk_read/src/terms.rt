@@ -1,5 +1,5 @@
 //! What a reading is in, by numbers of the table's trees and of the names that it has met.
-ghost use Rattle.std.specs.Prelude.{◌≡◌, [], ◌∷◌, ◌++◌, None, Some, replicate, slice_get, slice_set, IfOk, IfSome, OnOk};
+ghost use Rattle.std.specs.Prelude.{◌≡◌, [], ◌∷◌, ◌++◌, None, Some, replicate, slice_get, slice_set, unwrap_or, IfOk, OnOk};
 
 use bridge_base::Memory;
 use holide_sig::{Form, SIGNATURE};
@@ -37,7 +37,7 @@ impl Atoms {
 
     /// The node of a symbol, if it is kept.
     pub(crate) fn symbol(&self, symbol: usize) -> Option<LpId>
-        ensures { IfSome result (λ id. slice_get self.now.symbols.items symbol ≡ Some (Some id)) }
+        ensures { result ≡ unwrap_or (slice_get self.now.symbols.items symbol) None }
     {
         match self.symbols.get(symbol) {
             Some(id) => *id,

@@ -12,7 +12,7 @@
 #![tactic(auto)]
 
 ghost use Rattle.std.specs.Prelude.{◌≡◌, ◌<◌, [], length, option_map, OnOk, OnErr};
-ghost use Rattle.std.specs.Bool.{OnTrue};
+ghost use Rattle.std.specs.Bool.{Decides};
 ghost use Rattle.bridge_base.specs.Outside.{Gains, GainsFront, HasCause};
 ghost use Rattle.lp_spec.specs.Text.{body_text, declaration_text, opening, prelude, written};
 ghost use Rattle.lp_term.specs.Tables.{tree_at};
@@ -93,7 +93,7 @@ pub fn write_decl<S: Sink>(
 // Whether a few frames are enough for the trees of a declaration.
 fn is_short(source: &Module, decl: &Decl) -> bool
     requires known { IsKnown source.now.table decl.now }
-    ensures { OnTrue result (IsWithin 256 source.now.table decl.now) }
+    ensures short { Decides result (IsWithin 256 source.now.table decl.now) }
 {
     source.table.depth(decl.ty) <= 256 && is_body_short(source, decl.body)
 }
@@ -101,7 +101,7 @@ fn is_short(source: &Module, decl: &Decl) -> bool
 // Whether they are for a body.
 fn is_body_short(source: &Module, body: Option<LpId>) -> bool
     requires known { IsBodyKnown source.now.table body }
-    ensures { OnTrue result (IsBodyWithin 256 source.now.table body) }
+    ensures short { Decides result (IsBodyWithin 256 source.now.table body) }
 {
     match body {
         Some(id) => source.table.depth(id) <= 256,

@@ -5,6 +5,7 @@ ghost use Rattle.holide_sig.specs.declared.module.Module.{Module as AModule};
 ghost use Rattle.lp_weight.specs.declared.memo.Place.{Place as APlace};
 ghost use Rattle.lp_weight.specs.declared.measure.Task.TheVariants as task;
 ghost use Rattle.lp_weight.specs.Saturation.{saturated};
+ghost use Rattle.lp_weight.specs.Noted.{IsNoted};
 ghost use Rattle.lp_weight.specs.Measures.{IsPlace, IsPart, IsWalk, work};
 
 use crate::memo::{Memo, Place};
@@ -101,7 +102,7 @@ fn turn<M: Measure>(
     }
 }
 
-// Takes what the place amounts to, or sets out the tasks that find it.
+// Takes what the place amounts to, or sets out the tasks that find it, where it is not noted yet.
 fn visit<M: Measure>(
     alloc: Global,
     measure: &M,
@@ -113,6 +114,7 @@ fn visit<M: Measure>(
     requires walk { (goal : ℕ) × IsWalk (M.amount measure.now base.now) base.now.table goal (task.Visit place ∷ walk.old.tasks) walk.old.amounts walk.old.memo }
     ensures walk { OnOk result ((goal : ℕ) → IsWalk (M.amount measure.now base.now) base.now.table goal (task.Visit place ∷ walk.old.tasks) walk.old.amounts walk.old.memo → IsWalk (M.amount measure.now base.now) base.now.table goal walk.new.tasks walk.new.amounts walk.new.memo) }
     ensures less { OnOk result (work base.now.table walk.new.tasks < work base.now.table (task.Visit place ∷ walk.old.tasks)) }
+    ensures once { OnOk result ((n : ℕ) → IsNoted walk.old.memo place n → walk.new.tasks ≡ walk.old.tasks) }
 {
     match walk.memo.find(place) {
         Some(amount) => give(walk, amount),
@@ -156,6 +158,7 @@ fn join(place: Place, own: u128, walk: &mut Walk) -> Result<(), Memory>
     requires { 1 < length walk.old.amounts }
     ensures tasks { walk.new.tasks ≡ walk.old.tasks }
     ensures walk { OnOk result ((amount : APlace → ℕ) (trees : List Tree) (goal : ℕ) → IsWalk amount trees goal (task.Join place own ∷ walk.old.tasks) walk.old.amounts walk.old.memo → IsWalk amount trees goal walk.new.tasks walk.new.amounts walk.new.memo) }
+    ensures noted { OnOk result ((n : ℕ) × IsNoted walk.new.memo place n) }
 {
     let (first, second) = two(&mut walk.amounts);
     let amount = own.saturating_add(first).saturating_add(second);

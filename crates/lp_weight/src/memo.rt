@@ -1,5 +1,5 @@
 //! What places amount to, so that each is looked at once.
-ghost use Rattle.std.specs.Prelude.{◌≡◌, ◌⊎◌, ℕ, IfSome, OnOk, OnErr};
+ghost use Rattle.std.specs.Prelude.{◌≡◌, ◌⊎◌, ℕ, IfNone, IfSome, OnOk, OnErr};
 ghost use Rattle.lp_weight.specs.declared.memo.Place.{Place as APlace};
 ghost use Rattle.lp_weight.specs.Noted.{IsNoted};
 
@@ -42,12 +42,15 @@ impl Memo {
 
     pub(crate) fn find(&self, place: Place) -> Option<u128>
         ensures noted { IfSome result (λ n. IsNoted self.now place n) }
+        ensures absent { IfNone result ((n : ℕ) → IsNoted self.now place n → ⊥) }
     {
         self.amounts.get(&place).copied()
     }
 
     pub(crate) fn note(&mut self, place: Place, amount: u128) -> Result<(), Memory>
         ensures noted { OnOk result ((p : APlace) (n : ℕ) → IsNoted self.new p n → IsNoted self.old p n ⊎ ((p ≡ place) × (n ≡ amount))) }
+        ensures new { OnOk result (IsNoted self.new place amount) }
+        ensures kept { OnOk result ((p : APlace) (n : ℕ) → IsNoted self.old p n → (p ≡ place) ⊎ IsNoted self.new p n) }
     {
         self.amounts.insert(place, amount)?;
         Ok(())

@@ -35,3 +35,6 @@ pub returns-in-Two-clause-less : goal.returns-in-Two-clause-less
 returns-in-Two-clause-less g c =
     let h = subst (IsPart (g.M.Measure.amount c.args.measure.now c.args.base.now) c.args.base.now.table c.args.place) c.in-Two.is c.in_ok-amount-in-None.ensures in
     on_ok_weaker c.set_out.result (λ m. rw m (set_out_less (g.M.Measure.amount c.args.measure.now c.args.base.now) c.args.base.now.table c.args.place c.args.walk.now.tasks c.args.walk.now.amounts c.args.walk.now.memo c.in-Two.own c.in-Two.first c.in-Two.second h)) c.set_out.ensures.tasks
+
+pub returns-in-Two-clause-once : goal.returns-in-Two-clause-once
+returns-in-Two-clause-once g c = on_ok_weaker c.set_out.result (λ m n noted. absurd (c.in-None.ensures.absent n noted)) c.set_out.ensures.tasks
