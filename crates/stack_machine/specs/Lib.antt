@@ -6,6 +6,7 @@ pub mod Refusals
 pub mod Shown
 pub mod Reading
 pub mod Obeying
+pub mod Crowds
 pub mod Inferring
 pub mod Collecting
 pub mod Moves

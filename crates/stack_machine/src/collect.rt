@@ -4,10 +4,12 @@
 //! name. What is held moves down to the lowest numbers, in its order, and every number is rewritten: each object stands
 //! for what it stood for. So of an article there are at most twice as many names and cells as the stack and the dictionary
 //! held when some were last given up, or as many as these have objects, or a constant.
-ghost use Rattle.std.specs.Prelude.{◌≡◌, ◌<◌, true, length, map, slice_get, slice_set, Some, IfOk, OnErr};
+ghost use Rattle.std.specs.Prelude.{◌≡◌, ◌<◌, true, length, map, slice_get, slice_set, Some, IfOk, OnOk, OnErr};
+ghost use Rattle.std.specs.Bool.{Decides};
 ghost use Rattle.std.specs.BTreeMap.{values};
 ghost use Rattle.std.specs.List.{fold, items_where_true};
 ghost use Rattle.stack_machine.specs.Collecting.{AreBefore, HoldsMore, IsClosed, IsLeast, holding, holding_list, holding_parts, nothing_held, new_number, new_numbers, numbered, numbered_cell, numbered_entries, numbered_list, numbered_name, numbering};
+ghost use Rattle.stack_machine.specs.Crowds.{kept_count, IsCrowded};
 ghost use Rattle.stack_machine.specs.Moves.{Moves};
 
 use crate::object::{Cell, CellId, List, NameId, Object};
@@ -262,9 +264,11 @@ impl Numbers {
 impl Store {
     /// Whether there are enough names and cells to look which of them so many objects hold: as many as these objects,
     /// and twice as many as were left the last time. So the looking takes no longer than the commands in between.
-    pub(crate) fn is_crowded(&self, objects: usize) -> bool {
-        let count = self.names.len().saturating_add(self.cells.len());
-        count >= FLOOR && count >= objects && count / 2 >= self.kept
+    pub(crate) fn is_crowded(&self, objects: usize, left: usize) -> bool
+        ensures { Decides result (IsCrowded self.now objects left) }
+    {
+        let count = self.names.len() + self.cells.len();
+        count >= FLOOR && count >= objects && count / 2 >= left
     }
 
     /// Nothing is held of the names and cells that there are.
@@ -274,20 +278,27 @@ impl Store {
         Held::none(alloc, self.names.len(), self.cells.len())
     }
 
-    /// Gives up the names and cells that are neither held nor parts of cells that are, and answers the new numbers of the
-    /// others. Without the memory for these nothing changes.
-    pub(crate) fn give_up(&mut self, alloc: Global, mut held: Held) -> Result<Numbers, Memory>
+    /// Gives up the names and cells that are neither held nor parts of cells that are, notes how many are left, and answers
+    /// the new numbers of these. Without the memory for them nothing changes.
+    pub(crate) fn give_up(
+        &mut self,
+        alloc: Global,
+        mut held: Held,
+        left: &mut usize,
+    ) -> Result<Numbers, Memory>
         requires names { length held.names ≡ length self.old.names }
         requires cells { length held.cells ≡ length self.old.lists }
         ensures moved { IfOk result (λ numbers. Moves held numbers self.old self.new) }
+        ensures left { OnOk result (left.new ≡ kept_count self.new) }
         ensures unchanged { OnErr result (self.new ≡ self.old) }
+        ensures unnoted { OnErr result (left.new ≡ left.old) }
     {
         held.hold_parts(&self.cells);
         let numbers = Numbers::of(alloc, &held)?;
         keep_set(&mut self.names, &held.names);
         keep_set(&mut self.cells, &held.cells);
         numbers.rewrite_cells(&mut self.cells);
-        self.kept = self.names.len().saturating_add(self.cells.len());
+        *left = self.names.len() + self.cells.len();
         Ok(numbers)
     }
 }

@@ -48,6 +48,8 @@ pub(crate) enum Progress {
 pub struct Machine {
     alloc: Global,
     store: Store,
+    // how many names and cells were left when some were last given up
+    left: usize,
     stack: Stack,
     dictionary: BTreeMap<i64, Object>,
     progress: Progress,
@@ -76,6 +78,7 @@ impl Machine {
         Ok(Machine {
             alloc,
             store: Store::new(alloc)?,
+            left: 0,
             stack: Stack::new(alloc),
             dictionary: BTreeMap::new(alloc),
             progress: Progress::Begun,
@@ -111,6 +114,7 @@ impl Machine {
                 self.stack.clear();
                 self.dictionary.clear();
                 self.store.end_article();
+                self.left = 0;
                 self.progress = Progress::Begun;
                 Ok(())
             }
@@ -215,7 +219,7 @@ impl Machine {
         ensures { self.new ≡ self.old }
     {
         let objects = self.stack.len().saturating_add(self.dictionary.len());
-        if self.store.is_crowded(objects) {
+        if self.store.is_crowded(objects, self.left) {
             let _done = self.collect();
         }
     }
@@ -227,7 +231,7 @@ impl Machine {
         let mut held = self.store.none_held(self.alloc)?;
         self.stack.hold(&mut held);
         held.hold_values(&self.dictionary);
-        let numbers = self.store.give_up(self.alloc, held)?;
+        let numbers = self.store.give_up(self.alloc, held, &mut self.left)?;
         self.stack.renumber(&numbers);
         numbers.rewrite_values(&mut self.dictionary);
         Ok(())

@@ -53,8 +53,6 @@ pub(crate) struct Store {
     pub(crate) proof: Proof,
     pub(crate) names: Vec<Name>,
     pub(crate) cells: Vec<Cell>,
-    // how many names and cells were left when some were last given up
-    pub(crate) kept: usize,
     pub(crate) assumptions: Pool,
     pub(crate) exports: Pool,
     // how many exports earlier articles made
@@ -81,7 +79,6 @@ impl Store {
             proof: Proof::new(alloc)?,
             names: Vec::new(alloc),
             cells: Vec::new(alloc),
-            kept: 0,
             assumptions: Pool::new(alloc),
             exports: Pool::new(alloc),
             pool: 0,
@@ -126,7 +123,6 @@ impl Store {
     {
         self.names.clear();
         self.cells.clear();
-        self.kept = 0;
         self.pool = self.exports.len();
     }
 

@@ -1,4 +1,5 @@
-use Rattle.std.proofs.Common.{◌≡◌, ap, sym, subst, ◌∙◌, length, map}
+use Rattle.std.proofs.Common.{◌≡◌, ◌+◌, ap, sym, subst, ◌∙◌, length, map}
+use Rattle.std.proofs.Math.Path.{ap₂}
 use Rattle.std.specs.List.{items_where_true}
 use Rattle.stack_machine.specs.Collecting.{AreBefore, IsClosed, numbered_cell, numbering}
 use Rattle.stack_machine.proofs.Collected.{AreBefore-cells, collected-AreCells, collected-Moves, kept_cells}
@@ -35,3 +36,6 @@ invariant_of-self c = record { cells_known = rw (names c, cells c) (collected-Ar
 
 pub returns-clause-moved : goal.returns-clause-moved
 returns-clause-moved c = rw (← c.self.view_is, names c, cells c, c.in_ok-numbers.ensures) (collected-Moves _ c.self.inside.names.items _ c.self.inside.cells.items c.hold_parts.new.self (count c) (closed c) c.self.invariant.cells_known c.args.held c.hold_parts.ensures.more)
+
+pub returns-clause-left : goal.returns-clause-left
+returns-clause-left c = ap₂ (λ a b. a + b) (c.len.ensures ∙ c.keep_set.new.items.ok.0) (c.len-2.ensures ∙ c.rewrite_cells.new.cells.ok.0 ∙ sym (length-stored _ _ _ c.rewrite_cells.new.cells.items))
