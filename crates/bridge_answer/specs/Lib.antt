@@ -1,5 +1,4 @@
 pub mod AnswerTexts
+pub mod Beginning
 pub mod Delivered
-pub mod OneDecoding
-pub mod OneDue
 pub mod Promised

@@ -11,11 +11,11 @@ use Rattle.article_spec.specs.Run.{Outcome, accepted, refused_at, Run}
 use Rattle.vectors.specs.Trial.{trial_text}
 use Rattle.bridge_spec.specs.Forms.{Form, verify, translate, check, show, decode, trial}
 use Rattle.bridge_spec.specs.Calls.{Shelved, Call}
-use Rattle.bridge_spec.specs.FileChecks.{IsRefusedAt, IsAccepted, IsIllTyped, IsOverBudget, PassesWithin, FailsWithin}
+use Rattle.bridge_spec.specs.FileChecks.{IsRefusedAt, IsAccepted, IsIllTyped, IsOverBudget}
 use Rattle.bridge_spec.specs.FileExports.{exports_of, Says, IsNotSequent}
 use Rattle.bridge_spec.specs.Texts.{module_text, counts_of, five_lines, six_lines, shown_text, refusal_line, usage_line, read_fault_line, memory_line, checked_of, accepted_line, dk_refusal_line, ill_typed_line, over_budget_line, export_lines, not_sequent_line}
 use Rattle.bridge_spec.specs.declared.status.Status.{Status}
-use Rattle.bridge_spec.specs.declared.status.Status.TheVariants.{Done, Refused, Usage, ReadFault, WriteFault, Memory, DkRefused, IllTyped, OverBudget, NotSequent}
+use Rattle.bridge_spec.specs.declared.status.Status.TheVariants.{Done, Refused, Usage, ReadFault, Memory, DkRefused, IllTyped, OverBudget, NotSequent}
 
 -- the bytes of the articles of these names
 abbrev pub articles : Files → List (List ℕ) → List (List ℕ)
@@ -24,7 +24,7 @@ articles files names = map (file files) names
 -- What was read of the files of these names: their bytes where the shelf tells its files, and else some bytes for each name.
 abbrev pub AreRead : Option Files → List (List ℕ) → List (List ℕ) → Type 0
 AreRead (Some files) names texts = texts ≡ articles files names
-AreRead None names texts = length texts ≡ length names
+AreRead None names texts = (length texts ≡ length names) × AllByRecursion AreBytes texts
 
 -- the outcome of the run of what was read of these files
 pub record RunsTo (told : Option Files) (names : List (List ℕ)) (outcome : Outcome) : Type 0 where
@@ -56,41 +56,6 @@ FormRun (Some (trial n)) told run = IsRunOfTrial n run
 abbrev pub HasRun : Call → Accepted → Type 0
 HasRun call run = FormRun call.form call.shelf.told_before run
 
--- what a run of this outcome is answered with
-abbrev pub answer_of : Outcome → Status
-answer_of (accepted run) = Done
-answer_of (refused_at article line kind) = Refused article line kind
-
--- the run of these files is answered so
-pub record IsAnswerOfRun (told : Option Files) (names : List (List ℕ)) (status : Status) : Type 0 where
-  pub outcome : Outcome
-  pub runs : RunsTo told names outcome
-  pub is : status ≡ answer_of outcome
-
--- A check must be answered so: the file passes within the budget, is refused, or has a first declaration that fails within the budget.
-abbrev pub IsDueOfCheck : Option Files → List ℕ → ℕ → Status → Type 0
-IsDueOfCheck told name budget Done = PassesWithin told name budget
-IsDueOfCheck told name budget (DkRefused place kind) = IsRefusedAt told name place kind
-IsDueOfCheck told name budget (IllTyped i) = FailsWithin told name budget i
-IsDueOfCheck told name budget _ = ⊥
-
--- A decoding must be answered so: each export says a closed sequent, the file is refused, or there is a first export that says none.
-abbrev pub IsDueOfDecode : Option Files → List ℕ → Status → Type 0
-IsDueOfDecode told name Done = (m : List Declaration) × (ss : List ClosedSequent) × Says told name m ss
-IsDueOfDecode told name (DkRefused place kind) = IsRefusedAt told name place kind
-IsDueOfDecode told name (NotSequent i) = IsNotSequent told name i
-IsDueOfDecode told name _ = ⊥
-
--- The files of the form must be answered so, where they are read without a fault; a trial, which reads none, is done.
-abbrev pub IsDue : Option Form → Option Files → Status → Type 0
-IsDue None told status = status ≡ Usage
-IsDue (Some (verify names)) told status = IsAnswerOfRun told names status
-IsDue (Some (translate names)) told status = IsAnswerOfRun told names status
-IsDue (Some (check name budget)) told status = IsDueOfCheck told name budget status
-IsDue (Some (show names)) told status = IsAnswerOfRun told names status
-IsDue (Some (decode name)) told status = IsDueOfDecode told name status
-IsDue (Some (trial n)) told status = status ≡ Done
-
 -- the shelf failed
 abbrev pub ReadFailed : Shelved → Type 0
 ReadFailed shelf = Rose shelf.faults_before shelf.faults
@@ -99,111 +64,65 @@ ReadFailed shelf = Rose shelf.faults_before shelf.faults
 abbrev pub NoteAlone : List ℕ → List ℕ → List ℕ → Type 0
 NoteAlone line out note = (out ≡ []) × (note ≡ line)
 
--- Words that are no form: the usage line.
+-- Words that are no form: the usage line, or want of memory.
 abbrev pub AnswersNoForm : Status → List ℕ → List ℕ → Type 0
-AnswersNoForm Done out note = ⊥
-AnswersNoForm (Refused article line kind) out note = ⊥
 AnswersNoForm Usage out note = NoteAlone usage_line out note
-AnswersNoForm ReadFault out note = ⊥
-AnswersNoForm WriteFault out note = ⊥
-AnswersNoForm Memory out note = ⊥
-AnswersNoForm (DkRefused place kind) out note = ⊥
-AnswersNoForm (IllTyped i) out note = ⊥
-AnswersNoForm (OverBudget i) out note = ⊥
-AnswersNoForm (NotSequent i) out note = ⊥
+AnswersNoForm Memory out note = NoteAlone memory_line out note
+AnswersNoForm _ out note = ⊥
 
--- `verify`: the module of an accepted run of the articles, and its counts; or where the run is refused; or what failed. The module is checked before it
--- is written: that this changes no answer is part of the promise.
+-- A run of articles: these texts of an accepted run; or where the run is refused; or what failed.
+abbrev pub AnswersRun : (Accepted → List ℕ) → (Accepted → List ℕ) → List (List ℕ) → Shelved → Status → List ℕ → List ℕ → Type 0
+AnswersRun out_of note_of names shelf Done out note = (run : Accepted) × IsRunOf shelf.told_before names run × (out ≡ out_of run) × (note ≡ note_of run)
+AnswersRun out_of note_of names shelf (Refused article line kind) out note =
+    RunsTo shelf.told_before names (refused_at article line kind) × NoteAlone (refusal_line article line kind) out note
+AnswersRun out_of note_of names shelf ReadFault out note = ReadFailed shelf × NoteAlone read_fault_line out note
+AnswersRun out_of note_of names shelf Memory out note = NoteAlone memory_line out note
+AnswersRun out_of note_of names shelf _ out note = ⊥
+
+-- `verify`: the module of the run, and its counts. The module is checked before it is written: that this changes no answer is part of the promise.
 abbrev pub AnswersVerify : List (List ℕ) → Shelved → Status → List ℕ → List ℕ → Type 0
-AnswersVerify names shelf Done out note =
-    (run : Accepted) × IsRunOf shelf.told_before names run × (out ≡ module_text run) × (note ≡ six_lines (counts_of (length names) run))
-AnswersVerify names shelf (Refused article line kind) out note =
-    RunsTo shelf.told_before names (refused_at article line kind) × NoteAlone (refusal_line article line kind) out note
-AnswersVerify names shelf Usage out note = ⊥
-AnswersVerify names shelf ReadFault out note = ReadFailed shelf × NoteAlone read_fault_line out note
-AnswersVerify names shelf WriteFault out note = ⊥
-AnswersVerify names shelf Memory out note = NoteAlone memory_line out note
-AnswersVerify names shelf (DkRefused place kind) out note = ⊥
-AnswersVerify names shelf (IllTyped i) out note = ⊥
-AnswersVerify names shelf (OverBudget i) out note = ⊥
-AnswersVerify names shelf (NotSequent i) out note = ⊥
+AnswersVerify names shelf status out note = AnswersRun module_text (λ run. six_lines (counts_of (length names) run)) names shelf status out note
 
--- `translate`: the module of an accepted run of the articles, and its counts; or where the run is refused; or what failed.
+-- `translate`: the same without the check, and without its line.
 abbrev pub AnswersTranslate : List (List ℕ) → Shelved → Status → List ℕ → List ℕ → Type 0
-AnswersTranslate names shelf Done out note =
-    (run : Accepted) × IsRunOf shelf.told_before names run × (out ≡ module_text run) × (note ≡ five_lines (counts_of (length names) run))
-AnswersTranslate names shelf (Refused article line kind) out note =
-    RunsTo shelf.told_before names (refused_at article line kind) × NoteAlone (refusal_line article line kind) out note
-AnswersTranslate names shelf Usage out note = ⊥
-AnswersTranslate names shelf ReadFault out note = ReadFailed shelf × NoteAlone read_fault_line out note
-AnswersTranslate names shelf WriteFault out note = ⊥
-AnswersTranslate names shelf Memory out note = NoteAlone memory_line out note
-AnswersTranslate names shelf (DkRefused place kind) out note = ⊥
-AnswersTranslate names shelf (IllTyped i) out note = ⊥
-AnswersTranslate names shelf (OverBudget i) out note = ⊥
-AnswersTranslate names shelf (NotSequent i) out note = ⊥
+AnswersTranslate names shelf status out note = AnswersRun module_text (λ run. five_lines (counts_of (length names) run)) names shelf status out note
+
+-- `show`: what the run assumes and exports.
+abbrev pub AnswersShow : List (List ℕ) → Shelved → Status → List ℕ → List ℕ → Type 0
+AnswersShow names shelf status out note = AnswersRun shown_text (λ run. []) names shelf status out note
 
 -- `check`: the counts of a module that the file reads as and that is accepted; or where the file is refused, or the first declaration that
 -- does not pass; or what failed.
 abbrev pub AnswersCheck : List ℕ → ℕ → Shelved → Status → List ℕ → List ℕ → Type 0
 AnswersCheck name budget shelf Done out note =
     (m : List Declaration) × IsAccepted shelf.told_before name m × (out ≡ accepted_line (checked_of m)) × (note ≡ [])
-AnswersCheck name budget shelf (Refused article line kind) out note = ⊥
-AnswersCheck name budget shelf Usage out note = ⊥
 AnswersCheck name budget shelf ReadFault out note = ReadFailed shelf × NoteAlone read_fault_line out note
-AnswersCheck name budget shelf WriteFault out note = ⊥
 AnswersCheck name budget shelf Memory out note = NoteAlone memory_line out note
 AnswersCheck name budget shelf (DkRefused place kind) out note =
     IsRefusedAt shelf.told_before name place kind × NoteAlone (dk_refusal_line place (fault_of kind)) out note
 AnswersCheck name budget shelf (IllTyped i) out note = IsIllTyped shelf.told_before name i × NoteAlone (ill_typed_line i) out note
 AnswersCheck name budget shelf (OverBudget i) out note =
     IsOverBudget shelf.told_before name budget i × NoteAlone (over_budget_line i) out note
-AnswersCheck name budget shelf (NotSequent i) out note = ⊥
-
--- `show`: what an accepted run of the articles assumes and exports; or where the run is refused; or what failed.
-abbrev pub AnswersShow : List (List ℕ) → Shelved → Status → List ℕ → List ℕ → Type 0
-AnswersShow names shelf Done out note =
-    (run : Accepted) × IsRunOf shelf.told_before names run × (out ≡ shown_text run) × (note ≡ [])
-AnswersShow names shelf (Refused article line kind) out note =
-    RunsTo shelf.told_before names (refused_at article line kind) × NoteAlone (refusal_line article line kind) out note
-AnswersShow names shelf Usage out note = ⊥
-AnswersShow names shelf ReadFault out note = ReadFailed shelf × NoteAlone read_fault_line out note
-AnswersShow names shelf WriteFault out note = ⊥
-AnswersShow names shelf Memory out note = NoteAlone memory_line out note
-AnswersShow names shelf (DkRefused place kind) out note = ⊥
-AnswersShow names shelf (IllTyped i) out note = ⊥
-AnswersShow names shelf (OverBudget i) out note = ⊥
-AnswersShow names shelf (NotSequent i) out note = ⊥
+AnswersCheck name budget shelf _ out note = ⊥
 
 -- `decode`: a line for each export of a module that the file reads as, with the closed sequent for which its type stands; or where the file
 -- is refused, or the first export that stands for none; or what failed.
 abbrev pub AnswersDecode : List ℕ → Shelved → Status → List ℕ → List ℕ → Type 0
 AnswersDecode name shelf Done out note =
     (m : List Declaration) × (ss : List ClosedSequent) × Says shelf.told_before name m ss × (out ≡ export_lines (exports_of m) ss) × (note ≡ [])
-AnswersDecode name shelf (Refused article line kind) out note = ⊥
-AnswersDecode name shelf Usage out note = ⊥
 AnswersDecode name shelf ReadFault out note = ReadFailed shelf × NoteAlone read_fault_line out note
-AnswersDecode name shelf WriteFault out note = ⊥
 AnswersDecode name shelf Memory out note = NoteAlone memory_line out note
 AnswersDecode name shelf (DkRefused place kind) out note =
     IsRefusedAt shelf.told_before name place kind × NoteAlone (dk_refusal_line place (fault_of kind)) out note
-AnswersDecode name shelf (IllTyped i) out note = ⊥
-AnswersDecode name shelf (OverBudget i) out note = ⊥
 AnswersDecode name shelf (NotSequent i) out note = IsNotSequent shelf.told_before name i × NoteAlone (not_sequent_line i) out note
+AnswersDecode name shelf _ out note = ⊥
 
 -- `trial`: the counts of the accepted run of the generated article, whose module was checked; or want of memory. No file is read, and nothing is
 -- refused.
 abbrev pub AnswersTrial : ℕ → Status → List ℕ → List ℕ → Type 0
 AnswersTrial n Done out note = (run : Accepted) × IsRunOfTrial n run × (out ≡ six_lines (counts_of 1 run)) × (note ≡ [])
-AnswersTrial n (Refused article line kind) out note = ⊥
-AnswersTrial n Usage out note = ⊥
-AnswersTrial n ReadFault out note = ⊥
-AnswersTrial n WriteFault out note = ⊥
 AnswersTrial n Memory out note = NoteAlone memory_line out note
-AnswersTrial n (DkRefused place kind) out note = ⊥
-AnswersTrial n (IllTyped i) out note = ⊥
-AnswersTrial n (OverBudget i) out note = ⊥
-AnswersTrial n (NotSequent i) out note = ⊥
+AnswersTrial n _ out note = ⊥
 
 -- The answers of each form, before anything is written.
 abbrev pub FormAnswers : Option Form → Shelved → Status → List ℕ → List ℕ → Type 0

@@ -10,6 +10,8 @@ pub record Shelved : Type 0 where
   pub told : Option Files
   pub faults_before : ℕ
   pub faults : ℕ
+  pub begun_before : Option (List (List ℕ))
+  pub begun : Option (List (List ℕ))
 
 -- what a sink told before a call and tells after it, with its count of faults
 pub record Sunk : Type 0 where
@@ -25,13 +27,13 @@ pub record Call : Type 0 where
   pub out : Sunk
   pub note : Sunk
 
--- a shelf before a call and after it, by its meanings
-abbrev pub shelved : {H : Type 0} → (H → Option Files) → (H → ℕ) → H → H → Shelved
-shelved told faults old new = record { told_before = told old; told = told new; faults_before = faults old; faults = faults new }
+-- a shelf before a call and after it, by its meanings: its files, its count of faults, the names begun
+abbrev pub shelved : {H : Type 0} → (H → Option Files) → (H → ℕ) → (H → Option (List (List ℕ))) → H → H → Shelved
+shelved told faults begun old new = record { told_before = told old; told = told new; faults_before = faults old; faults = faults new; begun_before = begun old; begun = begun new }
 
--- a shelf that a call leaves alone: it tells the same and counts the same
-abbrev pub untouched : Option Files → ℕ → Shelved
-untouched told faults = record { told_before = told; told = told; faults_before = faults; faults = faults }
+-- a shelf that a call leaves alone: it tells the same, counts the same and began nothing
+abbrev pub untouched : Option Files → ℕ → Option (List (List ℕ)) → Shelved
+untouched told faults begun = record { told_before = told; told = told; faults_before = faults; faults = faults; begun_before = begun; begun = begun }
 
 -- a sink before a call and after it, by its meanings
 abbrev pub sunk : {S : Type 0} → (S → Option (List ℕ)) → (S → ℕ) → S → S → Sunk

@@ -1,12 +1,11 @@
 -- What a check says of the module in a file.
 use Rattle.std.specs.Prelude.{◌≡◌, ℕ, ◌<◌, ◌≤◌, List, length, Option, None, Some}
 use Rattle.bridge_base.specs.Outside.{Files, file}
-use Rattle.lp_spec.specs.Trees.{Tree}
 use Rattle.lp_spec.specs.Modules.{Declaration}
 use Rattle.lp_spec.specs.Reading.{Reads}
 use Rattle.lp_spec.specs.ReadingFaults.{answer_within}
 use Rattle.lp_spec.specs.Typing.{WellTyped}
-use Rattle.lp_shape.specs.Check.{Reply, Found, No, Check}
+use Rattle.lp_shape.specs.Check.{Reply, No, Check}
 use Rattle.lp_shape.specs.CheckerLaw.{PassesAt}
 use Rattle.dk_read.specs.Texts.{Refuses}
 use Rattle.dk_read.specs.declared.faults.DkKind.{DkKind}
@@ -66,28 +65,3 @@ pub record EndsWithin (m : List Declaration) (budget i : ℕ) (reply : Reply) : 
   pub price : ℕ
   pub by : Check m i reply price
   pub within : price ≤ budget
-
--- the check of each of the first declarations says yes, each at a price within the budget
-abbrev pub PassWithin : List Declaration → ℕ → ℕ → Type 0
-PassWithin m budget count = (k : ℕ) → k < count → (found : Tree) × EndsWithin m budget k (Found found)
-
--- the file of that name reads as a module whose declarations all pass within the budget
-pub record PassesWithin (told : Option Files) (name : List ℕ) (budget : ℕ) : Type 0 where
-  pub m : List Declaration
-  pub file : ReadsAs told name m
-  pub pass : PassWithin m budget (length m)
-
--- the file of that name reads as a module of which the declarations before this one pass within the budget, and the check of this one
--- says no within it
-pub record FailsWithin (told : Option Files) (name : List ℕ) (budget i : ℕ) : Type 0 where
-  pub m : List Declaration
-  pub file : ReadsAs told name m
-  pub before : PassWithin m budget i
-  pub no : EndsWithin m budget i No
-
--- the text reads as one module, and that module is well typed
-pub record ReadsWellTyped (text : List ℕ) : Type 0 where
-  pub m : List Declaration
-  pub reads : Reads text m
-  pub only : (other : List Declaration) → Reads text other → other ≡ m
-  pub typed : WellTyped m

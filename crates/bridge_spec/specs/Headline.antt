@@ -1,9 +1,8 @@
 -- What the module of an accepted run is good for.
-use Rattle.std.specs.Prelude.{◌≡◌, ℕ, ◌≤◌, List, [], ◌∷◌, map, Option, None, Some, slice_get}
+use Rattle.std.specs.Prelude.{◌≡◌, ℕ, List, Some, slice_get}
 use Rattle.std.specs.List.{AllByRecursion}
-use Rattle.bridge_base.specs.Outside.{Files, file}
 use Rattle.hol_spec.specs.Mangling.{AreBytes}
-use Rattle.hol_spec.specs.Proofs.{Accepted}
+use Rattle.hol_spec.specs.Proofs.{Accepted, IsProof}
 use Rattle.article_spec.specs.Run.{accepted, Run}
 use Rattle.article_spec.specs.SoundRuns.{IsDerived}
 use Rattle.lp_spec.specs.Modules.{Declaration}
@@ -13,7 +12,7 @@ use Rattle.lp_shape.specs.Check.{Found}
 use Rattle.module_spec.specs.Image.{image}
 use Rattle.module_spec.specs.Stands.{Stands}
 use Rattle.bridge_spec.specs.FileChecks.{EndsWithin}
-use Rattle.bridge_spec.specs.Texts.{module_bounds, module_text}
+use Rattle.bridge_spec.specs.Texts.{module_text}
 
 -- Of the module that is written of an accepted run:
 pub record Headline (run : Accepted) : Type 0 where
@@ -24,6 +23,8 @@ pub record Headline (run : Accepted) : Type 0 where
   pub stands : Stands (image run) run
   -- the check of each declaration says yes within the bound that is printed before it, if it is a theorem
   pub within : (i : ℕ) (d : Declaration) → slice_get (image run) i ≡ Some d → EndsWithin (image run) (bound (image run) d) i (Found d.ty)
+  -- what the run made is a proof, in which no name is taken twice
+  pub proof : IsProof run.made
   -- each export of the run derives from its assumptions and its definitions alone
   pub derived : AllByRecursion (IsDerived run) run.exports
 

@@ -1,5 +1,7 @@
 pub mod Answers
+pub mod Begun
 pub mod Calls
+pub mod Consequences
 pub mod FileChecks
 pub mod FileExports
 pub mod Forms

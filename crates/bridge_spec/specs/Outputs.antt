@@ -4,6 +4,7 @@ use Rattle.bridge_base.specs.Outside.{Rose, Gains, GainsFront}
 use Rattle.bridge_spec.specs.Texts.{write_fault_line}
 use Rattle.bridge_spec.specs.Calls.{Sunk, Call}
 use Rattle.bridge_spec.specs.Answers.{Answers}
+use Rattle.bridge_spec.specs.Begun.{names_of, BeginsFiles}
 use Rattle.bridge_spec.specs.declared.status.Status.{Status}
 use Rattle.bridge_spec.specs.declared.status.Status.TheVariants.{WriteFault}
 
@@ -42,4 +43,6 @@ pub record Outputs (call : Call) (result : Status) : Type 0 where
   pub out_text : List ℕ
   pub note_text : List ℕ
   pub answers : Answers call answer out_text note_text
+  -- the shelf, where it tells, began the files that the form names, in order, and no other: at a refusal those up to it, at a fault a front
+  pub begins : BeginsFiles answer call.shelf.begun_before (names_of call.form) call.shelf.begun
   pub delivered : Delivers answer out_text note_text call.out call.note result

@@ -1,7 +1,7 @@
 //! What the program answers: its status, and the texts that it writes.
 //!
 //! This crate defines, and has no law. Whoever reads the contract of the program's one call begins with `Promises` (all that a
-//! call promises) and reads down from there:
+//! call promises; what follows from it stands in `Consequences`) and reads down from there:
 //!
 //! | File | Notion |
 //! |---|---|
@@ -11,8 +11,10 @@
 //! | `FileChecks` | what a file reads as, and how its declarations pass |
 //! | `FileExports` | what the exports of the module in a file say |
 //! | `Texts` | what is written for each answer |
-//! | `Outputs` | what the sinks hold afterwards |
+//! | `Outputs` | what the sinks hold afterwards, and which files were begun |
+//! | `Begun` | which files a call begins, in which order |
 //! | `Headline` | what the module of an accepted run is good for |
+//! | `Consequences` | what follows from what a call promises |
 //!
 //! The module of an accepted run, and what it is for it to stand for its run, are defined in `module_spec`.
 #![tactic(auto)]

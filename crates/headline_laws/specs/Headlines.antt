@@ -1,11 +1,12 @@
 -- The module of every accepted run: its text reads back, it stands for its run, and each check ends within its bound.
-use Rattle.std.proofs.Common.{ℕ, List}
+use Rattle.std.proofs.Common.{◌≡◌, ◌<◌, ℕ, zero, suc, List, [], ◌∷◌, length, slice_get, Some, refl, arith}
 use Rattle.std.specs.List.{AllByRecursion}
 use Rattle.std.proofs.lemmas.List.{length-map}
 use Rattle.hol_spec.specs.Mangling.{AreBytes}
 use Rattle.hol_spec.specs.Proofs.{Accepted}
 use Rattle.article_spec.specs.Run.{accepted, Run}
 use Rattle.article_laws.specs.SoundSteps.{runs_are_sound}
+use Rattle.lp_spec.specs.Modules.{Declaration}
 use Rattle.lp_spec.specs.TextLaws.{ReadsBack}
 use Rattle.lp_spec.specs.Weight.{bound}
 use Rattle.text_laws.specs.WrittenModules.{written_reads}
@@ -14,7 +15,7 @@ use Rattle.run_laws.specs.RunModules.{runs_are_modules}
 use Rattle.standing_laws.specs.NamedRuns.{run-has_names, runs_of_bytes_stand}
 use Rattle.fitting_laws.specs.ShallowRuns.{runs_are_shallow}
 use Rattle.fitting_laws.specs.SmallRuns.{runs_are_within_bounds}
-use Rattle.bridge_spec.specs.Headline.{Headline, EachRunCarries}
+use Rattle.bridge_spec.specs.Headline.{EachRunCarries}
 use Rattle.bridge_spec.specs.Texts.{module_bounds}
 use Rattle.headline_laws.specs.PlainNames.{image-ArePlain}
 
@@ -32,5 +33,12 @@ each_run_carries texts run bytes r =
       only = back.only;
       stands = runs_of_bytes_stand texts run bytes r;
       within = λ i d e. let w = runs_are_within_bounds texts run r i d e in record { price = w.price; by = w.check; within = w.within };
+      proof = (runs_are_sound texts run r).proof;
       derived = (runs_are_sound texts run r).exports;
     }
+
+-- a declaration of each number that there is
+pub declaration-at : (m : List Declaration) (i : ℕ) → i < length m → (d : Declaration) × (slice_get m i ≡ Some d)
+declaration-at [] i l = absurd (omega (arith, l))
+declaration-at (x ∷ m) zero l = (x, refl)
+declaration-at (x ∷ m) (suc i) l = declaration-at m i (omega (arith, l))

@@ -1,7 +1,7 @@
 -- The names that a run's module declares are identifiers, unlike key words and the names of binders: each begins with a letter that begins no
 -- binder's name, and its second byte is no small letter, as that of each key word is.
-use Rattle.std.proofs.Common.{◌≡◌, ◌≤◌, ◌<◌, ◌+◌, ◌/◌, ◌%◌, ◌&&◌, ℕ, suc, Bool, true, false, cond, List, [], ◌∷◌, ◌++◌, map, refl, sym, ap, subst, ◌∙◌, arith, codes, ◌⊎◌, inl, inr}
-use Rattle.std.specs.Prelude.{decimal, nat_le, nat_lt, nat_eq, ◌||◌, ◌==◌}
+use Rattle.std.proofs.Common.{◌≡◌, ◌≤◌, ◌<◌, ◌+◌, ◌/◌, ◌%◌, ◌&&◌, ℕ, Bool, true, false, cond, List, [], ◌∷◌, ◌++◌, map, refl, sym, ap, subst, ◌∙◌, arith, codes, inl, inr}
+use Rattle.std.specs.Prelude.{nat_le, nat_eq, ◌||◌, ◌==◌}
 use Rattle.std.specs.List.{AllByRecursion, list_all, position_or_len}
 use Rattle.std.specs.Char.{is_ascii_alphanumeric}
 use Rattle.std.specs.Str.{bytes_eq}
@@ -16,19 +16,15 @@ use Rattle.hol_spec.specs.Mangling.{AreBytes, IsName, hex_digit, underscore, man
 use Rattle.hol_spec.specs.Proofs.{Accepted, symbols_of}
 use Rattle.hol_spec.specs.Symbols.{Symbol}
 use Rattle.article_spec.specs.SoundRuns.{IsSoundRun}
-use Rattle.lp_spec.specs.Lemmas.{lemmas}
-use Rattle.lp_spec.specs.Modules.{Declaration}
-use Rattle.lp_spec.specs.Text.{binder_name}
-use Rattle.lp_spec.specs.TextLaws.{ArePlain, IsPlainName, IsWordText}
-use Rattle.lp_spec.specs.Tokens.{is_letter, is_word_byte, word_token}
-use Rattle.lp_spec.specs.Tokens as token
+use Rattle.lp_spec.specs.TextLaws.{ArePlain, IsPlainName}
+use Rattle.lp_spec.specs.Tokens.{is_letter, is_word_byte}
 use Rattle.module_spec.specs.Image.{image, name_in}
 use Rattle.module_spec.specs.Items.{Content, Item, declaration}
 use Rattle.module_spec.specs.MadeItems.{items_of, roots_of}
 use Rattle.module_spec.specs.Numerals.{numeral, is_decimal_digit}
 use Rattle.module_spec.specs.Reach.{keep_of, kept, renumbered, symbol_of, image_items}
 use Rattle.module_spec.specs.Items as item
-use Rattle.module_laws.specs.NumeralLaws.{numeral-digits, numeral-some}
+use Rattle.module_laws.specs.NumeralLaws.{numeral-digits}
 use Rattle.run_laws.specs.Named.{HasNames, IsStepName, first_byte, second_byte, step_name-low}
 use Rattle.run_laws.specs.NewNames.{IsSymbolName, symbol_name-high}
 use Rattle.run_laws.specs.Origins.{made-origins}

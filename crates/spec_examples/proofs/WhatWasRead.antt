@@ -3,11 +3,13 @@ use Rattle.std.proofs.Common.{◌≡◌, [], ◌∷◌, refl, arith}
 use Rattle.std.specs.Prelude.{None, Some, length, codes}
 use Rattle.bridge_base.specs.Outside.{Files, Rose}
 use Rattle.bridge_base.specs.declared.faults.Kind.TheVariants.{BadLine}
+use Rattle.hol_spec.specs.Mangling.{AreBytes}
 use Rattle.article_spec.specs.Lines.{Lines, IsLine, Opens, refused}
 use Rattle.article_spec.specs.Run.{RunsFrom, refused_at}
 use Rattle.bridge_spec.specs.Calls.{Shelved}
 use Rattle.bridge_spec.specs.Answers.{AreRead, RunsTo}
-use Rattle.bridge_spec.specs.Promises.{ReadWell, Aside}
+use Rattle.bridge_spec.specs.Begun.{BeginsFiles}
+use Rattle.bridge_spec.specs.Consequences.{ReadWell, Aside}
 use Rattle.bridge_spec.specs.declared.status.Status.TheVariants.{Refused, WriteFault, Memory}
 
 -- a shelf of one file, which says `no`
@@ -18,13 +20,16 @@ files = (codes "a.art", codes "no") ∷ []
 told : AreRead (Some files) (codes "a.art" ∷ codes "b.art" ∷ []) (codes "no" ∷ [] ∷ [])
 told = refl
 
+are_bytes : AreBytes (codes "no")
+are_bytes = (omega arith, (omega arith, tt))
+
 -- of a shelf that doesn't: some bytes for each name
 untold : AreRead None (codes "a.art" ∷ []) (codes "no" ∷ [])
-untold = refl
+untold = (refl, (are_bytes, tt))
 
--- the shelf told its files and didn't fail
+-- the shelf told its files and didn't fail, and the one file was begun
 abbrev shelf : Shelved
-shelf = record { told_before = Some files; told = Some files; faults_before = 0; faults = 0 }
+shelf = record { told_before = Some files; told = Some files; faults_before = 0; faults = 0; begun_before = Some []; begun = Some (codes "a.art" ∷ []) }
 
 not_risen : Rose 0 0 → ⊥
 not_risen rose = absurd (omega (arith, rose))
@@ -44,7 +49,7 @@ runs = record { texts = codes "no" ∷ []; read = refl; runs = RunsFrom.stopped 
 
 -- the same over a shelf that doesn't tell: some bytes are refused there
 runs_untold : RunsTo None (codes "a.art" ∷ []) (refused_at 1 1 BadLine)
-runs_untold = record { texts = codes "no" ∷ []; read = refl; runs = RunsFrom.stopped no_lines refl refl }
+runs_untold = record { texts = codes "no" ∷ []; read = untold; runs = RunsFrom.stopped no_lines refl refl }
 
 -- a fact that is asked of an answer, but of a want of memory and a failing write
 asked : Aside (Refused 1 1 BadLine) (length (codes "no") ≡ 2)
@@ -55,3 +60,10 @@ not_asked_of_a_write_fault = tt
 
 not_asked_of_a_want_of_memory : Aside Memory ⊥
 not_asked_of_a_want_of_memory = tt
+
+-- where a run over two files is refused in the first, the second isn't begun
+first_begun : BeginsFiles (Refused 1 1 BadLine) shelf.begun_before (codes "a.art" ∷ codes "b.art" ∷ []) shelf.begun
+first_begun = refl
+
+second_not_begun : BeginsFiles (Refused 1 1 BadLine) (Some []) (codes "a.art" ∷ codes "b.art" ∷ []) (Some (codes "a.art" ∷ codes "b.art" ∷ [])) → ⊥
+second_not_begun h = absurd (cc)

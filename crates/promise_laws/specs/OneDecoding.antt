@@ -11,10 +11,10 @@ use Rattle.dk_read.specs.Texts.{Refuses}
 use Rattle.dk_read.specs.declared.faults.DkKind.{DkKind}
 use Rattle.bridge_spec.specs.FileChecks.{max_file, IsRefusedAt}
 use Rattle.bridge_spec.specs.FileExports.{exports_of, AreDecoded, Says, SaysNothing, SayBefore, IsNotSequent}
-use Rattle.bridge_spec.specs.Answers.{IsDueOfDecode}
+use Rattle.bridge_spec.specs.Consequences.{IsDueOfDecode}
 use Rattle.bridge_spec.specs.declared.status.Status.{Status}
 use Rattle.bridge_spec.specs.declared.status.Status.TheVariants.{Done, Refused, Usage, ReadFault, WriteFault, Memory, DkRefused, IllTyped, OverBudget, NotSequent}
-use Rattle.bridge_answer.specs.OneDue.{neither-below, one_refusal, one_module, read_or_refused}
+use Rattle.promise_laws.specs.OneDue.{neither-below, one_refusal, one_module, read_or_refused}
 
 -- Of the declarations that are decoded, one that is an export says a closed sequent.
 module _ (m : List Declaration) where

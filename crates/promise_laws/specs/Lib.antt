@@ -1,0 +1,3 @@
+pub mod Consequent
+pub mod OneDecoding
+pub mod OneDue
