@@ -1,5 +1,6 @@
 //! The check of the module in a file, as an answer.
-ghost use Rattle.std.specs.Prelude.{◌≡◌, ◌<◌, ◌≤◌, IfOk, length, count_by, is_none};
+ghost use Rattle.std.specs.Prelude.{◌≡◌, ◌<◌, ◌≤◌, [], ◌∷◌, IfOk, length, count_by, is_none};
+ghost use Rattle.bridge_base.specs.Outside.{Begins};
 ghost use Rattle.lp_spec.specs.ModuleOrder.{IsModule};
 ghost use Rattle.holide_sig.specs.Modules.{declarations_of, IsHeld};
 ghost use Rattle.bridge_spec.specs.Calls.{shelved};
@@ -18,8 +19,9 @@ use std::alloc::Global;
 
 /// What is to be answered for the module in a file, each declaration of which has the budget.
 pub fn checked<H: Shelf>(alloc: Global, file: &str, budget: u64, shelf: &mut H) -> Answer
-    ensures answers { AnswersCheck file.now budget (shelved H.told H.faults shelf.old shelf.new) (status_of result) (text_of result) (note_of result) }
+    ensures answers { AnswersCheck file.now budget (shelved H.told H.faults H.begun shelf.old shelf.new) (status_of result) (text_of result) (note_of result) }
     ensures told_kept { H.told shelf.new ≡ H.told shelf.old }
+    ensures begun { Begins (H.begun shelf.old) (file.now ∷ []) (H.begun shelf.new) }
     ensures count { H.faults shelf.old ≤ H.faults shelf.new }
 {
     match read_module(alloc, file, shelf) {

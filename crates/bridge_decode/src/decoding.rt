@@ -1,5 +1,6 @@
 //! What the exports of the module in a file say, as an answer.
-ghost use Rattle.std.specs.Prelude.{◌≡◌, ◌≤◌};
+ghost use Rattle.std.specs.Prelude.{◌≡◌, ◌≤◌, [], ◌∷◌};
+ghost use Rattle.bridge_base.specs.Outside.{Begins};
 ghost use Rattle.holide_sig.specs.Modules.{declarations_of, IsHeld};
 ghost use Rattle.bridge_spec.specs.Calls.{shelved};
 ghost use Rattle.bridge_spec.specs.Answers.{AnswersDecode};
@@ -15,8 +16,9 @@ use std::alloc::Global;
 
 /// What is to be answered for the module in a file.
 pub fn decoded<H: Shelf>(alloc: Global, file: &str, shelf: &mut H) -> Answer
-    ensures answers { AnswersDecode file.now (shelved H.told H.faults shelf.old shelf.new) (status_of result) (text_of result) (note_of result) }
+    ensures answers { AnswersDecode file.now (shelved H.told H.faults H.begun shelf.old shelf.new) (status_of result) (text_of result) (note_of result) }
     ensures told_kept { H.told shelf.new ≡ H.told shelf.old }
+    ensures begun { Begins (H.begun shelf.old) (file.now ∷ []) (H.begun shelf.new) }
     ensures count { H.faults shelf.old ≤ H.faults shelf.new }
 {
     match read_module(alloc, file, shelf) {

@@ -1,6 +1,6 @@
 //! A module read from the file of a shelf, to its end.
-ghost use Rattle.std.specs.Prelude.{◌≡◌, ◌≢◌, ◌≤◌, [], None, Some, IfOk, IfErr, OnOk};
-ghost use Rattle.bridge_base.specs.Outside.{Rose};
+ghost use Rattle.std.specs.Prelude.{◌≡◌, ◌≢◌, ◌≤◌, [], ◌∷◌, None, Some, IfOk, IfErr, OnOk};
+ghost use Rattle.bridge_base.specs.Outside.{Rose, Begins};
 ghost use Rattle.lp_spec.specs.ModuleOrder.{IsModule};
 ghost use Rattle.holide_sig.specs.Modules.{declarations_of, IsHeld};
 ghost use Rattle.dk_read.specs.Readers.{IsFed};
@@ -32,6 +32,7 @@ pub fn read_module<H: Shelf>(alloc: Global, file: &str, shelf: &mut H) -> Result
     ensures refused { IfErr result (StopsFile (H.told shelf.old) file.now) }
     ensures read_fault { IfErr result (λ stop. stop ≡ Stop.ReadFault → Rose (H.faults shelf.old) (H.faults shelf.new)) }
     ensures told_kept { H.told shelf.new ≡ H.told shelf.old }
+    ensures begun { Begins (H.begun shelf.old) (file.now ∷ []) (H.begun shelf.new) }
     ensures count { H.faults shelf.old ≤ H.faults shelf.new }
 {
     if shelf.begin(file).is_err() {
@@ -48,6 +49,7 @@ fn read_text<H: Shelf>(alloc: Global, shelf: &mut H) -> Result<Module, Stop>
     ensures refused { IfErr result (StopsText (H.left shelf.old)) }
     ensures read_fault { IfErr result (λ stop. stop ≡ Stop.ReadFault → Rose (H.faults shelf.old) (H.faults shelf.new)) }
     ensures told_kept { H.told shelf.new ≡ H.told shelf.old }
+    ensures begun { H.begun shelf.new ≡ H.begun shelf.old }
     ensures count { H.faults shelf.old ≤ H.faults shelf.new }
 {
     let mut reader = Reader::new(alloc, Limit::Bytes(MAX_FILE));
@@ -68,6 +70,7 @@ fn feed_text<H: Shelf>(shelf: &mut H, reader: &mut Reader) -> Result<(), Stop>
     ensures refused { IfErr result (StopsText (H.left shelf.old)) }
     ensures read_fault { IfErr result (λ stop. stop ≡ Stop.ReadFault → Rose (H.faults shelf.old) (H.faults shelf.new)) }
     ensures told_kept { H.told shelf.new ≡ H.told shelf.old }
+    ensures begun { H.begun shelf.new ≡ H.begun shelf.old }
     ensures count { H.faults shelf.old ≤ H.faults shelf.new }
 {
     let mut buffer = [0u8; 4096];

@@ -1,3 +1,4 @@
 pub mod PassedArticles
 pub mod Outcomes
 pub mod Readings
+pub mod BegunArticles

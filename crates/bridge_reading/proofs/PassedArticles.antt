@@ -26,12 +26,12 @@ pub record HavePassed (told : Option Files) (names : List (List ℕ)) (s : State
 
 -- At first none did.
 pub none-passed : (told : Option Files) → HavePassed told [] initial
-none-passed None = record { texts = []; read = refl; bytes = tt; runs = λ rest o r. r }
+none-passed None = record { texts = []; read = (refl, tt); bytes = tt; runs = λ rest o r. r }
 none-passed (Some files) = record { texts = []; read = refl; bytes = tt; runs = λ rest o r. r }
 
 -- What was read of some files, and of others.
 reads-append : (told : Option Files) (names others : List (List ℕ)) (texts more : List (List ℕ)) → AreRead told names texts → AreRead told others more → AreRead told (names ++ others) (texts ++ more)
-reads-append None names others texts more h k = length-both texts more ∙ (λ i. h i + k i) ∙ sym (length-both names others)
+reads-append None names others texts more h k = (length-both texts more ∙ (λ i. h.0 i + k.0 i) ∙ sym (length-both names others), All-append AreBytes texts more h.1 k.1)
   where
     length-both : {A : Type 0} (xs ys : List A) → length (xs ++ ys) ≡ length xs + length ys
     length-both [] ys = omega arith
@@ -40,7 +40,7 @@ reads-append (Some files) names others texts more h k = (λ i. h i ++ k i) ∙ s
 
 -- what was read of one
 read-one : (told : Option Files) (name : List ℕ) (P : List ℕ → Type 0) → (h : OfText (bytes_told told name) P) → AreRead told (name ∷ []) (h.text ∷ [])
-read-one None name P h = refl
+read-one None name P h = (refl, (h.is, tt {0}))
 read-one (Some files) name P h = ap (λ text. text ∷ []) h.is
 
 -- texts for files that were not begun: their bytes, where they are told
@@ -48,9 +48,13 @@ unread : Option Files → List (List ℕ) → List (List ℕ)
 unread None names = map (λ name. []) names
 unread (Some files) names = articles files names
 
+none-AreBytes : (names : List (List ℕ)) → AllByRecursion AreBytes (map (λ name. []) names)
+none-AreBytes [] = tt
+none-AreBytes (name ∷ names) = (tt {0}, none-AreBytes names)
+
 unread-read : (told : Option Files) (names : List (List ℕ)) → AreRead told names (unread told names)
 unfolding unread
-unread-read None names = length-map names (λ name. [])
+unread-read None names = (length-map names (λ name. []), none-AreBytes names)
 unread-read (Some files) names = refl
 
 -- One more passed.
@@ -88,7 +92,8 @@ refused-RunsTo told names name others s line kind h one = record {
 }
 
 -- THE FILES ONE AFTER ANOTHER
-names-next : (files : List (String Global)) (i : ℕ) (d : String Global) → i < length files → take (suc i) (names_in files) ≡ take i (names_in files) ++ string_bytes (get_or files i d) ∷ []
+-- the names of one more file
+pub names-next : (files : List (String Global)) (i : ℕ) (d : String Global) → i < length files → take (suc i) (names_in files) ≡ take i (names_in files) ++ string_bytes (get_or files i d) ∷ []
 names-next [] i d l = absurd (omega (arith, l))
 names-next (file ∷ files) zero d l = refl
 names-next (file ∷ files) (suc i) d l = ap (λ names. string_bytes file ∷ names) (names-next files i d (omega (arith, l)))
@@ -123,12 +128,13 @@ file-stopped told files i d name s article (halt.Refused line kind) l is number 
 file-stopped told files i d name s article halt.ReadFault l is number h one = tt
 file-stopped told files i d name s article halt.Memory l is number h one = tt
 
+-- as many names as there are, or more, are all of them
+pub names-whole : (files : List (String Global)) (i : ℕ) → length files ≤ i → take i (names_in files) ≡ names_in files
+names-whole [] zero l = refl
+names-whole [] (suc i) l = refl
+names-whole (file ∷ files) zero l = absurd (omega (arith, l))
+names-whole (file ∷ files) (suc i) l = ap (λ names. string_bytes file ∷ names) (names-whole files i (omega (arith, l)))
+
 -- No file is left.
 pub all-passed : (told : Option Files) (files : List (String Global)) (i : ℕ) (s : State) → length files ≤ i → HavePassed told (take i (names_in files)) s → IsRunOf told (names_in files) (accepted_state s)
-all-passed told files i s l h = passed-IsRunOf told (names_in files) s (subst (λ names. HavePassed told names s) (whole files i l) h)
-  where
-    whole : (files : List (String Global)) (i : ℕ) → length files ≤ i → take i (names_in files) ≡ names_in files
-    whole [] zero l = refl
-    whole [] (suc i) l = refl
-    whole (file ∷ files) zero l = absurd (omega (arith, l))
-    whole (file ∷ files) (suc i) l = ap (λ names. string_bytes file ∷ names) (whole files i (omega (arith, l)))
+all-passed told files i s l h = passed-IsRunOf told (names_in files) s (subst (λ names. HavePassed told names s) (names-whole files i l) h)

@@ -18,7 +18,7 @@ use Rattle.article_spec.specs.Results.{Fails, ◌>>=◌}
 use Rattle.article_spec.specs.State.{State}
 use Rattle.article_spec.specs.Step.{finish}
 use Rattle.article_spec.specs.Run.{machine, at_line, obey_all}
-use Rattle.bridge_reading.specs.Halts.{Halts, ReadsTo, Passes, IsRefused, OfText, HaltsText, halt_of_fault, halt_of_line}
+use Rattle.bridge_reading.specs.Halts.{Halts, ReadsTo, Passes, IsRefused, IsTold, OfText, HaltsText, halt_of_fault, halt_of_line}
 use Rattle.bridge_reading.specs.declared.reading.Halt.{Halt}
 use Rattle.bridge_reading.specs.declared.reading.Halt.TheVariants as halt
 
@@ -42,19 +42,19 @@ halted_front : (xs ys : List Command) (s : State) (r : ℕ × Kind) → obey_all
 halted_front xs ys s r e = obey_all-append xs ys s ∙ rw e refl
 
 -- This holds of the text that was read to some place, whatever follows there.
-text_so_far : (start left : Option (List ℕ)) (fed : List ℕ) (P : List ℕ → Type 0) → Gives start fed left → ((rest : List ℕ) → P (fed ++ rest)) → OfText start P
-text_so_far None None fed P g f = record { text = fed ++ []; is = tt; holds = f [] }
-text_so_far (Some all) (Some rest) fed P g f = record { text = all; is = refl; holds = subst P (sym g) (f rest) }
-text_so_far None (Some rest) fed P g f = absurd g
-text_so_far (Some all) None fed P g f = absurd g
+text_so_far : (start left : Option (List ℕ)) (fed : List ℕ) (P : List ℕ → Type 0) → AreBytes fed → Gives start fed left → ((rest : List ℕ) → P (fed ++ rest)) → OfText start P
+text_so_far None None fed P b g f = record { text = fed ++ []; is = All-append (λ n. n < 256) fed [] b tt; holds = f [] }
+text_so_far (Some all) (Some rest) fed P b g f = record { text = all; is = refl; holds = subst P (sym g) (f rest) }
+text_so_far None (Some rest) fed P b g f = absurd g
+text_so_far (Some all) None fed P b g f = absurd g
 
-told_same : (start : Option (List ℕ)) (fed : List ℕ) → IfSome start (λ whole. whole ≡ fed) → IfSome start (λ bytes. fed ≡ bytes)
-told_same None fed h = tt
-told_same (Some all) fed h = sym h
+told_same : (start : Option (List ℕ)) (fed : List ℕ) → AreBytes fed → IfSome start (λ whole. whole ≡ fed) → IsTold start fed
+told_same None fed b h = b
+told_same (Some all) fed b h = sym h
 
 -- This holds of the text that was read to its end.
-text_to_end : (start left : Option (List ℕ)) (fed : List ℕ) (P : List ℕ → Type 0) → Gives start fed left → IfSome left (λ rest. rest ≡ []) → P fed → OfText start P
-text_to_end start left fed P g end h = record { text = fed; is = told_same start fed (given_whole start left fed g end); holds = h }
+text_to_end : (start left : Option (List ℕ)) (fed : List ℕ) (P : List ℕ → Type 0) → AreBytes fed → Gives start fed left → IfSome left (λ rest. rest ≡ []) → P fed → OfText start P
+text_to_end start left fed P b g end h = record { text = fed; is = told_same start fed b (given_whole start left fed g end); holds = h }
 
 -- What follows from what holds of a text holds of it.
 pub of_text-follows : (told : Option (List ℕ)) (P Q : List ℕ → Type 0) → OfText told P → ((text : List ℕ) → P text → Q text) → OfText told Q
@@ -120,7 +120,7 @@ refused_of_fed (Some line_fault.Memory) lines fed rest before line kind commands
 pub piece_halted : (start new : Option (List ℕ)) (before now : State) (lines : Reading) (commands : List Command) (why : Halt)
     → IsPiece start new before now lines commands → Halts why (obey_all machine now commands) → HaltsText why start before
 piece_halted start new before now lines commands (halt.Refused line kind) p e =
-    text_so_far start new p.fed (λ text. IsRefused text before line kind) p.gave
+    text_so_far start new p.fed (λ text. IsRefused text before line kind) p.bytes p.gave
     (λ rest. refused_of_fed lines.fault lines p.fed rest before line kind (p.given ++ commands) p.read (halted_more p.given commands before now (line, kind) p.obeyed e))
 piece_halted start new before now lines commands halt.ReadFault p e = tt
 piece_halted start new before now lines commands halt.Memory p e = tt
@@ -130,7 +130,7 @@ pub piece_faulty : (start new : Option (List ℕ)) (before now after : State) (l
     → IsPiece start new before now lines commands → obey_all machine now commands ≡ Ok after → lines.fault ≡ Some why → HaltsText (halt_of_line why) start before
 piece_faulty start new before now after lines commands (line_fault.Refused line kind) p e q =
     let h : Stops 1 0 p.fed (p.given ++ commands) line kind = subst (λ o. fed_with o lines p.fed (p.given ++ commands)) q p.read in
-    text_so_far start new p.fed (λ text. IsRefused text before line kind) p.gave (λ rest. record {
+    text_so_far start new p.fed (λ text. IsRefused text before line kind) p.bytes p.gave (λ rest. record {
       commands = p.given ++ commands;
       end = refused line kind;
       lines = stops (Stops-append h rest);
@@ -142,7 +142,7 @@ piece_faulty start new before now after lines commands line_fault.Memory p e q =
 pub last_obeyed : (start left : Option (List ℕ)) (before now after : State) (lines : Reading) (commands : List Command) (line : ℕ)
     → IsRead start left before now lines → IfSome left (λ rest. rest ≡ []) → EndsWith lines [] commands (Ok line) → obey_all machine now commands ≡ Ok after → OfText start (λ text. ReadsTo text before line after)
 last_obeyed start left before now after lines commands line r h f e =
-    text_to_end start left r.fed (λ text. ReadsTo text before line after) r.gave h (record {
+    text_to_end start left r.fed (λ text. ReadsTo text before line after) r.bytes r.gave h (record {
       bytes = r.bytes;
       commands = r.given ++ commands;
       lines = subst (λ cs. Lines r.fed (r.given ++ cs) (ended line)) (sym f.is) (f.lines r.fed r.given r.read);
@@ -152,7 +152,7 @@ last_obeyed start left before now after lines commands line r h f e =
 last_refused : (start left : Option (List ℕ)) (before now : State) (lines : Reading) (commands : List Command) (end : End) (line : ℕ) (kind : Kind)
     → IsRead start left before now lines → IfSome left (λ rest. rest ≡ []) → Ends lines [] commands end → obey_all machine now commands ≡ Err (line, kind) → OfText start (λ text. IsRefused text before line kind)
 last_refused start left before now lines commands end line kind r h f e =
-    text_to_end start left r.fed (λ text. IsRefused text before line kind) r.gave h
+    text_to_end start left r.fed (λ text. IsRefused text before line kind) r.bytes r.gave h
     (refused_of_all r.fed before line kind (r.given ++ commands) end
     (subst (λ cs. Lines r.fed (r.given ++ cs) end) (sym f.is) (f.lines r.fed r.given r.read))
     (halted_more r.given commands before now (line, kind) r.obeyed e))
@@ -171,7 +171,7 @@ last_halted start left before now lines commands answer halt.Memory r h f e = tt
 pub last_faulty : (start left : Option (List ℕ)) (before now after : State) (lines : Reading) (commands : List Command) (why : LineFault)
     → IsRead start left before now lines → IfSome left (λ rest. rest ≡ []) → EndsWith lines [] commands (Err why) → obey_all machine now commands ≡ Ok after → HaltsText (halt_of_line why) start before
 last_faulty start left before now after lines commands (line_fault.Refused line kind) r h f e =
-    text_to_end start left r.fed (λ text. IsRefused text before line kind) r.gave h (record {
+    text_to_end start left r.fed (λ text. IsRefused text before line kind) r.bytes r.gave h (record {
       commands = r.given ++ commands;
       end = refused line kind;
       lines = subst (λ cs. Lines r.fed (r.given ++ cs) (refused line kind)) (sym f.is) (f.lines r.fed r.given r.read);

@@ -1,5 +1,5 @@
 -- How the commands of a text are obeyed to its end, or halt before it.
-use Rattle.std.specs.Prelude.{◌≡◌, ℕ, List, Option, IfSome, option_map, Result, Ok, Err}
+use Rattle.std.specs.Prelude.{◌≡◌, ℕ, List, Option, None, Some, option_map, Result, Ok, Err}
 use Rattle.bridge_base.specs.Outside.{Files, file}
 use Rattle.bridge_base.specs.declared.faults.Kind.{Kind}
 use Rattle.bridge_base.specs.declared.faults.Fault.{Fault}
@@ -52,10 +52,15 @@ pub record IsRefused (text : List ℕ) (before : State) (line : ℕ) (kind : Kin
   pub lines : Lines text commands end
   pub refused : obey_article machine before commands end ≡ Err (line, kind)
 
+-- This text was read: that which is told, where one is, and else some bytes.
+abbrev pub IsTold : Option (List ℕ) → List ℕ → Type 0
+IsTold (Some told) text = text ≡ told
+IsTold None text = AreBytes text
+
 -- This holds of some text: of the bytes that are told, where they are, and else of what was read.
 pub record OfText (told : Option (List ℕ)) (P : List ℕ → Type 0) : Type 0 where
   pub text : List ℕ
-  pub is : IfSome told (λ bytes. text ≡ bytes)
+  pub is : IsTold told text
   pub holds : P text
 
 -- the bytes of the file of that name, where the files are told

@@ -1,11 +1,11 @@
 //! The articles of a run, one after another.
 ghost use Rattle.std.specs.Prelude.{◌≡◌, ◌≤◌, IfOk, IfErr, OnOk};
-ghost use Rattle.bridge_base.specs.Outside.{Rose};
+ghost use Rattle.bridge_base.specs.Outside.{Rose, Begins, BeginsFront};
 ghost use Rattle.article_spec.specs.Run.{accepted_state};
 ghost use Rattle.article_spec.specs.State.{initial};
 ghost use Rattle.bridge_spec.specs.Answers.{IsRunOf};
 ghost use Rattle.bridge_spec.specs.Calls.{names_in};
-ghost use Rattle.bridge_reading.specs.Stops.{Stops, answer_of_stop, stop_of_halt};
+ghost use Rattle.bridge_reading.specs.Stops.{Stops, StopsBegun, answer_of_stop, stop_of_halt};
 
 use crate::reading::{Halt, read_article};
 use bridge_answer::Answer;
@@ -50,6 +50,9 @@ pub fn read_articles<H: Shelf>(
 ) -> Result<Machine, Stop>
     ensures accepted { IfOk result (λ machine. IsRunOf (H.told shelf.old) (names_in files.now) (accepted_state machine)) }
     ensures refused { IfErr result (λ stop. Stops stop (H.told shelf.old) (names_in files.now)) }
+    ensures all_begun { OnOk result (Begins (H.begun shelf.old) (names_in files.now) (H.begun shelf.new)) }
+    ensures refused_begun { IfErr result (λ stop. StopsBegun stop (H.begun shelf.old) (names_in files.now) (H.begun shelf.new)) }
+    ensures front_begun { BeginsFront (H.begun shelf.old) (names_in files.now) (H.begun shelf.new) }
     ensures read_fault { IfErr result (λ stop. stop ≡ Stop.ReadFault → Rose (H.faults shelf.old) (H.faults shelf.new)) }
     ensures told_kept { H.told shelf.new ≡ H.told shelf.old }
     ensures count { H.faults shelf.old ≤ H.faults shelf.new }
@@ -77,6 +80,9 @@ fn run_articles<H: Shelf>(
     requires begun { machine.old ≡ initial }
     ensures accepted { OnOk result (IsRunOf (H.told shelf.old) (names_in files.now) (accepted_state machine.new)) }
     ensures refused { IfErr result (λ stop. Stops stop (H.told shelf.old) (names_in files.now)) }
+    ensures all_begun { OnOk result (Begins (H.begun shelf.old) (names_in files.now) (H.begun shelf.new)) }
+    ensures refused_begun { IfErr result (λ stop. StopsBegun stop (H.begun shelf.old) (names_in files.now) (H.begun shelf.new)) }
+    ensures front_begun { BeginsFront (H.begun shelf.old) (names_in files.now) (H.begun shelf.new) }
     ensures read_fault { IfErr result (λ stop. stop ≡ Stop.ReadFault → Rose (H.faults shelf.old) (H.faults shelf.new)) }
     ensures told_kept { H.told shelf.new ≡ H.told shelf.old }
     ensures count { H.faults shelf.old ≤ H.faults shelf.new }

@@ -1,6 +1,6 @@
 //! An article read from a shelf, piece by piece, to its end.
-ghost use Rattle.std.specs.Prelude.{◌≡◌, ◌≢◌, ◌≤◌, [], Ok, OnOk, IfOk, IfErr};
-ghost use Rattle.bridge_base.specs.Outside.{Rose};
+ghost use Rattle.std.specs.Prelude.{◌≡◌, ◌≢◌, ◌≤◌, [], ◌∷◌, Ok, OnOk, IfOk, IfErr};
+ghost use Rattle.bridge_base.specs.Outside.{Rose, Begins};
 ghost use Rattle.hol_spec.specs.Mangling.{AreBytes};
 ghost use Rattle.article_read.specs.Reading.{fresh};
 ghost use Rattle.article_spec.specs.Results.{Fails};
@@ -31,6 +31,7 @@ pub(crate) fn read_article<H: Shelf>(
 ) -> Result<(), Halt>
     ensures passed { OnOk result (OfText (bytes_told (H.told shelf.old) file.now) (λ text. Passes text machine.old machine.new)) }
     ensures refused { IfErr result (λ halt. HaltsText halt (bytes_told (H.told shelf.old) file.now) machine.old) }
+    ensures begun { Begins (H.begun shelf.old) (file.now ∷ []) (H.begun shelf.new) }
     ensures read_fault { IfErr result (λ halt. halt ≡ Halt.ReadFault → Rose (H.faults shelf.old) (H.faults shelf.new)) }
     ensures told_kept { H.told shelf.new ≡ H.told shelf.old }
     ensures count { H.faults shelf.old ≤ H.faults shelf.new }
@@ -45,6 +46,7 @@ pub(crate) fn read_article<H: Shelf>(
 fn run_article<H: Shelf>(alloc: Global, shelf: &mut H, machine: &mut Machine) -> Result<(), Halt>
     ensures passed { OnOk result (OfText (H.left shelf.old) (λ text. Passes text machine.old machine.new)) }
     ensures refused { IfErr result (λ halt. HaltsText halt (H.left shelf.old) machine.old) }
+    ensures begun { H.begun shelf.new ≡ H.begun shelf.old }
     ensures read_fault { IfErr result (λ halt. halt ≡ Halt.ReadFault → Rose (H.faults shelf.old) (H.faults shelf.new)) }
     ensures told_kept { H.told shelf.new ≡ H.told shelf.old }
     ensures count { H.faults shelf.old ≤ H.faults shelf.new }
@@ -60,6 +62,7 @@ fn run_article<H: Shelf>(alloc: Global, shelf: &mut H, machine: &mut Machine) ->
 fn read_commands<H: Shelf>(alloc: Global, shelf: &mut H, machine: &mut Machine) -> Result<u64, Halt>
     ensures read { IfOk result (λ line. OfText (H.left shelf.old) (λ text. ReadsTo text machine.old line machine.new)) }
     ensures refused { IfErr result (λ halt. HaltsText halt (H.left shelf.old) machine.old) }
+    ensures begun { H.begun shelf.new ≡ H.begun shelf.old }
     ensures read_fault { IfErr result (λ halt. halt ≡ Halt.ReadFault → Rose (H.faults shelf.old) (H.faults shelf.new)) }
     ensures told_kept { H.told shelf.new ≡ H.told shelf.old }
     ensures count { H.faults shelf.old ≤ H.faults shelf.new }
@@ -82,6 +85,7 @@ fn read_lines<H: Shelf>(
     requires { lines.old ≡ fresh }
     ensures read { IfOk result (λ line. OfText (H.left shelf.old) (λ text. ReadsTo text machine.old line machine.new)) }
     ensures refused { IfErr result (λ halt. HaltsText halt (H.left shelf.old) machine.old) }
+    ensures begun { H.begun shelf.new ≡ H.begun shelf.old }
     ensures read_fault { IfErr result (λ halt. halt ≡ Halt.ReadFault → Rose (H.faults shelf.old) (H.faults shelf.new)) }
     ensures told_kept { H.told shelf.new ≡ H.told shelf.old }
     ensures count { H.faults shelf.old ≤ H.faults shelf.new }

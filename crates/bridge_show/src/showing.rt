@@ -8,6 +8,7 @@ ghost use Rattle.hol_rules.specs.Kept.{step_count};
 ghost use Rattle.stack_machine.specs.Making.{AreSteps};
 ghost use Rattle.bridge_spec.specs.Calls.{names_in, shelved};
 ghost use Rattle.bridge_spec.specs.Answers.{AnswersShow};
+ghost use Rattle.bridge_spec.specs.Begun.{BeginsFiles};
 ghost use Rattle.bridge_spec.specs.Texts.{shown_text, theorem_line, theorem_lines};
 ghost use Rattle.bridge_answer.specs.AnswerTexts.{status_of, text_of, note_of};
 
@@ -23,7 +24,8 @@ use std::alloc::Global;
 
 /// What is to be answered for the articles in these files: what they assume and export where the machine accepts them.
 pub fn shown<H: Shelf>(alloc: Global, files: &[String], shelf: &mut H) -> Answer
-    ensures answers { AnswersShow (names_in files.now) (shelved H.told H.faults shelf.old shelf.new) (status_of result) (text_of result) (note_of result) }
+    ensures answers { AnswersShow (names_in files.now) (shelved H.told H.faults H.begun shelf.old shelf.new) (status_of result) (text_of result) (note_of result) }
+    ensures begun { BeginsFiles (status_of result) (H.begun shelf.old) (names_in files.now) (H.begun shelf.new) }
     ensures told_kept { H.told shelf.new ≡ H.told shelf.old }
     ensures count { H.faults shelf.old ≤ H.faults shelf.new }
 {

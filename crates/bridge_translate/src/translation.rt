@@ -1,6 +1,6 @@
 //! The module of the run of some articles, before anything is written.
-ghost use Rattle.std.specs.Prelude.{◌≡◌, ◌≤◌, Option, IfOk, IfErr, length, map, min};
-ghost use Rattle.bridge_base.specs.Outside.{Files, Rose};
+ghost use Rattle.std.specs.Prelude.{◌≡◌, ◌≤◌, Option, OnOk, IfOk, IfErr, length, map, min};
+ghost use Rattle.bridge_base.specs.Outside.{Files, Rose, Begins, BeginsFront};
 ghost use Rattle.hol_spec.specs.Proofs.{Accepted};
 ghost use Rattle.article_spec.specs.Run.{accepted_state};
 ghost use Rattle.holide_sig.specs.Modules.{declarations_of, IsHeld};
@@ -9,7 +9,7 @@ ghost use Rattle.module_spec.specs.Image.{image};
 ghost use Rattle.bridge_spec.specs.Answers.{IsRunOf};
 ghost use Rattle.bridge_spec.specs.Calls.{names_in};
 ghost use Rattle.bridge_spec.specs.Texts.{written_bound, written_bounds};
-ghost use Rattle.bridge_reading.specs.Stops.{Stops};
+ghost use Rattle.bridge_reading.specs.Stops.{Stops, StopsBegun};
 ghost use Rattle.bridge_translate.specs.Translations.{counts_in, IsTranslationOf};
 
 use bridge_base::{Memory, Shelf};
@@ -51,6 +51,9 @@ pub fn translation_of<H: Shelf>(
 ) -> Result<Translation, Stop>
     ensures translated { IfOk result (λ translation. (run : Accepted) × IsRunOf (H.told shelf.old) (names_in files.now) run × IsTranslationOf (length (names_in files.now)) run translation) }
     ensures refused { IfErr result (λ stop. Stops stop (H.told shelf.old) (names_in files.now)) }
+    ensures all_begun { OnOk result (Begins (H.begun shelf.old) (names_in files.now) (H.begun shelf.new)) }
+    ensures refused_begun { IfErr result (λ stop. StopsBegun stop (H.begun shelf.old) (names_in files.now) (H.begun shelf.new)) }
+    ensures front_begun { BeginsFront (H.begun shelf.old) (names_in files.now) (H.begun shelf.new) }
     ensures read_fault { IfErr result (λ stop. stop ≡ Stop.ReadFault → Rose (H.faults shelf.old) (H.faults shelf.new)) }
     ensures told_kept { H.told shelf.new ≡ H.told shelf.old }
     ensures count { H.faults shelf.old ≤ H.faults shelf.new }

@@ -1,13 +1,15 @@
-use Rattle.std.proofs.Common.{Some}
+use Rattle.std.proofs.Common.{[], ◌∷◌, Some}
 use Rattle.bridge_spec.specs.Forms.{check}
 use Rattle.bridge_spec.specs.Calls.{call, shelved, sunk}
+use Rattle.bridge_spec.specs.Answers.{AnswersCheck}
+use Rattle.bridge_module.specs.Begun.{whole-BeginsFiles}
 use Rattle.bridge_answer.specs.AnswerTexts.{status_of, text_of, note_of}
 use Rattle.bridge_answer.specs.Promised.{outputs-Promise}
 use Rattle.bridge_check.proofs.program.check.Goals as goal
 
 pub returns : goal.returns
 returns g c =
-    let shelf = shelved g.H.Shelf.told g.H.Shelf.faults c.args.shelf.now c.checked-answer.new.shelf in
+    let shelf = shelved g.H.Shelf.told g.H.Shelf.faults g.H.Shelf.begun c.args.shelf.now c.checked-answer.new.shelf in
     let answer = c.checked-answer.result in
     outputs-Promise
     (call (Some (check c.args.file.now c.args.budget)) shelf (sunk g.O.Sink.got g.O.Sink.faults c.args.out.now c.deliver.new.out) (sunk g.N.Sink.got g.N.Sink.faults c.args.note.now c.deliver.new.note))
@@ -17,6 +19,8 @@ returns g c =
       out_text = text_of answer;
       note_text = note_of answer;
       answers = c.checked-answer.ensures.answers;
+      begins = whole-BeginsFiles (λ status. AnswersCheck c.args.file.now c.args.budget shelf status (text_of answer) (note_of answer)) (λ article line kind impossible. impossible)
+          (status_of answer) c.checked-answer.ensures.answers _ _ (c.args.file.now ∷ []) c.checked-answer.ensures.begun;
       delivered = c.deliver.ensures.delivered;
     })
     c.checked-answer.ensures.told_kept c.checked-answer.ensures.count c.deliver.ensures.out_count c.deliver.ensures.note_count

@@ -14,6 +14,7 @@ loop-count-preserved g c =
     record {
       count = omega (arith, c.loop-count.invariant.count, c.read.ensures.cause.later);
       told = c.read.ensures.told ∙ c.loop-count.invariant.told;
+      begun = c.read.ensures.begun ∙ c.loop-count.invariant.begun;
       read = piece_read _ _ _ c.loop-count.reader c.feed.new.self _ h c.in-Ok.ensures.bytes c.feed.ensures.limit c.feed.ensures.feeds c.feed.ensures.goes
           (judged-IsWithin _ _ c.feed.result c.in_default.not-Err (c.feed.ensures.judges h.text h.fed));
     }

@@ -11,6 +11,7 @@ pub loop-count-init : goal.loop-count-init
 loop-count-init g c = record {
   count = grind (arith, common_steps);
   told = grind (arith, common_steps);
+  begun = grind (arith, common_steps);
   within = grind (arith, common_steps);
   read = subst (IsRead (g.H.Shelf.left c.args.shelf.now) (g.H.Shelf.left c.args.shelf.now) c.args.machine.now c.args.machine.now) (sym c.requires) (none_read (g.H.Shelf.left c.args.shelf.now) c.args.machine.now);
 }
@@ -19,6 +20,7 @@ pub loop-count-preserved : goal.loop-count-preserved
 loop-count-preserved g c = record {
   count = grind (arith, common_steps);
   told = grind (arith, common_steps);
+  begun = grind (arith, common_steps);
   within = c.in_default.ensures.within;
   read = piece_obeyed _ (g.H.Shelf.left c.read.new.self) c.args.machine.now c.loop-count.machine c.run_all.new.machine c.feed-fed.new.self c.feed-fed.new.out.items
       (piece_read _ _ _ c.args.machine.now c.loop-count.machine c.loop-count.lines c.feed-fed.new.self _ c.clear.new.self.items c.feed-fed.new.out.items c.loop-count.invariant.read c.of_bytes.ensures c.in-Ok.ensures.bytes c.clear.ensures.items c.feed-fed.ensures.feeds)

@@ -3,13 +3,14 @@ use Rattle.std.proofs.lemmas.List.{append-nil}
 use Rattle.lp_spec.specs.Text.{written}
 use Rattle.holide_sig.specs.Modules.{declarations_of}
 use Rattle.bridge_spec.specs.Answers.{AnswersTranslate}
+use Rattle.bridge_spec.specs.Begun.{BeginsFiles}
 use Rattle.bridge_spec.specs.Forms.{translate}
 use Rattle.bridge_spec.specs.Calls.{call, shelved, sunk, names_in}
 use Rattle.bridge_spec.specs.Texts.{five_lines}
 use Rattle.bridge_spec.specs.declared.status.Status.TheVariants.{Done}
 use Rattle.bridge_answer.specs.AnswerTexts.{status_of, text_of, note_of}
 use Rattle.bridge_answer.specs.Promised.{outputs-Promise}
-use Rattle.bridge_reading.specs.StopAnswers.{stop-AnswersTranslate}
+use Rattle.bridge_reading.specs.StopAnswers.{stop-AnswersTranslate, stop-BeginsFiles}
 use Rattle.bridge_translate.specs.TranslationLaws.{written-module_text, length-bounds}
 use Rattle.bridge_translate.specs.Translations.{counts_in}
 use Rattle.bridge_translate.proofs.program.translate.Goals as goal
@@ -25,13 +26,14 @@ returns-in-Ok g c =
     let names = names_in c.args.files.now in
     let made = c.in-Ok.translation in
     outputs-Promise
-    (call (Some (translate names)) (shelved g.H.Shelf.told g.H.Shelf.faults c.args.shelf.now c.translation_of.new.shelf) (sunk g.O.Sink.got g.O.Sink.faults c.args.out.now c.deliver_translation-status.new.out) (sunk g.N.Sink.got g.N.Sink.faults c.args.note.now c.deliver_translation-status.new.note))
+    (call (Some (translate names)) (shelved g.H.Shelf.told g.H.Shelf.faults g.H.Shelf.begun c.args.shelf.now c.translation_of.new.shelf) (sunk g.O.Sink.got g.O.Sink.faults c.args.out.now c.deliver_translation-status.new.out) (sunk g.N.Sink.got g.N.Sink.faults c.args.note.now c.deliver_translation-status.new.note))
     c.deliver_translation-status.result
     (record {
       answer = Done;
       out_text = written (declarations_of made.module) made.bounds.items;
       note_text = five_lines (counts_in made.counts) ++ [];
       answers = (t.0, t.1, written-module_text (length names) t.0 made t.2, append-nil (five_lines (counts_in made.counts)) ∙ ap five_lines t.2.counts);
+      begins = c.in-Ok.ensures.all_begun;
       delivered = c.deliver_translation-status.ensures.delivered;
     })
     c.in-Ok.ensures.told_kept c.in-Ok.ensures.count c.deliver_translation-status.ensures.out_count c.deliver_translation-status.ensures.note_count
@@ -39,7 +41,7 @@ returns-in-Ok g c =
 pub returns-in-Err : goal.returns-in-Err
 returns-in-Err g c =
     let names = names_in c.args.files.now in
-    let shelf = shelved g.H.Shelf.told g.H.Shelf.faults c.args.shelf.now c.translation_of.new.shelf in
+    let shelf = shelved g.H.Shelf.told g.H.Shelf.faults g.H.Shelf.begun c.args.shelf.now c.translation_of.new.shelf in
     let answer = c.into_answer.result in
     outputs-Promise
     (call (Some (translate names)) shelf (sunk g.O.Sink.got g.O.Sink.faults c.args.out.now c.deliver.new.out) (sunk g.N.Sink.got g.N.Sink.faults c.args.note.now c.deliver.new.note))
@@ -49,6 +51,8 @@ returns-in-Err g c =
       out_text = text_of answer;
       note_text = note_of answer;
       answers = subst (λ answer. AnswersTranslate names shelf (status_of answer) (text_of answer) (note_of answer)) (sym c.into_answer.ensures) (stop-AnswersTranslate names shelf c.in-Err.stop c.in-Err.ensures.refused c.in-Err.ensures.read_fault);
+      begins = subst (λ answer. BeginsFiles (status_of answer) shelf.begun_before names shelf.begun) (sym c.into_answer.ensures)
+          (stop-BeginsFiles c.in-Err.stop shelf.begun_before shelf.begun names c.in-Err.ensures.refused_begun c.translation_of.ensures.front_begun);
       delivered = c.deliver.ensures.delivered;
     })
     c.in-Err.ensures.told_kept c.in-Err.ensures.count c.deliver.ensures.out_count c.deliver.ensures.note_count
