@@ -1,5 +1,5 @@
 //! The part of the program for the words `trial N`.
-ghost use Rattle.std.specs.Prelude.{ℕ, ◌<◌, ◌≤◌, Option, Some};
+ghost use Rattle.std.specs.Prelude.{ℕ, ◌<◌, ◌≤◌, List, Option, Some};
 ghost use Rattle.bridge_base.specs.Outside.{Files};
 ghost use Rattle.bridge_spec.specs.Forms.{greatest_trial, trial};
 ghost use Rattle.bridge_spec.specs.Calls.{call, untouched, sunk};
@@ -16,7 +16,7 @@ use std::alloc::Global;
 pub fn trial<O: Sink, N: Sink>(alloc: Global, n: u64, out: &mut O, note: &mut N) -> Status
     requires some { 0 < n }
     requires within { n ≤ greatest_trial }
-    ensures { (told : Option Files) (faults : ℕ) → Promise (call (Some (trial n)) (untouched told faults) (sunk O.got O.faults out.old out.new) (sunk N.got N.faults note.old note.new)) result }
+    ensures { (told : Option Files) (faults : ℕ) (begun : Option (List (List ℕ))) → Promise (call (Some (trial n)) (untouched told faults begun) (sunk O.got O.faults out.old out.new) (sunk N.got N.faults note.old note.new)) result }
 {
     match verified(alloc, n) {
         Ok(counts) => deliver_counts(&counts, out, note),

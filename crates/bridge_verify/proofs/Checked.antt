@@ -15,7 +15,7 @@ use Rattle.holide_sig.specs.Modules.{declaration_in, declarations_of}
 use Rattle.module_spec.specs.Image.{image}
 use Rattle.bridge_spec.specs.Headline.{Headline}
 use Rattle.bridge_spec.specs.Texts.{module_bounds}
-use Rattle.bridge_answer.specs.Promised.{declaration-at}
+use Rattle.headline_laws.specs.Headlines.{declaration-at}
 use Rattle.bridge_translate.specs.Translations.{IsTranslationOf}
 use Rattle.bridge_translate.specs.TranslationLaws.{written-module_text}
 use Rattle.bridge_translate.specs.declared.translation.Translation.{Translation}

@@ -1,9 +1,12 @@
 //! A module read back from its text, and checked.
 ghost use Rattle.std.specs.Prelude.{◌≡◌, ◌<◌, ◌++◌, [], ℕ, List, None, length, IfOk, IfErr, OnOk};
+ghost use Rattle.dk_read.specs.declared.faults.DkKind.{DkKind as AKind};
 ghost use Rattle.dk_read.specs.Readers.{Feeds, IsFed};
 ghost use Rattle.dk_write.specs.Lines.{line_at, text_before};
 ghost use Rattle.dk_write.specs.Shallow.{AreShallow};
 ghost use Rattle.hol_spec.specs.Proofs.{Accepted};
+ghost use Rattle.lp_kernel.specs.Checks.{IsJudged};
+ghost use Rattle.lp_kernel.specs.declared.checks.Verdict.TheVariants as verdict;
 ghost use Rattle.lp_spec.specs.Modules.{Declaration};
 ghost use Rattle.lp_spec.specs.ModuleOrder.{IsModule};
 ghost use Rattle.lp_spec.specs.Reading.{Reads};
@@ -21,11 +24,12 @@ use holide_sig::Module;
 use lp_kernel::{Verdict, check_module};
 use std::alloc::Global;
 
-/// Reads the text of a translation back, and checks the module that it reads as, each declaration within its bound. Only want of memory
-/// is answered in place of a yes. The text of one declaration is held at a time.
+/// Reads the text of a translation back, and checks the module that it reads as, each declaration within its bound. The yes is that of the
+/// check. Only want of memory is answered in place of it. The text of one declaration is held at a time.
 pub fn check_back(alloc: Global, translation: &Translation) -> Result<(), Answer>
     requires { (articles : ℕ) × (run : Accepted) × IsTranslationOf articles run translation.now × Headline run }
-    ensures { IfErr result (λ answer. answer ≡ Answer.Memory) }
+    ensures accepted { OnOk result (IsJudged (declarations_of translation.now.module) translation.now.bounds.items verdict.Accepted) }
+    ensures memory { IfErr result (λ answer. answer ≡ Answer.Memory) }
 {
     let mut back = read_back(alloc, translation)?;
     let checked = check_read(alloc, translation, &mut back);
@@ -33,14 +37,15 @@ pub fn check_back(alloc: Global, translation: &Translation) -> Result<(), Answer
     checked
 }
 
-// Checks the module that the text of a translation reads as, each declaration within its bound. Only want of memory is answered in place
-// of a yes.
+// Checks the module that the text of a translation reads as, each declaration within its bound. The yes is that of the check. Only want of
+// memory is answered in place of it.
 fn check_read(alloc: Global, translation: &Translation, back: &mut Module) -> Result<(), Answer>
     requires made { (articles : ℕ) × (run : Accepted) × IsTranslationOf articles run translation.now × Headline run }
     requires read { (m : List Declaration) → Reads (written (declarations_of translation.now.module) translation.now.bounds.items) m → declarations_of back.old ≡ m }
     requires held { IsHeld back.old }
     requires is_module { IsModule (declarations_of back.old) }
-    ensures { IfErr result (λ answer. answer ≡ Answer.Memory) }
+    ensures accepted { OnOk result (IsJudged (declarations_of back.old) translation.now.bounds.items verdict.Accepted) }
+    ensures memory { IfErr result (λ answer. answer ≡ Answer.Memory) }
 {
     match check_module(alloc, back, &translation.bounds) {
         Ok(Verdict::Accepted) => Ok(()),
@@ -163,7 +168,8 @@ fn ended(reader: Reader) -> Result<Module, Answer>
 
 // What is answered for a fault of the reader.
 fn answer_of(fault: DkFault) -> Answer
-    ensures { (fault ≡ DkFault.Memory) → result ≡ Answer.Memory }
+    ensures refused { (place : ℕ) (kind : AKind) → fault ≡ DkFault.Refused place kind → result ≡ Answer.DkRefused place kind }
+    ensures memory { fault ≡ DkFault.Memory → result ≡ Answer.Memory }
 {
     match fault {
         DkFault::Refused { place, kind } => Answer::DkRefused(place, kind),

@@ -1,14 +1,23 @@
 //! The part of the program for the words `verify FILE..`.
-ghost use Rattle.std.specs.Prelude.{Some};
+ghost use Rattle.std.specs.Prelude.{◌≡◌, ◌≤◌, ◌++◌, Some, codes, length};
+ghost use Rattle.dk_write.specs.Shallow.{AreShallow};
+ghost use Rattle.holide_sig.specs.Modules.{declarations_of, IsHeld};
+ghost use Rattle.lp_kernel.specs.Checks.{IsJudged};
+ghost use Rattle.lp_kernel.specs.declared.checks.Verdict.TheVariants as verdict;
+ghost use Rattle.lp_spec.specs.Text.{written};
 ghost use Rattle.bridge_spec.specs.Forms.{verify};
 ghost use Rattle.bridge_spec.specs.Calls.{call, shelved, sunk, names_in};
+ghost use Rattle.bridge_spec.specs.Outputs.{Delivers};
 ghost use Rattle.bridge_spec.specs.Promises.{Promise};
+ghost use Rattle.bridge_spec.specs.Texts.{five_lines};
+ghost use Rattle.bridge_spec.specs.declared.status.Status.TheVariants.{Done};
+ghost use Rattle.bridge_translate.specs.Translations.{counts_in};
 
 use crate::checking::check_back;
 use bridge_answer::deliver;
 use bridge_base::{Shelf, Sink};
 use bridge_spec::Status;
-use bridge_translate::{deliver_translation, translation_of};
+use bridge_translate::{Translation, deliver_translation, translation_of};
 use std::alloc::Global;
 
 /// Writes the module of the run of the articles in these files to `out`, once it was read back from its text and checked, and the counts
@@ -20,13 +29,30 @@ pub fn verify<H: Shelf, O: Sink, N: Sink>(
     out: &mut O,
     note: &mut N,
 ) -> Status
-    ensures { Promise (call (Some (verify (names_in files.now))) (shelved H.told H.faults shelf.old shelf.new) (sunk O.got O.faults out.old out.new) (sunk N.got N.faults note.old note.new)) result }
+    ensures { Promise (call (Some (verify (names_in files.now))) (shelved H.told H.faults H.begun shelf.old shelf.new) (sunk O.got O.faults out.old out.new) (sunk N.got N.faults note.old note.new)) result }
 {
     match translation_of(alloc, files, shelf) {
         Ok(translation) => match check_back(alloc, &translation) {
-            Ok(()) => deliver_translation(&translation, b"verified\n", out, note),
+            Ok(()) => deliver_verified(&translation, out, note),
             Err(answer) => deliver(answer, out, note),
         },
         Err(stop) => deliver(stop.into_answer(), out, note),
     }
+}
+
+// Writes a module that the check accepted, and then its counts and the line that says so.
+fn deliver_verified<O: Sink, N: Sink>(
+    translation: &Translation,
+    out: &mut O,
+    note: &mut N,
+) -> Status
+    requires accepted { IsJudged (declarations_of translation.now.module) translation.now.bounds.items verdict.Accepted }
+    requires held { IsHeld translation.now.module }
+    requires bounds { length translation.now.bounds.items ≡ length translation.now.module.decls }
+    requires shallow { AreShallow translation.now.module.table translation.now.module.decls }
+    ensures delivered { Delivers Done (written (declarations_of translation.now.module) translation.now.bounds.items) (five_lines (counts_in translation.now.counts) ++ codes "verified\n") (sunk O.got O.faults out.old out.new) (sunk N.got N.faults note.old note.new) result }
+    ensures out_count { O.faults out.old ≤ O.faults out.new }
+    ensures note_count { N.faults note.old ≤ N.faults note.new }
+{
+    deliver_translation(translation, b"verified\n", out, note)
 }

@@ -8,15 +8,15 @@ check_module-requires-clause-budgets c =
     let reads = gathered-Reads c.requires.made.0 c.requires.made.1 c.args.translation.now c.requires.made.2 c.requires.made.3 _ refl in
     length-budgets c.requires.made.0 c.requires.made.1 c.args.translation.now c.requires.made.2 c.requires.made.3 c.args.back.now (c.requires.read (image c.requires.made.1) reads) c.deref.result.now c.deref.ensures.value
 
-pub returns-in-Ok-IllTyped : goal.returns-in-Ok-IllTyped
-returns-in-Ok-IllTyped c =
+pub returns-in-Ok-IllTyped-clause-memory : goal.returns-in-Ok-IllTyped-clause-memory
+returns-in-Ok-IllTyped-clause-memory c =
     let reads = gathered-Reads c.requires.made.0 c.requires.made.1 c.args.translation.now c.requires.made.2 c.requires.made.3 _ refl in
     let accepted = c.in-Ok-IllTyped.ensures.accepts
     (back-PassWithin c.requires.made.0 c.requires.made.1 c.args.translation.now c.requires.made.2 c.requires.made.3 c.args.back.now (c.requires.read (image c.requires.made.1) reads) c.deref.result.now c.deref.ensures.value) in
     absurd (IllTyped-Accepted c.in-Ok-IllTyped.field-0 _ c.in-Ok-IllTyped.field-0-is accepted)
 
-pub returns-in-Ok-OverBudget : goal.returns-in-Ok-OverBudget
-returns-in-Ok-OverBudget c =
+pub returns-in-Ok-OverBudget-clause-memory : goal.returns-in-Ok-OverBudget-clause-memory
+returns-in-Ok-OverBudget-clause-memory c =
     let reads = gathered-Reads c.requires.made.0 c.requires.made.1 c.args.translation.now c.requires.made.2 c.requires.made.3 _ refl in
     let accepted = c.in-Ok-OverBudget.ensures.accepts
     (back-PassWithin c.requires.made.0 c.requires.made.1 c.args.translation.now c.requires.made.2 c.requires.made.3 c.args.back.now (c.requires.read (image c.requires.made.1) reads) c.deref.result.now c.deref.ensures.value) in

@@ -3,13 +3,14 @@ use Rattle.lp_spec.specs.Text.{written}
 use Rattle.holide_sig.specs.Modules.{declarations_of}
 use Rattle.headline_laws.specs.Headlines.{each_run_carries}
 use Rattle.bridge_spec.specs.Answers.{AnswersVerify}
+use Rattle.bridge_spec.specs.Begun.{BeginsFiles}
 use Rattle.bridge_spec.specs.Forms.{verify}
 use Rattle.bridge_spec.specs.Calls.{call, shelved, sunk, names_in}
 use Rattle.bridge_spec.specs.Texts.{five_lines}
 use Rattle.bridge_spec.specs.declared.status.Status.TheVariants.{Done}
 use Rattle.bridge_answer.specs.AnswerTexts.{status_of, text_of, note_of}
 use Rattle.bridge_answer.specs.Promised.{outputs-Promise}
-use Rattle.bridge_reading.specs.StopAnswers.{stop-AnswersVerify}
+use Rattle.bridge_reading.specs.StopAnswers.{stop-AnswersVerify, stop-BeginsFiles}
 use Rattle.bridge_translate.specs.TranslationLaws.{written-module_text, length-bounds}
 use Rattle.bridge_translate.specs.Translations.{counts_in}
 use Rattle.bridge_verify.proofs.program.verify.Goals as goal
@@ -19,8 +20,8 @@ check_back-requires g c =
     let t = c.in-Ok.ensures.translated in
     (length (names_in c.args.files.now), t.0, t.2, each_run_carries t.1.texts t.0 t.1.bytes t.1.runs)
 
-pub deliver_translation-requires-clause-bounds : goal.deliver_translation-requires-clause-bounds
-deliver_translation-requires-clause-bounds g c =
+pub deliver_verified-requires-clause-bounds : goal.deliver_verified-requires-clause-bounds
+deliver_verified-requires-clause-bounds g c =
     let t = c.in-Ok.ensures.translated in
     length-bounds (length (names_in c.args.files.now)) t.0 c.in-Ok.translation t.2
 
@@ -30,21 +31,22 @@ returns-in-Ok-check_back g c =
     let names = names_in c.args.files.now in
     let made = c.in-Ok.translation in
     outputs-Promise
-    (call (Some (verify names)) (shelved g.H.Shelf.told g.H.Shelf.faults c.args.shelf.now c.translation_of.new.shelf) (sunk g.O.Sink.got g.O.Sink.faults c.args.out.now c.deliver_translation.new.out) (sunk g.N.Sink.got g.N.Sink.faults c.args.note.now c.deliver_translation.new.note))
-    c.deliver_translation.result
+    (call (Some (verify names)) (shelved g.H.Shelf.told g.H.Shelf.faults g.H.Shelf.begun c.args.shelf.now c.translation_of.new.shelf) (sunk g.O.Sink.got g.O.Sink.faults c.args.out.now c.deliver_verified.new.out) (sunk g.N.Sink.got g.N.Sink.faults c.args.note.now c.deliver_verified.new.note))
+    c.deliver_verified.result
     (record {
       answer = Done;
       out_text = written (declarations_of made.module) made.bounds.items;
       note_text = five_lines (counts_in made.counts) ++ codes "verified\n";
       answers = (t.0, t.1, written-module_text (length names) t.0 made t.2, ap (λ counts. five_lines counts ++ codes "verified\n") t.2.counts);
-      delivered = c.deliver_translation.ensures.delivered;
+      begins = c.in-Ok.ensures.all_begun;
+      delivered = c.deliver_verified.ensures.delivered;
     })
-    c.in-Ok.ensures.told_kept c.in-Ok.ensures.count c.deliver_translation.ensures.out_count c.deliver_translation.ensures.note_count
+    c.in-Ok.ensures.told_kept c.in-Ok.ensures.count c.deliver_verified.ensures.out_count c.deliver_verified.ensures.note_count
 
 pub returns-in-Ok : goal.returns-in-Ok
 returns-in-Ok g c =
     let names = names_in c.args.files.now in
-    let shelf = shelved g.H.Shelf.told g.H.Shelf.faults c.args.shelf.now c.translation_of.new.shelf in
+    let shelf = shelved g.H.Shelf.told g.H.Shelf.faults g.H.Shelf.begun c.args.shelf.now c.translation_of.new.shelf in
     let answer = c.in-Err-check_back.answer in
     outputs-Promise
     (call (Some (verify names)) shelf (sunk g.O.Sink.got g.O.Sink.faults c.args.out.now c.deliver.new.out) (sunk g.N.Sink.got g.N.Sink.faults c.args.note.now c.deliver.new.note))
@@ -53,7 +55,8 @@ returns-in-Ok g c =
       answer = status_of answer;
       out_text = text_of answer;
       note_text = note_of answer;
-      answers = subst (λ answer. AnswersVerify names shelf (status_of answer) (text_of answer) (note_of answer)) (sym c.in-Err-check_back.ensures) (refl, refl);
+      answers = subst (λ answer. AnswersVerify names shelf (status_of answer) (text_of answer) (note_of answer)) (sym c.in-Err-check_back.ensures.memory) (refl, refl);
+      begins = subst (λ answer. BeginsFiles (status_of answer) shelf.begun_before names shelf.begun) (sym c.in-Err-check_back.ensures.memory) c.translation_of.ensures.front_begun;
       delivered = c.deliver.ensures.delivered;
     })
     c.in-Ok.ensures.told_kept c.in-Ok.ensures.count c.deliver.ensures.out_count c.deliver.ensures.note_count
@@ -61,7 +64,7 @@ returns-in-Ok g c =
 pub returns : goal.returns
 returns g c =
     let names = names_in c.args.files.now in
-    let shelf = shelved g.H.Shelf.told g.H.Shelf.faults c.args.shelf.now c.translation_of.new.shelf in
+    let shelf = shelved g.H.Shelf.told g.H.Shelf.faults g.H.Shelf.begun c.args.shelf.now c.translation_of.new.shelf in
     let answer = c.into_answer.result in
     outputs-Promise
     (call (Some (verify names)) shelf (sunk g.O.Sink.got g.O.Sink.faults c.args.out.now c.deliver-in-Err.new.out) (sunk g.N.Sink.got g.N.Sink.faults c.args.note.now c.deliver-in-Err.new.note))
@@ -71,6 +74,8 @@ returns g c =
       out_text = text_of answer;
       note_text = note_of answer;
       answers = subst (λ answer. AnswersVerify names shelf (status_of answer) (text_of answer) (note_of answer)) (sym c.into_answer.ensures) (stop-AnswersVerify names shelf c.in-Err.stop c.in-Err.ensures.refused c.in-Err.ensures.read_fault);
+      begins = subst (λ answer. BeginsFiles (status_of answer) shelf.begun_before names shelf.begun) (sym c.into_answer.ensures)
+          (stop-BeginsFiles c.in-Err.stop shelf.begun_before shelf.begun names c.in-Err.ensures.refused_begun c.translation_of.ensures.front_begun);
       delivered = c.deliver-in-Err.ensures.delivered;
     })
     c.in-Err.ensures.told_kept c.in-Err.ensures.count c.deliver-in-Err.ensures.out_count c.deliver-in-Err.ensures.note_count
