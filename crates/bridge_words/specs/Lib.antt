@@ -1,0 +1,5 @@
+pub mod Asked
+pub mod Commands
+pub mod Matches
+pub mod Readable
+pub mod Refused

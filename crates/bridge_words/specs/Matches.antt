@@ -1,0 +1,52 @@
+-- What the matches of a command ask for.
+use Rattle.std.specs.Prelude.{codes, ℕ, List, [], Option, Some, None, option_map, option_and_then, unwrap_or, if◌then◌else◌}
+use Rattle.std.specs.Str.{bytes_eq}
+use Rattle.clap.specs.Words.{Row, Text, all_of, first_of}
+use Rattle.bridge_spec.specs.Forms.{Form, verify, translate, check, show, decode, trial, budget_of, trial_of, default_budget}
+
+-- the files, none where the words give none
+abbrev pub files_in : List Row → List Text
+files_in rows = unwrap_or (all_of (codes "file") rows) []
+
+-- what the matches of each subcommand ask for: files
+abbrev pub read_files : (List Text → Form) → List Row → Option Form
+read_files form rows = Some (form (files_in rows))
+
+-- .. a file
+abbrev pub read_decode : List Row → Option Form
+read_decode rows = option_map decode (first_of (codes "file") rows)
+
+-- .. a number of blocks
+abbrev pub read_trial : List Row → Option Form
+read_trial rows = option_and_then (λ word. option_map trial (trial_of word)) (first_of (codes "blocks") rows)
+
+-- a budget, where the words give none the default
+abbrev pub budget_in : Option Text → Option ℕ
+budget_in None = Some default_budget
+budget_in (Some word) = budget_of word
+
+-- a check of a file with a budget, where there are both
+abbrev pub check_in : Option Text → Option ℕ → Option Form
+check_in (Some file) (Some budget) = Some (check file budget)
+check_in (Some file) None = None
+check_in None budget = None
+
+-- .. a file and a budget
+abbrev pub read_check : List Row → Option Form
+read_check rows = check_in (first_of (codes "file") rows) (budget_in (first_of (codes "budget") rows))
+
+-- the form that a subcommand of this name and its matches ask for
+abbrev pub read_named : Text → List Row → Option Form
+read_named name rows =
+    if bytes_eq name (codes "verify") then read_files verify rows
+    else if bytes_eq name (codes "translate") then read_files translate rows
+    else if bytes_eq name (codes "check") then read_check rows
+    else if bytes_eq name (codes "show") then read_files show rows
+    else if bytes_eq name (codes "decode") then read_decode rows
+    else if bytes_eq name (codes "trial") then read_trial rows
+    else None
+
+-- .. and where there is no subcommand, none
+abbrev pub read : Option (Text × List Row) → Option Form
+read None = None
+read (Some p) = read_named p.0 p.1
