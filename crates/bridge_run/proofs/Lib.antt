@@ -1,3 +1,2 @@
-pub mod Counted
-pub mod Files
 pub mod Trials
+pub mod Unread

@@ -1,13 +1,12 @@
 -- A trial that words ask for has a number of blocks from 1 to the most.
-use Rattle.std.proofs.Common.{◌≡◌, ◌<◌, ◌≤◌, ◌+◌, ◌*◌, ◌-◌, ◌&&◌, ℕ, Bool, true, false, List, [], ◌∷◌, Option, None, Some, option_map, refl, sym, subst, arith}
-use Rattle.std.specs.Prelude.{◌==◌, nat_le, if◌then◌else◌, codes, String}
+use Rattle.std.proofs.Common.{◌≡◌, ◌<◌, ◌≤◌, ◌+◌, ◌*◌, ◌-◌, ◌&&◌, ℕ, Bool, true, false, List, [], ◌∷◌, Option, None, Some, option_map, refl, arith}
+use Rattle.std.specs.Prelude.{◌==◌, nat_le, if◌then◌else◌, codes}
 use Rattle.std.specs.List.{fold, list_all}
 use Rattle.std.specs.Str.{bytes_eq}
-use Rattle.std.specs.declared.alloc.Global.{Global}
 use Rattle.std.proofs.lemmas.Bool.Decides.{nat_tests}
 use Rattle.article_spec.specs.Numbers.{is_digit, decimal}
-use Rattle.bridge_spec.specs.Calls.{form_in, names_in}
-use Rattle.bridge_spec.specs.Forms.{Form, verify, translate, check, show, decode, trial, greatest_trial, is_file, are_files, up_to, number_up_to, trial_of, check_with, check_form, named_budget, budget_after, default_budget, decode_form, trial_form, form_by, form_of}
+use Rattle.bridge_run.specs.Blocks.{HasBlocks}
+use Rattle.bridge_spec.specs.Forms.{verify, translate, check, show, decode, trial, greatest_trial, is_file, are_files, up_to, number_up_to, trial_of, check_with, check_form, named_budget, budget_after, default_budget, decode_form, trial_form, form_by, form_of}
 
 -- what is asked of a number that a word says
 abbrev IsNumber : ℕ → Option ℕ → Type 0
@@ -39,16 +38,6 @@ number_up_to-IsNumber most (b ∷ bs) = go (b == 48) refl (is_digit b) refl (lis
         up_to-IsNumber most (decimal (b ∷ bs)) (omega (arith, first, more))
     go false z true e false = tt
     go false z false e digits = tt
-
--- what is asked of a form
-abbrev HasBlocks : Option Form → Type 0
-HasBlocks None = Unit {0}
-HasBlocks (Some (verify names)) = Unit {0}
-HasBlocks (Some (translate names)) = Unit {0}
-HasBlocks (Some (check name budget)) = Unit {0}
-HasBlocks (Some (show names)) = Unit {0}
-HasBlocks (Some (decode name)) = Unit {0}
-HasBlocks (Some (trial n)) = (0 < n) × (n ≤ greatest_trial)
 
 check_with-HasBlocks : (name : List ℕ) (budget : Option ℕ) → HasBlocks (check_with name budget)
 check_with-HasBlocks name None = tt
@@ -107,11 +96,8 @@ form_by-HasBlocks word words = go (bytes_eq word (codes "verify")) (bytes_eq wor
     go false false false false false true files = trial_form-HasBlocks words
     go false false false false false false files = tt
 
-form_of-HasBlocks : (words : List (List ℕ)) → HasBlocks (form_of words)
+-- the number of blocks of a trial that words ask for
+pub form_of-HasBlocks : (words : List (List ℕ)) → HasBlocks (form_of words)
 form_of-HasBlocks [] = tt
 form_of-HasBlocks (program ∷ []) = tt
 form_of-HasBlocks (program ∷ word ∷ words) = form_by-HasBlocks word words
-
--- the number of blocks of a trial that words ask for
-pub asked-blocks : (words : List (String Global)) (n : ℕ) → Some (trial n) ≡ form_in words → (0 < n) × (n ≤ greatest_trial)
-asked-blocks words n e = subst HasBlocks (sym e) (form_of-HasBlocks (names_in words))

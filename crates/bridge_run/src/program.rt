@@ -1,10 +1,12 @@
 //! The program as one call.
+ghost use Rattle.std.specs.Prelude.{Some};
 ghost use Rattle.bridge_spec.specs.Calls.{call, shelved, sunk, form_in};
 ghost use Rattle.bridge_spec.specs.Promises.{Promise};
+ghost use Rattle.bridge_words.specs.Asked.{asked};
+ghost use Rattle.bridge_run.specs.Blocks.{HasBlocks};
 
-use crate::words::{Form, form_of};
 use bridge_answer::{Answer, deliver};
-use bridge_base::{Shelf, Sink};
+use bridge_base::{Memory, Shelf, Sink};
 use bridge_check::check;
 use bridge_decode::decode;
 use bridge_show::show;
@@ -12,6 +14,7 @@ use bridge_spec::Status;
 use bridge_translate::translate;
 use bridge_trial::trial;
 use bridge_verify::verify;
+use bridge_words::{Form, form_of};
 use std::alloc::Global;
 
 /// All that the program does, for the words of its command line, of which the first is its name.
@@ -26,15 +29,36 @@ pub fn bridge<H: Shelf, O: Sink, N: Sink>(
     out: &mut O,
     note: &mut N,
 ) -> Status
-    ensures { Promise (call (form_in words.now) (shelved H.told H.faults shelf.old shelf.new) (sunk O.got O.faults out.old out.new) (sunk N.got N.faults note.old note.new)) result }
+    ensures { Promise (call (form_in words.now) (shelved H.told H.faults H.begun shelf.old shelf.new) (sunk O.got O.faults out.old out.new) (sunk N.got N.faults note.old note.new)) result }
 {
-    match form_of(words) {
-        Some(Form::Verify(files)) => verify(alloc, files, shelf, out, note),
-        Some(Form::Translate(files)) => translate(alloc, files, shelf, out, note),
-        Some(Form::Check(file, budget)) => check(alloc, file, budget, shelf, out, note),
-        Some(Form::Show(files)) => show(alloc, files, shelf, out, note),
-        Some(Form::Decode(file)) => decode(alloc, file, shelf, out, note),
-        Some(Form::Trial(n)) => trial(alloc, n, out, note),
-        None => deliver(Answer::Usage, out, note),
+    match form_of(alloc, words) {
+        Ok(Some(form)) => {
+            let status = answered(alloc, &form, shelf, out, note);
+            drop(form);
+            status
+        }
+        Ok(None) => deliver(Answer::Usage, out, note),
+        Err(Memory) => deliver(Answer::Memory, out, note),
+    }
+}
+
+/// What the program does for a form.
+fn answered<H: Shelf, O: Sink, N: Sink>(
+    alloc: Global,
+    form: &Form<'_>,
+    shelf: &mut H,
+    out: &mut O,
+    note: &mut N,
+) -> Status
+    requires { HasBlocks (Some (asked form.now)) }
+    ensures { Promise (call (Some (asked form.now)) (shelved H.told H.faults H.begun shelf.old shelf.new) (sunk O.got O.faults out.old out.new) (sunk N.got N.faults note.old note.new)) result }
+{
+    match form {
+        Form::Verify(files) => verify(alloc, files, shelf, out, note),
+        Form::Translate(files) => translate(alloc, files, shelf, out, note),
+        Form::Check(file, budget) => check(alloc, file, *budget, shelf, out, note),
+        Form::Show(files) => show(alloc, files, shelf, out, note),
+        Form::Decode(file) => decode(alloc, file, shelf, out, note),
+        Form::Trial(n) => trial(alloc, *n, out, note),
     }
 }

@@ -1,0 +1,13 @@
+-- The number of blocks of a trial.
+use Rattle.std.specs.Prelude.{◌<◌, ◌≤◌, Option, None, Some}
+use Rattle.bridge_spec.specs.Forms.{Form, verify, translate, check, show, decode, trial, greatest_trial}
+
+-- where a form asks for a trial, it has a block and no more than the most
+abbrev pub HasBlocks : Option Form → Type 0
+HasBlocks None = Unit {0}
+HasBlocks (Some (verify names)) = Unit {0}
+HasBlocks (Some (translate names)) = Unit {0}
+HasBlocks (Some (check name budget)) = Unit {0}
+HasBlocks (Some (show names)) = Unit {0}
+HasBlocks (Some (decode name)) = Unit {0}
+HasBlocks (Some (trial n)) = (0 < n) × (n ≤ greatest_trial)
