@@ -6,9 +6,11 @@ ghost use Rattle.holide_sig.specs.Modules.{declarations_of, IsHeld};
 ghost use Rattle.decode_back_tests.specs.ClosedTrees.{IsClosed};
 
 use bridge_base::Memory;
+use decode_back::decode;
 use holide_sig::{Decl, Form, Ident, Module, SIGNATURE};
 use lp_term::{LpId, LpNode, LpTable};
 use std::alloc::Global;
+use std::test::Fail;
 
 // Declares a symbol of a closed type, unless its name is taken.
 fn declare(alloc: Global, into: &mut Module, name: &[u8], ty: LpId) -> Result<(), Memory>
@@ -104,8 +106,8 @@ fn formulas(table: &mut LpTable) -> Result<LpId, Memory>
     table.node(LpNode::App(term, truth))
 }
 
-/// `c_p : term bool`, and `E0 : proof c_p` under so many hypotheses, each with a tree so many times doubled.
-pub(crate) fn assumed(alloc: Global, count: usize, times: usize) -> Result<Module, Memory>
+// `c_p : term bool`, and `E0 : proof c_p` under so many hypotheses, each with a tree so many times doubled.
+fn assumed(alloc: Global, count: usize, times: usize) -> Result<Module, Memory>
     ensures held { IfOk result IsHeld }
     ensures two { IfOk result (λ m. length m.decls ≡ 2) }
 {
@@ -144,8 +146,8 @@ fn at_bools(table: &mut LpTable, count: usize) -> Result<LpId, Memory>
     table.node(LpNode::App(proof, tree))
 }
 
-/// `c_k`, over so many types, of type `term bool`, and `E0 : proof (c_k bool .. bool)`.
-pub(crate) fn of_many_types(alloc: Global, count: usize) -> Result<Module, Memory>
+// `c_k`, over so many types, of type `term bool`, and `E0 : proof (c_k bool .. bool)`.
+fn of_many_types(alloc: Global, count: usize) -> Result<Module, Memory>
     ensures held { IfOk result IsHeld }
     ensures two { IfOk result (λ m. length m.decls ≡ 2) }
 {
@@ -155,4 +157,25 @@ pub(crate) fn of_many_types(alloc: Global, count: usize) -> Result<Module, Memor
     let ty = at_bools(&mut into.table, count)?;
     declare(alloc, &mut into, b"E0", ty)?;
     Ok(into)
+}
+
+#[test]
+fn a_constant_of_types_that_its_own_lacks_is_none(rt: HostRuntime) -> Result<(), Fail> {
+    let alloc = rt.alloc();
+    let source = of_many_types(alloc, 100_000)?;
+    assert!(rt; decode(alloc, &source, 1)?.is_none());
+    Ok(())
+}
+
+// A doubled formula has at least two nodes for one, of which the table has but a few more.
+#[test]
+fn large_hypotheses_are_decoded_up_to_the_size(rt: HostRuntime) -> Result<(), Fail> {
+    let alloc = rt.alloc();
+    let fits = assumed(alloc, 3, 13)?;
+    assert!(rt; decode(alloc, &fits, 1)?.is_some());
+    let large = assumed(alloc, 3, 16)?;
+    assert!(rt; decode(alloc, &large, 1)?.is_none());
+    let many = assumed(alloc, 1000, 16)?;
+    assert!(rt; decode(alloc, &many, 1)?.is_none());
+    Ok(())
 }

@@ -1,4 +1,4 @@
-//! Tests of the kernel, by public calls alone: prices worked out by hand, verdicts, deep trees and a definition that grows without end.
+//! Tests of the kernel, by public calls alone: types in a context. What can be asked of a text is tested in `module_tests`.
 //!
 //! This crate has no code of its own. That each answer is the rules' is proved in `lp_kernel`; the tests show that with ample memory each
 //! answer is given, and none is want of memory in its place.
@@ -6,9 +6,3 @@
 
 #[cfg(test)]
 mod contexts;
-#[cfg(test)]
-mod prices;
-#[cfg(test)]
-mod texts;
-#[cfg(test)]
-mod verdicts;

@@ -1,9 +1,8 @@
-//! Tests of weights and bounds, by public calls alone: declarations of known weight, and trees with more places than any computer counts.
+//! Tests of weights and bounds, by public calls alone: trees with more places than any computer counts. Those of texts stand in
+//! `module_tests`.
 //!
 //! This crate has no code of its own. The clauses of `lp_weight` say what a weight is; the tests show numbers that were found by hand.
 #![tactic(auto)]
 
 #[cfg(test)]
 mod shared;
-#[cfg(test)]
-mod texts;

@@ -1,0 +1,142 @@
+//! How checks of declarations and modules end.
+ghost use Rattle.lp_spec.specs.ModuleOrder.{IsModule};
+ghost use Rattle.holide_sig.specs.Modules.{declarations_of, IsHeld};
+
+use crate::faults::{add_comma, add_number};
+use crate::modules::read;
+use bridge_base::Budget;
+use case_files::{Case, Wrong, listed, number_of, numbers};
+use dk_read::Limit;
+use holide_sig::Module;
+use lp_conv::Answer;
+use lp_kernel::{Verdict, check_decl, check_module};
+use std::alloc::Global;
+use toml::Value;
+
+/// Adds the answer to the check of the last declaration of a text and what is left of it, for each budget of the case.
+pub(crate) fn add_checks(
+    alloc: Global,
+    case: &Case<'_>,
+    limit: Limit,
+    text: &[u8],
+    came: &mut Vec<u8>,
+) -> Result<(), Wrong> {
+    for budget in listed(case, "budgets")? {
+        let left = number_of(budget, "budgets")?;
+        add_check(alloc, limit, text, u128::from(left), came)?;
+    }
+    Ok(())
+}
+
+// Adds the answer for this budget.
+fn add_check(
+    alloc: Global,
+    limit: Limit,
+    text: &[u8],
+    left: u128,
+    came: &mut Vec<u8>,
+) -> Result<(), Wrong> {
+    let Ok(mut module) = read(alloc, limit, text) else {
+        return Err(Wrong("text"));
+    };
+    let mut budget = Budget { left };
+    let answer = checked_last(alloc, &mut module, &mut budget);
+    drop(module);
+    add_answer(alloc, came, answer?, budget.left)
+}
+
+// The answer to the check of the last declaration.
+fn checked_last(alloc: Global, module: &mut Module, budget: &mut Budget) -> Result<Answer, Wrong>
+    requires held { IsHeld module.old }
+    requires is_module { IsModule (declarations_of module.old) }
+{
+    match module.decls.len().checked_sub(1) {
+        Some(last) => check_decl(alloc, module, last, budget).map_err(|_| Wrong("out of memory")),
+        None => Err(Wrong("text")),
+    }
+}
+
+/// Adds an answer and the steps that are left.
+pub(crate) fn add_answer(
+    alloc: Global,
+    came: &mut Vec<u8>,
+    answer: Answer,
+    left: u128,
+) -> Result<(), Wrong> {
+    add_comma(came)?;
+    came.extend_from_slice(answer_word(answer))?;
+    add_number(alloc, came, left)
+}
+
+// The name of an answer.
+fn answer_word(answer: Answer) -> &'static [u8] {
+    match answer {
+        Answer::Yes => b"Yes ",
+        Answer::No => b"No ",
+        Answer::Over => b"Over ",
+    }
+}
+
+/// Adds the verdict on a module under the budgets of the case, of which there are as many as declarations.
+pub(crate) fn add_verdict(
+    alloc: Global,
+    case: &Case<'_>,
+    module: &mut Module,
+    came: &mut Vec<u8>,
+) -> Result<(), Wrong>
+    requires held { IsHeld module.old }
+    requires is_module { IsModule (declarations_of module.old) }
+{
+    let budgets = budgets(alloc, case)?;
+    let verdict = verdict(alloc, module, &budgets);
+    drop(budgets);
+    add_verdict_of(alloc, verdict?, came)
+}
+
+// The budgets of a case.
+fn budgets(alloc: Global, case: &Case<'_>) -> Result<Vec<u128>, Wrong> {
+    let numbers = numbers(alloc, case, "budgets")?;
+    let mut budgets = Vec::new(alloc);
+    let added = add_budgets(&numbers, &mut budgets);
+    drop(numbers);
+    added?;
+    Ok(budgets)
+}
+
+// Adds these numbers.
+fn add_budgets(numbers: &[u64], budgets: &mut Vec<u128>) -> Result<(), Wrong> {
+    for number in numbers {
+        budgets.push(u128::from(*number))?;
+    }
+    Ok(())
+}
+
+// The verdict under these budgets.
+fn verdict(alloc: Global, module: &mut Module, budgets: &[u128]) -> Result<Verdict, Wrong>
+    requires held { IsHeld module.old }
+    requires is_module { IsModule (declarations_of module.old) }
+{
+    if budgets.len() == module.decls.len() {
+        check_module(alloc, module, budgets).map_err(|_| Wrong("out of memory"))
+    } else {
+        Err(Wrong("budgets"))
+    }
+}
+
+// Adds a verdict, with the declaration that it is about.
+fn add_verdict_of(alloc: Global, verdict: Verdict, came: &mut Vec<u8>) -> Result<(), Wrong> {
+    match verdict {
+        Verdict::Accepted => {
+            came.extend_from_slice(b"Accepted")?;
+            Ok(())
+        }
+        Verdict::IllTyped(i) => {
+            came.extend_from_slice(b"IllTyped ")?;
+            add_number(alloc, came, i as u128)
+        }
+        Verdict::OverBudget(i) => {
+            came.extend_from_slice(b"OverBudget ")?;
+            add_number(alloc, came, i as u128)
+        }
+    }
+}

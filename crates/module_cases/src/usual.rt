@@ -1,0 +1,28 @@
+//! What is usual in all files of tests.
+
+/// What a file doesn't say, and the prelude with which each module begins.
+pub(crate) const USUAL: &str = r##"
+text = ["$prelude", "$after"]
+limits = ["free"]
+pieces = [4096]
+start = 832
+
+[texts]
+after = ""
+prelude = '''
+type : Type.
+bool : type.
+ind : type.
+arr : type -> type -> type.
+def term : type -> Type.
+[a, b] term (arr a b) --> term a -> term b.
+eq : a : type -> term (arr a (arr a bool)).
+select : a : type -> term (arr (arr a bool) a).
+proof : term bool -> Type.
+refl : a : type -> x : term a -> proof (eq a x x).
+fun_ext : a : type -> b : type -> f : term (arr a b) -> g : term (arr a b) -> (x : term a -> proof (eq b (f x) (g x))) -> proof (eq (arr a b) f g).
+app_thm : a : type -> b : type -> f : term (arr a b) -> g : term (arr a b) -> x : term a -> y : term a -> proof (eq (arr a b) f g) -> proof (eq a x y) -> proof (eq b (f x) (g y)).
+prop_ext : p : term bool -> q : term bool -> (proof p -> proof q) -> (proof q -> proof p) -> proof (eq bool p q).
+eq_mp : p : term bool -> q : term bool -> proof (eq bool p q) -> proof p -> proof q.
+'''
+"##;

@@ -1,0 +1,36 @@
+//! Tests over modules as texts: which texts are read, and each fault by its name and place; answers and prices of checks and
+//! conversions, verdicts, head steps, weights and bounds; and the sequents for which types stand.
+//!
+//! They are files of tests, which `module_cases` runs: a further case is a few lines of such a file. What a text reads as, and what each
+//! answer means, is proved of every text in `dk_read`, `lp_conv`, `lp_kernel`, `lp_weight` and `decode_back`; the tests show that with
+//! ample memory each answer is given, and none is want of memory in its place.
+//!
+//! What no text says, as trees that share their parts, is tested in `lp_kernel_tests`, `lp_weight_tests` and `decode_back_tests`.
+#![tactic(auto)]
+
+#[cfg(test)]
+mod conversions;
+#[cfg(test)]
+mod depths;
+#[cfg(test)]
+mod exports;
+#[cfg(test)]
+mod feeding;
+#[cfg(test)]
+mod head_steps;
+#[cfg(test)]
+mod hostile;
+#[cfg(test)]
+mod limits;
+#[cfg(test)]
+mod misleading;
+#[cfg(test)]
+mod prices;
+#[cfg(test)]
+mod readings;
+#[cfg(test)]
+mod refusals;
+#[cfg(test)]
+mod verdicts;
+#[cfg(test)]
+mod weights;
