@@ -1,6 +1,7 @@
 //! What the program answers, by any of its public calls.
 use crate::cases::{Case, Wrong, number, word};
-use bridge_base::{MemShelf, MemSink};
+use crate::recorded::RecordedShelf;
+use bridge_base::MemSink;
 use bridge_run::{Status, bridge, check, decode, show, translate, verify};
 use std::alloc::Global;
 
@@ -9,7 +10,7 @@ pub(crate) fn answer(
     alloc: Global,
     case: &Case<'_>,
     words: &[String],
-    shelf: &mut MemShelf,
+    shelf: &mut RecordedShelf,
     out: &mut MemSink,
     note: &mut MemSink,
 ) -> Result<u8, Wrong> {
@@ -28,7 +29,7 @@ fn answer_of_a_module(
     case: &Case<'_>,
     by: &str,
     words: &[String],
-    shelf: &mut MemShelf,
+    shelf: &mut RecordedShelf,
     out: &mut MemSink,
     note: &mut MemSink,
 ) -> Result<u8, Wrong> {

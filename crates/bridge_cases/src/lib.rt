@@ -2,8 +2,9 @@
 //!
 //! - [`all_hold`] runs each test of a file, and tells of each case that comes out otherwise what came instead (`tests`; a case by
 //!   itself in `tries`).
-//! - What is said under a key stands in `cases`, joined texts in `parts`, the files on the shelf in `files`, the calls in `answers`,
-//!   and in `usual` what is usual in all files of tests, with the texts that all of them have.
+//! - What is said under a key stands in `cases`, joined texts in `parts`, the files on the shelf in `files`, a shelf that
+//!   tells which of them were begun in `recorded`, the calls in `answers`, and in `usual` what is usual in all files of tests, with
+//!   the texts that all of them have.
 //!
 //! A file has a table `usual` and tests; a test has a name, and cases, each a call of the program. What a case doesn't
 //! say its test says, what that doesn't say is as usual in the file, and else as usual in all files.
@@ -36,15 +37,17 @@
 //! What has to come:
 //! - `number`, that of the answer.
 //! - `out` and `note`, what standard output and standard error hold, as a text or a list of parts.
-//! - `begun`, `out` or `note`: that one holds less than this, but from its beginning.
+//! - `cut`, `out` or `note`: that one holds less than this, but from its beginning.
 //! - `unsaid`, `out` or `note`: that one may hold anything.
 //! - `out_calls`, how often standard output is called, where something is said of it.
+//! - `begun`, a list of the files that are begun, in order and each as often as it is, where something is said of them.
 #![tactic(auto)]
 
 mod answers;
 mod cases;
 mod files;
 mod parts;
+mod recorded;
 mod tests;
 mod tries;
 mod usual;

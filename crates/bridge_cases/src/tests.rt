@@ -51,9 +51,10 @@ const KEYS: &[&str] = &[
     "number",
     "out",
     "note",
-    "begun",
+    "cut",
     "unsaid",
     "out_calls",
+    "begun",
 ];
 
 // The same of a file that was read.

@@ -2,9 +2,12 @@
 ghost use Rattle.std.specs.Prelude.{◌<◌};
 
 use crate::answers::answer;
-use crate::cases::{Case, Wrong, items, listed, number, number_of, numbers, said, word, words_of};
+use crate::cases::{
+    Case, Wrong, items, listed, number, number_of, numbers, said, word, word_of, words_of,
+};
 use crate::files::files;
 use crate::parts::text_at;
+use crate::recorded::RecordedShelf;
 use bridge_base::{MemShelf, MemSink};
 use std::alloc::Global;
 use std::str;
@@ -71,7 +74,8 @@ fn holds_by(rt: &HostRuntime, case: &Case<'_>, words: &[Value], most: usize) -> 
 {
     let alloc = rt.alloc();
     let failing = numbers(alloc, case, "shelf_fails")?;
-    let mut shelf = MemShelf::new(files(alloc, case)?, most, failing);
+    let shelf = MemShelf::new(files(alloc, case)?, most, failing);
+    let mut shelf = RecordedShelf::new(alloc, shelf);
     let holds = holds_over(rt, case, words, &mut shelf);
     drop(shelf);
     holds
@@ -88,7 +92,7 @@ fn holds_over(
     rt: &HostRuntime,
     case: &Case<'_>,
     words: &[Value],
-    shelf: &mut MemShelf,
+    shelf: &mut RecordedShelf,
 ) -> Result<bool, Wrong> {
     let mut out = sink(rt.alloc(), case, "out_fails")?;
     let holds = holds_into(rt, case, words, shelf, &mut out);
@@ -101,7 +105,7 @@ fn holds_into(
     rt: &HostRuntime,
     case: &Case<'_>,
     words: &[Value],
-    shelf: &mut MemShelf,
+    shelf: &mut RecordedShelf,
     out: &mut MemSink,
 ) -> Result<bool, Wrong> {
     let mut note = sink(rt.alloc(), case, "note_fails")?;
@@ -115,31 +119,34 @@ fn holds_of(
     rt: &HostRuntime,
     case: &Case<'_>,
     words: &[Value],
-    shelf: &mut MemShelf,
+    shelf: &mut RecordedShelf,
     out: &mut MemSink,
     note: &mut MemSink,
 ) -> Result<bool, Wrong> {
     let words = words_of(rt.alloc(), words, "words")?;
     let answer = answer(rt.alloc(), case, &words, shelf, out, note);
     drop(words);
-    is_right(rt, case, answer?, out, note)
+    is_right(rt, case, answer?, shelf, out, note)
 }
 
-// Whether this number, and what the sinks hold, are what has to come. Else what came is told.
+// Whether this number, the files begun, and what the sinks hold, are what has to come. Else what came is told.
 fn is_right(
     rt: &HostRuntime,
     case: &Case<'_>,
     number: u8,
+    shelf: &RecordedShelf,
     out: &MemSink,
     note: &MemSink,
 ) -> Result<bool, Wrong> {
     let alloc = rt.alloc();
     let right = is_number(case, number)?
         && is_called(case, out.calls())?
+        && is_begun(case, shelf.begun())?
         && is_text(alloc, case, "out", out.contents())?
         && is_text(alloc, case, "note", note.contents())?;
     if !right {
         tell(rt, case, number, out, note)?;
+        tell_begun(rt, shelf.begun())?;
     }
     Ok(right)
 }
@@ -157,21 +164,43 @@ fn is_called(case: &Case<'_>, calls: u64) -> Result<bool, Wrong> {
     }
 }
 
+// Whether these files were begun, in order, if that is said.
+fn is_begun(case: &Case<'_>, came: Option<&[String]>) -> Result<bool, Wrong> {
+    match (said(case, "begun"), came) {
+        (None, _) => Ok(true),
+        (Some(_), None) => Ok(false),
+        (Some(said), Some(came)) => are_words(items(said, "begun")?, came, "begun"),
+    }
+}
+
+// Whether these values are these words, in order.
+fn are_words(values: &[Value], words: &[String], key: &'static str) -> Result<bool, Wrong> {
+    if values.len() != words.len() {
+        return Ok(false);
+    }
+    for (value, word) in values.iter().zip(words) {
+        if word_of(value, key)? != word.as_str() {
+            return Ok(false);
+        }
+    }
+    Ok(true)
+}
+
 // Whether standard output or standard error holds what it has to, where something is said of it.
 fn is_text(alloc: Global, case: &Case<'_>, key: &'static str, came: &[u8]) -> Result<bool, Wrong> {
     if word(case, "unsaid")? == key {
         return Ok(true);
     }
-    let begun = word(case, "begun")? == key;
+    let cut = word(case, "cut")? == key;
     let text = text_at(alloc, case, key)?;
-    let fits = fits(came, &text, begun);
+    let fits = fits(came, &text, cut);
     drop(text);
     Ok(fits)
 }
 
-// Whether this text came, or where it is only begun, less of it from its beginning.
-fn fits(came: &[u8], text: &[u8], begun: bool) -> bool {
-    if begun {
+// Whether this text came, or where it is cut, less of it from its beginning.
+fn fits(came: &[u8], text: &[u8], cut: bool) -> bool {
+    if cut {
         text.starts_with(came) && came.len() < text.len()
     } else {
         text == came
@@ -200,5 +229,28 @@ fn tell(
 fn tell_text(rt: &HostRuntime, device: &str, text: &[u8]) -> Result<(), Wrong> {
     let text = str::from_utf8(text).unwrap_or("bytes that are no text");
     println!(rt; "{device}:\n{text}")?;
+    Ok(())
+}
+
+// Tells which files were begun.
+fn tell_begun(rt: &HostRuntime, names: Option<&[String]>) -> Result<(), Wrong> {
+    match names {
+        Some(names) => tell_names(rt, names),
+        None => tell_no_names(rt),
+    }
+}
+
+// Tells these names of files that were begun.
+fn tell_names(rt: &HostRuntime, names: &[String]) -> Result<(), Wrong> {
+    println!(rt; "files begun:")?;
+    for name in names {
+        println!(rt; "{name}")?;
+    }
+    Ok(())
+}
+
+// Tells that the files that were begun are told no more.
+fn tell_no_names(rt: &HostRuntime) -> Result<(), Wrong> {
+    println!(rt; "files begun: told no more")?;
     Ok(())
 }

@@ -13,7 +13,7 @@ note_fails = []
 number = 0
 out = ""
 note = ""
-begun = ""
+cut = ""
 unsaid = ""
 
 [texts]

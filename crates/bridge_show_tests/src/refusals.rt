@@ -123,8 +123,9 @@ article.a = ["$reflexivity"]
 number = 3
 note = "read fault\n"
 case = [
-    { words = ["bridge", "show", "a"], shelf_fails = [2] },
-    { words = ["bridge", "show", "b"] },
+    { words = ["bridge", "show", "a", "b"], shelf_fails = [2], begun = ["a"] },
+    { words = ["bridge", "show", "b"], begun = ["b"] },
+    { words = ["bridge", "show", "a", "b"], begun = ["a", "b"] },
 ]
 
 [[test]]

@@ -5,6 +5,7 @@ const TESTS: &str = r#"
 [usual]
 words = ["bridge", "check", "a"]
 text.a = ["$prelude", "$lines"]
+begun = ["a"]
 # Two declarations of which the second is typed only where the first is unfolded; and the same with a theorem, which is never unfolded.
 texts.unfolded = '''
 def d : term bool := select bool (x : term bool => eq bool x x).
@@ -84,6 +85,13 @@ note = "declaration 0: over budget\n"
 [[test.case]]
 words = ["bridge", "check", "a", "--budget", "1"]
 text.a = ["$prelude", "$not_unfolded"]
+number = 8
+note = "declaration 0: over budget\n"
+
+# The lemmas with which each translation begins.
+[[test.case]]
+words = ["bridge", "check", "a", "--budget=50"]
+text.a = ["$prelude", "$lemmas"]
 number = 8
 note = "declaration 0: over budget\n"
 

@@ -5,6 +5,7 @@ const TESTS: &str = r#"
 [usual]
 words = ["bridge", "decode", "a"]
 text.a = ["$prelude", "$lines"]
+begun = ["a"]
 
 [[test]]
 name = "says_what_show_says"

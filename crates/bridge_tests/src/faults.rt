@@ -7,7 +7,7 @@ const TESTS: &str = r#"
 pieces = [4096]
 article.a = ["$reflexivity"]
 out = ["$prelude", "$lemmas"]
-begun = "out"
+cut = "out"
 
 [[test]]
 name = "answers_faults_of_the_shelf"
@@ -16,7 +16,9 @@ note = "read fault\n"
 case = [
     { words = ["bridge", "translate", "a"], shelf_fails = [2] },
     { words = ["bridge", "verify", "a"], shelf_fails = [2] },
-    { words = ["bridge", "check", "a"], article = {}, text.a = ["$prelude", "$lemmas"], shelf_fails = [1] },
+    { words = ["bridge", "translate", "a", "a"], shelf_fails = [2], begun = ["a"] },
+    { words = ["bridge", "verify", "a", "b"], shelf_fails = [2], begun = ["a"] },
+    { words = ["bridge", "check", "a"], article = {}, text.a = ["$prelude", "$lemmas"], shelf_fails = [1], begun = ["a"] },
     { words = ["bridge", "check", "a"], article = {}, text.a = ["$prelude", "$lemmas"], shelf_fails = [2] },
     { words = ["bridge", "decode", "a"], article = {}, text.a = ["$prelude", "$lemmas"], shelf_fails = [2] },
     { words = ["bridge", "translate", "b"], shelf_fails = [9] },

@@ -5,6 +5,7 @@ const TESTS: &str = r#"
 [usual]
 article.a = ["$reflexivity"]
 number = 2
+begun = []
 note = "usage: bridge verify FILE.. | translate FILE.. | check FILE [--budget N] | decode FILE | show FILE.. | trial N\n"
 
 [[test]]
@@ -15,6 +16,14 @@ case = [
     { words = ["bridge", "help"] },
     { words = ["bridge", "verify"] },
     { words = ["bridge", "trial", "0"] },
+    { words = ["bridge", "--help"] },
+    { words = ["bridge", "-h"] },
+    { words = ["bridge", "--version"] },
+    { words = ["bridge", "-V"] },
+    { words = ["bridge", "help", "check"] },
+    { words = ["bridge", "--budget=5", "check", "a"] },
+    { words = ["bridge", "--", "decode", "a"] },
+    { words = ["bridge", "veri", "a"] },
 ]
 
 [[test]]
@@ -30,6 +39,12 @@ case = [
     { words = ["bridge", "check"] },
     { words = ["bridge", "check", ""] },
     { words = ["bridge", "check", "a", "b"] },
+    { words = ["bridge", "verify", "a", "--help"] },
+    { words = ["bridge", "verify", "--budget=5", "a"] },
+    { words = ["bridge", "verify", "a", "--"] },
+    { words = ["bridge", "verify", "--", "a"] },
+    { words = ["bridge", "decode", "-"] },
+    { words = ["bridge", "trial", "1", "2"] },
 ]
 
 [[test]]
@@ -43,6 +58,11 @@ case = [
     { words = ["bridge", "check", "a", "--budget", "+5"] },
     { words = ["bridge", "check", "--budget", "18446744073709551616", "a"] },
     { words = ["bridge", "check", "--budget=5", "a", "--budget=5"] },
+    { words = ["bridge", "check", "--budget", "5", "a", "--budget", "5"] },
+    { words = ["bridge", "check", "--budget", "--budget=5", "a"] },
+    { words = ["bridge", "check", "a", "--budgets", "5"] },
+    { words = ["bridge", "check", "a", "--bud=5"] },
+    { words = ["bridge", "check", "a", "-b5"] },
 ]
 "#;
 

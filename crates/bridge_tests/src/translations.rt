@@ -39,6 +39,7 @@ name = "counts_a_file_that_is_named_twice"
 
 [[test.case]]
 words = ["bridge", "verify", "a", "a"]
+begun = ["a", "a"]
 out = ["$prelude", "$lemmas", "$theorems"]
 note = '''
 articles 2

@@ -14,11 +14,19 @@ note = "usage: bridge verify FILE.. | translate FILE.. | check FILE [--budget N]
 const RIGHT: &str = r#"
 [[test]]
 name = "right"
-case = [{ }, { out_calls = 0 }, { text.a = "$prelude" }, { unsaid = "out" }, { pieces = [1] }]
+case = [
+    { },
+    { out_calls = 0 },
+    { text.a = "$prelude" },
+    { unsaid = "out" },
+    { pieces = [1] },
+    { begun = [] },
+    { words = ["bridge", "decode", "a"], unsaid = "note", number = 3, begun = ["a"] },
+]
 "#;
 
 // And what doesn't hold.
-const WRONG: [&str; 22] = [
+const WRONG: [&str; 26] = [
     "",
     "test",
     "[test]",
@@ -33,9 +41,13 @@ const WRONG: [&str; 22] = [
     "[[test]]\ncase = [{ out = \"a\" }]",
     "[[test]]\ncase = [{ note = \"\" }]",
     "[[test]]\ncase = [{ note = \"$nothing\" }]",
-    "[[test]]\ncase = [{ begun = \"note\" }]",
-    "[[test]]\ncase = [{ begun = \"out\" }]",
+    "[[test]]\ncase = [{ cut = \"note\" }]",
+    "[[test]]\ncase = [{ cut = \"out\" }]",
     "[[test]]\ncase = [{ out_calls = 1 }]",
+    "[[test]]\ncase = [{ begun = \"a\" }]",
+    "[[test]]\ncase = [{ begun = [\"a\"] }]",
+    "[[test]]\ncase = [{ words = [\"bridge\", \"decode\", \"a\"], unsaid = \"note\", number = 3, begun = [] }]",
+    "[[test]]\ncase = [{ words = [\"bridge\", \"decode\", \"a\"], unsaid = \"note\", number = 3, begun = [\"b\"] }]",
     "[[test]]\ncase = [{ note_fails = [1] }]",
     "[[test]]\ncase = [{ pieces = [0] }]",
     "[[test]]\ncase = [{ pieces = [] }]",

@@ -10,11 +10,11 @@ article.b = ["$version", "-"]
 [[test]]
 name = "absent_file"
 case = [
-    { words = ["bridge", "translate", "c"], number = 3, note = "read fault\n" },
-    { words = ["bridge", "verify", "c"], number = 3, note = "read fault\n" },
-    { words = ["bridge", "translate", "a", "c"], number = 3, note = "read fault\n" },
-    { words = ["bridge", "verify", "a", "c"], number = 3, note = "read fault\n" },
-    { words = ["bridge", "verify", "b", "c"], number = 1, note = "article 1 line 3: BadLine (1)\n" },
+    { words = ["bridge", "translate", "c"], number = 3, note = "read fault\n", begun = ["c"] },
+    { words = ["bridge", "verify", "c"], number = 3, note = "read fault\n", begun = ["c"] },
+    { words = ["bridge", "translate", "a", "c"], number = 3, note = "read fault\n", begun = ["a", "c"] },
+    { words = ["bridge", "verify", "a", "c"], number = 3, note = "read fault\n", begun = ["a", "c"] },
+    { words = ["bridge", "verify", "b", "c"], number = 1, note = "article 1 line 3: BadLine (1)\n", begun = ["b"] },
 ]
 
 # A call for the prelude, and one for each declaration.
@@ -25,11 +25,11 @@ words = ["bridge", "translate", "a"]
 out = ["$prelude", "$lemmas", "$theorems"]
 case = [
     { out_calls = 5, note = "$counts" },
-    { out_fails = [1], begun = "out", number = 4, note = "write fault\n" },
-    { out_fails = [2], begun = "out", number = 4, note = "write fault\n" },
-    { out_fails = [3], begun = "out", number = 4, note = "write fault\n" },
-    { out_fails = [4], begun = "out", number = 4, note = "write fault\n" },
-    { out_fails = [5], begun = "out", number = 4, note = "write fault\n" },
+    { out_fails = [1], cut = "out", number = 4, note = "write fault\n" },
+    { out_fails = [2], cut = "out", number = 4, note = "write fault\n" },
+    { out_fails = [3], cut = "out", number = 4, note = "write fault\n" },
+    { out_fails = [4], cut = "out", number = 4, note = "write fault\n" },
+    { out_fails = [5], cut = "out", number = 4, note = "write fault\n" },
 ]
 texts.counts = '''
 articles 1
@@ -46,11 +46,11 @@ words = ["bridge", "verify", "a"]
 out = ["$prelude", "$lemmas", "$theorems"]
 case = [
     { out_calls = 5, note = "$counts" },
-    { out_fails = [1], begun = "out", number = 4, note = "write fault\n" },
-    { out_fails = [2], begun = "out", number = 4, note = "write fault\n" },
-    { out_fails = [3], begun = "out", number = 4, note = "write fault\n" },
-    { out_fails = [4], begun = "out", number = 4, note = "write fault\n" },
-    { out_fails = [5], begun = "out", number = 4, note = "write fault\n" },
+    { out_fails = [1], cut = "out", number = 4, note = "write fault\n" },
+    { out_fails = [2], cut = "out", number = 4, note = "write fault\n" },
+    { out_fails = [3], cut = "out", number = 4, note = "write fault\n" },
+    { out_fails = [4], cut = "out", number = 4, note = "write fault\n" },
+    { out_fails = [5], cut = "out", number = 4, note = "write fault\n" },
 ]
 texts.counts = '''
 articles 1
@@ -68,7 +68,7 @@ pieces = [4096]
 words = ["bridge", "verify", "a"]
 number = 4
 out = ["$prelude", "$lemmas", "$theorems"]
-begun = "note"
+cut = "note"
 note = '''
 articles 1
 assumptions 0

@@ -6,6 +6,7 @@ const TESTS: &str = r#"
 [usual]
 words = [["bridge", "translate", "a"], ["bridge", "verify", "a"]]
 number = 1
+begun = ["a"]
 texts.witness = '"r" 0 ref var varTerm appTerm "r" 0 ref var varTerm appTerm absTerm "g" 0 ref var varTerm appTerm axiom defineTypeOp'
 
 [[test]]
@@ -102,6 +103,7 @@ note = "article 1 line 70: BadTypeVars (18)\n"
 [[test]]
 name = "second_article_is_told"
 words = [["bridge", "translate", "a", "b"], ["bridge", "verify", "a", "b"]]
+begun = ["a", "b"]
 
 [[test.case]]
 article.a = ["$reflexivity"]

@@ -17,6 +17,7 @@ out = ["$prelude", "$lemmas", "$lines"]
 
 [[test]]
 name = "export_then_assumption"
+begun = ["a", "b"]
 texts.lines = '''
 (; bound 76225024 ;)
 thm T0 : proof (eq (arr bool bool) (v0 : term bool => v0) (v0 : term bool => v0)) := refl (arr bool bool) (v0 : term bool => v0).
@@ -41,6 +42,7 @@ case = [
 
 [[test]]
 name = "assumption_then_export"
+begun = ["b", "a"]
 texts.lines = '''
 A0 : v0 : term bool -> v1 : term bool -> v2 : proof v0 -> v3 : proof v1 -> proof (eq (arr bool bool) (v4 : term bool => v4) (v4 : term bool => v4)).
 (; bound 425259008 ;)
@@ -64,6 +66,7 @@ case = [
 
 [[test]]
 name = "file_named_twice"
+begun = ["a", "a"]
 article.a = ["$reflexivity"]
 texts.lines = '''
 (; bound 13144256 ;)
@@ -85,6 +88,7 @@ case = [
 
 [[test]]
 name = "weakened_sequent_named_twice"
+begun = ["a", "a"]
 article.a = ["$version", "$q", "nil cons", "$p", "axiom", "$q", "$r", "nil cons cons", "$p", "thm"]
 texts.lines = '''
 A0 : v0 : term bool -> v1 : term bool -> v2 : proof v0 -> proof v1.

@@ -5,6 +5,7 @@ const TESTS: &str = r#"
 [usual]
 article.a = []
 article.b = []
+begun = []
 
 [[test]]
 name = "trial_of_two_blocks"
