@@ -1,14 +1,14 @@
 #!/bin/sh
 # Megabytes a second of `write` into a file, on modules of 93 and 187 million bytes, by processor time, the peak memory, and the ratios of
-# the two, which are to be at most 2.5. Run `rt run` in crates/dk_write_bench first, which builds the program. On a machine of four
+# the two, which are to be at most 2.5. Run `rt run` in crates/bench first, which builds the program. On a machine of four
 # processors that was busy it gave: 0.49 and 1.01 seconds, 191 and 185 MB/s, 5 MiB each; ratio of time 2.06.
-cd "$(dirname "$0")/../crates/dk_write_bench" || exit 1
+cd "$(dirname "$0")/../crates/bench" || exit 1
 folder=$(mktemp -d)
 trap 'rm -r "$folder"' EXIT
 # Processor time in seconds and peak memory in KiB, of the quickest of five runs.
 quickest() {
     for _ in 1 2 3 4 5; do
-        { /usr/bin/time -f '%U %S %M' ./out/dk_write_bench "$1" "$2" >"$folder/text"; } 2>&1 | awk '{ print $1 + $2, $3 }'
+        { /usr/bin/time -f '%U %S %M' ./out/bench dk_write "$1" "$2" >"$folder/text"; } 2>&1 | awk '{ print $1 + $2, $3 }'
     done | sort -n | head -1
 }
 made=$(quickest 20000 0)

@@ -2,18 +2,18 @@
 # Steps of budget a second, and megabytes of module a second, of `check_decl` on the declarations of a generated run of 500
 # definitions and of one of 1,000, six declarations for each, and of 10,000 and 20,000, which take long enough to be told;
 # by processor time, less that of reading alone; the peak memory, and the ratios of the greater to the smaller, which are
-# to be at most 2.5. Run `rt run` in crates/kernel_bench first, which builds the program. On a machine with four processors,
+# to be at most 2.5. Run `rt run` in crates/bench first, which builds the program. On a machine with four processors,
 # one of them at work beside it, it gave: 0.04, 0.08, 0.88 and 2.00 seconds, 9.0, 9.0, 8.2 and 7.2 million steps a second,
 # 10.0, 10.1, 9.5 and 8.5 MB a second, 7, 14, 139 and 277 MiB; ratios of time 2.00 and 2.35, of memory 1.88 and 1.99.
-cd "$(dirname "$0")/../crates/kernel_bench" || exit 1
+cd "$(dirname "$0")/../crates/bench" || exit 1
 # Processor time in seconds and peak memory in KiB, of the quickest of five runs.
 quickest() {
     for _ in 1 2 3 4 5; do
-        { /usr/bin/time -f '%U %S %M' ./out/kernel_bench "$1" "$2" >/dev/null; } 2>&1 | awk '{ print $1 + $2, $3 }'
+        { /usr/bin/time -f '%U %S %M' ./out/bench lp_kernel "$1" "$2" >/dev/null; } 2>&1 | awk '{ print $1 + $2, $3 }'
     done | sort -n | head -1
 }
 figures() {
-    ./out/kernel_bench "$1" "$2" | sed 's/.*: \([0-9]*\), \([0-9]*\) steps/\1 \2/'
+    ./out/bench lp_kernel "$1" "$2" | sed 's/.*: \([0-9]*\), \([0-9]*\) steps/\1 \2/'
 }
 report() {
     echo "$(figures make "$1") $(figures check "$1") $(quickest read "$1") $(quickest check "$1")" | awk -v count="$1" '{

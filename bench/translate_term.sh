@@ -1,14 +1,14 @@
 #!/bin/sh
 # Time and peak memory of translating terms whose trees have one and two million distinct nodes, in terms of a thousand
 # applications each under a binder, with the making of the terms and without it; and the ratios of two million to one, each
-# of which is to be at most 2.5. Run `rt run` in crates/translate_bench first, which builds the program.
+# of which is to be at most 2.5. Run `rt run` in crates/bench first, which builds the program.
 # On a busy machine with four processors one run gave 1.41 and 3.43 seconds with the making, 0.91 and 2.23 without it, 308 and
 # 615 MiB; ratios 2.43, of translating alone 2.40, of memory 2.00.
-cd "$(dirname "$0")/../crates/translate_bench" || exit 1
+cd "$(dirname "$0")/../crates/bench" || exit 1
 # Processor time in seconds and peak memory in KiB, of the quickest of five runs.
 quickest() {
     for _ in 1 2 3 4 5; do
-        { /usr/bin/time -f '%U %S %M' ./out/translate_bench "$1" "$2" >/dev/null; } 2>&1 | awk '{ print $1 + $2, $3 }'
+        { /usr/bin/time -f '%U %S %M' ./out/bench translate_term "$1" "$2" >/dev/null; } 2>&1 | awk '{ print $1 + $2, $3 }'
     done | sort -n | head -1
 }
 one=$(quickest tm 1000)

@@ -1,0 +1,137 @@
+//! Makes a module and writes its text to standard output: `bench dk_write COUNT TIMES`, where each of COUNT definitions adds a line of
+//! some 600 bytes, and the text is written TIMES times. What writing takes is the time of a run less that of one with TIMES 0.
+
+ghost use Rattle.std.specs.Prelude.{◌≡◌, ◌<◌, ◌+◌, ◌++◌, length, IsFalse, IfOk, OnOk};
+ghost use Rattle.lp_spec.specs.Modules.{signature};
+ghost use Rattle.lp_spec.specs.ModuleOrder.{is_declared, IsOver};
+ghost use Rattle.lp_term.specs.Tables.{tree_at, Keeps};
+ghost use Rattle.holide_sig.specs.Modules.{declarations_of, IsHeld};
+ghost use Rattle.dk_write.specs.Shallow.{AreShallow};
+
+use bridge_base::{Failed, Memory, Sink, StdSink};
+use dk_write::write;
+use holide_sig::{Decl, Form, Ident, Module};
+use itoa::Buffer;
+use lp_term::{LpId, LpNode, LpTable};
+use std::alloc::Global;
+use std::io;
+
+// `arr bool` applied to the tree.
+fn deeper(table: &mut LpTable, tree: LpId) -> Result<LpId, Memory>
+    requires known { tree.0 < length table.old }
+    requires over { IsOver 13 (tree_at table.old tree.0) }
+    ensures known { IfOk result (λ id. id.0 < length table.new) }
+    ensures over { IfOk result (λ id. IsOver 13 (tree_at table.new id.0)) }
+    ensures keeps { Keeps table.old table.new }
+{
+    let bools = table.node(LpNode::Sym(1))?;
+    let arrow = table.node(LpNode::Sym(3))?;
+    let from_bools = table.node(LpNode::App(arrow, bools))?;
+    table.node(LpNode::App(from_bools, tree))
+}
+
+// `bool`, so many times deeper.
+fn nest(table: &mut LpTable, count: usize) -> Result<LpId, Memory>
+    ensures known { IfOk result (λ id. id.0 < length table.new) }
+    ensures over { IfOk result (λ id. IsOver 13 (tree_at table.new id.0)) }
+    ensures keeps { Keeps table.old table.new }
+{
+    let mut tree = table.node(LpNode::Sym(1))?;
+    for _ in 0..count {
+        tree = deeper(table, tree)?;
+    }
+    Ok(tree)
+}
+
+// The name of a number.
+fn named(alloc: Global, number: usize) -> Result<Vec<u8>, Memory> {
+    let mut buffer = Buffer::new();
+    let mut name = Vec::from_slice(alloc, b"def_")?;
+    name.extend_from_slice(buffer.format(number).as_bytes())?;
+    Ok(name)
+}
+
+// Defines a new name as such a tree.
+fn push_nest(alloc: Global, into: &mut Module, number: usize, depth: usize) -> Result<(), Memory>
+    requires held { IsHeld into.old }
+    requires shallow { AreShallow into.old.table into.old.decls }
+    ensures held { OnOk result (IsHeld into.new) }
+    ensures shallow { OnOk result (AreShallow into.new.table into.new.decls) }
+    ensures count { OnOk result (length into.new.decls ≡ length into.old.decls + 1) }
+{
+    let name = named(alloc, number)?;
+    let ty = into.table.node(LpNode::Sym(0))?;
+    let body = nest(&mut into.table, depth)?;
+    if into.find(&name).is_some() || into.table.depth(body) > 16_384 {
+        return Err(Memory);
+    }
+    let name = Ident::new(name);
+    let decl = Decl {
+        name,
+        form: Form::Def,
+        ty,
+        body: Some(body),
+    };
+    into.push(decl)
+}
+
+// A module of so many definitions.
+fn made(alloc: Global, count: usize) -> Result<Module, Memory>
+    ensures held { IfOk result IsHeld }
+    ensures shallow { IfOk result (λ m. AreShallow m.table m.decls) }
+    ensures count { IfOk result (λ m. length m.decls ≡ count) }
+{
+    let mut module = Module::new(alloc)?;
+    for number in 0..count {
+        push_nest(alloc, &mut module, number, 40)?;
+    }
+    Ok(module)
+}
+
+// Writes a module so many times.
+fn write_often<S: Sink>(
+    source: &Module,
+    bounds: &[u128],
+    times: u32,
+    sink: &mut S,
+) -> Result<(), Failed>
+    requires held { IsHeld source.now }
+    requires bounds { length bounds.now ≡ length source.now.decls }
+    requires shallow { AreShallow source.now.table source.now.decls }
+{
+    for _ in 0..times {
+        write(source, bounds, sink)?;
+    }
+    Ok(())
+}
+
+// So many bounds.
+fn bounds_of(alloc: Global, count: usize) -> Result<Vec<u128>, Memory>
+    ensures { IfOk result (λ bounds. length bounds.items ≡ count) }
+{
+    let mut bounds = Vec::new(alloc);
+    for _ in 0..count {
+        bounds.push(0)?;
+    }
+    Ok(bounds)
+}
+
+// Whether a module was made and written.
+fn run<S: Sink>(alloc: Global, count: usize, times: u32, sink: &mut S) -> Result<bool, Memory> {
+    let module = made(alloc, count)?;
+    let bounds = bounds_of(alloc, count)?;
+    Ok(write_often(&module, &bounds, times, sink).is_ok())
+}
+
+/// Writes a module of so many definitions so many times to standard output.
+pub(crate) fn timed(rt: &HostRuntime, count: &str, times: u32) -> io::Result<()> {
+    let Ok(count) = count.parse::<usize>() else {
+        return rt.println("COUNT is a number below 2^32");
+    };
+    let mut sink = StdSink::stdout(rt);
+    match run(rt.alloc(), count, times, &mut sink) {
+        Ok(true) => Ok(()),
+        Ok(false) => rt.println("write fault"),
+        Err(Memory) => rt.println("out of memory"),
+    }
+}
