@@ -1,0 +1,149 @@
+#!/usr/bin/env python3
+"""Lists that are made of the sources, so that nobody keeps them by hand.
+
+usage: docs/lists.py            writes docs/CRATES.md, of crates.txt and the first sentence of each root page
+       docs/lists.py --check    says what of the documents doesn't fit the sources (status 1 where something doesn't): docs/CRATES.md, the
+                                rows of docs/DEFINITIONS.md that name a file without that definition, crates without a row in
+                                docs/PROVED.md, and the numbers of crates in README.md and docs/SPEED.md
+       docs/lists.py NAME..     tells where a definition, a law or an item of this name stands
+"""
+import pathlib
+import re
+import sys
+
+TOP = pathlib.Path(__file__).resolve().parent.parent
+PAGE = TOP / "docs" / "CRATES.md"
+
+
+def crates():
+    """The headings of crates.txt, each with its crates and what they stand on."""
+    groups = []
+    for line in (TOP / "crates.txt").read_text(encoding="utf-8").splitlines():
+        if line.startswith("# "):
+            groups.append((line[2:].rstrip("."), []))
+        elif line:
+            name, _, below = line.partition(":")
+            groups[-1][1].append((name.split()[0], below.split()))
+    return [it for it in groups if it[1]]
+
+
+def first_sentence(crate):
+    for root in ("lib.rt", "main.rt"):
+        page = TOP / "crates" / crate / "src" / root
+        if page.exists():
+            break
+    words = []
+    for line in page.read_text(encoding="utf-8").splitlines():
+        if not line.startswith("//! "):
+            break
+        words.append(line[4:])
+    text = " ".join(words)
+    end = re.search(r"\.(?= [A-Z`]|$)", text)
+    text = text[: end.start()] if end else text
+    return text.replace("|", "\\|")
+
+
+def below(name, on):
+    """The crates, of the kit too, on which a crate stands."""
+    found = set()
+    for it in on.get(name, []):
+        found |= {it} | below(it, on)
+    return found
+
+
+def counts():
+    """All crates, and those of which the program is made."""
+    on = {name: direct for _, listed in crates() for name, direct in listed}
+    return set(on), (below("bridge_cli", on) | {"bridge_cli"}) & set(on)
+
+
+def page():
+    groups = crates()
+    on = {name: direct for _, listed in groups for name, direct in listed}
+    _, program = counts()
+    lines = [
+        "# Crates",
+        "",
+        "Made by docs/lists.py of crates.txt and the first sentence of each root page. What each crate proves stands in [PROVED.md](PROVED.md).",
+        "",
+        f"There are {len(on)} crates. The program is built and proved of {len(program)} of them, which are marked by a star. "
+        "\"Stands on\" names what comes next below: not what that stands on itself, and no crate of the kit.",
+    ]
+    for heading, listed in groups:
+        lines += ["", f"## {heading}", "", "| Crate | What it is | Stands on |", "|---|---|---|"]
+        for name, direct in listed:
+            own = [it for it in direct if it in on]
+            nearest = [it for it in own if not any(it in below(other, on) for other in own if other != it)]
+            star = "\\*" if name in program else ""
+            lines.append(f"| `{name}`{star} | {first_sentence(name)} | {', '.join(f'`{it}`' for it in nearest) or '-'} |")
+    return "\n".join(lines) + "\n"
+
+
+def where(name):
+    """The lines that define a name in specs/ and src/, or else those of a case or a field of this name."""
+    word = re.escape(name)
+    defined = {
+        ("specs", "*.antt"): re.compile(rf"^(pub )?(abbrev|record|data|macro) (pub )?{word}(?![\w-])|^{word} :"),
+        ("src", "*.rt"): re.compile(rf"^\s*(pub(\(crate\))? )?(fn|struct|enum|trait|const|type) {word}\b"),
+    }
+    within = {("specs", "*.antt"): re.compile(rf"^  (pub )?{word} :")}
+    for looked in (defined, within):
+        found = []
+        for (folder, ending), form in looked.items():
+            for file in sorted(TOP.glob(f"crates/*/{folder}/**/{ending}"), key=lambda it: ("_spec" not in str(it), str(it))):
+                before = ""
+                for number, line in enumerate(file.read_text(encoding="utf-8").splitlines(), 1):
+                    if form.search(line):
+                        is_said = before.strip().startswith(("--", "//"))
+                        found.append(f"{file.relative_to(TOP)}:{number}: {before.strip().lstrip('-/ ') if is_said else line.strip()}")
+                    before = line
+        if found:
+            return found
+    return [f"{name}: no definition of this name"]
+
+
+def unfitting():
+    """What the documents say and the sources don't."""
+    if not PAGE.exists() or PAGE.read_text(encoding="utf-8") != page():
+        yield "docs/CRATES.md isn't the list of crates.txt and the root pages: run docs/lists.py"
+    for line in (TOP / "docs" / "DEFINITIONS.md").read_text(encoding="utf-8").splitlines():
+        cells = re.split(r"(?<!\\)\|", line)
+        files = re.findall(r"`(crates/[^`]+)`", cells[2]) if line.startswith("| `") and len(cells) > 4 else []
+        text = ""
+        for file in files:
+            here = TOP / file
+            if not here.exists():
+                yield f"docs/DEFINITIONS.md: there is no {file}"
+            for it in here.rglob("*.*") if here.is_dir() else [here] * here.exists():
+                text += it.read_text(encoding="utf-8", errors="replace") if it.is_file() else ""
+        for name in re.findall(r"`([^`]+)`", cells[1]) if text else []:
+            if not re.search(rf"(?<![\w-]){re.escape(name)}(?![\w-])", text):
+                yield f"docs/DEFINITIONS.md: {name} isn't in {', '.join(files)}"
+    proved = (TOP / "docs" / "PROVED.md").read_text(encoding="utf-8")
+    all_crates, of_program = counts()
+    for name in all_crates:
+        if f"`{name}`" not in proved and not name.endswith("_tests"):
+            yield f"docs/PROVED.md has no row of {name}"
+    for file in ("README.md", "docs/SPEED.md"):
+        text = (TOP / file).read_text(encoding="utf-8")
+        for number in re.findall(r"(\d+) crates", text):
+            if int(number) not in (len(all_crates), len(of_program)):
+                yield f"{file} speaks of {number} crates: there are {len(all_crates)}, and the program is made of {len(of_program)}"
+
+
+def main(words):
+    if not words:
+        PAGE.write_text(page(), encoding="utf-8")
+    elif words == ["--check"]:
+        found = list(unfitting())
+        print("\n".join(found), end="\n" * bool(found))
+        sys.exit(bool(found))
+    elif words[0] in ("-h", "--help"):
+        print(__doc__.strip())
+    else:
+        for name in words:
+            print("\n".join(where(name)))
+
+
+if __name__ == "__main__":
+    main(sys.argv[1:])
