@@ -3,8 +3,8 @@
 # definitions and of one of 1,000, six declarations for each, and of 10,000 and 20,000, which take long enough to be told;
 # by processor time, less that of reading alone; the peak memory, and the ratios of the greater to the smaller, which are
 # to be at most 2.5. Run `rt run` in crates/bench first, which builds the program. On a machine with four processors,
-# one of them at work beside it, it gave: 0.04, 0.08, 0.88 and 2.00 seconds, 9.0, 9.0, 8.2 and 7.2 million steps a second,
-# 10.0, 10.1, 9.5 and 8.5 MB a second, 7, 14, 139 and 277 MiB; ratios of time 2.00 and 2.35, of memory 1.88 and 1.99.
+# three of them at work beside it, it gave: 0.01, 0.02, 0.18 and 0.32 seconds, 24, 24, 27 and 30 million steps a second,
+# 40, 40, 46 and 53 MB a second, 4, 7, 53 and 106 MiB; ratios of time 2.00 and 1.88, of memory 1.57 and 1.97.
 cd "$(dirname "$0")/../crates/bench" || exit 1
 # Processor time in seconds and peak memory in KiB, of the quickest of five runs.
 quickest() {
