@@ -3,8 +3,9 @@
 # definitions and of one of 1,000, six declarations for each, and of 10,000 and 20,000, which take long enough to be told;
 # by processor time, less that of reading alone; the peak memory, and the ratios of the greater to the smaller, which are
 # to be at most 2.5. Run `rt run` in crates/bench first, which builds the program. On a machine with four processors,
-# three of them at work beside it, it gave: 0.01, 0.02, 0.18 and 0.32 seconds, 24, 24, 27 and 30 million steps a second,
-# 40, 40, 46 and 53 MB a second, 4, 7, 53 and 106 MiB; ratios of time 2.00 and 1.88, of memory 1.57 and 1.97.
+# it gave in three runs: 0.01, 0.02, 0.18 to 0.25 and 0.32 to 0.66 seconds, 24, 24, 19 to 27 and 15 to 30 million steps a
+# second, 40, 40, 33 to 46 and 26 to 53 MB a second, 4, 7, 53 and 106 MiB; ratios of time 2.00 and 1.88 to 2.58, of memory
+# 1.6 and 1.97. The ratio over 2.5 came while a build was at work beside it.
 cd "$(dirname "$0")/../crates/bench" || exit 1
 # Processor time in seconds and peak memory in KiB, of the quickest of five runs.
 quickest() {
