@@ -52,11 +52,11 @@ use Rattle.article_spec.specs.State.{Object, State, Objects}
 use Rattle.article_spec.specs.State as object
 use Rattle.article_spec.specs.Operands.{as_name, as_names, as_term, as_theorem, as_constant_pairs, pop}
 use Rattle.article_spec.specs.Conditions.{demand, in_limits, typed}
-use Rattle.article_spec.specs.Changes.{with_stack, with_symbols, with_theorem}
+use Rattle.article_spec.specs.Changes.{with_stack, with_symbols, with_theorem, with_type_definition}
 use Rattle.article_spec.specs.Inference.{step_by}
 use Rattle.article_spec.specs.DefiningWords.{define_const, constant_objects, define_const_list, application_parts, predicate_fits, are_new_names, make_type, define_type, define_type_op}
 use Rattle.article_laws.specs.Soundness.{IsTermObject, IsObject, AreObjects, IsSound}
-use Rattle.article_laws.specs.SoundStates.{bound, passed, answered, demanded, found, restacked, AreTakenAfter, symbols-more, in_limits-All, sequent-within, theorem-sound, conclude-sound, at_step}
+use Rattle.article_laws.specs.SoundStates.{bound, passed, answered, demanded, found, restacked, AreTakenAfter, symbols-more, in_limits-All, sequent-within, theorem-sound, conclude-sound, at_step, definition-more}
 use Rattle.article_laws.specs.SoundOperands.{Anything, any-gives, term-gives, constant_pairs-gives, IsConstantPair, pop-gives}
 use Rattle.article_laws.specs.SoundInference.{sequent_at-IsSequent, typed-is, one_popped}
 
@@ -102,7 +102,7 @@ define_const-sound s t g e =
     let defining : IsDefining a.0 u.0.0 = record { typed = typed-is u.0.0 a.0 a.1; closed = demanded (is_closed u.0.0) NotClosed closed.0 closed.1; variables = demanded (has_type_variables_of a.0 u.0.0) ExtraTypeVars variables.0 variables.1 } in
     let s1 = with_symbols (with_stack s (object.constant n.0.0 ∷ n.0.1)) (defined d ∷ []) in
     let sound : IsSound s1 = symbols-more (defined d ∷ []) (with_stack s (object.constant n.0.0 ∷ n.0.1)) (restacked s (object.constant n.0.0 ∷ n.0.1) g (tt {0}, k.1))
-    (taking.Takes.constant (not-true (is_taken_constant symbols n.0.0) (demanded (not (is_taken_constant symbols n.0.0)) NameTaken new.0 new.1)) defining, h.0.taken, tt {0}) in
+    ((tt {0}, taking.Takes.constant (not-true (is_taken_constant symbols n.0.0) (demanded (not (is_taken_constant symbols n.0.0)) NameTaken new.0 new.1)) defining), h.0.taken, tt {0}) in
     conclude-sound s1 t _ sound
     (record {
       premises = [];
@@ -110,6 +110,7 @@ define_const-sound s t g e =
       rule = rule.Rule.define_const defining refl;
       defined = are-defined s.made (d ∷ []);
       parameters = subst (λ xs. TermTaken xs u.0.0) (sym (symbols_of-symbols s.made (defined d ∷ []))) (term-more symbols (defined d ∷ []) u.0.0 h.0.taken);
+      law = tt {0};
     }) refl variables.2
 
 -- an equation v = t that is typed and over what is taken
@@ -175,7 +176,7 @@ listed-taken d defining (p ∷ ps) m taken e new apart = go (d p.1) (defining p.
         let a = or_parts (is_taken_constant (symbols_of m) p.0) (list_any (is_taken_constant (symbols_of m)) (names_of ps)) new in
         let b = and_parts (not (is_in name_eq p.0 (names_of ps))) (no_repeats name_eq (names_of ps)) apart in
         let symbols : symbols_of (m ++ Made.symbol x ∷ []) ≡ symbols_of m ++ x ∷ [] = symbols_of-append m (Made.symbol x ∷ []) in (
-          taking.Takes.constant a.0 (f t refl),
+          (tt {0}, taking.Takes.constant a.0 (f t refl)),
           h t refl,
           later (m ++ Made.symbol x ∷ []) (λ v u k. subst (λ xs. TermTaken xs u) (sym symbols) (term-more (symbols_of m) (x ∷ []) u (taken v u k))) e
               (subst (λ xs. list_any (is_taken_constant xs) (names_of ps) ≡ false) (sym symbols) (all-still-new (symbols_of m) p.0 t (names_of ps) a.1 (not-true (is_in name_eq p.0 (names_of ps)) b.0))) b.1,
@@ -227,6 +228,7 @@ define_const_list-sound s t g e =
       defined = are-defined s.made ds;
       parameters = subst (λ xs. AllByRecursion (λ (q : Name × Variable). TypeTaken xs q.1.1) pairs) (sym (symbols_of-symbols s.made (map defined ds)))
           (All-weaker (IsConstantPair s.made) (λ q. TypeTaken (symbols ++ map defined ds) q.1.1) (λ q j. type-more symbols (map defined ds) q.1.1 j.1.0) pairs k.0);
+      law = tt {0};
     }) refl list.2
 
 -- defineTypeOp
@@ -274,24 +276,25 @@ make_type-sound s t names i c f u g l new fit alone is typed e =
     let application : TermTaken symbols (app f u) = subst (TermTaken symbols) is (said-taken s i g l).conclusion in
     let d = Definition.type_operator names c f in
     let stack = object.constant names.representation ∷ object.constant names.abstraction ∷ object.type_operator names.operator ∷ s.stack in
-    let s1 = with_symbols (with_stack s stack) (defined d ∷ []) in
-    let sound : IsSound s1 = symbols-more (defined d ∷ []) (with_stack s stack) (restacked s stack g (tt {0}, (tt {0}, (tt {0}, g.stack)))) (
-      taking.Takes.type_operator new (predicate-typed names c f one definition (sequent_at-IsSequent s i g l).conclusion) fit.closed fit.names,
-      (type_of-taken symbols u c application.1 typed, application.0),
-      tt {0},
-    ) in
+    let m = Made.type_definition names c f i in
+    let s1 = with_type_definition (with_stack s stack) names c f i in
+    let sound : IsSound s1 = definition-more (with_stack s stack) names c f i (restacked s stack g (tt {0}, (tt {0}, (tt {0}, g.stack))))
+    (record { one = one; at = at_step s.made i l; defines = definition; taken = taking.Takes.type_operator new (predicate-typed names c f one definition (sequent_at-IsSequent s i g l).conclusion) fit.closed fit.names })
+    (type_of-taken symbols u c application.1 typed, application.0) in
     let first = step_by by_rule.FirstLaw (i ∷ []) (Parameters.type_operator names) (first_law names c) in
     let second = step_by by_rule.SecondLaw (i ∷ []) (Parameters.type_operator names) (second_law names c f) in
-    let premise = premise-more s.made (map Made.symbol (defined d ∷ [])) i one (at_step s.made i l) in
-    let among : IsAmong (definitions_of s1.made) d = (are-defined s.made (d ∷ [])).0 in
+    let premise = premise-more s.made (m ∷ []) i one (at_step s.made i l) in
+    let made1 : IsAmong s1.made m = (all-second s.made (m ∷ [])).0 in
+    let among : IsAmong (definitions_of s1.made) d = subst (λ es. IsAmong es d) (sym (definitions_of-append s.made (m ∷ []))) (all-second (definitions_of s.made) (d ∷ [])).0 in
     let s2 = with_theorem s1 first in
     let sound2 : IsSound s2 = theorem-sound s1 first sound
-    (record { premises = one ∷ []; earlier = (premise, tt {0}); rule = rule.Rule.first_law definition refl; defined = used s1.made names c f u one.conclusion is typed among; parameters = tt {0} }) refl
+    (record { premises = one ∷ []; earlier = (premise, tt {0}); rule = rule.Rule.first_law definition refl; defined = used s1.made names c f u one.conclusion is typed among; parameters = tt {0}; law = record { c = c; f = f; number = i; among = made1; is = refl } }) refl
     (sequent-within (first_law names c) within.1.1.1.0) in
     let among2 : IsAmong (definitions_of s2.made) d = subst (λ es. IsAmong es d) (sym (definitions_of-append s1.made (Made.step first ∷ []))) (among-front (definitions_of s1.made) [] d among) in
+    let made2 : IsAmong s2.made m = among-front s1.made (Made.step first ∷ []) m made1 in
     answered (with_theorem s2 second) t limits.2
     (theorem-sound s2 second sound2
-    (record { premises = one ∷ []; earlier = (premise-more s1.made (Made.step first ∷ []) i one premise, tt {0}); rule = rule.Rule.second_law definition refl; defined = used s2.made names c f u one.conclusion is typed among2; parameters = tt {0} }) refl
+    (record { premises = one ∷ []; earlier = (premise-more s1.made (Made.step first ∷ []) i one premise, tt {0}); rule = rule.Rule.second_law definition refl; defined = used s2.made names c f u one.conclusion is typed among2; parameters = tt {0}; law = record { c = c; f = f; number = i; among = made2; is = refl } }) refl
     (sequent-within (second_law names c f) within.1.1.1.1.0))
 
 define_type-sound : (s t : State) (names : TypeNames) (i : ℕ) → IsSound s → i < length (steps_of s.made) → define_type s names i ≡ Ok t → IsSound t

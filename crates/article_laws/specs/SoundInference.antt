@@ -1,5 +1,5 @@
 -- The words that infer keep a state sound: each makes an instance of its rule.
-use Rattle.std.proofs.Common.{◌≡◌, ℕ, ◌<◌, List, [], ◌∷◌, length, true, Option, None, Some, Ok, refl, sym, ap, subst, ◌∙◌}
+use Rattle.std.proofs.Common.{◌≡◌, ℕ, ◌<◌, List, [], ◌∷◌, length, true, Option, None, Some, Ok, refl, sym, ap, subst, ◌∙◌, option_to_list, option_map}
 use Rattle.std.specs.Prelude.{not}
 use Rattle.std.specs.Option.{ok_or}
 use Rattle.std.specs.List.{AllByRecursion, IsAmong, list_all}
@@ -17,11 +17,11 @@ use Rattle.bridge_base.specs.declared.faults.Kind.TheVariants.{NotBool, NotEquat
 use Rattle.hol_spec.specs.Equations.{Equation, equation_parts}
 use Rattle.proof_laws.specs.EquationLaws.{equation_parts-is, equation-sides}
 use Rattle.hol_spec.specs.Taken.{TypeTaken, TermTaken, ParametersTaken}
-use Rattle.hol_spec.specs.Derivations.{definitions_used, infers}
+use Rattle.hol_spec.specs.Derivations.{definitions_used, infers, type_definition_in}
 use Rattle.hol_laws.specs.Members.{All-weaker}
 use Rattle.hol_spec.specs.Rules.{Parameters, derived, is_free_in, Rule, nothing, variable, substitution, joined, removed, abstraction}
 use Rattle.hol_spec.specs.Rules as rule
-use Rattle.hol_spec.specs.Proofs.{Step, symbols_of, steps_of, sequents_of, sequent_at, definitions_of, ArePremises}
+use Rattle.hol_spec.specs.Proofs.{Step, symbols_of, steps_of, sequents_of, sequent_at, definitions_of, ArePremises, Made, IsLawOfDefinition}
 use Rattle.proof_laws.specs.ProofGrowth.{All-get, proof-sequents}
 use Rattle.hol_spec.specs.declared.StepKind.TheVariants as by_rule
 use Rattle.article_spec.specs.State.{Object, State}
@@ -32,6 +32,9 @@ use Rattle.article_spec.specs.Inference.{refl_word, assume, eq_mp, abs_thm, app_
 use Rattle.article_laws.specs.Soundness.{IsTermObject, IsObject, IsSound}
 use Rattle.article_laws.specs.SoundStates.{bound, passed, demanded, found, list_all-All, restacked, conclude-sound, at_step}
 use Rattle.article_laws.specs.SoundOperands.{variable-gives, term-gives, theorem-gives, substitution-gives, IsStepNumber, IsVariableObject, IsTypePair, IsTermPair, pop-gives}
+use Rattle.hol_spec.specs.Definitions.{TypeNames, Definition}
+use Rattle.hol_spec.specs.declared.StepKind.{StepKind}
+use Rattle.hol_spec.specs.TypeDefinitions.{IsTypeDefinition}
 
 -- a theorem on the stack says a sequent
 pub sequent_at-IsSequent : (s : State) (i : ℕ) → IsSound s → i < length (steps_of s.made) → IsSequent (sequent_at s.made i)
@@ -58,6 +61,32 @@ pub record OnePopped (s : State) (i : ℕ) (below : List Object) : Type 0 where
 pub one_popped : (s : State) (stack : List Object) (r : ℕ × List Object) → AllByRecursion (IsObject s.made) stack → pop as_theorem stack ≡ Ok r → OnePopped s r.0 r.1
 one_popped s stack r h e = let k = pop-gives s.made as_theorem (IsStepNumber s.made) (theorem-gives s.made) stack r h e in record { step = k.0; rest = k.1 }
 
+-- what rests on no definition is no law of a type definition
+no_definition : (names : TypeNames) (c : HolType) (f : Term) (one : Sequent) → IsTypeDefinition names c f one → type_definition_in names one.conclusion ≡ [] → ⊥
+no_definition names c f one d u =
+    let e : option_to_list (option_map (λ b. Definition.type_operator names b f) (Some c)) ≡ [] =
+    ap (λ o. option_to_list (option_map (λ b. Definition.type_operator names b f) o)) (sym d.typed) ∙ ap (type_definition_in names) (sym d.holds) ∙ u in
+    absurd (cc)
+
+lawless : (before : List Made) (kind : StepKind) (ks : List ℕ) (ss : List Sequent) (p : Parameters) (s : Sequent) → Rule kind ss p s → definitions_used kind ss p ≡ [] → IsLawOfDefinition before kind ks p
+lawless before kind ks ss p s (rule.Rule.refl h e) u = tt
+lawless before kind ks ss p s (rule.Rule.assume h e) u = tt
+lawless before kind ks ss p s (rule.Rule.eq_mp e f i) u = tt
+lawless before kind ks ss p s (rule.Rule.abs_thm e f i) u = tt
+lawless before kind ks ss p s (rule.Rule.app_thm e f i) u = tt
+lawless before kind ks ss p s (rule.Rule.deduct_antisym e) u = tt
+lawless before kind ks ss p s (rule.Rule.beta_conv h e) u = tt
+lawless before kind ks ss p s (rule.Rule.sym e f) u = tt
+lawless before kind ks ss p s (rule.Rule.trans e f i) u = tt
+lawless before kind ks ss p s (rule.Rule.prove_hyp e) u = tt
+lawless before kind ks ss p s (rule.Rule.subst h e) u = tt
+lawless before kind ks ss p s (rule.Rule.recorded h) u = tt
+lawless before kind ks ss p s (rule.Rule.restate h w) u = tt
+lawless before kind ks ss p s (rule.Rule.define_const h e) u = tt
+lawless before kind ks ss p s (rule.Rule.define_const_list d l e) u = tt
+lawless before kind ks ss p s (rule.Rule.first_law {names = names} {c = c} {f = f} {one = one} d e) u = absurd (no_definition names c f one d u)
+lawless before kind ks ss p s (rule.Rule.second_law {names = names} {c = c} {f = f} {one = one} d e) u = absurd (no_definition names c f one d u)
+
 -- a state whose stack is what is left, and a step on one or two premises
 module _ (s t : State) (g : IsSound s) (rest : List Object) (left : AllByRecursion (IsObject s.made) rest) where
   left_over : IsSound (with_stack s rest)
@@ -67,13 +96,13 @@ module _ (s t : State) (g : IsSound s) (rest : List Object) (left : AllByRecursi
       → conclude (with_stack s rest) x ≡ Ok t → IsSound t
   on_none x inference none r u p e =
       conclude-sound (with_stack s rest) t x left_over
-      (record { premises = []; earlier = subst (λ ns. ArePremises (sequents_of s.made) ns []) (sym none) (tt {0}); rule = r; defined = subst (AllByRecursion (IsAmong (definitions_of s.made))) (sym u) (tt {0}); parameters = p }) inference e
+      (record { premises = []; earlier = subst (λ ns. ArePremises (sequents_of s.made) ns []) (sym none) (tt {0}); rule = r; defined = subst (AllByRecursion (IsAmong (definitions_of s.made))) (sym u) (tt {0}); parameters = p; law = lawless s.made x.kind x.premises _ x.parameters x.sequent r u }) inference e
 
   on_one : (x : Step) → infers x.kind ≡ true → (i : ℕ) → i < length (steps_of s.made) → x.premises ≡ i ∷ [] → Rule x.kind (sequent_at s.made i ∷ []) x.parameters x.sequent → definitions_used x.kind (sequent_at s.made i ∷ []) x.parameters ≡ []
       → ParametersTaken (symbols_of s.made) x.parameters → conclude (with_stack s rest) x ≡ Ok t → IsSound t
   on_one x inference i l one r u p e =
       conclude-sound (with_stack s rest) t x left_over
-      (record { premises = sequent_at s.made i ∷ []; earlier = subst (λ ns. ArePremises (sequents_of s.made) ns (sequent_at s.made i ∷ [])) (sym one) (at_step s.made i l, tt {0}); rule = r; defined = subst (AllByRecursion (IsAmong (definitions_of s.made))) (sym u) (tt {0}); parameters = p }) inference e
+      (record { premises = sequent_at s.made i ∷ []; earlier = subst (λ ns. ArePremises (sequents_of s.made) ns (sequent_at s.made i ∷ [])) (sym one) (at_step s.made i l, tt {0}); rule = r; defined = subst (AllByRecursion (IsAmong (definitions_of s.made))) (sym u) (tt {0}); parameters = p; law = lawless s.made x.kind x.premises _ x.parameters x.sequent r u }) inference e
 
   on_two : (x : Step) → infers x.kind ≡ true → (i j : ℕ) → i < length (steps_of s.made) → j < length (steps_of s.made) → x.premises ≡ i ∷ j ∷ [] → Rule x.kind (sequent_at s.made i ∷ sequent_at s.made j ∷ []) x.parameters x.sequent
       → definitions_used x.kind (sequent_at s.made i ∷ sequent_at s.made j ∷ []) x.parameters ≡ [] → ParametersTaken (symbols_of s.made) x.parameters → conclude (with_stack s rest) x ≡ Ok t → IsSound t
@@ -85,6 +114,7 @@ module _ (s t : State) (g : IsSound s) (rest : List Object) (left : AllByRecursi
         rule = r;
         defined = subst (AllByRecursion (IsAmong (definitions_of s.made))) (sym u) (tt {0});
         parameters = p;
+        law = lawless s.made x.kind x.premises _ x.parameters x.sequent r u;
       }) inference e
 
 pub refl-sound : (s t : State) → IsSound s → refl_word s ≡ Ok t → IsSound t

@@ -25,14 +25,14 @@ operator-new made n k = go (is_some (operator_arity (symbols_of made) n) || list
   where
     go : (b : Bool) → (is_some (operator_arity (symbols_of made) n) || list_any (is_input_operator n k) (symbols_of made)) ≡ b → AreTakenAfter made (cond b [] (input_operator n k ∷ []))
     go true e = tt
-    go false e = let h = or_parts _ _ e in (taking.Takes.input_operator h.0 h.1, tt {0}, tt {0})
+    go false e = let h = or_parts _ _ e in ((tt {0}, taking.Takes.input_operator h.0 h.1), tt {0}, tt {0})
 
 pub constant-new : (made : List Made) (n : Name) → AreTakenAfter made (new_constant (symbols_of made) n)
 constant-new made n = go (is_taken_constant (symbols_of made) n) refl
   where
     go : (b : Bool) → is_taken_constant (symbols_of made) n ≡ b → AreTakenAfter made (cond b [] (input_constant n ∷ []))
     go true e = tt
-    go false e = (taking.Takes.input_constant e, tt {0}, tt {0})
+    go false e = ((tt {0}, taking.Takes.input_constant e), tt {0}, tt {0})
 
 pub operator-used : (symbols : List Symbol) (n : Name) (k : ℕ) (x : Unit {0}) → arity_fits (operator_arity symbols n) k ≡ Ok x → OperatorTaken (symbols ++ new_operator symbols n k) n k
 operator-used symbols n k x e = by_arity (operator_arity symbols n) refl e

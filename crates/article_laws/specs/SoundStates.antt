@@ -18,6 +18,7 @@ use Rattle.article_spec.specs.Ascending.{Ascend}
 use Rattle.article_spec.specs.Results.{◌>>=◌, ◌>>◌}
 use Rattle.hol_spec.specs.Measures.{Measure, type_measure, term_measure, sequent_measure}
 use Rattle.hol_spec.specs.Symbols.{Symbol}
+use Rattle.hol_spec.specs.Definitions.{Definition, TypeNames}
 use Rattle.hol_spec.specs.Taking.{Takes}
 use Rattle.hol_spec.specs.Taken.{TypeTaken, TermTaken, TermsTaken, ParametersTaken, DefinitionTaken, SymbolTaken}
 use Rattle.proof_laws.specs.SymbolGrowth.{type-more, term-more}
@@ -25,13 +26,13 @@ use Rattle.hol_spec.specs.Rules.{Rule}
 use Rattle.proof_laws.specs.RuleTaken.{rule-taken}
 use Rattle.hol_spec.specs.Derivations.{definitions_used, infers}
 use Rattle.hol_laws.specs.Members.{All-weaker}
-use Rattle.hol_spec.specs.Proofs.{Made, Step, symbols_of, steps_of, sequents_of, sequent_at, definitions_of, ArePremises, IsMade, IsStep}
+use Rattle.hol_spec.specs.Proofs.{Made, Step, symbols_of, steps_of, sequents_of, sequent_at, definitions_of, ArePremises, IsLawOfDefinition, IsDefinedBy, IsPlain, IsMade, IsStep}
 use Rattle.hol_spec.specs.Proofs as made
 use Rattle.proof_laws.specs.ProofGrowth.{symbols_of-append, steps_of-append, All-among, premises-All, over-sequents, proof-definitions}
 use Rattle.hol_spec.specs.Over.{IsMadeOver}
 use Rattle.article_spec.specs.State.{Object, Objects, number, name, list, type_operator, type, constant, variable, term, theorem, none, more, State}
 use Rattle.article_spec.specs.Conditions.{demand, in_limits, type_in_limits, term_in_limits, sequent_in_limits}
-use Rattle.article_spec.specs.Changes.{with_stack, with_symbols, with_step, next_step, with_theorem, conclude}
+use Rattle.article_spec.specs.Changes.{with_stack, with_symbols, with_type_definition, with_step, next_step, with_theorem, conclude}
 use Rattle.article_laws.specs.Soundness.{IsObject, AreObjects, IsSound}
 use Rattle.article_spec.specs.SoundRuns.{assumed_from}
 
@@ -173,7 +174,7 @@ made-more s x assumptions g h k e = record {
 -- symbols, each new after those before it
 abbrev pub AreTakenAfter : List Made → List Symbol → Type 0
 AreTakenAfter made [] = Unit {0}
-AreTakenAfter made (x ∷ xs) = Takes (symbols_of made) x × SymbolTaken (symbols_of made) x × AreTakenAfter (made ++ Made.symbol x ∷ []) xs
+AreTakenAfter made (x ∷ xs) = (IsPlain x × Takes (symbols_of made) x) × SymbolTaken (symbols_of made) x × AreTakenAfter (made ++ Made.symbol x ∷ []) xs
 
 pub symbols-more : (xs : List Symbol) (s : State) → IsSound s → AreTakenAfter s.made xs → IsSound (with_symbols s xs)
 symbols-more [] s g h = subst (λ m. IsSound (record s { made = m })) (sym (append-nil s.made)) (record { proof = g.proof; over = g.over; stack = g.stack; dictionary = g.dictionary; exports = g.exports; assumptions = g.assumptions })
@@ -182,6 +183,12 @@ symbols-more (x ∷ xs) s g h =
     (symbols-more xs (record s { made = s.made ++ Made.symbol x ∷ [] })
     (made-more s (Made.symbol x) s.assumptions g h.0 h.1 (g.assumptions ∙ ap (assumed_from 0) (sym (steps_of-append s.made (Made.symbol x ∷ []) ∙ append-nil (steps_of s.made))))) h.2)
 
+-- a type operator is defined
+pub definition-more : (s : State) (names : TypeNames) (c : HolType) (f : Term) (i : ℕ) → IsSound s → IsDefinedBy s.made names c f i → SymbolTaken (symbols_of s.made) (Symbol.defined (Definition.type_operator names c f))
+    → IsSound (with_type_definition s names c f i)
+definition-more s names c f i g h k =
+    made-more s (Made.type_definition names c f i) s.assumptions g h k (g.assumptions ∙ ap (assumed_from 0) (sym (steps_of-append s.made (Made.type_definition names c f i ∷ []) ∙ append-nil (steps_of s.made))))
+
 -- what a step asks
 pub record IsNext (s : State) (x : Step) : Type 0 where
   pub premises : List Sequent
@@ -189,6 +196,7 @@ pub record IsNext (s : State) (x : Step) : Type 0 where
   pub rule : Rule x.kind premises x.parameters x.sequent
   pub defined : AllByRecursion (IsAmong (definitions_of s.made)) (definitions_used x.kind premises x.parameters)
   pub parameters : ParametersTaken (symbols_of s.made) x.parameters
+  pub law : IsLawOfDefinition s.made x.kind x.premises x.parameters
 
 pub step-more : (s : State) (x : Step) (assumptions : List ℕ) → IsSound s → IsNext s x → SequentWithin x.sequent → assumptions ≡ assumed_from 0 (steps_of s.made) ++ cond (infers x.kind) [] (next_step s ∷ []) → IsSound (record (with_step s x) { assumptions = assumptions })
 step-more s x assumptions g h within e =
@@ -196,7 +204,7 @@ step-more s x assumptions g h within e =
     let said = premises-All (TermsTaken symbols) (sequents_of s.made) (over-sequents s.made g.over) x.premises h.premises h.earlier in
     let used = All-weaker (IsAmong (definitions_of s.made)) (DefinitionTaken symbols) (All-among (DefinitionTaken symbols) (definitions_of s.made) (proof-definitions s.made g.proof)) (definitions_used x.kind h.premises x.parameters) h.defined in
     made-more s (Made.step x) assumptions g
-    (record { premises = h.premises; earlier = h.earlier; follows = record { rule = h.rule; defined = h.defined } })
+    (record { premises = h.premises; earlier = h.earlier; follows = record { rule = h.rule; defined = h.defined }; law = h.law })
     (record { parameters = h.parameters; sequent = rule-taken symbols x.kind h.premises x.parameters x.sequent h.rule said h.parameters used; within = within })
     (e ∙ sym (ap (assumed_from 0) (steps_of-append s.made (Made.step x ∷ [])) ∙ assumed-next (steps_of s.made) x))
 

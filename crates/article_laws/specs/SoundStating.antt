@@ -73,13 +73,13 @@ first-passes p xs ys i e = go (find p xs) refl e
 restated : (s : State) (i : ℕ) (sequent : Sequent) → IsSequent sequent → within (sequent_at s.made i) sequent ≡ true → TermsTaken (symbols_of s.made) sequent → IsNext s (restatement i sequent)
 restated s i sequent is w t =
     let l = early s.made i sequent is.conclusion w in
-    record { premises = sequent_at s.made i ∷ []; earlier = (at_step s.made i l, tt {0}); rule = rule.Rule.restate is w; defined = tt {0}; parameters = t }
+    record { premises = sequent_at s.made i ∷ []; earlier = (at_step s.made i l, tt {0}); rule = rule.Rule.restate is w; defined = tt {0}; parameters = t; law = tt {0} }
 
 met : (s t : State) (sequent : Sequent) (o : Option ℕ) → IsSound s → IsSequent sequent → TermsTaken (symbols_of s.made) sequent → ((i : ℕ) → o ≡ Some i → within (sequent_at s.made i) sequent ≡ true)
     → assume_or_meet s sequent o ≡ Ok t → IsSound t
 met s t sequent (Some i) g is taken f e = conclude-sound s t (restatement i sequent) g (restated s i sequent is (f i refl) taken) refl e
 met s t sequent None g is taken f e =
-    assume-sound s t _ g (record { premises = []; earlier = tt {0}; rule = rule.Rule.recorded is; defined = tt {0}; parameters = taken }) refl e
+    assume-sound s t _ g (record { premises = []; earlier = tt {0}; rule = rule.Rule.recorded is; defined = tt {0}; parameters = taken; law = tt {0} }) refl e
 
 pub axiom-sound : (s t : State) → IsSound s → axiom_word s ≡ Ok t → IsSound t
 axiom-sound s t g e =

@@ -2,7 +2,10 @@
 -- Source: the OpenTheory article file format, version 6, "The Virtual Machine".
 use Rattle.std.specs.Prelude.{ℕ, List, [], ◌∷◌, ◌++◌, map, length, Option, Result, Ok}
 use Rattle.std.specs.List.{find}
+use Rattle.hol_spec.specs.Types.{HolType}
+use Rattle.hol_spec.specs.Terms.{Term}
 use Rattle.hol_spec.specs.Sequents.{Sequent, same}
+use Rattle.hol_spec.specs.Definitions.{TypeNames}
 use Rattle.bridge_base.specs.declared.faults.Kind.{Kind}
 use Rattle.hol_spec.specs.Symbols.{Symbol}
 use Rattle.hol_spec.specs.Proofs.{Made, Step, steps_of, sequent_at}
@@ -17,6 +20,10 @@ with_stack s stack = record s { stack = stack }
 -- the state with these symbols taken
 abbrev pub with_symbols : State → List Symbol → State
 with_symbols s symbols = record s { made = s.made ++ map Made.symbol symbols }
+
+-- the state with a type operator and its two constants, defined by the predicate of what the step of this number says
+abbrev pub with_type_definition : State → TypeNames → HolType → Term → ℕ → State
+with_type_definition s names c f i = record s { made = s.made ++ Made.type_definition names c f i ∷ [] }
 
 -- the state with one step more, and the number that the step has
 abbrev pub with_step : State → Step → State

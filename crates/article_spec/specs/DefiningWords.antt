@@ -25,7 +25,7 @@ use Rattle.article_spec.specs.State.{Objects, list, type_operator, constant, non
 use Rattle.article_spec.specs.Results.{◌>>=◌, ◌>>◌}
 use Rattle.article_spec.specs.Operands.{as_name, as_names, as_term, as_theorem, as_constant_pairs, pop}
 use Rattle.article_spec.specs.Conditions.{demand, in_limits, typed}
-use Rattle.article_spec.specs.Changes.{with_stack, with_symbols, with_theorem, conclude}
+use Rattle.article_spec.specs.Changes.{with_stack, with_symbols, with_type_definition, with_theorem, conclude}
 use Rattle.article_spec.specs.Inference.{step_by}
 
 abbrev pub define_const : State → Result State Kind
@@ -80,7 +80,7 @@ make_type s names i c f = do
   in_limits (type_measure (new_type names) ∷ type_measure (abstraction_type names c) ∷ type_measure (representation_type names c)
       ∷ sequent_measure (first_law names c) ∷ sequent_measure (second_law names c f) ∷ [])
   let stack = constant names.representation ∷ constant names.abstraction ∷ type_operator names.operator ∷ s.stack
-  let taken = with_symbols (with_stack s stack) (defined (Definition.type_operator names c f) ∷ [])
+  let taken = with_type_definition (with_stack s stack) names c f i
   Ok (with_theorem (with_theorem taken (step_by by_rule.FirstLaw (i ∷ []) (rule.type_operator names) (first_law names c)))
       (step_by by_rule.SecondLaw (i ∷ []) (rule.type_operator names) (second_law names c f)))
 

@@ -19,11 +19,12 @@ pub record Headline (run : Accepted) : Type 0 where
   -- its text reads as it, and as no other module
   pub reads : Reads (module_text run) (image run)
   pub only : (m : List Declaration) → Reads (module_text run) m → m ≡ image run
-  -- it is well typed, leaves unproved only the run's assumptions and what is allowed, and its exports stand, in order, for the closed forms of the run's
+  -- it is well typed, leaves unproved only the run's inputs and assumptions, defines only what the run defined, and its exports stand, in order,
+  -- for the closed forms of the run's
   pub stands : Stands (image run) run
   -- the check of each declaration says yes within the bound that is printed before it, if it is a theorem
   pub within : (i : ℕ) (d : Declaration) → slice_get (image run) i ≡ Some d → EndsWithin (image run) (bound (image run) d) i (Found d.ty)
-  -- what the run made is a proof, in which no name is taken twice
+  -- what the run made is a proof, in which no name is taken twice, each type definition is made from an earlier step, and its laws from that step
   pub proof : IsProof run.made
   -- each export of the run derives from its assumptions and its definitions alone
   pub derived : AllByRecursion (IsDerived run) run.exports

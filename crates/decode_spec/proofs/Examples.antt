@@ -56,16 +56,16 @@ two_names = symbol (codes "i_x") (Pi types (term_of (Var 0))) ∷ symbol (codes 
 abbrev constant_x : ClosedTerm
 constant_x = ClosedTerm.constant (codes "x" ∷ []) closed_bool
 
-pub one_of_two : decode two_names (proof_of (Sym 14)) ≡ Some (closed_sequent 0 [] [] constant_x)
+pub one_of_two : decode two_names (proof_of (Sym 19)) ≡ Some (closed_sequent 0 [] [] constant_x)
 one_of_two = refl
 
-pub other_of_two : decode two_names (proof_of (App (Sym 13) bools)) ≡ Some (closed_sequent 0 [] [] constant_x)
+pub other_of_two : decode two_names (proof_of (App (Sym 18) bools)) ≡ Some (closed_sequent 0 [] [] constant_x)
 other_of_two = refl
 
 -- so two hypotheses become one
-pub become_one : decode two_names (Pi (proof_of (Sym 14)) (Pi (proof_of (App (Sym 13) bools)) (proof_of (Sym 14)))) ≡ None
+pub become_one : decode two_names (Pi (proof_of (Sym 19)) (Pi (proof_of (App (Sym 18) bools)) (proof_of (Sym 19)))) ≡ None
 become_one = refl
 
 -- a symbol named for a primitive constant stands for none
-pub primitive_input : decode two_names (proof_of (App (Sym 15) bools)) ≡ None
+pub primitive_input : decode two_names (proof_of (App (Sym 20) bools)) ≡ None
 primitive_input = refl

@@ -11,13 +11,15 @@ use Rattle.hol_spec.specs.Terms.{bound}
 use Rattle.hol_spec.specs.Sequents.{Sequent}
 use Rattle.hol_spec.specs.Limits.{greatest_depth, greatest_parameter_count, SequentWithin}
 use Rattle.hol_spec.specs.Definitions.{Definition}
+use Rattle.hol_spec.specs.NewTypes.{abstraction_type, representation_type}
+use Rattle.hol_spec.specs.TypeDefinitions.{IsTypeDefinition}
 use Rattle.hol_spec.specs.Symbols.{Symbol}
 use Rattle.hol_spec.specs.Rules.{Rule}
 use Rattle.hol_spec.specs.Proofs.{Made, Step, Accepted}
 use Rattle.hol_laws.specs.Members.{All-append, All-mapped, All-weaker}
 use Rattle.article_spec.specs.Run.{accepted, Run}
 use Rattle.module_spec.specs.Rows.{has_row}
-use Rattle.module_spec.specs.Items.{Content, Item, operator, constant, defined_constant, unproved, step, says, is_constant, generic_of, first_type, symbols_of}
+use Rattle.module_spec.specs.Items.{Content, Item, operator, constant, defined_constant, type_operator, type_abstraction, type_representation, unproved, step, says, is_constant, generic_of, first_type, symbols_of}
 use Rattle.module_spec.specs.Reach.{kept, renumbered_content, renumbered, symbol_of, image_items, keep_of}
 use Rattle.module_spec.specs.MadeItems.{contents_of, said_by, premise_at, content_by, proves_nothing, restated, sequents_at, shown_content, step_content, contents, numbered, Naming, items_after, items_of, roots_of}
 use Rattle.module_spec.specs.Image.{name_in}
@@ -35,6 +37,9 @@ abbrev pub ContentWithin : Content → Type 0
 ContentWithin (operator n k) = k ≤ greatest_depth
 ContentWithin (constant n a) = GenericWithin a
 ContentWithin (defined_constant n a t) = DefinitionWithin t
+ContentWithin (type_operator names c f j one) = (length names.variables ≤ greatest_depth) × SequentWithin one
+ContentWithin (type_abstraction names c f j one) = GenericWithin (abstraction_type names c) × SequentWithin one
+ContentWithin (type_representation names c f j one) = GenericWithin (representation_type names c) × SequentWithin one
 ContentWithin (unproved s) = SequentWithin s
 ContentWithin (step kind js premises given s) = AllByRecursion SequentWithin premises × SequentWithin s
 
@@ -46,6 +51,9 @@ says-within : (c : Content) (s : Sequent) → ContentWithin c → says c ≡ Som
 says-within (operator n k) s h e = absurd (cc)
 says-within (constant n a) s h e = absurd (cc)
 says-within (defined_constant n a t) s h e = absurd (cc)
+says-within (type_operator names c f j one) s h e = absurd (cc)
+says-within (type_abstraction names c f j one) s h e = absurd (cc)
+says-within (type_representation names c f j one) s h e = absurd (cc)
 says-within (unproved u) s h e = let f : u ≡ s = cc in subst SequentWithin f h
 says-within (step kind js premises given u) s h e = let f : u ≡ s = cc in subst SequentWithin f h.1
 
@@ -92,10 +100,11 @@ symbol-within : (x : Symbol) → SymbolWithin x → AllByRecursion ContentWithin
 symbol-within (Symbol.input_constant n) h = (generic-variable_within, tt {0})
 symbol-within (Symbol.input_operator n k) h = (h, tt {0})
 symbol-within (Symbol.defined (Definition.constant n t)) h = (h, tt {0})
-symbol-within (Symbol.defined (Definition.type_operator names c f)) h = (h.0, (h.1, (h.2, tt {0})))
+symbol-within (Symbol.defined (Definition.type_operator names c f)) h = tt
 
 contents-within : (before : List Item) (x : Made) → AreItemsWithin before → MadeWithin x → AllByRecursion ContentWithin (contents before x)
 contents-within before (Made.symbol x) h w = symbol-within x w
+contents-within before (Made.type_definition names c f i) h w = let one = premise-within before i h in ((w.0, one), ((w.1, one), ((w.2, one), tt {0})))
 contents-within before (Made.step x) h w = (step-within before x h w, tt {0})
 
 numbered-within : (named : Content → List ℕ) (i : ℕ) (cs : List Content) → AllByRecursion ContentWithin cs → AreItemsWithin (numbered named i cs)
@@ -114,6 +123,9 @@ renumbered-within : (number : ℕ → ℕ) (c : Content) → ContentWithin c →
 renumbered-within number (operator n k) h = h
 renumbered-within number (constant n a) h = h
 renumbered-within number (defined_constant n a t) h = h
+renumbered-within number (type_operator names c f j one) h = h
+renumbered-within number (type_abstraction names c f j one) h = h
+renumbered-within number (type_representation names c f j one) h = h
 renumbered-within number (unproved s) h = h
 renumbered-within number (step kind js premises given s) h = h
 
@@ -135,6 +147,9 @@ abbrev pub ContentFits : Content → Type 0
 ContentFits (operator n k) = k ≤ greatest_depth
 ContentFits (constant n a) = GenericWithin a
 ContentFits (defined_constant n a t) = GenericWithin a × DefinitionWithin t
+ContentFits (type_operator names c f j one) = (length names.variables ≤ greatest_depth) × IsTypeDefinition names c f one × SequentWithin one
+ContentFits (type_abstraction names c f j one) = GenericWithin (abstraction_type names c) × IsTypeDefinition names c f one × SequentWithin one
+ContentFits (type_representation names c f j one) = GenericWithin (representation_type names c) × IsTypeDefinition names c f one × SequentWithin one
 ContentFits (unproved s) = SequentWithin s
 ContentFits (step kind js premises given s) = Rule kind premises given s × AllByRecursion SequentWithin premises × SequentWithin s
 
@@ -145,6 +160,9 @@ content-fits : (before : List Item) (c : Content) → IsContent before c → Con
 content-fits before (operator n k) i h = h
 content-fits before (constant n a) i h = h
 content-fits before (defined_constant n a t) i h = (generic-within t a h i.typed, h)
+content-fits before (type_operator names c f j one) i h = (h.0, i.defines, h.1)
+content-fits before (type_abstraction names c f j one) i h = (h.0, i.0.defines, h.1)
+content-fits before (type_representation names c f j one) i h = (h.0, i.0.defines, h.1)
 content-fits before (unproved s) i h = h
 content-fits before (step kind js premises given s) i h = (i.0.rule, h.0, h.1)
 
@@ -178,6 +196,9 @@ first-few n (x ∷ xs) h = go (is_constant n x.content) (own x.content h.0) (fir
     own (operator m k) h = omega arith
     own (constant m a) h = h.variables
     own (defined_constant m a t) h = h.0.variables
+    own (type_operator names c f j one) h = omega arith
+    own (type_abstraction names c f j one) h = h.0.variables
+    own (type_representation names c f j one) h = h.0.variables
     own (unproved s) h = omega arith
     own (step kind js premises given s) h = omega arith
 

@@ -1,8 +1,8 @@
 -- Costs of the inferences of the signature and of the two lemmas at their arguments: a constant times the costs of the types and terms,
 -- beside those of the proofs.
 use Rattle.std.proofs.Common.{ℕ, ◌+◌, ◌*◌, ◌≤◌, List, [], ◌∷◌, arith}
-use Rattle.lp_spec.specs.Trees.{Tree, Sym}
-use Rattle.lp_spec.specs.Modules.{Declaration, applied, refl_of, fun_ext_symbol, app_thm_symbol, prop_ext_symbol, eq_mp_symbol}
+use Rattle.lp_spec.specs.Trees.{Tree, Var, Sym, size}
+use Rattle.lp_spec.specs.Modules.{Declaration, applied, refl_of, fun_ext_symbol, app_thm_symbol, prop_ext_symbol, eq_mp_symbol, sub_symbol, sub_abs_symbol, sub_rep_symbol, sub_abs_rep_symbol, sub_rep_abs_symbol}
 use Rattle.lp_spec.specs.Lemmas.{sym_lemma, trans_lemma}
 use Rattle.lp_shape.specs.Sizes.{size-lift}
 use Rattle.module_spec.specs.ProofTrees.{sym_symbol, trans_symbol}
@@ -52,6 +52,49 @@ module _ (m : List Declaration) (c : ℕ) where
       let x0 = size-lift 0 x in
       let y0 = size-lift 0 y in
       omega (arith, ha, hb, hf, hg, hx, hy, a0, b0, f0, g0, x0, y0)
+
+  -- a symbol of parts, where it stands at these arguments besides: the proof is written in the type of what it gives
+  abbrev pub IsPartBound : List Tree → ℕ → Type 0
+  IsPartBound args s = (a p w h : Tree) → cost m [] a ≤ c → cost m [] p ≤ c → cost m [] w ≤ c → cost m args (applied (Sym s) (a ∷ p ∷ w ∷ h ∷ [])) ≤ 60 * c + 300 + cost m [] h + 4 * size h
+
+  pub sub-cost : IsPartBound [] sub_symbol
+  sub-cost a p w h i j k =
+      let a0 = size-lift 0 a in
+      let p0 = size-lift 0 p in
+      let w0 = size-lift 0 w in
+      omega (arith, i, j, k, a0, p0, w0)
+
+  pub sub_abs-cost : IsPartBound [] sub_abs_symbol
+  sub_abs-cost a p w h i j k =
+      let a0 = size-lift 0 a in
+      let p0 = size-lift 0 p in
+      let w0 = size-lift 0 w in
+      let h0 = size-lift 0 h in
+      omega (arith, i, j, k, a0, p0, w0, h0)
+
+  pub sub_rep-cost : IsPartBound [] sub_rep_symbol
+  sub_rep-cost a p w h i j k =
+      let a0 = size-lift 0 a in
+      let p0 = size-lift 0 p in
+      let w0 = size-lift 0 w in
+      let h0 = size-lift 0 h in
+      omega (arith, i, j, k, a0, p0, w0, h0)
+
+  pub sub_abs_rep-cost : IsPartBound (Var 0 ∷ []) sub_abs_rep_symbol
+  sub_abs_rep-cost a p w h i j k =
+      let a0 = size-lift 0 a in
+      let p0 = size-lift 0 p in
+      let w0 = size-lift 0 w in
+      let h0 = size-lift 0 h in
+      omega (arith, i, j, k, a0, p0, w0, h0)
+
+  pub sub_rep_abs-cost : IsPartBound (Var 0 ∷ []) sub_rep_abs_symbol
+  sub_rep_abs-cost a p w h i j k =
+      let a0 = size-lift 0 a in
+      let p0 = size-lift 0 p in
+      let w0 = size-lift 0 w in
+      let h0 = size-lift 0 h in
+      omega (arith, i, j, k, a0, p0, w0, h0)
 
   pub sym-cost : HasLemmas m → (a x y h : Tree) → cost m [] a ≤ c → cost m [] x ≤ c → cost m [] y ≤ c → cost m [] (applied (Sym sym_symbol) (a ∷ x ∷ y ∷ h ∷ [])) ≤ 20 * c + 100 + cost m [] h
   sym-cost lemmas a x y h ha hx hy =

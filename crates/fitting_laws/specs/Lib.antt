@@ -6,6 +6,7 @@ pub mod HeadCosts
 pub mod ShallowRows
 pub mod ShallowRuns
 pub mod ShallowScopes
+pub mod SmallParts
 pub mod SmallPremises
 pub mod SmallProofs
 pub mod SmallRows

@@ -1,12 +1,17 @@
 -- Depths of sequents and of proofs: the telescope of a sequent, a theorem in a scope, and each row of the table of bodies.
-use Rattle.std.proofs.Common.{◌≡◌, ℕ, suc, ◌+◌, ◌*◌, ◌≤◌, List, [], ◌∷◌, ◌++◌, map, length, Bool, true, false, cond, refl, sym, ap, subst, arith}
+use Rattle.std.proofs.Common.{◌≡◌, ℕ, suc, ◌+◌, ◌*◌, ◌≤◌, List, [], ◌∷◌, ◌++◌, map, length, Bool, true, false, cond, refl, sym, ap, subst, ◌∙◌, arith}
 use Rattle.std.specs.List.{AllByRecursion}
 use Rattle.std.proofs.lemmas.List.{length-map, length-append}
 use Rattle.hol_spec.specs.Names.{Name}
 use Rattle.hol_spec.specs.Types.{HolType, operator, more}
 use Rattle.hol_spec.specs.Limits.{type_depth, term_depth, greatest_depth, SequentWithin}
 use Rattle.hol_spec.specs.Substitution.{TypePairs, image, substitute}
-use Rattle.hol_spec.specs.Terms.{Term, constant, app, lam, Variable, term_eq}
+use Rattle.hol_spec.specs.Primitives.{bool, function}
+use Rattle.hol_spec.specs.Definitions.{TypeNames}
+use Rattle.hol_spec.specs.NewTypes.{new_type}
+use Rattle.hol_spec.specs.TypeDefinitions.{IsTypeDefinition, abstracted, represented}
+use Rattle.hol_spec.specs.TypeDefinitions as type_definition
+use Rattle.hol_spec.specs.Terms.{Term, bound, constant, app, lam, Variable, term_eq, equation}
 use Rattle.hol_spec.specs.TermBinding.{put}
 use Rattle.hol_spec.specs.TermSubstitution.{TermPairs, term_image, sub, AreFitting}
 use Rattle.hol_spec.specs.DefinitionLists.{ConstantPairs, constants_put}
@@ -18,16 +23,16 @@ use Rattle.hol_spec.specs.declared.StepKind.{StepKind}
 use Rattle.hol_laws.specs.TermLaws.{term_eq-Decides}
 use Rattle.hol_laws.specs.Members.{All-weaker, All-append, All-mapped, All-left, All-right, All-each, All-at, IsIn-distinct}
 use Rattle.hol_laws.specs.TermInstances.{substitute-nothing}
-use Rattle.lp_spec.specs.Trees.{Tree, Sym, depth}
-use Rattle.lp_spec.specs.Modules.{types}
-use Rattle.module_spec.specs.Scopes.{Symbols, type_tree, Scope, term_tree, under_term, under_proof, under_types, set_proof, unfilled, term_domains, proof_domains, scope_of_types, scope_of_terms, scope_of, domains_of, conclusion_tree, theorem_tree, images}
-use Rattle.module_spec.specs.ProofTrees.{Premise, premise_tree, refl_tree, eq_mp_tree, fun_ext_tree, app_thm_tree, prop_ext_tree, sym_tree, trans_tree, prove_hyp_tree, subst_tree, self_proof, constants_scope, abs_tree}
+use Rattle.lp_spec.specs.Trees.{Tree, Var, Sym, App, Lam, depth}
+use Rattle.lp_spec.specs.Modules.{types, term_of, fun_ext_symbol, sub_abs_rep_symbol, sub_rep_abs_symbol}
+use Rattle.module_spec.specs.Scopes.{Symbols, type_tree, Scope, term_tree, lifted, under_term, under_proof, under_types, set_proof, unfilled, term_domains, proof_domains, scope_of_types, scope_of_terms, scope_of, domains_of, conclusion_tree, theorem_tree, images}
+use Rattle.module_spec.specs.ProofTrees.{Premise, premise_tree, refl_tree, eq_mp_tree, fun_ext_tree, app_thm_tree, prop_ext_tree, sym_tree, trans_tree, prove_hyp_tree, subst_tree, self_proof, constants_scope, abs_tree, predicate, witness, part_tree, law_tree, first_law_tree, second_law_tree}
 use Rattle.module_spec.specs.Rows.{type_or, equated_type, left_side, right_side, argument_type, result_type, of_one, of_two, proof_tree}
 use Rattle.module_laws.specs.BodyTyping.{IsIn-map}
 use Rattle.module_laws.specs.DefinitionsHeld.{type_or-is}
 use Rattle.fitting_laws.specs.Depths.{AreShallowTrees, applied-depth}
-use Rattle.fitting_laws.specs.ShallowScopes.{HasFewArguments, IsShallowScope, type_tree-depth, under_term-shallow, under_proof-shallow, under_types-shallow, under_terms-shallow, under_proofs-shallow, filled-shallow, term_tree-depth}
-use Rattle.fitting_laws.specs.TermMeasures.{AreShallowTerms, sequent-depth, free_variables-depth, type_images-depth, term_images_of-depth, constants_put-depth}
+use Rattle.fitting_laws.specs.ShallowScopes.{HasFewArguments, IsShallowScope, type_tree-depth, under_term-shallow, lifted-shallow, under_proof-shallow, under_types-shallow, under_terms-shallow, under_proofs-shallow, filled-shallow, term_tree-depth}
+use Rattle.fitting_laws.specs.TermMeasures.{AreShallowTerms, HasType-depth, sequent-depth, free_variables-depth, type_images-depth, term_images_of-depth, constants_put-depth}
 
 -- the trees of a term, of a type that is put in a substitution, of a premise and of the proof of a step are no deeper than this
 abbrev pub deepest_term : ℕ
@@ -54,6 +59,18 @@ right_side-depth t = omega arith
 equated_type-depth : (t : Term) → type_depth (equated_type t) ≤ term_depth t
 equated_type-depth (app (app (constant n (operator f (more a ts))) x) y) = omega arith
 equated_type-depth t = omega arith
+
+predicate-depth : (t : Term) → term_depth (predicate t) ≤ term_depth t
+predicate-depth (app f x) = omega arith
+predicate-depth t = omega arith
+
+witness-depth : (t : Term) → term_depth (witness t) ≤ term_depth t
+witness-depth (app f x) = omega arith
+witness-depth t = omega arith
+
+-- the type of the term in which a type definition's predicate holds
+pub part-type : (names : TypeNames) (c : HolType) (f : Term) (one : Sequent) → IsTypeDefinition names c f one → type_or (witness one.conclusion) ≡ c
+part-type names c f one d = ap (λ t. type_or (witness t)) d.holds ∙ type_or-is d.witness c d.typed
 
 argument_type-depth : (t : HolType) → type_depth (argument_type t) ≤ type_depth t
 argument_type-depth (operator n (more a ts)) = omega arith
@@ -86,6 +103,10 @@ theorem_tree-depth d scope k s l within h =
     let most = within.parameters in
     omega (arith, whole, one, two, three, four, five, most)
 
+-- a type definition's type
+pub part-shallow : (names : TypeNames) (c : HolType) (f : Term) (one : Sequent) → IsTypeDefinition names c f one → term_depth one.conclusion ≤ 1024 → type_depth c ≤ 3 * 1024
+part-shallow names c f one d l = let same = ap term_depth d.holds in HasType-depth 1024 d.witness c (omega (arith, same, l)) d.typed
+
 pub every : {A : Type 0} (P : A → Type 0) → ((x : A) → P x) → (xs : List A) → AllByRecursion P xs
 every P f [] = tt
 every P f (x ∷ xs) = (f x, every P f xs)
@@ -101,7 +122,7 @@ own_arguments scope h s within = record {
 premise-depth : (scope : Scope) → IsShallowScope scope → (p : Premise) → SequentWithin p.1 → depth (premise_tree scope p) ≤ deepest_premise
 premise-depth scope h p within = theorem_tree-depth deepest_argument scope p.0 p.1 (omega arith) within (own_arguments scope h p.1 within)
 
-conclusion-depth : (s : Sequent) → SequentWithin s → term_depth s.conclusion ≤ 1024
+pub conclusion-depth : (s : Sequent) → SequentWithin s → term_depth s.conclusion ≤ 1024
 conclusion-depth s h = (All-right (λ t. term_depth t ≤ greatest_depth) s.hypotheses (s.conclusion ∷ []) (sequent-depth s h)).0
 
 hypotheses-depth : (s : Sequent) → SequentWithin s → AreShallowTerms 1024 s.hypotheses
@@ -289,6 +310,58 @@ module _ (symbols : Symbols) (few : HasFewArguments symbols) where
         let d = premise-depth (under_proof p scope) (under_proof-shallow p scope h) two w in
         omega (arith, a, b, c, d)
 
+    -- a symbol of parts at a premise
+    pub part-depth : (i : ℕ) (c : HolType) (j : ℕ) (one : Sequent) → type_depth c ≤ 3 * 1024 → SequentWithin one → depth (part_tree symbols scope i c (j, one)) ≤ deepest_premise + 16
+    part-depth i c j one l w =
+        let a = ty-depth c 3072 l in
+        let own = conclusion-depth one w in
+        let f = tm-depth (predicate one.conclusion) (let k = predicate-depth one.conclusion in omega (arith, k, own)) in
+        let x = tm-depth (witness one.conclusion) (let k = witness-depth one.conclusion in omega (arith, k, own)) in
+        let p = premise-depth scope h (j, one) w in
+        omega (arith, a, f, x, p)
+
+  -- a law of a type definition
+  module _ (scope : Scope) (h : IsShallowScope scope) where
+    law-depth : (a b : HolType) (t u : Term) (i : ℕ) (c : HolType) (j : ℕ) (one : Sequent) → term_depth (lam a t) ≤ 1024 → type_depth b ≤ 1024 → term_depth (lam a u) ≤ 1024 → type_depth c ≤ 3 * 1024 → SequentWithin one
+        → depth (law_tree symbols scope a b t u i c (j, one)) ≤ deepest_proof
+    law-depth a b t u i c j one k l m n w =
+        let x = ty-depth scope h a 1024 (omega (arith, k)) in
+        let y = ty-depth scope h b 1024 l in
+        let f = tm-depth scope h (lam a t) k in
+        let g = tm-depth scope h (lam a u) m in
+        let p = part-depth (lifted scope) (lifted-shallow scope h) i c j one n w in
+        let A = type_tree symbols scope.types a in
+        let body : depth (Lam (term_of A) (App (part_tree symbols (lifted scope) i c (j, one)) (Var 0))) ≤ deepest_premise + 20 = body-depth A (part_tree symbols (lifted scope) i c (j, one)) (omega (arith, x)) p in
+        let whole = applied-depth (Sym fun_ext_symbol) (A ∷ type_tree symbols scope.types b ∷ term_tree symbols scope (lam a t) ∷ term_tree symbols scope (lam a u) ∷ Lam (term_of A) (App (part_tree symbols (lifted scope) i c (j, one)) (Var 0)) ∷ []) (deepest_premise + 20) (omega arith)
+        (omega (arith, x), (omega (arith, y), (omega (arith, f), (omega (arith, g), (body, tt {0}))))) in
+        omega (arith, whole)
+      where
+        body-depth : (A p : Tree) → depth A ≤ 1025 → depth p ≤ deepest_premise + 16 → depth (Lam (term_of A) (App p (Var 0))) ≤ deepest_premise + 20
+        body-depth A p x y = omega (arith, x, y)
+
+    first_law-depth : (names : TypeNames) (c : HolType) (f : Term) (one s : Sequent) (j : ℕ) → IsTypeDefinition names c f one → s ≡ type_definition.first_law names c → SequentWithin one → SequentWithin s
+        → depth (first_law_tree symbols scope names (type_or (witness one.conclusion)) (j, one)) ≤ deepest_proof
+    first_law-depth names c f one s j d e v w =
+        let own = conclusion-depth s w in
+        let is = ap (λ (x : Sequent). term_depth x.conclusion) e in
+        let deep = part-shallow names c f one d (conclusion-depth one v) in
+        subst (λ c. depth (first_law_tree symbols scope names c (j, one)) ≤ deepest_proof) (sym (part-type names c f one d))
+        (law-depth (new_type names) (new_type names) (abstracted names c (represented names c (bound 0))) (bound 0) sub_abs_rep_symbol c j one (omega (arith, own, is)) (omega (arith, own, is)) (omega (arith, own, is)) deep v)
+
+    sides-depth : (a : HolType) (x y : Term) → term_depth (equation a x y) ≤ 1024 → (term_depth x ≤ 1024) × (term_depth y ≤ 1024)
+    sides-depth a x y l = (omega (arith, l), omega (arith, l))
+
+    second_law-depth : (names : TypeNames) (c : HolType) (f : Term) (one s : Sequent) (j : ℕ) → IsTypeDefinition names c f one → s ≡ type_definition.second_law names c f → SequentWithin one → SequentWithin s
+        → depth (second_law_tree symbols scope names (type_or (witness one.conclusion)) (j, one)) ≤ deepest_proof
+    second_law-depth names c f one s j d e v w =
+        let own = conclusion-depth s w in
+        let is = ap (λ (x : Sequent). x.conclusion) e in
+        let sides = sides-depth (function c bool) (lam c (equation c (represented names c (abstracted names c (bound 0))) (bound 0))) (lam c (app f (bound 0))) (subst (λ t. term_depth t ≤ 1024) is own) in
+        let right = subst (λ p. term_depth (lam c (app p (bound 0))) ≤ 1024) (sym (ap predicate d.holds)) sides.1 in
+        let deep = part-shallow names c f one d (conclusion-depth one v) in
+        subst (λ c. depth (second_law_tree symbols scope names c (j, one)) ≤ deepest_proof) (sym (part-type names c f one d))
+        (law-depth c bool (equation c (represented names c (abstracted names c (bound 0))) (bound 0)) (app (predicate one.conclusion) (bound 0)) sub_rep_abs_symbol c j one sides.0 (omega arith) right deep v)
+
   of_one-depth : (d : ℕ) (row : Premise → Tree) (js : List ℕ) (one : Sequent) → 1 ≤ d → ((j : ℕ) → depth (row (j, one)) ≤ d) → depth (of_one row js (one ∷ [])) ≤ d
   of_one-depth d row [] one l f = l
   of_one-depth d row (j ∷ []) one l f = f j
@@ -381,5 +454,7 @@ module _ (symbols : Symbols) (few : HasFewArguments symbols) where
         refl-depth scope h (type_or t) t (omega (arith, c, is, same)) (omega (arith, c, is))
     proof_tree-depth kind js premises given s (rule.define_const_list {pairs = pairs} {one = one} d good e) p w =
         of_one-depth deepest_proof (λ one. premise_tree (constants_scope symbols scope (constants_put pairs)) one) js one (omega arith) (λ j. list-depth scope h pairs (j, one) p.0)
-    proof_tree-depth kind js premises given s (rule.first_law d e) p w = omega arith
-    proof_tree-depth kind js premises given s (rule.second_law d e) p w = omega arith
+    proof_tree-depth kind js premises given s (rule.first_law {names = names} {c = c} {f = f} {one = one} d e) p w =
+        of_one-depth deepest_proof (λ one. first_law_tree symbols scope names (type_or (witness one.1.conclusion)) one) js one (omega arith) (λ j. first_law-depth scope h names c f one s j d e p.0 w)
+    proof_tree-depth kind js premises given s (rule.second_law {names = names} {c = c} {f = f} {one = one} d e) p w =
+        of_one-depth deepest_proof (λ one. second_law_tree symbols scope names (type_or (witness one.1.conclusion)) one) js one (omega arith) (λ j. second_law-depth scope h names c f one s j d e p.0 w)

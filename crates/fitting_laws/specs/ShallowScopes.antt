@@ -12,7 +12,7 @@ use Rattle.hol_spec.specs.Substitution.{TypePairs, image, read_off, read_off_all
 use Rattle.hol_spec.specs.Terms.{Term, free, bound, constant, app, lam, Variable, variable_eq, term_eq}
 use Rattle.hol_laws.specs.Members.{All-weaker, All-append}
 use Rattle.lp_spec.specs.Trees.{Tree, Var, Sym, lift, depth}
-use Rattle.module_spec.specs.Scopes.{Symbols, operator_symbol, constant_symbol, generic_type, TypeScope, type_tree, type_trees, Scope, inside, constant_tree, term_tree, under_type, under_types, under_term, under_terms, under_proof, under_proofs, filler, filled}
+use Rattle.module_spec.specs.Scopes.{Symbols, operator_symbol, constant_symbol, generic_type, TypeScope, type_tree, type_trees, Scope, inside, constant_tree, term_tree, under_type, under_types, lifted, under_term, under_terms, under_proof, under_proofs, filler, filled}
 use Rattle.module_laws.specs.ScopeTyping.{length-type_trees}
 use Rattle.fitting_laws.specs.Depths.{AreShallowTrees, depth-lift, applied-depth}
 
@@ -120,6 +120,14 @@ pub under_term-shallow : (v : Variable) (scope : Scope) → IsShallowScope scope
 under_term-shallow v scope h = record {
   types = λ n. lift-depth 1 (scope.types n) (h.types n);
   terms = λ w. cond-depth (type_depth w.1 + 7) (variable_eq w v) (Var 0) (lift 1 (scope.terms w)) (omega arith) (lift-depth (type_depth w.1 + 7) (scope.terms w) (h.terms w));
+  proofs = λ g. lift-depth 1 (scope.proofs g) (h.proofs g);
+  bounds = λ k. lift-depth 1 (scope.bounds k) (h.bounds k);
+}
+
+pub lifted-shallow : (scope : Scope) → IsShallowScope scope → IsShallowScope (lifted scope)
+lifted-shallow scope h = record {
+  types = λ n. lift-depth 1 (scope.types n) (h.types n);
+  terms = λ w. lift-depth (type_depth w.1 + 7) (scope.terms w) (h.terms w);
   proofs = λ g. lift-depth 1 (scope.proofs g) (h.proofs g);
   bounds = λ k. lift-depth 1 (scope.bounds k) (h.bounds k);
 }

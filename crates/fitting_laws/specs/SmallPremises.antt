@@ -25,7 +25,7 @@ abbrev pub premise_cost : ℕ
 premise_cost = 3074 * part_cost
 
 abbrev pub row_cost : ℕ
-row_cost = 9000 * part_cost
+row_cost = 12000 * part_cost
 
 module _ (m : List Declaration) (symbols : Symbols) where
   -- a term, and a type, over the symbols and within the limits

@@ -41,6 +41,7 @@ use Rattle.fitting_laws.specs.SmallScopes.{IsPlainScope, type_tree-cost}
 use Rattle.fitting_laws.specs.SmallTheorems.{part_cost, total-map, theorem_tree-cost}
 use Rattle.fitting_laws.specs.HeadCosts.{refl_of-cost}
 use Rattle.fitting_laws.specs.SmallPremises.{row_cost, IsSmallTerm, IsSmallType, IsSmallPremise, conclusion-small, hypotheses-small, left_side-small, right_side-small, equated_type-small, argument_type-small, result_type-small, ty-cost, tm-cost}
+use Rattle.fitting_laws.specs.SmallParts.{first_law-cost, second_law-cost}
 use Rattle.fitting_laws.specs.SmallRows.{refl-cost, eq_mp_row-cost, app_thm_row-cost, sym_row-cost, trans_row-cost, fun_ext_row-cost, prop_ext_row-cost, prove_hyp_row-cost, restate_row-cost, subst_row-cost}
 
 -- a term in which constants over the symbols are put for variables
@@ -138,7 +139,7 @@ module _ (m : List Declaration) (lemmas : HasLemmas m) (symbols : Symbols) (scop
       record { over = parts.ty.1.0; size = omega (arith, own, same) }
 
   -- THE PROOF OF A STEP: by its rule, in a plain scope
-  pub proof_tree-cost : (kind : StepKind) (js : List ℕ) (premises : List Sequent) (given : Parameters) (s : Sequent) → Rule kind premises given s → ArePremises m symbols js premises → Defined m symbols kind premises given → SequentOver m symbols s
+  pub proof_tree-cost : (kind : StepKind) (js : List ℕ) (premises : List Sequent) (given : Parameters) (s : Sequent) → Rule kind premises given s → ArePremises m symbols js premises → Defined m symbols kind js premises given → SequentOver m symbols s
       → AllByRecursion SequentWithin premises → SequentWithin s → cost m [] (proof_tree symbols scope kind js premises given) ≤ row_cost
   proof_tree-cost kind js premises given s (rule.refl {t = t} {a = a} typed e) p d over ws w =
       let c = conclusion-small m symbols s over w in
@@ -215,5 +216,11 @@ module _ (m : List Declaration) (lemmas : HasLemmas m) (symbols : Symbols) (scop
       let n = one_premise m symbols js one p in
       subst (λ l. cost m [] (proof_tree symbols scope kinds.DefineConstList l (one ∷ []) (Parameters.constants pairs)) ≤ row_cost) (sym n.is)
       (list_row-cost pairs n.j one (record { is = n.first; within = ws.0 }) d.1)
-  proof_tree-cost kind js premises given s (rule.first_law t e) p d over ws w = let l = plain-cost m [] types Plain.nothing in omega (arith, l)
-  proof_tree-cost kind js premises given s (rule.second_law t e) p d over ws w = let l = plain-cost m [] types Plain.nothing in omega (arith, l)
+  proof_tree-cost kind js premises given s (rule.first_law {names = names} {c = c} {f = f} {one = one} t e) p d over ws w =
+      let n = one_premise m symbols js one p in
+      subst (λ l. cost m [] (proof_tree symbols scope kinds.FirstLaw l (one ∷ []) (Parameters.type_operator names)) ≤ row_cost) (sym n.is)
+      (first_law-cost m symbols names c f n.j one t (record { is = n.first; within = ws.0 }) scope h s e (conclusion-small m symbols s over w))
+  proof_tree-cost kind js premises given s (rule.second_law {names = names} {c = c} {f = f} {one = one} t e) p d over ws w =
+      let n = one_premise m symbols js one p in
+      subst (λ l. cost m [] (proof_tree symbols scope kinds.SecondLaw l (one ∷ []) (Parameters.type_operator names)) ≤ row_cost) (sym n.is)
+      (second_law-cost m symbols names c f n.j one t (record { is = n.first; within = ws.0 }) scope h s e (conclusion-small m symbols s over w))

@@ -10,23 +10,27 @@ use Rattle.hol_spec.specs.Types.{HolType, type_variables}
 use Rattle.hol_spec.specs.Limits.{type_size, greatest_size, SequentWithin}
 use Rattle.hol_spec.specs.Terms.{Term, Variable}
 use Rattle.hol_spec.specs.Sequents.{Sequent, type_variables_of, free_variables_of}
+use Rattle.hol_spec.specs.Definitions.{TypeNames}
+use Rattle.hol_spec.specs.NewTypes.{abstraction_type, representation_type}
+use Rattle.hol_spec.specs.TypeDefinitions.{IsTypeDefinition}
 use Rattle.hol_spec.specs.Proofs.{Accepted}
 use Rattle.hol_laws.specs.Members.{All-append, All-left, All-weaker}
 use Rattle.proof_laws.specs.ProofGrowth.{All-get}
 use Rattle.article_spec.specs.Run.{accepted, Run}
 use Rattle.lp_spec.specs.Trees.{size}
-use Rattle.lp_spec.specs.Modules.{Declaration, signature, symbol_declaration, types, term_of}
+use Rattle.lp_spec.specs.Modules.{Declaration, signature, symbol_declaration, types, term_of, sub_symbol, sub_abs_symbol, sub_rep_symbol}
 use Rattle.lp_spec.specs.Lemmas.{lemmas, sym_lemma, trans_lemma}
 use Rattle.lp_spec.specs.Weight.{weight, greatest, bound}
 use Rattle.lp_shape.specs.Check.{Found, Check}
 use Rattle.module_spec.specs.Scopes.{Symbols, type_tree, Scope, term_tree, under_term, under_proof, under_types, unfilled, filled, term_domains, proof_domains, scope_of_types, scope_of_terms, scope_of, domains_of, conclusion_tree, generic_tree}
+use Rattle.module_spec.specs.ProofTrees.{part_tree}
 use Rattle.module_spec.specs.Rows.{proof_tree}
-use Rattle.module_spec.specs.Items.{Content, Item, operator, constant, defined_constant, unproved, step, definition_tree, declaration_of, declaration, symbols_of}
+use Rattle.module_spec.specs.Items.{Content, Item, operator, constant, defined_constant, type_operator, type_abstraction, type_representation, unproved, step, definition_tree, part_definition_tree, declaration_of, declaration, symbols_of}
 use Rattle.module_spec.specs.Image.{name_in, image}
 use Rattle.module_laws.specs.ScopeTyping.{TypeOver, TermOver, TypeOver-type_under}
 use Rattle.module_laws.specs.SequentScope.{SequentOver, variables-over}
 use Rattle.module_laws.specs.Bodies.{HasLemmas}
-use Rattle.module_laws.specs.ItemConditions.{IsContent, AreItems}
+use Rattle.module_laws.specs.ItemConditions.{IsContent, AreItems, ArePremisesAmong}
 use Rattle.module_laws.specs.MadeModules.{items-made}
 use Rattle.module_laws.specs.ModuleTyping.{HoldsItem, Holds-append, TypeOver-taken, TermOver-taken, SequentOver-taken, ArePremises-among, defined_among, slice_get-last, content-holds}
 use Rattle.lp_shape.specs.PricedModules.{IsPriced-bound}
@@ -37,7 +41,9 @@ use Rattle.fitting_laws.specs.TermSizes.{free_variables-size}
 use Rattle.fitting_laws.specs.Costs.{Plain, cost, total, total-append, cost-products, cost-abstractions, plain-cost}
 use Rattle.fitting_laws.specs.SmallScopes.{IsPlainScope, under_term-plain, under_proof-plain, under_types-plain, under_terms-plain, filled-plain, scope_of_types-plain, scope_of-plain, type_tree-cost, term_tree-cost}
 use Rattle.fitting_laws.specs.SmallTheorems.{part_cost}
-use Rattle.fitting_laws.specs.SmallPremises.{IsSmallTerm, conclusion-small, hypotheses-small, tm-cost}
+use Rattle.fitting_laws.specs.HeadCosts.{IsPartBound, sub-cost, sub_abs-cost, sub_rep-cost}
+use Rattle.fitting_laws.specs.SmallParts.{named_part_cost, part_tree-cost}
+use Rattle.fitting_laws.specs.SmallPremises.{IsSmallTerm, IsSmallPremise, conclusion-small, hypotheses-small, tm-cost}
 use Rattle.fitting_laws.specs.SmallProofs.{proof_tree-cost}
 
 -- what a declaration weighs at most
@@ -117,8 +123,20 @@ module _ (m : List Declaration) (symbols : Symbols) where
       let most = h.variables in
       omega (arith, own, whole, front, size, most)
 
+  part_definition-cost : (ns : List Name) (i : ℕ) → IsPartBound m part_cost [] i → (names : TypeNames) (c : HolType) (f : Term) (j : ℕ) (one : Sequent) → length ns ≤ 1024 → IsTypeDefinition names c f one → IsSmallPremise m symbols j one
+      → cost m [] (part_definition_tree symbols ns i c j one) ≤ part_cost + named_part_cost
+  part_definition-cost ns i b names c f j one l d v =
+      let scope = filled symbols (under_types ns unfilled) in
+      let own = part_tree-cost m symbols names c f j one d v scope (filled-plain symbols (under_types ns unfilled) (λ n. under_types-plain symbols ns unfilled (λ k. Plain.truth) n)) [] i b in
+      let whole = cost-abstractions m (map (λ (n : Name). types) ns) (part_tree symbols scope i c (j, one)) in
+      let front = types-total m ns in
+      omega (arith, own, whole, front, l)
+
   -- THE DECLARATION OF AN ITEM
   module _ (has : HasLemmas m) (before : List Item) (holds : AllByRecursion (HoldsItem m symbols) before) where
+    premise-here : (j : ℕ) (one : Sequent) → ArePremisesAmong before (j ∷ []) (one ∷ []) → SequentWithin one → IsSmallPremise m symbols j one
+    premise-here j one a w = record { is = (ArePremises-among m symbols before holds (j ∷ []) (one ∷ []) a).0; within = w }
+
     content-weight : (name : List ℕ) (c : Content) → IsContent before c → ContentFits c → weight m (declaration_of symbols name c) ≤ greatest_weight
     content-weight name (operator n k) i h =
         let whole = cost-products m (replicate k types) types in
@@ -131,6 +149,21 @@ module _ (m : List Declaration) (symbols : Symbols) where
         let l = generic_tree-cost a (TypeOver-type_under m symbols [] (λ k b e. absurd (cc)) t a o i.typed) h.0 in
         let k = definition_tree-cost a t o h.0 h.1 in
         omega (arith, l, k)
+    content-weight name (type_operator names c f j one) i h =
+        let whole = cost-products m (replicate (length names.variables) types) types in
+        let front = replicate-total m (length names.variables) in
+        let last = plain-cost m [] types Plain.nothing in
+        let body = part_definition-cost names.variables sub_symbol (sub-cost m part_cost) names c f j one h.0 h.1 (premise-here j one i.among h.2) in
+        let few = h.0 in
+        omega (arith, whole, front, last, few, body)
+    content-weight name (type_abstraction names c f j one) i h =
+        let l = generic_tree-cost (abstraction_type names c) (TypeOver-taken m symbols before holds (abstraction_type names c) i.1) h.0 in
+        let body = part_definition-cost (type_variables (abstraction_type names c)) sub_abs_symbol (sub_abs-cost m part_cost) names c f j one h.0.variables h.1 (premise-here j one i.0.among h.2) in
+        omega (arith, l, body)
+    content-weight name (type_representation names c f j one) i h =
+        let l = generic_tree-cost (representation_type names c) (TypeOver-taken m symbols before holds (representation_type names c) i.1) h.0 in
+        let body = part_definition-cost (type_variables (representation_type names c)) sub_rep_symbol (sub_rep-cost m part_cost) names c f j one h.0.variables h.1 (premise-here j one i.0.among h.2) in
+        omega (arith, l, body)
     content-weight name (unproved s) i h =
         let over = SequentOver-taken m symbols before holds s i in
         let whole = cost-products m (domains_of symbols s) (conclusion_tree symbols s) in
@@ -142,7 +175,7 @@ module _ (m : List Declaration) (symbols : Symbols) where
         let front = domains-total s over h.2 in
         let last = conclusion-cost s over h.2 in
         let whole = cost-products m (domains_of symbols s) (conclusion_tree symbols s) in
-        let row = proof_tree-cost m has symbols (scope_of symbols s) (scope_of-plain symbols s) kind js premises given s h.0 (ArePremises-among m symbols before holds js premises i.0.among) (defined_among m symbols before holds kind premises given i.1) over h.1 h.2 in
+        let row = proof_tree-cost m has symbols (scope_of symbols s) (scope_of-plain symbols s) kind js premises given s h.0 (ArePremises-among m symbols before holds js premises i.0.among) (defined_among m symbols before holds kind js premises given i.1) over h.1 h.2 in
         let body = cost-abstractions m (domains_of symbols s) (proof_tree symbols (scope_of symbols s) kind js premises given) in
         omega (arith, whole, front, last, row, body)
 

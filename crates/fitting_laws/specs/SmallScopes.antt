@@ -17,7 +17,7 @@ use Rattle.lp_spec.specs.Trees.{Tree, Var, Sym, lift, size}
 use Rattle.lp_spec.specs.Substitution.{sub, cons}
 use Rattle.lp_spec.specs.Modules.{Declaration, applied, products, types, term_of, term_symbol}
 use Rattle.lp_shape.specs.Sizes.{size-lift}
-use Rattle.module_spec.specs.Scopes.{Symbols, operator_symbol, constant_symbol, generic_type, TypeScope, type_tree, type_trees, Scope, lifted_types, inside, constant_tree, term_tree, under_type, under_types, under_term, under_terms, under_proof, under_proofs, filler, unfilled, filled, scope_of_types, scope_of_terms, scope_of}
+use Rattle.module_spec.specs.Scopes.{Symbols, operator_symbol, constant_symbol, generic_type, TypeScope, type_tree, type_trees, Scope, lifted_types, inside, constant_tree, term_tree, under_type, under_types, lifted, under_term, under_terms, under_proof, under_proofs, filler, unfilled, filled, scope_of_types, scope_of_terms, scope_of}
 use Rattle.hol_spec.specs.Sequents.{Sequent, type_variables_of, free_variables_of}
 use Rattle.module_laws.specs.ScopeLaws.{through_types, type_tree-sub, type_tree-lift, type_tree-substitute}
 use Rattle.module_laws.specs.TermScopeLaws.{type_tree-agrees}
@@ -109,6 +109,14 @@ module _ (symbols : Symbols) where
   under_term-plain v scope h = record {
     types = λ n. plain-lift (scope.types n) (h.types n);
     terms = λ w. stands-cond symbols w (variable_eq w v) (Var 0) (lift 1 (scope.terms w)) entry (stands-lift symbols w (scope.terms w) (h.terms w));
+    proofs = λ g. plain-lift (scope.proofs g) (h.proofs g);
+    bounds = λ k. plain-lift (scope.bounds k) (h.bounds k);
+  }
+
+  pub lifted-plain : (scope : Scope) → IsPlainScope symbols scope → IsPlainScope symbols (lifted scope)
+  lifted-plain scope h = record {
+    types = λ n. plain-lift (scope.types n) (h.types n);
+    terms = λ w. stands-lift symbols w (scope.terms w) (h.terms w);
     proofs = λ g. plain-lift (scope.proofs g) (h.proofs g);
     bounds = λ k. plain-lift (scope.bounds k) (h.bounds k);
   }

@@ -38,6 +38,7 @@ SymbolWithin (Symbol.defined (Definition.type_operator names c f)) =
 
 abbrev pub MadeWithin : Made → Type 0
 MadeWithin (Made.symbol x) = SymbolWithin x
+MadeWithin (Made.type_definition names c f i) = SymbolWithin (Symbol.defined (Definition.type_operator names c f))
 MadeWithin (Made.step x) = SequentWithin x.sequent
 
 -- all of what was made

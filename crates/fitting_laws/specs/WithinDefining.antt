@@ -32,12 +32,12 @@ use Rattle.article_spec.specs.State.{Object, State}
 use Rattle.article_spec.specs.State as object
 use Rattle.article_spec.specs.Operands.{as_name, as_names, as_term, as_theorem, as_constant_pairs, pop}
 use Rattle.article_spec.specs.Conditions.{demand, in_limits, typed}
-use Rattle.article_spec.specs.Changes.{with_stack, with_symbols, with_theorem}
+use Rattle.article_spec.specs.Changes.{with_stack, with_symbols, with_type_definition, with_theorem}
 use Rattle.article_spec.specs.Inference.{step_by}
 use Rattle.article_spec.specs.DefiningWords.{define_const, constant_objects, define_const_list, application_parts, predicate_fits, are_new_names, make_type, define_type, define_type_op}
 use Rattle.article_laws.specs.SoundStates.{bound, passed, in_limits-All, sequent-within}
 use Rattle.fitting_laws.specs.SymbolLimits.{DefinitionWithin, GenericWithin, SymbolWithin, MadeWithin, AreWithin, IsPart, part-within, few-places}
-use Rattle.fitting_laws.specs.WithinStates.{answers, with_symbols-within, conclude-within, concluded}
+use Rattle.fitting_laws.specs.WithinStates.{answers, with_symbols-within, with_type_definition-within, conclude-within, concluded}
 use Rattle.fitting_laws.specs.WithinBuilding.{arguments-few}
 use Rattle.std.proofs.lemmas.Option.{same_Some}
 
@@ -76,6 +76,7 @@ define_const-within s t g e =
 sequents-within : (made : List Made) → AreWithin made → AllByRecursion SequentWithin (sequents_of made)
 sequents-within [] h = tt
 sequents-within (Made.symbol x ∷ made) h = sequents-within made h.1
+sequents-within (Made.type_definition names c f i ∷ made) h = sequents-within made h.1
 sequents-within (Made.step x ∷ made) h = (h.0, sequents-within made h.1)
 
 pub nothing-within : SequentWithin (record { hypotheses = []; conclusion = Term.bound 0 })
@@ -177,8 +178,7 @@ make_type-within s t names i c f g e =
     let limits = passed (in_limits measures) _ t e in
     let within = in_limits-All measures limits.0 limits.1 in
     let stack = object.constant names.representation ∷ object.constant names.abstraction ∷ object.type_operator names.operator ∷ s.stack in
-    let xs = defined (Definition.type_operator names c f) ∷ [] in
-    let u = with_symbols (with_stack s stack) xs in
+    let u = with_type_definition (with_stack s stack) names c f i in
     let first = step_by by_rule.FirstLaw (i ∷ []) (Parameters.type_operator names) (first_law names c) in
     let second = step_by by_rule.SecondLaw (i ∷ []) (Parameters.type_operator names) (second_law names c f) in
     let v = with_theorem u first in
@@ -187,7 +187,7 @@ make_type-within s t names i c f g e =
     let arguments = arguments-few names.operator (map variable names.variables) within.0.depth in
     let symbol : SymbolWithin (defined (Definition.type_operator names c f)) =
     (omega (arith, long, arguments), abstraction-within names c law within.1.0.size within.1.0.depth, representation-within names c law within.1.1.0.size within.1.1.0.depth) in
-    let one = All-append MadeWithin u.made (Made.step first ∷ []) (with_symbols-within (with_stack s stack) xs g (symbol, tt {0})) (law, tt {0}) in
+    let one = All-append MadeWithin u.made (Made.step first ∷ []) (with_type_definition-within (with_stack s stack) names c f i g symbol) (law, tt {0}) in
     answers (with_theorem v second) t limits.2 (All-append MadeWithin v.made (Made.step second ∷ []) one (sequent-within (second_law names c f) within.1.1.1.1.0, tt {0}))
 
 define_type-within : (s t : State) (names : TypeNames) (i : ℕ) → AreWithin s.made → define_type s names i ≡ Ok t → AreWithin t.made

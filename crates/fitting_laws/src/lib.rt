@@ -12,6 +12,7 @@
 //! | `Depths`, `ShallowScopes`, `ShallowRows`, `ShallowRuns` | depths of trees, of translated terms, of each row's proof, and of the module of a run |
 //! | `Costs`, `SmallScopes`, `SmallTheorems` | sizes with spreads: of trees, of translated terms, and of a theorem in a scope |
 //! | `HeadCosts`, `SmallPremises`, `SmallRows`, `SmallProofs` | of each inference at its arguments, and of each row's proof |
+//! | `SmallParts` | of what a type definition gives: a symbol of parts at its arguments, and the proofs of the two laws |
 //! | `SmallRuns` | no declaration of the module of a run weighs more than 2^40, and each is checked within its bound |
 #![tactic(auto)]
 

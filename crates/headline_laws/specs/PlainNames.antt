@@ -130,7 +130,7 @@ symbol_name-plain symbols c name h = go h (symbol_name-high symbols c name h).1
     go (IsSymbolName.an_input_operator n k is e w) low =
         plain-name 116 (numeral k ++ (codes "_" ++ mangled n)) name w refl (λ e. absurd (omega (arith, e))) (words-append (numeral k) (codes "_" ++ mangled n) (numeral-words k) (word-more 95 (mangled n) refl (mangled-words n is))) low
     go (IsSymbolName.a_constant n is e w) low = plain-name 99 (codes "_" ++ mangled n) name w refl (λ e. absurd (omega (arith, e))) (word-more 95 (mangled n) refl (mangled-words n is)) low
-    go (IsSymbolName.an_operator names a f is among e w) low = plain-name 111 (codes "_" ++ mangled names.operator) name w refl (λ e. absurd (omega (arith, e))) (word-more 95 (mangled names.operator) refl (mangled-words names.operator is)) low
+    go (IsSymbolName.an_operator names a f j one is among e w) low = plain-name 111 (codes "_" ++ mangled names.operator) name w refl (λ e. absurd (omega (arith, e))) (word-more 95 (mangled names.operator) refl (mangled-words names.operator is)) low
 
 lower : (a : ℕ) → a ≤ 57 → a ≤ 95
 lower a l = omega (arith, l)
@@ -160,6 +160,9 @@ declared-name symbols z = go z.content
     go (item.operator n k) = refl
     go (item.constant n a) = refl
     go (item.defined_constant n a t) = refl
+    go (item.type_operator names c u j one) = refl
+    go (item.type_abstraction names c u j one) = refl
+    go (item.type_representation names c u j one) = refl
     go (item.unproved s) = refl
     go (item.step kind js premises given s) = refl
 

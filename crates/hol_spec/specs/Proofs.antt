@@ -1,15 +1,18 @@
 -- A proof: the symbols that it took and the steps that it made, in order of making, each on what was made before it.
 -- Source: HOL Light's kernel.
 use Rattle.std.specs.Prelude.{ℕ, ◌≡◌, List, [], ◌∷◌, ◌++◌, Option, None, Some, map, slice_get, slice_index_or, if◌then◌else◌}
-use Rattle.std.specs.List.{filter_map}
-use Rattle.hol_spec.specs.Terms.{bound}
+use Rattle.std.specs.List.{filter_map, IsAmong}
+use Rattle.hol_spec.specs.Types.{HolType}
+use Rattle.hol_spec.specs.Terms.{Term, bound}
 use Rattle.hol_spec.specs.Sequents.{Sequent}
-use Rattle.hol_spec.specs.Definitions.{Definition}
+use Rattle.hol_spec.specs.Definitions.{Definition, TypeNames}
+use Rattle.hol_spec.specs.TypeDefinitions.{IsTypeDefinition}
 use Rattle.hol_spec.specs.Symbols.{Symbol}
 use Rattle.hol_spec.specs.Taking.{Takes}
-use Rattle.hol_spec.specs.Rules.{Parameters}
+use Rattle.hol_spec.specs.Rules.{Parameters, type_operator}
 use Rattle.hol_spec.specs.Derivations.{infers, Follows}
 use Rattle.hol_spec.specs.declared.StepKind.{StepKind}
+use Rattle.hol_spec.specs.declared.StepKind.TheVariants.{FirstLaw, SecondLaw}
 
 -- A step: the rule by which a sequent was made, the numbers of the steps that were its premises, and what else the rule was given.
 pub record Step : Type 0 where
@@ -19,15 +22,20 @@ pub record Step : Type 0 where
   pub sequent : Sequent
 
 pub data Made : Type 0 where
+  -- an input or a constant that is defined by a term
   symbol : Symbol → Made
+  -- a type operator with its two constants, defined by the predicate of what the step of this number says
+  type_definition : TypeNames → HolType → Term → ℕ → Made
   step : Step → Made
 
 abbrev pub made_symbol : Made → Option Symbol
 made_symbol (symbol x) = Some x
+made_symbol (type_definition names c f i) = Some (Symbol.defined (Definition.type_operator names c f))
 made_symbol (step x) = None
 
 abbrev pub made_step : Made → Option Step
 made_step (symbol x) = None
+made_step (type_definition names c f i) = None
 made_step (step x) = Some x
 
 abbrev pub symbols_of : List Made → List Symbol
@@ -67,15 +75,43 @@ ArePremises sequents (n ∷ ns) (s ∷ ss) = (slice_get sequents n ≡ Some s) �
 ArePremises sequents [] (s ∷ ss) = ⊥
 ArePremises sequents (n ∷ ns) [] = ⊥
 
+-- These premises are the one by which the type operator with these names was defined.
+pub record IsOfDefinition (before : List Made) (names : TypeNames) (premises : List ℕ) : Type 0 where
+  pub c : HolType
+  pub f : Term
+  pub number : ℕ
+  pub among : IsAmong before (type_definition names c f number)
+  pub is : premises ≡ number ∷ []
+
+-- The laws of a type operator are made from the theorem by which it was defined.
+abbrev pub IsLawOfDefinition : List Made → StepKind → List ℕ → Parameters → Type 0
+IsLawOfDefinition before FirstLaw premises (type_operator names) = IsOfDefinition before names premises
+IsLawOfDefinition before SecondLaw premises (type_operator names) = IsOfDefinition before names premises
+IsLawOfDefinition before kind premises parameters = Unit {0}
+
 -- A step follows from what was made before it.
 pub record IsStep (before : List Made) (x : Step) : Type 0 where
   pub premises : List Sequent
   pub earlier : ArePremises (sequents_of before) x.premises premises
   pub follows : Follows (definitions_of before) x.kind premises x.parameters x.sequent
+  pub law : IsLawOfDefinition before x.kind x.premises x.parameters
+
+-- The predicate of what a step says defines a type operator.
+pub record IsDefinedBy (before : List Made) (names : TypeNames) (c : HolType) (f : Term) (i : ℕ) : Type 0 where
+  pub one : Sequent
+  pub at : slice_get (sequents_of before) i ≡ Some one
+  pub defines : IsTypeDefinition names c f one
+  pub taken : Takes (symbols_of before) (Symbol.defined (Definition.type_operator names c f))
+
+-- An input, or a constant's definition.
+abbrev pub IsPlain : Symbol → Type 0
+IsPlain (Symbol.defined (Definition.type_operator names c f)) = ⊥
+IsPlain x = Unit {0}
 
 -- What is made on what was made before it.
 abbrev pub IsMade : List Made → Made → Type 0
-IsMade before (symbol x) = Takes (symbols_of before) x
+IsMade before (symbol x) = IsPlain x × Takes (symbols_of before) x
+IsMade before (type_definition names c f i) = IsDefinedBy before names c f i
 IsMade before (step x) = IsStep before x
 
 -- Where each thing that was made has a property on what was made before it.

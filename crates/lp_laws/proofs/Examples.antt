@@ -16,7 +16,7 @@ y_alone = record { name = codes "y"; form = Def; ty = types; body = Some bools }
 
 -- its symbol
 abbrev y : Tree
-y = Sym 13
+y = Sym 18
 
 -- the module is well typed
 y_alone_typed : WellTyped y_alone

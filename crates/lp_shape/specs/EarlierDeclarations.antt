@@ -362,12 +362,12 @@ declared-settled before (d ∷ ds) h a =
     (declared-settled (before ++ d ∷ []) ds (AreSettled-more (length before) (length (before ++ d ∷ [])) more (before ++ d ∷ []) both) a.1)
 
 -- the signature is settled
-settled : (name : List ℕ) (A : Tree) → loose A ≡ 0 → symbols A ≤ 13 → IsSettled 13 (symbol name A)
+settled : (name : List ℕ) (A : Tree) → loose A ≡ 0 → symbols A ≤ 18 → IsSettled 18 (symbol name A)
 settled name A c k = record { closed = c; known = k; definition = λ t e. absurd (cc) }
 
 signature-settled : AllByRecursion (IsSettled (length signature)) signature
 signature-settled =
-    (settled _ _ refl (omega arith), (settled _ _ refl (omega arith), (settled _ _ refl (omega arith), (settled _ _ refl (omega arith), (settled _ _ refl (omega arith), (settled _ _ refl (omega arith), (settled _ _ refl (omega arith), (settled _ _ refl (omega arith), (settled _ _ refl (omega arith), (settled _ _ refl (omega arith), (settled _ _ refl (omega arith), (settled _ _ refl (omega arith), (settled _ _ refl (omega arith), tt)))))))))))))
+    (settled _ _ refl (omega arith), (settled _ _ refl (omega arith), (settled _ _ refl (omega arith), (settled _ _ refl (omega arith), (settled _ _ refl (omega arith), (settled _ _ refl (omega arith), (settled _ _ refl (omega arith), (settled _ _ refl (omega arith), (settled _ _ refl (omega arith), (settled _ _ refl (omega arith), (settled _ _ refl (omega arith), (settled _ _ refl (omega arith), (settled _ _ refl (omega arith), (settled _ _ refl (omega arith), (settled _ _ refl (omega arith), (settled _ _ refl (omega arith), (settled _ _ refl (omega arith), (settled _ _ refl (omega arith), tt))))))))))))))))))
 
 -- a module is over its own symbols
 pub IsModule-IsSelfContained : (m : List Declaration) → IsModule m → IsSelfContained m

@@ -10,12 +10,14 @@ pub mod Found
 pub mod HeadStepLaws
 pub mod HeadSteps
 pub mod LawPrice
+pub mod LawSpreads
 pub mod PlanLaws
 pub mod PricedModules
 pub mod ProofPrice
 pub mod ShapeStatements
 pub mod Shaped
 pub mod ShapedCalls
+pub mod ShapedParts
 pub mod ShapedPasses
 pub mod ShapedRows
 pub mod SizedTerms

@@ -15,7 +15,7 @@ abbrev reflexivity : Declaration
 reflexivity = theorem (codes "T0") (term_of bools ∷ []) (proof_of (eq_of bools (Var 0) (Var 0))) (refl_of bools (Var 0))
 
 abbrev export : Declaration
-export = theorem (codes "E0") (term_of bools ∷ []) (proof_of (eq_of bools (Var 0) (Var 0))) (App (Sym 15) (Var 0))
+export = theorem (codes "E0") (term_of bools ∷ []) (proof_of (eq_of bools (Var 0) (Var 0))) (App (Sym 20) (Var 0))
 
 abbrev smallest : List Declaration
 smallest = sym_lemma ∷ trans_lemma ∷ reflexivity ∷ export ∷ []
@@ -65,9 +65,9 @@ over count t closed kindless known = record { closed = closed; kindless = kindle
 
 lemmas_module : IsModule lemmas
 lemmas_module = (
-  record { new_name = refl; ty = over 13 sym_lemma.ty refl refl (omega arith); body = over 13 (body_of sym_lemma) refl refl (omega arith) },
+  record { new_name = refl; ty = over 18 sym_lemma.ty refl refl (omega arith); body = over 18 (body_of sym_lemma) refl refl (omega arith) },
   (
-    record { new_name = refl; ty = over 14 trans_lemma.ty refl refl (omega arith); body = over 14 (body_of trans_lemma) refl refl (omega arith) },
+    record { new_name = refl; ty = over 19 trans_lemma.ty refl refl (omega arith); body = over 19 (body_of trans_lemma) refl refl (omega arith) },
     tt {0},
   ),
 )

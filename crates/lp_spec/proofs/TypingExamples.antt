@@ -13,7 +13,7 @@ y = record { name = codes "y"; form = Def; ty = types; body = Some bools }
 
 -- the symbol of the first declaration of a module
 abbrev first : Tree
-first = Sym 13
+first = Sym 18
 
 -- `(x : term bool => x) p` becomes p
 identity_applied : (m : List Declaration) (p : Tree) → Step m (App (Lam (term_of bools) (Var 0)) (Var 3)) (Var 3)
@@ -32,11 +32,11 @@ under_binder : Conv (y ∷ []) (Pi bools first) (Pi first first)
 under_binder = back (pi_domain y_unfolds) same
 
 -- a theorem of the same type and body does not unfold, and neither does a symbol
-theorem_stays : symbol_definition (theorem (codes "y") [] types bools ∷ []) 13 ≡ None
+theorem_stays : symbol_definition (theorem (codes "y") [] types bools ∷ []) 18 ≡ None
 theorem_stays = refl
 
 -- a symbol does not unfold either
-symbol_stays : symbol_definition (symbol (codes "y") types ∷ []) 13 ≡ None
+symbol_stays : symbol_definition (symbol (codes "y") types ∷ []) 18 ≡ None
 symbol_stays = refl
 
 -- bool stands for nothing

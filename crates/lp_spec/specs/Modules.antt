@@ -1,4 +1,5 @@
--- Modules: declarations after the signature of higher order logic (Assaf and Burel, Translating HOL to Dedukti, 2015).
+-- Modules: declarations after the signature of higher order logic (Assaf and Burel, Translating HOL to Dedukti, 2015), with the part of a
+-- type in which a predicate holds that has a witness.
 use Rattle.std.specs.Prelude.{ℕ, List, [], ◌∷◌, ◌++◌, slice_get, Option, None, option_map, codes}
 use Rattle.std.specs.Option.{option_map_or}
 use Rattle.lp_spec.specs.declared.form.Form.{Form}
@@ -52,6 +53,21 @@ prop_ext_symbol = 11
 
 abbrev pub eq_mp_symbol : ℕ
 eq_mp_symbol = 12
+
+abbrev pub sub_symbol : ℕ
+sub_symbol = 13
+
+abbrev pub sub_abs_symbol : ℕ
+sub_abs_symbol = 14
+
+abbrev pub sub_rep_symbol : ℕ
+sub_rep_symbol = 15
+
+abbrev pub sub_abs_rep_symbol : ℕ
+sub_abs_rep_symbol = 16
+
+abbrev pub sub_rep_abs_symbol : ℕ
+sub_rep_abs_symbol = 17
 
 -- a tree applied to arguments, the first innermost
 abbrev pub applied : Tree → List Tree → Tree
@@ -153,6 +169,52 @@ eq_mp_type =
     (term_of bools ∷ term_of bools ∷ proof_of (eq_of bools (Var 1) (Var 0)) ∷ proof_of (Var 2) ∷ [])
     (proof_of (Var 2))
 
+-- a : type -> p : term (arr a bool) -> w : term a -> h : proof (p w) -> ..
+abbrev pub part_domains : List Tree
+part_domains = types ∷ term_of (arr_of (Var 0) bools) ∷ term_of (Var 1) ∷ proof_of (App (Var 1) (Var 0)) ∷ []
+
+-- a, p, w and h, and these under a binder more
+abbrev pub part_arguments : List Tree
+part_arguments = Var 3 ∷ Var 2 ∷ Var 1 ∷ Var 0 ∷ []
+
+abbrev pub part_arguments_inside : List Tree
+part_arguments_inside = Var 4 ∷ Var 3 ∷ Var 2 ∷ Var 1 ∷ []
+
+-- sub : .. -> type, the part of a in which p holds
+abbrev pub sub_type : Tree
+sub_type = products part_domains types
+
+-- sub_abs : .. -> term (arr a (sub a p w h))
+abbrev pub sub_abs_type : Tree
+sub_abs_type = products part_domains (term_of (arr_of (Var 3) (applied (Sym sub_symbol) part_arguments)))
+
+-- sub_rep : .. -> term (arr (sub a p w h) a)
+abbrev pub sub_rep_type : Tree
+sub_rep_type = products part_domains (term_of (arr_of (applied (Sym sub_symbol) part_arguments) (Var 3)))
+
+-- x : term (sub a p w h) -> proof (eq (sub a p w h) (sub_abs a p w h (sub_rep a p w h x)) x), under a, p, w and h
+abbrev pub abstraction_undoes : Tree
+abstraction_undoes =
+    Pi (term_of (applied (Sym sub_symbol) part_arguments))
+    (proof_of (eq_of (applied (Sym sub_symbol) part_arguments_inside)
+    (App (applied (Sym sub_abs_symbol) part_arguments_inside) (App (applied (Sym sub_rep_symbol) part_arguments_inside) (Var 0))) (Var 0)))
+
+-- sub_abs_rep : .. -> x : term (sub a p w h) -> proof (eq (sub a p w h) (sub_abs a p w h (sub_rep a p w h x)) x)
+abbrev pub sub_abs_rep_type : Tree
+sub_abs_rep_type = products part_domains abstraction_undoes
+
+-- x : term a -> proof (eq bool (eq a (sub_rep a p w h (sub_abs a p w h x)) x) (p x)), under a, p, w and h
+abbrev pub part_holds : Tree
+part_holds =
+    Pi (term_of (Var 3))
+    (proof_of (eq_of bools
+    (eq_of (Var 4) (App (applied (Sym sub_rep_symbol) part_arguments_inside) (App (applied (Sym sub_abs_symbol) part_arguments_inside) (Var 0))) (Var 0))
+    (App (Var 3) (Var 0))))
+
+-- sub_rep_abs : .. -> x : term a -> proof (eq bool (eq a (sub_rep a p w h (sub_abs a p w h x)) x) (p x))
+abbrev pub sub_rep_abs_type : Tree
+sub_rep_abs_type = products part_domains part_holds
+
 abbrev pub symbol : List ℕ → Tree → Declaration
 symbol name ty = record { name = name; form = Symbol; ty = ty; body = None }
 
@@ -172,6 +234,11 @@ signature =
     ∷ symbol (codes "app_thm") app_thm_type
     ∷ symbol (codes "prop_ext") prop_ext_type
     ∷ symbol (codes "eq_mp") eq_mp_type
+    ∷ symbol (codes "sub") sub_type
+    ∷ symbol (codes "sub_abs") sub_abs_type
+    ∷ symbol (codes "sub_rep") sub_rep_type
+    ∷ symbol (codes "sub_abs_rep") sub_abs_rep_type
+    ∷ symbol (codes "sub_rep_abs") sub_rep_abs_type
     ∷ []
 
 -- the declaration of a symbol: the signature's come first, then the module's own

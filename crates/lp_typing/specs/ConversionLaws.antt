@@ -55,7 +55,7 @@ module _ (m : List Declaration) (closed : IsClosed m) where
   -- renamings keep steps
   pub Step-ren : (r : ℕ → ℕ) {t u : Tree} → Step m t u → Step m (ren r t) (ren r u)
   Step-ren r (beta {b = b} {x = x} e) = beta (sym (ren-put r x b) ∙ ap (ren r) e)
-  Step-ren r (delta h) = delta (h ∙ ap Some (sym (ren_closed r _ (closed.definitions _ _ h))))
+  Step-ren r (delta {s = s} {u = u} h) = delta (h ∙ ap Some (sym (ren_closed r u (closed.definitions s u h))))
   Step-ren r (rule {a = a} {b = b} e) = rule (ap (Pi (term_of (ren r a))) (sym (ren-lift r (term_of b))) ∙ ap (ren r) e)
   Step-ren r (app_function h) = app_function (Step-ren r h)
   Step-ren r (app_argument h) = app_argument (Step-ren r h)
@@ -67,7 +67,7 @@ module _ (m : List Declaration) (closed : IsClosed m) where
   -- substitutions keep steps
   pub Step-sub : (s : ℕ → Tree) {t u : Tree} → Step m t u → Step m (sub s t) (sub s u)
   Step-sub s (beta {b = b} {x = x} e) = beta (sym (sub-put s x b) ∙ ap (sub s) e)
-  Step-sub s (delta h) = delta (h ∙ ap Some (sym (sub_closed s _ (closed.definitions _ _ h))))
+  Step-sub s (delta {s = k} {u = u} h) = delta (h ∙ ap Some (sym (sub_closed s u (closed.definitions k u h))))
   Step-sub s (rule {a = a} {b = b} e) = rule (ap (Pi (term_of (sub s a))) (sym (sub-lift s (term_of b))) ∙ ap (sub s) e)
   Step-sub s (app_function h) = app_function (Step-sub s h)
   Step-sub s (app_argument h) = app_argument (Step-sub s h)
@@ -109,7 +109,7 @@ module _ (m more : List Declaration) where
   -- a step stays a step
   pub Step-append : {t u : Tree} → Step m t u → Step (m ++ more) t u
   Step-append (beta e) = beta e
-  Step-append (delta h) = delta (symbol_definition-append _ _ h)
+  Step-append (delta {s = s} {u = u} h) = delta (symbol_definition-append s u h)
   Step-append (rule e) = rule e
   Step-append (app_function h) = app_function (Step-append h)
   Step-append (app_argument h) = app_argument (Step-append h)

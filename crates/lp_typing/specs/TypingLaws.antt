@@ -78,7 +78,7 @@ module _ (m : List Declaration) (closed : IsClosed m) where
   pub Typed-ren : (r : ℕ → ℕ) {G D : List Tree} {t A : Tree} → Moves r G D → Typed m G t A → Typed m D (ren r t) (ren r A)
   Typed-ren r v of_type = of_type
   Typed-ren r v (of_variable {n = n} {A = A} at e) = let h = v.each n A at in of_variable h.1 (h.2 ∙ ap (ren r) e)
-  Typed-ren r v (of_symbol {A = A} e) = of_symbol (e ∙ ap Some (sym (ren_closed r A (closed.types _ A e))))
+  Typed-ren r v (of_symbol {s = s} {A = A} e) = of_symbol (e ∙ ap Some (sym (ren_closed r A (closed.types s A e))))
   Typed-ren r {D = D} v (of_product a b s) = subst (Typed m D _) (ren-IsSort (up r) r s) (of_product (Typed-ren r v a) (Typed-ren (up r) (Moves-up v) b) (IsSort-ren (up r) s))
   Typed-ren r v (of_abstraction p s b) = of_abstraction (Typed-ren r v p) (IsSort-ren r s) (Typed-ren (up r) (Moves-up v) b)
   Typed-ren r v (of_application {x = x} {B = B} f a e) = of_application (Typed-ren r v f) (Typed-ren r v a) (sym (ren-put r x B) ∙ ap (ren r) e)
@@ -114,7 +114,7 @@ module _ (m : List Declaration) (closed : IsClosed m) where
   pub Typed-sub : (s : ℕ → Tree) {G D : List Tree} {t A : Tree} → Puts m s G D → Typed m G t A → Typed m D (sub s t) (sub s A)
   Typed-sub s p of_type = of_type
   Typed-sub s {D = D} p (of_variable {n = n} {A = A} at e) = subst (Typed m D (s n)) (ap (sub s) e) (p.each n A at)
-  Typed-sub s p (of_symbol {A = A} e) = of_symbol (e ∙ ap Some (sym (sub_closed s A (closed.types _ A e))))
+  Typed-sub s p (of_symbol {s = k} {A = A} e) = of_symbol (e ∙ ap Some (sym (sub_closed s A (closed.types k A e))))
   Typed-sub s {D = D} p (of_product a b o) = subst (Typed m D _) (sub-IsSort (ups s) s o) (of_product (Typed-sub s p a) (Typed-sub (ups s) (Puts-ups p) b) (IsSort-sub (ups s) o))
   Typed-sub s p (of_abstraction q o b) = of_abstraction (Typed-sub s p q) (IsSort-sub s o) (Typed-sub (ups s) (Puts-ups p) b)
   Typed-sub s p (of_application {x = x} {B = B} f a e) = of_application (Typed-sub s p f) (Typed-sub s p a) (sym (sub-put s x B) ∙ ap (sub s) e)
@@ -147,7 +147,7 @@ module _ (m : List Declaration) (closed : IsClosed m) where
 pub Typed-append : (m more : List Declaration) {G : List Tree} {t A : Tree} → Typed m G t A → Typed (m ++ more) G t A
 Typed-append m more of_type = of_type
 Typed-append m more (of_variable at e) = of_variable at e
-Typed-append m more (of_symbol e) = of_symbol (symbol_type-append m more _ _ e)
+Typed-append m more (of_symbol {s = s} {A = A} e) = of_symbol (symbol_type-append m more s A e)
 Typed-append m more (of_product a b s) = of_product (Typed-append m more a) (Typed-append m more b) s
 Typed-append m more (of_abstraction p s b) = of_abstraction (Typed-append m more p) s (Typed-append m more b)
 Typed-append m more (of_application f x e) = of_application (Typed-append m more f) (Typed-append m more x) e

@@ -99,10 +99,10 @@ abbrev kept_items : List Item
 kept_items = image_items (keep_of (number_key 3 ∷ []) made) made
 
 abbrev pub f_tree : Tree
-f_tree = App (Sym 15) bools
+f_tree = App (Sym 20) bools
 
 -- and has the constant, the step and the export after the lemmas
 example_module : module_of (symbols_of kept_items) kept_items
     ≡ lemmas ++ symbol (codes "i_f") (Pi types (term_of (Var 0))) ∷ theorem (codes "T0") [] (proof_of (eq_of bools f_tree f_tree)) (refl_of bools f_tree)
-    ∷ theorem (codes "E0") [] (proof_of (eq_of bools f_tree f_tree)) (Sym 16) ∷ []
+    ∷ theorem (codes "E0") [] (proof_of (eq_of bools f_tree f_tree)) (Sym 21) ∷ []
 example_module = refl

@@ -1,4 +1,4 @@
--- A type definition whose three definitions and two laws are checked, over a module that declares the five symbols: they have the shapes.
+-- A type definition whose three definitions and two laws are checked: they have the shapes.
 use Rattle.std.proofs.Common.{inr, ◌≡◌, refl, ap, ℕ, arith, true, false, List, [], ◌∷◌, Some}
 use Rattle.std.specs.Prelude.{codes}
 use Rattle.lp_spec.specs.declared.form.Form.TheVariants.{Def}
@@ -42,12 +42,7 @@ two b a = at 19 (b ∷ a ∷ [])
 
 abbrev m : List Declaration
 m =
-    symbol (codes "sub") (products domains types)
-    ∷ symbol (codes "sub_abs") (products domains (term_of (arr_of (Var 3) (at 13 own))))
-    ∷ symbol (codes "sub_rep") (products domains (term_of (arr_of (at 13 own) (Var 3))))
-    ∷ symbol (codes "sub_abs_rep") (products domains abs_rep_type)
-    ∷ symbol (codes "sub_rep_abs") (products domains rep_abs_type)
-    ∷ symbol (codes "A0") (Pi types (Pi types (Pi (term_of (arr_of (Var 1) (Var 0))) (proof_of (App (pred (arr_of (Var 2) (Var 1))) (Var 0))))))
+    symbol (codes "A0") (Pi types (Pi types (Pi (term_of (arr_of (Var 1) (Var 0))) (proof_of (App (pred (arr_of (Var 2) (Var 1))) (Var 0))))))
     ∷ record { name = codes "o_two"; form = Def; ty = Pi types (Pi types types); body = Some (Lam types (Lam types (at 13 (K (Var 0) (Var 1))))) }
     ∷ record { name = codes "c_mk"; form = Def; ty = Pi types (Pi types (term_of (arr_of (arr_of (Var 1) (Var 0)) (two (Var 0) (Var 1))))); body = Some (Lam types (Lam types (at 14 (K (Var 1) (Var 0))))) }
     ∷ record { name = codes "c_dest"; form = Def; ty = Pi types (Pi types (term_of (arr_of (two (Var 1) (Var 0)) (arr_of (Var 0) (Var 1))))); body = Some (Lam types (Lam types (at 15 (K (Var 0) (Var 1))))) }

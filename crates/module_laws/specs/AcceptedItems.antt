@@ -13,10 +13,14 @@ use Rattle.hol_laws.specs.NameEqualityLaws.{name_eq-Decides, name_eq-refl}
 use Rattle.hol_spec.specs.Types as type
 use Rattle.hol_spec.specs.Types.{HolType, types_of}
 use Rattle.hol_spec.specs.Primitives.{function}
-use Rattle.hol_spec.specs.Terms.{bound}
+use Rattle.hol_spec.specs.Terms.{Term, bound}
 use Rattle.hol_spec.specs.Sequents.{Sequent, IsSequent}
 use Rattle.hol_spec.specs.Definitions.{Definition, TypeNames}
-use Rattle.hol_spec.specs.NewTypes.{new_type, abstraction_type}
+use Rattle.hol_spec.specs.NewTypes.{new_type}
+use Rattle.hol_spec.specs.TypeDefinitions.{IsTypeDefinition}
+use Rattle.hol_spec.specs.declared.StepKind.TheVariants as kinds
+use Rattle.std.proofs.Math.Path.{subst₂}
+use Rattle.lp_binding.specs.LookUps.{slice_get-append}
 use Rattle.hol_spec.specs.Symbols.{Symbol, is_input_constant, is_input_operator, is_input_operator_named}
 use Rattle.proof_laws.specs.SymbolGrowth.{any-right, symmetric, new-constant-taken, new-operator-taken}
 use Rattle.hol_spec.specs.Rules.{Parameters, Rule}
@@ -27,7 +31,7 @@ use Rattle.hol_spec.specs.Taking as taking
 use Rattle.hol_spec.specs.Taken.{SymbolTaken}
 use Rattle.hol_spec.specs.Taken as machine
 use Rattle.hol_spec.specs.Derivations.{definitions_used}
-use Rattle.hol_spec.specs.Proofs.{Made, Step, symbols_of, steps_of, sequents_of, definitions_of, ArePremises, IsStep, IsMade, Each, IsProof}
+use Rattle.hol_spec.specs.Proofs.{Made, Step, symbols_of, steps_of, sequents_of, definitions_of, ArePremises, IsOfDefinition, IsLawOfDefinition, IsPlain, IsStep, IsMade, Each, IsProof}
 use Rattle.hol_spec.specs.Proofs as made
 use Rattle.proof_laws.specs.ProofGrowth.{symbols_of-append, sequents_of-append, premises-All, proof-sequents, All-among}
 use Rattle.proof_laws.specs.RuleSequents.{rule-IsSequent}
@@ -36,12 +40,12 @@ use Rattle.hol_spec.specs.Lists.{IsIn}
 use Rattle.hol_laws.specs.Members.{IsIn-left, IsIn-right, All-weaker, All-append}
 use Rattle.hol_laws.specs.TypeLaws.{count-variables}
 use Rattle.module_spec.specs.Rows.{has_row, type_or}
-use Rattle.module_spec.specs.Items.{Content, operator, constant, Item, says, is_constant}
-use Rattle.module_laws.specs.ItemConditions.{Has, TypeTaken, TypesTaken, ArePremisesAmong, DefinesAmong, IsContent}
+use Rattle.module_spec.specs.Items.{Content, type_operator, type_abstraction, type_representation, Item, says, is_constant}
+use Rattle.module_laws.specs.ItemConditions.{Has, TypeTaken, TypesTaken, ArePremisesAmong, IsPart, HasPart, DefinesAmong, IsContent}
 use Rattle.module_laws.specs.ItemConditions as items
 use Rattle.module_laws.specs.MadeModules.{any_content, IsNew, operator_self}
 use Rattle.module_laws.specs.WantedItems.{AreMadeInOrder}
-use Rattle.module_spec.specs.MadeItems.{Naming, contents_of, said_of, said_by, premise_at, content_by, needed, sequents_at, shown_content, step_content, contents, numbered, items_after, items_of}
+use Rattle.module_spec.specs.MadeItems.{Naming, contents_of, type_contents, said_of, said_by, premise_at, content_by, needed, sequents_at, shown_content, step_content, contents, numbered, items_after, items_of}
 use Rattle.module_laws.specs.SymbolsHeld.{IsHeld, held-type, held-term, held-sequent, IsNamed, named-more, new-constant, new-operator}
 use Rattle.module_laws.specs.DefinitionsHeld.{IsDefinitionHeld, held-definitions, type_or-is, is-defining, list-defines}
 use Rattle.module_laws.specs.NeededSteps.{needed-IsStep, needed-IsStepOver, needed-sequent}
@@ -67,7 +71,51 @@ Has-more : (ps xs : List Item) (c : Content) → Has ps c → Has (ps ++ xs) c
 Has-more ps xs c (x, i, e) = (x, IsIn-left ps xs x i, e)
 
 held-more : (ps xs : List Item) (x : Symbol) → IsHeld ps x → IsHeld (ps ++ xs) x
-held-more ps xs x h = All-weaker (Has ps) (Has (ps ++ xs)) (Has-more ps xs) (contents_of x) h
+held-more ps xs (Symbol.defined (Definition.type_operator names c f)) h =
+    record { j = h.j; one = h.one; operator = Has-more ps xs _ h.operator; abstraction = Has-more ps xs _ h.abstraction; representation = Has-more ps xs _ h.representation }
+held-more ps xs (Symbol.input_constant n) h = All-weaker (Has ps) (Has (ps ++ xs)) (Has-more ps xs) (contents_of (Symbol.input_constant n)) h
+held-more ps xs (Symbol.input_operator n k) h = All-weaker (Has ps) (Has (ps ++ xs)) (Has-more ps xs) (contents_of (Symbol.input_operator n k)) h
+held-more ps xs (Symbol.defined (Definition.constant n t)) h = All-weaker (Has ps) (Has (ps ++ xs)) (Has-more ps xs) (contents_of (Symbol.defined (Definition.constant n t))) h
+
+-- the type definition from the step of a number
+pub record HasPartAt (ps : List Item) (names : TypeNames) (c : HolType) (f : Term) (i : ℕ) : Type 0 where
+  pub j : ℕ
+  pub one : Sequent
+  pub place : slice_get (said_by ps) i ≡ Some (j, one)
+  pub defines : IsTypeDefinition names c f one
+  pub operator : Has ps (type_operator names c f j one)
+  pub abstraction : Has ps (type_abstraction names c f j one)
+  pub representation : Has ps (type_representation names c f j one)
+
+abbrev pub IsPartHeld : List Item → Made → Type 0
+IsPartHeld ps (Made.symbol x) = Unit {0}
+IsPartHeld ps (Made.type_definition names c f i) = HasPartAt ps names c f i
+IsPartHeld ps (Made.step x) = Unit {0}
+
+part-more : (ps xs : List Item) (x : Made) → IsPartHeld ps x → IsPartHeld (ps ++ xs) x
+part-more ps xs (Made.symbol x) h = tt
+part-more ps xs (Made.type_definition names c f i) h = record {
+  j = h.j;
+  one = h.one;
+  place = ap (λ l. slice_get l i) (filter_map-append said_of ps xs) ∙ slice_get-append (said_by ps) (said_by xs) i (h.j, h.one) h.place;
+  defines = h.defines;
+  operator = Has-more ps xs _ h.operator;
+  abstraction = Has-more ps xs _ h.abstraction;
+  representation = Has-more ps xs _ h.representation;
+}
+part-more ps xs (Made.step x) h = tt
+
+-- what stands at a number
+index-is : {A : Type 0} (xs : List A) (k : ℕ) (p d : A) → slice_get xs k ≡ Some p → slice_index_or xs k d ≡ p
+index-is [] k p d e = absurd (cc)
+index-is (x ∷ xs) zero p d e = same_Some _ _ e
+index-is (x ∷ xs) (suc k) p d e = index-is xs k p d e
+
+-- what is said at the number of a step
+pub said-at : (xs : List (ℕ × Sequent)) (k : ℕ) (s : Sequent) → slice_get (map (λ (p : ℕ × Sequent). p.1) xs) k ≡ Some s → (j : ℕ) × (slice_get xs k ≡ Some (j, s))
+said-at [] k s e = absurd (cc)
+said-at (x ∷ xs) zero s e = (x.0, ap (λ (t : Sequent). Some (x.0, t)) (same_Some _ _ e))
+said-at (x ∷ xs) (suc k) s e = said-at xs k s e
 
 -- premises
 pub found : (xs : List (ℕ × Sequent)) (k : ℕ) (s : Sequent) (d : ℕ × Sequent) → slice_get (map (λ (p : ℕ × Sequent). p.1) xs) k ≡ Some s → ((slice_index_or xs k d).1 ≡ s) × IsIn xs (slice_index_or xs k d)
@@ -100,26 +148,40 @@ premises-joined ps sequents same (k ∷ ks) (s ∷ ss) h =
 premises-joined ps sequents same [] (s ∷ ss) h = absurd h
 premises-joined ps sequents same (k ∷ ks) [] h = absurd h
 
+-- the type definition whose law a step is
+law-part : (before : List Made) (ps : List Item) → AllByRecursion (IsPartHeld ps) before → (ks : List ℕ) (names : TypeNames) (one : Sequent) (law : IsOfDefinition before names ks)
+    → map (λ k. (premise_at ps k).1) ks ≡ one ∷ [] → HasPart ps names (premise_at ps law.number).0 one
+law-part before ps parts ks names one law same =
+    let q = All-among (IsPartHeld ps) before parts (Made.type_definition names law.c law.f law.number) law.among in
+    let at : premise_at ps law.number ≡ (q.j, q.one) = index-is (said_by ps) law.number (q.j, q.one) (0, record { hypotheses = []; conclusion = bound 0 }) q.place in
+    let all : (premise_at ps law.number).1 ∷ [] ≡ one ∷ [] = ap (map (λ k. (premise_at ps k).1)) (sym law.is) ∙ same in
+    let is_one : q.one ≡ one = ap (λ (p : ℕ × Sequent). p.1) (sym at) ∙ same_Some _ _ (ap (λ l. slice_get l 0) all) in
+    subst₂ (HasPart ps names) (ap (λ (p : ℕ × Sequent). p.0) (sym at)) is_one
+    (record { c = law.c; f = law.f; defines = q.defines; operator = q.operator; abstraction = q.abstraction; representation = q.representation })
+
 -- what a step defines is among the items
-rule-defines : (ps : List Item) (kind : StepKind) (premises : List Sequent) (p : Parameters) (s : Sequent) → Rule kind premises p s → AllByRecursion IsSequent premises
-    → AllByRecursion (IsDefinitionHeld ps) (definitions_used kind premises p) → DefinesAmong ps kind premises p
-rule-defines ps kind premises p s (rule.refl h e) are held = tt
-rule-defines ps kind premises p s (rule.assume h e) are held = tt
-rule-defines ps kind premises p s (rule.eq_mp e f i) are held = tt
-rule-defines ps kind premises p s (rule.abs_thm e f i) are held = tt
-rule-defines ps kind premises p s (rule.app_thm e f i) are held = tt
-rule-defines ps kind premises p s (rule.deduct_antisym e) are held = tt
-rule-defines ps kind premises p s (rule.beta_conv h e) are held = tt
-rule-defines ps kind premises p s (rule.sym e f) are held = tt
-rule-defines ps kind premises p s (rule.trans e f i) are held = tt
-rule-defines ps kind premises p s (rule.prove_hyp e) are held = tt
-rule-defines ps kind premises p s (rule.subst fitting e) are held = tt
-rule-defines ps kind premises p s (rule.recorded is) are held = tt
-rule-defines ps kind premises p s (rule.restate is w) are held = tt
-rule-defines ps kind premises p s (rule.define_const h e) are held = held.0
-rule-defines ps kind premises p s (rule.define_const_list {pairs = pairs} {one = one} defining list e) are held = list-defines ps pairs one are.0 defining list held
-rule-defines ps kind premises p s (rule.first_law d e) are held = tt
-rule-defines ps kind premises p s (rule.second_law d e) are held = tt
+rule-defines : (before : List Made) (ps : List Item) → AllByRecursion (IsPartHeld ps) before → (ks : List ℕ) (kind : StepKind) (premises : List Sequent) (p : Parameters) (s : Sequent) → Rule kind premises p s → AllByRecursion IsSequent premises
+    → AllByRecursion (IsDefinitionHeld ps) (definitions_used kind premises p) → map (λ k. (premise_at ps k).1) ks ≡ premises → IsLawOfDefinition before kind ks p
+    → DefinesAmong ps kind (map (λ k. (premise_at ps k).0) ks) premises p
+rule-defines before ps parts ks kind premises p s (rule.refl h e) are held same law = tt
+rule-defines before ps parts ks kind premises p s (rule.assume h e) are held same law = tt
+rule-defines before ps parts ks kind premises p s (rule.eq_mp e f i) are held same law = tt
+rule-defines before ps parts ks kind premises p s (rule.abs_thm e f i) are held same law = tt
+rule-defines before ps parts ks kind premises p s (rule.app_thm e f i) are held same law = tt
+rule-defines before ps parts ks kind premises p s (rule.deduct_antisym e) are held same law = tt
+rule-defines before ps parts ks kind premises p s (rule.beta_conv h e) are held same law = tt
+rule-defines before ps parts ks kind premises p s (rule.sym e f) are held same law = tt
+rule-defines before ps parts ks kind premises p s (rule.trans e f i) are held same law = tt
+rule-defines before ps parts ks kind premises p s (rule.prove_hyp e) are held same law = tt
+rule-defines before ps parts ks kind premises p s (rule.subst fitting e) are held same law = tt
+rule-defines before ps parts ks kind premises p s (rule.recorded is) are held same law = tt
+rule-defines before ps parts ks kind premises p s (rule.restate is w) are held same law = tt
+rule-defines before ps parts ks kind premises p s (rule.define_const h e) are held same law = held.0
+rule-defines before ps parts ks kind premises p s (rule.define_const_list {pairs = pairs} {one = one} defining list e) are held same law = list-defines ps pairs one are.0 defining list held
+rule-defines before ps parts ks kind premises p s (rule.first_law {names = names} {one = one} d e) are held same law =
+    subst (λ l. DefinesAmong ps kinds.FirstLaw (map (λ k. (premise_at ps k).0) l) (one ∷ []) (Parameters.type_operator names)) (sym law.is) (law-part before ps parts ks names one law same)
+rule-defines before ps parts ks kind premises p s (rule.second_law {names = names} {one = one} d e) are held same law =
+    subst (λ l. DefinesAmong ps kinds.SecondLaw (map (λ k. (premise_at ps k).0) l) (one ∷ []) (Parameters.type_operator names)) (sym law.is) (law-part before ps parts ks names one law same)
 
 pub says-step : (b : Bool) (kind : StepKind) (js : List ℕ) (ss : List Sequent) (g : Parameters) (s : Sequent) → says (content_by b kind js ss g s) ≡ Some s
 says-step false kind js ss g s = refl
@@ -139,6 +201,7 @@ pub record Joined (before : List Made) (ps : List Item) : Type 0 where
   pub said : map (λ (p : ℕ × Sequent). p.1) (said_by ps) ≡ sequents_of before
   pub held : AllByRecursion (IsHeld ps) (symbols_of before)
   pub names : AllByRecursion (λ (z : Item). IsNamed (symbols_of before) z.content) ps
+  pub parts : AllByRecursion (IsPartHeld ps) before
 
 -- the premises of a step, among the items
 joined-premises : (before : List Made) (ps : List Item) → Joined before ps → (x : Step) (h : IsStep before x)
@@ -152,9 +215,9 @@ premise-sequents before proof x h = premises-All IsSequent (sequents_of before) 
 shown-content : (before : List Made) (ps : List Item) → IsProof before → Joined before ps → (x : Step) → IsStep before x → IsStepOver before x → IsContent ps (shown_content ps x)
 shown-content before ps proof j x h over =
     go (has_row x.kind) refl
-    (rule-defines ps x.kind h.premises x.parameters x.sequent h.follows.rule are_sequents
+    (rule-defines before ps j.parts x.premises x.kind h.premises x.parameters x.sequent h.follows.rule are_sequents
     (All-weaker (IsAmong (definitions_of before)) (IsDefinitionHeld ps) (All-among (IsDefinitionHeld ps) (definitions_of before) (held-definitions ps (symbols_of before) j.held))
-    (definitions_used x.kind h.premises x.parameters) h.follows.defined))
+    (definitions_used x.kind h.premises x.parameters) h.follows.defined) joined.1 h.law)
   where
     are_sequents : AllByRecursion IsSequent h.premises
     are_sequents = premises-All IsSequent (sequents_of before) (proof-sequents before proof) x.premises h.premises h.earlier
@@ -165,7 +228,7 @@ shown-content before ps proof j x h over =
     joined : ArePremisesAmong ps (map (λ k. (premise_at ps k).0) x.premises) (map (λ k. (premise_at ps k).1) x.premises) × (map (λ k. (premise_at ps k).1) x.premises ≡ h.premises)
     joined = premises-joined ps (sequents_of before) j.said x.premises h.premises h.earlier
 
-    go : (b : Bool) → has_row x.kind ≡ b → DefinesAmong ps x.kind h.premises x.parameters
+    go : (b : Bool) → has_row x.kind ≡ b → DefinesAmong ps x.kind (map (λ k. (premise_at ps k).0) x.premises) h.premises x.parameters
         → IsContent ps (content_by b x.kind (map (λ k. (premise_at ps k).0) x.premises) (map (λ k. (premise_at ps k).1) x.premises) x.parameters x.sequent)
     go false e d = held-sequent ps (symbols_of before) j.held x.sequent is_sequent over.sequent
     go true e d = (
@@ -175,7 +238,7 @@ shown-content before ps proof j x h over =
         among = joined.0;
         taken = held-sequent ps (symbols_of before) j.held x.sequent is_sequent over.sequent;
       },
-      subst (λ ss. DefinesAmong ps x.kind ss x.parameters) (sym joined.1) d,
+      subst (λ ss. DefinesAmong ps x.kind (map (λ k. (premise_at ps k).0) x.premises) ss x.parameters) (sym joined.1) d,
     )
 
 step-content : (before : List Made) (ps : List Item) → IsProof before → Joined before ps → (x : Step) → IsStep before x → IsStepOver before x → IsContent ps (step_content ps x)
@@ -205,20 +268,24 @@ variables-taken : (ps : List Item) (ns : List Name) → TypesTaken ps (types_of 
 variables-taken ps [] = tt
 variables-taken ps (n ∷ ns) = (tt {0}, variables-taken ps ns)
 
-new_type-taken : (ps : List Item) (names : TypeNames) → Has ps (operator names.operator (length names.variables)) → TypeTaken ps (new_type names)
-new_type-taken ps names h = (items.OperatorTaken.declared (subst (λ k. Has ps (operator names.operator k)) (sym (count-variables names.variables)) h), variables-taken ps names.variables)
+new_type-taken : (ps : List Item) (names : TypeNames) (c : HolType) (u : Term) (j : ℕ) (one : Sequent) → Has ps (type_operator names c u j one) → TypeTaken ps (new_type names)
+new_type-taken ps names c u j one h = (items.OperatorTaken.part names c u j one h refl (count-variables names.variables), variables-taken ps names.variables)
 
 function-taken : (ps : List Item) (a b : HolType) → TypeTaken ps a → TypeTaken ps b → TypeTaken ps (function a b)
 function-taken ps a b ha hb = (items.OperatorTaken.primitive refl, (ha, (hb, tt {0})))
 
-symbol-names : (ss : List Symbol) (x : Symbol) → Takes ss x → AllByRecursion (IsNamed (ss ++ x ∷ [])) (contents_of x)
-symbol-names ss (Symbol.input_constant n) (taking.Takes.input_constant new) =
+symbol-names : (ss : List Symbol) (x : Symbol) → IsPlain x → Takes ss x → AllByRecursion (IsNamed (ss ++ x ∷ [])) (contents_of x)
+symbol-names ss (Symbol.input_constant n) p (taking.Takes.input_constant new) =
     (machine.ConstantTaken.input (any-right (is_input_constant n) ss (Symbol.input_constant n ∷ []) (ap (λ b. b || false) (name_eq-refl n))), tt {0})
-symbol-names ss (Symbol.input_operator n k) (taking.Takes.input_operator undefined new) =
+symbol-names ss (Symbol.input_operator n k) p (taking.Takes.input_operator undefined new) =
     (machine.OperatorTaken.input (any-right (is_input_operator n k) ss (Symbol.input_operator n k ∷ []) (ap (λ b. b || false) (operator_self n k))), tt {0})
-symbol-names ss (Symbol.defined (Definition.constant n t)) (taking.Takes.constant {a = a} new h) =
+symbol-names ss (Symbol.defined (Definition.constant n t)) p (taking.Takes.constant {a = a} new h) =
     (new-constant-taken ss n t new (type_or t) (h.typed ∙ ap Some (sym (type_or-is t a h.typed))), tt {0})
-symbol-names ss (Symbol.defined (Definition.type_operator names c f)) (taking.Takes.type_operator new typed closed variables) =
+symbol-names ss (Symbol.defined (Definition.type_operator names c f)) p h = absurd p
+
+part-names : (ss : List Symbol) (names : TypeNames) (c : HolType) (f : Term) (one : ℕ × Sequent) → Takes ss (Symbol.defined (Definition.type_operator names c f))
+    → AllByRecursion (IsNamed (ss ++ Symbol.defined (Definition.type_operator names c f) ∷ [])) (type_contents names c f one)
+part-names ss names c f one (taking.Takes.type_operator new typed closed variables) =
     let h = new-operator-taken ss names c f new.operator new.abstraction new.representation new.apart in
     (h.0, (h.1, (h.2, tt {0})))
 
@@ -242,18 +309,26 @@ module _ (named : Content → List ℕ) where
   longer : (ps : List Item) (x : Item) → length ps + 1 ≡ length (ps ++ x ∷ [])
   longer ps x = sym (length-append ps (x ∷ []))
 
-  symbol-order : (ss : List Symbol) (ps : List Item) → AllByRecursion (IsHeld ps) ss → AllByRecursion (λ (z : Item). IsNamed ss z.content) ps → (x : Symbol) → Takes ss x → SymbolTaken ss x
+  symbol-order : (ss : List Symbol) (ps : List Item) → AllByRecursion (IsHeld ps) ss → AllByRecursion (λ (z : Item). IsNamed ss z.content) ps → (x : Symbol) → IsPlain x → Takes ss x → SymbolTaken ss x
       → AreMadeInOrder ps (numbered named (length ps) (contents_of x))
-  symbol-order ss ps held names (Symbol.input_constant n) (taking.Takes.input_constant new) o = (refl, new-constant ss n new ps names, tt {0}, tt {0})
-  symbol-order ss ps held names (Symbol.input_operator n k) (taking.Takes.input_operator undefined new) o = (refl, new-operator ss n k undefined new ps names, tt {0}, tt {0})
-  symbol-order ss ps held names (Symbol.defined (Definition.constant n t)) (taking.Takes.constant {a = a} new h) o =
+  symbol-order ss ps held names (Symbol.input_constant n) p (taking.Takes.input_constant new) o = (refl, new-constant ss n new ps names, tt {0}, tt {0})
+  symbol-order ss ps held names (Symbol.input_operator n k) p (taking.Takes.input_operator undefined new) o = (refl, new-operator ss n k undefined new ps names, tt {0}, tt {0})
+  symbol-order ss ps held names (Symbol.defined (Definition.constant n t)) p (taking.Takes.constant {a = a} new h) o =
       (refl, new-constant ss n new ps names, is-defining ps a t h (held-term ps ss held t o), tt {0})
-  symbol-order ss ps held names (Symbol.defined (Definition.type_operator names_of_type c f)) (taking.Takes.type_operator new typed closed variables) o =
+  symbol-order ss ps held names (Symbol.defined (Definition.type_operator names_of_type c f)) p h o = absurd p
+
+  premise-more : (ps xs : List Item) (names : TypeNames) (c : HolType) (u : Term) (k : ℕ) (one : Sequent) → TypeTaken (ps ++ xs) c → IsPart ps names c u k one → IsPart (ps ++ xs) names c u k one
+  premise-more ps xs names c u k one ty h = record { defines = h.defines; among = ((h.among.0.0, IsIn-left ps xs h.among.0.0 h.among.0.1, h.among.0.2, h.among.0.3), tt {0}); ty = ty }
+
+  part-order : (ss : List Symbol) (ps : List Item) → AllByRecursion (IsHeld ps) ss → AllByRecursion (λ (z : Item). IsNamed ss z.content) ps → (names_of_type : TypeNames) (c : HolType) (f : Term) (k : ℕ) (s : Sequent)
+      → Takes ss (Symbol.defined (Definition.type_operator names_of_type c f)) → SymbolTaken ss (Symbol.defined (Definition.type_operator names_of_type c f)) → IsPart ps names_of_type c f k s
+      → AreMadeInOrder ps (numbered named (length ps) (type_contents names_of_type c f (k, s)))
+  part-order ss ps held names names_of_type c f j s (taking.Takes.type_operator new typed closed variables) o part =
       let k = length names_of_type.variables in
       let n = names_of_type.operator in
       let undefined = or_parts _ (list_any (is_input_operator_named n) ss) new.operator in
-      let c1 : Content = operator n k in
-      let c2 : Content = constant names_of_type.abstraction (abstraction_type names_of_type c) in
+      let c1 : Content = type_operator names_of_type c f j s in
+      let c2 : Content = type_abstraction names_of_type c f j s in
       let one : Item = record { symbol = length ps; name = named c1; content = c1 } in
       let two : Item = record { symbol = length ps + 1; name = named c2; content = c2 } in
       let ps1 : List Item = ps ++ one ∷ [] in
@@ -261,20 +336,24 @@ module _ (named : Content → List ℕ) where
       let held1 : AllByRecursion (IsHeld ps1) ss = All-weaker (IsHeld ps) (IsHeld ps1) (held-more ps (one ∷ [])) ss held in
       let held2 : AllByRecursion (IsHeld ps2) ss = All-weaker (IsHeld ps1) (IsHeld ps2) (held-more ps1 (two ∷ [])) ss held1 in
       let has1 : Has ps1 c1 = (one, IsIn-right ps (one ∷ []) one (inl refl), refl) in
+      let has2 : Has ps2 c1 = Has-more ps1 (two ∷ []) c1 has1 in
+      let ty1 : TypeTaken ps1 c = held-type ps1 ss held1 c o.0 in
+      let ty2 : TypeTaken ps2 c = held-type ps2 ss held2 c o.0 in
+      let part1 = premise-more ps (one ∷ []) names_of_type c f j s ty1 part in
       let new2 = new-constant ss names_of_type.abstraction new.abstraction ps names in
       let new3 = new-constant ss names_of_type.representation new.representation ps names in
       let others : name_eq names_of_type.representation names_of_type.abstraction ≡ false = symmetric name_eq name_eq-Decides names_of_type.abstraction names_of_type.representation new.apart in (
         refl,
         new-operator ss n k undefined.0 (input-named n k ss undefined.1) ps names,
-        tt {0},
+        part,
         (
           longer ps one,
           (new2.0, any-append (is_constant names_of_type.abstraction) ps one new2.1 refl),
-          function-taken ps1 c (new_type names_of_type) (held-type ps1 ss held1 c o.0) (new_type-taken ps1 names_of_type has1),
+          (part1, function-taken ps1 c (new_type names_of_type) ty1 (new_type-taken ps1 names_of_type c f j s has1), has1),
           (
             ap (λ k. k + 1) (longer ps one) ∙ longer ps1 two,
             (new3.0, any-append (is_constant names_of_type.representation) ps1 two (any-append (is_constant names_of_type.representation) ps one new3.1 refl) others),
-            function-taken ps2 (new_type names_of_type) c (new_type-taken ps2 names_of_type (Has-more ps1 (two ∷ []) c1 has1)) (held-type ps2 ss held2 c o.0),
+            (premise-more ps1 (two ∷ []) names_of_type c f j s ty2 part1, function-taken ps2 (new_type names_of_type) c (new_type-taken ps2 names_of_type c f j s has2) ty2, has2),
             tt {0},
           ),
         ),
@@ -285,6 +364,15 @@ module _ (named : Content → List ℕ) where
   said-append before ps xs x e f =
       ap (map (λ (p : ℕ × Sequent). p.1)) (filter_map-append said_of ps xs) ∙ map-append (λ (p : ℕ × Sequent). p.1) (said_by ps) (said_by xs) ∙ (λ i. e i ++ f i) ∙ sym (sequents_of-append before (x ∷ []))
 
+  new-held : (ps : List Item) (cs : List Content) → AllByRecursion (Has (ps ++ numbered named (length ps) cs)) cs
+  new-held ps cs = All-weaker (Has (numbered named (length ps) cs)) (Has (ps ++ numbered named (length ps) cs)) (λ d (z, k, e). (z, IsIn-right ps (numbered named (length ps) cs) z k, e)) cs (has-numbered (length ps) cs)
+
+  symbol-held : (ps : List Item) (x : Symbol) → IsPlain x → IsHeld (ps ++ numbered named (length ps) (contents_of x)) x
+  symbol-held ps (Symbol.defined (Definition.type_operator names c f)) p = absurd p
+  symbol-held ps (Symbol.input_constant n) p = new-held ps (contents_of (Symbol.input_constant n))
+  symbol-held ps (Symbol.input_operator n k) p = new-held ps (contents_of (Symbol.input_operator n k))
+  symbol-held ps (Symbol.defined (Definition.constant n t)) p = new-held ps (contents_of (Symbol.defined (Definition.constant n t)))
+
   -- one more thing
   joined-next : (before : List Made) (ps : List Item) → IsProof before → Joined before ps → (x : Made) → IsMade before x → IsMadeOver before x
       → Joined (before ++ x ∷ []) (ps ++ numbered named (length ps) (contents ps x))
@@ -292,16 +380,56 @@ module _ (named : Content → List ℕ) where
       let new = numbered named (length ps) (contents_of x) in
       let more : symbols_of (before ++ Made.symbol x ∷ []) ≡ symbols_of before ++ x ∷ [] = symbols_of-append before (Made.symbol x ∷ []) in
       record {
-        order = order-append [] ps new j.order (symbol-order (symbols_of before) ps j.held j.names x h over);
+        order = order-append [] ps new j.order (symbol-order (symbols_of before) ps j.held j.names x h.0 h.1 over);
         said = said-append before ps new (Made.symbol x) j.said (ap (map (λ (p : ℕ × Sequent). p.1)) (symbol-said (length ps) x));
         held = subst (AllByRecursion (IsHeld (ps ++ new))) (sym more)
             (All-append (IsHeld (ps ++ new)) (symbols_of before) (x ∷ []) (All-weaker (IsHeld ps) (IsHeld (ps ++ new)) (held-more ps new) (symbols_of before) j.held)
-            (All-weaker (Has new) (Has (ps ++ new)) (λ d (z, k, e). (z, IsIn-right ps new z k, e)) (contents_of x) (has-numbered (length ps) (contents_of x)), tt {0}));
+            (symbol-held ps x h.0, tt {0}));
         names = subst (λ ss. AllByRecursion (λ (z : Item). IsNamed ss z.content) (ps ++ new)) (sym more)
             (All-append (λ (z : Item). IsNamed (symbols_of before ++ x ∷ []) z.content) ps new
             (All-weaker (λ (z : Item). IsNamed (symbols_of before) z.content) (λ (z : Item). IsNamed (symbols_of before ++ x ∷ []) z.content) (λ z k. named-more (symbols_of before) (x ∷ []) z.content k) ps j.names)
-            (all-numbered (IsNamed (symbols_of before ++ x ∷ [])) (length ps) (contents_of x) (symbol-names (symbols_of before) x h)));
+            (all-numbered (IsNamed (symbols_of before ++ x ∷ [])) (length ps) (contents_of x) (symbol-names (symbols_of before) x h.0 h.1)));
+        parts = All-append (IsPartHeld (ps ++ new)) before (Made.symbol x ∷ []) (All-weaker (IsPartHeld ps) (IsPartHeld (ps ++ new)) (part-more ps new) before j.parts) (tt {0}, tt {0});
       }
+  joined-next before ps proof j (Made.type_definition names c f i) h over =
+      let m = Made.type_definition names c f i in
+      let x = Symbol.defined (Definition.type_operator names c f) in
+      let found = said-at (said_by ps) i h.one (ap (λ l. slice_get l i) j.said ∙ h.at) in
+      let at : premise_at ps i ≡ (found.0, h.one) = index-is (said_by ps) i (found.0, h.one) (0, record { hypotheses = []; conclusion = bound 0 }) found.1 in
+      let cs = type_contents names c f (found.0, h.one) in
+      let new = numbered named (length ps) cs in
+      let among = premises-joined ps (sequents_of before) j.said (i ∷ []) (h.one ∷ []) (h.at, tt {0}) in
+      let more : symbols_of (before ++ m ∷ []) ≡ symbols_of before ++ x ∷ [] = symbols_of-append before (m ∷ []) in
+      let part : IsPart ps names c f found.0 h.one = record {
+        defines = h.defines;
+        among = subst₂ (λ k s. ArePremisesAmong ps (k ∷ []) (s ∷ [])) (ap (λ (p : ℕ × Sequent). p.0) at) (ap (λ (p : ℕ × Sequent). p.1) at) among.0;
+        ty = held-type ps (symbols_of before) j.held c over.0;
+      } in
+      let has = All-weaker (Has new) (Has (ps ++ new)) (λ d (z, k, e). (z, IsIn-right ps new z k, e)) cs (has-numbered (length ps) cs) in
+      subst (λ p. Joined (before ++ m ∷ []) (ps ++ numbered named (length ps) (type_contents names c f p))) (sym at)
+      (record {
+        order = order-append [] ps new j.order (part-order (symbols_of before) ps j.held j.names names c f found.0 h.one h.taken over part);
+        said = said-append before ps new m j.said refl;
+        held = subst (AllByRecursion (IsHeld (ps ++ new))) (sym more)
+            (All-append (IsHeld (ps ++ new)) (symbols_of before) (x ∷ []) (All-weaker (IsHeld ps) (IsHeld (ps ++ new)) (held-more ps new) (symbols_of before) j.held)
+            (record { j = found.0; one = h.one; operator = has.0; abstraction = has.1.0; representation = has.1.1.0 }, tt {0}));
+        names = subst (λ ss. AllByRecursion (λ (z : Item). IsNamed ss z.content) (ps ++ new)) (sym more)
+            (All-append (λ (z : Item). IsNamed (symbols_of before ++ x ∷ []) z.content) ps new
+            (All-weaker (λ (z : Item). IsNamed (symbols_of before) z.content) (λ (z : Item). IsNamed (symbols_of before ++ x ∷ []) z.content) (λ z k. named-more (symbols_of before) (x ∷ []) z.content k) ps j.names)
+            (all-numbered (IsNamed (symbols_of before ++ x ∷ [])) (length ps) cs (part-names (symbols_of before) names c f (found.0, h.one) h.taken)));
+        parts = All-append (IsPartHeld (ps ++ new)) before (m ∷ []) (All-weaker (IsPartHeld ps) (IsPartHeld (ps ++ new)) (part-more ps new) before j.parts) (
+          record {
+            j = found.0;
+            one = h.one;
+            place = ap (λ l. slice_get l i) (filter_map-append said_of ps new) ∙ slice_get-append (said_by ps) (said_by new) i (found.0, h.one) found.1;
+            defines = h.defines;
+            operator = has.0;
+            abstraction = has.1.0;
+            representation = has.1.1.0;
+          },
+          tt {0},
+        );
+      })
   joined-next before ps proof j (Made.step x) h over =
       let c = step_content ps x in
       let y = needed (sequents_at ps x.premises) x in
@@ -316,6 +444,7 @@ module _ (named : Content → List ℕ) where
         held = subst (AllByRecursion (IsHeld (ps ++ new))) (sym more) (All-weaker (IsHeld ps) (IsHeld (ps ++ new)) (held-more ps new) (symbols_of before) j.held);
         names = subst (λ ss. AllByRecursion (λ (z : Item). IsNamed ss z.content) (ps ++ new)) (sym more)
             (All-append (λ (z : Item). IsNamed (symbols_of before) z.content) ps new j.names (named-step (symbols_of before) (has_row y.kind) y.kind js ss y.parameters y.sequent, tt {0}));
+        parts = All-append (IsPartHeld (ps ++ new)) before (Made.step x ∷ []) (All-weaker (IsPartHeld ps) (IsPartHeld (ps ++ new)) (part-more ps new) before j.parts) (tt {0}, tt {0});
       }
 
 module _ (named : Naming) where
@@ -328,7 +457,7 @@ module _ (named : Naming) where
   -- THE JOIN: what was made is, as items, made in order
   pub made-joined : (xs : List Made) → IsProof xs → IsOver xs → Joined xs (items_of named xs)
   made-joined xs proof over =
-      joined-after [] [] made.Each.empty (record { order = tt {0}; said = refl; held = tt {0}; names = tt {0} }) xs (each-after IsMade xs proof) (each-after IsMadeOver xs over)
+      joined-after [] [] made.Each.empty (record { order = tt {0}; said = refl; held = tt {0}; names = tt {0}; parts = tt {0} }) xs (each-after IsMade xs proof) (each-after IsMadeOver xs over)
 
   pub made-in_order : (xs : List Made) → IsProof xs → IsOver xs → AreMadeInOrder [] (items_of named xs)
   made-in_order xs proof over = (made-joined xs proof over).order

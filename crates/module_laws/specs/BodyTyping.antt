@@ -13,7 +13,7 @@ use Rattle.lp_spec.specs.Typing.{Typed}
 use Rattle.hol_laws.specs.Members.{is_in-IsIn}
 use Rattle.module_spec.specs.Scopes.{Symbols, Scope, scope_of, conclusion_tree}
 use Rattle.module_laws.specs.SequentScope.{context_of, IsPremise}
-use Rattle.module_laws.specs.ComputingBodies.{IsDefinition, DefinesConstant, StandsForVariable}
+use Rattle.module_laws.specs.ComputingBodies.{IsDefinition, DefinesPart, DefinesConstant, StandsForVariable}
 use Rattle.hol_spec.specs.Rules.{Parameters}
 use Rattle.hol_spec.specs.declared.StepKind.{StepKind}
 use Rattle.hol_spec.specs.declared.StepKind.TheVariants as kinds
@@ -28,11 +28,13 @@ ArePremises m symbols [] (s ∷ ss) = ⊥
 ArePremises m symbols (k ∷ ks) [] = ⊥
 
 -- what an inference that defines asks of the module
-abbrev pub Defined : List Declaration → Symbols → StepKind → List Sequent → Parameters → Type 0
-Defined m symbols kinds.DefineConst premises (Parameters.constant n t) = IsDefinition m symbols n (type_or t) t
-Defined m symbols kinds.DefineConstList (one ∷ []) (Parameters.constants pairs) =
+abbrev pub Defined : List Declaration → Symbols → StepKind → List ℕ → List Sequent → Parameters → Type 0
+Defined m symbols kinds.DefineConst js premises (Parameters.constant n t) = IsDefinition m symbols n (type_or t) t
+Defined m symbols kinds.DefineConstList js (one ∷ []) (Parameters.constants pairs) =
     AllByRecursion (DefinesConstant m symbols (constants_put pairs)) one.hypotheses × AllByRecursion (StandsForVariable m symbols (constants_put pairs)) (free_variables_of one)
-Defined m symbols kind premises given = Unit {0}
+Defined m symbols kinds.FirstLaw (j ∷ []) (one ∷ []) (Parameters.type_operator names) = DefinesPart m symbols names j one
+Defined m symbols kinds.SecondLaw (j ∷ []) (one ∷ []) (Parameters.type_operator names) = DefinesPart m symbols names j one
+Defined m symbols kind js premises given = Unit {0}
 
 pub record One (m : List Declaration) (symbols : Symbols) (js : List ℕ) (one : Sequent) : Type 0 where
   pub j : ℕ

@@ -8,14 +8,20 @@ use Rattle.hol_spec.specs.Substitution.{image, Instance, type_arguments}
 use Rattle.hol_laws.specs.TermInstances.{substitute-nothing}
 use Rattle.hol_spec.specs.Terms.{Term, free, bound, constant, app, lam, Variable, HasType, equation, type_variable_places, free_places}
 use Rattle.hol_spec.specs.TermSubstitution.{TermPairs, term_image, sub}
-use Rattle.lp_spec.specs.Modules.{Declaration}
 use Rattle.lp_spec.specs.Conversion.{symbol_definition}
 use Rattle.hol_spec.specs.Lists.{IsIn}
 use Rattle.hol_laws.specs.Members.{All-left, All-right, map-twice}
 use Rattle.hol_laws.specs.GenericInstances.{type_arguments-filled_in, substitute-is}
-use Rattle.module_spec.specs.Scopes.{Symbols, type_tree, Scope, constant_symbol, generic_type}
-use Rattle.module_laws.specs.ScopeTyping.{DeclaresConstant, ConstantOver, TypeOver, TermOver}
-use Rattle.module_spec.specs.Items.{definition_tree}
+use Rattle.module_spec.specs.Scopes.{Symbols, type_tree, Scope, operator_symbol, constant_symbol, generic_type}
+use Rattle.module_laws.specs.ScopeTyping.{DeclaresOperator, DeclaresConstant, ConstantOver, TypeOver, TermOver}
+use Rattle.module_spec.specs.Items.{definition_tree, part_definition_tree}
+use Rattle.std.specs.Prelude.{ℕ, length}
+use Rattle.hol_spec.specs.Sequents.{Sequent}
+use Rattle.hol_spec.specs.Definitions.{TypeNames}
+use Rattle.hol_spec.specs.NewTypes.{abstraction_type, representation_type}
+use Rattle.hol_spec.specs.TypeDefinitions.{IsTypeDefinition}
+use Rattle.lp_spec.specs.Modules.{Declaration, sub_symbol, sub_abs_symbol, sub_rep_symbol}
+use Rattle.module_laws.specs.SequentScope.{IsPremise}
 
 -- the module has this definition of a constant: its term is closed, and its type variables are those of its type
 pub record IsDefinition (m : List Declaration) (symbols : Symbols) (n : Name) (a : HolType) (t : Term) : Type 0 where
@@ -25,6 +31,34 @@ pub record IsDefinition (m : List Declaration) (symbols : Symbols) (n : Name) (a
   pub over : TermOver m symbols t
   pub no_free : AllByRecursion (λ v. ⊥) (free_places t)
   pub type_variables : AllByRecursion (IsIn (type_variables a)) (type_variable_places t)
+
+-- the module has the premise |- f t of a type definition from the type c
+pub record IsPartPremise (m : List Declaration) (symbols : Symbols) (names : TypeNames) (c : HolType) (j : ℕ) (one : Sequent) : Type 0 where
+  pub f : Term
+  pub defines : IsTypeDefinition names c f one
+  pub premise : IsPremise m symbols j one
+  pub ty : TypeOver m symbols c
+
+-- the module has the operator of a type definition
+pub record IsPartOperator (m : List Declaration) (symbols : Symbols) (names : TypeNames) (c : HolType) (j : ℕ) (one : Sequent) : Type 0 where
+  pub is : IsPartPremise m symbols names c j one
+  pub declared : DeclaresOperator m symbols names.operator (length names.variables)
+  pub definition : symbol_definition m (operator_symbol symbols names.operator (length names.variables)) ≡ Some (part_definition_tree symbols names.variables sub_symbol c j one)
+
+-- the module has a constant of a type definition, with this generic type, by this symbol of parts
+pub record IsPartConstant (m : List Declaration) (symbols : Symbols) (n : Name) (a : HolType) (s : ℕ) (c : HolType) (j : ℕ) (one : Sequent) : Type 0 where
+  pub declared : DeclaresConstant m symbols n
+  pub generic : generic_type symbols n ≡ a
+  pub definition : symbol_definition m (constant_symbol symbols n) ≡ Some (part_definition_tree symbols (type_variables a) s c j one)
+
+-- the module has the type definition from a premise
+pub record DefinesPart (m : List Declaration) (symbols : Symbols) (names : TypeNames) (j : ℕ) (one : Sequent) : Type 0 where
+  pub c : HolType
+  pub f : Term
+  pub defines : IsTypeDefinition names c f one
+  pub operator : IsPartOperator m symbols names c j one
+  pub abstraction : IsPartConstant m symbols names.abstraction (abstraction_type names c) sub_abs_symbol c j one
+  pub representation : IsPartConstant m symbols names.representation (representation_type names c) sub_rep_symbol c j one
 
 -- a closed term stays where no type is put
 pub sub-closed : (terms : TermPairs) (t : Term) → AllByRecursion (λ v. ⊥) (free_places t) → sub [] terms t ≡ t

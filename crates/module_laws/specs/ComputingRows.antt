@@ -53,12 +53,12 @@ pub shown : {m : List Declaration} {G : List Tree} {t p : Tree} → IsProof m fa
 shown {p = p} h = record { found = proof_of p; proof = h; near = near_same }
 
 -- the head step of a symbol at arguments
-spine-applied : (m : List Declaration) (f : Tree) (xs args : List Tree) → spine_step m (applied f xs) args ≡ spine_step m f (xs ++ args)
+pub spine-applied : (m : List Declaration) (f : Tree) (xs args : List Tree) → spine_step m (applied f xs) args ≡ spine_step m f (xs ++ args)
 spine-applied m f [] args = refl
 spine-applied m f (x ∷ xs) args = spine-applied m (App f x) xs args
 
 -- a symbol with a definition takes its head step by it
-symbol_step-defined : (m : List Declaration) (s : ℕ) (args : List Tree) (t : Tree) → symbol_definition m s ≡ Some t → symbol_step m s args ≡ unfolded (Some t) args
+pub symbol_step-defined : (m : List Declaration) (s : ℕ) (args : List Tree) (t : Tree) → symbol_definition m s ≡ Some t → symbol_step m s args ≡ unfolded (Some t) args
 symbol_step-defined m zero args t d = ap (λ o. unfolded o args) d
 symbol_step-defined m (suc zero) args t d = ap (λ o. unfolded o args) d
 symbol_step-defined m (suc (suc zero)) args t d = ap (λ o. unfolded o args) d

@@ -48,7 +48,7 @@ held-definitions ps (Symbol.defined (Definition.type_operator names c f) ∷ ss)
 pub type_or-is : (t : Term) (a : HolType) → HasType t a → type_or t ≡ a
 type_or-is t a h = ap (λ o. unwrap_or o bool) h
 
-closed-none : (vs : List Variable) → nat_eq (length vs) 0 ≡ true → AllByRecursion (λ v. ⊥) vs
+pub closed-none : (vs : List Variable) → nat_eq (length vs) 0 ≡ true → AllByRecursion (λ v. ⊥) vs
 closed-none [] e = tt
 closed-none (v ∷ vs) e = let l : length (v ∷ vs) ≡ 0 = (Decides-eqb (length (v ∷ vs)) 0).0 e in absurd (omega (arith, l))
 

@@ -1,5 +1,5 @@
 -- THE MODULE IS SHAPED: by induction on its items, each declaration is shaped over those before it.
-use Rattle.std.proofs.Common.{◌≡◌, inl, ℕ, zero, suc, ◌+◌, List, [], ◌∷◌, ◌++◌, append_assoc, map, length, false, Some, refl, sym, ap, subst, ◌∙◌, arith}
+use Rattle.std.proofs.Common.{◌≡◌, ◌⊎◌, inl, ℕ, zero, suc, ◌+◌, List, [], ◌∷◌, ◌++◌, append_assoc, map, length, false, Some, refl, sym, ap, subst, ◌∙◌, arith, inr}
 use Rattle.std.specs.Prelude.{replicate}
 use Rattle.std.specs.List.{AllByRecursion}
 use Rattle.std.proofs.lemmas.List.{append-nil, length-append}
@@ -7,7 +7,7 @@ use Rattle.hol_spec.specs.Names.{Name}
 use Rattle.hol_spec.specs.Types.{HolType, type_variables}
 use Rattle.hol_spec.specs.Terms.{Term, HasType}
 use Rattle.lp_spec.specs.Trees.{Tree, Sym, App}
-use Rattle.lp_spec.specs.Modules.{Declaration, signature, symbol_declaration, products, abstractions, types, bools, arr_of, term_of, proof_of, eq_of, eq_symbol}
+use Rattle.lp_spec.specs.Modules.{Declaration, signature, symbol_declaration, products, abstractions, types, bools, arr_of, term_of, proof_of, eq_of, eq_symbol, sub_symbol, sub_abs_symbol, sub_rep_symbol}
 use Rattle.lp_binding.specs.Composition.{lift_zero}
 use Rattle.lp_spec.specs.Lemmas.{lemmas, trans_lemma, trans_proof}
 use Rattle.lp_typing.specs.LemmasLaws.{lemmas_typed}
@@ -16,27 +16,37 @@ use Rattle.lp_spec.specs.Typing.{WellTyped}
 use Rattle.lp_typing.specs.Soundness.{IsSound, IsSound-closed, IsSound-after}
 use Rattle.lp_typing.specs.WellTypedLaws.{WellTyped-IsSound}
 use Rattle.lp_typing.specs.Telescopes.{under}
-use Rattle.lp_shape.specs.Shaped.{type_variable, constant, at_type, IsSimple, IsTerm, of_entry, of_constant, of_function, IsDeclared, of_types, of_terms, of_proofs, of_products, near_same, IsProof, hypothesis, under_binder, IsDefinition, defined, under_type, IsShaped}
+use Rattle.lp_shape.specs.Shaped.{type_variable, constant, at_type, IsSimple, IsTerm, of_entry, of_constant, of_function, IsDeclared, of_types, of_terms, of_proofs, of_products, near_same, IsProof, hypothesis, under_binder, IsDefinition, defined, under_type, Close, close_same, close_product, IsLaw, law_under, IsProofBody, IsLawBody, IsShaped}
 use Rattle.lp_shape.specs.ShapedCalls.{shaped-equation, shaped-refl, shaped-app_thm, shaped-eq_mp, sym_lemma-shaped}
 use Rattle.lp_shape.specs.ShapedPasses.{AreShaped, shaped-WellTyped}
 use Rattle.hol_laws.specs.Members.{All-append, All-weaker}
-use Rattle.module_spec.specs.Scopes.{Symbols, generic_tree, under_types, unfilled, filled, domains_of}
+use Rattle.module_spec.specs.Scopes.{Symbols, generic_tree, under_types, unfilled, filled, domains_of, scope_of, term_tree, sequent_tree}
 use Rattle.module_laws.specs.ScopeTyping.{TypeOver, TermOver, TypeOver-type_under}
 use Rattle.module_spec.specs.ProofTrees.{sym_symbol, trans_symbol}
 use Rattle.module_laws.specs.Bodies.{HasLemmas}
-use Rattle.module_spec.specs.Items.{definition_tree, Content, operator, defined_constant, unproved, step, Item, declaration_of, declaration, module_of, symbols_of}
-use Rattle.module_laws.specs.ItemConditions.{IsContent, AreItems}
-use Rattle.module_laws.specs.ModuleTyping.{HoldsItem, Holds-append, TypeOver-taken, TermOver-taken, SequentOver-taken, ArePremises-among, defined_among, slice_get-last, content-holds}
+use Rattle.module_spec.specs.Items.{definition_tree, Content, operator, defined_constant, type_operator, type_abstraction, type_representation, unproved, step, Item, declaration_of, declaration, module_of, symbols_of}
+use Rattle.module_laws.specs.ItemConditions.{IsContent, AreItems, IsPart}
+use Rattle.module_laws.specs.ModuleTyping.{HoldsItem, Holds-append, TypeOver-taken, TermOver-taken, SequentOver-taken, ArePremises-among, defined_among, slice_get-last, content-holds, held}
 use Rattle.module_laws.specs.MadeModules.{AreMade, items-made}
 use Rattle.module_spec.specs.Reach.{Key, image_items, keep_of, reached}
 use Rattle.module_laws.specs.KeptModules.{image-made}
 use Rattle.module_laws.specs.WantedItems.{AreMadeInOrder, made-numbered}
-use Rattle.module_laws.specs.ShapeLaws.{declared-products, proof-abstractions, near-products}
+use Rattle.module_laws.specs.ShapeLaws.{declared-products, proof-abstractions, near-products, AreDeclared}
 use Rattle.module_laws.specs.ShapedScopes.{type_tree-shaped, term_tree-shaped}
-use Rattle.module_laws.specs.ShapedSequents.{under_types-shaped, types-AreDeclared, filled-shaped, own_shape}
+use Rattle.module_laws.specs.ShapedSequents.{under_types-shaped, types-AreDeclared, filled-shaped, own_shape, OwnShape}
 use Rattle.module_laws.specs.ShapesTyped.{shaped-IsTypedAfter}
-use Rattle.module_laws.specs.RuleShapes.{rule-shaped}
+use Rattle.module_laws.specs.RuleShapes.{step-shaped}
+use Rattle.module_laws.specs.PartRows.{ShownLaw, part_definition-big, operator-shaped, abstraction-shaped, representation-shaped}
+use Rattle.hol_spec.specs.Definitions.{TypeNames}
+use Rattle.hol_spec.specs.NewTypes.{abstraction_type, representation_type}
 use Rattle.module_spec.specs.Items as item
+use Rattle.hol_spec.specs.Sequents.{Sequent}
+use Rattle.module_laws.specs.ComputingBodies.{IsPartPremise}
+use Rattle.hol_spec.specs.declared.StepKind.{StepKind}
+use Rattle.hol_spec.specs.Rules.{Parameters}
+use Rattle.module_laws.specs.ComputingRows.{Shown}
+use Rattle.module_laws.specs.SequentScope.{context_of}
+use Rattle.module_spec.specs.Rows.{proof_tree}
 
 module _ (m : List Declaration) where
   -- from x = y and y = z to x = z
@@ -73,6 +83,15 @@ module _ (m : List Declaration) where
   definition-abstractions [] h = h
   definition-abstractions (n ∷ ns) h = under_type (definition-abstractions ns h)
 
+  -- a law under its binders
+  law-abstractions : {G : List Tree} (domains : List Tree) {t A : Tree} → AreDeclared m G domains → IsLaw m (under G domains) t A → IsLaw m G (abstractions domains t) (products domains A)
+  law-abstractions [] h ht = ht
+  law-abstractions (a ∷ domains) h ht = law_under h.0 (law-abstractions domains h.1 ht)
+
+  close-products : (domains : List Tree) {A F : Tree} → Close m 3 A F → Close m 3 (products domains A) (products domains F)
+  close-products [] h = h
+  close-products (a ∷ domains) h = close_product close_same (close-products domains h)
+
   operator_type-shaped : (k : ℕ) {G : List Tree} → IsDeclared m G (products (replicate k types) types)
   operator_type-shaped zero = of_types
   operator_type-shaped (suc k) = of_products of_types (operator_type-shaped k)
@@ -95,6 +114,10 @@ module _ (m : List Declaration) (symbols : Symbols) (before : List Item) (holds 
       definition-abstractions m names
       (defined (term_tree-shaped m closed symbols D (filled symbols (under_types names unfilled)) [] (filled-shaped m closed symbols D (under_types names unfilled) shaped) (λ k b e. absurd (cc)) (λ k b e. absurd (cc)) t a o h))
 
+  part-premise : (names : TypeNames) (c : HolType) (u : Term) (j : ℕ) (one : Sequent) → IsPart before names c u j one → IsPartPremise m symbols names c j one
+  part-premise names c u j one h =
+      record { f = u; defines = h.defines; premise = (ArePremises-among m symbols before holds (j ∷ []) (one ∷ []) h.among).0; ty = TypeOver-taken m symbols before holds c h.ty }
+
   -- THE DECLARATION OF AN ITEM IS SHAPED
   pub content-shaped : (name : List ℕ) (c : Content) → IsContent before c → IsShaped m (declaration_of symbols name c)
   content-shaped name (operator n k) h = record { ty = operator_type-shaped m k; body = refl }
@@ -102,21 +125,48 @@ module _ (m : List Declaration) (symbols : Symbols) (before : List Item) (holds 
   content-shaped name (defined_constant n a t) h =
       let o = TermOver-taken m symbols before holds t h.taken in
       record { ty = generic_tree-shaped a (TypeOver-type_under m symbols [] (λ k b e. absurd (cc)) t a o h.typed); body = inl (definition-shaped a t o h.typed) }
+  content-shaped name (type_operator names c u j one) h =
+      let d = part-premise names c u j one h in record { ty = operator_type-shaped m (length names.variables); body = inr (operator-shaped m closed symbols names c j one d, part_definition-big m closed symbols names c j one d names.variables sub_symbol) }
+  content-shaped name (type_abstraction names c u j one) h =
+      let d = part-premise names c u j one h.0 in
+      let op = held m symbols before holds (type_operator names c u j one) h.2 in
+      let a = abstraction_type names c in
+      record {
+        ty = generic_tree-shaped a (TypeOver-taken m symbols before holds a h.1);
+        body = inr (abstraction-shaped m closed symbols names c j one d op, part_definition-big m closed symbols names c j one d (type_variables a) sub_abs_symbol);
+      }
+  content-shaped name (type_representation names c u j one) h =
+      let d = part-premise names c u j one h.0 in
+      let op = held m symbols before holds (type_operator names c u j one) h.2 in
+      let a = representation_type names c in
+      record {
+        ty = generic_tree-shaped a (TypeOver-taken m symbols before holds a h.1);
+        body = inr (representation-shaped m closed symbols names c j one d op, part_definition-big m closed symbols names c j one d (type_variables a) sub_rep_symbol);
+      }
   content-shaped name (unproved s) h =
       let own = own_shape m closed symbols s h.is (SequentOver-taken m symbols before holds s h) in
       record { ty = declared-products m (domains_of symbols s) own.domains own.conclusion; body = refl }
   content-shaped name (step kind js premises given s) h =
       let over = SequentOver-taken m symbols before holds s h.0.taken in
       let own = own_shape m closed symbols s h.0.taken.is over in
-      let row = rule-shaped m closed has symbols kind js premises given s h.0.rule h.0.row (ArePremises-among m symbols before holds js premises h.0.among) (defined_among m symbols before holds kind premises given h.1) h.0.taken.is over in
-      record {
-        ty = declared-products m (domains_of symbols s) own.domains own.conclusion;
-        body = inl (record {
-          found = products (domains_of symbols s) row.found;
-          proof = proof-abstractions m (domains_of symbols s) own.domains row.proof;
-          near = near-products m (domains_of symbols s) row.near;
-        });
-      }
+      let row = step-shaped m closed has symbols kind js premises given s h.0.rule h.0.row (ArePremises-among m symbols before holds js premises h.0.among) (defined_among m symbols before holds kind js premises given h.1) h.0.taken.is over in
+      record { ty = declared-products m (domains_of symbols s) own.domains own.conclusion; body = body s kind js premises given own row }
+    where
+      body : (s : Sequent) (kind : StepKind) (js : List ℕ) (premises : List Sequent) (given : Parameters) → OwnShape m symbols s
+          → Shown m (context_of symbols s) (proof_tree symbols (scope_of symbols s) kind js premises given) (term_tree symbols (scope_of symbols s) s.conclusion)
+          ⊎ ShownLaw m (context_of symbols s) (proof_tree symbols (scope_of symbols s) kind js premises given) (term_tree symbols (scope_of symbols s) s.conclusion)
+          → IsProofBody m (abstractions (domains_of symbols s) (proof_tree symbols (scope_of symbols s) kind js premises given)) (sequent_tree symbols s)
+          ⊎ IsLawBody m (abstractions (domains_of symbols s) (proof_tree symbols (scope_of symbols s) kind js premises given)) (sequent_tree symbols s)
+      body s kind js premises given own (inl row) = inl (record {
+        found = products (domains_of symbols s) row.found;
+        proof = proof-abstractions m (domains_of symbols s) own.domains row.proof;
+        near = near-products m (domains_of symbols s) row.near;
+      })
+      body s kind js premises given own (inr row) = inr (record {
+        found = products (domains_of symbols s) row.found;
+        law = law-abstractions m (domains_of symbols s) own.domains row.law;
+        close = close-products m (domains_of symbols s) row.close;
+      })
 
 AreShaped-append : (before ds es : List Declaration) → AreShaped before ds → AreShaped (before ++ ds) es → AreShaped before (ds ++ es)
 AreShaped-append before [] es h k = subst (λ b. AreShaped b es) (append-nil before) k

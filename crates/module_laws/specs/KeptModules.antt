@@ -1,5 +1,5 @@
 -- The module of what is kept of what was made: where all that a kept item needs is kept, the kept items, renumbered, are a well-typed module.
-use Rattle.std.proofs.Common.{◌≡◌, ℕ, suc, ◌+◌, List, [], ◌∷◌, ◌++◌, map, length, Bool, true, false, cond, ◌||◌, Some, inl, inr, refl, sym, ap, subst, ◌∙◌, arith}
+use Rattle.std.proofs.Common.{◌≡◌, ℕ, suc, ◌+◌, List, [], ◌∷◌, ◌++◌, map, length, Bool, true, false, cond, ◌||◌, Some, inl, inr, ⊎_elim, refl, sym, ap, subst, ◌∙◌, arith}
 use Rattle.std.specs.Option.{unwrap_or}
 use Rattle.std.specs.Map.{lookup}
 use Rattle.std.specs.List.{AllByRecursion, flat_map}
@@ -20,13 +20,17 @@ use Rattle.hol_spec.specs.Rules.{Parameters}
 use Rattle.hol_spec.specs.declared.StepKind.{StepKind}
 use Rattle.hol_spec.specs.declared.StepKind.TheVariants as kinds
 use Rattle.module_spec.specs.Rows.{type_or}
-use Rattle.module_spec.specs.Items.{Content, operator, constant, defined_constant, unproved, step, Item, is_operator, is_constant}
-use Rattle.module_laws.specs.ItemConditions.{Has, OperatorTaken, ConstantTaken, TypeTaken, TypesTaken, TermTaken, SequentTaken, ArePremisesAmong, IsDefinedBy, IsDefiningEquation, DefinesAmong, IsContent}
+use Rattle.module_spec.specs.Items.{Content, operator, constant, defined_constant, type_operator, type_abstraction, type_representation, unproved, step, Item, is_operator, is_constant}
+use Rattle.module_laws.specs.ItemConditions.{Has, OperatorTaken, ConstantTaken, TypeTaken, TypesTaken, TermTaken, SequentTaken, ArePremisesAmong, IsDefinedBy, IsDefiningEquation, IsPart, HasPart, DefinesAmong, IsContent}
 use Rattle.module_laws.specs.ItemConditions as items
 use Rattle.module_laws.specs.MadeModules.{any_content, IsNew, AreMade}
 use Rattle.module_laws.specs.SaidItems.{says-gives_of, says-renumbered}
 use Rattle.module_spec.specs.Reach.{Key, operator_key, constant_key, number_key, type_keys, types_keys, term_keys, sequent_keys, given_keys, needs, gives_of, gives, kept, renumbered_content, renumbered, count_kept, symbol_of, image_items}
 use Rattle.hol_spec.specs.DefinitionLists.{constants_put}
+use Rattle.hol_spec.specs.Primitives.{function, arrow_name}
+use Rattle.hol_spec.specs.Definitions.{TypeNames}
+use Rattle.hol_spec.specs.NewTypes.{new_type, abstraction_type, representation_type}
+use Rattle.hol_laws.specs.TypeLaws.{count-variables}
 
 -- all that is needed is kept
 abbrev pub AreKept : (ℕ → Bool) → List Item → List Key → Type 0
@@ -54,11 +58,17 @@ module _ (keep : ℕ → Bool) (before : List Item) where
   operator-kept : (n : Name) (k : ℕ) (keys : List Key) → IsIn keys (operator_key n k) → AreKept keep before keys → OperatorTaken before n k → OperatorTaken (kept keep before) n k
   operator-kept n k keys i h (items.OperatorTaken.primitive e) = items.OperatorTaken.primitive e
   operator-kept n k keys i h (items.OperatorTaken.declared t) = items.OperatorTaken.declared (Has-kept (operator n k) keys (λ j. i) h t)
+  operator-kept n k keys i h (items.OperatorTaken.part names c u j one t e f) =
+      items.OperatorTaken.part names c u j one (Has-kept (type_operator names c u j one) keys (λ l. subst (λ q. IsIn keys q) (λ w. operator_key (e w) (f w)) i) h t) e f
 
   constant-kept : (n : Name) (a : HolType) (keys : List Key) → IsIn keys (constant_key n) → AreKept keep before keys → ConstantTaken before n a → ConstantTaken (kept keep before) n a
   constant-kept n a keys i h (items.ConstantTaken.primitive g e w) = items.ConstantTaken.primitive g e w
   constant-kept n a keys i h (items.ConstantTaken.declared g t w) = items.ConstantTaken.declared g (Has-kept (constant n g) keys (λ j. i) h t) w
   constant-kept n a keys i h (items.ConstantTaken.defined g u t w) = items.ConstantTaken.defined g u (Has-kept (defined_constant n g u) keys (λ j. i) h t) w
+  constant-kept n a keys i h (items.ConstantTaken.abstraction names c u j one t e w) =
+      items.ConstantTaken.abstraction names c u j one (Has-kept (type_abstraction names c u j one) keys (λ l. subst (λ q. IsIn keys (constant_key q)) e i) h t) e w
+  constant-kept n a keys i h (items.ConstantTaken.representation names c u j one t e w) =
+      items.ConstantTaken.representation names c u j one (Has-kept (type_representation names c u j one) keys (λ l. subst (λ q. IsIn keys (constant_key q)) e i) h t) e w
 
   mutual
     type-kept : (t : HolType) → AreKept keep before (type_keys t) → TypeTaken before t → TypeTaken (kept keep before) t
@@ -116,55 +126,119 @@ module _ (keep : ℕ → Bool) (before : List Item) where
   equation-kept : (terms : TermPairs) → AreKept keep before (flat_map (λ p. term_keys p.1) terms) → (p : Term) → IsDefiningEquation before terms p → IsDefiningEquation (kept keep before) terms p
   equation-kept terms h p d = record { variable = d.variable; term = d.term; is = d.is; defined = defined-kept terms d.variable d.term h d.defined }
 
-  list-kept : (premises : List Sequent) (given : Parameters) → AreKept keep before (given_keys given) → DefinesAmong before kinds.DefineConstList premises given → DefinesAmong (kept keep before) kinds.DefineConstList premises given
-  list-kept (one ∷ []) (Parameters.constants pairs) h d = (
+  list-kept : (js : List ℕ) (premises : List Sequent) (given : Parameters) → AreKept keep before (given_keys given) → DefinesAmong before kinds.DefineConstList js premises given → DefinesAmong (kept keep before) kinds.DefineConstList js premises given
+  list-kept js (one ∷ []) (Parameters.constants pairs) h d = (
     All-weaker _ _ (equation-kept (constants_put pairs) h) one.hypotheses d.0,
     All-weaker _ _ (λ (v : Variable) (w : (t : Term) × IsDefinedBy before (constants_put pairs) v t). (w.0, defined-kept (constants_put pairs) v w.0 h w.1)) (free_variables_of one) d.1,
   )
-  list-kept [] given h d = tt
-  list-kept (one ∷ two ∷ ss) given h d = tt
-  list-kept (one ∷ []) Parameters.nothing h d = tt
-  list-kept (one ∷ []) (Parameters.term t) h d = tt
-  list-kept (one ∷ []) (Parameters.variable v) h d = tt
-  list-kept (one ∷ []) (Parameters.substitution ps ts) h d = tt
-  list-kept (one ∷ []) (Parameters.constant n t) h d = tt
-  list-kept (one ∷ []) (Parameters.sequent s) h d = tt
-  list-kept (one ∷ []) (Parameters.type_operator names) h d = tt
+  list-kept js [] given h d = tt
+  list-kept js (one ∷ two ∷ ss) given h d = tt
+  list-kept js (one ∷ []) Parameters.nothing h d = tt
+  list-kept js (one ∷ []) (Parameters.term t) h d = tt
+  list-kept js (one ∷ []) (Parameters.variable v) h d = tt
+  list-kept js (one ∷ []) (Parameters.substitution ps ts) h d = tt
+  list-kept js (one ∷ []) (Parameters.constant n t) h d = tt
+  list-kept js (one ∷ []) (Parameters.sequent s) h d = tt
+  list-kept js (one ∷ []) (Parameters.type_operator names) h d = tt
 
-  one-kept : (premises : List Sequent) (given : Parameters) → AreKept keep before (given_keys given) → DefinesAmong before kinds.DefineConst premises given → DefinesAmong (kept keep before) kinds.DefineConst premises given
-  one-kept premises (Parameters.constant n t) h d = Has-kept (defined_constant n (type_or t) t) (constant_key n ∷ []) (λ i. inl refl) h d
-  one-kept premises Parameters.nothing h d = tt
-  one-kept premises (Parameters.term t) h d = tt
-  one-kept premises (Parameters.variable v) h d = tt
-  one-kept premises (Parameters.substitution ps ts) h d = tt
-  one-kept premises (Parameters.constants ts) h d = tt
-  one-kept premises (Parameters.sequent s) h d = tt
-  one-kept premises (Parameters.type_operator names) h d = tt
+  one-kept : (js : List ℕ) (premises : List Sequent) (given : Parameters) → AreKept keep before (given_keys given) → DefinesAmong before kinds.DefineConst js premises given → DefinesAmong (kept keep before) kinds.DefineConst js premises given
+  one-kept js premises (Parameters.constant n t) h d = Has-kept (defined_constant n (type_or t) t) (constant_key n ∷ []) (λ i. inl refl) h d
+  one-kept js premises Parameters.nothing h d = tt
+  one-kept js premises (Parameters.term t) h d = tt
+  one-kept js premises (Parameters.variable v) h d = tt
+  one-kept js premises (Parameters.substitution ps ts) h d = tt
+  one-kept js premises (Parameters.constants ts) h d = tt
+  one-kept js premises (Parameters.sequent s) h d = tt
+  one-kept js premises (Parameters.type_operator names) h d = tt
 
-  defines-kept : (kind : StepKind) (premises : List Sequent) (given : Parameters) → AreKept keep before (given_keys given) → DefinesAmong before kind premises given → DefinesAmong (kept keep before) kind premises given
-  defines-kept kinds.DefineConst premises given h d = one-kept premises given h d
-  defines-kept kinds.DefineConstList premises given h d = list-kept premises given h d
-  defines-kept kinds.Refl premises given h d = tt
-  defines-kept kinds.Assume premises given h d = tt
-  defines-kept kinds.EqMp premises given h d = tt
-  defines-kept kinds.AbsThm premises given h d = tt
-  defines-kept kinds.AppThm premises given h d = tt
-  defines-kept kinds.DeductAntisym premises given h d = tt
-  defines-kept kinds.BetaConv premises given h d = tt
-  defines-kept kinds.Sym premises given h d = tt
-  defines-kept kinds.Trans premises given h d = tt
-  defines-kept kinds.ProveHyp premises given h d = tt
-  defines-kept kinds.Subst premises given h d = tt
-  defines-kept kinds.Restate premises given h d = tt
-  defines-kept kinds.Axiom premises given h d = tt
-  defines-kept kinds.FirstLaw premises given h d = tt
-  defines-kept kinds.SecondLaw premises given h d = tt
+  part-kept : (names : TypeNames) (c : HolType) (u : Term) (j : ℕ) (one : Sequent) → AreKept keep before (number_key j ∷ type_keys c) → IsPart before names c u j one → IsPart (kept keep before) names c u j one
+  part-kept names c u j one h o = record {
+    defines = o.defines;
+    among = premises-kept (j ∷ []) (one ∷ []) (AreKept-left (number_key j ∷ []) (type_keys c) h) o.among;
+    ty = type-kept c (AreKept-right (number_key j ∷ []) (type_keys c) h) o.ty;
+  }
+
+  -- the type from which a type definition is made occurs in the types of its constants
+  type-of-function : (a b : HolType) → AreKept keep before (type_keys (function a b)) → AreKept keep before (type_keys a) × AreKept keep before (type_keys b)
+  type-of-function a b h =
+      let both = AreKept-right (operator_key arrow_name 2 ∷ []) (type_keys a ++ (type_keys b ++ [])) h in
+      (AreKept-left (type_keys a) (type_keys b ++ []) both, AreKept-left (type_keys b) [] (AreKept-right (type_keys a) (type_keys b ++ []) both))
+
+  operator-of-new : (names : TypeNames) → AreKept keep before (type_keys (new_type names)) → AreKept keep before (operator_key names.operator (length names.variables) ∷ [])
+  operator-of-new names h x i (inl e) = h x i (inl (e ∙ ap (operator_key names.operator) (sym (count-variables names.variables))))
+  operator-of-new names h x i (inr n) = absurd n
+
+  law-kept : (names : TypeNames) (j : ℕ) (one : Sequent) → AreKept keep before (given_keys (Parameters.type_operator names)) → HasPart before names j one → HasPart (kept keep before) names j one
+  law-kept names j one h o = record {
+    c = o.c;
+    f = o.f;
+    defines = o.defines;
+    operator = Has-kept (type_operator names o.c o.f j one) (given_keys (Parameters.type_operator names)) (λ i. inl refl) h o.operator;
+    abstraction = Has-kept (type_abstraction names o.c o.f j one) (given_keys (Parameters.type_operator names)) (λ i. inr (inl refl)) h o.abstraction;
+    representation = Has-kept (type_representation names o.c o.f j one) (given_keys (Parameters.type_operator names)) (λ i. inr (inr (inl refl))) h o.representation;
+  }
+
+  defines-kept : (kind : StepKind) (js : List ℕ) (premises : List Sequent) (given : Parameters) → AreKept keep before (given_keys given) → DefinesAmong before kind js premises given → DefinesAmong (kept keep before) kind js premises given
+  defines-kept kinds.DefineConst js premises given h d = one-kept js premises given h d
+  defines-kept kinds.DefineConstList js premises given h d = list-kept js premises given h d
+  defines-kept kinds.Refl js premises given h d = tt
+  defines-kept kinds.Assume js premises given h d = tt
+  defines-kept kinds.EqMp js premises given h d = tt
+  defines-kept kinds.AbsThm js premises given h d = tt
+  defines-kept kinds.AppThm js premises given h d = tt
+  defines-kept kinds.DeductAntisym js premises given h d = tt
+  defines-kept kinds.BetaConv js premises given h d = tt
+  defines-kept kinds.Sym js premises given h d = tt
+  defines-kept kinds.Trans js premises given h d = tt
+  defines-kept kinds.ProveHyp js premises given h d = tt
+  defines-kept kinds.Subst js premises given h d = tt
+  defines-kept kinds.Restate js premises given h d = tt
+  defines-kept kinds.Axiom js premises given h d = tt
+  defines-kept kinds.FirstLaw (j ∷ []) (one ∷ []) (Parameters.type_operator names) h d = law-kept names j one h d
+  defines-kept kinds.FirstLaw [] premises given h d = tt
+  defines-kept kinds.FirstLaw (j ∷ k ∷ js) premises given h d = tt
+  defines-kept kinds.FirstLaw (j ∷ []) [] given h d = tt
+  defines-kept kinds.FirstLaw (j ∷ []) (one ∷ two ∷ ss) given h d = tt
+  defines-kept kinds.FirstLaw (j ∷ []) (one ∷ []) Parameters.nothing h d = tt
+  defines-kept kinds.FirstLaw (j ∷ []) (one ∷ []) (Parameters.term t) h d = tt
+  defines-kept kinds.FirstLaw (j ∷ []) (one ∷ []) (Parameters.variable v) h d = tt
+  defines-kept kinds.FirstLaw (j ∷ []) (one ∷ []) (Parameters.substitution ps ts) h d = tt
+  defines-kept kinds.FirstLaw (j ∷ []) (one ∷ []) (Parameters.constant n t) h d = tt
+  defines-kept kinds.FirstLaw (j ∷ []) (one ∷ []) (Parameters.sequent s) h d = tt
+  defines-kept kinds.FirstLaw (j ∷ []) (one ∷ []) (Parameters.constants ps) h d = tt
+  defines-kept kinds.SecondLaw (j ∷ []) (one ∷ []) (Parameters.type_operator names) h d = law-kept names j one h d
+  defines-kept kinds.SecondLaw [] premises given h d = tt
+  defines-kept kinds.SecondLaw (j ∷ k ∷ js) premises given h d = tt
+  defines-kept kinds.SecondLaw (j ∷ []) [] given h d = tt
+  defines-kept kinds.SecondLaw (j ∷ []) (one ∷ two ∷ ss) given h d = tt
+  defines-kept kinds.SecondLaw (j ∷ []) (one ∷ []) Parameters.nothing h d = tt
+  defines-kept kinds.SecondLaw (j ∷ []) (one ∷ []) (Parameters.term t) h d = tt
+  defines-kept kinds.SecondLaw (j ∷ []) (one ∷ []) (Parameters.variable v) h d = tt
+  defines-kept kinds.SecondLaw (j ∷ []) (one ∷ []) (Parameters.substitution ps ts) h d = tt
+  defines-kept kinds.SecondLaw (j ∷ []) (one ∷ []) (Parameters.constant n t) h d = tt
+  defines-kept kinds.SecondLaw (j ∷ []) (one ∷ []) (Parameters.sequent s) h d = tt
+  defines-kept kinds.SecondLaw (j ∷ []) (one ∷ []) (Parameters.constants ps) h d = tt
 
   -- what an item asks of those before it, it has among those that are kept
   content-kept : (c : Content) → AreKept keep before (needs c) → IsContent before c → IsContent (kept keep before) c
   content-kept (operator n k) h o = tt
   content-kept (constant n a) h o = type-kept a h o
   content-kept (defined_constant n a t) h o = record { typed = o.typed; taken = term-kept t h o.taken; no_free = o.no_free; type_variables = o.type_variables }
+  content-kept (type_operator names c u j one) h o = part-kept names c u j one h o
+  content-kept (type_abstraction names c u j one) h o =
+      let all = AreKept-right (number_key j ∷ []) (type_keys (abstraction_type names c)) h in
+      let parts = type-of-function c (new_type names) all in (
+        part-kept names c u j one (λ x i. ⊎_elim (λ e. h x i (inl e)) (λ k. parts.0 x i k)) o.0,
+        type-kept (abstraction_type names c) all o.1,
+        Has-kept (type_operator names c u j one) (operator_key names.operator (length names.variables) ∷ []) (λ i. inl refl) (operator-of-new names parts.1) o.2,
+      )
+  content-kept (type_representation names c u j one) h o =
+      let all = AreKept-right (number_key j ∷ []) (type_keys (representation_type names c)) h in
+      let parts = type-of-function (new_type names) c all in (
+        part-kept names c u j one (λ x i. ⊎_elim (λ e. h x i (inl e)) (λ k. parts.1 x i k)) o.0,
+        type-kept (representation_type names c) all o.1,
+        Has-kept (type_operator names c u j one) (operator_key names.operator (length names.variables) ∷ []) (λ i. inl refl) (operator-of-new names parts.0) o.2,
+      )
   content-kept (unproved s) h o = sequent-kept s h o
   content-kept (step kind js premises given s) h o =
       let front = AreKept-left (sequent_keys s ++ map number_key js) (given_keys given) h in (
@@ -174,7 +248,7 @@ module _ (keep : ℕ → Bool) (before : List Item) where
           among = premises-kept js premises (AreKept-right (sequent_keys s) (map number_key js) front) o.0.among;
           taken = sequent-kept s (AreKept-left (sequent_keys s) (map number_key js) front) o.0.taken;
         },
-        defines-kept kind premises given (AreKept-right (sequent_keys s ++ map number_key js) (given_keys given) h) o.1,
+        defines-kept kind js premises given (AreKept-right (sequent_keys s ++ map number_key js) (given_keys given) h) o.1,
       )
 
   any-kept : (test : Content → Bool) (xs : List Item) → any_content test xs ≡ false → any_content test (kept keep xs) ≡ false
@@ -193,6 +267,9 @@ module _ (keep : ℕ → Bool) (before : List Item) where
   new-kept (operator n k) h = (h.0, any-kept (is_operator n k) before h.1)
   new-kept (constant n a) h = (h.0, any-kept (is_constant n) before h.1)
   new-kept (defined_constant n a t) h = (h.0, any-kept (is_constant n) before h.1)
+  new-kept (type_operator names c u j one) h = (h.0, any-kept (is_operator names.operator (length names.variables)) before h.1)
+  new-kept (type_abstraction names c u j one) h = (h.0, any-kept (is_constant names.abstraction) before h.1)
+  new-kept (type_representation names c u j one) h = (h.0, any-kept (is_constant names.representation) before h.1)
   new-kept (unproved s) h = tt
   new-kept (step kind js premises given s) h = tt
 
@@ -206,11 +283,14 @@ module _ (number : ℕ → ℕ) (xs : List Item) where
   operator-renumbered : (n : Name) (k : ℕ) → OperatorTaken xs n k → OperatorTaken ys n k
   operator-renumbered n k (items.OperatorTaken.primitive e) = items.OperatorTaken.primitive e
   operator-renumbered n k (items.OperatorTaken.declared t) = items.OperatorTaken.declared (Has-renumbered (operator n k) t)
+  operator-renumbered n k (items.OperatorTaken.part names c u j one t e f) = items.OperatorTaken.part names c u (number j) one (Has-renumbered (type_operator names c u j one) t) e f
 
   constant-renumbered : (n : Name) (a : HolType) → ConstantTaken xs n a → ConstantTaken ys n a
   constant-renumbered n a (items.ConstantTaken.primitive g e w) = items.ConstantTaken.primitive g e w
   constant-renumbered n a (items.ConstantTaken.declared g t w) = items.ConstantTaken.declared g (Has-renumbered (constant n g) t) w
   constant-renumbered n a (items.ConstantTaken.defined g u t w) = items.ConstantTaken.defined g u (Has-renumbered (defined_constant n g u) t) w
+  constant-renumbered n a (items.ConstantTaken.abstraction names c u j one t e w) = items.ConstantTaken.abstraction names c u (number j) one (Has-renumbered (type_abstraction names c u j one) t) e w
+  constant-renumbered n a (items.ConstantTaken.representation names c u j one t e w) = items.ConstantTaken.representation names c u (number j) one (Has-renumbered (type_representation names c u j one) t) e w
 
   mutual
     type-renumbered : (t : HolType) → TypeTaken xs t → TypeTaken ys t
@@ -240,54 +320,92 @@ module _ (number : ℕ → ℕ) (xs : List Item) where
   defined-renumbered : (terms : TermPairs) (v : Variable) (t : Term) → IsDefinedBy xs terms v t → IsDefinedBy ys terms v t
   defined-renumbered terms v t d = record { name = d.name; image = d.image; has = Has-renumbered (defined_constant d.name v.1 t) d.has }
 
-  list-renumbered : (premises : List Sequent) (given : Parameters) → DefinesAmong xs kinds.DefineConstList premises given → DefinesAmong ys kinds.DefineConstList premises given
-  list-renumbered (one ∷ []) (Parameters.constants pairs) d = (
+  list-renumbered : (js : List ℕ) (premises : List Sequent) (given : Parameters) → DefinesAmong xs kinds.DefineConstList js premises given → DefinesAmong ys kinds.DefineConstList (map number js) premises given
+  list-renumbered js (one ∷ []) (Parameters.constants pairs) d = (
     All-weaker _ _ (λ (p : Term) (w : IsDefiningEquation xs (constants_put pairs) p). record { variable = w.variable; term = w.term; is = w.is; defined = defined-renumbered (constants_put pairs) w.variable w.term w.defined }) one.hypotheses d.0,
     All-weaker _ _ (λ (v : Variable) (w : (t : Term) × IsDefinedBy xs (constants_put pairs) v t). (w.0, defined-renumbered (constants_put pairs) v w.0 w.1)) (free_variables_of one) d.1,
   )
-  list-renumbered [] given d = tt
-  list-renumbered (one ∷ two ∷ ss) given d = tt
-  list-renumbered (one ∷ []) Parameters.nothing d = tt
-  list-renumbered (one ∷ []) (Parameters.term t) d = tt
-  list-renumbered (one ∷ []) (Parameters.variable v) d = tt
-  list-renumbered (one ∷ []) (Parameters.substitution ps ts) d = tt
-  list-renumbered (one ∷ []) (Parameters.constant n t) d = tt
-  list-renumbered (one ∷ []) (Parameters.sequent s) d = tt
-  list-renumbered (one ∷ []) (Parameters.type_operator names) d = tt
+  list-renumbered js [] given d = tt
+  list-renumbered js (one ∷ two ∷ ss) given d = tt
+  list-renumbered js (one ∷ []) Parameters.nothing d = tt
+  list-renumbered js (one ∷ []) (Parameters.term t) d = tt
+  list-renumbered js (one ∷ []) (Parameters.variable v) d = tt
+  list-renumbered js (one ∷ []) (Parameters.substitution ps ts) d = tt
+  list-renumbered js (one ∷ []) (Parameters.constant n t) d = tt
+  list-renumbered js (one ∷ []) (Parameters.sequent s) d = tt
+  list-renumbered js (one ∷ []) (Parameters.type_operator names) d = tt
 
-  one-renumbered : (premises : List Sequent) (given : Parameters) → DefinesAmong xs kinds.DefineConst premises given → DefinesAmong ys kinds.DefineConst premises given
-  one-renumbered premises (Parameters.constant n t) d = Has-renumbered (defined_constant n (type_or t) t) d
-  one-renumbered premises Parameters.nothing d = tt
-  one-renumbered premises (Parameters.term t) d = tt
-  one-renumbered premises (Parameters.variable v) d = tt
-  one-renumbered premises (Parameters.substitution ps ts) d = tt
-  one-renumbered premises (Parameters.constants ts) d = tt
-  one-renumbered premises (Parameters.sequent s) d = tt
-  one-renumbered premises (Parameters.type_operator names) d = tt
+  one-renumbered : (js : List ℕ) (premises : List Sequent) (given : Parameters) → DefinesAmong xs kinds.DefineConst js premises given → DefinesAmong ys kinds.DefineConst (map number js) premises given
+  one-renumbered js premises (Parameters.constant n t) d = Has-renumbered (defined_constant n (type_or t) t) d
+  one-renumbered js premises Parameters.nothing d = tt
+  one-renumbered js premises (Parameters.term t) d = tt
+  one-renumbered js premises (Parameters.variable v) d = tt
+  one-renumbered js premises (Parameters.substitution ps ts) d = tt
+  one-renumbered js premises (Parameters.constants ts) d = tt
+  one-renumbered js premises (Parameters.sequent s) d = tt
+  one-renumbered js premises (Parameters.type_operator names) d = tt
 
-  defines-renumbered : (kind : StepKind) (premises : List Sequent) (given : Parameters) → DefinesAmong xs kind premises given → DefinesAmong ys kind premises given
-  defines-renumbered kinds.DefineConst premises given d = one-renumbered premises given d
-  defines-renumbered kinds.DefineConstList premises given d = list-renumbered premises given d
-  defines-renumbered kinds.Refl premises given d = tt
-  defines-renumbered kinds.Assume premises given d = tt
-  defines-renumbered kinds.EqMp premises given d = tt
-  defines-renumbered kinds.AbsThm premises given d = tt
-  defines-renumbered kinds.AppThm premises given d = tt
-  defines-renumbered kinds.DeductAntisym premises given d = tt
-  defines-renumbered kinds.BetaConv premises given d = tt
-  defines-renumbered kinds.Sym premises given d = tt
-  defines-renumbered kinds.Trans premises given d = tt
-  defines-renumbered kinds.ProveHyp premises given d = tt
-  defines-renumbered kinds.Subst premises given d = tt
-  defines-renumbered kinds.Restate premises given d = tt
-  defines-renumbered kinds.Axiom premises given d = tt
-  defines-renumbered kinds.FirstLaw premises given d = tt
-  defines-renumbered kinds.SecondLaw premises given d = tt
+  part-renumbered : (names : TypeNames) (c : HolType) (u : Term) (j : ℕ) (one : Sequent) → IsPart xs names c u j one → IsPart ys names c u (number j) one
+  part-renumbered names c u j one o = record { defines = o.defines; among = premises-renumbered (j ∷ []) (one ∷ []) o.among; ty = type-renumbered c o.ty }
+
+  law-renumbered : (names : TypeNames) (j : ℕ) (one : Sequent) → HasPart xs names j one → HasPart ys names (number j) one
+  law-renumbered names j one o = record {
+    c = o.c;
+    f = o.f;
+    defines = o.defines;
+    operator = Has-renumbered (type_operator names o.c o.f j one) o.operator;
+    abstraction = Has-renumbered (type_abstraction names o.c o.f j one) o.abstraction;
+    representation = Has-renumbered (type_representation names o.c o.f j one) o.representation;
+  }
+
+  defines-renumbered : (kind : StepKind) (js : List ℕ) (premises : List Sequent) (given : Parameters) → DefinesAmong xs kind js premises given → DefinesAmong ys kind (map number js) premises given
+  defines-renumbered kinds.DefineConst js premises given d = one-renumbered js premises given d
+  defines-renumbered kinds.DefineConstList js premises given d = list-renumbered js premises given d
+  defines-renumbered kinds.Refl js premises given d = tt
+  defines-renumbered kinds.Assume js premises given d = tt
+  defines-renumbered kinds.EqMp js premises given d = tt
+  defines-renumbered kinds.AbsThm js premises given d = tt
+  defines-renumbered kinds.AppThm js premises given d = tt
+  defines-renumbered kinds.DeductAntisym js premises given d = tt
+  defines-renumbered kinds.BetaConv js premises given d = tt
+  defines-renumbered kinds.Sym js premises given d = tt
+  defines-renumbered kinds.Trans js premises given d = tt
+  defines-renumbered kinds.ProveHyp js premises given d = tt
+  defines-renumbered kinds.Subst js premises given d = tt
+  defines-renumbered kinds.Restate js premises given d = tt
+  defines-renumbered kinds.Axiom js premises given d = tt
+  defines-renumbered kinds.FirstLaw (j ∷ []) (one ∷ []) (Parameters.type_operator names) d = law-renumbered names j one d
+  defines-renumbered kinds.FirstLaw [] premises given d = tt
+  defines-renumbered kinds.FirstLaw (j ∷ k ∷ js) premises given d = tt
+  defines-renumbered kinds.FirstLaw (j ∷ []) [] given d = tt
+  defines-renumbered kinds.FirstLaw (j ∷ []) (one ∷ two ∷ ss) given d = tt
+  defines-renumbered kinds.FirstLaw (j ∷ []) (one ∷ []) Parameters.nothing d = tt
+  defines-renumbered kinds.FirstLaw (j ∷ []) (one ∷ []) (Parameters.term t) d = tt
+  defines-renumbered kinds.FirstLaw (j ∷ []) (one ∷ []) (Parameters.variable v) d = tt
+  defines-renumbered kinds.FirstLaw (j ∷ []) (one ∷ []) (Parameters.substitution ps ts) d = tt
+  defines-renumbered kinds.FirstLaw (j ∷ []) (one ∷ []) (Parameters.constant n t) d = tt
+  defines-renumbered kinds.FirstLaw (j ∷ []) (one ∷ []) (Parameters.sequent s) d = tt
+  defines-renumbered kinds.FirstLaw (j ∷ []) (one ∷ []) (Parameters.constants ps) d = tt
+  defines-renumbered kinds.SecondLaw (j ∷ []) (one ∷ []) (Parameters.type_operator names) d = law-renumbered names j one d
+  defines-renumbered kinds.SecondLaw [] premises given d = tt
+  defines-renumbered kinds.SecondLaw (j ∷ k ∷ js) premises given d = tt
+  defines-renumbered kinds.SecondLaw (j ∷ []) [] given d = tt
+  defines-renumbered kinds.SecondLaw (j ∷ []) (one ∷ two ∷ ss) given d = tt
+  defines-renumbered kinds.SecondLaw (j ∷ []) (one ∷ []) Parameters.nothing d = tt
+  defines-renumbered kinds.SecondLaw (j ∷ []) (one ∷ []) (Parameters.term t) d = tt
+  defines-renumbered kinds.SecondLaw (j ∷ []) (one ∷ []) (Parameters.variable v) d = tt
+  defines-renumbered kinds.SecondLaw (j ∷ []) (one ∷ []) (Parameters.substitution ps ts) d = tt
+  defines-renumbered kinds.SecondLaw (j ∷ []) (one ∷ []) (Parameters.constant n t) d = tt
+  defines-renumbered kinds.SecondLaw (j ∷ []) (one ∷ []) (Parameters.sequent s) d = tt
+  defines-renumbered kinds.SecondLaw (j ∷ []) (one ∷ []) (Parameters.constants ps) d = tt
 
   content-renumbered : (c : Content) → IsContent xs c → IsContent ys (renumbered_content number c)
   content-renumbered (operator n k) o = tt
   content-renumbered (constant n a) o = type-renumbered a o
   content-renumbered (defined_constant n a t) o = record { typed = o.typed; taken = term-renumbered t o.taken; no_free = o.no_free; type_variables = o.type_variables }
+  content-renumbered (type_operator names c u j one) o = part-renumbered names c u j one o
+  content-renumbered (type_abstraction names c u j one) o = (part-renumbered names c u j one o.0, type-renumbered (abstraction_type names c) o.1, Has-renumbered (type_operator names c u j one) o.2)
+  content-renumbered (type_representation names c u j one) o = (part-renumbered names c u j one o.0, type-renumbered (representation_type names c) o.1, Has-renumbered (type_operator names c u j one) o.2)
   content-renumbered (unproved s) o = sequent-renumbered s o
   content-renumbered (step kind js premises given s) o = (
     record {
@@ -296,13 +414,16 @@ module _ (number : ℕ → ℕ) (xs : List Item) where
       among = premises-renumbered js premises o.0.among;
       taken = sequent-renumbered s o.0.taken;
     },
-    defines-renumbered kind premises given o.1,
+    defines-renumbered kind js premises given o.1,
   )
 
   is_operator-renumbered : (n : Name) (k : ℕ) (c : Content) → is_operator n k (renumbered_content number c) ≡ is_operator n k c
   is_operator-renumbered n k (operator m j) = refl
   is_operator-renumbered n k (constant m a) = refl
   is_operator-renumbered n k (defined_constant m a t) = refl
+  is_operator-renumbered n k (type_operator names c u j one) = refl
+  is_operator-renumbered n k (type_abstraction names c u j one) = refl
+  is_operator-renumbered n k (type_representation names c u j one) = refl
   is_operator-renumbered n k (unproved s) = refl
   is_operator-renumbered n k (step kind js premises given s) = refl
 
@@ -310,6 +431,9 @@ module _ (number : ℕ → ℕ) (xs : List Item) where
   is_constant-renumbered n (operator m j) = refl
   is_constant-renumbered n (constant m a) = refl
   is_constant-renumbered n (defined_constant m a t) = refl
+  is_constant-renumbered n (type_operator names c u j one) = refl
+  is_constant-renumbered n (type_abstraction names c u j one) = refl
+  is_constant-renumbered n (type_representation names c u j one) = refl
   is_constant-renumbered n (unproved s) = refl
   is_constant-renumbered n (step kind js premises given s) = refl
 
@@ -321,6 +445,10 @@ new-renumbered : (number : ℕ → ℕ) (xs : List Item) (c : Content) → IsNew
 new-renumbered number xs (operator n k) h = (h.0, any-renumbered number (is_operator n k) (is_operator-renumbered number xs n k) xs ∙ h.1)
 new-renumbered number xs (constant n a) h = (h.0, any-renumbered number (is_constant n) (is_constant-renumbered number xs n) xs ∙ h.1)
 new-renumbered number xs (defined_constant n a t) h = (h.0, any-renumbered number (is_constant n) (is_constant-renumbered number xs n) xs ∙ h.1)
+new-renumbered number xs (type_operator names c u j one) h =
+    (h.0, any-renumbered number (is_operator names.operator (length names.variables)) (is_operator-renumbered number xs names.operator (length names.variables)) xs ∙ h.1)
+new-renumbered number xs (type_abstraction names c u j one) h = (h.0, any-renumbered number (is_constant names.abstraction) (is_constant-renumbered number xs names.abstraction) xs ∙ h.1)
+new-renumbered number xs (type_representation names c u j one) h = (h.0, any-renumbered number (is_constant names.representation) (is_constant-renumbered number xs names.representation) xs ∙ h.1)
 new-renumbered number xs (unproved s) h = tt
 new-renumbered number xs (step kind js premises given s) h = tt
 

@@ -8,10 +8,10 @@ pub mod ComputingRows
 pub mod DeepScopes
 pub mod DefinitionsHeld
 pub mod ExportNames
+pub mod HeldItems
 pub mod ItemConditions
 pub mod ItemShapes
 pub mod KeptModules
-pub mod LawSpreads
 pub mod ListedScopes
 pub mod MadeModules
 pub mod MeaningLaws
@@ -20,6 +20,8 @@ pub mod NameStatements
 pub mod NeededSteps
 pub mod NumeralLaws
 pub mod OrderedModules
+pub mod PartRows
+pub mod PartTrees
 pub mod PricedModules
 pub mod PuttingLaws
 pub mod RuleShapes

@@ -10,7 +10,7 @@ use Rattle.hol_spec.specs.Primitives.{generic, equality_type, select_type, primi
 use Rattle.lp_spec.specs.Modules.{signature}
 use Rattle.lp_spec.specs.Lemmas.{lemmas}
 use Rattle.module_spec.specs.Scopes.{Symbols, operator_symbol, constant_symbol, generic_type}
-use Rattle.module_spec.specs.Items.{Content, operator, constant, defined_constant, unproved, step, Item, is_operator, is_constant, generic_of, first_symbol, first_type, symbols_of}
+use Rattle.module_spec.specs.Items.{Content, operator, constant, defined_constant, type_operator, type_abstraction, type_representation, unproved, step, Item, is_operator, is_constant, generic_of, first_symbol, first_type, symbols_of}
 use Rattle.module_laws.specs.ItemConditions.{IsContent, Tells, AreItems}
 
 abbrev pub any_content : (Content → Bool) → List Item → Bool
@@ -22,6 +22,9 @@ abbrev pub IsNew : List Item → Content → Type 0
 IsNew before (operator n k) = (primitive_arity n ≡ None) × (any_content (is_operator n k) before ≡ false)
 IsNew before (constant n a) = (primitive_type n ≡ None) × (any_content (is_constant n) before ≡ false)
 IsNew before (defined_constant n a t) = (primitive_type n ≡ None) × (any_content (is_constant n) before ≡ false)
+IsNew before (type_operator names c u j one) = (primitive_arity names.operator ≡ None) × (any_content (is_operator names.operator (length names.variables)) before ≡ false)
+IsNew before (type_abstraction names c u j one) = (primitive_type names.abstraction ≡ None) × (any_content (is_constant names.abstraction) before ≡ false)
+IsNew before (type_representation names c u j one) = (primitive_type names.representation ≡ None) × (any_content (is_constant names.representation) before ≡ false)
 IsNew before (unproved s) = Unit {0}
 IsNew before (step kind js premises given s) = Unit {0}
 
@@ -92,6 +95,19 @@ tells before xs x (defined_constant n a t) e h = (
   constant-input (symbols_of (before ++ x ∷ xs)) n h.0 ∙ first_symbol-new (is_constant n) before xs x h.1 (ap (is_constant n) e ∙ name_eq-refl n),
   generic-input (symbols_of (before ++ x ∷ xs)) n h.0 ∙ first_type-new (is_constant n) before xs x h.1 (ap (is_constant n) e ∙ name_eq-refl n) ∙ ap generic_of e,
 )
+tells before xs x (type_operator names c u j one) e h =
+    operator-input (symbols_of (before ++ x ∷ xs)) names.operator (length names.variables) h.0
+    ∙ first_symbol-new (is_operator names.operator (length names.variables)) before xs x h.1 (ap (is_operator names.operator (length names.variables)) e ∙ operator_self names.operator (length names.variables))
+tells before xs x (type_abstraction names c u j one) e h =
+    let n = names.abstraction in (
+      constant-input (symbols_of (before ++ x ∷ xs)) n h.0 ∙ first_symbol-new (is_constant n) before xs x h.1 (ap (is_constant n) e ∙ name_eq-refl n),
+      generic-input (symbols_of (before ++ x ∷ xs)) n h.0 ∙ first_type-new (is_constant n) before xs x h.1 (ap (is_constant n) e ∙ name_eq-refl n) ∙ ap generic_of e,
+    )
+tells before xs x (type_representation names c u j one) e h =
+    let n = names.representation in (
+      constant-input (symbols_of (before ++ x ∷ xs)) n h.0 ∙ first_symbol-new (is_constant n) before xs x h.1 (ap (is_constant n) e ∙ name_eq-refl n),
+      generic-input (symbols_of (before ++ x ∷ xs)) n h.0 ∙ first_type-new (is_constant n) before xs x h.1 (ap (is_constant n) e ∙ name_eq-refl n) ∙ ap generic_of e,
+    )
 tells before xs x (unproved s) e h = tt
 tells before xs x (step kind js premises given s) e h = tt
 

@@ -87,6 +87,7 @@ needed-IsStep before x h are = go (proves_nothing x.kind h.premises) refl
       premises = drop 1 h.premises;
       earlier = fewer-premises (sequents_of before) x.premises h.premises h.earlier;
       follows = record { rule = restated-rule x.kind h.premises x.parameters x.sequent h.follows.rule are e; defined = tt {0} };
+      law = tt {0};
     }
     go false e = h
 
@@ -121,8 +122,8 @@ nothing-row kinds.Restate ss e = refl
 nothing-row kinds.DefineConst ss e = refl
 nothing-row kinds.DefineConstList ss e = refl
 nothing-row kinds.Axiom ss e = absurd (cc)
-nothing-row kinds.FirstLaw ss e = absurd (cc)
-nothing-row kinds.SecondLaw ss e = absurd (cc)
+nothing-row kinds.FirstLaw ss e = refl
+nothing-row kinds.SecondLaw ss e = refl
 
 pub needed-row : (ss : List Sequent) (x : Step) → has_row (needed ss x).kind ≡ has_row x.kind
 needed-row ss x = go (proves_nothing x.kind ss) refl

@@ -8,7 +8,7 @@ use Rattle.std.proofs.lemmas.List.Elements.{filter_map-append}
 use Rattle.hol_spec.specs.Terms.{bound}
 use Rattle.hol_spec.specs.Sequents.{Sequent}
 use Rattle.hol_laws.specs.PlaceLaws.{get_or-seam}
-use Rattle.module_spec.specs.Items.{Content, operator, constant, defined_constant, unproved, step, Item, says}
+use Rattle.module_spec.specs.Items.{Content, operator, constant, defined_constant, type_operator, type_abstraction, type_representation, unproved, step, Item, says}
 use Rattle.module_spec.specs.MadeItems.{said_of, said_by, premise_at}
 use Rattle.module_spec.specs.Reach.{number_key, gives_of, renumbered_content}
 
@@ -17,6 +17,9 @@ pub says-gives_of : (i : ℕ) (c : Content) (s : Sequent) → says c ≡ Some s 
 says-gives_of i (operator n k) s e = absurd (cc)
 says-gives_of i (constant n a) s e = absurd (cc)
 says-gives_of i (defined_constant n a t) s e = absurd (cc)
+says-gives_of i (type_operator names c u j one) s e = absurd (cc)
+says-gives_of i (type_abstraction names c u j one) s e = absurd (cc)
+says-gives_of i (type_representation names c u j one) s e = absurd (cc)
 says-gives_of i (unproved r) s e = refl
 says-gives_of i (step kind js premises given r) s e = refl
 
@@ -25,6 +28,9 @@ pub says-renumbered : (number : ℕ → ℕ) (c : Content) → says (renumbered_
 says-renumbered number (operator n k) = refl
 says-renumbered number (constant n a) = refl
 says-renumbered number (defined_constant n a t) = refl
+says-renumbered number (type_operator names c u j one) = refl
+says-renumbered number (type_abstraction names c u j one) = refl
+says-renumbered number (type_representation names c u j one) = refl
 says-renumbered number (unproved s) = refl
 says-renumbered number (step kind js premises given s) = refl
 

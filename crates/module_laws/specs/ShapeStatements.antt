@@ -1,5 +1,5 @@
 -- The laws of shapes, as statements.
-use Rattle.std.specs.Prelude.{◌≡◌, ℕ, true, false, List, [], slice_get, Some}
+use Rattle.std.specs.Prelude.{◌⊎◌, ◌≡◌, ℕ, true, false, List, [], slice_get, Some}
 use Rattle.hol_spec.specs.Types.{HolType}
 use Rattle.hol_spec.specs.Terms.{Term, HasType}
 use Rattle.hol_spec.specs.Sequents.{Sequent, IsSequent}
@@ -25,7 +25,8 @@ use Rattle.module_laws.specs.ShapedScopes.{ShapedScope, term_tree-shaped}
 use Rattle.module_laws.specs.ShapedTheorems.{ShapedFits, theorem_tree-shaped}
 use Rattle.module_laws.specs.ShapedSequents.{OwnShape, own_shape}
 use Rattle.module_laws.specs.ComputingRows.{Shown}
-use Rattle.module_laws.specs.RuleShapes.{rule-shaped}
+use Rattle.module_laws.specs.RuleShapes.{step-shaped}
+use Rattle.module_laws.specs.PartRows.{ShownLaw}
 use Rattle.module_laws.specs.ItemShapes.{reached-shaped, reached-WellTyped}
 use Rattle.lp_shape.specs.PricedModules.{IsPriced}
 use Rattle.module_laws.specs.PricedModules.{reached-priced}
@@ -56,15 +57,17 @@ TheoremsShaped =
 pub theorems_shaped : TheoremsShaped
 theorems_shaped m symbols G scope s symbol declared is instances fits = theorem_tree-shaped m symbols G scope s symbol declared is instances fits
 
--- The proof of a step, by its rule, is a shaped proof in the scope of its sequent, whose found type is near its conclusion.
+-- The proof of a step, by its rule, is a shaped proof in the scope of its sequent, whose found type is near its conclusion, or that of a law of a
+-- type definition, whose found type is close to it.
 abbrev pub RulesShaped : Type 0
 RulesShaped =
     (m : List Declaration) → IsClosed m → HasLemmas m → (symbols : Symbols) (kind : StepKind) (js : List ℕ) (premises : List Sequent) (given : Parameters) (s : Sequent)
-    → Rule kind premises given s → has_row kind ≡ true → ArePremises m symbols js premises → Defined m symbols kind premises given → IsSequent s → SequentOver m symbols s
+    → Rule kind premises given s → has_row kind ≡ true → ArePremises m symbols js premises → Defined m symbols kind js premises given → IsSequent s → SequentOver m symbols s
     → Shown m (context_of symbols s) (proof_tree symbols (scope_of symbols s) kind js premises given) (term_tree symbols (scope_of symbols s) s.conclusion)
+    ⊎ ShownLaw m (context_of symbols s) (proof_tree symbols (scope_of symbols s) kind js premises given) (term_tree symbols (scope_of symbols s) s.conclusion)
 
 pub rules_shaped : RulesShaped
-rules_shaped m closed lemmas symbols kind js premises given s r row p d is over = rule-shaped m closed lemmas symbols kind js premises given s r row p d is over
+rules_shaped m closed lemmas symbols kind js premises given s r row p d is over = step-shaped m closed lemmas symbols kind js premises given s r row p d is over
 
 -- The module of what the roots reach, of what was made, is shaped.
 abbrev pub ModulesShaped : Type 0

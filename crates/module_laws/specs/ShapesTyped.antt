@@ -29,7 +29,8 @@ use Rattle.module_laws.specs.BodyTyping.{ArePremises, Defined, HasBody}
 use Rattle.module_laws.specs.ShapeLaws.{AreDeclared}
 use Rattle.module_laws.specs.ComputingRows.{Shown}
 use Rattle.module_laws.specs.ShapedSequents.{own_shape}
-use Rattle.module_laws.specs.RuleShapes.{rule-shaped}
+use Rattle.module_laws.specs.RuleShapes.{step-shaped}
+use Rattle.module_laws.specs.PartRows.{ShownLaw}
 use Rattle.lp_binding.specs.Composition.{put-lift_at}
 
 module _ (m : List Declaration) where
@@ -171,6 +172,9 @@ module _ (m : List Declaration) where
         let t = law-typed (entry c A) h in
         ⊎_elim (λ k. absurd (law-not_kind h k)) (λ (s : IsSorted m _ _). of_abstraction (of_product A s.by s.is) s.is t) (regular m sound (entry c A) t)
 
+    shown_law-typed : {G : List Tree} {t p : Tree} → IsContext m G → IsDeclared m G (proof_of p) → ShownLaw m G t p → Typed m G t (proof_of p)
+    shown_law-typed c d h = of_conversion (law-typed c h.law) (Conv-sym (close-Conv (IsSound-closed m sound) h.close)) (declared-typed (IsSound-closed m sound) d) is_type
+
     call-typed : {G : List Tree} {t A : Tree} → IsContext m G → IsCallDefinition m G t A → IsDeclared m G A → Typed m G t A
     call-typed c (by_type h) k = proof-typed c h
     call-typed c (by_term h d) k = of_conversion (proof-typed c h) (Conv-sym (close-Conv (IsSound-closed m sound) d)) (declared-typed (IsSound-closed m sound) k) is_type
@@ -196,9 +200,10 @@ module _ (m : List Declaration) where
 
     -- BODIES TYPED, by the shapes
     pub body-typed : HasLemmas m → (symbols : Symbols) (kind : StepKind) (js : List ℕ) (premises : List Sequent) (given : Parameters) (s : Sequent)
-        → Rule kind premises given s → has_row kind ≡ true → ArePremises m symbols js premises → Defined m symbols kind premises given → IsSequent s → SequentOver m symbols s
+        → Rule kind premises given s → has_row kind ≡ true → ArePremises m symbols js premises → Defined m symbols kind js premises given → IsSequent s → SequentOver m symbols s
         → HasBody m symbols (λ scope. proof_tree symbols scope kind js premises given) s
     body-typed lemmas symbols kind js premises given s r row p d is over =
         let closed = IsSound-closed m sound in
         let own = own_shape m closed symbols s is over in
-        shown-typed (declared-context (domains_of symbols s) nothing own.domains) own.conclusion (rule-shaped m closed lemmas symbols kind js premises given s r row p d is over)
+        let context = declared-context (domains_of symbols s) nothing own.domains in
+        ⊎_elim (shown-typed context own.conclusion) (shown_law-typed context own.conclusion) (step-shaped m closed lemmas symbols kind js premises given s r row p d is over)

@@ -16,21 +16,30 @@ use Rattle.hol_spec.specs.Substitution.{Instance}
 use Rattle.hol_spec.specs.Terms as term
 use Rattle.hol_spec.specs.Terms.{Term, type_of}
 use Rattle.hol_spec.specs.Sequents.{Sequent, IsSequent}
-use Rattle.hol_spec.specs.Definitions.{Definition}
+use Rattle.hol_spec.specs.Definitions.{Definition, TypeNames}
 use Rattle.hol_spec.specs.NewTypes.{abstraction_type, representation_type}
 use Rattle.hol_spec.specs.Symbols.{Symbol, defined_type, defined_arity, first_defined_type, first_defined_arity, generic_type, operator_arity, is_input_constant, is_input_operator, is_taken_constant}
 use Rattle.proof_laws.specs.SymbolGrowth.{operator-more, constant-more}
 use Rattle.hol_spec.specs.Taken as machine
 use Rattle.hol_laws.specs.Members.{All-weaker}
 use Rattle.module_spec.specs.Rows.{type_or}
-use Rattle.module_spec.specs.Items.{Content, operator, constant, defined_constant, unproved, step, Item, is_operator, is_constant}
+use Rattle.module_spec.specs.Items.{Content, operator, constant, defined_constant, type_operator, type_abstraction, type_representation, unproved, step, Item, is_operator, is_constant}
 use Rattle.module_laws.specs.ItemConditions.{Has, OperatorTaken, ConstantTaken, TypeTaken, TypesTaken, TermTaken, SequentTaken}
 use Rattle.module_laws.specs.ItemConditions as items
 use Rattle.module_laws.specs.MadeModules.{any_content}
 use Rattle.module_spec.specs.MadeItems.{contents_of}
 
+-- the type definition with these names from the type c, by the theorem of a symbol
+pub record HasTypeDefinition (ps : List Item) (names : TypeNames) (c : HolType) (f : Term) : Type 0 where
+  pub j : ℕ
+  pub one : Sequent
+  pub operator : Has ps (type_operator names c f j one)
+  pub abstraction : Has ps (type_abstraction names c f j one)
+  pub representation : Has ps (type_representation names c f j one)
+
 module _ (ps : List Item) where
   abbrev pub IsHeld : Symbol → Type 0
+  IsHeld (Symbol.defined (Definition.type_operator names c f)) = HasTypeDefinition ps names c f
   IsHeld x = AllByRecursion (Has ps) (contents_of x)
 
   symbol-operator : (n : Name) (k : ℕ) (x : Symbol) → IsHeld x → defined_arity n x ≡ Some k → OperatorTaken ps n k
@@ -40,7 +49,7 @@ module _ (ps : List Item) where
   symbol-operator n k (Symbol.defined (Definition.type_operator names c f)) h e = go (name_eq n names.operator) (name_eq-Decides n names.operator).0 e
     where
       go : (b : Bool) → (b ≡ true → n ≡ names.operator) → cond b (Some (length names.variables)) None ≡ Some k → OperatorTaken ps n k
-      go true same e = let i : length names.variables ≡ k = same_Some _ _ e in items.OperatorTaken.declared (subst (Has ps) (λ j. operator (sym (same refl) j) (i j)) h.0)
+      go true same e = let i : length names.variables ≡ k = same_Some _ _ e in items.OperatorTaken.part names c f h.j h.one h.operator (same refl) (sym i)
       go false same e = absurd (cc)
 
   symbol-constant : (n : Name) (g : HolType) (x : Symbol) → IsHeld x → defined_type n x ≡ Some g → (t : HolType) → Instance g t → ConstantTaken ps n t
@@ -58,13 +67,13 @@ module _ (ps : List Item) where
       second : (b : Bool) → (b ≡ true → n ≡ names.representation) → cond b (Some (representation_type names c)) None ≡ Some g → ConstantTaken ps n t
       second true same e =
           let a : representation_type names c ≡ g = same_Some _ _ e in
-          items.ConstantTaken.declared (representation_type names c) (subst (λ (l : Name). Has ps (constant l (representation_type names c))) (sym (same refl)) h.1.1.0) (subst (λ b. Instance b t) (sym a) i)
+          items.ConstantTaken.representation names c f h.j h.one h.representation (same refl) (subst (λ b. Instance b t) (sym a) i)
       second false same e = absurd (cc)
 
       go : (b : Bool) → (b ≡ true → n ≡ names.abstraction) → cond b (Some (abstraction_type names c)) (cond (name_eq n names.representation) (Some (representation_type names c)) None) ≡ Some g → ConstantTaken ps n t
       go true same e =
           let a : abstraction_type names c ≡ g = same_Some _ _ e in
-          items.ConstantTaken.declared (abstraction_type names c) (subst (λ (l : Name). Has ps (constant l (abstraction_type names c))) (sym (same refl)) h.1.0) (subst (λ b. Instance b t) (sym a) i)
+          items.ConstantTaken.abstraction names c f h.j h.one h.abstraction (same refl) (subst (λ b. Instance b t) (sym a) i)
       go false same e = second (name_eq n names.representation) (name_eq-Decides n names.representation).0 e
 
   symbol-input_operator : (n : Name) (k : ℕ) (x : Symbol) → IsHeld x → is_input_operator n k x ≡ true → OperatorTaken ps n k
@@ -148,6 +157,9 @@ abbrev pub IsNamed : List Symbol → Content → Type 0
 IsNamed ss (operator n k) = machine.OperatorTaken ss n k
 IsNamed ss (constant n a) = machine.ConstantTaken ss n a
 IsNamed ss (defined_constant n a t) = machine.ConstantTaken ss n a
+IsNamed ss (type_operator names c u j one) = machine.OperatorTaken ss names.operator (length names.variables)
+IsNamed ss (type_abstraction names c u j one) = machine.ConstantTaken ss names.abstraction (abstraction_type names c)
+IsNamed ss (type_representation names c u j one) = machine.ConstantTaken ss names.representation (representation_type names c)
 IsNamed ss (unproved s) = Unit {0}
 IsNamed ss (step kind js premises given s) = Unit {0}
 
@@ -155,6 +167,9 @@ pub named-more : (ss xs : List Symbol) (c : Content) → IsNamed ss c → IsName
 named-more ss xs (operator n k) h = operator-more ss xs n k h
 named-more ss xs (constant n a) h = constant-more ss xs n a h
 named-more ss xs (defined_constant n a t) h = constant-more ss xs n a h
+named-more ss xs (type_operator names c u j one) h = operator-more ss xs names.operator (length names.variables) h
+named-more ss xs (type_abstraction names c u j one) h = constant-more ss xs names.abstraction (abstraction_type names c) h
+named-more ss xs (type_representation names c u j one) h = constant-more ss xs names.representation (representation_type names c) h
 named-more ss xs (unproved s) h = tt
 named-more ss xs (step kind js premises given s) h = tt
 
@@ -171,18 +186,29 @@ module _ (ss : List Symbol) (n : Name) where
   other-constant new (operator m k) h = refl
   other-constant new (constant m a) h = false_from_ne_true (name_eq n m) (λ e. no_such-constant new a (subst (λ (l : Name). machine.ConstantTaken ss l a) (sym ((name_eq-Decides n m).0 e)) h))
   other-constant new (defined_constant m a t) h = false_from_ne_true (name_eq n m) (λ e. no_such-constant new a (subst (λ (l : Name). machine.ConstantTaken ss l a) (sym ((name_eq-Decides n m).0 e)) h))
+  other-constant new (type_operator names c u j one) h = refl
+  other-constant new (type_abstraction names c u j one) h =
+      false_from_ne_true (name_eq n names.abstraction) (λ e. no_such-constant new (abstraction_type names c) (subst (λ (l : Name). machine.ConstantTaken ss l (abstraction_type names c)) (sym ((name_eq-Decides n names.abstraction).0 e)) h))
+  other-constant new (type_representation names c u j one) h =
+      false_from_ne_true (name_eq n names.representation) (λ e. no_such-constant new (representation_type names c) (subst (λ (l : Name). machine.ConstantTaken ss l (representation_type names c)) (sym ((name_eq-Decides n names.representation).0 e)) h))
   other-constant new (unproved s) h = refl
   other-constant new (step kind js premises given s) h = refl
 
-  other-operator : (k : ℕ) → is_some (operator_arity ss n) ≡ false → list_any (is_input_operator n k) ss ≡ false → (c : Content) → IsNamed ss c → is_operator n k c ≡ false
-  other-operator k undefined new (operator m j) h =
+  another : (k : ℕ) (m : Name) (j : ℕ) → is_some (operator_arity ss n) ≡ false → list_any (is_input_operator n k) ss ≡ false → machine.OperatorTaken ss m j → (name_eq n m && (k == j)) ≡ false
+  another k m j undefined new h =
       false_from_ne_true (name_eq n m && (k == j))
       (λ e. let parts = and_parts (name_eq n m) (k == j) e in
       let a : n ≡ m = (name_eq-Decides n m).0 parts.0 in
       let b : k ≡ j = (unsigned_Decides k j).0 parts.1 in
       no_such-operator k undefined new (subst (λ (l : Name). machine.OperatorTaken ss l k) (sym a) (subst (machine.OperatorTaken ss m) (sym b) h)))
+
+  other-operator : (k : ℕ) → is_some (operator_arity ss n) ≡ false → list_any (is_input_operator n k) ss ≡ false → (c : Content) → IsNamed ss c → is_operator n k c ≡ false
+  other-operator k undefined new (operator m j) h = another k m j undefined new h
   other-operator k undefined new (constant m a) h = refl
   other-operator k undefined new (defined_constant m a t) h = refl
+  other-operator k undefined new (type_operator names c u j one) h = another k names.operator (length names.variables) undefined new h
+  other-operator k undefined new (type_abstraction names c u j one) h = refl
+  other-operator k undefined new (type_representation names c u j one) h = refl
   other-operator k undefined new (unproved s) h = refl
   other-operator k undefined new (step kind js premises given s) h = refl
 

@@ -12,7 +12,7 @@
 //! | `ShapeLaws`, `ShapedScopes`, `ShapedTheorems`, `ShapedSequents` | translated terms, theorems and sequents are shaped |
 //! | `ShapedRows`, `AbstractionBody`, `AbstractionRow`, `SubstitutionBody`, `SubstitutionRow`, `ComputingBodies`, `ComputingRows`, `RuleShapes` | every rule's proof is shaped |
 //! | `ItemConditions`, `MadeModules`, `KeptModules`, `WantedItems`, `ModuleTyping`, `ItemShapes` | what each item asks of those before it; what is reached is kept and renumbered; each declaration is shaped |
-//! | `ShapesTyped`, `OrderedModules`, `PricedModules`, `LawSpreads` | what is shaped is typed, over what stands before it, and checked at its price |
+//! | `ShapesTyped`, `OrderedModules`, `PricedModules` | what is shaped is typed, over what stands before it, and checked at its price |
 //! | `SymbolsHeld`, `DefinitionsHeld`, `SaidItems`, `AcceptedItems` | what a proof made is, as items, made in order; what items say |
 //! | `NumeralLaws`, `ExportNames` | how names write numbers: differently, and so that a test tells the names of exports |
 //! | `TranslationStatements`, `TranslationShown`, `ShapeStatements`, `NameStatements` | the statements of the functions below |

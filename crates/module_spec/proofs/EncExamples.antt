@@ -22,11 +22,11 @@ use Rattle.module_spec.proofs.Examples.{p_is_p, run}
 abbrev inputs : List Declaration
 inputs = symbol (codes "i_M__c_5f") (Pi types (term_of (Var 0))) ∷ symbol (codes "t2_pair") (Pi types (Pi types types)) ∷ []
 
-constant_means : MeansConstant inputs 13 (codes "M" ∷ codes "c_" ∷ []) 1 (ClosedType.parameter 0)
+constant_means : MeansConstant inputs 18 (codes "M" ∷ codes "c_" ∷ []) 1 (ClosedType.parameter 0)
 constant_means = constants.MeansConstant.input {name = codes "M" ∷ codes "c_" ∷ []}
     (record { is_name = ((omega arith, tt), ((omega arith, (omega arith, tt)), tt)); not_primitive = refl; text = refl }) refl
 
-operator_means : MeansOperator inputs 14 (codes "pair" ∷ []) 2
+operator_means : MeansOperator inputs 19 (codes "pair" ∷ []) 2
 unfolding numeral
 operator_means = operators.MeansOperator.input {name = codes "pair" ∷ []} {arity = 2}
     (record { is_name = ((omega arith, (omega arith, (omega arith, (omega arith, tt)))), tt); not_primitive = refl; text = refl; ty = refl })
@@ -51,8 +51,8 @@ closed_p_is_p = record {
 abbrev exported_type : Tree
 exported_type = Pi (term_of bools) (proof_of (eq_of bools (Var 0) (Var 0)))
 
--- it is the type of the last declaration of the module of that run, after the signature's 13, the two lemmas and T0
-is_declared : symbol_type (image run) 16 ≡ Some exported_type
+-- it is the type of the last declaration of the module of that run, after the signature's 18, the two lemmas and T0
+is_declared : symbol_type (image run) 21 ≡ Some exported_type
 is_declared = refl
 
 p_is_p_stands : Enc (image run) (closed_form p_is_p) exported_type

@@ -32,10 +32,10 @@ bool_stands at = (bool_symbol, [], truth_values refl, tt, refl)
 functions_stand : (at : Place) (a b : ClosedType) (A B : Tree) → StandsForType m a at A → StandsForType m b at B → StandsForType m (closed_function a b) at (arr_of A B)
 functions_stand at a b A B ha hb = (arr_symbol, A ∷ B ∷ [], arrow refl, (ha, (hb, tt)), refl)
 
-u_means : MeansConstant m 13 (codes "u" ∷ []) 1 (ClosedType.parameter 0)
+u_means : MeansConstant m 18 (codes "u" ∷ []) 1 (ClosedType.parameter 0)
 u_means = constants.MeansConstant.input {name = codes "u" ∷ []} (record { is_name = ((omega arith, tt), tt); not_primitive = refl; text = refl }) refl
 
-captured : Enc m (closed_form c) (Pi (term_of bools) (proof_of (App (App (Sym 13) (arr_of (arr_of bools bools) bools)) (Lam (term_of bools) (Var 1)))))
+captured : Enc m (closed_form c) (Pi (term_of bools) (proof_of (App (App (Sym 18) (arr_of (arr_of bools bools) bools)) (Lam (term_of bools) (Var 1)))))
 captured = record {
   closed = record {
     sequent = c;
@@ -45,15 +45,15 @@ captured = record {
   };
   variables = bools ∷ [];
   hypotheses = [];
-  conclusion = App (App (Sym 13) (arr_of (arr_of bools bools) bools)) (Lam (term_of bools) (Var 1));
+  conclusion = App (App (Sym 18) (arr_of (arr_of bools bools) bools)) (Lam (term_of bools) (Var 1));
   product = refl;
   variables_stand = (bool_stands (place 0 0 0 0), tt);
   hypotheses_stand = tt;
   conclusion_stands = (
-    App (Sym 13) (arr_of (arr_of bools bools) bools),
+    App (Sym 18) (arr_of (arr_of bools bools) bools),
     Lam (term_of bools) (Var 1),
     record {
-      symbol = 13;
+      symbol = 18;
       args = arr_of (arr_of bools bools) bools ∷ [];
       generic = ClosedType.parameter 0;
       means = u_means;
@@ -69,21 +69,21 @@ captured = record {
 
 -- o_two, and c_mk : v0 : type -> v1 : type -> term (arr (arr v0 v1) (o_two v1 v0))
 abbrev two : List Declaration
-two = symbol (codes "o_two") (Pi types (Pi types types)) ∷ symbol (codes "c_mk") (Pi types (Pi types (term_of (arr_of (arr_of (Var 1) (Var 0)) (App (App (Sym 13) (Var 0)) (Var 1)))))) ∷ []
+two = symbol (codes "o_two") (Pi types (Pi types types)) ∷ symbol (codes "c_mk") (Pi types (Pi types (term_of (arr_of (arr_of (Var 1) (Var 0)) (App (App (Sym 18) (Var 0)) (Var 1)))))) ∷ []
 
-two_means : operators.MeansOperator two 13 (codes "two" ∷ []) 2
+two_means : operators.MeansOperator two 18 (codes "two" ∷ []) 2
 two_means = operators.MeansOperator.defined {name = codes "two" ∷ []} {arity = 2} (record { is_name = ((omega arith, (omega arith, (omega arith, tt))), tt); not_primitive = refl; text = refl; ty = refl })
 
 mk_type : ClosedType
 mk_type = closed_function (closed_function (ClosedType.parameter 0) (ClosedType.parameter 1)) (ClosedType.operator (codes "two" ∷ []) (ClosedTypes.more (ClosedType.parameter 1) (ClosedTypes.more (ClosedType.parameter 0) ClosedTypes.none)))
 
-mk_means : MeansConstant two 14 (codes "mk" ∷ []) 2 mk_type
+mk_means : MeansConstant two 19 (codes "mk" ∷ []) 2 mk_type
 unfolding mk_type
 mk_means = constants.MeansConstant.defined {name = codes "mk" ∷ []} {variables = 2} {generic = mk_type}
     (record { is_name = ((omega arith, (omega arith, tt)), tt); not_primitive = refl; text = refl })
     (record {
-      tree = arr_of (arr_of (Var 1) (Var 0)) (App (App (Sym 13) (Var 0)) (Var 1));
+      tree = arr_of (arr_of (Var 1) (Var 0)) (App (App (Sym 18) (Var 0)) (Var 1));
       ty = refl;
-      stands = (arr_symbol, arr_of (Var 1) (Var 0) ∷ App (App (Sym 13) (Var 0)) (Var 1) ∷ [], arrow refl, ((arr_symbol, Var 1 ∷ Var 0 ∷ [], arrow refl, ((omega arith, refl), ((omega arith, refl), tt)), refl), ((13, Var 0 ∷ Var 1 ∷ [], two_means, ((omega arith, refl), ((omega arith, refl), tt)), refl), tt)), refl);
+      stands = (arr_symbol, arr_of (Var 1) (Var 0) ∷ App (App (Sym 18) (Var 0)) (Var 1) ∷ [], arrow refl, ((arr_symbol, Var 1 ∷ Var 0 ∷ [], arrow refl, ((omega arith, refl), ((omega arith, refl), tt)), refl), ((18, Var 0 ∷ Var 1 ∷ [], two_means, ((omega arith, refl), ((omega arith, refl), tt)), refl), tt)), refl);
       in_order = refl;
     })

@@ -32,7 +32,7 @@ run = record {
 
 smallest : image run ≡ lemmas
     ++ theorem (codes "T0") (term_of bools ∷ []) (proof_of (eq_of bools (Var 0) (Var 0))) (refl_of bools (Var 0))
-    ∷ theorem (codes "E0") (term_of bools ∷ []) (proof_of (eq_of bools (Var 0) (Var 0))) (App (Sym 15) (Var 0)) ∷ []
+    ∷ theorem (codes "E0") (term_of bools ∷ []) (proof_of (eq_of bools (Var 0) (Var 0))) (App (Sym 20) (Var 0)) ∷ []
 unfolding numeral
 smallest = refl
 
@@ -54,7 +54,7 @@ weakened = record {
 
 with_hypothesis : image weakened ≡ lemmas
     ++ theorem (codes "T1") (term_of bools ∷ []) (proof_of (eq_of bools (Var 0) (Var 0))) (refl_of bools (Var 0))
-    ∷ theorem (codes "E0") (term_of bools ∷ term_of bools ∷ proof_of (Var 1) ∷ []) (proof_of (eq_of bools (Var 1) (Var 1))) (App (Sym 15) (Var 1)) ∷ []
+    ∷ theorem (codes "E0") (term_of bools ∷ term_of bools ∷ proof_of (Var 1) ∷ []) (proof_of (eq_of bools (Var 1) (Var 1))) (App (Sym 20) (Var 1)) ∷ []
 unfolding numeral
 with_hypothesis = refl
 
@@ -76,12 +76,12 @@ assuming = record {
 }
 
 abbrev assumed_tree : Tree
-assumed_tree = proof_of (App (App (Sym 15) (arr_of (arr_of bools bools) bools)) (Lam (term_of bools) (Var 0)))
+assumed_tree = proof_of (App (App (Sym 20) (arr_of (arr_of bools bools) bools)) (Lam (term_of bools) (Var 0)))
 
 with_assumption : image assuming ≡ lemmas
     ++ symbol (codes "i_" ++ mangled (codes "u" ∷ [])) (Pi types (term_of (Var 0)))
     ∷ symbol (codes "A0") assumed_tree
-    ∷ theorem (codes "E0") [] assumed_tree (Sym 16) ∷ []
+    ∷ theorem (codes "E0") [] assumed_tree (Sym 21) ∷ []
 unfolding numeral
 with_assumption = refl
 
@@ -101,7 +101,7 @@ needless = record {
 
 without_assumption : image needless ≡ lemmas
     ++ theorem (codes "T1") (term_of bools ∷ []) (proof_of (eq_of bools (Var 0) (Var 0))) (refl_of bools (Var 0))
-    ∷ theorem (codes "T2") (term_of bools ∷ []) (proof_of (eq_of bools (Var 0) (Var 0))) (App (Sym 15) (Var 0))
-    ∷ theorem (codes "E0") (term_of bools ∷ []) (proof_of (eq_of bools (Var 0) (Var 0))) (App (Sym 16) (Var 0)) ∷ []
+    ∷ theorem (codes "T2") (term_of bools ∷ []) (proof_of (eq_of bools (Var 0) (Var 0))) (App (Sym 20) (Var 0))
+    ∷ theorem (codes "E0") (term_of bools ∷ []) (proof_of (eq_of bools (Var 0) (Var 0))) (App (Sym 21) (Var 0)) ∷ []
 unfolding numeral
 without_assumption = refl

@@ -19,7 +19,7 @@ module _ (n : Name) (names : TypeNames) (c : HolType) (f : Term) (one law : Sequ
   abbrev run : List Made
   run =
       Made.symbol (Symbol.input_operator n 1) ∷ Made.step (record { kind = Axiom; premises = []; parameters = Parameters.sequent one; sequent = one })
-      ∷ Made.symbol (Symbol.defined (Definition.type_operator names c f))
+      ∷ Made.type_definition names c f 0
       ∷ Made.step (record { kind = FirstLaw; premises = 0 ∷ []; parameters = Parameters.type_operator names; sequent = law })
       ∷ Made.step (record { kind = Restate; premises = 1 ∷ []; parameters = Parameters.sequent law; sequent = law }) ∷ []
 
@@ -30,8 +30,8 @@ module _ (n : Name) (names : TypeNames) (c : HolType) (f : Term) (one law : Sequ
   item i c = record { symbol = i; name = []; content = c }
 
   example_items : items_of plain run
-      ≡ item 0 (Content.operator n 1) ∷ item 1 (Content.unproved one) ∷ item 2 (Content.operator names.operator (length names.variables))
-      ∷ item 3 (Content.constant names.abstraction (abstraction_type names c)) ∷ item 4 (Content.constant names.representation (representation_type names c)) ∷ item 5 (Content.unproved law)
+      ≡ item 0 (Content.operator n 1) ∷ item 1 (Content.unproved one) ∷ item 2 (Content.type_operator names c f 1 one) ∷ item 3 (Content.type_abstraction names c f 1 one)
+      ∷ item 4 (Content.type_representation names c f 1 one) ∷ item 5 (Content.step FirstLaw (1 ∷ []) (one ∷ []) (Parameters.type_operator names) law)
       ∷ item 6 (Content.step Restate (5 ∷ []) (law ∷ []) (Parameters.sequent law) law) ∷ []
   example_items = refl
 

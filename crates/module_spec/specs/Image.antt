@@ -10,7 +10,7 @@ use Rattle.hol_spec.specs.Proofs.{Made, Accepted}
 use Rattle.hol_spec.specs.declared.StepKind.{StepKind}
 use Rattle.hol_spec.specs.declared.StepKind.TheVariants.{Axiom, FirstLaw, SecondLaw}
 use Rattle.lp_spec.specs.Modules.{Declaration}
-use Rattle.module_spec.specs.Items.{Content, operator}
+use Rattle.module_spec.specs.Items.{Content, type_operator, type_abstraction, type_representation}
 use Rattle.module_spec.specs.Reach.{reached}
 use Rattle.module_spec.specs.MadeItems.{items_of, roots_of}
 use Rattle.module_spec.specs.Numerals.{numeral}
@@ -49,19 +49,22 @@ operator_name n = codes "o_" ++ mangled n
 
 -- the name of what a type definition makes
 abbrev pub type_definition_name : Content → List ℕ
-type_definition_name (operator n k) = operator_name n
-type_definition_name (Content.constant n a) = constant_name n
+type_definition_name (type_operator names c u j one) = operator_name names.operator
+type_definition_name (type_abstraction names c u j one) = constant_name names.abstraction
+type_definition_name (type_representation names c u j one) = constant_name names.representation
 type_definition_name c = codes ""
 
-abbrev pub symbol_name : Symbol → Content → List ℕ
-symbol_name (Symbol.input_constant n) c = input_constant_name n
-symbol_name (Symbol.input_operator n k) c = input_operator_name k n
-symbol_name (Symbol.defined (Definition.constant n t)) c = constant_name n
-symbol_name (Symbol.defined (Definition.type_operator names a f)) c = type_definition_name c
+-- the name of an input or of a constant that is defined by a term
+abbrev pub symbol_name : Symbol → List ℕ
+symbol_name (Symbol.input_constant n) = input_constant_name n
+symbol_name (Symbol.input_operator n k) = input_operator_name k n
+symbol_name (Symbol.defined (Definition.constant n t)) = constant_name n
+symbol_name (Symbol.defined (Definition.type_operator names a f)) = codes ""
 
 -- the name of what was made, where it is the i-th step if it is one
 abbrev pub name_in : Accepted → ℕ → Made → Content → List ℕ
-name_in run i (Made.symbol x) c = symbol_name x c
+name_in run i (Made.symbol x) c = symbol_name x
+name_in run i (Made.type_definition names a f k) c = type_definition_name c
 name_in run i (Made.step x) c = step_name run i x.kind
 
 abbrev pub image : Accepted → List Declaration

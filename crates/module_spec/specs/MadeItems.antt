@@ -1,15 +1,15 @@
 -- The items of what a proof made: each symbol at the place where it was taken, the operator and the two constants of a type definition
--- one after the other, and each step. The premises of a step, told by the numbers of steps, become the numbers of items; assumptions and
--- laws are items without a body.
+-- one after the other, and each step. The premises of a step and of a type definition, told by the numbers of steps, become the numbers of
+-- items; assumptions are items without a body.
 use Rattle.std.specs.Prelude.{Bool, true, false, not, if◌then◌else◌, ℕ, ◌+◌, drop, List, [], ◌∷◌, ◌++◌, length, map, Option, slice_index_or}
 use Rattle.std.specs.Option.{option_map}
 use Rattle.std.specs.List.{filter_map}
 use Rattle.hol_spec.specs.Primitives.{generic}
 use Rattle.hol_spec.specs.Lists.{is_in}
-use Rattle.hol_spec.specs.Terms.{bound, term_eq}
+use Rattle.hol_spec.specs.Terms.{Term, bound, term_eq}
 use Rattle.hol_spec.specs.Sequents.{Sequent}
-use Rattle.hol_spec.specs.Definitions.{Definition}
-use Rattle.hol_spec.specs.NewTypes.{abstraction_type, representation_type}
+use Rattle.hol_spec.specs.Types.{HolType}
+use Rattle.hol_spec.specs.Definitions.{Definition, TypeNames}
 use Rattle.hol_spec.specs.Symbols.{Symbol}
 use Rattle.hol_spec.specs.Proofs.{Made, Step}
 use Rattle.hol_spec.specs.Rules.{Parameters}
@@ -19,14 +19,16 @@ use Rattle.module_spec.specs.Rows.{has_row, type_or}
 use Rattle.module_spec.specs.Items.{Content, Item, says}
 use Rattle.module_spec.specs.Reach.{Key, number_key}
 
--- The contents that a symbol gives.
+-- The contents that a symbol gives, but for those of a type definition.
 abbrev pub contents_of : Symbol → List Content
 contents_of (Symbol.input_constant n) = Content.constant n generic ∷ []
 contents_of (Symbol.input_operator n k) = Content.operator n k ∷ []
 contents_of (Symbol.defined (Definition.constant n t)) = Content.defined_constant n (type_or t) t ∷ []
-contents_of (Symbol.defined (Definition.type_operator names c f)) =
-    Content.operator names.operator (length names.variables) ∷ Content.constant names.abstraction (abstraction_type names c)
-    ∷ Content.constant names.representation (representation_type names c) ∷ []
+contents_of (Symbol.defined (Definition.type_operator names c f)) = []
+
+-- The contents of a type definition, by the theorem of this number and this sequent.
+abbrev pub type_contents : TypeNames → HolType → Term → ℕ × Sequent → List Content
+type_contents names c f one = Content.type_operator names c f one.0 one.1 ∷ Content.type_abstraction names c f one.0 one.1 ∷ Content.type_representation names c f one.0 one.1 ∷ []
 
 -- What items say, each with its number, in order: the k-th is that of the k-th step.
 abbrev pub said_of : Item → Option (ℕ × Sequent)
@@ -66,6 +68,7 @@ step_content before x = shown_content before (needed (sequents_at before x.premi
 
 abbrev pub contents : List Item → Made → List Content
 contents before (Made.symbol x) = contents_of x
+contents before (Made.type_definition names c f i) = type_contents names c f (premise_at before i)
 contents before (Made.step x) = step_content before x ∷ []
 
 -- contents as items with these names, numbered from i

@@ -1,13 +1,17 @@
 -- The proofs of steps, row by row: each in the scope of its sequent, with its premises as theorems in a scope.
-use Rattle.std.specs.Prelude.{ℕ, ◌+◌, [], ◌∷◌, length}
+use Rattle.std.specs.Prelude.{ℕ, ◌+◌, List, [], ◌∷◌, length}
 use Rattle.hol_spec.specs.Types.{HolType, operator, more}
+use Rattle.hol_spec.specs.Primitives.{bool}
 use Rattle.hol_spec.specs.Substitution.{TypePairs}
-use Rattle.hol_spec.specs.Terms.{Term, constant, app, Variable}
+use Rattle.hol_spec.specs.Terms.{Term, bound, constant, app, lam, equation, Variable}
+use Rattle.hol_spec.specs.Definitions.{TypeNames}
+use Rattle.hol_spec.specs.NewTypes.{new_type}
+use Rattle.hol_spec.specs.TypeDefinitions.{abstracted, represented}
 use Rattle.hol_spec.specs.TermSubstitution.{TermPairs}
 use Rattle.hol_spec.specs.Sequents.{Sequent}
-use Rattle.lp_spec.specs.Trees.{Tree, Sym, Lam}
-use Rattle.lp_spec.specs.Modules.{signature, applied, term_of, proof_of, refl_of, fun_ext_symbol, app_thm_symbol, prop_ext_symbol, eq_mp_symbol}
-use Rattle.module_spec.specs.Scopes.{Symbols, type_tree, Scope, term_tree, under_term, under_proof, set_proof, theorem_tree, images}
+use Rattle.lp_spec.specs.Trees.{Tree, Var, Sym, App, Lam}
+use Rattle.lp_spec.specs.Modules.{signature, applied, term_of, proof_of, refl_of, fun_ext_symbol, app_thm_symbol, prop_ext_symbol, eq_mp_symbol, sub_abs_rep_symbol, sub_rep_abs_symbol}
+use Rattle.module_spec.specs.Scopes.{Symbols, type_tree, Scope, term_tree, lifted, under_term, under_proof, set_proof, theorem_tree, images}
 
 -- the two lemmas with which every module begins
 abbrev pub sym_symbol : ℕ
@@ -22,6 +26,15 @@ Premise = ℕ × Sequent
 
 abbrev pub premise_tree : Scope → Premise → Tree
 premise_tree scope p = theorem_tree scope p.0 p.1
+
+-- the predicate of a theorem |- f t, and the term in which it holds
+abbrev pub predicate : Term → Term
+predicate (app f t) = f
+predicate t = t
+
+abbrev pub witness : Term → Term
+witness (app f t) = t
+witness t = t
 
 module _ (symbols : Symbols) (scope : Scope) where
   abbrev ty : HolType → Tree
@@ -74,3 +87,26 @@ module _ (symbols : Symbols) (scope : Scope) where
   -- the constants stand for the variables, and their defining equations are proved by reflexivity
   abbrev pub constants_scope : TermPairs → Scope
   constants_scope terms = let scope_of_images = images symbols [] terms scope in record { types = scope_of_images.types; terms = scope_of_images.terms; proofs = self_proof; bounds = scope_of_images.bounds }
+
+  -- a symbol of parts at the type c, the predicate and the term of a premise |- f t, and the premise
+  abbrev pub part_arguments_of : HolType → Premise → List Tree
+  part_arguments_of c one = ty c ∷ tm (predicate one.1.conclusion) ∷ tm (witness one.1.conclusion) ∷ premise_tree scope one ∷ []
+
+  abbrev pub part_tree : ℕ → HolType → Premise → Tree
+  part_tree s c one = applied (Sym s) (part_arguments_of c one)
+
+-- extensionality of what is equal at each term of a type by a symbol of parts
+abbrev pub law_tree : Symbols → Scope → HolType → HolType → Term → Term → ℕ → HolType → Premise → Tree
+law_tree symbols scope a b t u s c one =
+    applied (Sym fun_ext_symbol)
+    (type_tree symbols scope.types a ∷ type_tree symbols scope.types b ∷ term_tree symbols scope (lam a t) ∷ term_tree symbols scope (lam a u)
+    ∷ Lam (term_of (type_tree symbols scope.types a)) (App (part_tree symbols (lifted scope) s c one) (Var 0)) ∷ [])
+
+-- (\a. abs (rep a)) = (\a. a), and (\r. rep (abs r) = r) = (\r. f r)
+abbrev pub first_law_tree : Symbols → Scope → TypeNames → HolType → Premise → Tree
+first_law_tree symbols scope names c one =
+    law_tree symbols scope (new_type names) (new_type names) (abstracted names c (represented names c (bound 0))) (bound 0) sub_abs_rep_symbol c one
+
+abbrev pub second_law_tree : Symbols → Scope → TypeNames → HolType → Premise → Tree
+second_law_tree symbols scope names c one =
+    law_tree symbols scope c bool (equation c (represented names c (abstracted names c (bound 0))) (bound 0)) (app (predicate one.1.conclusion) (bound 0)) sub_rep_abs_symbol c one

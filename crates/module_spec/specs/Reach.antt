@@ -10,10 +10,11 @@ use Rattle.hol_spec.specs.Terms as term
 use Rattle.hol_spec.specs.Terms.{Term}
 use Rattle.hol_spec.specs.DefinitionLists.{constants_put}
 use Rattle.hol_spec.specs.Sequents.{Sequent}
+use Rattle.hol_spec.specs.NewTypes.{abstraction_type, representation_type}
 use Rattle.hol_spec.specs.Rules.{Parameters}
 use Rattle.lp_spec.specs.Modules.{Declaration, signature}
 use Rattle.lp_spec.specs.Lemmas.{lemmas}
-use Rattle.module_spec.specs.Items.{Content, operator, constant, defined_constant, unproved, step, Item, symbols_of, module_of}
+use Rattle.module_spec.specs.Items.{Content, operator, constant, defined_constant, type_operator, type_abstraction, type_representation, unproved, step, Item, symbols_of, module_of}
 
 -- What an item needs and what it gives: an operator with so many arguments, a constant, or what is said under a number.
 pub data Key : Type 0 where
@@ -40,9 +41,10 @@ term_keys (term.Term.lam t b) = type_keys t ++ term_keys b
 abbrev pub sequent_keys : Sequent → List Key
 sequent_keys s = flat_map term_keys s.hypotheses ++ term_keys s.conclusion
 
--- the constants that a step defines
+-- what a step defines, or the type definition whose law it is
 abbrev pub given_keys : Parameters → List Key
 given_keys (Parameters.constant n t) = constant_key n ∷ []
+given_keys (Parameters.type_operator names) = operator_key names.operator (length names.variables) ∷ constant_key names.abstraction ∷ constant_key names.representation ∷ []
 given_keys (Parameters.constants pairs) = flat_map (λ p. term_keys p.1) (constants_put pairs)
 given_keys given = []
 
@@ -50,6 +52,9 @@ abbrev pub needs : Content → List Key
 needs (operator n k) = []
 needs (constant n a) = type_keys a
 needs (defined_constant n a t) = term_keys t
+needs (type_operator names c u j one) = number_key j ∷ type_keys c
+needs (type_abstraction names c u j one) = number_key j ∷ type_keys (abstraction_type names c)
+needs (type_representation names c u j one) = number_key j ∷ type_keys (representation_type names c)
 needs (unproved s) = sequent_keys s
 needs (step kind js premises given s) = sequent_keys s ++ map number_key js ++ given_keys given
 
@@ -57,6 +62,9 @@ abbrev pub gives_of : ℕ → Content → Key
 gives_of i (operator n k) = operator_key n k
 gives_of i (constant n a) = constant_key n
 gives_of i (defined_constant n a t) = constant_key n
+gives_of i (type_operator names c u j one) = operator_key names.operator (length names.variables)
+gives_of i (type_abstraction names c u j one) = constant_key names.abstraction
+gives_of i (type_representation names c u j one) = constant_key names.representation
 gives_of i (unproved s) = number_key i
 gives_of i (step kind js premises given s) = number_key i
 
@@ -97,6 +105,9 @@ abbrev pub renumbered_content : (ℕ → ℕ) → Content → Content
 renumbered_content number (operator n k) = operator n k
 renumbered_content number (constant n a) = constant n a
 renumbered_content number (defined_constant n a t) = defined_constant n a t
+renumbered_content number (type_operator names c u j one) = type_operator names c u (number j) one
+renumbered_content number (type_abstraction names c u j one) = type_abstraction names c u (number j) one
+renumbered_content number (type_representation names c u j one) = type_representation names c u (number j) one
 renumbered_content number (unproved s) = unproved s
 renumbered_content number (step kind js premises given s) = step kind (map number js) premises given s
 

@@ -13,13 +13,11 @@ use Rattle.hol_spec.specs.declared.StepKind.TheVariants.{Refl, Assume, EqMp, Abs
 use Rattle.lp_spec.specs.Trees.{Tree}
 use Rattle.lp_spec.specs.Trees as tree
 use Rattle.module_spec.specs.Scopes.{Symbols, Scope}
-use Rattle.module_spec.specs.ProofTrees.{Premise, premise_tree, refl_tree, trans_tree, eq_mp_tree, sym_tree, fun_ext_tree, app_thm_tree, prop_ext_tree, prove_hyp_tree, subst_tree, constants_scope}
+use Rattle.module_spec.specs.ProofTrees.{Premise, premise_tree, refl_tree, trans_tree, eq_mp_tree, sym_tree, fun_ext_tree, app_thm_tree, prop_ext_tree, prove_hyp_tree, subst_tree, constants_scope, witness, first_law_tree, second_law_tree}
 
 -- whether a step of this kind has a proof
 abbrev pub has_row : StepKind → Bool
 has_row Axiom = false
-has_row FirstLaw = false
-has_row SecondLaw = false
 has_row kind = true
 
 -- the type and the sides of an equation
@@ -81,12 +79,21 @@ abbrev list_row : Symbols → Scope → Parameters → Premise → Tree
 list_row symbols scope (Parameters.constants pairs) one = premise_tree (constants_scope symbols scope (constants_put pairs)) one
 list_row symbols scope given one = tree.Sym 0
 
+-- a law of the type operator with these names, by the theorem that defines it
+abbrev first_law_row : Symbols → Scope → Parameters → Premise → Tree
+first_law_row symbols scope (Parameters.type_operator names) one = first_law_tree symbols scope names (type_or (witness one.1.conclusion)) one
+first_law_row symbols scope given one = tree.Sym 0
+
+abbrev second_law_row : Symbols → Scope → Parameters → Premise → Tree
+second_law_row symbols scope (Parameters.type_operator names) one = second_law_tree symbols scope names (type_or (witness one.1.conclusion)) one
+second_law_row symbols scope given one = tree.Sym 0
+
 abbrev app_row : Symbols → Scope → Premise → Premise → Tree
 app_row symbols scope one two =
     let f = equated_type one.1.conclusion in
     app_thm_tree symbols scope (argument_type f) (result_type f) (left_side one.1.conclusion) (right_side one.1.conclusion) (left_side two.1.conclusion) (right_side two.1.conclusion) one two
 
--- the proof of a step, by its rule; an assumption and the two laws of a type definition have none
+-- the proof of a step, by its rule; an assumption has none
 abbrev pub proof_tree : Symbols → Scope → StepKind → List ℕ → List Sequent → Parameters → Tree
 proof_tree symbols scope Refl js ss given = of_term (λ t. refl_tree symbols scope (type_or t) t) given
 proof_tree symbols scope Assume js ss given = of_term scope.proofs given
@@ -104,5 +111,5 @@ proof_tree symbols scope Restate js ss given = of_one (premise_tree scope) js ss
 proof_tree symbols scope DefineConst js ss given = definition_row symbols scope given
 proof_tree symbols scope DefineConstList js ss given = of_one (list_row symbols scope given) js ss
 proof_tree symbols scope Axiom js ss given = tree.Sym 0
-proof_tree symbols scope FirstLaw js ss given = tree.Sym 0
-proof_tree symbols scope SecondLaw js ss given = tree.Sym 0
+proof_tree symbols scope FirstLaw js ss given = of_one (first_law_row symbols scope given) js ss
+proof_tree symbols scope SecondLaw js ss given = of_one (second_law_row symbols scope given) js ss

@@ -10,12 +10,12 @@ use Rattle.hol_spec.specs.Definitions.{Definition, TypeNames}
 use Rattle.hol_spec.specs.NewTypes.{abstraction_type, representation_type}
 use Rattle.hol_spec.specs.Symbols.{Symbol}
 use Rattle.hol_spec.specs.ClosedForm.{close_type, close_term, closed_form}
-use Rattle.hol_spec.specs.Proofs.{Step, symbols_of, steps_of, sequent_at, Accepted}
-use Rattle.hol_spec.specs.declared.StepKind.{StepKind}
-use Rattle.hol_spec.specs.declared.StepKind.TheVariants.{FirstLaw, SecondLaw}
+use Rattle.hol_spec.specs.Sequents.{Sequent}
+use Rattle.hol_spec.specs.TypeDefinitions.{IsTypeDefinition}
+use Rattle.hol_spec.specs.Proofs.{symbols_of, sequent_at, Accepted}
 use Rattle.lp_spec.specs.declared.form.Form.TheVariants.{Thm, Def}
 use Rattle.lp_spec.specs.Trees.{Tree, SortType, SortKind, Var, Sym, App, Lam, Pi}
-use Rattle.lp_spec.specs.Modules.{Declaration, signature, symbol, products, abstractions, types, term_of}
+use Rattle.lp_spec.specs.Modules.{Declaration, signature, symbol, symbol_type, applied, products, abstractions, types, term_of, sub_symbol, sub_abs_symbol, sub_rep_symbol}
 use Rattle.lp_spec.specs.ModuleOrder.{IsModule}
 use Rattle.lp_spec.specs.Typing.{WellTyped}
 use Rattle.module_spec.specs.Numerals.{numeral, is_numeral}
@@ -28,11 +28,13 @@ pub record IsExportName (name : List ℕ) : Type 0 where
   pub number : ℕ
   pub is : name ≡ codes "E" ++ numeral number
 
--- the name of a theorem: that of one of the two lemmas, or `T` or `E` and a number; a symbol of higher-order logic has another
+-- the name of a theorem: that of one of the two lemmas, or `T`, `L` (a law of a type definition) or `E` and a number; a symbol of
+-- higher-order logic has another
 pub data IsTheoremName (name : List ℕ) : Type 0 where
   symmetry : name ≡ codes "sym" → IsTheoremName name
   transitivity : name ≡ codes "trans" → IsTheoremName name
   step : (i : ℕ) → name ≡ codes "T" ++ numeral i → IsTheoremName name
+  law : (i : ℕ) → name ≡ codes "L" ++ numeral i → IsTheoremName name
   export : IsExportName name → IsTheoremName name
 
 -- Whether a name is that of an export; 69 is `E`. That it decides it is `is_export_name-Decides`.
@@ -65,33 +67,14 @@ pub record IsConstantType (m : List Declaration) (generic : HolType) (A : Tree) 
   pub stands : StandsForType m (close_type (type_variables generic) generic) (place (length (type_variables generic)) 0 0 0) tree
   pub is : A ≡ products (replicate (length (type_variables generic)) types) (term_of tree)
 
--- a kind of step is that of the two laws of a type definition
-abbrev pub IsLawKind : StepKind → Type 0
-IsLawKind FirstLaw = Unit {0}
-IsLawKind SecondLaw = Unit {0}
-IsLawKind kind = ⊥
-
--- a step of a run that is one of the two laws of a type definition
-pub record IsLaw (run : Accepted) (i : ℕ) : Type 0 where
-  pub step : Step
-  pub at : slice_get (steps_of run.made) i ≡ Some step
-  pub law : IsLawKind step.kind
-
 -- why a declaration may have no body
 pub data IsGiven (m : List Declaration) (run : Accepted) : Declaration → Type 0 where
   input_constant : (n : Name) → IsAmong (symbols_of run.made) (Symbol.input_constant n) → IsGiven m run (symbol (input_constant_name n) (Pi types (term_of (Var 0))))
   input_operator : (n : Name) (k : ℕ) → IsAmong (symbols_of run.made) (Symbol.input_operator n k) → IsGiven m run (symbol (input_operator_name k n) (products (replicate k types) types))
   assumption : (k i : ℕ) (A : Tree) → slice_get run.assumptions k ≡ Some i → Enc m (closed_form (sequent_at run.made i)) A → IsGiven m run (symbol (codes "A" ++ numeral k) A)
-  type_operator : (names : TypeNames) (c : HolType) (f : Term) → IsAmong (symbols_of run.made) (Symbol.defined (Definition.type_operator names c f))
-      → IsGiven m run (symbol (operator_name names.operator) (products (replicate (length names.variables) types) types))
-  abstraction : (names : TypeNames) (c : HolType) (f : Term) (A : Tree) → IsAmong (symbols_of run.made) (Symbol.defined (Definition.type_operator names c f))
-      → IsConstantType m (abstraction_type names c) A → IsGiven m run (symbol (constant_name names.abstraction) A)
-  representation : (names : TypeNames) (c : HolType) (f : Term) (A : Tree) → IsAmong (symbols_of run.made) (Symbol.defined (Definition.type_operator names c f))
-      → IsConstantType m (representation_type names c) A → IsGiven m run (symbol (constant_name names.representation) A)
-  law : (i : ℕ) (A : Tree) → IsLaw run i → Enc m (closed_form (sequent_at run.made i)) A → IsGiven m run (symbol (codes "L" ++ numeral i) A)
 
 -- a declaration defines a constant of a run by its term, over the type variables of its type
-pub record IsDefined (m : List Declaration) (run : Accepted) (d : Declaration) : Type 0 where
+pub record DefinesConstant (m : List Declaration) (run : Accepted) (d : Declaration) : Type 0 where
   pub name : Name
   pub term : Term
   pub ty : HolType
@@ -102,6 +85,40 @@ pub record IsDefined (m : List Declaration) (run : Accepted) (d : Declaration) :
   pub type_stands : IsConstantType m ty A
   pub term_stands : StandsForTerm m (close_term (type_variables ty) [] term) (place (length (type_variables ty)) 0 0 0) B
   pub is : d ≡ record { name = constant_name name; form = Def; ty = A; body = Some (abstractions (replicate (length (type_variables ty)) types) B) }
+
+-- the arguments of a symbol of parts, under these type variables: the type and the predicate of a type definition of a run, a term, and a proof by
+-- a theorem |- f t from which the definition can be made
+pub record IsPartOf (m : List Declaration) (run : Accepted) (names : TypeNames) (c : HolType) (f : Term) (variables : List Name) (arguments : List Tree) : Type 0 where
+  pub among : IsAmong (symbols_of run.made) (Symbol.defined (Definition.type_operator names c f))
+  pub one : Sequent
+  pub defines : IsTypeDefinition names c f one
+  pub C : Tree
+  pub F : Tree
+  pub W : Tree
+  pub symbol : ℕ
+  pub parameters : List Tree
+  pub A : Tree
+  pub type_stands : StandsForType m (close_type variables c) (place (length variables) 0 0 0) C
+  pub predicate_stands : StandsForTerm m (close_term variables [] f) (place (length variables) 0 0 0) F
+  pub theorem : symbol_type m symbol ≡ Some A
+  pub says : Enc m (closed_form one) A
+  pub are : arguments ≡ C ∷ F ∷ W ∷ applied (Sym symbol) parameters ∷ []
+
+-- a definition by a symbol of parts, under so many type variables
+abbrev pub part_definition : List ℕ → Tree → ℕ → ℕ → List Tree → Declaration
+part_definition name A variables s arguments = record { name = name; form = Def; ty = A; body = Some (abstractions (replicate variables types) (applied (Sym s) arguments)) }
+
+-- a declaration defines what its run defined: a constant by its term, or the operator or a constant of a type definition by a part of its type
+pub data IsDefined (m : List Declaration) (run : Accepted) : Declaration → Type 0 where
+  constant : {d : Declaration} → DefinesConstant m run d → IsDefined m run d
+  type_operator : (names : TypeNames) (c : HolType) (f : Term) (arguments : List Tree) → IsPartOf m run names c f names.variables arguments
+      → IsDefined m run (part_definition (operator_name names.operator) (products (replicate (length names.variables) types) types) (length names.variables) sub_symbol arguments)
+  abstraction : (names : TypeNames) (c : HolType) (f : Term) (A : Tree) (arguments : List Tree) → IsConstantType m (abstraction_type names c) A
+      → IsPartOf m run names c f (type_variables (abstraction_type names c)) arguments
+      → IsDefined m run (part_definition (constant_name names.abstraction) A (length (type_variables (abstraction_type names c))) sub_abs_symbol arguments)
+  representation : (names : TypeNames) (c : HolType) (f : Term) (A : Tree) (arguments : List Tree) → IsConstantType m (representation_type names c) A
+      → IsPartOf m run names c f (type_variables (representation_type names c)) arguments
+      → IsDefined m run (part_definition (constant_name names.representation) A (length (type_variables (representation_type names c))) sub_rep_symbol arguments)
 
 -- the declarations are E and the places from k on, each the theorem of the export at its place
 pub data AreExports (m : List Declaration) (run : Accepted) : ℕ → List ℕ → List Declaration → Type 0 where

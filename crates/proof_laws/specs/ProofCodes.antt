@@ -152,11 +152,14 @@ coded_step = code_by ((StepKind × List ℕ) × (Parameters × Sequent)) (coded�
 pub made_code : Made → Gv
 made_code (Made.symbol x) = gcons (gnum 0) (coded_symbol.code x)
 made_code (Made.step x) = gcons (gnum 1) (coded_step.code x)
+made_code (Made.type_definition names c f i) = gcons (gnum 2) (gcons (coded_type_names.code names) (gcons (coded_type.code c) (gcons (coded_term.code f) (gnum i))))
 
 pub made_inj : (m n : Made) → made_code m ≡ made_code n → m ≡ n
 unfolding made_code
 made_inj (Made.symbol x) (Made.symbol y) e = let f : x ≡ y = coded_symbol.inj x y (cc) in cc
 made_inj (Made.step x) (Made.step y) e = let f : x ≡ y = coded_step.inj x y (cc) in cc
+made_inj (Made.type_definition a b f i) (Made.type_definition c d g j) e =
+    let h : a ≡ c = coded_type_names.inj a c (cc) in let k : b ≡ d = coded_type.inj b d (cc) in let l : f ≡ g = coded_term.inj f g (cc) in cc
 made_inj m n e = cc
 
 abbrev pub coded_made : Coded Made

@@ -57,6 +57,9 @@ proof-sequents m made.Each.empty = tt
 proof-sequents m (made.Each.more {made = before} (Made.symbol x) p h is) =
     subst (λ (w : List Made). AllByRecursion IsSequent (sequents_of w)) (sym is)
     (subst (AllByRecursion IsSequent) (sym (sequents_of-append before (Made.symbol x ∷ []))) (All-append IsSequent (sequents_of before) [] (proof-sequents before p) (tt {0})))
+proof-sequents m (made.Each.more {made = before} (Made.type_definition names c f i) p h is) =
+    subst (λ (w : List Made). AllByRecursion IsSequent (sequents_of w)) (sym is)
+    (subst (AllByRecursion IsSequent) (sym (sequents_of-append before (Made.type_definition names c f i ∷ []))) (All-append IsSequent (sequents_of before) [] (proof-sequents before p) (tt {0})))
 proof-sequents m (made.Each.more {made = before} (Made.step x) p h is) =
     let earlier = proof-sequents before p in
     let new : IsSequent x.sequent = rule-IsSequent x.kind h.premises x.parameters x.sequent h.follows.rule (premises-All IsSequent (sequents_of before) earlier x.premises h.premises h.earlier) in
@@ -76,6 +79,7 @@ over-sequents m (made.Each.more {made = before} x p h is) =
   where
     new : (x : Made) → IsMadeOver before x → AllByRecursion (TermsTaken (symbols_of before ++ symbols_of (x ∷ []))) (sequents_of (x ∷ []))
     new (Made.symbol y) h = tt
+    new (Made.type_definition names c f i) h = tt
     new (Made.step y) h = (terms-more (symbols_of before) [] y.sequent h.sequent, tt {0})
 
 -- What is defined in a proof is taken.
@@ -96,5 +100,6 @@ proof-definitions m (made.Each.more {made = before} x p h is) =
     new : (x : Made) → IsMade before x → AllByRecursion (DefinitionTaken (symbols_of before ++ symbols_of (x ∷ []))) (definitions_of (x ∷ []))
     new (Made.symbol (Symbol.input_constant n)) h = tt
     new (Made.symbol (Symbol.input_operator n k)) h = tt
-    new (Made.symbol (Symbol.defined d)) h = (taken-definition (symbols_of before) d h, tt {0})
+    new (Made.symbol (Symbol.defined d)) h = (taken-definition (symbols_of before) d h.1, tt {0})
+    new (Made.type_definition names c f i) h = (taken-definition (symbols_of before) (Definition.type_operator names c f) h.taken, tt {0})
     new (Made.step y) h = tt

@@ -70,4 +70,5 @@ proof-derives m (made.Each.more {made = before} x p h is) =
   where
     last : (x : Made) → IsMade before x → AllByRecursion (DerivesBy before) (sequents_of before) → AllByRecursion (DerivesBy (before ++ x ∷ [])) (sequents_of (x ∷ []))
     last (Made.symbol y) h all = tt
+    last (Made.type_definition names c f i) h all = tt
     last (Made.step y) h all = (new before y all h (infers y.kind) refl, tt {0})

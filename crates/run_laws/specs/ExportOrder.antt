@@ -26,7 +26,7 @@ use Rattle.module_laws.specs.WantedItems.{AreMadeInOrder, keep-wanted}
 use Rattle.module_laws.specs.AcceptedItems.{made-said}
 use Rattle.module_spec.specs.Scopes.{Symbols}
 use Rattle.module_spec.specs.Rows.{has_row}
-use Rattle.module_spec.specs.Items.{Content, operator, constant, defined_constant, unproved, step, Item, says, declaration, declaration_of}
+use Rattle.module_spec.specs.Items.{Content, operator, constant, defined_constant, type_operator, type_abstraction, type_representation, unproved, step, Item, says, declaration, declaration_of}
 use Rattle.module_spec.specs.Items as item
 use Rattle.module_spec.specs.MadeItems.{said_by, content_by, premise_at, items_of, roots_of}
 use Rattle.module_spec.specs.Reach.{Key, number_key, gives, kept, renumbered, renumbered_content, keep_of, symbol_of, image_items}
@@ -53,12 +53,15 @@ pub symbol-unexported : (symbols : List Symbol) (c : Content) (name : List ℕ) 
 symbol-unexported symbols c name (IsSymbolName.an_input n is e w) = other_first 105 _ name refl w
 symbol-unexported symbols c name (IsSymbolName.an_input_operator n k is e w) = other_first 116 _ name refl w
 symbol-unexported symbols c name (IsSymbolName.a_constant n is e w) = other_first 99 _ name refl w
-symbol-unexported symbols c name (IsSymbolName.an_operator names a f is among e w) = other_first 111 _ name refl w
+symbol-unexported symbols c name (IsSymbolName.an_operator names a f j one is among e w) = other_first 111 _ name refl w
 
 constant-silent : (n : Name) (c : Content) → constant_named c ≡ Some n → says c ≡ None
 constant-silent n (operator m k) e = refl
 constant-silent n (constant m a) e = refl
 constant-silent n (defined_constant m a t) e = refl
+constant-silent n (type_operator names c u j one) e = refl
+constant-silent n (type_abstraction names c u j one) e = refl
+constant-silent n (type_representation names c u j one) e = refl
 constant-silent n (unproved s) e = absurd (cc)
 constant-silent n (step kind js ss g s) e = absurd (cc)
 
@@ -67,7 +70,7 @@ pub symbol-silent : (symbols : List Symbol) (c : Content) (name : List ℕ) → 
 symbol-silent symbols c name (IsSymbolName.an_input n is e w) = ap says e
 symbol-silent symbols c name (IsSymbolName.an_input_operator n k is e w) = ap says e
 symbol-silent symbols c name (IsSymbolName.a_constant n is e w) = constant-silent n c e
-symbol-silent symbols c name (IsSymbolName.an_operator names a f is among e w) = ap says e
+symbol-silent symbols c name (IsSymbolName.an_operator names a f j one is among e w) = ap says e
 
 -- a number is the first of ascending ones that don't begin before it, or not among them
 data Head (i high : ℕ) (is : List ℕ) : Type 0 where

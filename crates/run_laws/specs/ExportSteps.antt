@@ -174,7 +174,7 @@ make_type-keeps : (s : State) (names : TypeNames) (i : ℕ) (c : HolType) (f : T
 make_type-keeps s names i c f =
     let one = Made.step (step_by by_rule.FirstLaw (i ∷ []) (Parameters.type_operator names) (first_law names c)) in
     let two = Made.step (step_by by_rule.SecondLaw (i ∷ []) (Parameters.type_operator names) (second_law names c f)) in
-    let taken = map Made.symbol (defined (Definition.type_operator names c f) ∷ []) in
+    let taken = Made.type_definition names c f i ∷ [] in
     Keeps-bind s (in_limits (type_measure (new_type names) ∷ type_measure (abstraction_type names c) ∷ type_measure (representation_type names c) ∷ sequent_measure (first_law names c) ∷ sequent_measure (second_law names c f) ∷ [])) _
     (answer s _ (record { exports = refl; more = taken ++ (one ∷ [] ++ two ∷ []); made = two_more s.made taken (one ∷ []) (two ∷ []) }))
 

@@ -16,6 +16,8 @@ use Rattle.hol_spec.specs.Terms.{Term, type_under, HasType}
 use Rattle.hol_laws.specs.TermSubstitutionLaws.{application_type-is, abstraction_type-is}
 use Rattle.hol_spec.specs.Sequents.{Sequent, terms_of}
 use Rattle.hol_spec.specs.Symbols.{Symbol}
+use Rattle.hol_spec.specs.NewTypes.{abstraction_type, representation_type}
+use Rattle.std.proofs.Math.Path.{subst₂}
 use Rattle.hol_spec.specs.Mangling.{mangled, IsName}
 use Rattle.hol_spec.specs.ClosedForm.{close_type}
 use Rattle.hol_laws.specs.Members.{All-at, All-append, All-weaker}
@@ -26,7 +28,7 @@ use Rattle.module_spec.specs.OperatorMeaning as means_operator
 use Rattle.module_spec.specs.ConstantMeaning.{MeansConstant}
 use Rattle.module_spec.specs.ConstantMeaning as means_constant
 use Rattle.module_spec.specs.Scopes.{Symbols, operator_symbol, constant_symbol, generic_type, generic_tree}
-use Rattle.module_spec.specs.Items.{Content, operator, constant, defined_constant, unproved, step, Item, declaration_of}
+use Rattle.module_spec.specs.Items.{Content, operator, constant, defined_constant, type_operator, type_abstraction, type_representation, unproved, step, Item, declaration_of}
 use Rattle.module_laws.specs.ItemConditions.{Has, OperatorTaken, ConstantTaken, TypeTaken, TypesTaken, TermTaken, IsContent, Tells, AreItems}
 use Rattle.module_laws.specs.ItemConditions as items
 use Rattle.module_laws.specs.MadeModules.{IsNew}
@@ -105,6 +107,9 @@ module _ (m : List Declaration) (symbols : Symbols) where
   ItemMeant (operator n k) = MeansOperator m (operator_symbol symbols n k) n k
   ItemMeant (constant n a) = GenericMeant n a
   ItemMeant (defined_constant n a t) = GenericMeant n a
+  ItemMeant (type_operator names c u j one) = MeansOperator m (operator_symbol symbols names.operator (length names.variables)) names.operator (length names.variables)
+  ItemMeant (type_abstraction names c u j one) = GenericMeant names.abstraction (abstraction_type names c)
+  ItemMeant (type_representation names c u j one) = GenericMeant names.representation (representation_type names c)
   ItemMeant (unproved s) = Unit {0}
   ItemMeant (step kind js ss g s) = Unit {0}
 
@@ -113,6 +118,9 @@ module _ (m : List Declaration) (symbols : Symbols) where
   ContentMeant (operator n k) = Unit {0}
   ContentMeant (constant n a) = TypeMeant m symbols a
   ContentMeant (defined_constant n a t) = TypeMeant m symbols a × TermMeant m symbols t
+  ContentMeant (type_operator names c u j one) = TypeMeant m symbols c
+  ContentMeant (type_abstraction names c u j one) = TypeMeant m symbols c × TypeMeant m symbols (abstraction_type names c)
+  ContentMeant (type_representation names c u j one) = TypeMeant m symbols c × TypeMeant m symbols (representation_type names c)
   ContentMeant (unproved s) = AllByRecursion (TermMeant m symbols) (terms_of s)
   ContentMeant (step kind js ss g s) = AllByRecursion (TermMeant m symbols) (terms_of s)
 
@@ -123,6 +131,8 @@ module _ (m : List Declaration) (symbols : Symbols) where
     operator-meant : (n : Name) (k : ℕ) → OperatorTaken before n k → MeansOperator m (operator_symbol symbols n k) n k
     operator-meant n k (items.OperatorTaken.primitive e) = operator-primitive n k e
     operator-meant n k (items.OperatorTaken.declared h) = meant-of (operator n k) h
+    operator-meant n k (items.OperatorTaken.part names c u j one h e f) =
+        subst₂ (λ (n : Name) (k : ℕ). MeansOperator m (operator_symbol symbols n k) n k) (sym e) (sym f) (meant-of (type_operator names c u j one) h)
 
     mutual
       pub type-meant : (t : HolType) → TypeTaken before t → TypeMeant m symbols t
@@ -140,6 +150,10 @@ module _ (m : List Declaration) (symbols : Symbols) where
     taken-meant n t (items.ConstantTaken.primitive g e i) ty = constant-meant n t g (constant-primitive n g e) i ty
     taken-meant n t (items.ConstantTaken.declared a h i) ty = constant-meant n t a (meant-of (constant n a) h) i ty
     taken-meant n t (items.ConstantTaken.defined a u h i) ty = constant-meant n t a (meant-of (defined_constant n a u) h) i ty
+    taken-meant n t (items.ConstantTaken.abstraction names c u j one h e i) ty =
+        constant-meant n t (abstraction_type names c) (subst (λ (l : Name). GenericMeant l (abstraction_type names c)) (sym e) (meant-of (type_abstraction names c u j one) h)) i ty
+    taken-meant n t (items.ConstantTaken.representation names c u j one h e i) ty =
+        constant-meant n t (representation_type names c) (subst (λ (l : Name). GenericMeant l (representation_type names c)) (sym e) (meant-of (type_representation names c u j one) h)) i ty
 
     pub term-meant : (t : Term) → TermTaken before t → TermMeant m symbols t
     term-meant (term.Term.free n t) h = type-meant t h
@@ -155,6 +169,9 @@ module _ (m : List Declaration) (symbols : Symbols) where
     content-meant (operator n k) h = tt
     content-meant (constant n a) h = type-meant a h
     content-meant (defined_constant n a t) h = let u = term-meant t h.taken in (TypeMeant-type_under [] (λ k b e. absurd (cc)) t a u h.typed, u)
+    content-meant (type_operator names c u j one) h = type-meant c h.ty
+    content-meant (type_abstraction names c u j one) h = (type-meant c h.0.ty, type-meant (abstraction_type names c) h.1)
+    content-meant (type_representation names c u j one) h = (type-meant c h.0.ty, type-meant (representation_type names c) h.1)
     content-meant (unproved s) h = terms-meant s h
     content-meant (step kind js ss g s) h = terms-meant s h.0.taken
 
@@ -196,16 +213,23 @@ module _ (m : List Declaration) (symbols : Symbols) where
           text = ap (symbol_name m) t ∙ text c d ∙ w ∙ ap (λ l. codes "t" ++ l) (sym (append_assoc (numeral j) (codes "_") (mangled n)));
           ty = ap (symbol_type m) t ∙ ty (operator n j) (subst Declares e d);
         }))
-    symbol-meant before c (IsSymbolName.an_operator names a f is among e w) new tells meant d =
+    symbol-meant before c (IsSymbolName.an_operator names a f j one is among e w) new tells meant d =
         let t = subst (Tells symbols i) e tells in
         let k = subst (IsNew before) e new in
         subst ItemMeant (sym e) (means_operator.MeansOperator.defined (record {
           is_name = is;
           not_primitive = k.0;
           text = ap (symbol_name m) t ∙ text c d ∙ w;
-          ty = ap (symbol_type m) t ∙ ty (operator names.operator (length names.variables)) (subst Declares e d);
+          ty = ap (symbol_type m) t ∙ ty (type_operator names a f j one) (subst Declares e d);
         }))
     symbol-meant before (operator n k) (IsSymbolName.a_constant o is e w) new tells meant d = absurd (cc)
+    symbol-meant before (type_operator names c u j one) (IsSymbolName.a_constant o is e w) new tells meant d = absurd (cc)
+    symbol-meant before (type_abstraction names c u j one) (IsSymbolName.a_constant o is e w) new tells meant d =
+        let same : o ≡ names.abstraction = sym (same_Some _ _ e) in
+        named-constant names.abstraction (abstraction_type names c) (type_abstraction names c u j one) (subst IsName same is) new.0 (w ∙ ap (λ k. codes "c_" ++ mangled k) same) d refl tells.0 tells.1 meant.1
+    symbol-meant before (type_representation names c u j one) (IsSymbolName.a_constant o is e w) new tells meant d =
+        let same : o ≡ names.representation = sym (same_Some _ _ e) in
+        named-constant names.representation (representation_type names c) (type_representation names c u j one) (subst IsName same is) new.0 (w ∙ ap (λ k. codes "c_" ++ mangled k) same) d refl tells.0 tells.1 meant.1
     symbol-meant before (unproved s) (IsSymbolName.a_constant o is e w) new tells meant d = absurd (cc)
     symbol-meant before (step kind js qs g s) (IsSymbolName.a_constant o is e w) new tells meant d = absurd (cc)
     symbol-meant before (constant n a) (IsSymbolName.a_constant o is e w) new tells meant d =

@@ -12,6 +12,7 @@ use Rattle.hol_spec.specs.NameEquality.{name_eq}
 use Rattle.hol_laws.specs.NameEqualityLaws.{name_eq-Decides}
 use Rattle.hol_spec.specs.Types.{HolType}
 use Rattle.hol_spec.specs.Terms.{Term}
+use Rattle.hol_spec.specs.Sequents.{Sequent}
 use Rattle.hol_spec.specs.Primitives.{primitive_arity, generic}
 use Rattle.hol_spec.specs.Mangling.{mangled, IsName}
 use Rattle.hol_laws.specs.ManglingLaws.{mangled-injective}
@@ -25,8 +26,8 @@ use Rattle.proof_laws.specs.ProofGrowth.{symbols_of-append}
 use Rattle.hol_spec.specs.Lists.{IsIn}
 use Rattle.hol_laws.specs.Members.{IsIn-either}
 use Rattle.module_laws.specs.MadeModules.{any_content, IsNew}
-use Rattle.module_spec.specs.Items.{Content, operator, constant, defined_constant, unproved, step, Item, is_constant, is_operator}
-use Rattle.module_spec.specs.MadeItems.{contents_of}
+use Rattle.module_spec.specs.Items.{Content, operator, constant, defined_constant, type_operator, type_abstraction, type_representation, unproved, step, Item, is_constant, is_operator}
+use Rattle.module_spec.specs.MadeItems.{contents_of, type_contents}
 use Rattle.module_spec.specs.Image.{symbol_name, type_definition_name}
 use Rattle.module_spec.specs.Numerals.{numeral, is_decimal_digit}
 use Rattle.module_laws.specs.NumeralLaws.{numeral-injective, numeral-digits, numeral-some}
@@ -36,6 +37,8 @@ use Rattle.run_laws.specs.Named.{SymbolHasName, first_byte, second_byte, first_d
 abbrev pub constant_named : Content → Option Name
 constant_named (constant n a) = Some n
 constant_named (defined_constant n a t) = Some n
+constant_named (type_abstraction names c u j one) = Some names.abstraction
+constant_named (type_representation names c u j one) = Some names.representation
 constant_named c = None
 
 -- THE NAME OF A SYMBOL'S ITEM
@@ -43,20 +46,24 @@ pub data IsSymbolName (symbols : List Symbol) (c : Content) (name : List ℕ) : 
   an_input : (n : Name) → IsName n → c ≡ constant n generic → name ≡ codes "i_" ++ mangled n → IsSymbolName symbols c name
   an_input_operator : (n : Name) (k : ℕ) → IsName n → c ≡ operator n k → name ≡ codes "t" ++ (numeral k ++ (codes "_" ++ mangled n)) → IsSymbolName symbols c name
   a_constant : (n : Name) → IsName n → constant_named c ≡ Some n → name ≡ codes "c_" ++ mangled n → IsSymbolName symbols c name
-  an_operator : (names : TypeNames) (a : HolType) (f : Term) → IsName names.operator → IsIn symbols (Symbol.defined (Definition.type_operator names a f)) → c ≡ operator names.operator (length names.variables)
+  an_operator : (names : TypeNames) (a : HolType) (f : Term) (j : ℕ) (one : Sequent) → IsName names.operator → IsIn symbols (Symbol.defined (Definition.type_operator names a f)) → c ≡ type_operator names a f j one
       → name ≡ codes "o_" ++ mangled names.operator → IsSymbolName symbols c name
 
-pub symbol_name-is : (symbols : List Symbol) (x : Symbol) → IsIn symbols x → SymbolHasName x → (c : Content) → IsIn (contents_of x) c → IsSymbolName symbols c (symbol_name x c)
+pub symbol_name-is : (symbols : List Symbol) (x : Symbol) → IsIn symbols x → SymbolHasName x → (c : Content) → IsIn (contents_of x) c → IsSymbolName symbols c (symbol_name x)
 symbol_name-is symbols (Symbol.input_constant n) among h c (inl e) = IsSymbolName.an_input n h e refl
 symbol_name-is symbols (Symbol.input_constant n) among h c (inr k) = absurd k
 symbol_name-is symbols (Symbol.input_operator n j) among h c (inl e) = IsSymbolName.an_input_operator n j h e refl
 symbol_name-is symbols (Symbol.input_operator n j) among h c (inr k) = absurd k
 symbol_name-is symbols (Symbol.defined (Definition.constant n t)) among h c (inl e) = IsSymbolName.a_constant n h (ap constant_named e) refl
 symbol_name-is symbols (Symbol.defined (Definition.constant n t)) among h c (inr k) = absurd k
-symbol_name-is symbols (Symbol.defined (Definition.type_operator names a f)) among h c (inl e) = IsSymbolName.an_operator names a f h.0 among e (ap type_definition_name e)
-symbol_name-is symbols (Symbol.defined (Definition.type_operator names a f)) among h c (inr (inl e)) = IsSymbolName.a_constant names.abstraction h.1 (ap constant_named e) (ap type_definition_name e)
-symbol_name-is symbols (Symbol.defined (Definition.type_operator names a f)) among h c (inr (inr (inl e))) = IsSymbolName.a_constant names.representation h.2 (ap constant_named e) (ap type_definition_name e)
-symbol_name-is symbols (Symbol.defined (Definition.type_operator names a f)) among h c (inr (inr (inr k))) = absurd k
+symbol_name-is symbols (Symbol.defined (Definition.type_operator names a f)) among h c k = absurd k
+
+pub definition_name-is : (symbols : List Symbol) (names : TypeNames) (a : HolType) (f : Term) (one : ℕ × Sequent) → IsIn symbols (Symbol.defined (Definition.type_operator names a f))
+    → SymbolHasName (Symbol.defined (Definition.type_operator names a f)) → (c : Content) → IsIn (type_contents names a f one) c → IsSymbolName symbols c (type_definition_name c)
+definition_name-is symbols names a f one among h c (inl e) = IsSymbolName.an_operator names a f one.0 one.1 h.0 among e (ap type_definition_name e)
+definition_name-is symbols names a f one among h c (inr (inl e)) = IsSymbolName.a_constant names.abstraction h.1 (ap constant_named e) (ap type_definition_name e)
+definition_name-is symbols names a f one among h c (inr (inr (inl e))) = IsSymbolName.a_constant names.representation h.2 (ap constant_named e) (ap type_definition_name e)
+definition_name-is symbols names a f one among h c (inr (inr (inr k))) = absurd k
 
 -- An operator is defined once: all type definitions of its name have one arity.
 first-kept : (n : Name) (k : ℕ) (xs ys : List Symbol) → first_defined_arity n xs ≡ Some k → first_defined_arity n (xs ++ ys) ≡ Some k
@@ -107,7 +114,15 @@ arity-known m (made.Each.more {made = before} (Made.symbol y) p h is) x i n k e 
     let same : symbols_of m ≡ symbols_of before ++ y ∷ [] = ap symbols_of is ∙ symbols_of-append before (Made.symbol y ∷ []) in
     ap (first_defined_arity n) same ∙ elim (IsIn-either (symbols_of before) (y ∷ []) x (subst (λ l. IsIn l x) same i)) [
       | inl j ↦ first-kept n k (symbols_of before) (y ∷ []) (arity-known before p x j n k e)
-      | inr (inl is_it) ↦ first-last n k (symbols_of before) y h (ap (defined_arity n) (sym is_it) ∙ e)
+      | inr (inl is_it) ↦ first-last n k (symbols_of before) y h.1 (ap (defined_arity n) (sym is_it) ∙ e)
+      | inr (inr none) ↦ absurd none
+    ]
+arity-known m (made.Each.more {made = before} (Made.type_definition names c f l) p h is) x i n k e =
+    let y = Symbol.defined (Definition.type_operator names c f) in
+    let same : symbols_of m ≡ symbols_of before ++ y ∷ [] = ap symbols_of is ∙ symbols_of-append before (Made.type_definition names c f l ∷ []) in
+    ap (first_defined_arity n) same ∙ elim (IsIn-either (symbols_of before) (y ∷ []) x (subst (λ l. IsIn l x) same i)) [
+      | inl j ↦ first-kept n k (symbols_of before) (y ∷ []) (arity-known before p x j n k e)
+      | inr (inl is_it) ↦ first-last n k (symbols_of before) y h.taken (ap (defined_arity n) (sym is_it) ∙ e)
       | inr (inr none) ↦ absurd none
     ]
 
@@ -115,7 +130,7 @@ defined_arity-own : (names : TypeNames) (a : HolType) (f : Term) (n : Name) → 
 defined_arity-own names a f n e = ap (λ b. cond b (Some (length names.variables)) None) ((name_eq-Decides n names.operator).1 e)
 
 -- text behind digits
-after_digits : (ds es r s : List ℕ) → list_all is_decimal_digit ds ≡ true → list_all is_decimal_digit es ≡ true → ds ++ 95 ∷ r ≡ es ++ 95 ∷ s → (ds ≡ es) × (r ≡ s)
+pub after_digits : (ds es r s : List ℕ) → list_all is_decimal_digit ds ≡ true → list_all is_decimal_digit es ≡ true → ds ++ 95 ∷ r ≡ es ++ 95 ∷ s → (ds ≡ es) × (r ≡ s)
 after_digits [] [] r s h k e = (refl, (let f : 95 ∷ r ≡ 95 ∷ s = e in cc))
 after_digits [] (x ∷ es) r s h k e = let f : 95 ≡ x = ap first_byte e in let l = first_digit-low (x ∷ es) k in absurd (omega (arith, f, l))
 after_digits (x ∷ ds) [] r s h k e = let f : x ≡ 95 = ap first_byte e in let l = first_digit-low (x ∷ ds) h in absurd (omega (arith, f, l))
@@ -133,7 +148,7 @@ after_digits (x ∷ ds) (y ∷ es) r s h k e =
         go false e = absurd (cc)
 
 -- what an item names is new
-not-any : (test : Content → Bool) (ps : List Item) (y : Item) → any_content test ps ≡ false → IsIn ps y → test y.content ≡ false
+pub not-any : (test : Content → Bool) (ps : List Item) (y : Item) → any_content test ps ≡ false → IsIn ps y → test y.content ≡ false
 not-any test [] y h i = absurd i
 not-any test (z ∷ zs) y h (inl e) = ap (λ (u : Item). test u.content) e ∙ (or_parts (test z.content) (any_content test zs) h).0
 not-any test (z ∷ zs) y h (inr i) = not-any test zs y (or_parts (test z.content) (any_content test zs) h).1 i
@@ -142,6 +157,9 @@ constant-new : (n : Name) (c : Content) (before : List Item) → constant_named 
 constant-new n (operator m k) before e h = absurd (cc)
 constant-new n (constant m a) before e h = subst (λ (l : Name). any_content (is_constant l) before ≡ false) (same_Some _ _ e) h.1
 constant-new n (defined_constant m a t) before e h = subst (λ (l : Name). any_content (is_constant l) before ≡ false) (same_Some _ _ e) h.1
+constant-new n (type_operator names c u j one) before e h = absurd (cc)
+constant-new n (type_abstraction names c u j one) before e h = subst (λ (l : Name). any_content (is_constant l) before ≡ false) (same_Some _ _ e) h.1
+constant-new n (type_representation names c u j one) before e h = subst (λ (l : Name). any_content (is_constant l) before ≡ false) (same_Some _ _ e) h.1
 constant-new n (unproved s) before e h = absurd (cc)
 constant-new n (step kind js premises given s) before e h = absurd (cc)
 
@@ -149,6 +167,9 @@ pub constant-is : (n : Name) (c : Content) → constant_named c ≡ Some n → i
 constant-is n (operator m k) e = absurd (cc)
 constant-is n (constant m a) e = (name_eq-Decides n m).1 (sym (same_Some _ _ e))
 constant-is n (defined_constant m a t) e = (name_eq-Decides n m).1 (sym (same_Some _ _ e))
+constant-is n (type_operator names c u j one) e = absurd (cc)
+constant-is n (type_abstraction names c u j one) e = (name_eq-Decides n names.abstraction).1 (sym (same_Some _ _ e))
+constant-is n (type_representation names c u j one) e = (name_eq-Decides n names.representation).1 (sym (same_Some _ _ e))
 constant-is n (unproved s) e = absurd (cc)
 constant-is n (step kind js premises given s) e = absurd (cc)
 
@@ -166,6 +187,17 @@ one-operator n k c before y new i at e =
     let b : is_operator n k y.content ≡ true = ap (is_operator n k) at ∙ self in
     let k : true ≡ false = sym b ∙ a in absurd (cc)
 
+one-defined : (names others : TypeNames) (a b : HolType) (u v : Term) (j l : ℕ) (one two : Sequent) (c : Content) (before : List Item) (y : Item) → names.operator ≡ others.operator → length names.variables ≡ length others.variables
+    → IsNew before c → IsIn before y → y.content ≡ type_operator names a u j one → c ≡ type_operator others b v l two → ⊥
+one-defined names others a b u v j l one two c before y same count new i at e =
+    let new_one : IsNew before (type_operator others b v l two) = subst (IsNew before) e new in
+    let n = others.operator in
+    let k = length others.variables in
+    let a : is_operator n k y.content ≡ false = not-any (is_operator n k) before y new_one.1 i in
+    let self : (name_eq n n && (k == k)) ≡ true = rw ((name_eq-Decides n n).1 refl) ((unsigned_Decides k k).1 refl) in
+    let b : is_operator n k y.content ≡ true = ap (is_operator n k) at ∙ (λ t. name_eq n (same t) && (k == count t)) ∙ self in
+    let k : true ≡ false = sym b ∙ a in absurd (cc)
+
 other_front : (a b : ℕ) (r s name : List ℕ) → nat_eq a b ≡ false → name ≡ a ∷ r → name ≡ b ∷ s → ⊥
 other_front a b r s name h e f =
     let same : a ≡ b = sym (ap first_byte e) ∙ ap first_byte f in
@@ -180,12 +212,12 @@ symbols-apart made p before y c name new i (IsSymbolName.an_input n is e w) (IsS
     one-constant m n c y.content before y new i refl (ap constant_named e) (ap constant_named f) (mangled-injective n m is js (two_fronts 105 95 _ _ name w v))
 symbols-apart made p before y c name new i (IsSymbolName.an_input n is e w) (IsSymbolName.an_input_operator m k js f v) = other_front 105 116 _ _ name refl w v
 symbols-apart made p before y c name new i (IsSymbolName.an_input n is e w) (IsSymbolName.a_constant m js f v) = other_front 105 99 _ _ name refl w v
-symbols-apart made p before y c name new i (IsSymbolName.an_input n is e w) (IsSymbolName.an_operator names a g js among f v) = other_front 105 111 _ _ name refl w v
+symbols-apart made p before y c name new i (IsSymbolName.an_input n is e w) (IsSymbolName.an_operator names a g x s js among f v) = other_front 105 111 _ _ name refl w v
 symbols-apart made p before y c name new i (IsSymbolName.a_constant n is e w) (IsSymbolName.a_constant m js f v) =
     one-constant m n c y.content before y new i refl e f (mangled-injective n m is js (two_fronts 99 95 _ _ name w v))
 symbols-apart made p before y c name new i (IsSymbolName.a_constant n is e w) (IsSymbolName.an_input_operator m k js f v) = other_front 99 116 _ _ name refl w v
 symbols-apart made p before y c name new i (IsSymbolName.a_constant n is e w) (IsSymbolName.an_input m js f v) = other_front 99 105 _ _ name refl w v
-symbols-apart made p before y c name new i (IsSymbolName.a_constant n is e w) (IsSymbolName.an_operator names a g js among f v) = other_front 99 111 _ _ name refl w v
+symbols-apart made p before y c name new i (IsSymbolName.a_constant n is e w) (IsSymbolName.an_operator names a g x s js among f v) = other_front 99 111 _ _ name refl w v
 symbols-apart made p before y c name new i (IsSymbolName.an_input_operator n k is e w) (IsSymbolName.an_input_operator m j js f v) =
     let both = after_digits (numeral k) (numeral j) (mangled n) (mangled m) (numeral-digits k) (numeral-digits j) (one_byte 116 _ _ name w v) in
     let same : n ≡ m = mangled-injective n m is js both.1 in
@@ -193,21 +225,21 @@ symbols-apart made p before y c name new i (IsSymbolName.an_input_operator n k i
     one-operator m j c before y new i (e ∙ (λ t. operator (same t) (count t))) f
 symbols-apart made p before y c name new i (IsSymbolName.an_input_operator n k is e w) (IsSymbolName.an_input m js f v) = other_front 116 105 _ _ name refl w v
 symbols-apart made p before y c name new i (IsSymbolName.an_input_operator n k is e w) (IsSymbolName.a_constant m js f v) = other_front 116 99 _ _ name refl w v
-symbols-apart made p before y c name new i (IsSymbolName.an_input_operator n k is e w) (IsSymbolName.an_operator names a g js among f v) = other_front 116 111 _ _ name refl w v
-symbols-apart made p before y c name new i (IsSymbolName.an_operator names a f is among e w) (IsSymbolName.an_operator others b g js there k v) =
+symbols-apart made p before y c name new i (IsSymbolName.an_input_operator n k is e w) (IsSymbolName.an_operator names a g x s js among f v) = other_front 116 111 _ _ name refl w v
+symbols-apart made p before y c name new i (IsSymbolName.an_operator names a f x s is among e w) (IsSymbolName.an_operator others b g z t js there k v) =
     let same : names.operator ≡ others.operator = mangled-injective names.operator others.operator is js (two_fronts 111 95 _ _ name w v) in
     let first = arity-known made p (Symbol.defined (Definition.type_operator names a f)) among names.operator (length names.variables) (defined_arity-own names a f names.operator refl) in
     let second = arity-known made p (Symbol.defined (Definition.type_operator others b g)) there names.operator (length others.variables) (defined_arity-own others b g names.operator same) in
     let count : length names.variables ≡ length others.variables = same_Some _ _ (sym first ∙ second) in
-    one-operator others.operator (length others.variables) c before y new i (e ∙ (λ t. operator (same t) (count t))) k
-symbols-apart made p before y c name new i (IsSymbolName.an_operator names a f is among e w) (IsSymbolName.an_input m js k v) = other_front 111 105 _ _ name refl w v
-symbols-apart made p before y c name new i (IsSymbolName.an_operator names a f is among e w) (IsSymbolName.a_constant m js k v) = other_front 111 99 _ _ name refl w v
-symbols-apart made p before y c name new i (IsSymbolName.an_operator names a f is among e w) (IsSymbolName.an_input_operator m j js k v) = other_front 111 116 _ _ name refl w v
+    one-defined names others a b f g x z s t c before y same count new i e k
+symbols-apart made p before y c name new i (IsSymbolName.an_operator names a f x s is among e w) (IsSymbolName.an_input m js k v) = other_front 111 105 _ _ name refl w v
+symbols-apart made p before y c name new i (IsSymbolName.an_operator names a f x s is among e w) (IsSymbolName.a_constant m js k v) = other_front 111 99 _ _ name refl w v
+symbols-apart made p before y c name new i (IsSymbolName.an_operator names a f x s is among e w) (IsSymbolName.an_input_operator m j js k v) = other_front 111 116 _ _ name refl w v
 
 pub symbol_name-high : (symbols : List Symbol) (c : Content) (name : List ℕ) → IsSymbolName symbols c name → (97 ≤ first_byte name) × (second_byte name ≤ 95)
 symbol_name-high symbols c name (IsSymbolName.an_input n is e w) = let p = ap first_byte w in let q = ap second_byte w in (omega (arith, p), omega (arith, q))
 symbol_name-high symbols c name (IsSymbolName.a_constant n is e w) = let p = ap first_byte w in let q = ap second_byte w in (omega (arith, p), omega (arith, q))
-symbol_name-high symbols c name (IsSymbolName.an_operator names a f is among e w) = let p = ap first_byte w in let q = ap second_byte w in (omega (arith, p), omega (arith, q))
+symbol_name-high symbols c name (IsSymbolName.an_operator names a f x s is among e w) = let p = ap first_byte w in let q = ap second_byte w in (omega (arith, p), omega (arith, q))
 symbol_name-high symbols c name (IsSymbolName.an_input_operator n k is e w) =
     let p = ap first_byte w in
     let q = ap second_byte w in

@@ -4,6 +4,8 @@ use Rattle.std.specs.Prelude.{nat_le, bytes_eq}
 use Rattle.std.specs.List.{AllByRecursion}
 use Rattle.std.proofs.lemmas.List.{append-nil}
 use Rattle.std.proofs.lemmas.Slice.Eq.{bytes_eq-Decides}
+use Rattle.hol_spec.specs.Symbols.{Symbol}
+use Rattle.hol_spec.specs.Definitions.{Definition}
 use Rattle.hol_spec.specs.Sequents.{Sequent}
 use Rattle.hol_spec.specs.Rules.{Parameters}
 use Rattle.hol_spec.specs.declared.StepKind.{StepKind}
@@ -28,14 +30,14 @@ use Rattle.module_laws.specs.MadeModules.{IsNew}
 use Rattle.module_laws.specs.WantedItems.{AreMadeInOrder}
 use Rattle.module_spec.specs.Rows.{has_row}
 use Rattle.module_spec.specs.Scopes.{Symbols}
-use Rattle.module_spec.specs.Items.{Content, operator, constant, defined_constant, unproved, step, Item, says, declaration, declaration_of}
+use Rattle.module_spec.specs.Items.{Content, operator, constant, defined_constant, type_operator, type_abstraction, type_representation, unproved, step, Item, says, declaration, declaration_of}
 use Rattle.module_spec.specs.Items as item
 use Rattle.module_spec.specs.MadeItems.{said_by, content_by, items_of, roots_of}
 use Rattle.module_spec.specs.Reach.{kept, renumbered_content, renumbered, keep_of, symbol_of, image_items}
 use Rattle.module_spec.specs.Image.{is_one_of, name_in, image}
 use Rattle.run_laws.specs.Origins.{Origin, HaveOrigins, made-origins}
 use Rattle.run_laws.specs.Named.{SymbolHasName, HasNames, first_byte, second_byte, IsStepName, step_name-is, step_name-low, same-step, is-assumed}
-use Rattle.run_laws.specs.NewNames.{IsSymbolName, symbol_name-is, symbols-apart, symbol_name-high}
+use Rattle.run_laws.specs.NewNames.{IsSymbolName, symbol_name-is, definition_name-is, symbols-apart, symbol_name-high}
 use Rattle.run_laws.specs.AcceptedRuns.{IsCarried, runs_are_carried}
 use Rattle.module_laws.specs.AcceptedItems.{says-step}
 use Rattle.module_laws.specs.SaidItems.{length-said_by, length-said_by_one}
@@ -59,6 +61,8 @@ content-says x c h = ap says h.is ∙ says-step (has_row x.kind) h.kind h.premis
 pub item_name-is : (run : Accepted) → HasNames run → run.assumptions ≡ assumed_from 0 (steps_of run.made) → (P : ℕ → Type 0) (z : Item) → Origin run run.made P z → IsItemName run P z
 item_name-is run named assumed P z (Origin.of_symbol x among i e) =
     IsItemName.by_symbol (subst (IsSymbolName (symbols_of run.made) z.content) (sym e) (symbol_name-is (symbols_of run.made) x among (All-at SymbolHasName (symbols_of run.made) x named.symbols among) z.content i))
+item_name-is run named assumed P z (Origin.of_definition names c f one among i e) =
+    IsItemName.by_symbol (subst (IsSymbolName (symbols_of run.made) z.content) (sym e) (definition_name-is (symbols_of run.made) names c f one among (All-at SymbolHasName (symbols_of run.made) (Symbol.defined (Definition.type_operator names c f)) named.symbols among) z.content i))
 item_name-is run named assumed P z (Origin.of_step i x kind js ss g p at e f) =
     IsItemName.by_step i x p at (record { kind = kind; premises = js; sequents = ss; parameters = g; is = e })
     (subst (IsStepName run i x.kind) (sym f) (step_name-is run i x.kind (λ idle. ap (is_one_of i) assumed ∙ subst (λ k. is_one_of k (assumed_from 0 (steps_of run.made)) ≡ true) (zero-plus i) (is-assumed 0 (steps_of run.made) i x at idle))))
@@ -149,6 +153,9 @@ pub declaration-name : (symbols : Symbols) (name : List ℕ) (c : Content) → (
 declaration-name symbols name (operator n k) = refl
 declaration-name symbols name (constant n a) = refl
 declaration-name symbols name (defined_constant n a t) = refl
+declaration-name symbols name (type_operator names c u j one) = refl
+declaration-name symbols name (type_abstraction names c u j one) = refl
+declaration-name symbols name (type_representation names c u j one) = refl
 declaration-name symbols name (unproved s) = refl
 declaration-name symbols name (step kind js premises given s) = refl
 

@@ -21,7 +21,7 @@ use Rattle.lp_spec.specs.Modules.{Declaration, signature, symbol_declaration}
 use Rattle.lp_spec.specs.Lemmas.{lemmas, sym_lemma, trans_lemma}
 use Rattle.module_spec.specs.Scopes.{Symbols, sequent_tree}
 use Rattle.module_spec.specs.Enc.{Enc}
-use Rattle.module_spec.specs.Items.{Content, operator, constant, defined_constant, unproved, step, Item, says, declaration, declaration_of, module_of}
+use Rattle.module_spec.specs.Items.{Content, operator, constant, defined_constant, type_operator, type_abstraction, type_representation, unproved, step, Item, says, declaration, declaration_of, module_of}
 use Rattle.module_spec.specs.Items as item
 use Rattle.module_spec.specs.MadeItems.{items_of, roots_of}
 use Rattle.module_spec.specs.Reach.{Key, kept, renumbered, renumbered_content, keep_of, symbol_of, image_items}
@@ -48,6 +48,8 @@ within-all : (m : List Made) → IsOver m → AllByRecursion SequentWithin (sequ
 within-all m made.Each.empty = tt
 within-all m (made.Each.more {made = before} (Made.symbol x) p h is) =
     subst (AllByRecursion SequentWithin) (sym (ap sequents_of is ∙ sequents_of-append before (Made.symbol x ∷ []) ∙ append-nil (sequents_of before))) (within-all before p)
+within-all m (made.Each.more {made = before} (Made.type_definition names c f i) p h is) =
+    subst (AllByRecursion SequentWithin) (sym (ap sequents_of is ∙ sequents_of-append before (Made.type_definition names c f i ∷ []) ∙ append-nil (sequents_of before))) (within-all before p)
 within-all m (made.Each.more {made = before} (Made.step x) p h is) =
     subst (AllByRecursion SequentWithin) (sym (ap sequents_of is ∙ sequents_of-append before (Made.step x ∷ [])))
     (All-append SequentWithin (sequents_of before) (x.sequent ∷ []) (within-all before p) (h.within, tt {0}))
@@ -66,6 +68,9 @@ module _ (number : ℕ → ℕ) where
   constant_named-renumbered (operator n k) = refl
   constant_named-renumbered (constant n a) = refl
   constant_named-renumbered (defined_constant n a t) = refl
+  constant_named-renumbered (type_operator names c u j one) = refl
+  constant_named-renumbered (type_abstraction names c u j one) = refl
+  constant_named-renumbered (type_representation names c u j one) = refl
   constant_named-renumbered (unproved s) = refl
   constant_named-renumbered (step kind js ss g s) = refl
 
@@ -73,7 +78,7 @@ module _ (number : ℕ → ℕ) where
   name-renumbered ss c name (IsSymbolName.an_input n is e w) = IsSymbolName.an_input n is (ap (renumbered_content number) e) w
   name-renumbered ss c name (IsSymbolName.an_input_operator n k is e w) = IsSymbolName.an_input_operator n k is (ap (renumbered_content number) e) w
   name-renumbered ss c name (IsSymbolName.a_constant n is e w) = IsSymbolName.a_constant n is (constant_named-renumbered c ∙ e) w
-  name-renumbered ss c name (IsSymbolName.an_operator names a f is among e w) = IsSymbolName.an_operator names a f is among (ap (renumbered_content number) e) w
+  name-renumbered ss c name (IsSymbolName.an_operator names a f j one is among e w) = IsSymbolName.an_operator names a f (number j) one is among (ap (renumbered_content number) e) w
 
   kind-renumbered : (run : Accepted) (z : Item) → IsKind run z → IsKind run (renumbered number z)
   kind-renumbered run z (IsKind.naming h) = IsKind.naming (name-renumbered (symbols_of run.made) z.content z.name h)
@@ -89,6 +94,7 @@ Always i = Unit {0}
 
 pub origin-of : (run : Accepted) (P : ℕ → Type 0) (z : Item) → Origin run run.made P z → Origin run run.made Always z
 origin-of run P z (Origin.of_symbol x among i e) = Origin.of_symbol x among i e
+origin-of run P z (Origin.of_definition names c f one among i e) = Origin.of_definition names c f one among i e
 origin-of run P z (Origin.of_step i x kind js ss g p at e f) = Origin.of_step i x kind js ss g (tt {0}) at e f
 
 pub origins-all : (run : Accepted) (before xs : List Item) → HaveOrigins run run.made before xs → AllByRecursion (Origin run run.made Always) xs
@@ -149,6 +155,9 @@ module _ (run : Accepted) (named : HasNames run) (sound : IsSoundRun run) where
   sayer-meant (operator n k) s e = absurd (cc)
   sayer-meant (constant n a) s e = absurd (cc)
   sayer-meant (defined_constant n a t) s e = absurd (cc)
+  sayer-meant (type_operator names c u j one) s e = absurd (cc)
+  sayer-meant (type_abstraction names c u j one) s e = absurd (cc)
+  sayer-meant (type_representation names c u j one) s e = absurd (cc)
   sayer-meant (unproved r) s e = tt
   sayer-meant (step kind js ss g r) s e = tt
 
@@ -165,17 +174,23 @@ module _ (run : Accepted) (named : HasNames run) (sound : IsSoundRun run) where
       one (IsKind.saying i x at e) = sayer-meant z.content x.sequent e
 
   -- what an item says
-  content-terms : (c : Content) (s : Sequent) → says c ≡ Some s → ContentMeant m symbols c → AllByRecursion (TermMeant m symbols) (terms_of s)
+  pub content-terms : (c : Content) (s : Sequent) → says c ≡ Some s → ContentMeant m symbols c → AllByRecursion (TermMeant m symbols) (terms_of s)
   content-terms (operator n k) s e h = absurd (cc)
   content-terms (constant n a) s e h = absurd (cc)
   content-terms (defined_constant n a t) s e h = absurd (cc)
+  content-terms (type_operator names c u j one) s e h = absurd (cc)
+  content-terms (type_abstraction names c u j one) s e h = absurd (cc)
+  content-terms (type_representation names c u j one) s e h = absurd (cc)
   content-terms (unproved r) s e h = subst (λ q. AllByRecursion (TermMeant m symbols) (terms_of q)) (same_Some _ _ e) h
   content-terms (step kind js ss g r) s e h = subst (λ q. AllByRecursion (TermMeant m symbols) (terms_of q)) (same_Some _ _ e) h
 
-  content-type : (name : List ℕ) (c : Content) (s : Sequent) → says c ≡ Some s → (declaration_of symbols name c).ty ≡ sequent_tree symbols s
+  pub content-type : (name : List ℕ) (c : Content) (s : Sequent) → says c ≡ Some s → (declaration_of symbols name c).ty ≡ sequent_tree symbols s
   content-type name (operator n k) s e = absurd (cc)
   content-type name (constant n a) s e = absurd (cc)
   content-type name (defined_constant n a t) s e = absurd (cc)
+  content-type name (type_operator names c u j one) s e = absurd (cc)
+  content-type name (type_abstraction names c u j one) s e = absurd (cc)
+  content-type name (type_representation names c u j one) s e = absurd (cc)
   content-type name (unproved r) s e = ap (sequent_tree symbols) (same_Some _ _ e)
   content-type name (step kind js ss g r) s e = ap (sequent_tree symbols) (same_Some _ _ e)
 
@@ -214,6 +229,9 @@ module _ (run : Accepted) (named : HasNames run) (sound : IsSoundRun run) where
         silent-constant n (operator o k) e s f = absurd (cc)
         silent-constant n (constant o a) e s f = absurd (cc)
         silent-constant n (defined_constant o a t) e s f = absurd (cc)
+        silent-constant n (type_operator names c u j one) e s f = absurd (cc)
+        silent-constant n (type_abstraction names c u j one) e s f = absurd (cc)
+        silent-constant n (type_representation names c u j one) e s f = absurd (cc)
         silent-constant n (unproved r) e s f = absurd (cc)
         silent-constant n (step kind js ss g r) e s f = absurd (cc)
 
@@ -221,7 +239,7 @@ module _ (run : Accepted) (named : HasNames run) (sound : IsSoundRun run) where
         silent ss c name (IsSymbolName.an_input n is e w) s f = let g : None ≡ Some s = sym (ap says e) ∙ f in absurd (cc)
         silent ss c name (IsSymbolName.an_input_operator n k is e w) s f = let g : None ≡ Some s = sym (ap says e) ∙ f in absurd (cc)
         silent ss c name (IsSymbolName.a_constant n is e w) s f = silent-constant n c e s f
-        silent ss c name (IsSymbolName.an_operator names a g is among e w) s f = let g : None ≡ Some s = sym (ap says e) ∙ f in absurd (cc)
+        silent ss c name (IsSymbolName.an_operator names a g j one is among e w) s f = let g : None ≡ Some s = sym (ap says e) ∙ f in absurd (cc)
     stand z meant (IsKind.saying i x at e) s f =
         let same : x.sequent ≡ s = same_Some _ _ (sym e ∙ f) in
         let got : slice_get (sequents_of run.made) i ≡ Some x.sequent = slice_get-mapped (λ (y : Step). y.sequent) (steps_of run.made) i x at in

@@ -32,13 +32,13 @@ run = record {
 }
 
 abbrev equal : Tree
-equal = proof_of (eq_of bools (App (Sym 15) bools) (App (Sym 16) bools))
+equal = proof_of (eq_of bools (App (Sym 20) bools) (App (Sym 21) bools))
 
 its_module : image run ≡ lemmas
     ++ symbol (codes "i_a_2eb__c") (Pi types (term_of (Var 0)))
     ∷ symbol (codes "i_a__b__c") (Pi types (term_of (Var 0)))
     ∷ symbol (codes "A0") equal
-    ∷ theorem (codes "E0") equal (Sym 17) ∷ []
+    ∷ theorem (codes "E0") equal (Sym 22) ∷ []
 unfolding numeral
 its_module = refl
 
@@ -52,7 +52,7 @@ its_lines = refl
 
 is_a_proof : IsProof run.made
 is_a_proof =
-    let one = next (takes c) Each.empty (Takes.input_constant refl) in
-    let two = next (takes d) one (Takes.input_constant refl) in
+    let one = next (takes c) Each.empty (tt {0}, Takes.input_constant refl) in
+    let two = next (takes d) one (tt {0}, Takes.input_constant refl) in
     let three = next (assumes c_is_d) two (assumed _ c_is_d (alone _ refl)) in
     next (exports 0 c_is_d) three (exported _ 0 c_is_d refl (alone _ refl) refl)

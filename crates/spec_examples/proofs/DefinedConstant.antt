@@ -65,7 +65,7 @@ truths_stand : (at : Place) → StandsForType m (closed_function closed_bool clo
 truths_stand at = (arr_symbol, bools ∷ bools ∷ [], arrow refl, (bool_stands at, (bool_stands at, tt)), refl)
 
 defined : IsDefined m run definition
-defined = record {
+defined = IsDefined.constant (record {
   name = c;
   term = identity;
   ty = truths;
@@ -76,4 +76,4 @@ defined = record {
   type_stands = record { tree = arr_of bools bools; stands = truths_stand (place 0 0 0 0); is = refl };
   term_stands = (bools, Var 0, bool_stands (place 0 0 0 0), (omega arith, refl), refl);
   is = refl;
-}
+})

@@ -35,7 +35,7 @@ stepped_type = Pi TB (proof_of (eq_of bools (App (Lam TB (App identity (Var 0)))
 
 its_module : image run ≡ lemmas
     ++ theorem (codes "T0") stepped_type (Lam TB (refl_of bools (App identity (Var 0))))
-    ∷ theorem (codes "E0") stepped_type (Lam TB (App (Sym 15) (Var 0))) ∷ []
+    ∷ theorem (codes "E0") stepped_type (Lam TB (App (Sym 20) (Var 0))) ∷ []
 unfolding numeral
 its_module = refl
 
@@ -48,5 +48,5 @@ its_lines = refl
 is_a_proof : IsProof run.made
 is_a_proof =
     let one = next (infers BetaConv [] (Parameters.term redex) stepped) Each.empty
-    (record { premises = []; earlier = tt; follows = record { rule = Rule.beta_conv refl refl; defined = tt } }) in
+    (record { premises = []; earlier = tt; follows = record { rule = Rule.beta_conv refl refl; defined = tt }; law = tt {0} }) in
     next (exports 0 stepped) one (exported _ 0 stepped refl (alone _ refl) refl)

@@ -66,8 +66,8 @@ its_module : image run ≡ lemmas
     ++ symbol (codes "A0") (Pi (term_of truth_functions) (Pi (term_of truth_functions) (Pi (is_identity (Var 1)) (Pi (is_identity (Var 1)) (is_identity (Var 3))))))
     ∷ definition (codes "c_c") (term_of truth_functions) identity
     ∷ definition (codes "c_d") (term_of truth_functions) identity
-    ∷ theorem (codes "T1") (is_identity (Sym 16)) (applied (Sym 15) (Sym 16 ∷ Sym 17 ∷ R ∷ R ∷ []))
-    ∷ theorem (codes "E0") (is_identity (Sym 16)) (Sym 18) ∷ []
+    ∷ theorem (codes "T1") (is_identity (Sym 21)) (applied (Sym 20) (Sym 21 ∷ Sym 22 ∷ R ∷ R ∷ []))
+    ∷ theorem (codes "E0") (is_identity (Sym 21)) (Sym 23) ∷ []
 unfolding numeral
 its_module = refl
 
@@ -93,12 +93,13 @@ I_defines = record { typed = refl; closed = refl; variables = refl }
 is_a_proof : IsProof run.made
 is_a_proof =
     let one = next (assumes described) Each.empty (assumed _ described described_a_sequent) in
-    let two = next (defines c) one (Takes.constant refl I_defines) in
-    let three = next (defines d) two (Takes.constant refl I_defines) in
+    let two = next (defines c) one (tt {0}, Takes.constant refl I_defines) in
+    let three = next (defines d) two (tt {0}, Takes.constant refl I_defines) in
     let four = next (infers DefineConstList (0 ∷ []) pairs c_is_I) three
     (record {
       premises = described ∷ [];
       earlier = (refl, tt);
       follows = record { rule = Rule.define_const_list (I_defines, (I_defines, tt)) refl refl; defined = ((0, (omega arith, refl)), ((1, (omega arith, refl)), tt)) };
+      law = tt {0};
     }) in
     next (exports 1 c_is_I) four (exported _ 1 c_is_I refl (alone _ refl) refl)

@@ -40,8 +40,8 @@ merged_body t = Lam TB (Lam TB (Lam (proof_of (Var 1)) t))
 
 its_module : image run ≡ lemmas
     ++ symbol (codes "A0") (Pi TB (Pi TB (Pi TB (Pi (proof_of (Var 2)) (Pi (proof_of (Var 2)) (proof_of (Var 2)))))))
-    ∷ theorem (codes "T1") merged_type (merged_body (applied (Sym 15) (Var 2 ∷ Var 2 ∷ Var 1 ∷ Var 0 ∷ Var 0 ∷ [])))
-    ∷ theorem (codes "E0") merged_type (merged_body (applied (Sym 16) (Var 2 ∷ Var 1 ∷ Var 0 ∷ []))) ∷ []
+    ∷ theorem (codes "T1") merged_type (merged_body (applied (Sym 20) (Var 2 ∷ Var 2 ∷ Var 1 ∷ Var 0 ∷ Var 0 ∷ [])))
+    ∷ theorem (codes "E0") merged_type (merged_body (applied (Sym 21) (Var 2 ∷ Var 1 ∷ Var 0 ∷ []))) ∷ []
 unfolding numeral
 its_module = refl
 
@@ -70,5 +70,5 @@ is_a_proof : IsProof run.made
 is_a_proof =
     let one = next (assumes apart) Each.empty (assumed _ apart apart_a_sequent) in
     let two = next (infers Subst (0 ∷ []) put merged) one
-    (record { premises = apart ∷ []; earlier = (refl, tt); follows = record { rule = Rule.subst (refl, tt) refl; defined = tt } }) in
+    (record { premises = apart ∷ []; earlier = (refl, tt); follows = record { rule = Rule.subst (refl, tt) refl; defined = tt }; law = tt {0} }) in
     next (exports 1 merged) two (exported _ 1 merged refl merged_a_sequent refl)

@@ -52,9 +52,9 @@ truth_functions = arr_of bools bools
 -- of c only its definition is needed
 its_module : image run ≡ lemmas
     ++ definition (codes "c_c") (term_of truth_functions) (Lam TB (Var 0))
-    ∷ definition (codes "c_d") (term_of truth_functions) (Sym 15)
-    ∷ theorem (codes "T1") (proof_of (eq_of truth_functions (Sym 16) (Sym 15))) (refl_of truth_functions (Sym 15))
-    ∷ theorem (codes "E0") (proof_of (eq_of truth_functions (Sym 16) (Sym 15))) (Sym 17) ∷ []
+    ∷ definition (codes "c_d") (term_of truth_functions) (Sym 20)
+    ∷ theorem (codes "T1") (proof_of (eq_of truth_functions (Sym 21) (Sym 20))) (refl_of truth_functions (Sym 20))
+    ∷ theorem (codes "E0") (proof_of (eq_of truth_functions (Sym 21) (Sym 20))) (Sym 22) ∷ []
 unfolding numeral
 its_module = refl
 
@@ -74,10 +74,10 @@ c_defines = record { typed = refl; closed = refl; variables = refl }
 
 is_a_proof : IsProof run.made
 is_a_proof =
-    let one = next (defines c I) Each.empty (Takes.constant refl I_defines) in
+    let one = next (defines c I) Each.empty (tt {0}, Takes.constant refl I_defines) in
     let two = next (says c I c_is_I) one
-    (record { premises = []; earlier = tt; follows = record { rule = Rule.define_const I_defines refl; defined = ((0, (omega arith, refl)), tt) } }) in
-    let three = next (defines d of_c) two (Takes.constant refl c_defines) in
+    (record { premises = []; earlier = tt; follows = record { rule = Rule.define_const I_defines refl; defined = ((0, (omega arith, refl)), tt) }; law = tt {0} }) in
+    let three = next (defines d of_c) two (tt {0}, Takes.constant refl c_defines) in
     let four = next (says d of_c d_is_c) three
-    (record { premises = []; earlier = tt; follows = record { rule = Rule.define_const c_defines refl; defined = ((1, (omega arith, refl)), tt) } }) in
+    (record { premises = []; earlier = tt; follows = record { rule = Rule.define_const c_defines refl; defined = ((1, (omega arith, refl)), tt) }; law = tt {0} }) in
     next (exports 1 d_is_c) four (exported _ 1 d_is_c refl (alone _ refl) refl)

@@ -37,13 +37,13 @@ run = record {
 
 -- of x and of y alike: the one free variable, from under the binder of y
 abbrev of_free : Tree
-of_free = Pi TB (proof_of (App (App (Sym 15) (arr_of (arr_of bools bools) bools)) (Lam TB (Var 1))))
+of_free = Pi TB (proof_of (App (App (Sym 20) (arr_of (arr_of bools bools) bools)) (Lam TB (Var 1))))
 
 its_module : image run ≡ lemmas
     ++ symbol (codes "i_u") (Pi types (term_of (Var 0)))
     ∷ symbol (codes "A0") of_free
-    ∷ theorem (codes "T1") of_free (Lam TB (App (Sym 16) (Var 0)))
-    ∷ theorem (codes "E0") of_free (Lam TB (App (Sym 17) (Var 0))) ∷ []
+    ∷ theorem (codes "T1") of_free (Lam TB (App (Sym 21) (Var 0)))
+    ∷ theorem (codes "E0") of_free (Lam TB (App (Sym 22) (Var 0))) ∷ []
 unfolding numeral
 its_module = refl
 
@@ -57,8 +57,8 @@ its_lines = refl
 
 is_a_proof : IsProof run.made
 is_a_proof =
-    let one = next (takes (name (codes "u"))) Each.empty (Takes.input_constant refl) in
+    let one = next (takes (name (codes "u"))) Each.empty (tt {0}, Takes.input_constant refl) in
     let two = next (assumes of_x) one (assumed _ of_x (alone _ refl)) in
     let three = next (infers Subst (0 ∷ []) put of_y) two
-    (record { premises = of_x ∷ []; earlier = (refl, tt); follows = record { rule = Rule.subst (refl, tt) refl; defined = tt } }) in
+    (record { premises = of_x ∷ []; earlier = (refl, tt); follows = record { rule = Rule.subst (refl, tt) refl; defined = tt }; law = tt {0} }) in
     next (exports 1 of_y) three (exported _ 1 of_y refl (alone _ refl) refl)

@@ -37,9 +37,9 @@ a_definition_is_a_proof : IsProof defining.run.made
 a_definition_is_a_proof =
     Each.more (Made.step (record { kind = Restate; premises = 0 ∷ []; parameters = Parameters.sequent defining.says; sequent = defining.says }))
     (Each.more (Made.step (record { kind = DefineConst; premises = []; parameters = Parameters.constant defining.c defining.identity; sequent = defining.says }))
-    (Each.more (Made.symbol (Symbol.defined (Definition.constant defining.c defining.identity))) Each.empty taken refl)
-    (record { premises = []; earlier = tt; follows = by_definition }) refl)
-    (record { premises = defining.says ∷ []; earlier = (refl, tt); follows = by_restating }) refl
+    (Each.more (Made.symbol (Symbol.defined (Definition.constant defining.c defining.identity))) Each.empty (tt {0}, taken) refl)
+    (record { premises = []; earlier = tt; follows = by_definition; law = tt {0} }) refl)
+    (record { premises = defining.says ∷ []; earlier = (refl, tt); follows = by_restating; law = tt {0} }) refl
 
 it_derives : Derives (Definition.constant defining.c defining.identity ∷ []) [] defining.says
 it_derives = Derives.inferred refl by_restating (DerivesAll.more (Derives.inferred refl by_definition DerivesAll.none) DerivesAll.none)
@@ -62,8 +62,8 @@ a_weakening_is_a_proof : IsProof weakened.run.made
 a_weakening_is_a_proof =
     Each.more (Made.step (record { kind = Restate; premises = 0 ∷ []; parameters = Parameters.sequent weakened.exported; sequent = weakened.exported }))
     (Each.more (Made.step (record { kind = Axiom; premises = []; parameters = Parameters.sequent weakened.assumed; sequent = weakened.assumed })) Each.empty
-    (record { premises = []; earlier = tt; follows = record { rule = Rule.recorded assumed_a_sequent; defined = tt } }) refl)
-    (record { premises = weakened.assumed ∷ []; earlier = (refl, tt); follows = by_weakening }) refl
+    (record { premises = []; earlier = tt; follows = record { rule = Rule.recorded assumed_a_sequent; defined = tt }; law = tt {0} }) refl)
+    (record { premises = weakened.assumed ∷ []; earlier = (refl, tt); follows = by_weakening; law = tt {0} }) refl
 
 it_derives_from_its_assumption : Derives [] (weakened.assumed ∷ []) weakened.exported
 it_derives_from_its_assumption = Derives.inferred refl by_weakening (DerivesAll.more (Derives.assumed (0, (omega arith, refl))) DerivesAll.none)

@@ -37,7 +37,7 @@ run = record {
 }
 
 abbrev U : Tree
-U = App (App (Sym 15) (arr_of (arr_of bools bools) bools)) (Lam TB (Var 0))
+U = App (App (Sym 20) (arr_of (arr_of bools bools) bools)) (Lam TB (Var 0))
 
 abbrev removed_type : Tree
 removed_type = Pi TB (proof_of (eq_of bools (Var 0) U))
@@ -47,8 +47,8 @@ its_module : image run ≡ lemmas
     ∷ symbol (codes "A0") (Pi TB (Pi (proof_of U) (proof_of (Var 1))))
     ∷ symbol (codes "A1") (proof_of U)
     ∷ theorem (codes "T2") removed_type
-    (Lam TB (applied (Sym prop_ext_symbol) (Var 0 ∷ U ∷ Lam (proof_of (Var 0)) (Sym 17) ∷ Lam (proof_of U) (applied (Sym 16) (Var 1 ∷ Var 0 ∷ [])) ∷ [])))
-    ∷ theorem (codes "E0") removed_type (Lam TB (App (Sym 18) (Var 0))) ∷ []
+    (Lam TB (applied (Sym prop_ext_symbol) (Var 0 ∷ U ∷ Lam (proof_of (Var 0)) (Sym 22) ∷ Lam (proof_of U) (applied (Sym 21) (Var 1 ∷ Var 0 ∷ [])) ∷ [])))
+    ∷ theorem (codes "E0") removed_type (Lam TB (App (Sym 23) (Var 0))) ∷ []
 unfolding numeral
 its_module = refl
 
@@ -70,9 +70,9 @@ under_a_sequent = record { no_repeats = one_hypothesis; hypotheses = (refl, tt);
 
 is_a_proof : IsProof run.made
 is_a_proof =
-    let one = next (takes (name (codes "u"))) Each.empty (Takes.input_constant refl) in
+    let one = next (takes (name (codes "u"))) Each.empty (tt {0}, Takes.input_constant refl) in
     let two = next (assumes under) one (assumed _ under under_a_sequent) in
     let three = next (assumes without) two (assumed _ without (alone _ refl)) in
     let four = next (infers DeductAntisym (0 ∷ 1 ∷ []) Parameters.nothing removed) three
-    (record { premises = under ∷ without ∷ []; earlier = (refl, (refl, tt)); follows = record { rule = Rule.deduct_antisym refl; defined = tt } }) in
+    (record { premises = under ∷ without ∷ []; earlier = (refl, (refl, tt)); follows = record { rule = Rule.deduct_antisym refl; defined = tt }; law = tt {0} }) in
     next (exports 2 removed) four (exported _ 2 removed refl (alone _ refl) refl)

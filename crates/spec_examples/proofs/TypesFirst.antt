@@ -40,7 +40,7 @@ run = record {
 
 -- i_k at a type and two arguments
 abbrev k_tree : Tree → Tree → Tree → Tree
-k_tree t x y = applied (Sym 15) (arr_of t (arr_of bools bools) ∷ x ∷ y ∷ [])
+k_tree t x y = applied (Sym 20) (arr_of t (arr_of bools bools) ∷ x ∷ y ∷ [])
 
 abbrev special_type : Tree
 special_type = Pi TB (proof_of (k_tree bools (Var 0) (Var 0)))
@@ -48,8 +48,8 @@ special_type = Pi TB (proof_of (k_tree bools (Var 0) (Var 0)))
 its_module : image run ≡ lemmas
     ++ symbol (codes "i_k") (Pi types (term_of (Var 0)))
     ∷ symbol (codes "A0") (Pi types (Pi (term_of (Var 0)) (Pi TB (proof_of (k_tree (Var 2) (Var 1) (Var 0))))))
-    ∷ theorem (codes "T1") special_type (Lam TB (applied (Sym 16) (bools ∷ Var 0 ∷ Var 0 ∷ [])))
-    ∷ theorem (codes "E0") special_type (Lam TB (App (Sym 17) (Var 0))) ∷ []
+    ∷ theorem (codes "T1") special_type (Lam TB (applied (Sym 21) (bools ∷ Var 0 ∷ Var 0 ∷ [])))
+    ∷ theorem (codes "E0") special_type (Lam TB (App (Sym 22) (Var 0))) ∷ []
 unfolding numeral
 its_module = refl
 
@@ -63,8 +63,8 @@ its_lines = refl
 
 is_a_proof : IsProof run.made
 is_a_proof =
-    let one = next (takes (name (codes "k"))) Each.empty (Takes.input_constant refl) in
+    let one = next (takes (name (codes "k"))) Each.empty (tt {0}, Takes.input_constant refl) in
     let two = next (assumes general) one (assumed _ general (alone _ refl)) in
     let three = next (infers Subst (0 ∷ []) put special) two
-    (record { premises = general ∷ []; earlier = (refl, tt); follows = record { rule = Rule.subst (refl, tt) refl; defined = tt } }) in
+    (record { premises = general ∷ []; earlier = (refl, tt); follows = record { rule = Rule.subst (refl, tt) refl; defined = tt }; law = tt {0} }) in
     next (exports 1 special) three (exported _ 1 special refl (alone _ refl) refl)

@@ -41,7 +41,7 @@ run = record {
 
 -- i_n at a type, and the filler of the truth values: the choice of an x with x = x
 abbrev n_at : Tree → Tree
-n_at t = App (Sym 15) (arr_of t bools)
+n_at t = App (Sym 20) (arr_of t bools)
 
 abbrev S : Tree
 S = applied (Sym select_symbol) (bools ∷ Lam TB (eq_of bools (Var 0) (Var 0)) ∷ [])
@@ -54,9 +54,9 @@ its_module : image run ≡ lemmas
     ∷ symbol (codes "A0") (Pi types (Pi TB (Pi (term_of (Var 1)) (proof_of (eq_of bools (Var 1) (App (n_at (Var 2)) (Var 0)))))))
     ∷ symbol (codes "A1") (Pi types (Pi (term_of (Var 0)) (Pi TB (proof_of (eq_of bools (App (n_at (Var 2)) (Var 1)) (Var 0))))))
     ∷ theorem (codes "T2") joined_type
-    (Lam TB (Lam TB (applied (Sym 14)
-    (bools ∷ Var 1 ∷ App (n_at bools) S ∷ Var 0 ∷ applied (Sym 16) (bools ∷ Var 1 ∷ S ∷ []) ∷ applied (Sym 17) (bools ∷ S ∷ Var 0 ∷ []) ∷ []))))
-    ∷ theorem (codes "E0") joined_type (Lam TB (Lam TB (applied (Sym 18) (Var 1 ∷ Var 0 ∷ [])))) ∷ []
+    (Lam TB (Lam TB (applied (Sym 19)
+    (bools ∷ Var 1 ∷ App (n_at bools) S ∷ Var 0 ∷ applied (Sym 21) (bools ∷ Var 1 ∷ S ∷ []) ∷ applied (Sym 22) (bools ∷ S ∷ Var 0 ∷ []) ∷ []))))
+    ∷ theorem (codes "E0") joined_type (Lam TB (Lam TB (applied (Sym 23) (Var 1 ∷ Var 0 ∷ [])))) ∷ []
 unfolding numeral
 its_module = refl
 
@@ -71,9 +71,9 @@ its_lines = refl
 
 is_a_proof : IsProof run.made
 is_a_proof =
-    let one = next (takes (name (codes "n"))) Each.empty (Takes.input_constant refl) in
+    let one = next (takes (name (codes "n"))) Each.empty (tt {0}, Takes.input_constant refl) in
     let two = next (assumes first) one (assumed _ first (alone _ refl)) in
     let three = next (assumes second) two (assumed _ second (alone _ refl)) in
     let four = next (infers Trans (0 ∷ 1 ∷ []) Parameters.nothing joined) three
-    (record { premises = first ∷ second ∷ []; earlier = (refl, (refl, tt)); follows = record { rule = Rule.trans refl refl refl; defined = tt } }) in
+    (record { premises = first ∷ second ∷ []; earlier = (refl, (refl, tt)); follows = record { rule = Rule.trans refl refl refl; defined = tt }; law = tt {0} }) in
     next (exports 2 joined) four (exported _ 2 joined refl (alone _ refl) refl)

@@ -56,7 +56,7 @@ exported_type = Pi (term_of bools) (Pi (term_of bools) (Pi (term_of bools) (Pi (
 abbrev exported_body : Tree
 exported_body =
     Lam (term_of bools) (Lam (term_of bools) (Lam (term_of bools) (Lam (proof_of (Var 2)) (Lam (proof_of (Var 2))
-    (App (App (App (Sym 15) (Var 4)) (Var 2)) (Var 1))))))
+    (App (App (App (Sym 20) (Var 4)) (Var 2)) (Var 1))))))
 
 abbrev assumption : Declaration
 assumption = symbol (codes "A0") assumed_type

@@ -13,9 +13,9 @@
 //! | `RenamedHypothesis` | a hypothesis that is removed up to renaming |
 //! | `HeadStep` | one step at the head of a redex |
 //! | `NewerConstant`, `ListedConstants` | a constant that stands for an older one, and a list of constants |
-//! | `TypeDefinition` | a type definition: its operator, its constants and its first law |
+//! | `TypeDefinition` | a type definition: its operator and its constants as parts of its type, and its first law with its proof |
 //! | `ProofRows` | two runs as proofs, and what their steps say derives |
-//! | `Reasons` | why the other declarations may have no body: inputs, and what a type definition makes |
+//! | `Reasons` | why the other declarations may have no body: inputs |
 //! | `WhatWasRead` | what was read of a shelf that tells its files, and of one that doesn't, and how an answer comes of it |
 //! | `ClosedTexts` | small sequents as `show` prints them |
 //! | `WordForms` | which words are a form of the program, and the lines of a check |

@@ -4,19 +4,19 @@ use Rattle.std.proofs.Common.{◌≡◌, ℕ, zero, suc, ◌+◌, ◌≤◌, inl
 use Rattle.article_spec.specs.Run.{accepted, Run}
 use Rattle.hol_spec.specs.Names.{Name}
 use Rattle.hol_spec.specs.NameEquality.{name_eq}
-use Rattle.hol_spec.specs.Types.{type_variables}
+use Rattle.hol_spec.specs.Types.{type_variables, HolType}
 use Rattle.hol_spec.specs.Primitives.{arrow_name, bool_name, ind_name, equality_name, select_name}
 use Rattle.hol_spec.specs.Sequents.{Sequent, parameter_count}
 use Rattle.hol_spec.specs.ClosedForm.{ClosedSequent}
 use Rattle.hol_spec.specs.Proofs.{Accepted}
 use Rattle.hol_spec.specs.Lists.{IsIn}
 use Rattle.lp_spec.specs.Trees.{Tree, Var}
-use Rattle.lp_spec.specs.Modules.{Declaration, signature, abstractions, types}
+use Rattle.lp_spec.specs.Modules.{Declaration, signature, abstractions, types, sub_symbol, sub_abs_symbol, sub_rep_symbol}
 use Rattle.lp_spec.specs.ModuleOrder as order
 use Rattle.lp_spec.specs.Lemmas.{sym_lemma, trans_lemma, sym_domains, sym_proof, trans_domains, trans_proof}
 use Rattle.module_spec.specs.Scopes.{Symbols, under_types, unfilled, filled, term_tree, scope_of, domains_of}
 use Rattle.module_spec.specs.Enc.{Enc}
-use Rattle.module_spec.specs.Items.{Content, operator, constant, defined_constant, unproved, step, Item, says, declaration, declaration_of, is_operator, is_constant, first_symbol, symbols_of, module_of}
+use Rattle.module_spec.specs.Items.{Content, operator, constant, defined_constant, type_operator, type_abstraction, type_representation, unproved, step, Item, says, declaration, declaration_of, is_operator, is_constant, first_symbol, symbols_of, module_of, part_definition_tree}
 use Rattle.module_spec.specs.Rows.{proof_tree}
 use Rattle.module_spec.specs.MadeItems.{items_of, roots_of}
 use Rattle.module_spec.specs.Reach.{keep_of, image_items}
@@ -29,9 +29,12 @@ use Rattle.run_laws.specs.AcceptedRuns.{runs_are_carried}
 use Rattle.standing_laws.specs.ModuleItems.{item-placed, item-asked}
 use Rattle.standing_laws.specs.PlaceCounts.{IsAppliedTo, lacking-applied, lacking-all, small-lacks, abstracted-applied}
 use Rattle.standing_laws.specs.LackingTrees.{IsApart, under_types-lack, unfilled-lack, filled-applies, term_tree-lacks, types-lack, domains_of-lack, scope_of-applies}
-use Rattle.standing_laws.specs.CountedRows.{AllFit, IsCounted, proof-right}
+use Rattle.standing_laws.specs.CountedRows.{AllFit, IsCounted, proof-right, part-right}
 use Rattle.standing_laws.specs.ParameterCounts.{closed_parameter_count, Enc-domain_count, SaysCounted, declared-says}
 use Rattle.std.proofs.lemmas.Option.{same_Some}
+use Rattle.hol_spec.specs.NewTypes.{abstraction_type, representation_type}
+use Rattle.module_spec.specs.ProofTrees.{part_tree}
+use Rattle.run_laws.specs.Standing.{roots}
 
 -- the symbol of the first item that passes a test
 data FirstSymbol (test : Content → Bool) (xs : List Item) (s : ℕ) : Type 0 where
@@ -55,6 +58,9 @@ no-operator : (n : Name) (k : ℕ) (c : Content) (q : Sequent) → is_operator n
 no-operator n k (operator m j) q t e = absurd (cc)
 no-operator n k (constant m a) q t e = absurd (cc)
 no-operator n k (defined_constant m a u) q t e = absurd (cc)
+no-operator n k (type_operator names c f j one) q t e = absurd (cc)
+no-operator n k (type_abstraction names c f j one) q t e = absurd (cc)
+no-operator n k (type_representation names c f j one) q t e = absurd (cc)
 no-operator n k (unproved r) q t e = absurd (cc)
 no-operator n k (step kind js ss g r) q t e = absurd (cc)
 
@@ -62,6 +68,9 @@ no-constant : (n : Name) (c : Content) (q : Sequent) → is_constant n c ≡ tru
 no-constant n (operator m j) q t e = absurd (cc)
 no-constant n (constant m a) q t e = absurd (cc)
 no-constant n (defined_constant m a u) q t e = absurd (cc)
+no-constant n (type_operator names c f j one) q t e = absurd (cc)
+no-constant n (type_abstraction names c f j one) q t e = absurd (cc)
+no-constant n (type_representation names c f j one) q t e = absurd (cc)
 no-constant n (unproved r) q t e = absurd (cc)
 no-constant n (step kind js ss g r) q t e = absurd (cc)
 
@@ -174,6 +183,16 @@ module _ (xs : List Item) (made : AreMade [] xs) (j : ℕ) (e : Declaration) (cl
     premises-fit before among js qs h.1,
   )
 
+  -- what a type definition makes
+  part-applied : (before : List Item) → ((x : Item) → IsIn before x → IsIn xs x) → (names : List Name) (r : ℕ) → r ≤ 17 → (c : HolType) (i : ℕ) (one : Sequent) → ArePremisesAmong before (i ∷ []) (one ∷ []) → (t : Tree)
+      → Some (part_definition_tree symbols names r c i one) ≡ Some t → IsAppliedTo s n 0 t
+  part-applied before among names r l c i one h t b =
+      let scope = under_types names unfilled in
+      let fine = filled-applies symbols s apart n scope (under_types-lack symbols s apart names unfilled (unfilled-lack symbols s apart)) in
+      subst (IsAppliedTo s n 0) (same_Some _ _ b)
+      (abstracted-applied s n (map (λ m. types) names) (part_tree symbols (filled symbols scope) r c (i, one)) (lacking-all s n (map (λ m. types) names) (types-lack symbols s apart n names))
+      (part-right symbols s n counted (filled symbols scope) fine 0 r l c (i, one) (premises-fit before among (i ∷ []) (one ∷ []) h).0))
+
   content-applied : (before : List Item) → ((x : Item) → IsIn before x → IsIn xs x) → (name : List ℕ) (c : Content) → IsContent before c → (t : Tree) → (declaration_of symbols name c).body ≡ Some t
       → IsAppliedTo s n 0 t
   content-applied before among name (operator o k) h t b = absurd (cc)
@@ -185,6 +204,9 @@ module _ (xs : List Item) (made : AreMade [] xs) (j : ℕ) (e : Declaration) (cl
       (abstracted-applied s n (map (λ m. types) (type_variables a)) (term_tree symbols (filled symbols scope) u)
       (lacking-all s n (map (λ m. types) (type_variables a)) (types-lack symbols s apart n (type_variables a)))
       (lacking-applied s n 0 (term_tree symbols (filled symbols scope) u) (term_tree-lacks symbols s apart n (filled symbols scope) fine u)))
+  content-applied before among name (type_operator names c f i one) h t b = part-applied before among names.variables sub_symbol (omega arith) c i one h.among t b
+  content-applied before among name (type_abstraction names c f i one) h t b = part-applied before among (type_variables (abstraction_type names c)) sub_abs_symbol (omega arith) c i one h.0.among t b
+  content-applied before among name (type_representation names c f i one) h t b = part-applied before among (type_variables (representation_type names c)) sub_rep_symbol (omega arith) c i one h.0.among t b
   content-applied before among name (unproved q) h t b = absurd (cc)
   content-applied before among name (step kind js qs g q) h t b =
       subst (IsAppliedTo s n 0) (same_Some _ _ b)

@@ -12,13 +12,16 @@ use Rattle.hol_spec.specs.Rules.{Parameters}
 use Rattle.hol_spec.specs.declared.StepKind.{StepKind}
 use Rattle.hol_spec.specs.declared.StepKind.TheVariants as kinds
 use Rattle.hol_laws.specs.Members.{All-append, All-mapped, All-each}
-use Rattle.lp_spec.specs.Trees.{Tree, Sym, Lam}
-use Rattle.lp_spec.specs.Modules.{term_of, proof_of, fun_ext_symbol, app_thm_symbol, prop_ext_symbol, eq_mp_symbol}
-use Rattle.module_spec.specs.Scopes.{Symbols, type_tree, Scope, term_tree, under_term, under_proof, set_proof, images}
-use Rattle.module_spec.specs.ProofTrees.{sym_symbol, trans_symbol, Premise, premise_tree, refl_tree, eq_mp_tree, abs_tree, fun_ext_tree, app_thm_tree, prop_ext_tree, sym_tree, trans_tree, prove_hyp_tree, self_proof, constants_scope}
+use Rattle.lp_spec.specs.Trees.{Tree, Sym, Lam, Var, App}
+use Rattle.lp_spec.specs.Modules.{term_of, proof_of, fun_ext_symbol, app_thm_symbol, prop_ext_symbol, eq_mp_symbol, types}
+use Rattle.module_spec.specs.Scopes.{Symbols, type_tree, Scope, term_tree, under_term, under_proof, set_proof, images, lifted}
+use Rattle.module_spec.specs.ProofTrees.{sym_symbol, trans_symbol, Premise, premise_tree, refl_tree, eq_mp_tree, abs_tree, fun_ext_tree, app_thm_tree, prop_ext_tree, sym_tree, trans_tree, prove_hyp_tree, self_proof, constants_scope, predicate, witness, part_tree, law_tree, part_arguments_of, first_law_tree, second_law_tree}
 use Rattle.module_spec.specs.Rows.{equated_type, left_side, right_side, argument_type, result_type, contracted, of_one, of_two, type_or, proof_tree}
 use Rattle.standing_laws.specs.PlaceCounts.{IsAppliedTo, lacking-applied, applied-applied}
-use Rattle.standing_laws.specs.LackingTrees.{IsApart, ScopeApplies, unlike, term_of-lacks, proof_of-lacks, type_tree-lacks, term_tree-lacks, under_term-applies, under_proof-applies, set_proof-applies, images-applies}
+use Rattle.standing_laws.specs.LackingTrees.{IsApart, ScopeApplies, unlike, term_of-lacks, proof_of-lacks, type_tree-lacks, term_tree-lacks, under_term-applies, under_proof-applies, set_proof-applies, images-applies, lifted-applies}
+use Rattle.hol_spec.specs.NewTypes.{new_type}
+use Rattle.hol_spec.specs.TypeDefinitions.{abstracted, represented}
+use Rattle.hol_spec.specs.Primitives.{bool}
 
 -- a premise with this symbol has n parameters
 abbrev pub Fits : ℕ → ℕ → Premise → Type 0
@@ -77,8 +80,14 @@ module _ (symbols : Symbols) (s n : ℕ) (counted : IsCounted symbols s n) where
       (All-mapped Right scope.proofs q.hypotheses (All-each _ q.hypotheses (λ p i. h.proofs p))))
 
   -- what isn't s is applied to any number of arguments
-  other-right : (r k : ℕ) → r ≤ 12 → IsAppliedTo s n k (Sym r)
+  other-right : (r k : ℕ) → r ≤ 17 → IsAppliedTo s n k (Sym r)
   other-right r k l e = absurd (unlike symbols s counted.apart r l e)
+
+  -- A PART, at so many arguments more
+  pub part-right : (scope : Scope) → Applies scope → (k r : ℕ) → r ≤ 17 → (c : HolType) (one : Premise) → Fits s n one → IsAppliedTo s n k (part_tree symbols scope r c one)
+  part-right scope h k r l c one fits =
+      applied-applied s n k (Sym r) (part_arguments_of symbols scope c one) (other-right r _ l)
+      (ty-right scope h c, (tm-right scope h (predicate one.1.conclusion), (tm-right scope h (witness one.1.conclusion), (premise-right scope h one fits, tt {0}))))
 
   module _ (scope : Scope) (h : Applies scope) where
     ty-of : (a : HolType) → Right (type_tree symbols scope.types a)
@@ -153,6 +162,25 @@ module _ (symbols : Symbols) (s n : ℕ) (counted : IsCounted symbols s n) where
     constants-apply terms =
         let i = images-applies symbols s counted.apart n [] terms scope h in record { types = i.types; terms = i.terms; proofs = self-right; bounds = i.bounds }
 
+    -- A LAW
+    law-right : (a b : HolType) (t u : Term) (r : ℕ) → r ≤ 17 → (c : HolType) (one : Premise) → Fits s n one → Right (law_tree symbols scope a b t u r c one)
+    law-right a b t u r l c one fits =
+        let A = type_tree symbols scope.types a in
+        applied-applied s n 0 (Sym fun_ext_symbol)
+        (A ∷ type_tree symbols scope.types b ∷ term_tree symbols scope (term.Term.lam a t) ∷ term_tree symbols scope (term.Term.lam a u) ∷ Lam (term_of A) (App (part_tree symbols (lifted scope) r c one) (Var 0)) ∷ []) (other-right 9 _ (omega arith)) (
+          ty-of a,
+          (
+            ty-of b,
+            (
+              tm-of (term.Term.lam a t),
+              (
+                tm-of (term.Term.lam a u),
+                ((lacking-applied s n 0 (term_of A) (term_of-lacks symbols s counted.apart A (type_tree-lacks symbols s counted.apart scope.types h.types a)), (part-right (lifted scope) (lifted-applies symbols s counted.apart n scope h) 1 r l c one fits, tt {0})), tt {0}),
+              ),
+            ),
+          ),
+        )
+
     -- one premise, and two
     one-right : (row : Premise → Tree) → ((one : Premise) → Fits s n one → Right (row one)) → (js : List ℕ) (qs : List Sequent) → AllFit s n js qs → Right (of_one row js qs)
     one-right row f (j ∷ []) (q ∷ []) fit = f (j, q) fit.0
@@ -197,5 +225,13 @@ module _ (symbols : Symbols) (s n : ℕ) (counted : IsCounted symbols s n) where
         (λ one. premise-right (constants_scope symbols scope (constants_put pairs)) (constants-apply (constants_put pairs)) one) js qs fit
     proof-right kinds.DefineConstList js qs g fit = one-right (λ one. Sym 0) (λ one f. no_row) js qs fit
     proof-right kinds.Axiom js qs g fit = no_row
-    proof-right kinds.FirstLaw js qs g fit = no_row
-    proof-right kinds.SecondLaw js qs g fit = no_row
+    proof-right kinds.FirstLaw js qs (Parameters.type_operator names) fit =
+        one-right (λ one. first_law_tree symbols scope names (type_or (witness one.1.conclusion)) one)
+        (λ one. let c = type_or (witness one.1.conclusion) in
+        law-right (new_type names) (new_type names) (abstracted names c (represented names c (term.Term.bound 0))) (term.Term.bound 0) 16 (omega arith) c one) js qs fit
+    proof-right kinds.FirstLaw js qs g fit = one-right (λ one. Sym 0) (λ one f. no_row) js qs fit
+    proof-right kinds.SecondLaw js qs (Parameters.type_operator names) fit =
+        one-right (λ one. second_law_tree symbols scope names (type_or (witness one.1.conclusion)) one)
+        (λ one. let c = type_or (witness one.1.conclusion) in
+        law-right c bool (term.equation c (represented names c (abstracted names c (term.Term.bound 0))) (term.Term.bound 0)) (term.Term.app (predicate one.1.conclusion) (term.Term.bound 0)) 17 (omega arith) c one) js qs fit
+    proof-right kinds.SecondLaw js qs g fit = one-right (λ one. Sym 0) (λ one f. no_row) js qs fit

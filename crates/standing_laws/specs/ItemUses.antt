@@ -1,13 +1,13 @@
 -- The declaration of an item uses the symbol of each key that the item needs, or a constant whose generic type mentions it.
 use Rattle.std.proofs.Common.{◌≡◌, ℕ, List, [], ◌∷◌, ◌++◌, map, true, false, ◌⊎◌, Some, inl, inr, refl, sym, ap, subst, ◌∙◌}
-use Rattle.std.specs.Prelude.{nat_eq}
+use Rattle.std.specs.Prelude.{nat_eq, length}
 use Rattle.std.specs.Cmp.{unsigned_Decides}
 use Rattle.std.specs.Option.{option_map_or}
 use Rattle.std.specs.List.{AllByRecursion, list_any}
 use Rattle.std.proofs.lemmas.Bool.{or_right, or_left}
 use Rattle.hol_spec.specs.Names.{Name}
 use Rattle.hol_spec.specs.Types.{HolType, type_variables}
-use Rattle.hol_spec.specs.Primitives.{equality_name, equality_type}
+use Rattle.hol_spec.specs.Primitives.{equality_name, equality_type, bool, function}
 use Rattle.hol_spec.specs.Substitution.{type_arguments}
 use Rattle.hol_spec.specs.Terms as term
 use Rattle.hol_spec.specs.Terms.{Term, Variable, free_places, equation}
@@ -23,26 +23,33 @@ use Rattle.hol_spec.specs.Lists.{IsIn}
 use Rattle.hol_laws.specs.Members.{IsIn-either, IsIn-left, IsIn-right, All-at, flat_map-part}
 use Rattle.proof_laws.specs.RuleTaken.{list_parts}
 use Rattle.lp_spec.specs.Trees.{Tree, Sym}
-use Rattle.lp_spec.specs.Modules.{Declaration, abstractions, types, term_of}
+use Rattle.lp_spec.specs.Modules.{Declaration, abstractions, types, term_of, sub_symbol, sub_abs_symbol, sub_rep_symbol}
 use Rattle.module_spec.specs.Scopes.{Symbols, constant_symbol, generic_type, generic_tree, type_tree, under_types, unfilled, filled, Scope, term_tree, scope_of, domains_of}
-use Rattle.module_spec.specs.ProofTrees.{constants_scope}
+use Rattle.module_spec.specs.ProofTrees.{constants_scope, part_tree, part_arguments_of}
 use Rattle.module_spec.specs.Rows.{has_row, proof_tree}
-use Rattle.module_spec.specs.Items.{Content, operator, constant, defined_constant, unproved, step, Item, declaration_of, symbols_of}
-use Rattle.module_spec.specs.Reach.{Key, constant_key, number_key, type_keys, term_keys, sequent_keys, given_keys, needs}
+use Rattle.module_spec.specs.Items.{Content, operator, constant, defined_constant, type_operator, type_abstraction, type_representation, unproved, step, Item, declaration_of, symbols_of, part_definition_tree}
+use Rattle.module_spec.specs.Reach.{Key, constant_key, number_key, type_keys, term_keys, sequent_keys, given_keys, needs, operator_key}
 use Rattle.module_spec.specs.Stands.{occurs, uses}
 use Rattle.module_laws.specs.ItemConditions.{ArePremisesAmong, IsDefinedBy, DefinesAmong, IsContent}
 use Rattle.module_laws.specs.MadeModules.{AreMade}
 use Rattle.module_laws.specs.BodyTyping.{IsIn-map}
 use Rattle.run_laws.specs.Uses.{symbol_of_key, head-occurs, argument-occurs, end-occurs, type-uses, TermUses, term-uses, TreeUses, sequent-uses}
-use Rattle.run_laws.specs.PremiseUses.{ProvesHypothesis, premises-used}
+use Rattle.run_laws.specs.PremiseUses.{ProvesHypothesis, premises-used, part-used}
 use Rattle.standing_laws.specs.ModuleItems.{has-told, has-among, term-instances, sequent-instances}
 use Rattle.standing_laws.specs.ListedVariables.{listed-free, listed-variable, constant-put, put-from}
+use Rattle.hol_spec.specs.Definitions.{TypeNames}
+use Rattle.hol_spec.specs.NewTypes.{new_type, abstraction_type, representation_type}
+use Rattle.hol_spec.specs.TypeDefinitions.{abstracted, represented, first_law, second_law}
+use Rattle.hol_laws.specs.TypeLaws.{count-variables}
 
 -- the premise that proves a hypothesis proves one of the other premise
 abbrev pub IsUsing : Content → Type 0
 IsUsing (operator n k) = Unit {0}
 IsUsing (constant n a) = Unit {0}
 IsUsing (defined_constant n a t) = Unit {0}
+IsUsing (type_operator names c f j one) = Unit {0}
+IsUsing (type_abstraction names c f j one) = Unit {0}
+IsUsing (type_representation names c f j one) = Unit {0}
 IsUsing (unproved s) = Unit {0}
 IsUsing (step kind js premises given s) = ProvesHypothesis kind premises
 
@@ -152,8 +159,55 @@ module _ (xs : List Item) (made : AreMade [] xs) (before : List Item) (among : (
         ];
       }
 
+  -- the operator and the constants of a type definition stand in its laws
+  operator-in : (names : TypeNames) → k ≡ operator_key names.operator (length names.variables) → IsIn (type_keys (new_type names)) k
+  operator-in names e = inl (e ∙ ap (operator_key names.operator) (sym (count-variables names.variables)))
+
+  abstracted-in : (names : TypeNames) (c : HolType) (x : Term) → k ≡ constant_key names.abstraction → IsIn (term_keys (abstracted names c x)) k
+  abstracted-in names c x e = inl e
+
+  represented-in : (names : TypeNames) (c : HolType) (x : Term) → k ≡ constant_key names.representation → IsIn (term_keys (represented names c x)) k
+  represented-in names c x e = inl e
+
+  within-abstracted : (names : TypeNames) (c : HolType) (x : Term) → IsIn (term_keys x) k → IsIn (term_keys (abstracted names c x)) k
+  within-abstracted names c x i = IsIn-right (constant_key names.abstraction ∷ type_keys (abstraction_type names c)) (term_keys x) k i
+
+  within-represented : (names : TypeNames) (c : HolType) (x : Term) → IsIn (term_keys x) k → IsIn (term_keys (represented names c x)) k
+  within-represented names c x i = IsIn-right (constant_key names.representation ∷ type_keys (representation_type names c)) (term_keys x) k i
+
+  left-side : (a : HolType) (x y : Term) → IsIn (term_keys x) k → IsIn (term_keys (equation a x y)) k
+  left-side a x y i =
+      let e : List Key = term_keys (term.Term.constant equality_name (equality_type a)) in
+      IsIn-left (e ++ term_keys x) (term_keys y) k (IsIn-right e (term_keys x) k i)
+
+  first-keys : (names : TypeNames) (c : HolType) → IsIn (given_keys (Parameters.type_operator names)) k → IsIn (sequent_keys (first_law names c)) k
+  first-keys names c i = left-side (function (new_type names) (new_type names)) (term.Term.lam (new_type names) inside) (term.Term.lam (new_type names) (term.Term.bound 0)) (go i)
+    where
+      inside : Term
+      inside = abstracted names c (represented names c (term.Term.bound 0))
+
+      go : IsIn (given_keys (Parameters.type_operator names)) k → IsIn (type_keys (new_type names) ++ term_keys inside) k
+      go (inl e) = IsIn-left (type_keys (new_type names)) (term_keys inside) k (operator-in names e)
+      go (inr (inl e)) = IsIn-right (type_keys (new_type names)) (term_keys inside) k (abstracted-in names c (represented names c (term.Term.bound 0)) e)
+      go (inr (inr (inl e))) = IsIn-right (type_keys (new_type names)) (term_keys inside) k (within-abstracted names c (represented names c (term.Term.bound 0)) (represented-in names c (term.Term.bound 0) e))
+      go (inr (inr (inr n))) = absurd n
+
+  second-keys : (names : TypeNames) (c : HolType) (f : Term) → IsIn (given_keys (Parameters.type_operator names)) k → IsIn (sequent_keys (second_law names c f)) k
+  second-keys names c f i =
+      left-side (function c bool) (term.Term.lam c (equation c undone (term.Term.bound 0))) (term.Term.lam c (term.Term.app f (term.Term.bound 0)))
+      (IsIn-right (type_keys c) (term_keys (equation c undone (term.Term.bound 0))) k (left-side c undone (term.Term.bound 0) (go i)))
+    where
+      undone : Term
+      undone = represented names c (abstracted names c (term.Term.bound 0))
+
+      go : IsIn (given_keys (Parameters.type_operator names)) k → IsIn (term_keys undone) k
+      go (inl e) = inr (inr (IsIn-left (type_keys (new_type names) ++ (type_keys c ++ [])) (term_keys (abstracted names c (term.Term.bound 0))) k (IsIn-left (type_keys (new_type names)) (type_keys c ++ []) k (operator-in names e))))
+      go (inr (inl e)) = within-represented names c (abstracted names c (term.Term.bound 0)) (abstracted-in names c (term.Term.bound 0) e)
+      go (inr (inr (inl e))) = represented-in names c (abstracted names c (term.Term.bound 0)) e
+      go (inr (inr (inr n))) = absurd n
+
   -- what a step is given stands in what it says or in its proof
-  given-uses : (kind : StepKind) (premises : List Sequent) (given : Parameters) (s : Sequent) → Rule kind premises given s → (js : List ℕ) → ArePremisesAmong before js premises → DefinesAmong before kind premises given
+  given-uses : (kind : StepKind) (premises : List Sequent) (given : Parameters) (s : Sequent) → Rule kind premises given s → (js : List ℕ) → ArePremisesAmong before js premises → DefinesAmong before kind js premises given
       → IsIn (given_keys given) k → IsIn (sequent_keys s) k ⊎ ConstantUsed kind js premises given
   given-uses kind premises given s (rule.define_const {n = n} {t = t} {a = a} d e) js h defines (inl is) =
       let left : List Key = term_keys (term.Term.constant equality_name (equality_type a)) in
@@ -174,33 +228,49 @@ module _ (xs : List Item) (made : AreMade [] xs) (before : List Item) (among : (
   given-uses kind premises given s (rule.subst h e) js p defines i = absurd i
   given-uses kind premises given s (rule.recorded h) js p defines i = absurd i
   given-uses kind premises given s (rule.restate h w) js p defines i = absurd i
-  given-uses kind premises given s (rule.first_law d e) js p defines i = absurd i
-  given-uses kind premises given s (rule.second_law d e) js p defines i = absurd i
+  given-uses kind premises given s (rule.first_law {names = names} {c = c} d e) js p defines i = inl (subst (λ (q : Sequent). IsIn (sequent_keys q) k) (sym e) (first-keys names c i))
+  given-uses kind premises given s (rule.second_law {names = names} {c = c} {f = f} d e) js p defines i = inl (subst (λ (q : Sequent). IsIn (sequent_keys q) k) (sym e) (second-keys names c f i))
 
   map-from : (js : List ℕ) → IsIn (map number_key js) k → (j : ℕ) × IsIn js j × (k ≡ number_key j)
   map-from [] i = absurd i
   map-from (j ∷ js) (inl e) = (j, inl refl, e)
   map-from (j ∷ js) (inr i) = let r = map-from js i in (r.0, inr r.1, r.2)
 
-  no_law : (kind : StepKind) → has_row kind ≡ true → (other : StepKind) → has_row other ≡ false → kind ≡ other → ⊥
-  no_law kind row other none e = let f : true ≡ false = sym row ∙ ap has_row e ∙ none in absurd (cc)
+  -- the body of a type definition uses its premise and the type that it is made from
+  part-use : (d : Declaration) (names : List Name) (s : ℕ) (c : HolType) (j : ℕ) (one : Sequent) → d.body ≡ Some (part_definition_tree symbols names s c j one) → (r : ℕ)
+      → occurs r (part_tree symbols (filled symbols (under_types names unfilled)) s c (j, one)) ≡ true → uses d r ≡ true
+  part-use d names s c j one is r e =
+      body-use d r (part_definition_tree symbols names s c j one) is (under-abstractions r (map (λ n. types) names) (part_tree symbols (filled symbols (under_types names unfilled)) s c (j, one)) e)
+
+  premise-use : (d : Declaration) (names : List Name) (s : ℕ) (c : HolType) (j : ℕ) (one : Sequent) → d.body ≡ Some (part_definition_tree symbols names s c j one) → k ≡ number_key j → KeyUses symbols k d
+  premise-use d names s c j one is e =
+      KeyUses.it (part-use d names s c j one is (symbol_of_key symbols k) (part-used (symbol_of_key symbols k) symbols (filled symbols (under_types names unfilled)) (filled symbols (under_types names unfilled)) s c j one (ap (symbol_of_key symbols) e)))
 
   -- THE DECLARATION OF AN ITEM USES WHAT THE ITEM NEEDS
   pub content-uses : (name : List ℕ) (c : Content) → IsContent before c → IsUsing c → IsIn (needs c) k → KeyUses symbols k (declaration_of symbols name c)
   content-uses name (operator n j) h u i = absurd i
   content-uses name (constant n a) h u i = KeyUses.it (type-use (declaration_of symbols name (constant n a)) (symbol_of_key symbols k) (generic-uses symbols k a i))
   content-uses name (defined_constant n a t) h u i = definition-uses symbols k name n a t h.no_free (term-uses symbols k t (term-instances xs made before among t h.taken) i)
+  content-uses name (type_operator names c f j one) h u (inl e) = premise-use (declaration_of symbols name (type_operator names c f j one)) names.variables sub_symbol c j one refl e
+  content-uses name (type_operator names c f j one) h u (inr i) =
+      let scope = filled symbols (under_types names.variables unfilled) in
+      let r = symbol_of_key symbols k in
+      KeyUses.it (part-use (declaration_of symbols name (type_operator names c f j one)) names.variables sub_symbol c j one refl r
+      (argument-occurs r (Sym sub_symbol) (part_arguments_of symbols scope c (j, one)) (any-at r (part_arguments_of symbols scope c (j, one)) (type_tree symbols scope.types c) (inl refl) (type-uses symbols k c i scope.types))))
+  content-uses name (type_abstraction names c f j one) h u (inl e) = premise-use (declaration_of symbols name (type_abstraction names c f j one)) (type_variables (abstraction_type names c)) sub_abs_symbol c j one refl e
+  content-uses name (type_abstraction names c f j one) h u (inr i) = KeyUses.it (type-use (declaration_of symbols name (type_abstraction names c f j one)) (symbol_of_key symbols k) (generic-uses symbols k (abstraction_type names c) i))
+  content-uses name (type_representation names c f j one) h u (inl e) = premise-use (declaration_of symbols name (type_representation names c f j one)) (type_variables (representation_type names c)) sub_rep_symbol c j one refl e
+  content-uses name (type_representation names c f j one) h u (inr i) = KeyUses.it (type-use (declaration_of symbols name (type_representation names c f j one)) (symbol_of_key symbols k) (generic-uses symbols k (representation_type names c) i))
   content-uses name (unproved s) h u i = in-type symbols k (declaration_of symbols name (unproved s)) (sequent-uses symbols k s (sequent-instances xs made before among s h) i)
   content-uses name (step kind js premises given s) h u i = elim (IsIn-either (sequent_keys s ++ map number_key js) (given_keys given) k i) [
     | inl front ↦ elim (IsIn-either (sequent_keys s) (map number_key js) k front) [
       | inl said ↦ mentioned said
       | inr premise ↦
           let j = map-from js premise in
-          let row = h.0.row in
           KeyUses.it
           (in_proof (symbol_of_key symbols k)
           (subst (λ (l : Key). occurs (symbol_of_key symbols l) (proof_tree symbols (scope_of symbols s) kind js premises given) ≡ true) (sym j.2)
-          (premises-used j.0 symbols (scope_of symbols s) before kind js premises given s h.0.rule h.0.among u (no_law kind row kinds.FirstLaw refl) (no_law kind row kinds.SecondLaw refl) j.1)))
+          (premises-used j.0 symbols (scope_of symbols s) before kind js premises given s h.0.rule h.0.among u j.1)))
     ]
     | inr back ↦ elim (given-uses kind premises given s h.0.rule js h.0.among h.1 back) [
       | inl said ↦ mentioned said

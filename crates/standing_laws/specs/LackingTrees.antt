@@ -19,7 +19,7 @@ use Rattle.standing_laws.specs.PlaceCounts.{IsAppliedTo, Lacks, lifted-lacks, li
 
 -- a symbol after the signature stands for no operator and no constant
 pub record IsApart (symbols : Symbols) (s : ℕ) : Type 0 where
-  pub high : 13 ≤ s
+  pub high : 18 ≤ s
   pub operator : (n : Name) (k : ℕ) → s ≡ operator_symbol symbols n k → ⊥
   pub constant : (n : Name) → s ≡ constant_symbol symbols n → ⊥
 
@@ -35,7 +35,7 @@ pub record ScopeApplies (s n : ℕ) (scope : Scope) : Type 0 where
 
 module _ (symbols : Symbols) (s : ℕ) (apart : IsApart symbols s) where
   -- a symbol of the signature is another
-  pub unlike : (r : ℕ) → r ≤ 12 → s ≡ r → ⊥
+  pub unlike : (r : ℕ) → r ≤ 17 → s ≡ r → ⊥
   unlike r l e = let h = apart.high in absurd (omega (arith, h, l, e))
 
   pub bools-lack : Lacks s bools
@@ -85,7 +85,7 @@ module _ (symbols : Symbols) (s : ℕ) (apart : IsApart symbols s) where
     abbrev Applies : Scope → Type 0
     Applies scope = ScopeApplies s n scope
 
-    lifted-applies : (scope : Scope) → Applies scope → Applies (lifted scope)
+    pub lifted-applies : (scope : Scope) → Applies scope → Applies (lifted scope)
     lifted-applies scope h = record {
       types = lifted_types-lack scope.types h.types;
       terms = λ v. lifted-lacks s 0 1 (scope.terms v) (h.terms v);

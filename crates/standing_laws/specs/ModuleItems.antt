@@ -17,7 +17,7 @@ use Rattle.hol_laws.specs.Members.{IsIn-left, All-at, All-weaker}
 use Rattle.lp_spec.specs.Modules.{signature}
 use Rattle.lp_spec.specs.Lemmas.{lemmas}
 use Rattle.module_spec.specs.Scopes.{Symbols, constant_symbol, generic_type, generic_tree}
-use Rattle.module_spec.specs.Items.{Content, operator, constant, defined_constant, unproved, step, Item, declaration, declaration_of, is_constant, generic_of, first_symbol, first_type, symbols_of, module_of}
+use Rattle.module_spec.specs.Items.{Content, operator, constant, defined_constant, type_operator, type_abstraction, type_representation, unproved, step, Item, declaration, declaration_of, is_constant, generic_of, first_symbol, first_type, symbols_of, module_of}
 use Rattle.module_spec.specs.Reach.{Key, operator_key, constant_key, number_key, type_keys, gives_of}
 use Rattle.module_laws.specs.ItemConditions.{Has, ConstantTaken, TermTaken, SequentTaken, IsContent, Tells, AreItems}
 use Rattle.module_laws.specs.ItemConditions as items
@@ -83,6 +83,9 @@ module _ (xs : List Item) (made : AreMade [] xs) where
   tells-key symbols i (operator n k) h = h
   tells-key symbols i (constant n a) h = h.0
   tells-key symbols i (defined_constant n a t) h = h.0
+  tells-key symbols i (type_operator names c f j one) h = h
+  tells-key symbols i (type_abstraction names c f j one) h = h.0
+  tells-key symbols i (type_representation names c f j one) h = h.0
   tells-key symbols i (unproved s) h = refl
   tells-key symbols i (step kind js ss g s) h = refl
 
@@ -101,6 +104,12 @@ module _ (xs : List Item) (made : AreMade [] xs) where
     taken-instance n t (items.ConstantTaken.primitive g e i) = subst (λ b. Instance b t) (sym (ap (λ o. unwrap_or o ((symbols_of xs).generic n)) e)) i
     taken-instance n t (items.ConstantTaken.declared a h i) = subst (λ b. Instance b t) (sym (has-told (constant n a) (has-among (constant n a) h)).1.1) i
     taken-instance n t (items.ConstantTaken.defined a u h i) = subst (λ b. Instance b t) (sym (has-told (defined_constant n a u) (has-among (defined_constant n a u) h)).1.1) i
+    taken-instance n t (items.ConstantTaken.abstraction names c f j one h e i) =
+        let told = (has-told (type_abstraction names c f j one) (has-among (type_abstraction names c f j one) h)).1.1 in
+        subst (λ (l : Name). Instance (generic_type (symbols_of xs) l) t) (sym e) (subst (λ b. Instance b t) (sym told) i)
+    taken-instance n t (items.ConstantTaken.representation names c f j one h e i) =
+        let told = (has-told (type_representation names c f j one) (has-among (type_representation names c f j one) h)).1.1 in
+        subst (λ (l : Name). Instance (generic_type (symbols_of xs) l) t) (sym e) (subst (λ b. Instance b t) (sym told) i)
 
     -- the constants of a term are instances
     pub term-instances : (t : Term) → TermTaken before t → AreInstances (symbols_of xs) t
@@ -127,6 +136,9 @@ pub gives-new : (before : List Item) (i : ℕ) (c : Content) → IsNew before c 
 gives-new before i (operator n k) h = h.0
 gives-new before i (constant n a) h = h.0
 gives-new before i (defined_constant n a t) h = h.0
+gives-new before i (type_operator names c f j one) h = h.0
+gives-new before i (type_abstraction names c f j one) h = h.0
+gives-new before i (type_representation names c f j one) h = h.0
 gives-new before i (unproved s) h = tt
 gives-new before i (step kind js ss g s) h = tt
 
@@ -191,6 +203,9 @@ constant-type : (symbols : Symbols) (name : List ℕ) (c : Content) (n : Name) �
 constant-type symbols name (operator m k) n e = absurd (cc)
 constant-type symbols name (constant m a) n e = refl
 constant-type symbols name (defined_constant m a t) n e = refl
+constant-type symbols name (type_operator names c f j one) n e = absurd (cc)
+constant-type symbols name (type_abstraction names c f j one) n e = refl
+constant-type symbols name (type_representation names c f j one) n e = refl
 constant-type symbols name (unproved s) n e = absurd (cc)
 constant-type symbols name (step kind js ss g s) n e = absurd (cc)
 

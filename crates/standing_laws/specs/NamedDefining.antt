@@ -22,12 +22,12 @@ use Rattle.article_spec.specs.State.{Object, State}
 use Rattle.article_spec.specs.State as object
 use Rattle.article_spec.specs.Operands.{as_name, as_names, as_term, as_theorem, as_constant_pairs, pop}
 use Rattle.article_spec.specs.Conditions.{demand, in_limits, typed}
-use Rattle.article_spec.specs.Changes.{with_stack, with_symbols, with_theorem}
+use Rattle.article_spec.specs.Changes.{with_stack, with_symbols, with_theorem, with_type_definition}
 use Rattle.article_spec.specs.Inference.{step_by}
 use Rattle.article_spec.specs.DefiningWords.{define_const, constant_objects, define_const_list, application_parts, predicate_fits, are_new_names, make_type, define_type, define_type_op}
 use Rattle.article_laws.specs.SoundStates.{bound, passed}
 use Rattle.run_laws.specs.Named.{SymbolHasName}
-use Rattle.standing_laws.specs.NamedStates.{AreNamed, AreNamedStacked, IsNamedState, IsNamedPair, name-gives, constant_pairs-gives, pop-gives, popped, answers, with_symbols-named, with_step-named, concluded}
+use Rattle.standing_laws.specs.NamedStates.{AreNamed, AreNamedStacked, IsNamedState, IsNamedPair, name-gives, constant_pairs-gives, pop-gives, popped, answers, with_symbols-named, with_step-named, concluded, with_type_definition-named}
 
 -- the state with another stack, and with symbols that are taken
 defining : (s : State) (xs : List Symbol) (stack : List Object) → IsNamedState s → AreNamedStacked stack → AllByRecursion SymbolHasName xs → IsNamedState (with_symbols (with_stack s stack) xs)
@@ -92,12 +92,11 @@ make_type-named s t names i c f g h e =
     let measures = type_measure (new_type names) ∷ type_measure (abstraction_type names c) ∷ type_measure (representation_type names c) ∷ sequent_measure (first_law names c) ∷ sequent_measure (second_law names c f) ∷ [] in
     let limits = passed (in_limits measures) _ t e in
     let stack = object.constant names.representation ∷ object.constant names.abstraction ∷ object.type_operator names.operator ∷ s.stack in
-    let xs = defined (Definition.type_operator names c f) ∷ [] in
-    let u = with_symbols (with_stack s stack) xs in
+    let u = with_type_definition (with_stack s stack) names c f i in
     let first = step_by by_rule.FirstLaw (i ∷ []) (Parameters.type_operator names) (first_law names c) in
     let second = step_by by_rule.SecondLaw (i ∷ []) (Parameters.type_operator names) (second_law names c f) in
     let v = with_theorem u first in
-    let named = defining s xs stack g (h.2, (h.1, (h.0, g.stack))) (h, tt {0}) in
+    let named = with_type_definition-named (with_stack s stack) names c f i (record { stack = (h.2, (h.1, (h.0, g.stack))); dictionary = g.dictionary; made = g.made }) h in
     let two = with_step-named v second (record { stack = (tt {0}, named.stack); dictionary = named.dictionary; made = (with_step-named u first named).made }) in
     answers (with_theorem v second) t limits.2 (record { stack = (tt {0}, (tt {0}, named.stack)); dictionary = two.dictionary; made = two.made })
 

@@ -145,6 +145,7 @@ run-named k s (bytes ∷ rest) o a g h e (stopped {line = n} {kind = m} l p f) =
 symbols-named : (made : List Made) → AreNamedMade made → AllByRecursion SymbolHasName (symbols_of made)
 symbols-named [] h = tt
 symbols-named (Made.symbol x ∷ made) h = (h.0, symbols-named made h.1)
+symbols-named (Made.type_definition names c f i ∷ made) h = (h.0, symbols-named made h.1)
 symbols-named (Made.step x ∷ made) h = symbols-named made h.1
 
 -- EVERY ACCEPTED RUN OVER ARTICLES OF BYTES HAS NAMES

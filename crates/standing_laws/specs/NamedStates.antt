@@ -1,5 +1,5 @@
 -- What is true of every state of a run over bytes: the names of its objects and of the symbols that are taken have components of bytes.
-use Rattle.std.proofs.Common.{◌≡◌, ℤ, List, [], ◌∷◌, map, Bool, true, false, cond, None, Some, Result, Ok, sym, subst, ◌∙◌}
+use Rattle.std.proofs.Common.{ℕ, ◌≡◌, ℤ, List, [], ◌∷◌, map, Bool, true, false, cond, None, Some, Result, Ok, sym, subst, ◌∙◌}
 use Rattle.std.specs.List.{AllByRecursion}
 use Rattle.std.specs.Ordering.{int_cmp, eq_by_cmp}
 use Rattle.std.specs.Cmp.{int_cmp_total}
@@ -7,16 +7,18 @@ use Rattle.std.specs.FinMap as entries
 use Rattle.bridge_base.specs.declared.faults.Kind.{Kind}
 use Rattle.hol_spec.specs.Mangling.{IsName}
 use Rattle.hol_spec.specs.Names.{Name}
-use Rattle.hol_spec.specs.Terms.{Variable}
+use Rattle.hol_spec.specs.Terms.{Variable, Term}
 use Rattle.hol_spec.specs.Symbols.{Symbol}
 use Rattle.hol_spec.specs.Proofs.{Made, Step}
 use Rattle.hol_laws.specs.Members.{All-append, All-mapped}
 use Rattle.article_spec.specs.State.{Object, Objects, number, name, list, type_operator, type, constant, variable, term, theorem, none, more, State}
 use Rattle.article_spec.specs.Operands.{as_list, as_name, as_type_operator, as_constant, as_variable, any_object, each, list_of, pair_of, as_constant_pairs, pop, head_and_tail}
 use Rattle.article_spec.specs.Conditions.{sequent_in_limits}
-use Rattle.article_spec.specs.Changes.{with_stack, with_symbols, with_step, conclude}
+use Rattle.article_spec.specs.Changes.{with_stack, with_symbols, with_step, conclude, with_type_definition}
 use Rattle.article_laws.specs.SoundStates.{bound, passed}
 use Rattle.run_laws.specs.Named.{SymbolHasName}
+use Rattle.hol_spec.specs.Definitions.{TypeNames, Definition}
+use Rattle.hol_spec.specs.Types.{HolType}
 
 -- an object whose names are of bytes
 abbrev mutual
@@ -38,6 +40,7 @@ abbrev mutual
 -- a symbol whose names are of bytes, or a step
 abbrev pub MadeHasName : Made → Type 0
 MadeHasName (Made.symbol x) = SymbolHasName x
+MadeHasName (Made.type_definition names c f i) = SymbolHasName (Symbol.defined (Definition.type_operator names c f))
 MadeHasName (Made.step x) = Unit {0}
 
 abbrev pub AreNamedStacked : List Object → Type 0
@@ -153,6 +156,10 @@ with_symbols-named s xs g h = record { stack = g.stack; dictionary = g.dictionar
 pub taking : (s t : State) (xs : List Symbol) (stack : List Object) → ◌≡◌ {A = Result State Kind} (Ok (with_symbols (with_stack s stack) xs)) (Ok t) → IsNamedState s → AreNamedStacked stack → AllByRecursion SymbolHasName xs → IsNamedState t
 taking s t xs stack e g h k =
     answers (with_symbols (with_stack s stack) xs) t e (with_symbols-named (with_stack s stack) xs (record { stack = h; dictionary = g.dictionary; made = g.made }) k)
+
+-- a type operator that is defined
+pub with_type_definition-named : (s : State) (names : TypeNames) (c : HolType) (f : Term) (i : ℕ) → IsNamedState s → SymbolHasName (Symbol.defined (Definition.type_operator names c f)) → IsNamedState (with_type_definition s names c f i)
+with_type_definition-named s names c f i g h = record { stack = g.stack; dictionary = g.dictionary; made = All-append MadeHasName s.made (Made.type_definition names c f i ∷ []) g.made (h, tt {0}) }
 
 -- a step more
 pub with_step-named : (s : State) (x : Step) → IsNamedState s → IsNamedState (with_step s x)

@@ -16,12 +16,13 @@ use Rattle.hol_spec.specs.declared.StepKind.TheVariants as kinds
 use Rattle.hol_spec.specs.Lists.{IsIn, is_in}
 use Rattle.hol_laws.specs.Members.{IsIn-either, IsIn-left, IsIn-right, All-append, is_in-IsIn, flat_map-part}
 use Rattle.module_spec.specs.Rows.{has_row}
-use Rattle.module_spec.specs.Items.{Content, operator, constant, defined_constant, unproved, step, Item}
+use Rattle.module_spec.specs.Items.{Content, operator, constant, defined_constant, type_operator, type_abstraction, type_representation, unproved, step, Item}
 use Rattle.module_spec.specs.MadeItems.{contents_of, said_by, premise_at, content_by, proves_nothing, restated, sequents_at, shown_content, step_content, contents, numbered, Naming, items_after, items_of}
 use Rattle.module_spec.specs.Reach.{Key, operator_key, constant_key, number_key, type_keys, term_keys, sequent_keys, given_keys, needs, gives_of, renumbered_content}
 use Rattle.run_laws.specs.PremiseUses.{ProvesHypothesis}
 use Rattle.standing_laws.specs.Keys.{IsSymbolKey, type_keys-symbols, term_keys-symbols, sequent_keys-symbols}
 use Rattle.standing_laws.specs.ItemUses.{IsUsing}
+use Rattle.hol_spec.specs.NewTypes.{abstraction_type, representation_type}
 
 -- what a hypothesis is proved for is a hypothesis, unless the step proves nothing
 proves : (kind : StepKind) (ss : List Sequent) → proves_nothing kind ss ≡ false → ProvesHypothesis kind ss
@@ -62,10 +63,11 @@ symbol-using : (x : Symbol) → AllByRecursion IsUsing (contents_of x)
 symbol-using (Symbol.input_constant n) = (tt {0}, tt {0})
 symbol-using (Symbol.input_operator n k) = (tt {0}, tt {0})
 symbol-using (Symbol.defined (Definition.constant n t)) = (tt {0}, tt {0})
-symbol-using (Symbol.defined (Definition.type_operator names a f)) = (tt {0}, (tt {0}, (tt {0}, tt {0})))
+symbol-using (Symbol.defined (Definition.type_operator names a f)) = tt
 
 made-using : (before : List Item) (x : Made) → AllByRecursion IsUsing (contents before x)
 made-using before (Made.symbol x) = symbol-using x
+made-using before (Made.type_definition names c f i) = (tt {0}, (tt {0}, (tt {0}, tt {0})))
 made-using before (Made.step x) = (step-using before x, tt {0})
 
 abbrev IsUsingItem : Item → Type 0
@@ -92,6 +94,9 @@ module _ (number : ℕ → ℕ) where
   using-renumbered (operator n k) h = tt
   using-renumbered (constant n a) h = tt
   using-renumbered (defined_constant n a t) h = tt
+  using-renumbered (type_operator names c f j one) h = tt
+  using-renumbered (type_abstraction names c f j one) h = tt
+  using-renumbered (type_representation names c f j one) h = tt
   using-renumbered (unproved s) h = tt
   using-renumbered (step kind js ss g s) h = h
 
@@ -105,6 +110,9 @@ module _ (number : ℕ → ℕ) where
   gives-renumbered i (operator n k) = refl
   gives-renumbered i (constant n a) = refl
   gives-renumbered i (defined_constant n a t) = refl
+  gives-renumbered i (type_operator names c f j one) = refl
+  gives-renumbered i (type_abstraction names c f j one) = refl
+  gives-renumbered i (type_representation names c f j one) = refl
   gives-renumbered i (unproved s) = refl
   gives-renumbered i (step kind js ss g s) = refl
 
@@ -125,7 +133,10 @@ module _ (number : ℕ → ℕ) where
   given_keys-symbols (Parameters.variable v) k i = absurd i
   given_keys-symbols (Parameters.substitution ps ts) k i = absurd i
   given_keys-symbols (Parameters.sequent s) k i = absurd i
-  given_keys-symbols (Parameters.type_operator names) k i = absurd i
+  given_keys-symbols (Parameters.type_operator names) k (inl e) = subst IsSymbolKey (sym e) (tt {0})
+  given_keys-symbols (Parameters.type_operator names) k (inr (inl e)) = subst IsSymbolKey (sym e) (tt {0})
+  given_keys-symbols (Parameters.type_operator names) k (inr (inr (inl e))) = subst IsSymbolKey (sym e) (tt {0})
+  given_keys-symbols (Parameters.type_operator names) k (inr (inr (inr n))) = absurd n
 
   premise-renumbered : (js : List ℕ) (k : Key) → IsIn (map number_key js) k → IsIn (map number_key (map number js)) (renumbered_key k)
   premise-renumbered [] k i = absurd i
@@ -136,6 +147,12 @@ module _ (number : ℕ → ℕ) where
   needs-renumbered (operator n j) k i = absurd i
   needs-renumbered (constant n a) k i = renumbered_key-IsIn (type_keys a) k (type_keys-symbols a k i) i
   needs-renumbered (defined_constant n a t) k i = renumbered_key-IsIn (term_keys t) k (term_keys-symbols t k i) i
+  needs-renumbered (type_operator names c f j one) k (inl e) = inl (ap renumbered_key e)
+  needs-renumbered (type_operator names c f j one) k (inr i) = inr (renumbered_key-IsIn (type_keys c) k (type_keys-symbols c k i) i)
+  needs-renumbered (type_abstraction names c f j one) k (inl e) = inl (ap renumbered_key e)
+  needs-renumbered (type_abstraction names c f j one) k (inr i) = inr (renumbered_key-IsIn (type_keys (abstraction_type names c)) k (type_keys-symbols (abstraction_type names c) k i) i)
+  needs-renumbered (type_representation names c f j one) k (inl e) = inl (ap renumbered_key e)
+  needs-renumbered (type_representation names c f j one) k (inr i) = inr (renumbered_key-IsIn (type_keys (representation_type names c)) k (type_keys-symbols (representation_type names c) k i) i)
   needs-renumbered (unproved s) k i = renumbered_key-IsIn (sequent_keys s) k (sequent_keys-symbols s k i) i
   needs-renumbered (step kind js ss g s) k i = elim (IsIn-either (sequent_keys s ++ map number_key js) (given_keys g) k i) [
     | inl front ↦ elim (IsIn-either (sequent_keys s) (map number_key js) k front) [

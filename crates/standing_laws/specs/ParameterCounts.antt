@@ -10,8 +10,9 @@ use Rattle.lp_spec.specs.Trees.{Tree}
 use Rattle.lp_spec.specs.Modules.{Declaration, products, types, term_of, proof_of}
 use Rattle.module_spec.specs.Scopes.{Symbols, under_types, under_term, under_proof, unfilled, Scope, type_tree, term_domains, proof_domains, scope_of_types, scope_of_terms, domains_of, conclusion_tree, sequent_tree}
 use Rattle.module_spec.specs.Enc.{StandForVariables, StandForHypotheses, domains, Enc}
-use Rattle.module_spec.specs.Items.{Content, operator, constant, defined_constant, unproved, step, says, declaration_of}
+use Rattle.module_spec.specs.Items.{Content, operator, constant, defined_constant, type_operator, type_abstraction, type_representation, unproved, step, says, declaration_of}
 use Rattle.standing_laws.specs.PlaceCounts.{domain_count, domain_count-products, end_symbol, end_symbol-products}
+use Rattle.hol_spec.specs.NewTypes.{abstraction_type, representation_type}
 
 -- how many parameters a closed sequent has: type variables, then free variables, then hypotheses
 abbrev pub closed_parameter_count : ClosedSequent → ℕ
@@ -91,6 +92,16 @@ declared-says m symbols closed name (constant n a) h =
     let e : 4 ≡ 7 = sym (end_symbol-products (map (λ m. types) (type_variables a)) (term_of (type_tree symbols (under_types (type_variables a) unfilled) a))) ∙ Enc-end_symbol m closed _ h in
     absurd (omega (arith, e))
 declared-says m symbols closed name (defined_constant n a t) h =
+    let e : 4 ≡ 7 = sym (end_symbol-products (map (λ m. types) (type_variables a)) (term_of (type_tree symbols (under_types (type_variables a) unfilled) a))) ∙ Enc-end_symbol m closed _ h in
+    absurd (omega (arith, e))
+declared-says m symbols closed name (type_operator names c f j one) h =
+    let e : 0 ≡ 7 = sym (end_symbol-products (replicate (length names.variables) types) types) ∙ Enc-end_symbol m closed _ h in absurd (omega (arith, e))
+declared-says m symbols closed name (type_abstraction names c f j one) h =
+    let a = abstraction_type names c in
+    let e : 4 ≡ 7 = sym (end_symbol-products (map (λ m. types) (type_variables a)) (term_of (type_tree symbols (under_types (type_variables a) unfilled) a))) ∙ Enc-end_symbol m closed _ h in
+    absurd (omega (arith, e))
+declared-says m symbols closed name (type_representation names c f j one) h =
+    let a = representation_type names c in
     let e : 4 ≡ 7 = sym (end_symbol-products (map (λ m. types) (type_variables a)) (term_of (type_tree symbols (under_types (type_variables a) unfilled) a))) ∙ Enc-end_symbol m closed _ h in
     absurd (omega (arith, e))
 declared-says m symbols closed name (unproved q) h = record {

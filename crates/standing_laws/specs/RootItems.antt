@@ -11,7 +11,7 @@ use Rattle.hol_spec.specs.declared.StepKind.{StepKind}
 use Rattle.hol_spec.specs.Lists.{IsIn}
 use Rattle.hol_laws.specs.Members.{IsIn-right, All-at}
 use Rattle.article_spec.specs.SoundRuns.{IsSoundRun, IsDerived}
-use Rattle.module_spec.specs.Items.{Content, operator, constant, defined_constant, unproved, step, Item, says}
+use Rattle.module_spec.specs.Items.{Content, operator, constant, defined_constant, type_operator, type_abstraction, type_representation, unproved, step, Item, says}
 use Rattle.module_spec.specs.MadeItems.{said_by, premise_at, items_of, roots_of}
 use Rattle.module_spec.specs.Reach.{Key, number_key, gives, gives_of, key_eq}
 use Rattle.module_spec.specs.Image.{is_one_of, name_in}
@@ -43,6 +43,9 @@ number-of : (i : ℕ) (c : Content) (j : ℕ) → gives_of i c ≡ number_key j 
 number-of i (operator n k) j e = absurd (cc)
 number-of i (constant n a) j e = absurd (cc)
 number-of i (defined_constant n a t) j e = absurd (cc)
+number-of i (type_operator names c f l one) j e = absurd (cc)
+number-of i (type_abstraction names c f l one) j e = absurd (cc)
+number-of i (type_representation names c f l one) j e = absurd (cc)
 number-of i (unproved s) j e = cc
 number-of i (step kind js ss g s) j e = cc
 

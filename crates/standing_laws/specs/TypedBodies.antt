@@ -23,7 +23,7 @@ use Rattle.lp_spec.specs.Typing.{Typed, IsBodyOf, IsTypedAfter, AreTypedAfter}
 use Rattle.module_spec.specs.Rows.{has_row}
 use Rattle.module_spec.specs.Scopes.{Symbols}
 use Rattle.module_spec.specs.Enc.{Enc}
-use Rattle.module_spec.specs.Items.{Content, operator, constant, defined_constant, unproved, step, Item, says, declaration_of}
+use Rattle.module_spec.specs.Items.{Content, operator, constant, defined_constant, type_operator, type_abstraction, type_representation, unproved, step, Item, says, declaration_of}
 use Rattle.module_spec.specs.MadeItems.{content_by}
 use Rattle.module_spec.specs.Reach.{renumbered_content}
 use Rattle.module_spec.specs.Image.{is_one_of, name_in, image}
@@ -35,9 +35,10 @@ use Rattle.run_laws.specs.Origins.{Origin, made-origins}
 use Rattle.run_laws.specs.RunModules.{IsItemName, content-says, item_name-is, declaration-name}
 use Rattle.run_laws.specs.Standing.{Always, origins-all, symbols, number, declared, keep, items, item-stands, each-declaration}
 
--- the name of the theorem of a step: `E` and its place among the exports, or `T` and its number
+-- the name of the theorem of a step: `E` and its place among the exports, or `L` or `T` and its number
 pub data IsTheoremName (run : Accepted) (i : ℕ) (name : List ℕ) : Type 0 where
   an_export : (k : ℕ) → slice_get run.exports k ≡ Some i → name ≡ codes "E" ++ numeral k → IsTheoremName run i name
+  a_law : is_one_of i run.exports ≡ false → name ≡ codes "L" ++ numeral i → IsTheoremName run i name
   a_theorem : is_one_of i run.exports ≡ false → name ≡ codes "T" ++ numeral i → IsTheoremName run i name
 
 -- a declaration is the theorem of a step: its name, and that its type stands for the closed form of what the step says
@@ -69,11 +70,14 @@ body-typed m Def (Some t) A body h e = let same : t ≡ body = cc in subst (λ t
 body-typed m Thm None A body h e = absurd h
 body-typed m Thm (Some t) A body h e = let same : t ≡ body = cc in subst (λ t. Typed m [] t A) same h
 
--- a theorem says something, and is no assumption and no law
+-- a theorem says something, and is no assumption
 theorem-says : (symbols : Symbols) (name : List ℕ) (number : ℕ → ℕ) (c : Content) → (declaration_of symbols name (renumbered_content number c)).form ≡ Thm → says c ≡ None → ⊥
 theorem-says symbols name number (operator n k) f e = absurd (cc)
 theorem-says symbols name number (constant n a) f e = absurd (cc)
 theorem-says symbols name number (defined_constant n a t) f e = absurd (cc)
+theorem-says symbols name number (type_operator names c u j one) f e = absurd (cc)
+theorem-says symbols name number (type_abstraction names c u j one) f e = absurd (cc)
+theorem-says symbols name number (type_representation names c u j one) f e = absurd (cc)
 theorem-says symbols name number (unproved s) f e = absurd (cc)
 theorem-says symbols name number (step kind js ss g s) f e = absurd (cc)
 
@@ -85,8 +89,7 @@ theorem-row symbols name number false kind js ss g s f = absurd (cc)
 theorem-name : (run : Accepted) (i : ℕ) (kind : StepKind) (name : List ℕ) → has_row kind ≡ true → IsStepName run i kind name → IsTheoremName run i name
 theorem-name run i kind name row (IsStepName.an_export e n) = IsTheoremName.an_export (position_or_len (nat_eq i) run.exports) (at-place i run.exports e) n
 theorem-name run i kind name row (IsStepName.an_assumption e f k n) = let r : true ≡ false = sym row ∙ ap has_row k in absurd (cc)
-theorem-name run i kind name row (IsStepName.a_law e (inl k) n) = let r : true ≡ false = sym row ∙ ap has_row k in absurd (cc)
-theorem-name run i kind name row (IsStepName.a_law e (inr k) n) = let r : true ≡ false = sym row ∙ ap has_row k in absurd (cc)
+theorem-name run i kind name row (IsStepName.a_law e k n) = IsTheoremName.a_law e n
 theorem-name run i kind name row (IsStepName.a_theorem e r n) = IsTheoremName.a_theorem e n
 
 module _ (run : Accepted) (named : HasNames run) (sound : IsSoundRun run) (carried : IsCarried (name_in run) run) where

@@ -4,6 +4,7 @@ use Rattle.std.specs.List.{AllByRecursion}
 use Rattle.std.proofs.lemmas.List.{length-append, length-map, map-append, append-nil}
 use Rattle.std.proofs.lemmas.Slice.Eq.{bytes_eq-Decides}
 use Rattle.hol_spec.specs.Lists.{IsIn}
+use Rattle.hol_spec.specs.Names.{Name}
 use Rattle.hol_spec.specs.Proofs.{Made, symbols_of, IsProof}
 use Rattle.hol_spec.specs.Symbols.{Symbol}
 use Rattle.hol_laws.specs.Members.{IsIn-right, All-append, All-left, All-mapped, All-right, All-weaker}
@@ -11,12 +12,12 @@ use Rattle.holide_sig.specs.Modules.{symbol_number}
 use Rattle.lp_spec.specs.Lemmas.{lemmas}
 use Rattle.lp_spec.specs.Modules.{Declaration, signature}
 use Rattle.module_laws.specs.MadeModules.{AreMade}
-use Rattle.module_spec.specs.Items.{Item, declaration, module_of}
+use Rattle.module_spec.specs.Items.{Item, declaration, module_of, is_operator}
 use Rattle.module_spec.specs.Scopes.{Symbols}
 use Rattle.run_laws.specs.Named.{second_byte}
 use Rattle.run_laws.specs.NewNames.{IsSymbolName, symbol_name-high}
 use Rattle.run_laws.specs.RunModules.{declaration-name, reserved-high}
-use Rattle.telling_laws.specs.ItemNames.{HasItemName, before-apart, after-apart, same-name}
+use Rattle.telling_laws.specs.ItemNames.{HasItemName, before-apart, after-apart, operator-before, operator-after, same-name}
 use Rattle.telling_laws.specs.Positions.{IsSplit, member-split, position-none, position-after}
 
 -- items made in order, in two parts
@@ -106,5 +107,22 @@ module _ (symbols : Symbols) where
             let all : Named (ps ++ z ∷ bs) = subst Named s.whole named in
             let fronts = before-apart made proof Q z name own could ps here.1 (All-left (HasItemName ss) ps (z ∷ bs) all) in
             let backs = after-apart made proof Q z name own could (ps ++ z ∷ []) bs (IsIn-right ps (z ∷ []) z (inl refl)) here.3 (All-right (HasItemName ss) ps (z ∷ bs) all).1 in
+            let apart : AllByRecursion (λ (y : Item). y.name ≡ other → ⊥) xs = subst (AllByRecursion (λ (y : Item). y.name ≡ other → ⊥)) (sym s.whole) (All-append (λ (y : Item). y.name ≡ other → ⊥) ps (z ∷ bs) fronts (differs, backs)) in
+            sym (ap (position (λ (d : Declaration). bytes_eq d.name other)) (declared-items xs)) ∙ position-none (λ (d : Declaration). bytes_eq d.name other) (reserved xs) (none-has other low xs apart)
+
+    -- A NAME THAT ONLY THE SAME OPERATOR COULD HAVE, WHICH HASN'T IT, HAS NO NUMBER
+    pub other-operator : (xs : List Item) → AreMade [] xs → Named xs → (z : Item) → IsIn xs z → (n : Name) (k : ℕ) (other : List ℕ) → is_operator n k z.content ≡ true
+        → ((y : Item) → HasItemName ss y → y.name ≡ other → is_operator n k y.content ≡ true) → (z.name ≡ other → ⊥) → second_byte other ≤ 95 → symbol_number (module_of symbols xs) other ≡ None
+    other-operator xs order named z i n k other own could differs low = go (member-split xs z i)
+      where
+        go : IsSplit xs z → symbol_number (module_of symbols xs) other ≡ None
+        go s =
+            let ps = s.front in
+            let bs = s.back in
+            let Q : Item → Type 0 = λ (y : Item). y.name ≡ other in
+            let here : AreMade ps (z ∷ bs) = made-back [] ps (z ∷ bs) (subst (AreMade []) s.whole order) in
+            let all : Named (ps ++ z ∷ bs) = subst Named s.whole named in
+            let fronts = operator-before made proof Q z n k own could ps here.1 (All-left (HasItemName ss) ps (z ∷ bs) all) in
+            let backs = operator-after made proof Q z n k own could (ps ++ z ∷ []) bs (IsIn-right ps (z ∷ []) z (inl refl)) here.3 (All-right (HasItemName ss) ps (z ∷ bs) all).1 in
             let apart : AllByRecursion (λ (y : Item). y.name ≡ other → ⊥) xs = subst (AllByRecursion (λ (y : Item). y.name ≡ other → ⊥)) (sym s.whole) (All-append (λ (y : Item). y.name ≡ other → ⊥) ps (z ∷ bs) fronts (differs, backs)) in
             sym (ap (position (λ (d : Declaration). bytes_eq d.name other)) (declared-items xs)) ∙ position-none (λ (d : Declaration). bytes_eq d.name other) (reserved xs) (none-has other low xs apart)

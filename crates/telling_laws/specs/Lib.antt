@@ -5,7 +5,7 @@ pub mod DeclaredNumbers
 pub mod Making
 pub mod MadeInOrder
 pub mod ToldKeys
-pub mod HeldItems
 pub mod NextTells
 pub mod NextSteps
+pub mod NextDefinitions
 pub mod NextItems

@@ -124,6 +124,7 @@ step-says before x =
 
 new-said : (before : List Item) (x : Made) (name : Content → List ℕ) (i : ℕ) → length (said_by (numbered name i (contents before x))) ≡ length (steps_of (x ∷ []))
 new-said before (Made.symbol x) name i = ap (λ (l : List (ℕ × Sequent)). length l) (symbol-said name i x)
+new-said before (Made.type_definition names a f k) name i = refl
 new-said before (Made.step x) name i = ap (λ o. length {A = ℕ × Sequent} (cons_option (option_map (λ (s : Sequent). (i, s)) o) [])) (step-says before x)
 
 module _ (named : Naming) where

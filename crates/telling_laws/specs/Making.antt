@@ -4,14 +4,17 @@ use Rattle.std.specs.List.{AllByRecursion}
 use Rattle.article_spec.specs.SoundRuns.{IsSoundRun}
 use Rattle.hol_spec.specs.Proofs.{Made, Step, steps_of, sequent_at, Accepted}
 use Rattle.hol_spec.specs.Symbols.{Symbol}
+use Rattle.hol_spec.specs.Definitions.{TypeNames}
+use Rattle.hol_spec.specs.Types.{HolType}
+use Rattle.hol_spec.specs.Terms.{Term}
 use Rattle.lp_spec.specs.Lemmas.{lemmas}
 use Rattle.lp_spec.specs.ModuleOrder.{MayFollow}
 use Rattle.lp_spec.specs.Modules.{Declaration, signature}
 use Rattle.module_laws.specs.ItemConditions.{IsContent}
 use Rattle.module_laws.specs.MadeModules.{IsNew}
-use Rattle.module_spec.specs.Image.{symbol_name, step_name, name_in}
+use Rattle.module_spec.specs.Image.{symbol_name, type_definition_name, step_name, name_in}
 use Rattle.module_spec.specs.Items.{Content, Item, declaration, symbols_of, module_of}
-use Rattle.module_spec.specs.MadeItems.{Naming, contents_of, premise_at, content_by, needed, step_content, contents, numbered, items_of, roots_of}
+use Rattle.module_spec.specs.MadeItems.{Naming, contents_of, type_contents, premise_at, content_by, needed, step_content, contents, numbered, items_of, roots_of}
 use Rattle.module_spec.specs.Reach.{renumbered_content, renumbered, keep_of, symbol_of, image_items}
 use Rattle.module_spec.specs.Rows.{has_row}
 use Rattle.module_spec.specs.Scopes.{Symbols}
@@ -133,13 +136,13 @@ NextStepGone = (run : Accepted) (earlier later : List Made) (x : Step) → run.m
 
 -- the items up to some of the contents of the next symbol, the number of the item of the content after these, and that item in the module
 abbrev pub items_up_to : Accepted → List Made → Symbol → List Content → List Item
-items_up_to run earlier s front = items_made run earlier ++ numbered (symbol_name s) (length (items_made run earlier)) front
+items_up_to run earlier s front = items_made run earlier ++ numbered (λ (c : Content). symbol_name s) (length (items_made run earlier)) front
 
 abbrev pub content_number : Accepted → List Made → List Content → ℕ
 content_number run earlier front = length (items_made run earlier) + length front
 
 abbrev pub symbol_in_module : Accepted → List Made → Symbol → List Content → Content → Item
-symbol_in_module run earlier s front c = record { symbol = module_number run (content_number run earlier front); name = symbol_name s c; content = c }
+symbol_in_module run earlier s front c = record { symbol = module_number run (content_number run earlier front); name = symbol_name s; content = c }
 
 -- WHAT EACH CONTENT OF THE NEXT SYMBOL ADDS: its item, where that is kept, else nothing
 abbrev pub NextSymbolKept : Type 0
@@ -149,6 +152,37 @@ NextSymbolKept = (run : Accepted) (earlier later : List Made) (s : Symbol) → r
 abbrev pub NextSymbolGone : Type 0
 NextSymbolGone = (run : Accepted) (earlier later : List Made) (s : Symbol) → run.made ≡ earlier ++ Made.symbol s ∷ later → (front back : List Content) (c : Content) → contents_of s ≡ front ++ c ∷ back
     → is_kept run (content_number run earlier front) ≡ false → kept_of run (items_up_to run earlier s (front ++ c ∷ [])) ≡ kept_of run (items_up_to run earlier s front)
+
+-- the items up to some of the contents of the next type definition, and the item of the content after these in the module
+abbrev pub definition_up_to : Accepted → List Made → List Content → List Item
+definition_up_to run earlier front = items_made run earlier ++ numbered type_definition_name (length (items_made run earlier)) front
+
+abbrev pub definition_in_module : Accepted → List Made → List Content → Content → Item
+definition_in_module run earlier front c = record { symbol = module_number run (content_number run earlier front); name = type_definition_name c; content = renumbered_content (module_number run) c }
+
+-- these are the contents of the next type definition
+abbrev pub AreDefinitionContents : Accepted → List Made → TypeNames → HolType → Term → ℕ → List Content → Type 0
+AreDefinitionContents run earlier names a f k cs = type_contents names a f (premise_at (items_made run earlier) k) ≡ cs
+
+-- WHAT EACH CONTENT OF THE NEXT TYPE DEFINITION ADDS: its item, where that is kept, else nothing
+abbrev pub NextDefinitionKept : Type 0
+NextDefinitionKept = (run : Accepted) (earlier later : List Made) (names : TypeNames) (a : HolType) (f : Term) (k : ℕ) → run.made ≡ earlier ++ Made.type_definition names a f k ∷ later
+    → (front back : List Content) (c : Content) → AreDefinitionContents run earlier names a f k (front ++ c ∷ back) → is_kept run (content_number run earlier front) ≡ true
+    → IsNextKept run (definition_up_to run earlier front) (definition_up_to run earlier (front ++ c ∷ [])) (definition_in_module run earlier front c)
+
+abbrev pub NextDefinitionGone : Type 0
+NextDefinitionGone = (run : Accepted) (earlier later : List Made) (names : TypeNames) (a : HolType) (f : Term) (k : ℕ) → run.made ≡ earlier ++ Made.type_definition names a f k ∷ later
+    → (front back : List Content) (c : Content) → AreDefinitionContents run earlier names a f k (front ++ c ∷ back) → is_kept run (content_number run earlier front) ≡ false
+    → kept_of run (definition_up_to run earlier (front ++ c ∷ [])) ≡ kept_of run (definition_up_to run earlier front)
+
+-- THE PREMISE OF THE NEXT TYPE DEFINITION: an earlier step, which is kept with each of the contents
+pub record IsNextDefinition (run : Accepted) (earlier : List Made) (names : TypeNames) (a : HolType) (f : Term) (k : ℕ) : Type 0 where
+  pub premise : premise_at (items_made run earlier) k ≡ (step_item run k, sequent_at run.made k)
+  pub earlier_premise : k < length (steps_of earlier)
+  pub kept_premise : (front back : List Content) (c : Content) → AreDefinitionContents run earlier names a f k (front ++ c ∷ back) → is_kept run (content_number run earlier front) ≡ true → is_kept run (step_item run k) ≡ true
+
+abbrev pub NextDefinition : Type 0
+NextDefinition = (run : Accepted) → IsSoundRun run → (earlier later : List Made) (names : TypeNames) (a : HolType) (f : Term) (k : ℕ) → run.made ≡ earlier ++ Made.type_definition names a f k ∷ later → IsNextDefinition run earlier names a f k
 
 -- A RUN THAT IS SOUND IS CARRIED: its module is shaped, well typed and priced, and each export is what an item says
 abbrev pub SoundCarried : Type 0

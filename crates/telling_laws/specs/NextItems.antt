@@ -48,9 +48,9 @@ contents-renumbered : (number : ℕ → ℕ) (s : Symbol) → AllByRecursion (λ
 contents-renumbered number (Symbol.input_constant n) = (refl, tt {0})
 contents-renumbered number (Symbol.input_operator n k) = (refl, tt {0})
 contents-renumbered number (Symbol.defined (Definition.constant n t)) = (refl, tt {0})
-contents-renumbered number (Symbol.defined (Definition.type_operator names a f)) = (refl, (refl, (refl, tt {0})))
+contents-renumbered number (Symbol.defined (Definition.type_operator names a f)) = tt
 
-numbered-append : (named : Content → List ℕ) (i : ℕ) (xs ys : List Content) → numbered named i (xs ++ ys) ≡ numbered named i xs ++ numbered named (i + length xs) ys
+pub numbered-append : (named : Content → List ℕ) (i : ℕ) (xs ys : List Content) → numbered named i (xs ++ ys) ≡ numbered named i xs ++ numbered named (i + length xs) ys
 numbered-append named i [] ys = let z : i ≡ i + 0 = omega arith in ap (λ j. numbered named j ys) z
 numbered-append named i (x ∷ xs) ys =
     let z : i + 1 + length xs ≡ i + length (x ∷ xs) = omega arith in
@@ -58,18 +58,18 @@ numbered-append named i (x ∷ xs) ys =
 
 module _ (run : Accepted) (earlier later : List Made) (s : Symbol) (whole : run.made ≡ earlier ++ Made.symbol s ∷ later) (front back : List Content) (c : Content) (among : contents_of s ≡ front ++ c ∷ back) where
   abbrev content_item : Item
-  content_item = record { symbol = content_number run earlier front; name = symbol_name s c; content = c }
+  content_item = record { symbol = content_number run earlier front; name = symbol_name s; content = c }
 
-  up-to : (xs ys : List Content) → items_up_to run earlier s (xs ++ ys) ≡ items_up_to run earlier s xs ++ numbered (symbol_name s) (content_number run earlier xs) ys
+  up-to : (xs ys : List Content) → items_up_to run earlier s (xs ++ ys) ≡ items_up_to run earlier s xs ++ numbered (λ (c : Content). symbol_name s) (content_number run earlier xs) ys
   up-to xs ys =
       let items = items_made run earlier in
-      ap (λ l. items ++ l) (numbered-append (symbol_name s) (length items) xs ys)
-      ∙ sym (append_assoc items (numbered (symbol_name s) (length items) xs) (numbered (symbol_name s) (length items + length xs) ys))
+      ap (λ l. items ++ l) (numbered-append (λ (c : Content). symbol_name s) (length items) xs ys)
+      ∙ sym (append_assoc items (numbered (λ (c : Content). symbol_name s) (length items) xs) (numbered (λ (c : Content). symbol_name s) (length items + length xs) ys))
 
   symbol-items : (rest : List Item) × (made_items run ≡ items_up_to run earlier s front ++ content_item ∷ rest)
   symbol-items =
       let r = items-stay run (earlier ++ Made.symbol s ∷ []) later (whole ∙ sym (append_assoc earlier (Made.symbol s ∷ []) later)) in
-      let others = numbered (symbol_name s) (content_number run earlier front + 1) back in
+      let others = numbered (λ (c : Content). symbol_name s) (content_number run earlier front + 1) back in
       let own : items_made run (earlier ++ Made.symbol s ∷ []) ≡ items_up_to run earlier s front ++ content_item ∷ others = items-grow run earlier (Made.symbol s) ∙ ap (items_up_to run earlier s) among ∙ up-to front (c ∷ back) in
       (others ++ r.0, r.1 ∙ ap (λ l. l ++ r.0) own ∙ append_assoc (items_up_to run earlier s front) (content_item ∷ others) r.0)
 
@@ -78,7 +78,7 @@ module _ (run : Accepted) (earlier later : List Made) (s : Symbol) (whole : run.
       let e : renumbered_content (module_number run) c ≡ c =
       All-at (λ (c : Content). renumbered_content (module_number run) c ≡ c) (front ++ c ∷ back) c (subst (AllByRecursion (λ (c : Content). renumbered_content (module_number run) c ≡ c)) among (contents-renumbered (module_number run) s))
       (IsIn-right front (c ∷ back) c (inl refl)) in
-      λ i. record { symbol = module_number run (content_number run earlier front); name = symbol_name s c; content = e i }
+      λ i. record { symbol = module_number run (content_number run earlier front); name = symbol_name s; content = e i }
 
 -- A CONTENT OF A SYMBOL THAT IS KEPT ADDS ITS ITEM
 pub next-symbol-kept : NextSymbolKept

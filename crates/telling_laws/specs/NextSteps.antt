@@ -29,12 +29,12 @@ use Rattle.telling_laws.specs.Making.{items_made, made_items, is_kept, module_nu
 use Rattle.telling_laws.specs.Positions.{index-front, index-seam, index-map, index-IsIn, get-within}
 
 -- one of what was made has its property on what was made before it
-each-at : (P : List Made → Made → Type 0) (before xs ys : List Made) (y : Made) → EachAfter P before (xs ++ y ∷ ys) → P (before ++ xs) y
+pub each-at : (P : List Made → Made → Type 0) (before xs ys : List Made) (y : Made) → EachAfter P before (xs ++ y ∷ ys) → P (before ++ xs) y
 each-at P before [] ys y h = subst (λ l. P l y) (sym (append-nil before)) h.0
 each-at P before (x ∷ xs) ys y h = subst (λ l. P l y) (append_assoc before (x ∷ []) xs) (each-at P (before ++ x ∷ []) xs ys y h.1)
 
 -- and one of the items that are numbered
-numbered-at : (keep : ℕ → Bool) (before xs ys : List Item) (z : Item) → AreNumbered keep before (xs ++ z ∷ ys) → keep z.symbol ≡ true → AreKept keep (before ++ xs) (needs z.content)
+pub numbered-at : (keep : ℕ → Bool) (before xs ys : List Item) (z : Item) → AreNumbered keep before (xs ++ z ∷ ys) → keep z.symbol ≡ true → AreKept keep (before ++ xs) (needs z.content)
 numbered-at keep before [] ys z h e = subst (λ l. AreKept keep l (needs z.content)) (sym (append-nil before)) (h.3 e)
 numbered-at keep before (x ∷ xs) ys z h e = subst (λ l. AreKept keep l (needs z.content)) (append_assoc before (x ∷ []) xs) (numbered-at keep (before ++ x ∷ []) xs ys z h.4 e)
 
@@ -66,7 +66,7 @@ needs-premise : (b : Bool) (kind : StepKind) (js : List ℕ) (ss : List Sequent)
 needs-premise true kind js ss g s j e i = IsIn-left (sequent_keys s ++ map number_key js) (given_keys g) (number_key j) (IsIn-right (sequent_keys s) (map number_key js) (number_key j) (IsIn-map number_key js j i))
 needs-premise false kind js ss g s j e i = absurd (cc)
 
-abbrev nothing_said : Sequent
+abbrev pub nothing_said : Sequent
 nothing_said = record { hypotheses = []; conclusion = bound 0 }
 
 module _ (run : Accepted) (sound : IsSoundRun run) (earlier later : List Made) (x : Step) (whole : run.made ≡ earlier ++ Made.step x ∷ later) where

@@ -1,5 +1,5 @@
 -- What is declared so far of a run's module tells each symbol that the next item mentions.
-use Rattle.std.proofs.Common.{◌≡◌, ℕ, zero, suc, List, [], ◌∷◌, ◌++◌, true, Some, slice_get, refl, sym, ap, subst, ◌∙◌}
+use Rattle.std.proofs.Common.{◌≡◌, ℕ, zero, suc, List, [], ◌∷◌, ◌++◌, true, Some, slice_get, refl, sym, ap, subst, subst₂, ◌∙◌}
 use Rattle.std.specs.List.{AllByRecursion}
 use Rattle.std.proofs.lemmas.Option.{same_Some}
 use Rattle.hol_spec.specs.DefinitionLists.{ConstantPairs, is_definition_list, constants_put}
@@ -8,6 +8,7 @@ use Rattle.hol_spec.specs.Names.{Name}
 use Rattle.hol_spec.specs.Primitives.{function}
 use Rattle.hol_spec.specs.Proofs.{Made, IsProof, Accepted}
 use Rattle.hol_spec.specs.Proofs as proof
+use Rattle.hol_spec.specs.NewTypes.{abstraction_type, representation_type}
 use Rattle.hol_spec.specs.Rules.{Rule, Parameters}
 use Rattle.hol_spec.specs.Rules as rule
 use Rattle.hol_spec.specs.Sequents.{Sequent, free_variables_of}
@@ -24,7 +25,7 @@ use Rattle.module_laws.specs.ItemConditions.{Has, OperatorTaken, ConstantTaken, 
 use Rattle.module_laws.specs.ItemConditions as items
 use Rattle.module_laws.specs.MadeModules.{AreMade, items-made}
 use Rattle.module_laws.specs.ModuleTyping.{HoldsItem, held, TermOver-taken}
-use Rattle.module_spec.specs.Items.{Content, operator, constant, defined_constant, unproved, step, Item, says, symbols_of, module_of}
+use Rattle.module_spec.specs.Items.{Content, operator, constant, defined_constant, type_operator, type_abstraction, type_representation, unproved, step, Item, says, symbols_of, module_of}
 use Rattle.module_spec.specs.Scopes.{Symbols, operator_symbol, constant_symbol}
 use Rattle.proof_laws.specs.RuleTaken.{list_parts}
 use Rattle.proof_laws.specs.SymbolGrowth.{Instance-own}
@@ -33,13 +34,13 @@ use Rattle.run_laws.specs.Origins.{made-origins}
 use Rattle.run_laws.specs.RunModules.{items-named}
 use Rattle.standing_laws.specs.ListedVariables.{listed-free, listed-variable, constant-put, put-from}
 use Rattle.standing_laws.specs.ModuleItems.{item-asked}
-use Rattle.telling_laws.specs.HeldItems.{items-front, module-holds}
+use Rattle.module_laws.specs.HeldItems.{items-front, module-holds}
 use Rattle.telling_laws.specs.ItemNames.{HasItemName, kept-named}
 use Rattle.telling_laws.specs.MadeInOrder.{kept-made, next-made}
 use Rattle.telling_laws.specs.Making.{made_items, is_kept, kept_items, NextTells}
 use Rattle.translate_term.specs.Told.{told_operator, told_constant, TellsType, TellsTypes, TellsTerm}
 use Rattle.telling_laws.specs.Told.{TellsSequent, TellsGiven, TellsContent}
-use Rattle.telling_laws.specs.ToldKeys.{operator-primitive, constant-primitive, operator-told, constant-told, order-before}
+use Rattle.telling_laws.specs.ToldKeys.{operator-primitive, constant-primitive, operator-told, part-told, constant-told, order-before}
 
 -- the type of a term whose symbols are told
 module _ (m : List Declaration) (symbols : Symbols) where
@@ -63,6 +64,9 @@ said-taken : (before : List Item) (c : Content) (s : Sequent) → says c ≡ Som
 said-taken before (operator n k) s e h = absurd (cc)
 said-taken before (constant n a) s e h = absurd (cc)
 said-taken before (defined_constant n a t) s e h = absurd (cc)
+said-taken before (type_operator names c u j one) s e h = absurd (cc)
+said-taken before (type_abstraction names c u j one) s e h = absurd (cc)
+said-taken before (type_representation names c u j one) s e h = absurd (cc)
 said-taken before (unproved r) s e h = subst (SequentTaken before) (same_Some _ _ e) h
 said-taken before (step kind js ss g r) s e h = subst (SequentTaken before) (same_Some _ _ e) h.0.taken
 
@@ -90,6 +94,8 @@ module _ (made : List Made) (is_proof : IsProof made) (xs before rest : List Ite
     operator-taken : (n : Name) (k : ℕ) → OperatorTaken earlier n k → told_operator m n k ≡ Some (operator_symbol symbols n k)
     operator-taken n k (items.OperatorTaken.primitive e) = operator-primitive m symbols n k k e
     operator-taken n k (items.OperatorTaken.declared h) = operator-told made is_proof xs before rest whole order named n k h.0 (among h.0 h.1) h.2
+    operator-taken n k (items.OperatorTaken.part names c u j one h e f) =
+        subst₂ (λ o l. told_operator m o l ≡ Some (operator_symbol symbols o l)) (sym e) (sym f) (part-told made is_proof xs before rest whole order named names c u j one h.0 (among h.0 h.1) h.2)
 
     constant-has : (n : Name) (c : Content) → constant_named c ≡ Some n → Has earlier c → told_constant m n ≡ Some (constant_symbol symbols n)
     constant-has n c e h = constant-told made is_proof xs before rest whole order named n h.0 (among h.0 h.1) (ap constant_named h.2 ∙ e)
@@ -98,6 +104,8 @@ module _ (made : List Made) (is_proof : IsProof made) (xs before rest : List Ite
     constant-taken n t (items.ConstantTaken.primitive g e i) = constant-primitive m symbols n g e
     constant-taken n t (items.ConstantTaken.declared a h i) = constant-has n (constant n a) refl h
     constant-taken n t (items.ConstantTaken.defined a u h i) = constant-has n (defined_constant n a u) refl h
+    constant-taken n t (items.ConstantTaken.abstraction names c u j one h e i) = constant-has n (type_abstraction names c u j one) (ap Some (sym e)) h
+    constant-taken n t (items.ConstantTaken.representation names c u j one h e i) = constant-has n (type_representation names c u j one) (ap Some (sym e)) h
 
     mutual
       type-told : (t : HolType) → TypeTaken earlier t → TellsType m symbols t
@@ -160,32 +168,35 @@ module _ (made : List Made) (is_proof : IsProof made) (xs before rest : List Ite
           let same : d.1.name ≡ n = same_constant d.1.name n v.1 (sym d.1.image ∙ put) in
           subst (λ (u : Variable × Term). TellsTerm m symbols u.1) (sym p.2) (subst (λ (k : Name). TellsTerm m symbols (term.Term.constant k v.1)) same (constant-defined d.1.name v.1 d.0 d.1.has))
 
-  given-told : (kind : StepKind) (premises : List Sequent) (given : Parameters) (s : Sequent) → Rule kind premises given s → DefinesAmong before kind premises given → TellsGiven m symbols given
-  given-told kind premises given s (rule.define_const_list {pairs = pairs} {one = one} d l e) defines = list-told pairs one l defines.1
-  given-told kind premises given s (rule.define_const d e) defines = tt
-  given-told kind premises given s (rule.refl h e) defines = tt
-  given-told kind premises given s (rule.assume h e) defines = tt
-  given-told kind premises given s (rule.eq_mp e f g) defines = tt
-  given-told kind premises given s (rule.abs_thm e f g) defines = tt
-  given-told kind premises given s (rule.app_thm e f g) defines = tt
-  given-told kind premises given s (rule.deduct_antisym e) defines = tt
-  given-told kind premises given s (rule.beta_conv h e) defines = tt
-  given-told kind premises given s (rule.sym e f) defines = tt
-  given-told kind premises given s (rule.trans e f g) defines = tt
-  given-told kind premises given s (rule.prove_hyp e) defines = tt
-  given-told kind premises given s (rule.subst h e) defines = tt
-  given-told kind premises given s (rule.recorded h) defines = tt
-  given-told kind premises given s (rule.restate h w) defines = tt
-  given-told kind premises given s (rule.first_law d e) defines = tt
-  given-told kind premises given s (rule.second_law d e) defines = tt
+  given-told : (kind : StepKind) (js : List ℕ) (premises : List Sequent) (given : Parameters) (s : Sequent) → Rule kind premises given s → DefinesAmong before kind js premises given → TellsGiven m symbols given
+  given-told kind js premises given s (rule.define_const_list {pairs = pairs} {one = one} d l e) defines = list-told pairs one l defines.1
+  given-told kind js premises given s (rule.define_const d e) defines = tt
+  given-told kind js premises given s (rule.refl h e) defines = tt
+  given-told kind js premises given s (rule.assume h e) defines = tt
+  given-told kind js premises given s (rule.eq_mp e f g) defines = tt
+  given-told kind js premises given s (rule.abs_thm e f g) defines = tt
+  given-told kind js premises given s (rule.app_thm e f g) defines = tt
+  given-told kind js premises given s (rule.deduct_antisym e) defines = tt
+  given-told kind js premises given s (rule.beta_conv h e) defines = tt
+  given-told kind js premises given s (rule.sym e f) defines = tt
+  given-told kind js premises given s (rule.trans e f g) defines = tt
+  given-told kind js premises given s (rule.prove_hyp e) defines = tt
+  given-told kind js premises given s (rule.subst h e) defines = tt
+  given-told kind js premises given s (rule.recorded h) defines = tt
+  given-told kind js premises given s (rule.restate h w) defines = tt
+  given-told kind js premises given s (rule.first_law d e) defines = tt
+  given-told kind js premises given s (rule.second_law d e) defines = tt
 
   -- WHAT IS DECLARED SO FAR TELLS WHAT ASKS FOR NOTHING BUT THE ITEMS SO FAR
   pub content-told : (c : Content) → IsContent before c → TellsContent m symbols c
   content-told (operator n k) h = tt
   content-told (constant n a) h = type-told before (λ x i. i) a h
   content-told (defined_constant n a t) h = (defined-told before (λ x i. i) a t h, term-told before (λ x i. i) t h.taken)
+  content-told (type_operator names c u j one) h = (type-told before (λ x i. i) c h.ty, (premises-told (j ∷ []) (one ∷ []) h.among).0)
+  content-told (type_abstraction names c u j one) h = (type-told before (λ x i. i) (abstraction_type names c) h.1, type-told before (λ x i. i) c h.0.ty, (premises-told (j ∷ []) (one ∷ []) h.0.among).0)
+  content-told (type_representation names c u j one) h = (type-told before (λ x i. i) (representation_type names c) h.1, type-told before (λ x i. i) c h.0.ty, (premises-told (j ∷ []) (one ∷ []) h.0.among).0)
   content-told (unproved s) h = sequent-told before (λ x i. i) s h
-  content-told (step kind js premises given s) h = (sequent-told before (λ x i. i) s h.0.taken, premises-told js premises h.0.among, given-told kind premises given s h.0.rule h.1)
+  content-told (step kind js premises given s) h = (sequent-told before (λ x i. i) s h.0.taken, premises-told js premises h.0.among, given-told kind js premises given s h.0.rule h.1)
 
 -- THE LAW: WHAT IS DECLARED SO FAR TELLS THE NEXT ITEM
 pub next-tells : NextTells

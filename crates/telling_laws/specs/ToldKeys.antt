@@ -1,7 +1,9 @@
 -- What is declared so far of a run's module tells the symbol of each operator and each constant among the items so far.
-use Rattle.std.proofs.Common.{◌≡◌, ℕ, List, [], ◌++◌, Bool, true, false, None, Some, refl, sym, ap, subst, ◌∙◌, arith}
+use Rattle.std.proofs.Common.{◌≡◌, ℕ, List, [], ◌++◌, length, Bool, true, false, None, Some, refl, sym, ap, subst, ◌∙◌, arith}
 use Rattle.std.specs.List.{AllByRecursion}
 use Rattle.std.proofs.lemmas.Option.{same_Some}
+use Rattle.std.specs.Cmp.{unsigned_Decides}
+use Rattle.hol_laws.specs.NameEqualityLaws.{name_eq-Decides}
 use Rattle.hol_spec.specs.Lists.{IsIn}
 use Rattle.hol_spec.specs.Mangling.{IsName}
 use Rattle.hol_spec.specs.NameEquality.{name_eq}
@@ -10,6 +12,9 @@ use Rattle.hol_spec.specs.Primitives.{primitive_arity, primitive_type, generic, 
 use Rattle.hol_spec.specs.Proofs.{Made, IsProof}
 use Rattle.hol_spec.specs.Proofs as proof
 use Rattle.hol_spec.specs.Types.{HolType}
+use Rattle.hol_spec.specs.Terms.{Term}
+use Rattle.hol_spec.specs.Sequents.{Sequent}
+use Rattle.hol_spec.specs.Definitions.{TypeNames}
 use Rattle.hol_spec.specs.Symbols.{Symbol}
 use Rattle.hol_laws.specs.Members.{IsIn-left, All-at, All-left}
 use Rattle.holide_sig.specs.Modules.{symbol_number}
@@ -17,13 +22,13 @@ use Rattle.lp_spec.specs.Modules.{Declaration}
 use Rattle.module_laws.specs.ItemConditions.{Tells}
 use Rattle.module_laws.specs.MadeModules.{IsNew, AreMade}
 use Rattle.module_spec.specs.Image.{input_constant_name, input_operator_name, constant_name, operator_name}
-use Rattle.module_spec.specs.Items.{Content, operator, constant, defined_constant, unproved, step, Item, says, symbols_of, module_of}
+use Rattle.module_spec.specs.Items.{Content, operator, constant, defined_constant, type_operator, type_abstraction, type_representation, unproved, step, Item, says, is_operator, symbols_of, module_of}
 use Rattle.module_spec.specs.Scopes.{Symbols, operator_symbol, constant_symbol}
 use Rattle.run_laws.specs.Named.{second_byte}
 use Rattle.run_laws.specs.NewNames.{constant_named, IsSymbolName, symbol_name-high}
 use Rattle.standing_laws.specs.ModuleItems.{item-asked, item-told}
-use Rattle.telling_laws.specs.DeclaredNumbers.{made-front, item-number, other-number}
-use Rattle.telling_laws.specs.ItemNames.{HasItemName, same-name, input-name, other_byte}
+use Rattle.telling_laws.specs.DeclaredNumbers.{made-front, item-number, other-number, other-operator}
+use Rattle.telling_laws.specs.ItemNames.{HasItemName, same-name, input-name, input-operator, other_byte}
 use Rattle.translate_term.specs.Told.{either_number, told_operator, told_constant}
 
 module _ (m : List Declaration) (symbols : Symbols) where
@@ -85,6 +90,9 @@ constant-new : (n : Name) (before : List Item) (c : Content) → constant_named 
 constant-new n before (operator k j) e h = absurd (cc)
 constant-new n before (constant k a) e h = subst (λ (l : Name). primitive_type l ≡ None) (same_Some _ _ e) h.0
 constant-new n before (defined_constant k a t) e h = subst (λ (l : Name). primitive_type l ≡ None) (same_Some _ _ e) h.0
+constant-new n before (type_operator names c u j one) e h = absurd (cc)
+constant-new n before (type_abstraction names c u j one) e h = subst (λ (l : Name). primitive_type l ≡ None) (same_Some _ _ e) h.0
+constant-new n before (type_representation names c u j one) e h = subst (λ (l : Name). primitive_type l ≡ None) (same_Some _ _ e) h.0
 constant-new n before (unproved s) e h = absurd (cc)
 constant-new n before (step kind js ss g s) e h = absurd (cc)
 
@@ -92,6 +100,9 @@ constant-tells : (symbols : Symbols) (i : ℕ) (n : Name) (c : Content) → cons
 constant-tells symbols i n (operator k j) e h = absurd (cc)
 constant-tells symbols i n (constant k a) e h = subst (λ (l : Name). constant_symbol symbols l ≡ i) (same_Some _ _ e) h.0
 constant-tells symbols i n (defined_constant k a t) e h = subst (λ (l : Name). constant_symbol symbols l ≡ i) (same_Some _ _ e) h.0
+constant-tells symbols i n (type_operator names c u j one) e h = absurd (cc)
+constant-tells symbols i n (type_abstraction names c u j one) e h = subst (λ (l : Name). constant_symbol symbols l ≡ i) (same_Some _ _ e) h.0
+constant-tells symbols i n (type_representation names c u j one) e h = subst (λ (l : Name). constant_symbol symbols l ≡ i) (same_Some _ _ e) h.0
 constant-tells symbols i n (unproved s) e h = absurd (cc)
 constant-tells symbols i n (step kind js ss g s) e h = absurd (cc)
 
@@ -140,13 +151,40 @@ module _ (made : List Made) (is_proof : IsProof made) (xs before rest : List Ite
           let is_named : z.name ≡ input_operator_name k n = w ∙ (λ t. input_operator_name (count t) (same t)) in
           ap (λ o. either_number o (symbol_number m (operator_name n))) (item-number symbols made is_proof before order-before names z i (input_operator_name k n) (input (subst IsName same is)) is_named)
       go (HasItemName.of_symbol (IsSymbolName.a_constant c is f w)) = let g : None ≡ Some c = sym (ap constant_named e) ∙ f in absurd (cc)
-      go (HasItemName.of_symbol (IsSymbolName.an_operator told a f is among g w)) =
-          let h : operator told.operator _ ≡ operator n k = sym g ∙ e in
-          let same : told.operator ≡ n = cc in
-          let is_named : z.name ≡ operator_name n = w ∙ ap operator_name same in
+      go (HasItemName.of_symbol (IsSymbolName.an_operator told a f j one is among g w)) = let h : type_operator told a f j one ≡ operator n k = sym g ∙ e in absurd (cc)
+
+  -- THAT OF A TYPE DEFINITION'S OPERATOR
+  pub part-told : (own : TypeNames) (c : HolType) (u : Term) (l : ℕ) (one : Sequent) (z : Item) → IsIn before z → z.content ≡ type_operator own c u l one
+      → told_operator m own.operator (length own.variables) ≡ Some (operator_symbol symbols own.operator (length own.variables))
+  part-told own c u l one z i e =
+      let asked = item-asked before order-before z i in
+      let new : IsNew asked.before (type_operator own c u l one) = subst (IsNew asked.before) e asked.new in
+      let symbol : operator_symbol symbols own.operator (length own.variables) ≡ z.symbol = subst (Tells symbols z.symbol) e (own-symbol z i) in
+      operator-named m symbols own.operator (length own.variables) new.0 ∙ go (All-at (HasItemName ss) before z names i) ∙ ap Some (sym symbol)
+    where
+      is-own : is_operator own.operator (length own.variables) z.content ≡ true
+      is-own = ap (is_operator own.operator (length own.variables)) e ∙ rw ((name_eq-Decides own.operator own.operator).1 refl) ((unsigned_Decides (length own.variables) (length own.variables)).1 refl)
+
+      no-input : IsName own.operator → (z.name ≡ input_operator_name (length own.variables) own.operator → ⊥) → symbol_number m (input_operator_name (length own.variables) own.operator) ≡ None
+      no-input is differs =
+          let n = own.operator in
+          let k = length own.variables in
+          other-operator symbols made is_proof before order-before names z i n k (input_operator_name k n) is-own (λ y h f. input-operator made is_proof n k is y h f) differs
+          (symbol_name-high ss (operator n k) (input_operator_name k n) (IsSymbolName.an_input_operator n k is refl refl)).1
+
+      go : HasItemName ss z → either_number (symbol_number m (input_operator_name (length own.variables) own.operator)) (symbol_number m (operator_name own.operator)) ≡ Some z.symbol
+      go (HasItemName.of_step s f low_one low) = let g : None ≡ Some s = sym (ap says e) ∙ f in absurd (cc)
+      go (HasItemName.of_symbol (IsSymbolName.an_input k is f w)) = let g : type_operator own c u l one ≡ constant k generic = sym e ∙ f in absurd (cc)
+      go (HasItemName.of_symbol (IsSymbolName.an_input_operator k j is f w)) = let g : type_operator own c u l one ≡ operator k j = sym e ∙ f in absurd (cc)
+      go (HasItemName.of_symbol (IsSymbolName.a_constant k is f w)) = let g : None ≡ Some k = sym (ap constant_named e) ∙ f in absurd (cc)
+      go (HasItemName.of_symbol (IsSymbolName.an_operator told a f j two is among g w)) =
+          let h : type_operator told a f j two ≡ type_operator own c u l one = sym g ∙ e in
+          let names_same : told ≡ own = cc in
+          let same : told.operator ≡ own.operator = ap (λ (t : TypeNames). t.operator) names_same in
+          let is_named : z.name ≡ operator_name own.operator = w ∙ ap operator_name same in
           let none = no-input (subst IsName same is) (λ q. other_byte 111 116 _ _ z.name refl w q) in
-          ap (λ o. either_number o (symbol_number m (operator_name n))) none
-          ∙ item-number symbols made is_proof before order-before names z i (operator_name n) (IsSymbolName.an_operator told a f is among g (ap operator_name (sym same))) is_named
+          ap (λ o. either_number o (symbol_number m (operator_name own.operator))) none
+          ∙ item-number symbols made is_proof before order-before names z i (operator_name own.operator) (IsSymbolName.an_operator told a f j two is among g (ap operator_name (sym same))) is_named
 
   -- AND SO IS THAT OF A CONSTANT
   pub constant-told : (n : Name) (z : Item) → IsIn before z → constant_named z.content ≡ Some n → told_constant m n ≡ Some (constant_symbol symbols n)
@@ -159,6 +197,9 @@ module _ (made : List Made) (is_proof : IsProof made) (xs before rest : List Ite
       says-none (operator k j) s f g = absurd (cc)
       says-none (constant k a) s f g = absurd (cc)
       says-none (defined_constant k a t) s f g = absurd (cc)
+      says-none (type_operator names c u j one) s f g = absurd (cc)
+      says-none (type_abstraction names c u j one) s f g = absurd (cc)
+      says-none (type_representation names c u j one) s f g = absurd (cc)
       says-none (unproved r) s f g = absurd (cc)
       says-none (step kind js premises given r) s f g = absurd (cc)
 
@@ -183,4 +224,4 @@ module _ (made : List Made) (is_proof : IsProof made) (xs before rest : List Ite
           (omega (arith, ninety_five)) in
           ap (λ o. either_number o (symbol_number m (constant_name n))) none
           ∙ item-number symbols made is_proof before order-before names z i (constant_name n) (definition is_name) is_named
-      go (HasItemName.of_symbol (IsSymbolName.an_operator told a f is among g w)) = let h : None ≡ Some n = sym (ap constant_named g) ∙ e in absurd (cc)
+      go (HasItemName.of_symbol (IsSymbolName.an_operator told a f j one is among g w)) = let h : None ≡ Some n = sym (ap constant_named g) ∙ e in absurd (cc)

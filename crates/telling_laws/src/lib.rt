@@ -11,14 +11,14 @@
 //! | `ItemNames` | the names of a module's items: no other item could have that of a symbol's |
 //! | `DeclaredNumbers` | which number a name has among what is declared so far |
 //! | `MadeInOrder` | the items of a run in the order in which they were made, and those of them that its module has |
-//! | `HeldItems` | what is declared of some items holds them |
 //! | `ToldKeys` | each operator and each constant among the items so far is told |
 //! | `NextTells` | what asks for nothing but the items so far is told |
 //! | `NextSteps` | what the next step is in the module, and that its premises are kept with it |
 //! | `NextItems` | what the next step and the next symbol add to the module |
+//! | `NextDefinitions` | what the next type definition adds, and that its premise is kept with it |
 #![tactic(auto)]
 
-ghost use Rattle.telling_laws.specs.Making.{NextTells, NextFollows, NextMade, NextPremises, ItemsGrow, ItemsStay, KeptStays, OthersGo, NextStepKept, NextStepGone, NextSymbolKept, NextSymbolGone, SoundCarried};
+ghost use Rattle.telling_laws.specs.Making.{NextTells, NextFollows, NextMade, NextPremises, ItemsGrow, ItemsStay, KeptStays, OthersGo, NextStepKept, NextStepGone, NextSymbolKept, NextSymbolGone, NextDefinitionKept, NextDefinitionGone, NextDefinition, SoundCarried};
 
 /// What is declared so far of the module of a run that is sound and has names tells the symbol of each operator and each constant that the
 /// next item mentions, and declares each such constant at its generic type, of which the constant's type is an instance.
@@ -80,6 +80,21 @@ pub fn next_symbol_kept()
 /// Another content of a symbol adds nothing.
 pub fn next_symbol_gone()
     ensures { NextSymbolGone }
+{}
+
+/// A content of a type definition that is kept adds to the module its item, the next one.
+pub fn next_definition_kept()
+    ensures { NextDefinitionKept }
+{}
+
+/// Another content of a type definition adds nothing.
+pub fn next_definition_gone()
+    ensures { NextDefinitionGone }
+{}
+
+/// The premise of a type definition is what an earlier step says, and is kept where a content of the definition is.
+pub fn next_definition()
+    ensures { NextDefinition }
 {}
 
 /// The module of a run that is sound is shaped, well typed and priced, and each export is what an item says.

@@ -192,7 +192,7 @@ distinct_after before (d ∷ ds) h n = subst AreDistinct (append_assoc before (d
 signature_distinct : AreDistinct signature
 signature_distinct =
     distinct_after [] signature (record { each = λ k s below within. absurd (omega arith) })
-    (refl, (refl, (refl, (refl, (refl, (refl, (refl, (refl, (refl, (refl, (refl, (refl, (refl, tt)))))))))))))
+    (refl, (refl, (refl, (refl, (refl, (refl, (refl, (refl, (refl, (refl, (refl, (refl, (refl, (refl, (refl, (refl, (refl, (refl, tt))))))))))))))))))
 
 -- a place is the first of its name
 first_place : (ds : List Declaration) (s : ℕ) → AreDistinct ds → s < length ds → position (λ d. bytes_eq d.name (get_or ds s no_declaration).name) ds ≡ Some s
@@ -243,7 +243,7 @@ signature_plain = (
                       safe_plain (codes "app_thm") refl refl,
                       (
                         safe_plain (codes "prop_ext") refl refl,
-                        (safe_plain (codes "eq_mp") refl refl, tt),
+                        (safe_plain (codes "eq_mp") refl refl, (safe_plain (codes "sub") refl refl, (safe_plain (codes "sub_abs") refl refl, (safe_plain (codes "sub_rep") refl refl, (safe_plain (codes "sub_abs_rep") refl refl, (safe_plain (codes "sub_rep_abs") refl refl, tt)))))),
                       ),
                     ),
                   ),
