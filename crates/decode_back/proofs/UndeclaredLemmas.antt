@@ -1,5 +1,6 @@
 -- A symbol past those of a module stands for nothing.
-use Rattle.std.proofs.Common.{◌≡◌, ◌≤◌, ◌⊎◌, inl, inr, ℕ, zero, suc, ◌+◌, List, [], ◌∷◌, ◌++◌, length, Option, Some, None, slice_get, refl, sym, ap, ◌∙◌, arith}
+use Rattle.std.proofs.Common.{◌≡◌, ◌≤◌, ◌⊎◌, inl, inr, ℕ, ◌+◌, List, ◌++◌, length, length-append, Option, Some, None, sym, ap, ◌∙◌, arith}
+use Rattle.std.proofs.lemmas.Option.{slice_get_past}
 use Rattle.std.specs.Option.{option_map}
 use Rattle.hol_spec.specs.Names.{Name}
 use Rattle.hol_spec.specs.ClosedForm.{ClosedType}
@@ -14,14 +15,9 @@ use Rattle.decode_laws.specs.OptionLaws.{Some-or_None}
 use Rattle.decode_laws.specs.SymbolLaws.{operator_at-is}
 use Rattle.decode_laws.specs.ConstantLaws.{constant_at-is}
 
-past : {A : Type 0} (xs : List A) (i : ℕ) → length xs ≤ i → slice_get xs i ≡ None
-past [] i l = refl
-past (x ∷ xs) zero l = absurd (omega (arith, l))
-past (x ∷ xs) (suc i) l = past xs i (omega (arith, l))
-
 module _ (d : List Declaration) (s : ℕ) (l : length (signature ++ d) ≤ s) where
   no_declaration : symbol_declaration d s ≡ None
-  no_declaration = past (signature ++ d) s l
+  no_declaration = slice_get_past (signature ++ d) s l
 
   no_type : symbol_type d s ≡ None
   no_type = ap (option_map (λ (x : Declaration). x.ty)) no_declaration
@@ -29,8 +25,8 @@ module _ (d : List Declaration) (s : ℕ) (l : length (signature ++ d) ≤ s) wh
   typeless : (A : Tree) → symbol_type d s ≡ Some A → ⊥
   typeless A e = let f : ◌≡◌ {A = Option Tree} None (Some A) = sym no_type ∙ e in cc
 
-  long : length (signature ++ d) ≡ 13 + length d
-  long = omega arith
+  long : length (signature ++ d) ≡ length signature + length d
+  long = length-append signature d
 
   no_operator : (n : Name) (k : ℕ) → MeansOperator d s n k → ⊥
   no_operator n k (operators.MeansOperator.arrow e) = let m = long in omega (arith, e, l, m)

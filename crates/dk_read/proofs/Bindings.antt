@@ -1,5 +1,5 @@
 -- Names where a binder opens and where it closes, and where a declaration ends.
-use Rattle.std.proofs.Common.{◌≡◌, ℕ, suc, ◌-◌, ◌<◌, ◌≤◌, ◌+◌, refl, sym, ap, subst, ◌∙◌, Bool, true, false, cond, List, [], ◌∷◌, ◌++◌, length, map, reverse, take, slice_get, length-append, append_assoc, Option, None, Some, position, arith}
+use Rattle.std.proofs.Common.{◌≡◌, ℕ, suc, ◌-◌, ◌<◌, ◌≤◌, ◌+◌, refl, sym, ap, subst, ◌∙◌, Bool, true, false, cond, List, [], ◌∷◌, ◌++◌, length, reverse, take, slice_get, append_assoc, Option, None, Some, position, arith}
 use Rattle.std.specs.Prelude.{if◌then◌else◌, IsFalse, option_map}
 use Rattle.std.specs.List.{list_any}
 use Rattle.std.specs.Str.{bytes_eq}
@@ -14,9 +14,8 @@ use Rattle.lp_spec.specs.Reading.{Scope}
 use Rattle.lp_spec.specs.ReadingFaults as reading
 use Rattle.lp_term.specs.declared.LpId.{LpId}
 use Rattle.lp_term.specs.TableLaws.{Keeps-refl}
-use Rattle.holide_sig.specs.declared.decls.Decl.{Decl}
 use Rattle.holide_sig.specs.declared.module.Module.{Module}
-use Rattle.holide_sig.specs.Modules.{declaration_in, declarations_of, IsHeld}
+use Rattle.holide_sig.specs.Modules.{declarations_of, IsHeld}
 use Rattle.dk_read.specs.declared.terms.Meaning.{Meaning}
 use Rattle.dk_read.specs.declared.terms.Meaning.TheVariants as meaning
 use Rattle.dk_read.specs.declared.terms.Frame.{Frame}
@@ -201,14 +200,6 @@ module _ (m m2 : Module) (ns ms : List Named) (z : ℕ) (vs : Atoms) (b : ℕ) (
         few = k.few;
         atoms = subst (λ t. AreAtoms t vs) (sym table) k.atoms;
       }
-
-decls_length : (ts : List Tree) (ds : List Decl) → length (map (declaration_in ts) ds) ≡ length ds
-decls_length ts [] = refl
-decls_length ts (d ∷ ds) = ap suc (decls_length ts ds)
-
--- how many symbols a module has
-pub symbols_length : (m : Module) → length (signature ++ declarations_of m) ≡ 13 + length m.decls
-symbols_length m = omega (arith, length-append signature (declarations_of m), decls_length m.table m.decls)
 
 -- the frames of a list that gets one more, or loses its last
 pub reverse_last : (fs : List Frame) (f : Frame) → reverse (fs ++ f ∷ []) ≡ f ∷ reverse fs

@@ -1,5 +1,6 @@
 -- How a text is read to its end.
 use Rattle.std.proofs.Common.{◌≡◌, ℕ, zero, suc, ◌+◌, ◌-◌, ◌==◌, Bool, true, ◌<◌, ◌≤◌, refl, sym, ap, subst, ◌∙◌, List, [], ◌∷◌, ◌++◌, length, take, drop, nat_le, if◌then◌else◌, false, append_assoc, length-append, Option, None, Some, Err, arith}
+use Rattle.std.proofs.lemmas.Bool.{ltb-true}
 use Rattle.std.proofs.lemmas.List.{append-nil}
 use Rattle.std.proofs.lemmas.Grind.{common_steps}
 use Rattle.lp_spec.specs.Modules.{Declaration}
@@ -197,12 +198,13 @@ some_left zero xs h = h
 some_left (suc n) [] h = absurd (omega arith)
 some_left (suc n) (x ∷ xs) h = some_left n xs (omega (arith, h))
 
-prelude_length : length prelude ≡ 832
-prelude_length = refl
+-- a place within it fits 64 bits
+prelude-short : length prelude < 18446744073709551616
+prelude-short = ltb-true (length prelude) 18446744073709551616 refl
 
 pub opening_ends : (r : Reading) (n : ℕ) (text : List ℕ) → r.progress ≡ reading.Opening n (drop n prelude) → r.fault ≡ None → n < length prelude → IsFed r text → Refuses (reading.answer_within r.limit text) n kind.NoPrelude
 opening_ends r n text p f h fed =
-    let w : n < 18446744073709551616 = omega (arith, h, prelude_length) in
+    let w : n < 18446744073709551616 = omega (arith, h, prelude-short) in
     let going = subst (λ o. fed_with o r text) f fed in
     subst (λ a. Refuses a n kind.NoPrelude) (sym (within_answer r.limit text going.1 ∙ ap reading.read_end (sym going.0 ∙ p))) (ends_early n (drop n prelude) (some_left n prelude h) w)
 

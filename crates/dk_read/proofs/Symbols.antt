@@ -27,21 +27,18 @@ use Rattle.dk_read.proofs.Bindings.{position_last}
 pub nameless_keeps : (ns ms : List Named) (n : ℕ) → naming.Keeps ns ms → IsNameless ns n → IsNameless ms n
 nameless_keeps ns ms n k h = (omega (arith, k.longer, h.0), k.stays n h.0 ∙ h.1)
 
-module _ (k : ℕ) (few : k < 13) where
-  signature_longer : k < length signature
-  signature_longer = few
-
+module _ (k : ℕ) (few : k < length signature) where
   abbrev next : Declaration
   next = get_or signature k (symbol [] SortType)
 
   next_name : symbol_name [] k ≡ next.name
-  next_name = ap (λ o. option_map_or (λ (d : Declaration). d.name) o []) (slice_get-get_or signature k (symbol [] SortType) signature_longer)
+  next_name = ap (λ o. option_map_or (λ (d : Declaration). d.name) o []) (slice_get-get_or signature k (symbol [] SortType) few)
 
   one_more : (x : List ℕ) → bound (take (k + 1) signature) [] x ≡ first_meaning (bound (take k signature) [] x) (if bytes_eq next.name x then meaning.Symbol k else meaning.Nothing)
   one_more x =
-      ap (λ l. bound l [] x) (take_more signature k (symbol [] SortType) signature_longer)
+      ap (λ l. bound l [] x) (take_more signature k (symbol [] SortType) few)
       ∙ position_last (λ d. bytes_eq d.name x) (take k signature) next
-      ∙ ap (λ n. first_meaning (bound (take k signature) [] x) (if bytes_eq next.name x then meaning.Symbol n else meaning.Nothing)) (length-take-le k signature (omega (arith, signature_longer)))
+      ∙ ap (λ n. first_meaning (bound (take k signature) [] x) (if bytes_eq next.name x then meaning.Symbol n else meaning.Nothing)) (length-take-le k signature (omega (arith, few)))
 
   first_put : (v : Meaning) (x : List ℕ) (name : List ℕ) (t : Bool) → bytes_eq x name ≡ t → (t ≡ true → v ≡ meaning.Nothing) → (if t then meaning.Symbol k else v) ≡ first_meaning v (if t then meaning.Symbol k else meaning.Nothing)
   first_put meaning.Nothing x name true e h = refl
@@ -91,7 +88,7 @@ no_node (suc count) zero id e = absurd (cc)
 no_node (suc count) (suc n) id e = no_node count n id e
 
 -- a reading before the first token
-pub first_reading : (p : Parser) → IsHeld p.module → IsModule (before p) → before p ≡ [] → IsNameless p.names p.nameless → HasSymbols p.names 13 → p.frames.items ≡ [] → p.atoms.variables.items ≡ [] → p.atoms.symbols.items ≡ replicate 13 None → p.binders ≡ 0 → p.head ≡ head.TypeOf Symbol p.nameless → p.state ≡ state.Between → IsReading p
+pub first_reading : (p : Parser) → IsHeld p.module → IsModule (before p) → before p ≡ [] → IsNameless p.names p.nameless → HasSymbols p.names (length signature) → p.frames.items ≡ [] → p.atoms.variables.items ≡ [] → p.atoms.symbols.items ≡ replicate (length signature) None → p.binders ≡ 0 → p.head ≡ head.TypeOf Symbol p.nameless → p.state ≡ state.Between → IsReading p
 first_reading p held is none nameless symbols frames variables names binders h s =
     let open_none : reverse p.frames.items ≡ [] = ap reverse frames in
     let known : IsStateKnown p p.state = subst (IsStateKnown p) (sym s) frames in
@@ -105,6 +102,6 @@ first_reading p held is none nameless symbols frames variables names binders h s
       empty = nameless;
       depth = binders;
       few = omega (arith, binders);
-      atoms = (subst (AreOf Var p.module.table) (sym variables) (λ n id e. absurd (cc)), subst (AreOfSymbols p.module.table) (sym names) (λ n id e. absurd (no_node 13 n id e)));
+      atoms = (subst (AreOf Var p.module.table) (sym variables) (λ n id e. absurd (cc)), subst (AreOfSymbols p.module.table) (sym names) (λ n id e. absurd (no_node (length signature) n id e)));
     } in
     record { ready = record { sound = subst (IsSoundIn p.module p.names p.nameless p.atoms p.binders p.head) (sym open_none) base; known = known }; ordered = ordered }

@@ -1,5 +1,5 @@
 //! The reading of tokens: each leads from one state to the next.
-ghost use Rattle.lp_spec.specs.Modules.{symbol_name};
+ghost use Rattle.lp_spec.specs.Modules.{signature, symbol_name};
 ghost use Rattle.std.specs.Prelude.{ℕ, ◌≡◌, ◌<◌, ◌+◌, ◌++◌, [], ◌∷◌, length, slice_get, None, Some, IfOk, IfSome, IfNone, OnOk, IfErr};
 ghost use Rattle.lp_spec.specs.ModuleOrder.{MayFollow};
 ghost use Rattle.lp_spec.specs.Trees.{Var, Sym};
@@ -741,7 +741,7 @@ impl Parser {
 fn first_names(alloc: Global, empty: &Module) -> Result<(Names, usize), Memory>
     requires none { declarations_of empty.now ≡ [] }
     ensures nameless { IfOk result (λ r. IsNameless r.0 r.1) }
-    ensures symbols { IfOk result (λ r. HasSymbols r.0 13) }
+    ensures symbols { IfOk result (λ r. HasSymbols r.0 (length signature)) }
 {
     let mut names = Names::new(alloc);
     match add_first(&mut names, empty) {
@@ -758,7 +758,7 @@ fn add_first(names: &mut Names, empty: &Module) -> Result<usize, Memory>
     requires fresh { names.old ≡ [] }
     requires none { declarations_of empty.now ≡ [] }
     ensures nameless { IfOk result (IsNameless names.new) }
-    ensures symbols { OnOk result (HasSymbols names.new 13) }
+    ensures symbols { OnOk result (HasSymbols names.new (length signature)) }
 {
     let nameless = names.number(b"")?;
     for symbol in 0..SIGNATURE {
@@ -769,7 +769,7 @@ fn add_first(names: &mut Names, empty: &Module) -> Result<usize, Memory>
 
 // One more symbol of the signature.
 fn add_symbol(names: &mut Names, name: &[u8], symbol: usize) -> Result<(), Memory>
-    requires name { (symbol < 13) × (name.now ≡ symbol_name [] symbol) }
+    requires name { (symbol < length signature) × (name.now ≡ symbol_name [] symbol) }
     ensures nameless { OnOk result ((n : ℕ) → IsNameless names.old n → IsNameless names.new n) }
     ensures symbols { OnOk result (HasSymbols names.old symbol → HasSymbols names.new (symbol + 1)) }
 {

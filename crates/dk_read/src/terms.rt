@@ -1,5 +1,6 @@
 //! What a reading is in, by numbers of the table's trees and of the names that it has met.
-ghost use Rattle.std.specs.Prelude.{◌≡◌, [], ◌∷◌, ◌++◌, None, Some, replicate, slice_get, slice_set, unwrap_or, IfOk, OnOk};
+ghost use Rattle.std.specs.Prelude.{◌≡◌, [], ◌∷◌, ◌++◌, length, None, Some, replicate, slice_get, slice_set, unwrap_or, IfOk, OnOk};
+ghost use Rattle.lp_spec.specs.Modules.{signature};
 
 use bridge_base::Memory;
 use holide_sig::{Form, SIGNATURE};
@@ -27,7 +28,7 @@ impl Atoms {
     /// No node. There is a place for each symbol of the signature.
     pub(crate) fn new(alloc: Global) -> Result<Atoms, Memory>
         ensures variables { IfOk result (λ a. a.variables.items ≡ []) }
-        ensures symbols { IfOk result (λ a. a.symbols.items ≡ replicate 13 None) }
+        ensures symbols { IfOk result (λ a. a.symbols.items ≡ replicate (length signature) None) }
     {
         Ok(Atoms {
             variables: Vec::new(alloc),

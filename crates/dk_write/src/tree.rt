@@ -200,7 +200,7 @@ fn write_frame<S: Sink, const MOST: usize>(
 fn symbol_name(source: &Module, symbol: usize) -> &[u8]
     ensures { result.now ≡ name_of (declarations_of source.now) symbol }
 {
-    if symbol < SIGNATURE || symbol - SIGNATURE < source.decls.len() {
+    if symbol < SIGNATURE + source.decls.len() {
         source.symbol_name(symbol)
     } else {
         b""

@@ -1,11 +1,10 @@
 -- What a declaration more does to the words for modules.
-use Rattle.std.proofs.Common.{◌≡◌, ℕ, ◌+◌, ◌≤◌, Bool, true, false, refl, sym, ap, subst, ◌∙◌, arith, List, [], ◌∷◌, ◌++◌, length, map, position, Some, None, append_assoc, zero, suc}
+use Rattle.std.proofs.Common.{◌≡◌, ℕ, ◌+◌, Bool, true, false, refl, sym, ap, subst, ◌∙◌, arith, List, [], ◌∷◌, ◌++◌, length, map, position, Some, None, append_assoc}
 use Rattle.std.proofs.lemmas.List.{append-nil}
-use Rattle.std.specs.Prelude.{◌||◌, ◌-◌, option_map, slice_get, Result, Ok, Err, OnOk, OnErr}
+use Rattle.std.specs.Prelude.{◌||◌, option_map, Result, Ok, Err, OnOk, OnErr}
 use Rattle.std.specs.List.{list_any}
 use Rattle.std.specs.Str.{bytes_eq}
 use Rattle.std.proofs.lemmas.List.Folds.{list_any-append}
-use Rattle.std.proofs.lemmas.Option.{same_Some}
 use Rattle.lp_spec.specs.Trees.{Tree}
 use Rattle.lp_spec.specs.Modules.{Declaration, signature}
 use Rattle.lp_spec.specs.ModuleOrder.{MayFollow, AreDeclared, IsModule, is_declared}
@@ -57,22 +56,6 @@ module _ (ts : List Tree) (name : List ℕ) (ds : List Decl) where
       position-first (λ d. bytes_eq d.name name) (before ++ map (declaration_in ts) ds)
       ∙ first-append-None (λ d. bytes_eq d.name name) before (map (declaration_in ts) ds) (sym (position-first (λ d. bytes_eq d.name name) before) ∙ sym e)
       ∙ ap (option_map (λ n. length before + n)) (first-map (λ d. bytes_eq d.name name) (declaration_in ts) ds ∙ sym (position-first (λ d. bytes_eq d.name name) ds))
-
-pub slice_get-map : {X Y : Type 0} (f : X → Y) (xs : List X) (i : ℕ) (x : X) → slice_get xs i ≡ Some x → slice_get (map f xs) i ≡ Some (f x)
-slice_get-map f [] i x e = absurd (cc)
-slice_get-map f (y ∷ ys) zero x e = ap Some (ap f (same_Some _ _ e))
-slice_get-map f (y ∷ ys) (suc i) x e = slice_get-map f ys i x e
-
-pub slice_get-behind : {X : Type 0} (xs ys : List X) (i j : ℕ) → length xs + j ≡ i → slice_get (xs ++ ys) i ≡ slice_get ys j
-slice_get-behind [] ys i j e = ap (slice_get ys) (let h : i ≡ j = omega arith in h)
-slice_get-behind (x ∷ xs) ys zero j e = absurd (omega arith)
-slice_get-behind (x ∷ xs) ys (suc i) j e = slice_get-behind xs ys i j (omega arith)
-
--- the declaration at a place behind a first part
-pub declared_at : (before : List Declaration) (ts : List Tree) (ds : List Decl) (s : ℕ) (d : Decl) → length before ≤ s → slice_get ds (s - length before) ≡ Some d
-    → slice_get (before ++ map (declaration_in ts) ds) s ≡ Some (declaration_in ts d)
-declared_at before ts ds s d h e =
-    slice_get-behind before (map (declaration_in ts) ds) s (s - length before) (omega arith) ∙ slice_get-map (declaration_in ts) ds (s - length before) d e
 
 -- after a push that may have failed
 module _ (m : Module) (decls : List Decl) (d : Decl) {E : Type 0} (result : Result (Unit {0}) E) where

@@ -1,15 +1,16 @@
 -- What follows from the words for modules.
-use Rattle.std.proofs.Common.{◌≡◌, ℕ, zero, suc, ◌<◌, Bool, true, false, refl, sym, ap, subst, ◌∙◌, arith, List, [], ◌∷◌, ◌++◌, length, map, Option, None, Some, position, get_or}
+use Rattle.std.proofs.Common.{◌≡◌, ℕ, zero, suc, ◌+◌, ◌-◌, ◌<◌, ◌≤◌, Bool, true, false, refl, sym, ap, subst, ◌∙◌, arith, List, [], ◌∷◌, ◌++◌, length, length-append, map, Option, None, Some, position, get_or}
 use Rattle.std.specs.List.{list_any}
 use Rattle.std.specs.Str.{bytes_eq}
 use Rattle.std.specs.Option.{option_map_or}
 use Rattle.std.proofs.lemmas.List.Quantifiers.{position-Some}
-use Rattle.std.proofs.lemmas.Option.{slice_get-get_or, same_Some}
+use Rattle.std.proofs.lemmas.List.{length-map}
+use Rattle.std.proofs.lemmas.Option.{slice_get-get_or, slice_get-map, slice_get_past, same_Some}
 use Rattle.std.specs.Cmp.Lexicographic.{same_text}
 use Rattle.std.specs.Prelude.{◌||◌, IsFalse, option_map, slice_get}
 use Rattle.bridge_base.specs.Binding.{Pairwise}
 use Rattle.lp_spec.specs.Trees.{Tree, SortType}
-use Rattle.lp_spec.specs.Modules.{Declaration, signature, symbol, symbol_name}
+use Rattle.lp_spec.specs.Modules.{Declaration, signature, symbol, symbol_declaration, symbol_name}
 use Rattle.lp_spec.specs.ModuleOrder.{is_declared}
 use Rattle.lp_spec.specs.Text.{prelude}
 use Rattle.lp_term.specs.declared.LpId.{LpId}
@@ -70,6 +71,26 @@ map-Keeps k (d ∷ ds) h = cc (declaration_in-Keeps k d h.0, map-Keeps k ds h.1)
 
 pub declarations_of-Keeps : (m : Module) (new : List Tree) → Keeps m.table new → IsHeld m → declarations_of (record { table = new; decls = m.decls }) ≡ declarations_of m
 declarations_of-Keeps m new k h = map-Keeps k m.decls h.decls
+
+slice_get-behind : {X : Type 0} (xs ys : List X) (i j : ℕ) → length xs + j ≡ i → slice_get (xs ++ ys) i ≡ slice_get ys j
+slice_get-behind [] ys i j e = ap (slice_get ys) (let h : i ≡ j = omega arith in h)
+slice_get-behind (x ∷ xs) ys zero j e = absurd (omega arith)
+slice_get-behind (x ∷ xs) ys (suc i) j e = slice_get-behind xs ys i j (omega arith)
+
+-- a symbol behind the signature is that of the declaration at its place
+pub symbol_declaration-behind : (ts : List Tree) (ds : List Decl) (s : ℕ) → length signature ≤ s
+    → symbol_declaration (map (declaration_in ts) ds) s ≡ option_map (declaration_in ts) (slice_get ds (s - length signature))
+symbol_declaration-behind ts ds s h =
+    slice_get-behind signature (map (declaration_in ts) ds) s (s - length signature) (omega (arith, h))
+    ∙ slice_get-map (declaration_in ts) ds (s - length signature)
+
+-- how many symbols a module has
+pub symbols-length : (ts : List Tree) (ds : List Decl) → length (signature ++ map (declaration_in ts) ds) ≡ length signature + length ds
+symbols-length ts ds = length-append signature (map (declaration_in ts) ds) ∙ ap (λ n. length signature + n) (length-map ds (declaration_in ts))
+
+-- a symbol beyond them has no declaration
+pub symbol_declaration-beyond : (ts : List Tree) (ds : List Decl) (s : ℕ) → length signature + length ds ≤ s → symbol_declaration (map (declaration_in ts) ds) s ≡ None
+symbol_declaration-beyond ts ds s h = slice_get_past (signature ++ map (declaration_in ts) ds) s (omega (arith, symbols-length ts ds, h))
 
 module _ {X : Type 0} (p : X → Bool) where
   none_cons : (x : X) (xs : List X) (b : Bool) → p x ≡ b → position p (x ∷ xs) ≡ None → (p x ≡ false) × (position p xs ≡ None)

@@ -23,7 +23,7 @@ symbol_number declarations name = position (λ d. bytes_eq d.name name) (signatu
 
 -- the numbers at which the types of the signature's symbols stand in the table of every module, in the signature's order
 abbrev pub signature_ids : List ℕ
-signature_ids = 0 ∷ 1 ∷ 1 ∷ 15 ∷ 16 ∷ 21 ∷ 25 ∷ 27 ∷ 34 ∷ 59 ∷ 83 ∷ 95 ∷ 103 ∷ []
+signature_ids = 0 ∷ 1 ∷ 1 ∷ 15 ∷ 16 ∷ 21 ∷ 25 ∷ 27 ∷ 34 ∷ 59 ∷ 83 ∷ 95 ∷ 103 ∷ 110 ∷ 122 ∷ 129 ∷ 155 ∷ 169 ∷ []
 
 -- the body's number, where there is one, is of the table
 abbrev pub IsBodyKnown : List Tree → Option LpId → Type 0

@@ -31,7 +31,7 @@ impl Module {
         ensures is_module { IfOk result (λ m. IsModule (declarations_of m)) }
     {
         let mut table = LpTable::new(alloc);
-        add_nodes(&mut table, &NODES)?;
+        add_nodes(&mut table, NODES)?;
         Ok(Module {
             table,
             decls: Decls::new(alloc),

@@ -10,7 +10,7 @@ use bridge_base::Memory;
 use lp_term::{LpId, LpNode, LpTable};
 
 /// How many symbols the signature declares.
-pub const SIGNATURE: usize = 13;
+pub const SIGNATURE: usize = NAMES.len();
 
 /// The bytes with which the text of every module begins.
 pub const PRELUDE: &[u8] = b"type : Type.
@@ -27,10 +27,15 @@ fun_ext : a : type -> b : type -> f : term (arr a b) -> g : term (arr a b) -> (x
 app_thm : a : type -> b : type -> f : term (arr a b) -> g : term (arr a b) -> x : term a -> y : term a -> proof (eq (arr a b) f g) -> proof (eq a x y) -> proof (eq b (f x) (g y)).
 prop_ext : p : term bool -> q : term bool -> (proof p -> proof q) -> (proof q -> proof p) -> proof (eq bool p q).
 eq_mp : p : term bool -> q : term bool -> proof (eq bool p q) -> proof p -> proof q.
+sub : a : type -> p : term (arr a bool) -> w : term a -> proof (p w) -> type.
+sub_abs : a : type -> p : term (arr a bool) -> w : term a -> h : proof (p w) -> term (arr a (sub a p w h)).
+sub_rep : a : type -> p : term (arr a bool) -> w : term a -> h : proof (p w) -> term (arr (sub a p w h) a).
+sub_abs_rep : a : type -> p : term (arr a bool) -> w : term a -> h : proof (p w) -> x : term (sub a p w h) -> proof (eq (sub a p w h) (sub_abs a p w h (sub_rep a p w h x)) x).
+sub_rep_abs : a : type -> p : term (arr a bool) -> w : term a -> h : proof (p w) -> x : term a -> proof (eq bool (eq a (sub_rep a p w h (sub_abs a p w h x)) x) (p x)).
 ";
 
 // The names of the signature's symbols, in its order.
-const NAMES: [&[u8]; SIGNATURE] = [
+const NAMES: &[&[u8]] = &[
     b"type",
     b"bool",
     b"ind",
@@ -44,13 +49,20 @@ const NAMES: [&[u8]; SIGNATURE] = [
     b"app_thm",
     b"prop_ext",
     b"eq_mp",
+    b"sub",
+    b"sub_abs",
+    b"sub_rep",
+    b"sub_abs_rep",
+    b"sub_rep_abs",
 ];
 
 // The numbers of the types of the signature's symbols among `NODES`.
-const TYPES: [usize; SIGNATURE] = [0, 1, 1, 15, 16, 21, 25, 27, 34, 59, 83, 95, 103];
+const TYPES: &[usize] = &[
+    0, 1, 1, 15, 16, 21, 25, 27, 34, 59, 83, 95, 103, 110, 122, 129, 155, 169,
+];
 
 // What the types of the signature's symbols consist of, each tree after its parts and none twice.
-pub(crate) const NODES: [LpNode; 104] = [
+pub(crate) const NODES: &[LpNode] = &[
     LpNode::SortType,
     LpNode::Sym(0),
     LpNode::Sym(1),
@@ -165,11 +177,82 @@ pub(crate) const NODES: [LpNode; 104] = [
     LpNode::Pi(LpId(98), LpId(100)),
     LpNode::Pi(LpId(26), LpId(101)),
     LpNode::Pi(LpId(26), LpId(102)),
+    // sub
+    LpNode::App(LpId(4), LpId(18)),
+    LpNode::App(LpId(4), LpId(8)),
+    LpNode::App(LpId(6), LpId(43)),
+    LpNode::Pi(LpId(106), LpId(1)),
+    LpNode::Pi(LpId(105), LpId(107)),
+    LpNode::Pi(LpId(104), LpId(108)),
+    LpNode::Pi(LpId(1), LpId(109)),
+    // sub_abs
+    LpNode::Sym(13),
+    LpNode::App(LpId(111), LpId(10)),
+    LpNode::App(LpId(112), LpId(9)),
+    LpNode::App(LpId(113), LpId(8)),
+    LpNode::App(LpId(114), LpId(7)),
+    LpNode::App(LpId(3), LpId(10)),
+    LpNode::App(LpId(116), LpId(115)),
+    LpNode::App(LpId(4), LpId(117)),
+    LpNode::Pi(LpId(106), LpId(118)),
+    LpNode::Pi(LpId(105), LpId(119)),
+    LpNode::Pi(LpId(104), LpId(120)),
+    LpNode::Pi(LpId(1), LpId(121)),
+    // sub_rep
+    LpNode::App(LpId(3), LpId(115)),
+    LpNode::App(LpId(123), LpId(10)),
+    LpNode::App(LpId(4), LpId(124)),
+    LpNode::Pi(LpId(106), LpId(125)),
+    LpNode::Pi(LpId(105), LpId(126)),
+    LpNode::Pi(LpId(104), LpId(127)),
+    LpNode::Pi(LpId(1), LpId(128)),
+    // sub_abs_rep
+    LpNode::App(LpId(4), LpId(115)),
+    LpNode::App(LpId(111), LpId(11)),
+    LpNode::App(LpId(131), LpId(10)),
+    LpNode::App(LpId(132), LpId(9)),
+    LpNode::App(LpId(133), LpId(8)),
+    LpNode::Sym(14),
+    LpNode::App(LpId(135), LpId(11)),
+    LpNode::App(LpId(136), LpId(10)),
+    LpNode::App(LpId(137), LpId(9)),
+    LpNode::App(LpId(138), LpId(8)),
+    LpNode::Sym(15),
+    LpNode::App(LpId(140), LpId(11)),
+    LpNode::App(LpId(141), LpId(10)),
+    LpNode::App(LpId(142), LpId(9)),
+    LpNode::App(LpId(143), LpId(8)),
+    LpNode::App(LpId(144), LpId(7)),
+    LpNode::App(LpId(139), LpId(145)),
+    LpNode::App(LpId(5), LpId(134)),
+    LpNode::App(LpId(147), LpId(146)),
+    LpNode::App(LpId(148), LpId(7)),
+    LpNode::App(LpId(6), LpId(149)),
+    LpNode::Pi(LpId(130), LpId(150)),
+    LpNode::Pi(LpId(106), LpId(151)),
+    LpNode::Pi(LpId(105), LpId(152)),
+    LpNode::Pi(LpId(104), LpId(153)),
+    LpNode::Pi(LpId(1), LpId(154)),
+    // sub_rep_abs
+    LpNode::App(LpId(139), LpId(7)),
+    LpNode::App(LpId(144), LpId(156)),
+    LpNode::App(LpId(5), LpId(11)),
+    LpNode::App(LpId(158), LpId(157)),
+    LpNode::App(LpId(159), LpId(7)),
+    LpNode::App(LpId(10), LpId(7)),
+    LpNode::App(LpId(88), LpId(160)),
+    LpNode::App(LpId(162), LpId(161)),
+    LpNode::App(LpId(6), LpId(163)),
+    LpNode::Pi(LpId(41), LpId(164)),
+    LpNode::Pi(LpId(106), LpId(165)),
+    LpNode::Pi(LpId(105), LpId(166)),
+    LpNode::Pi(LpId(104), LpId(167)),
+    LpNode::Pi(LpId(1), LpId(168)),
 ];
 
 /// The name of a symbol of the signature.
 pub(crate) fn signature_name(symbol: usize) -> &'static [u8]
-    requires { symbol < 13 }
+    requires { symbol < length signature }
     ensures { result.now ≡ symbol_name [] symbol }
 {
     NAMES[symbol]
@@ -179,7 +262,7 @@ pub(crate) fn signature_name(symbol: usize) -> &'static [u8]
 pub(crate) fn signature_symbol(name: &[u8]) -> Option<usize>
     ensures { result ≡ position (λ d. bytes_eq d.name name.now) signature }
 {
-    place_of(&NAMES, name)
+    place_of(NAMES, name)
 }
 
 // The first place of a name among some names.
@@ -191,7 +274,7 @@ fn place_of(names: &[&[u8]], name: &[u8]) -> Option<usize>
 
 /// The number at which the type of a symbol of the signature stands.
 pub(crate) fn signature_type(symbol: usize) -> LpId
-    requires { symbol < 13 }
+    requires { symbol < length signature }
     ensures { slice_get signature_ids symbol ≡ Some result.0 }
 {
     LpId(TYPES[symbol])

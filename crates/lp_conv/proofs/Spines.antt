@@ -1,13 +1,13 @@
 -- Spines: a head and its arguments, the first on top.
-use Rattle.std.proofs.Common.{◌≡◌, refl, sym, ap, ◌∙◌, subst, ℕ, suc, ◌-◌, ◌<◌, ◌≤◌, arith, length, map, List, [], ◌∷◌, ◌++◌, Option, Some, None}
+use Rattle.std.proofs.Common.{◌≡◌, refl, sym, ap, ◌∙◌, subst, ℕ, zero, suc, ◌+◌, ◌-◌, ◌<◌, ◌≤◌, arith, length, map, List, [], ◌∷◌, ◌++◌, Option, Some, None}
 use Rattle.std.specs.Prelude.{slice_get, option_map, option_and_then, IfOk, Result, Ok, Err}
 use Rattle.lp_spec.specs.declared.form.Form.{Form}
 use Rattle.lp_spec.specs.declared.form.Form.TheVariants.{Symbol, Def, Thm}
 use Rattle.lp_spec.specs.Conversion.{symbol_definition, definition_of}
 use Rattle.holide_sig.specs.declared.decls.Decl.{Decl}
-use Rattle.holide_sig.specs.ModuleLaws.{AreDeclsKnown-slice_get}
+use Rattle.holide_sig.specs.ModuleLaws.{AreDeclsKnown-slice_get, symbol_declaration-behind, symbol_declaration-beyond}
 use Rattle.lp_spec.specs.Trees.{Tree, Sym, App, Lam, Pi, lift, put, put_all}
-use Rattle.lp_spec.specs.Modules.{applied}
+use Rattle.lp_spec.specs.Modules.{Declaration, signature, applied}
 use Rattle.lp_term.specs.declared.LpId.{LpId}
 use Rattle.lp_term.specs.Tables.{tree_at, trees_at, AreKnown, Stays, Holds}
 use Rattle.lp_term.specs.TableLaws.{Holds-tree_at, tree_at-Stays, Stays-trans}
@@ -21,7 +21,6 @@ use Rattle.lp_conv.specs.Heads.{beta_of, functions_of}
 use Rattle.lp_conv.specs.GrowthLaws.{trees_at-Stays, AreKnown-Keeps}
 use Rattle.lp_conv.specs.GrowthLaws.{Grows-trans, IsHeld-Grows}
 use Rattle.std.proofs.Math.Path.{ap₂}
-use Rattle.std.proofs.lemmas.Option.{slice_get-map}
 
 -- what the walk to the head of a spine keeps
 pub record IsSpine (from : Module) (id : LpId) (m : Module) (head : LpId) (args : List LpId) : Type 0 where
@@ -68,11 +67,10 @@ beta-applied from m k body x made whole all rest g e known h is =
 
 -- a definition's body by its number
 module _ (ts : List Tree) (decls : List Decl) where
-  definition-is : (s : ℕ) (d : Decl) → 13 ≤ s → slice_get decls (s - 13) ≡ Some d → symbol_definition (map (declaration_in ts) decls) s ≡ definition_of d.form (option_map (λ id. tree_at ts id.0) d.body)
+  definition-is : (s : ℕ) (d : Decl) → length signature ≤ s → slice_get decls (s - length signature) ≡ Some d
+      → symbol_definition (map (declaration_in ts) decls) s ≡ definition_of d.form (option_map (λ id. tree_at ts id.0) d.body)
   definition-is s d le at =
-      let k : s ≡ suc (suc (suc (suc (suc (suc (suc (suc (suc (suc (suc (suc (suc (s - 13))))))))))))) = omega (arith, le) in
-      let m = map (declaration_in ts) decls in
-      ap (symbol_definition m) k ∙ ap (option_and_then (λ d. definition_of d.form d.body)) (slice_get-map (declaration_in ts) decls (s - 13) ∙ ap (option_map (declaration_in ts)) at)
+      ap (option_and_then (λ d. definition_of d.form d.body)) (symbol_declaration-behind ts decls s le ∙ ap (option_map (declaration_in ts)) at)
 
   if-known : (o : Option LpId) → IsBodyKnown ts o → IsKnownIf ts o
   if-known None h = tt
@@ -85,16 +83,30 @@ module _ (ts : List Tree) (decls : List Decl) where
   pub body-known : (s : ℕ) (d : Decl) → AreDeclsKnown ts decls → slice_get decls s ≡ Some d → IsKnownIf ts d.body
   body-known s d h at = if-known d.body (AreDeclsKnown-slice_get ts decls s d h at).body
 
-  pub body-is : (s : ℕ) (d : Decl) → 13 ≤ s → slice_get decls (s - 13) ≡ Some d → d.form ≡ Def → tree_if ts d.body ≡ symbol_definition (map (declaration_in ts) decls) s
+  pub body-is : (s : ℕ) (d : Decl) → length signature ≤ s → slice_get decls (s - length signature) ≡ Some d → d.form ≡ Def → tree_if ts d.body ≡ symbol_definition (map (declaration_in ts) decls) s
   body-is s d le at e = if-is d.body ∙ sym (definition-is s d le at ∙ ap (λ f. definition_of f (option_map (λ id. tree_at ts id.0) d.body)) e)
+
+  -- none beyond the declarations
+  pub beyond-none : (s : ℕ) → length signature + length decls ≤ s → None ≡ symbol_definition (map (declaration_in ts) decls) s
+  beyond-none s h = sym (ap (option_and_then (λ d. definition_of d.form d.body)) (symbol_declaration-beyond ts decls s h))
 
   none-of : (f : Form) (o : Option Tree) → (f ≡ Def → ⊥) → None ≡ definition_of f o
   none-of Symbol o h = refl
   none-of Def o h = absurd (h refl)
   none-of Thm o h = refl
 
-  pub no-body : (s : ℕ) (d : Decl) → 13 ≤ s → slice_get decls (s - 13) ≡ Some d → (d.form ≡ Def → ⊥) → None ≡ symbol_definition (map (declaration_in ts) decls) s
+  pub no-body : (s : ℕ) (d : Decl) → length signature ≤ s → slice_get decls (s - length signature) ≡ Some d → (d.form ≡ Def → ⊥) → None ≡ symbol_definition (map (declaration_in ts) decls) s
   no-body s d le at h = none-of d.form _ h ∙ sym (definition-is s d le at)
+
+none-within : (before after : List Declaration) (s : ℕ) → map (λ d. definition_of d.form d.body) before ≡ map (λ d. None) before → s < length before
+    → None ≡ option_and_then (λ d. definition_of d.form d.body) (slice_get (before ++ after) s)
+none-within [] after s e l = absurd (omega arith)
+none-within (d ∷ ds) after zero e l = let h : None ≡ definition_of d.form d.body = cc in h
+none-within (d ∷ ds) after (suc s) e l = let h : map (λ d. definition_of d.form d.body) ds ≡ map (λ d. None) ds = cc in none-within ds after s h (omega arith)
+
+-- no symbol of the signature stands for a body
+pub signature-none : (m : List Declaration) (s : ℕ) → s < length signature → None ≡ symbol_definition m s
+signature-none m s l = none-within signature m s refl l
 
 -- what the walk through a definition's abstractions over `type` keeps
 pub record IsGiven (from : Module) (id : LpId) (all : List LpId) (m : Module) (before : List LpId) (body : LpId) (rest : List LpId) : Type 0 where

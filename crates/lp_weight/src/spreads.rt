@@ -112,7 +112,7 @@ fn symbol_type(base: &Module, symbol: usize) -> Option<LpId>
     ensures known { IfSome result (λ id. id.0 < length base.now.table) }
     ensures is { option_map (λ id. tree_at base.now.table id.0) result ≡ type_of_symbol (declarations_of base.now) symbol }
 {
-    if symbol < SIGNATURE || symbol - SIGNATURE < base.decls.len() {
+    if symbol < SIGNATURE + base.decls.len() {
         Some(base.symbol_type(symbol))
     } else {
         None

@@ -18,13 +18,13 @@ abbrev module_of_u : List Declaration
 module_of_u = symbol (input_constant_name (codes "u" ∷ [])) (Pi types (term_of (Var 0))) ∷ []
 
 abbrev symbols_of_u : Symbols
-symbols_of_u = record { operator = λ n k. 0; constant = λ n. 13; generic = λ n. variable (codes "A" ∷ []) }
+symbols_of_u = record { operator = λ n k. 0; constant = λ n. 18; generic = λ n. variable (codes "A" ∷ []) }
 
 -- u (\y. x), with u : (bool -> bool) -> bool
 abbrev term_of_u : Term
 term_of_u = app (constant (codes "u" ∷ []) (function (function bool bool) bool)) (lam bool (free (codes "x" ∷ []) bool))
 
-named : told_constant module_of_u (codes "u" ∷ []) ≡ Some 13
+named : told_constant module_of_u (codes "u" ∷ []) ≡ Some 18
 named = refl
 
 tells-bool : TellsType module_of_u symbols_of_u bool
@@ -40,7 +40,7 @@ tells : TellsTerm module_of_u symbols_of_u term_of_u
 tells = (tells-u, (tells-bool, tells-bool))
 
 -- i_u (arr (arr bool bool) bool) (v1 : term bool => v0), under the binder of x
-tree : term_tree symbols_of_u (told symbols_of_u [] (((codes "x" ∷ [], bool), Var 0) ∷ [])) term_of_u ≡ App (App (Sym 13) (arr_of (arr_of bools bools) bools)) (Lam (term_of bools) (Var 1))
+tree : term_tree symbols_of_u (told symbols_of_u [] (((codes "x" ∷ [], bool), Var 0) ∷ [])) term_of_u ≡ App (App (Sym 18) (arr_of (arr_of bools bools) bools)) (Lam (term_of bools) (Var 1))
 tree = refl
 
 -- |- u (\y. x)
@@ -55,5 +55,5 @@ tells-closed : TellsClosed module_of_u symbols_of_u sequent_of_u (closed_form se
 tells-closed = record { is_sequent = sequent-u; hypotheses = tt; conclusion = tells; closed = refl }
 
 -- v0 : term bool -> proof (i_u (arr (arr bool bool) bool) (v1 : term bool => v0))
-product : sequent_tree symbols_of_u sequent_of_u ≡ Pi (term_of bools) (proof_of (App (App (Sym 13) (arr_of (arr_of bools bools) bools)) (Lam (term_of bools) (Var 1))))
+product : sequent_tree symbols_of_u sequent_of_u ≡ Pi (term_of bools) (proof_of (App (App (Sym 18) (arr_of (arr_of bools bools) bools)) (Lam (term_of bools) (Var 1))))
 product = refl

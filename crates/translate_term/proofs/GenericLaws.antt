@@ -1,12 +1,12 @@
 -- The generic type of a symbol, read back from its declared type.
 use Rattle.std.proofs.Common.{◌≡◌, ℕ, zero, suc, ◌+◌, ◌<◌, sym, ap, subst, ◌∙◌, arith, List, [], ◌∷◌, ◌++◌, length, map, append_assoc, Some, Bool, true, false}
-use Rattle.std.specs.Prelude.{replicate}
+use Rattle.std.specs.Prelude.{replicate, option_map, slice_get}
 use Rattle.hol_spec.specs.Types.{HolType, type_variables}
 use Rattle.hol_spec.specs.Substitution.{type_arguments}
 use Rattle.hol_laws.specs.Members.{map-twice}
 use Rattle.lp_spec.specs.Trees.{Tree, Sym, App, Pi}
 use Rattle.lp_spec.specs.Substitution.{sub}
-use Rattle.lp_spec.specs.Modules.{Declaration, symbol_type, products, types, term_of}
+use Rattle.lp_spec.specs.Modules.{Declaration, signature, symbol_type, products, types, term_of}
 use Rattle.lp_term.specs.declared.LpId.{LpId}
 use Rattle.lp_term.specs.Tables.{tree_at, trees_at, Holds}
 use Rattle.lp_term.specs.TableLaws.{Holds-tree_at}
@@ -107,3 +107,12 @@ arguments_step trees want items id left after goal is e h =
 
 pub arguments_end : (trees : List Tree) (want : ℕ → Tree) (items : List LpId) (left : ℕ) (goal : List Tree) → left ≡ 0 → trees_at trees items ++ map want (below left) ≡ goal → trees_at trees items ≡ goal
 arguments_end trees want items left goal e h = sym (append-none (trees_at trees items)) ∙ ap (λ k. trees_at trees items ++ map want (below k)) (sym e) ∙ h
+
+-- a symbol with a type is one of the module
+get-below : {A B : Type 0} (f : A → B) (xs : List A) (k : ℕ) (y : B) → option_map f (slice_get xs k) ≡ Some y → k < length xs
+get-below f [] k y e = absurd (cc)
+get-below f (x ∷ xs) zero y e = omega arith
+get-below f (x ∷ xs) (suc k) y e = let l = get-below f xs k y e in omega (arith, l)
+
+pub symbol-within : (m : List Declaration) (s : ℕ) (A : Tree) → symbol_type m s ≡ Some A → s < length (signature ++ m)
+symbol-within m s A e = get-below (λ (d : Declaration). d.ty) (signature ++ m) s A e

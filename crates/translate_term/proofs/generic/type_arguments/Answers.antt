@@ -1,6 +1,6 @@
 use Rattle.std.proofs.Common.{arith, ◌∙◌, ◌-◌}
 use Rattle.translate_term.proofs.MadeLaws.{is_some-unless, if_some}
-use Rattle.translate_term.proofs.GenericLaws.{pattern-fits, pattern-mentions, arguments-are, arguments_step, arguments_end}
+use Rattle.translate_term.proofs.GenericLaws.{symbol-within, pattern-fits, pattern-mentions, arguments-are, arguments_step, arguments_end}
 use Rattle.translate_term.proofs.TreeLists.{AreKnown-more}
 use Rattle.translate_term.proofs.generic.type_arguments.Goals as goal
 
@@ -31,3 +31,6 @@ returns-clause-arguments c =
     λ symbols scope generic t h.
     arguments_end _ _ c.loop-left.args.items c.loop-left.left _ (omega (arith, c.loop-left-test.false)) (c.loop-left.invariant.2 symbols scope generic t h)
     ∙ arguments-are _ _ symbols scope generic t _ c.args.ty h _ c.generic_type-count.result.1 c.generic_type-count.ensures.is
+
+pub generic_type-count-requires-clause-declared : goal.generic_type-count-requires-clause-declared
+generic_type-count-requires-clause-declared c = let i = c.requires.instance in symbol-within _ c.args.symbol _ i.4.declared

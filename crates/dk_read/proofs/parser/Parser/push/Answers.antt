@@ -1,12 +1,14 @@
-use Rattle.std.proofs.Common.{◌≡◌, ◌+◌, [], sym, ap, subst, reverse, arith}
+use Rattle.std.proofs.Common.{◌≡◌, ◌+◌, [], length, sym, ap, subst, reverse, arith}
 use Rattle.std.specs.Prelude.{Vec}
 use Rattle.std.specs.declared.alloc.Global.{Global}
 use Rattle.lp_spec.specs.Trees.{Var}
 use Rattle.lp_term.specs.declared.LpId.{LpId}
+use Rattle.lp_spec.specs.Modules.{signature}
 use Rattle.holide_sig.specs.Modules.{declaration_in}
+use Rattle.holide_sig.specs.ModuleLaws.{symbols-length}
 use Rattle.dk_read.specs.States.{AreOf, AreOfSymbols, AreAtoms, IsSoundIn}
 use Rattle.dk_read.proofs.Grown.{AreOfSymbols-push, with_atoms}
-use Rattle.dk_read.proofs.Bindings.{declared_in, symbols_length}
+use Rattle.dk_read.proofs.Bindings.{declared_in}
 use Rattle.dk_read.proofs.parser.Parser.push.Goals as goal
 
 pub returns-clause-ready : goal.returns-clause-ready
@@ -15,7 +17,7 @@ returns-clause-ready c =
     let none : reverse p.frames.items ≡ [] = ap reverse c.requires.closed in
     let e = c.in_ok-push.ensures in
     let declared = declared_in p.module c.push.new.self p.names c.put.new.self p.nameless p.atoms p.binders p.head c.put.ensures.keeps c.args.name (declaration_in p.module.table c.args.decl) c.requires.name.1
-    e.table e.held (e.is_module c.requires.sound.is_module) e.declared c.requires.follows.new_name (13 + c.len-symbol.result) (omega (arith, symbols_length p.module, c.len-symbol.ensures.count)) c.put.ensures.puts
+    e.table e.held (e.is_module c.requires.sound.is_module) e.declared c.requires.follows.new_name (length signature + c.len-symbol.result) (omega (arith, symbols-length p.module.table p.module.decls, c.len-symbol.ensures.count)) c.put.ensures.puts
     (subst (IsSoundIn p.module p.names p.nameless p.atoms p.binders p.head) none c.requires.sound) in
     let place = c.in_ok-make_place.ensures in
     let trees = c.push.new.self.table in
