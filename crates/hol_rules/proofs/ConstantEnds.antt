@@ -105,6 +105,7 @@ module _ (made : List Made) (n : Name) (t : Term) (a : HolType) (typed : HasType
         rule = rule.Rule.define_const (defining (symbols_of made) n t a typed none) refl;
         defined = (subst (λ ds. IsAmong ds d) (sym (definitions_of-append made (Made.symbol (Symbol.defined d) ∷ []))) (among-last (definitions_of made) d), tt {0});
       };
+      law = tt;
     }
 
 -- what a judgement of numbers refuses
@@ -123,7 +124,7 @@ const-newly trees symbols after xs n own t h e is known none =
       known = known;
       numbered = (tt {0}, tt {0});
       count = refl;
-      takes = (const-takes (symbols_at trees symbols) n t a.0 a.1 none, tt {0});
+      takes = (tt {0}, const-takes (symbols_at trees symbols) n t a.0 a.1 none, tt {0});
     }
 
 -- the equation is made after the constant

@@ -86,7 +86,7 @@ module _ (d : Variable → Option Term) where
       go (Some t) f e later =
           let a = or_parts (is_taken_constant symbols p.0) (list_any (is_taken_constant symbols) (names_of ps)) new in
           let b = and_parts (not (is_in name_eq p.0 (names_of ps))) (no_repeats name_eq (names_of ps)) apart in
-          (taking.Takes.constant a.0 (f t refl), later (symbols ++ defined (Definition.constant p.0 t) ∷ []) e (all-still-new symbols p.0 t (names_of ps) a.1 (not-true (is_in name_eq p.0 (names_of ps)) b.0)) b.1)
+          (tt {0}, taking.Takes.constant a.0 (f t refl), later (symbols ++ defined (Definition.constant p.0 t) ∷ []) e (all-still-new symbols p.0 t (names_of ps) a.1 (not-true (is_in name_eq p.0 (names_of ps)) b.0)) b.1)
 
   -- each is made under its name
   listed-made : (steps : List Step) (ps : ConstantPairs) → list_all (λ v. is_some (d v)) (variables_of ps) ≡ true → made_of (map defined (listed ps)) steps (map (λ n. one_made.Const n) (names_of ps)) ≡ map Made.symbol (map defined (listed ps))
@@ -156,4 +156,5 @@ list-follows made pairs i l typed fit = record {
   premises = sequent_at made i ∷ [];
   earlier = (premise-more made (map Made.symbol (constants_in pairs (sequent_at made i))) i l, tt {0});
   follows = record { rule = rule.Rule.define_const_list (defining (symbols_of made) pairs (sequent_at made i) typed fit) fit.list refl; defined = are-defined made (definitions_in pairs (sequent_at made i).hypotheses) };
+  law = tt;
 }

@@ -7,7 +7,7 @@ use Rattle.std.proofs.Math.Path.{ap₂}
 use Rattle.hol_spec.specs.Terms.{bound}
 use Rattle.hol_spec.specs.Sequents.{Sequent as ASequent}
 use Rattle.hol_spec.specs.Symbols.{Symbol}
-use Rattle.hol_spec.specs.Proofs.{Made, steps_of, symbols_of, sequent_at, IsStep, IsProof}
+use Rattle.hol_spec.specs.Proofs.{Made, steps_of, symbols_of, sequent_at, IsStep}
 use Rattle.hol_spec.specs.Proofs as proof
 use Rattle.hol_laws.specs.Members.{All-append}
 use Rattle.proof_laws.specs.ProofLaws.{steps_of-push, symbols_of-push}
@@ -19,7 +19,7 @@ use Rattle.sequent.specs.Sequents as numbers
 use Rattle.hol_rules.specs.declared.made.Made.{Made as OneMade}
 use Rattle.hol_rules.specs.declared.made.Made.TheVariants as one
 use Rattle.hol_rules.specs.declared.made.Step.{Step}
-use Rattle.hol_rules.specs.Views.{step_view, steps_view, step_in, made_of, made_view, first_symbol, other_symbols, constant_named, operator_named, symbol_count, IsNumbered, IsStepKnown, IsKept}
+use Rattle.hol_rules.specs.Views.{step_view, steps_view, step_in, made_of, made_view, first_symbol, other_symbols, constant_named, type_operator_made, symbol_count, IsNumbered, IsStepKnown, IsKept}
 
 -- a list without what came last
 pub take-pushed : {A : Type 0} (xs : List A) (x : A) → take (length xs) (xs ++ x ∷ []) ≡ xs
@@ -42,7 +42,7 @@ made-front symbols xs ys [] h = refl
 made-front symbols xs ys (one.InputConst n ∷ ms) h = ap (λ l. Made.symbol (Symbol.input_constant n) ∷ l) (made-front (other_symbols symbols) xs ys ms h.1)
 made-front symbols xs ys (one.InputOp n k ∷ ms) h = ap (λ l. Made.symbol (Symbol.input_operator n k) ∷ l) (made-front (other_symbols symbols) xs ys ms h.1)
 made-front symbols xs ys (one.Const n ∷ ms) h = ap (λ l. Made.symbol (constant_named n (first_symbol symbols)) ∷ l) (made-front (other_symbols symbols) xs ys ms h.1)
-made-front symbols xs ys (one.TypeOp n ∷ ms) h = ap (λ l. Made.symbol (operator_named n (first_symbol symbols)) ∷ l) (made-front (other_symbols symbols) xs ys ms h.1)
+made-front symbols xs ys (one.TypeOp n i ∷ ms) h = ap (λ l. type_operator_made n i (first_symbol symbols) ∷ l) (made-front (other_symbols symbols) xs ys ms h.1)
 made-front symbols xs ys (one.Step i ∷ ms) h = (λ t. Made.step (step_in-front xs ys i h.0 t) ∷ made-front symbols xs ys ms h.1 t)
 
 numbered-more : (n k : ℕ) → n < k → (ms : List OneMade) → AllByRecursion (IsNumbered n) ms → AllByRecursion (IsNumbered k) ms
@@ -50,7 +50,7 @@ numbered-more n k l [] h = tt
 numbered-more n k l (one.InputConst m ∷ ms) h = (tt {0}, numbered-more n k l ms h.1)
 numbered-more n k l (one.InputOp m j ∷ ms) h = (tt {0}, numbered-more n k l ms h.1)
 numbered-more n k l (one.Const m ∷ ms) h = (tt {0}, numbered-more n k l ms h.1)
-numbered-more n k l (one.TypeOp m ∷ ms) h = (tt {0}, numbered-more n k l ms h.1)
+numbered-more n k l (one.TypeOp m i ∷ ms) h = (tt {0}, numbered-more n k l ms h.1)
 numbered-more n k l (one.Step i ∷ ms) h = (omega (arith, l, h.0), numbered-more n k l ms h.1)
 
 pub symbol_count-append : (ms ns : List OneMade) → symbol_count (ms ++ ns) ≡ symbol_count ms + symbol_count ns
@@ -58,7 +58,7 @@ symbol_count-append [] ns = omega arith
 symbol_count-append (one.InputConst n ∷ ms) ns = omega (arith, symbol_count-append ms ns)
 symbol_count-append (one.InputOp n k ∷ ms) ns = omega (arith, symbol_count-append ms ns)
 symbol_count-append (one.Const n ∷ ms) ns = omega (arith, symbol_count-append ms ns)
-symbol_count-append (one.TypeOp n ∷ ms) ns = omega (arith, symbol_count-append ms ns)
+symbol_count-append (one.TypeOp n i ∷ ms) ns = omega (arith, symbol_count-append ms ns)
 symbol_count-append (one.Step i ∷ ms) ns = symbol_count-append ms ns
 
 -- what is made after all these symbols is made of further ones
@@ -72,8 +72,8 @@ made_of-append [] more steps (one.InputOp n k ∷ ms) ns e = absurd (omega (arit
 made_of-append (x ∷ xs) more steps (one.InputOp n k ∷ ms) ns e = ap (λ l. Made.symbol (Symbol.input_operator n k) ∷ l) (made_of-append xs more steps ms ns (omega (arith, e)))
 made_of-append [] more steps (one.Const n ∷ ms) ns e = absurd (omega (arith, e))
 made_of-append (x ∷ xs) more steps (one.Const n ∷ ms) ns e = ap (λ l. Made.symbol (constant_named n x) ∷ l) (made_of-append xs more steps ms ns (omega (arith, e)))
-made_of-append [] more steps (one.TypeOp n ∷ ms) ns e = absurd (omega (arith, e))
-made_of-append (x ∷ xs) more steps (one.TypeOp n ∷ ms) ns e = ap (λ l. Made.symbol (operator_named n x) ∷ l) (made_of-append xs more steps ms ns (omega (arith, e)))
+made_of-append [] more steps (one.TypeOp n i ∷ ms) ns e = absurd (omega (arith, e))
+made_of-append (x ∷ xs) more steps (one.TypeOp n i ∷ ms) ns e = ap (λ l. type_operator_made n i x ∷ l) (made_of-append xs more steps ms ns (omega (arith, e)))
 
 -- there are as many symbols as numbers of them
 pub counted-at : (trees : Trees) (symbols : List Taken) (n : ℕ) → n ≡ length symbols → n ≡ length (symbols_at trees symbols)

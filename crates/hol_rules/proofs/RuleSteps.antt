@@ -15,7 +15,7 @@ use Rattle.hol_spec.specs.Sequents.{Sequent, IsSequent}
 use Rattle.hol_spec.specs.Rules.{Parameters, Rule, nothing, derived, joined}
 use Rattle.hol_spec.specs.Rules as rule
 use Rattle.hol_spec.specs.Derivations.{definitions_used}
-use Rattle.hol_spec.specs.Proofs.{Made, Step, steps_of, sequents_of, sequent_at, definitions_of, ArePremises, IsStep, IsProof}
+use Rattle.hol_spec.specs.Proofs.{Made, Step, steps_of, sequents_of, sequent_at, definitions_of, ArePremises, IsLawOfDefinition, IsStep, IsProof}
 use Rattle.hol_spec.specs.declared.StepKind.TheVariants as by_rule
 use Rattle.proof_laws.specs.EquationLaws.{equation-sides, equation_parts-is}
 use Rattle.proof_laws.specs.ProofGrowth.{All-get, proof-sequents}
@@ -43,28 +43,31 @@ at_step m i l = from (steps_of m) i l
 pub said : (m : List Made) → IsProof m → (i : ℕ) → i < length (steps_of m) → IsSequent (sequent_at m i)
 said m p i l = All-get IsSequent (sequents_of m) i (sequent_at m i) (proof-sequents m p) (at_step m i l)
 
--- a step without premises, and on one or two
+-- a step without premises, and on one or two, that rests on no definition
 module _ (m : List Made) (x : Step) where
-  pub on_none : x.premises ≡ [] → Rule x.kind [] x.parameters x.sequent → definitions_used x.kind [] x.parameters ≡ [] → IsStep m x
-  on_none none r u = record {
+  pub on_none : x.premises ≡ [] → Rule x.kind [] x.parameters x.sequent → definitions_used x.kind [] x.parameters ≡ [] → IsLawOfDefinition m x.kind x.premises x.parameters → IsStep m x
+  on_none none r u law = record {
     premises = [];
     earlier = subst (λ ns. ArePremises (sequents_of m) ns []) (sym none) (tt {0});
     follows = record { rule = r; defined = subst (AllByRecursion (IsAmong (definitions_of m))) (sym u) (tt {0}) };
+    law = law;
   }
 
-  pub on_one : (i : ℕ) → i < length (steps_of m) → x.premises ≡ i ∷ [] → Rule x.kind (sequent_at m i ∷ []) x.parameters x.sequent → definitions_used x.kind (sequent_at m i ∷ []) x.parameters ≡ [] → IsStep m x
-  on_one i l one r u = record {
+  pub on_one : (i : ℕ) → i < length (steps_of m) → x.premises ≡ i ∷ [] → Rule x.kind (sequent_at m i ∷ []) x.parameters x.sequent → definitions_used x.kind (sequent_at m i ∷ []) x.parameters ≡ [] → IsLawOfDefinition m x.kind x.premises x.parameters → IsStep m x
+  on_one i l one r u law = record {
     premises = sequent_at m i ∷ [];
     earlier = subst (λ ns. ArePremises (sequents_of m) ns (sequent_at m i ∷ [])) (sym one) (at_step m i l, tt {0});
     follows = record { rule = r; defined = subst (AllByRecursion (IsAmong (definitions_of m))) (sym u) (tt {0}) };
+    law = law;
   }
 
   pub on_two : (i j : ℕ) → i < length (steps_of m) → j < length (steps_of m) → x.premises ≡ i ∷ j ∷ [] → Rule x.kind (sequent_at m i ∷ sequent_at m j ∷ []) x.parameters x.sequent
-      → definitions_used x.kind (sequent_at m i ∷ sequent_at m j ∷ []) x.parameters ≡ [] → IsStep m x
-  on_two i j l k two r u = record {
+      → definitions_used x.kind (sequent_at m i ∷ sequent_at m j ∷ []) x.parameters ≡ [] → IsLawOfDefinition m x.kind x.premises x.parameters → IsStep m x
+  on_two i j l k two r u law = record {
     premises = sequent_at m i ∷ sequent_at m j ∷ [];
     earlier = subst (λ ns. ArePremises (sequents_of m) ns (sequent_at m i ∷ sequent_at m j ∷ [])) (sym two) (at_step m i l, (at_step m j k, tt {0}));
     follows = record { rule = r; defined = subst (AllByRecursion (IsAmong (definitions_of m))) (sym u) (tt {0}) };
+    law = law;
   }
 
 -- a condition that holds is passed
@@ -92,17 +95,17 @@ of_type a t e = go (type_of t) e
     go (Some b) e = ap Some ((type_eq-Decides b a).0 e)
 
 pub refl-makes : (m : List Made) (t : Term) (a : HolType) → HasType t a → Makes m (refl_step t) (step_by by_rule.Refl [] (Parameters.term t) (derived [] (equation a t t)))
-refl-makes m t a h = record { is = rw h refl; follows = on_none m _ refl (rule.Rule.refl h refl) refl }
+refl-makes m t a h = record { is = rw h refl; follows = on_none m _ refl (rule.Rule.refl h refl) refl (tt {0}) }
 
 pub assume-makes : (m : List Made) (p : Term) → is_of_type bool p ≡ true → Makes m (assume_step p) (step_by by_rule.Assume [] (Parameters.term p) (derived (p ∷ []) p))
-assume-makes m p h = record { is = met _ NotBool _ h; follows = on_none m _ refl (rule.Rule.assume (of_type bool p h) refl) refl }
+assume-makes m p h = record { is = met _ NotBool _ h; follows = on_none m _ refl (rule.Rule.assume (of_type bool p h) refl) refl (tt {0}) }
 
 module _ (m : List Made) (p : IsProof m) (i : ℕ) (l : i < length (steps_of m)) (e : Equation) (parts : equation_of (sequent_at m i) ≡ Ok e) where
   first : (sequent_at m i).conclusion ≡ equation e.ty e.left e.right
   first = equation_is (sequent_at m i) e parts
 
   pub sym-makes : Makes m (sym_step m i) (step_by by_rule.Sym (i ∷ []) nothing (derived (sequent_at m i).hypotheses (equation e.ty e.right e.left)))
-  sym-makes = record { is = rw parts refl; follows = on_one m _ i l refl (rule.Rule.sym first refl) refl }
+  sym-makes = record { is = rw parts refl; follows = on_one m _ i l refl (rule.Rule.sym first refl) refl (tt {0}) }
 
   module _ (j : ℕ) (k : j < length (steps_of m)) where
     pub eq_mp-makes : (sequent_at m j).conclusion ≡ e.left → Makes m (eq_mp_step m i j) (step_by by_rule.EqMp (i ∷ j ∷ []) nothing (derived (joined (sequent_at m i).hypotheses (sequent_at m j).hypotheses) e.right))
@@ -112,7 +115,7 @@ module _ (m : List Made) (p : IsProof m) (i : ℕ) (l : i < length (steps_of m))
         let ty : e.ty ≡ bool = same_Some _ _ (sym left_type ∙ truth) in
         record {
           is = rw parts (met (term_eq (sequent_at m j).conclusion e.left) NotAlike _ ((term_eq-Decides (sequent_at m j).conclusion e.left).1 same));
-          follows = on_two m _ i j l k refl (rule.Rule.eq_mp (first ∙ ap (λ a. equation a e.left e.right) ty) same refl) refl;
+          follows = on_two m _ i j l k refl (rule.Rule.eq_mp (first ∙ ap (λ a. equation a e.left e.right) ty) same refl) refl (tt {0});
         }
 
     pub trans-makes : (f : Equation) → equation_of (sequent_at m j) ≡ Ok f → f.left ≡ e.right
@@ -124,5 +127,5 @@ module _ (m : List Made) (p : IsProof m) (i : ℕ) (l : i < length (steps_of m))
         let ty : f.ty ≡ e.ty = same_Some _ _ (sym again ∙ ap type_of same ∙ middle) in
         record {
           is = rw (parts, more) (met (term_eq f.left e.right) NotAlike _ ((term_eq-Decides f.left e.right).1 same));
-          follows = on_two m _ i j l k refl (rule.Rule.trans first (second ∙ (λ n. equation (ty n) (same n) f.right)) refl) refl;
+          follows = on_two m _ i j l k refl (rule.Rule.trans first (second ∙ (λ n. equation (ty n) (same n) f.right)) refl) refl (tt {0});
         }

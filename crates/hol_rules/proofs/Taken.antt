@@ -4,13 +4,15 @@ use Rattle.std.specs.Prelude.{◌||◌, if◌then◌else◌, is_some}
 use Rattle.std.specs.List.{list_any, AllByRecursion}
 use Rattle.std.proofs.lemmas.List.{append-nil, append_assoc, length-append, length-map}
 use Rattle.std.proofs.lemmas.Bool.{or_parts}
+use Rattle.std.proofs.Math.Path.{ap₂}
 use Rattle.hol_spec.specs.Names.{Name}
 use Rattle.hol_spec.specs.Symbols.{Symbol, operator_arity, is_input_operator, is_taken_constant, new_constant, new_operator}
 use Rattle.hol_spec.specs.Taking.{Takes}
 use Rattle.hol_spec.specs.Taking as taking
-use Rattle.hol_spec.specs.Proofs.{Made, steps_of, symbols_of, IsProof}
+use Rattle.hol_spec.specs.Proofs.{Made, steps_of, symbols_of, IsMade, IsPlain, IsProof}
 use Rattle.hol_spec.specs.Proofs as proof
 use Rattle.hol_laws.specs.Members.{All-append}
+use Rattle.proof_laws.specs.ProofGrowth.{steps_of-append, symbols_of-append}
 use Rattle.proof_laws.specs.ProofLaws.{steps_of-symbols, symbols_of-symbols}
 use Rattle.hol_term.specs.Tables.{Trees}
 use Rattle.hol_defs.specs.Symbols.{Taken, symbol_at, symbols_at, AreKnownSymbols}
@@ -78,43 +80,62 @@ module _ (trees : Trees) (symbols : List Taken) (ms : List OneMade) (n : Name) w
   pub noted-no_operator : (k : ℕ) → new_operator (symbols_at trees symbols) n k ≡ [] → ms ≡ ms ++ map (λ _. one.InputOp n k) (new_operator (symbols_at trees symbols) n k)
   noted-no_operator k none = sym (append-nil ms) ∙ ap (λ l. ms ++ map (λ _. one.InputOp n k) l) (sym none)
 
--- symbols that may be taken one after another
+-- things that may be made one after another
+abbrev AreMadeAfter : List Made → List Made → Type 0
+AreMadeAfter made [] = Unit {0}
+AreMadeAfter made (x ∷ xs) = IsMade made x × AreMadeAfter (made ++ x ∷ []) xs
+
+proof-made : (made xs : List Made) → IsProof made → AreMadeAfter made xs → IsProof (made ++ xs)
+proof-made made [] p h = subst IsProof (sym (append-nil made)) p
+proof-made made (x ∷ xs) p h = subst IsProof (append_assoc made (x ∷ []) xs) (proof-made (made ++ x ∷ []) xs (proof.Each.more x p h.0 refl) h.1)
+
+-- inputs and constants that may be taken one after another
 abbrev pub AreTakenAfter : List Symbol → List Symbol → Type 0
 AreTakenAfter symbols [] = Unit {0}
-AreTakenAfter symbols (x ∷ xs) = Takes symbols x × AreTakenAfter (symbols ++ x ∷ []) xs
+AreTakenAfter symbols (x ∷ xs) = IsPlain x × Takes symbols x × AreTakenAfter (symbols ++ x ∷ []) xs
 
-proof-taken : (made : List Made) (xs : List Symbol) → IsProof made → AreTakenAfter (symbols_of made) xs → IsProof (made ++ map Made.symbol xs)
-proof-taken made [] p h = subst IsProof (sym (append-nil made)) p
-proof-taken made (x ∷ xs) p h =
-    let own : IsProof (made ++ Made.symbol x ∷ []) = proof.Each.more (Made.symbol x) p h.0 refl in
-    subst IsProof (append_assoc made (Made.symbol x ∷ []) (map Made.symbol xs)) (proof-taken (made ++ Made.symbol x ∷ []) xs own (subst (λ ss. AreTakenAfter ss xs) (sym (symbols_of-symbols made (x ∷ []))) h.1))
+taken-made : (made : List Made) (xs : List Symbol) → AreTakenAfter (symbols_of made) xs → AreMadeAfter made (map Made.symbol xs)
+taken-made made [] h = tt
+taken-made made (x ∷ xs) h = ((h.0, h.1), taken-made (made ++ Made.symbol x ∷ []) xs (subst (λ ss. AreTakenAfter ss xs) (sym (symbols_of-symbols made (x ∷ []))) h.2))
 
 module _ (trees : Trees) (symbols : List Taken) (xs : List Step) (ms : List OneMade) {memo : ParamMemo} (h : IsKept trees symbols xs ms memo) (after : List Taken) where
   abbrev S : List Symbol
   S = symbols_at trees symbols
 
-  -- new symbols, and how they were made
-  module _ (new : List Symbol) (is : symbols_at trees after ≡ S ++ new) (ys : List OneMade) (names : made_of new (steps_view trees xs) ys ≡ map Made.symbol new) where
-    pub made_view-symbols : made_view trees after xs (ms ++ ys) ≡ made_view trees symbols xs ms ++ map Made.symbol new
-    made_view-symbols =
+  abbrev old : List Made
+  old = made_view trees symbols xs ms
+
+  -- new symbols, and what was made with them
+  module _ (new : List Symbol) (is : symbols_at trees after ≡ S ++ new) (ys : List OneMade) (things : List Made) (names : made_of new (steps_view trees xs) ys ≡ things) where
+    pub made_view-things : made_view trees after xs (ms ++ ys) ≡ old ++ things
+    made_view-things =
         ap (λ ss. made_of ss (steps_view trees xs) (ms ++ ys)) is
         ∙ made_of-append S new (steps_view trees xs) ms ys (counted-at trees symbols (symbol_count ms) h.counted)
-        ∙ ap (λ l. made_view trees symbols xs ms ++ l) names
+        ∙ ap (λ l. old ++ l) names
 
-    pub IsKept-symbols : AreKnownSymbols trees after → AllByRecursion (IsNumbered (length xs)) ys → symbol_count ys ≡ length new → AreTakenAfter S new → IsKept trees after xs (ms ++ ys) memo
-    IsKept-symbols known numbered count takes = record {
+    pub IsKept-things : AreKnownSymbols trees after → AllByRecursion (IsNumbered (length xs)) ys → symbol_count ys ≡ length new → symbols_of things ≡ new → steps_of things ≡ [] → AreMadeAfter old things → IsKept trees after xs (ms ++ ys) memo
+    IsKept-things known numbered count own none made = record {
       distinct = h.distinct;
       known = h.known;
       numbered = All-append (IsNumbered (length xs)) ms ys h.numbered numbered;
-      steps = ap steps_of made_view-symbols ∙ steps_of-symbols (made_view trees symbols xs ms) new ∙ h.steps;
+      steps = ap steps_of made_view-things ∙ steps_of-append old things ∙ ap (λ l. steps_of old ++ l) none ∙ append-nil (steps_of old) ∙ h.steps;
       counted =
           let long : length after ≡ length symbols + length new = sym (length-map after (symbol_at trees)) ∙ ap length is ∙ length-append S new ∙ ap (λ n. n + length new) (length-map symbols (symbol_at trees)) in
           omega (arith, symbol_count-append ms ys, h.counted, count, long);
-      symbols_taken = ap symbols_of made_view-symbols ∙ symbols_of-symbols (made_view trees symbols xs ms) new ∙ ap (λ l. l ++ new) h.symbols_taken ∙ sym is;
+      symbols_taken = ap symbols_of made_view-things ∙ symbols_of-append old things ∙ ap₂ (λ ss l. ss ++ l) h.symbols_taken own ∙ sym is;
       symbols_known = known;
-      proof = subst IsProof (sym made_view-symbols) (proof-taken (made_view trees symbols xs ms) new h.proof (subst (λ ss. AreTakenAfter ss new) (sym h.symbols_taken) takes));
+      proof = subst IsProof (sym made_view-things) (proof-made old things h.proof made);
       noted = h.noted;
     }
+
+  -- inputs and constants
+  module _ (new : List Symbol) (is : symbols_at trees after ≡ S ++ new) (ys : List OneMade) (names : made_of new (steps_view trees xs) ys ≡ map Made.symbol new) where
+    pub made_view-symbols : made_view trees after xs (ms ++ ys) ≡ old ++ map Made.symbol new
+    made_view-symbols = made_view-things new is ys (map Made.symbol new) names
+
+    pub IsKept-symbols : AreKnownSymbols trees after → AllByRecursion (IsNumbered (length xs)) ys → symbol_count ys ≡ length new → AreTakenAfter S new → IsKept trees after xs (ms ++ ys) memo
+    IsKept-symbols known numbered count takes =
+        IsKept-things new is ys (map Made.symbol new) names known numbered count (symbols_of-symbols [] new) (steps_of-symbols [] new) (taken-made old new (subst (λ ss. AreTakenAfter ss new) (sym h.symbols_taken) takes))
 
   -- no symbol is new
   module _ (same : symbols_at trees after ≡ S) where
@@ -129,7 +150,7 @@ module _ (trees : Trees) (symbols : List Taken) (xs : List Step) (ms : List OneM
     one_constant = ap (λ b. if b then [] else Symbol.input_constant n ∷ []) new
 
     pub IsKept-constant : AreKnownSymbols trees after → IsKept trees after xs (ms ++ one.InputConst n ∷ []) memo
-    IsKept-constant known = IsKept-symbols (Symbol.input_constant n ∷ []) (is ∙ ap (λ l. S ++ l) one_constant) (one.InputConst n ∷ []) refl known (tt {0}, tt {0}) refl (taking.Takes.input_constant new, tt {0})
+    IsKept-constant known = IsKept-symbols (Symbol.input_constant n ∷ []) (is ∙ ap (λ l. S ++ l) one_constant) (one.InputConst n ∷ []) refl known (tt {0}, tt {0}) refl (tt {0}, taking.Takes.input_constant new, tt {0})
 
     pub made_view-constant : made_view trees after xs (ms ++ one.InputConst n ∷ []) ≡ made_view trees symbols xs ms ++ map Made.symbol (new_constant (symbols_of (made_view trees symbols xs ms)) n)
     made_view-constant =
@@ -154,7 +175,7 @@ module _ (trees : Trees) (symbols : List Taken) (xs : List Step) (ms : List OneM
     pub IsKept-operator : AreKnownSymbols trees after → IsKept trees after xs (ms ++ one.InputOp n k ∷ []) memo
     IsKept-operator known =
         let parts = or_parts (is_some (operator_arity S n)) (list_any (is_input_operator n k) S) new in
-        IsKept-symbols (Symbol.input_operator n k ∷ []) (is ∙ ap (λ l. S ++ l) one_operator) (one.InputOp n k ∷ []) refl known (tt {0}, tt {0}) refl (taking.Takes.input_operator parts.0 parts.1, tt {0})
+        IsKept-symbols (Symbol.input_operator n k ∷ []) (is ∙ ap (λ l. S ++ l) one_operator) (one.InputOp n k ∷ []) refl known (tt {0}, tt {0}) refl (tt {0}, taking.Takes.input_operator parts.0 parts.1, tt {0})
 
     pub made_view-operator : made_view trees after xs (ms ++ one.InputOp n k ∷ []) ≡ made_view trees symbols xs ms ++ map Made.symbol (new_operator (symbols_of (made_view trees symbols xs ms)) n k)
     made_view-operator =

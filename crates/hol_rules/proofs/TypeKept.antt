@@ -14,10 +14,10 @@ use Rattle.hol_spec.specs.Derivations.{type_definition_in}
 use Rattle.hol_spec.specs.Primitives.{bool, function}
 use Rattle.hol_spec.specs.TypeDefinitions.{are_type_variables_of, first_law, second_law, IsTypeDefinition}
 use Rattle.hol_spec.specs.Symbols.{Symbol}
-use Rattle.hol_spec.specs.Taking.{AreNew, Takes}
+use Rattle.hol_spec.specs.Taking.{AreNew}
 use Rattle.hol_spec.specs.Taking as taking
 use Rattle.hol_spec.specs.Rules as rule
-use Rattle.hol_spec.specs.Proofs.{Made, symbols_of, steps_of, sequents_of, sequent_at, definitions_of, IsStep, IsProof}
+use Rattle.hol_spec.specs.Proofs.{Made, symbols_of, steps_of, sequents_of, sequent_at, definitions_of, IsDefinedBy, IsStep, IsProof}
 use Rattle.hol_spec.specs.declared.StepKind.{StepKind}
 use Rattle.hol_spec.specs.declared.StepKind.TheVariants.{FirstLaw, SecondLaw}
 use Rattle.article_spec.specs.Inference.{step_by}
@@ -42,12 +42,12 @@ use Rattle.hol_rules.specs.Premises.{IsNumberOf, IsStated}
 use Rattle.hol_rules.specs.Steps.{made_of_type}
 use Rattle.hol_rules.specs.Views.{step_view, made_view, IsStepKnown, IsKept}
 use Rattle.hol_rules.proofs.ClosedTerms.{closed-typed}
-use Rattle.hol_rules.proofs.Defined.{AreNewly, made_view-defined, IsKept-defined}
 use Rattle.hol_rules.proofs.Growth.{IsKept-Keeps, made_view-Keeps, step_view-Keeps, IsStepKnown-Keeps}
 use Rattle.hol_rules.proofs.Pushed.{made_view-pushed, IsKept-pushed}
 use Rattle.hol_rules.proofs.LawTrees.{own-number, own-type, number-kept, type-kept}
 use Rattle.hol_rules.proofs.RuleSteps.{at_step, said}
 use Rattle.hol_rules.proofs.SideLaws.{number_term}
+use Rattle.hol_rules.proofs.Taken.{made_view-things, IsKept-things}
 
 -- a premise stays one
 get-left : {A : Type 0} (xs ys : List A) (i : ℕ) (x : A) → slice_get xs i ≡ Some x → slice_get (xs ++ ys) i ≡ Some x
@@ -110,8 +110,8 @@ module _ (k : Kept) (proof : IsProof k.made) (names : TypeNames) (i : ℕ) (l : 
   pub type-without : IsWithoutVariables f
   type-without = closed-typed f (function c bool) h.closed predicate-type
 
-  pub type-takes : Takes (symbols_of k.made) (Symbol.defined d)
-  type-takes = taking.Takes.type_operator h.new predicate-type h.closed h.variables
+  pub type-defined : IsDefinedBy k.made names c f i
+  type-defined = record { one = one_sequent; at = at_step k.made i l; defines = definition; taken = taking.Takes.type_operator h.new predicate-type h.closed h.variables }
 
   -- the conclusion, by its number
   pub concl-term : IsTermAt k.trees parts.concl.0
@@ -120,20 +120,24 @@ module _ (k : Kept) (proof : IsProof k.made) (names : TypeNames) (i : ℕ) (l : 
   pub concl-applies : term_at k.trees parts.concl.0 ≡ app f h.witness
   concl-applies = h.concl.is ∙ h.holds
 
+  abbrev made : Made
+  made = Made.type_definition names c f i
+
   abbrev taken : List Made
-  taken = k.made ++ Made.symbol (Symbol.defined d) ∷ []
+  taken = k.made ++ made ∷ []
 
   among : IsAmong (definitions_of taken) d
-  among = subst (λ ds. IsAmong ds d) (sym (definitions_of-append k.made (Made.symbol (Symbol.defined d) ∷ []))) (among-last (definitions_of k.made) d)
+  among = subst (λ ds. IsAmong ds d) (sym (definitions_of-append k.made (made ∷ []))) (among-last (definitions_of k.made) d)
 
   premise : slice_get (sequents_of taken) i ≡ Some one_sequent
-  premise = premise-more k.made (Made.symbol (Symbol.defined d) ∷ []) i one_sequent (at_step k.made i l)
+  premise = premise-more k.made (made ∷ []) i one_sequent (at_step k.made i l)
 
   pub first-follows : IsStep taken (made_of_type names i c f).first
   first-follows = record {
     premises = one_sequent ∷ [];
     earlier = (premise, tt {0});
     follows = record { rule = rule.Rule.first_law definition refl; defined = used taken names c f h.witness one_sequent.conclusion h.holds h.typed among };
+    law = record { c = c; f = f; number = i; among = among-last k.made made; is = refl };
   }
 
   abbrev more : List Made
@@ -147,6 +151,7 @@ module _ (k : Kept) (proof : IsProof k.made) (names : TypeNames) (i : ℕ) (l : 
       rule = rule.Rule.second_law definition refl;
       defined = used more names c f h.witness one_sequent.conclusion h.holds h.typed (subst (λ es. IsAmong es d) (sym (definitions_of-append taken (Made.step (made_of_type names i c f).first ∷ []))) (among-front (definitions_of taken) [] d among));
     };
+    law = record { c = c; f = f; number = i; among = among-front taken (Made.step (made_of_type names i c f).first ∷ []) made (among-last k.made made); is = refl };
   }
 
 -- the step of a law, of what its numbers stand for
@@ -177,6 +182,9 @@ module _ (a b : Trees) (k : Keeps a b) (symbols after : List Taken) (xs : List O
   abbrev new : Symbol
   new = Symbol.defined (Definition.type_operator names whole predicate)
 
+  abbrev defined : Made
+  defined = Made.type_definition names whole predicate i
+
   abbrev old : List Made
   old = made_view a symbols xs ms
 
@@ -184,26 +192,27 @@ module _ (a b : Trees) (k : Keeps a b) (symbols after : List Taken) (xs : List O
   both = (xs ++ q.first ∷ []) ++ q.second ∷ []
 
   abbrev noted : List OneMade
-  noted = (ms ++ one.TypeOp names.operator ∷ []) ++ one.Step (length xs) ∷ []
+  noted = (ms ++ one.TypeOp names.operator i ∷ []) ++ one.Step (length xs) ∷ []
 
   stay : symbols_at a symbols ≡ symbols_at b symbols
   stay = symbols_at-Keeps k symbols h.symbols_known
 
-  newly : AreNewly b symbols after xs (one.TypeOp names.operator ∷ []) (new ∷ [])
-  newly = record {
-    is = is predicate p.witness whole (concl-applies now h.proof names i l parts p) p.typed ∙ ap (λ ss. ss ++ new ∷ []) stay;
-    names = refl;
-    known = known;
-    numbered = (tt {0}, tt {0});
-    count = refl;
-    takes = (subst (λ ss. Takes ss new) (h.symbols_taken ∙ stay) (type-takes now h.proof names i l parts p), tt {0});
-  }
+  newly : symbols_at b after ≡ symbols_at b symbols ++ new ∷ []
+  newly = is predicate p.witness whole (concl-applies now h.proof names i l parts p) p.typed ∙ ap (λ ss. ss ++ new ∷ []) stay
 
   kept : IsKept b symbols xs ms memo
   kept = IsKept-Keeps k symbols xs ms h
 
   stays : old ≡ made_view b symbols xs ms
   stays = made_view-Keeps k symbols xs ms h.symbols_known h.known
+
+  defined-view : made_view b after xs (ms ++ one.TypeOp names.operator i ∷ []) ≡ old ++ defined ∷ []
+  defined-view = made_view-things b symbols xs ms kept after (new ∷ []) newly (one.TypeOp names.operator i ∷ []) (defined ∷ []) refl ∙ ap (λ l. l ++ defined ∷ []) (sym stays)
+
+  defined-kept : IsKept b after xs (ms ++ one.TypeOp names.operator i ∷ []) memo
+  defined-kept =
+      IsKept-things b symbols xs ms kept after (new ∷ []) newly (one.TypeOp names.operator i ∷ []) (defined ∷ []) refl known (tt {0}, tt {0}) refl refl refl
+      (subst (λ m. IsDefinedBy m names whole predicate i) stays (type-defined now h.proof names i l parts p), tt {0})
 
   first-is : step_view a q.first ≡ (made_of_type names i whole predicate).first
   first-is = law_step-is a FirstLaw i names laws.first (first_law names whole) q.first q.first_law s.first
@@ -223,13 +232,13 @@ module _ (a b : Trees) (k : Keeps a b) (symbols after : List Taken) (xs : List O
   second-stays : step_view b q.second ≡ (made_of_type names i whole predicate).second
   second-stays = sym (step_view-Keeps k q.second second-known) ∙ second-is
 
-  first-view : made_view b after (xs ++ q.first ∷ []) noted ≡ (old ++ Made.symbol new ∷ []) ++ Made.step (made_of_type names i whole predicate).first ∷ []
-  first-view = made_view-defined b symbols xs ms kept after (one.TypeOp names.operator ∷ []) (new ∷ []) newly q.first ∙ (λ j. (sym stays j ++ Made.symbol new ∷ []) ++ Made.step (first-stays j) ∷ [])
+  first-view : made_view b after (xs ++ q.first ∷ []) noted ≡ (old ++ defined ∷ []) ++ Made.step (made_of_type names i whole predicate).first ∷ []
+  first-view = made_view-pushed b after xs (ms ++ one.TypeOp names.operator i ∷ []) defined-kept q.first ∙ (λ j. defined-view j ++ Made.step (first-stays j) ∷ [])
 
   first-kept : IsKept b after (xs ++ q.first ∷ []) noted memo
   first-kept =
-      IsKept-defined b symbols xs ms kept after (one.TypeOp names.operator ∷ []) (new ∷ []) newly q.first (IsStepKnown-Keeps k q.first first-known)
-      (subst (IsStep (made_view b symbols xs ms ++ Made.symbol new ∷ [])) (sym first-stays) (subst (λ m. IsStep (m ++ Made.symbol new ∷ []) (made_of_type names i whole predicate).first) stays (first-follows now h.proof names i l parts p)))
+      IsKept-pushed b after xs (ms ++ one.TypeOp names.operator i ∷ []) defined-kept q.first (IsStepKnown-Keeps k q.first first-known)
+      (subst (λ m. IsStep m (step_view b q.first)) (sym defined-view) (subst (IsStep (old ++ defined ∷ [])) (sym first-stays) (first-follows now h.proof names i l parts p)))
 
   both-view : made_view b after both (noted ++ one.Step (length (xs ++ q.first ∷ [])) ∷ []) ≡ with_type old (made_of_type names i whole predicate)
   both-view = made_view-pushed b after (xs ++ q.first ∷ []) noted first-kept q.second ∙ (λ j. first-view j ++ Made.step (second-stays j) ∷ [])
@@ -237,7 +246,7 @@ module _ (a b : Trees) (k : Keeps a b) (symbols after : List Taken) (xs : List O
   both-kept : IsKept b after both (noted ++ one.Step (length (xs ++ q.first ∷ [])) ∷ []) memo
   both-kept =
       IsKept-pushed b after (xs ++ q.first ∷ []) noted first-kept q.second (IsStepKnown-Keeps k q.second second-known)
-      (subst (λ m. IsStep m (step_view b q.second)) (sym first-view) (subst (IsStep ((old ++ Made.symbol new ∷ []) ++ Made.step (made_of_type names i whole predicate).first ∷ [])) (sym second-stays) (second-follows now h.proof names i l parts p)))
+      (subst (λ m. IsStep m (step_view b q.second)) (sym first-view) (subst (IsStep ((old ++ defined ∷ []) ++ Made.step (made_of_type names i whole predicate).first ∷ [])) (sym second-stays) (second-follows now h.proof names i l parts p)))
 
   next : length (xs ++ q.first ∷ []) ≡ length xs + 1
   next = length-append xs (q.first ∷ [])

@@ -34,7 +34,7 @@ pub record Defines (old : Kept) (symbols : List Symbol) (rule : Result Step Kind
 
 -- what was made, then a type operator, and then the steps of its laws
 abbrev pub with_type : List Made → NewType → List Made
-with_type made x = ((made ++ Made.symbol x.symbol ∷ []) ++ Made.step x.first ∷ []) ++ Made.step x.second ∷ []
+with_type made x = ((made ++ x.definition ∷ []) ++ Made.step x.first ∷ []) ++ Made.step x.second ∷ []
 
 -- The same of the definition of a type operator, which makes two steps: the answer is their numbers. Its limits are among its conditions.
 pub record DefinesType (old : Kept) (rule : Result NewType Kind) (new : Kept) (result : Result (ℕ × ℕ) Fault) : Type 0 where

@@ -5,7 +5,7 @@ use Rattle.std.specs.List.{list_all, list_any}
 use Rattle.std.specs.Option.{ok_or}
 use Rattle.bridge_base.specs.declared.faults.Kind.{Kind}
 use Rattle.bridge_base.specs.declared.faults.Kind.TheVariants.{NotBool, TypeMismatch, NotAlike, VarInHyps, NotRedex, BadSubst, NameTaken, NotClosed, ExtraTypeVars, BadDefinitionList, NotTheSequent}
-use Rattle.hol_spec.specs.Definitions.{Definition, TypeNames}
+use Rattle.hol_spec.specs.Definitions.{TypeNames}
 use Rattle.hol_spec.specs.DefinitionLists.{ConstantPairs, names_of, defining_equations, is_definition_list, constants_put}
 use Rattle.hol_spec.specs.Defining.{is_closed, has_type_variables_of}
 use Rattle.hol_spec.specs.Lists.{distinct}
@@ -16,7 +16,7 @@ use Rattle.hol_spec.specs.Primitives.{bool, function}
 use Rattle.hol_spec.specs.Types.{HolType}
 use Rattle.hol_spec.specs.Sequents.{Sequent}
 use Rattle.hol_spec.specs.Substitution.{TypePairs}
-use Rattle.hol_spec.specs.Symbols.{Symbol, is_taken_constant}
+use Rattle.hol_spec.specs.Symbols.{is_taken_constant}
 use Rattle.hol_spec.specs.Terms.{Term, Variable, app, term_eq, equation, application_type}
 use Rattle.hol_spec.specs.TermSubstitution.{TermPairs, sub}
 use Rattle.hol_spec.specs.TypeDefinitions.{first_law, second_law}
@@ -153,7 +153,7 @@ define_const_list_step made pairs i = do
 
 -- what the definition of a type operator makes: the operator with its constants, and its two laws
 pub record NewType : Type 0 where
-  pub symbol : Symbol
+  pub definition : Made
   pub first : Step
   pub second : Step
 
@@ -165,7 +165,7 @@ type_measures names c f =
 -- what is made where the predicate f says which part of the type c the new one is
 abbrev pub made_of_type : TypeNames → ℕ → HolType → Term → NewType
 made_of_type names i c f = record {
-  symbol = Symbol.defined (Definition.type_operator names c f);
+  definition = Made.type_definition names c f i;
   first = step_by by_rule.FirstLaw (i ∷ []) (Parameters.type_operator names) (first_law names c);
   second = step_by by_rule.SecondLaw (i ∷ []) (Parameters.type_operator names) (second_law names c f);
 }

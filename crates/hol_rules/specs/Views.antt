@@ -65,14 +65,15 @@ abbrev pub other_symbols : List Symbol → List Symbol
 other_symbols [] = []
 other_symbols (x ∷ xs) = xs
 
--- a constant or an operator that is defined, under this name
+-- a constant that is defined, under this name
 abbrev pub constant_named : Name → Symbol → Symbol
 constant_named n (Symbol.defined (Definition.constant m t)) = Symbol.defined (Definition.constant n t)
 constant_named n x = x
 
-abbrev pub operator_named : Name → Symbol → Symbol
-operator_named n (Symbol.defined (Definition.type_operator names c f)) = Symbol.defined (Definition.type_operator (record names { operator = n }) c f)
-operator_named n x = x
+-- the definition of a type operator under this name, from the step of this number
+abbrev pub type_operator_made : Name → ℕ → Symbol → Made
+type_operator_made n i (Symbol.defined (Definition.type_operator names c f)) = Made.type_definition (record names { operator = n }) c f i
+type_operator_made n i x = Made.symbol x
 
 -- what was made, from these symbols and steps: each symbol is the next one, each step the one with its number
 abbrev pub made_of : List Symbol → List proof.Step → List OneMade → List Made
@@ -80,7 +81,7 @@ made_of symbols steps [] = []
 made_of symbols steps (one.InputConst n ∷ ms) = Made.symbol (Symbol.input_constant n) ∷ made_of (other_symbols symbols) steps ms
 made_of symbols steps (one.InputOp n k ∷ ms) = Made.symbol (Symbol.input_operator n k) ∷ made_of (other_symbols symbols) steps ms
 made_of symbols steps (one.Const n ∷ ms) = Made.symbol (constant_named n (first_symbol symbols)) ∷ made_of (other_symbols symbols) steps ms
-made_of symbols steps (one.TypeOp n ∷ ms) = Made.symbol (operator_named n (first_symbol symbols)) ∷ made_of (other_symbols symbols) steps ms
+made_of symbols steps (one.TypeOp n i ∷ ms) = type_operator_made n i (first_symbol symbols) ∷ made_of (other_symbols symbols) steps ms
 made_of symbols steps (one.Step i ∷ ms) = Made.step (step_in steps i) ∷ made_of symbols steps ms
 
 abbrev pub made_view : Trees → List Taken → List Step → List OneMade → List Made
@@ -92,7 +93,7 @@ symbol_count [] = 0
 symbol_count (one.InputConst n ∷ ms) = suc (symbol_count ms)
 symbol_count (one.InputOp n k ∷ ms) = suc (symbol_count ms)
 symbol_count (one.Const n ∷ ms) = suc (symbol_count ms)
-symbol_count (one.TypeOp n ∷ ms) = suc (symbol_count ms)
+symbol_count (one.TypeOp n i ∷ ms) = suc (symbol_count ms)
 symbol_count (one.Step i ∷ ms) = symbol_count ms
 
 -- the numbers of a step are of the table
@@ -115,7 +116,7 @@ abbrev pub IsNumbered : ℕ → OneMade → Type 0
 IsNumbered n (one.InputConst m) = Unit {0}
 IsNumbered n (one.InputOp m k) = Unit {0}
 IsNumbered n (one.Const m) = Unit {0}
-IsNumbered n (one.TypeOp m) = Unit {0}
+IsNumbered n (one.TypeOp m i) = Unit {0}
 IsNumbered n (one.Step i) = i < n
 
 -- what is kept is a proof: its steps in order are those that were made, its symbols those that are taken, and what is

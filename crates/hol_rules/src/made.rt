@@ -56,8 +56,8 @@ pub enum Made {
     InputOp(Name, usize),
     /// A constant was defined.
     Const(Name),
-    /// A type operator was defined, with the constants to and from the new type.
-    TypeOp(Name),
+    /// A type operator was defined, with the constants to and from the new type, from the step of this number.
+    TypeOp(Name, StepId),
     /// The step of this number.
     Step(StepId),
 }

@@ -79,7 +79,8 @@ impl Proof {
         self.steps.len()
     }
 
-    /// What was made, in order: a defined symbol stands with its name, a step with its number.
+    /// What was made, in order: a defined symbol stands with its name, a type operator also with the number of the step
+    /// that it was defined from, and a step with its number.
     pub fn made(&self) -> &[Made]
         ensures { made_of (symbols_of self.now.made) (steps_of self.now.made) result.now ≡ self.now.made }
     {

@@ -257,7 +257,7 @@ fn keep_laws(
     requires application { (f : Term) × ((t : Term) × (term_at terms.old concl.0 ≡ app f t)) }
     ensures numbers { IfOk result (λ ids. (ids.0 ≡ length steps.old.items) × (ids.1 ≡ length steps.old.items + 1)) }
     ensures takes { OnOk result ((f t : Term) (c : HolType) → term_at terms.old concl.0 ≡ app f t → HasType t c → symbols_at terms.new symbols.new ≡ symbols_at terms.old symbols.old ++ Symbol.defined (Definition.type_operator (named op.now abs.now rep.now names.now) c f) ∷ []) }
-    ensures noted { OnOk result (made.new.items ≡ ((made.old.items ++ one_made.TypeOp op.now ∷ []) ++ one_made.Step (length steps.old.items) ∷ []) ++ one_made.Step (length steps.old.items + 1) ∷ []) }
+    ensures noted { OnOk result (made.new.items ≡ ((made.old.items ++ one_made.TypeOp op.now one ∷ []) ++ one_made.Step (length steps.old.items) ∷ []) ++ one_made.Step (length steps.old.items + 1) ∷ []) }
     ensures kept { OnOk result (AreLawSteps (named op.now abs.now rep.now names.now) one laws steps.old.items steps.new.items) }
     ensures untaken { OnErr result (symbols.new ≡ symbols.old) }
     ensures unnoted { OnErr result (made.new.items ≡ made.old.items) }
@@ -267,7 +267,7 @@ fn keep_laws(
 {
     let (first, second) = push_laws(alloc, steps, op, abs, rep, names, one, laws)?;
     match take_type(
-        symbols, terms, made, op, abs, rep, names, concl, first, second,
+        symbols, terms, made, op, abs, rep, names, one, concl, first, second,
     ) {
         Ok(()) => Ok((first, second)),
         Err(_) => {
@@ -277,8 +277,8 @@ fn keep_laws(
     }
 }
 
-// The type operator is taken, and noted as made before two steps. Room is made first, so that nothing fails once it is
-// taken.
+// The type operator is taken, and noted as made from a step before two others. Room is made first, so that nothing fails once
+// it is taken.
 fn take_type(
     symbols: &mut Symbols,
     terms: &mut TermTable,
@@ -287,6 +287,7 @@ fn take_type(
     abs: &Name,
     rep: &Name,
     names: &[Name],
+    one: StepId,
     concl: TermId,
     first: StepId,
     second: StepId,
@@ -295,7 +296,7 @@ fn take_type(
     requires term { IsTermAt terms.old concl.0 }
     requires application { (f : Term) × ((t : Term) × (term_at terms.old concl.0 ≡ app f t)) }
     ensures takes { OnOk result ((f t : Term) (c : HolType) → term_at terms.old concl.0 ≡ app f t → HasType t c → symbols_at terms.new symbols.new ≡ symbols_at terms.old symbols.old ++ Symbol.defined (Definition.type_operator (named op.now abs.now rep.now names.now) c f) ∷ []) }
-    ensures noted { OnOk result (made.new.items ≡ ((made.old.items ++ one_made.TypeOp op.now ∷ []) ++ one_made.Step first ∷ []) ++ one_made.Step second ∷ []) }
+    ensures noted { OnOk result (made.new.items ≡ ((made.old.items ++ one_made.TypeOp op.now one ∷ []) ++ one_made.Step first ∷ []) ++ one_made.Step second ∷ []) }
     ensures unchanged { OnErr result (symbols.new ≡ symbols.old) }
     ensures unnoted { OnErr result (made.new.items ≡ made.old.items) }
     ensures known { AreKnownSymbols terms.new symbols.new }
@@ -305,7 +306,7 @@ fn take_type(
     let own = op.clone()?;
     match symbols.define_op(terms, op, abs, rep, names, concl) {
         Ok(()) => {
-            made.push_reserved(Made::TypeOp(own));
+            made.push_reserved(Made::TypeOp(own, one));
             made.push_reserved(Made::Step(first));
             made.push_reserved(Made::Step(second));
             Ok(())

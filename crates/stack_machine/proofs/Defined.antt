@@ -1,5 +1,5 @@
 -- What the words that define answer, by what their definitions make.
-use Rattle.std.proofs.Common.{◌≡◌, ℕ, ◌+◌, ◌<◌, refl, sym, ap, subst, ◌∙◌, arith, List, [], ◌∷◌, ◌++◌, length, append_assoc, map, drop, Result, Ok, Err, IfOk, IfErr, OnErr}
+use Rattle.std.proofs.Common.{◌≡◌, ℕ, ◌+◌, ◌<◌, refl, sym, ap, subst, ◌∙◌, arith, List, [], ◌∷◌, ◌++◌, length, append-nil, append_assoc, map, drop, Result, Ok, Err, IfOk, IfErr, OnErr}
 use Rattle.std.specs.Result.{IsErrAnd}
 use Rattle.std.proofs.Math.Path.{ap₂}
 use Rattle.hol_spec.specs.Names.{Name}
@@ -14,6 +14,7 @@ use Rattle.article_spec.specs.State as state
 use Rattle.article_spec.specs.Results.{◌>>=◌, Fails}
 use Rattle.article_spec.specs.Changes.{with_theorem}
 use Rattle.article_spec.specs.Step.{obey}
+use Rattle.proof_laws.specs.ProofGrowth.{steps_of-append}
 use Rattle.proof_laws.specs.ProofLaws.{steps_of-push, steps_of-symbols}
 use Rattle.compose.specs.declared.pool.Said.{Said}
 use Rattle.compose.specs.Pools.{steps_in}
@@ -35,14 +36,19 @@ use Rattle.stack_machine.specs.Inferring.{Infers, InfersTwo, defining, defining_
 use Rattle.stack_machine.proofs.Passing.{IfOk-map, IfErr-map, OnErr-map}
 use Rattle.stack_machine.proofs.Obeyed.{failed, placed}
 use Rattle.stack_machine.proofs.Inferred.{limited-Ok, limited-fails}
+use Rattle.stack_machine.proofs.DefiningRules.{DefinesNoStep}
 use Rattle.stack_machine.proofs.Stores.{IsFront-same, IsMore, IsStore-more, Grows-more}
 
--- as many steps where symbols are taken, and one more where a step is made
-count-defined : (made : List Made) (symbols : List Symbol) (x : Step) → length (steps_of ((made ++ map Made.symbol symbols) ++ Made.step x ∷ [])) ≡ length (steps_of made) + 1
-count-defined made symbols x = count-step (made ++ map Made.symbol symbols) x ∙ ap (λ n. n + 1) (count-symbols made symbols)
+-- as many steps where no step is made, and one more where a step is made then
+module _ (made things : List Made) (none : steps_of things ≡ []) where
+  steps_of-same : steps_of (made ++ things) ≡ steps_of made
+  steps_of-same = steps_of-append made things ∙ ap (λ xs. steps_of made ++ xs) none ∙ append-nil (steps_of made)
 
-steps_of-defined : (made : List Made) (symbols : List Symbol) (x : Step) → steps_of ((made ++ map Made.symbol symbols) ++ Made.step x ∷ []) ≡ steps_of made ++ x ∷ []
-steps_of-defined made symbols x = steps_of-push (made ++ map Made.symbol symbols) x ∙ ap (λ xs. xs ++ x ∷ []) (steps_of-symbols made symbols)
+  count-defined : (x : Step) → length (steps_of ((made ++ things) ++ Made.step x ∷ [])) ≡ length (steps_of made) + 1
+  count-defined x = count-step (made ++ things) x ∙ ap (λ xs. length xs + 1) steps_of-same
+
+  steps_of-defined : (x : Step) → steps_of ((made ++ things) ++ Made.step x ∷ []) ≡ steps_of made ++ x ∷ []
+  steps_of-defined x = steps_of-push (made ++ things) x ∙ ap (λ xs. xs ++ x ∷ []) steps_of-same
 
 -- a definition takes symbols and makes the next step, or nothing
 module _ {a b : Kept} {symbols : List Symbol} {rule : Result Step Kind} {r : Result ℕ Fault} (h : Defines a symbols rule b r) where
@@ -51,11 +57,11 @@ module _ {a b : Kept} {symbols : List Symbol} {rule : Result Step Kind} {r : Res
     where
       by_answer : (r : Result ℕ Fault) → IfOk r (λ i. (i ≡ proof.step_count a) × ((x : Step) × (limited rule ≡ Ok x) × (b.made ≡ (a.made ++ map Made.symbol symbols) ++ Made.step x ∷ []))) → OnErr r (b.made ≡ a.made)
           → IsFront (steps_of a.made) (steps_of b.made)
-      by_answer (Ok i) c u = record { more = c.1.0 ∷ []; is = ap steps_of c.1.2 ∙ steps_of-defined a.made symbols c.1.0 }
+      by_answer (Ok i) c u = record { more = c.1.0 ∷ []; is = ap steps_of c.1.2 ∙ steps_of-defined a.made (map Made.symbol symbols) (steps_of-symbols [] symbols) c.1.0 }
       by_answer (Err x) c u = IsFront-same (ap steps_of u)
 
   pub Defines-made : IfOk r (λ i. i < length (steps_of b.made))
-  Defines-made = IfOk-map r _ _ h.concluded (λ i c. let e = ap (λ made. length (steps_of made)) c.1.2 ∙ count-defined a.made symbols c.1.0 in omega (arith, e, c.0))
+  Defines-made = IfOk-map r _ _ h.concluded (λ i c. let e = ap (λ made. length (steps_of made)) c.1.2 ∙ count-defined a.made (map Made.symbol symbols) (steps_of-symbols [] symbols) c.1.0 in omega (arith, e, c.0))
 
   module _ (us ws : List ℕ) (p : ℕ) where
     abbrev before : State → List state.Object → State
@@ -90,30 +96,30 @@ rule-fails f rule Memory h = tt
 rule-fails f rule (Refused k) h = rw h refl
 
 -- the definition of a type operator takes it and makes two steps, or nothing
-module _ {a b : Kept} {rule : Result NewType Kind} {r : Result (ℕ × ℕ) Fault} (h : DefinesType a rule b r) where
-  two_steps : (x : NewType) → b.made ≡ ((a.made ++ Made.symbol x.symbol ∷ []) ++ Made.step x.first ∷ []) ++ Made.step x.second ∷ [] → length (steps_of b.made) ≡ length (steps_of a.made) + 2
-  two_steps x e =
-      let second = ap (λ made. length (steps_of made)) e ∙ count-step ((a.made ++ Made.symbol x.symbol ∷ []) ++ Made.step x.first ∷ []) x.second in
-      let first = count-defined a.made (x.symbol ∷ []) x.first in
+module _ {a b : Kept} {rule : Result NewType Kind} {r : Result (ℕ × ℕ) Fault} (h : DefinesType a rule b r) (d : DefinesNoStep rule) where
+  two_steps : (x : NewType) → rule ≡ Ok x → b.made ≡ ((a.made ++ x.definition ∷ []) ++ Made.step x.first ∷ []) ++ Made.step x.second ∷ [] → length (steps_of b.made) ≡ length (steps_of a.made) + 2
+  two_steps x is e =
+      let second = ap (λ made. length (steps_of made)) e ∙ count-step ((a.made ++ x.definition ∷ []) ++ Made.step x.first ∷ []) x.second in
+      let first = count-defined a.made (x.definition ∷ []) (d.none x is) x.first in
       omega (arith, second, first)
 
   pub DefinesType-more : IsMore a b
   DefinesType-more = record { trees = h.keeps; steps = by_answer r h.concluded h.unchanged }
     where
       by_answer : (r : Result (ℕ × ℕ) Fault)
-          → IfOk r (λ ids. (ids.0 ≡ proof.step_count a) × ((ids.1 ≡ proof.step_count a + 1) × ((x : NewType) × (rule ≡ Ok x) × (b.made ≡ ((a.made ++ Made.symbol x.symbol ∷ []) ++ Made.step x.first ∷ []) ++ Made.step x.second ∷ []))))
+          → IfOk r (λ ids. (ids.0 ≡ proof.step_count a) × ((ids.1 ≡ proof.step_count a + 1) × ((x : NewType) × (rule ≡ Ok x) × (b.made ≡ ((a.made ++ x.definition ∷ []) ++ Made.step x.first ∷ []) ++ Made.step x.second ∷ []))))
           → OnErr r (b.made ≡ a.made) → IsFront (steps_of a.made) (steps_of b.made)
       by_answer (Ok ids) c u =
           let x = c.1.1.0 in
           record {
             more = x.first ∷ x.second ∷ [];
-            is = ap steps_of c.1.1.2 ∙ steps_of-push ((a.made ++ Made.symbol x.symbol ∷ []) ++ Made.step x.first ∷ []) x.second
-                ∙ ap (λ xs. xs ++ x.second ∷ []) (steps_of-defined a.made (x.symbol ∷ []) x.first) ∙ append_assoc (steps_of a.made) (x.first ∷ []) (x.second ∷ []);
+            is = ap steps_of c.1.1.2 ∙ steps_of-push ((a.made ++ x.definition ∷ []) ++ Made.step x.first ∷ []) x.second
+                ∙ ap (λ xs. xs ++ x.second ∷ []) (steps_of-defined a.made (x.definition ∷ []) (d.none x c.1.1.1) x.first) ∙ append_assoc (steps_of a.made) (x.first ∷ []) (x.second ∷ []);
           }
       by_answer (Err x) c u = IsFront-same (ap steps_of u)
 
   pub DefinesType-made : IfOk r (λ ids. (ids.0 < length (steps_of b.made)) × (ids.1 < length (steps_of b.made)))
-  DefinesType-made = IfOk-map r _ _ h.concluded (λ ids c. let e = two_steps c.1.1.0 c.1.1.2 in (omega (arith, e, c.0), omega (arith, e, c.1.0)))
+  DefinesType-made = IfOk-map r _ _ h.concluded (λ ids c. let e = two_steps c.1.1.0 c.1.1.1 c.1.1.2 in (omega (arith, e, c.0), omega (arith, e, c.1.0)))
 
   module _ (us ws : List ℕ) (p : ℕ) where
     abbrev typed_state : State → List state.Object → ℕ → ℕ → List Made → State
@@ -123,11 +129,11 @@ module _ {a b : Kept} {rule : Result NewType Kind} {r : Result (ℕ × ℕ) Faul
         → defining_type rule (in_state s below (run_view a.made us ws p)) ≡ Ok (in_state s (state.Object.theorem ids.1 ∷ state.Object.theorem ids.0 ∷ below) (run_view b.made us ws p)))
     DefinesType-taken = IfOk-map r _ _ h.concluded (λ ids c s below.
         let x = c.1.1.0 in
-        let taken = a.made ++ Made.symbol x.symbol ∷ [] in
+        let taken = a.made ++ x.definition ∷ [] in
         let first = taken ++ Made.step x.first ∷ [] in
         let all = first ++ Made.step x.second ∷ [] in
         ap (λ q. q >>= λ y. Ok (with_type (in_state s below (run_view a.made us ws p)) y)) c.1.1.1
-        ∙ ap₂ (λ i j. Ok (typed_state s below i j all)) (count-symbols a.made (x.symbol ∷ []) ∙ sym c.0) (count-defined a.made (x.symbol ∷ []) x.first ∙ sym c.1.0)
+        ∙ ap₂ (λ i j. Ok (typed_state s below i j all)) (ap length (steps_of-same a.made (x.definition ∷ []) (d.none x c.1.1.1)) ∙ sym c.0) (count-defined a.made (x.definition ∷ []) (d.none x c.1.1.1) x.first ∙ sym c.1.0)
         ∙ ap (λ made. Ok (typed_state s below ids.0 ids.1 made)) (sym c.1.1.2))
 
     pub DefinesType-refused : IfErr r (λ fault. (s : State) (below : List state.Object) → Fails fault (defining_type rule (in_state s below (run_view a.made us ws p))))
@@ -136,17 +142,17 @@ module _ {a b : Kept} {rule : Result NewType Kind} {r : Result (ℕ × ℕ) Faul
     pub DefinesType-run : OnErr r (run_view b.made us ws p ≡ run_view a.made us ws p)
     DefinesType-run = OnErr-map r _ _ h.unchanged (λ e. ap (λ made. run_view made us ws p) e)
 
-module _ {a b : Kept} {rule : Result NewType Kind} {r : Result (ℕ × ℕ) Fault} {ns : List Name} {cs : List Cell} {us ws : List Said} {p : ℕ} (h : DefinesType a rule b r) (i : IsStore a ns cs us ws p) where
+module _ {a b : Kept} {rule : Result NewType Kind} {r : Result (ℕ × ℕ) Fault} {ns : List Name} {cs : List Cell} {us ws : List Said} {p : ℕ} (h : DefinesType a rule b r) (d : DefinesNoStep rule) (i : IsStore a ns cs us ws p) where
   pub DefinesType-IsStore : IsStore b ns cs us ws p
-  DefinesType-IsStore = IsStore-more (DefinesType-more h) i
+  DefinesType-IsStore = IsStore-more (DefinesType-more h d) i
 
   pub DefinesType-InfersTwo : InfersTwo (store_view a ns cs us ws p) (defining_type rule) (store_view b ns cs us ws p) r
   DefinesType-InfersTwo = record {
-    taken = DefinesType-taken h (steps_in us) (steps_in ws) p;
-    made = DefinesType-made h;
-    refused = DefinesType-refused h (steps_in us) (steps_in ws) p;
-    run = DefinesType-run h (steps_in us) (steps_in ws) p;
-    grows = Grows-more (DefinesType-more h) i;
+    taken = DefinesType-taken h d (steps_in us) (steps_in ws) p;
+    made = DefinesType-made h d;
+    refused = DefinesType-refused h d (steps_in us) (steps_in ws) p;
+    run = DefinesType-run h d (steps_in us) (steps_in ws) p;
+    grows = Grows-more (DefinesType-more h d) i;
   }
 
 -- a word whose operands are off the stack, in place of which objects stand below the theorems that its definition makes

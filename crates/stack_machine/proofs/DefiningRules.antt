@@ -1,17 +1,18 @@
 -- What each word that defines does once its operands are off the stack.
-use Rattle.std.proofs.Common.{◌≡◌, ℕ, refl, List, [], ◌∷◌, map, Ok, Err, Result}
+use Rattle.std.proofs.Common.{◌≡◌, ℕ, refl, subst, List, [], ◌∷◌, map, Ok, Err, Result}
 use Rattle.std.specs.Prelude.{not, nat_eq, length}
 use Rattle.std.specs.List.{list_all, list_any}
 use Rattle.std.specs.Option.{ok_or}
 use Rattle.bridge_base.specs.declared.faults.Kind.{Kind}
 use Rattle.bridge_base.specs.declared.faults.Kind.TheVariants.{NameTaken, NotClosed, ExtraTypeVars, BadDefinitionList, NotTheSequent}
 use Rattle.hol_spec.specs.Names.{Name}
+use Rattle.hol_spec.specs.Types.{HolType}
 use Rattle.hol_spec.specs.Terms.{Term}
 use Rattle.hol_spec.specs.Defining.{is_closed, has_type_variables_of}
-use Rattle.hol_spec.specs.Definitions.{Definition}
+use Rattle.hol_spec.specs.Definitions.{Definition, TypeNames}
 use Rattle.hol_spec.specs.DefinitionLists.{ConstantPairs, names_of, defining_equations, definitions_in, is_definition_list}
 use Rattle.hol_spec.specs.Symbols.{Symbol, is_taken_constant}
-use Rattle.hol_spec.specs.Proofs.{Step, symbols_of, sequent_at}
+use Rattle.hol_spec.specs.Proofs.{Made, Step, steps_of, symbols_of, sequent_at}
 use Rattle.hol_defs.specs.Symbols.{named}
 use Rattle.article_spec.specs.declared.commands.Word.TheVariants as word
 use Rattle.article_spec.specs.State.{State}
@@ -22,7 +23,7 @@ use Rattle.article_spec.specs.Conditions.{demand, in_limits, typed}
 use Rattle.article_spec.specs.Results.{◌>>=◌, ◌>>◌}
 use Rattle.article_spec.specs.Changes.{with_stack}
 use Rattle.article_spec.specs.Step.{obey}
-use Rattle.hol_rules.specs.Steps.{NewType, define_const_step, define_const_list_step, type_laws, type_measures}
+use Rattle.hol_rules.specs.Steps.{NewType, define_const_step, define_const_list_step, made_of_type, type_laws, type_measures}
 use Rattle.stack_machine.specs.Inferring.{defining, defining_type}
 use Rattle.stack_machine.proofs.Obeyed.{next}
 
@@ -42,6 +43,31 @@ bind-type (Err k) g f s h = refl
 then-type : (r : Result (Unit {0}) Kind) (q : Result NewType Kind) (p : Result State Kind) (s : State) → p ≡ defining_type q s → (r >> p) ≡ defining_type (r >> q) s
 then-type (Ok x) q p s h = h
 then-type (Err k) q p s h = refl
+
+-- what defines a type operator is no step
+pub record DefinesNoStep (rule : Result NewType Kind) : Type 0 where
+  pub none : (x : NewType) → rule ≡ Ok x → steps_of (x.definition ∷ []) ≡ []
+
+made_of_type-no_step : (names : TypeNames) (i : ℕ) (c : HolType) (f : Term) → DefinesNoStep (Ok (made_of_type names i c f))
+made_of_type-no_step names i c f = record { none = λ x e. let same : made_of_type names i c f ≡ x = cc in subst (λ (y : NewType). steps_of (y.definition ∷ []) ≡ []) same refl }
+
+then-no_step : (r : Result (Unit {0}) Kind) (q : Result NewType Kind) → DefinesNoStep q → DefinesNoStep (r >> q)
+then-no_step (Ok x) q h = h
+then-no_step (Err k) q h = record { none = λ x e. absurd (cc) }
+
+bind-no_step : {A : Type 0} (r : Result A Kind) (g : A → Result NewType Kind) → ((x : A) → DefinesNoStep (g x)) → DefinesNoStep (r >>= g)
+bind-no_step (Ok x) g h = h x
+bind-no_step (Err k) g h = record { none = λ x e. absurd (cc) }
+
+pub type_laws-no_step : (made : List Made) (names : TypeNames) (i : ℕ) → DefinesNoStep (type_laws made names i)
+type_laws-no_step made names i =
+    let conclusion = (sequent_at made i).conclusion in
+    then-no_step (are_new_names (symbols_of made) names) _
+    (then-no_step (predicate_fits names.variables (application_parts conclusion)) _
+    (then-no_step (demand (nat_eq (length (sequent_at made i).hypotheses) 0) NotTheSequent) _
+    (bind-no_step (ok_or (application_parts conclusion) NotTheSequent) _ (λ parts.
+    bind-no_step (typed parts.1) _ (λ c.
+    then-no_step (in_limits (type_measures names c parts.0)) _ (made_of_type-no_step names i c parts.0))))))
 
 module _ (s : State) (t : Term) (n : Name) (below rest : List state.Object) (e : pop as_term s.stack ≡ Ok (t, below)) (f : pop as_name below ≡ Ok (n, rest)) where
   pub obey-DefineConst : obey s word.DefineConst ≡ defining (Symbol.defined (Definition.constant n t) ∷ []) (define_const_step s.made n t) (with_stack s (state.Object.constant n ∷ rest))

@@ -31,9 +31,9 @@ defining symbols rule s = do
   x ← rule
   conclude (with_symbols s symbols) x
 
--- a type operator is taken with its constants, and its two laws are pushed
+-- a type operator is defined with its constants, and its two laws are pushed
 abbrev pub with_type : State → NewType → State
-with_type s x = with_theorem (with_theorem (with_symbols s (x.symbol ∷ [])) x.first) x.second
+with_type s x = with_theorem (with_theorem (record s { made = s.made ++ x.definition ∷ [] }) x.first) x.second
 
 abbrev pub defining_type : Result NewType Kind → State → Result State Kind
 defining_type rule s = do
