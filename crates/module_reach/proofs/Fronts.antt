@@ -7,13 +7,16 @@ use Rattle.std.proofs.lemmas.List.{append-nil, length-map, map-append}
 use Rattle.std.proofs.lemmas.List.Elements.{filter_map-append}
 use Rattle.std.proofs.lemmas.Option.{slice_get_within}
 use Rattle.std.proofs.Math.Path.{ap₂}
-use Rattle.hol_spec.specs.Terms.{bound}
+use Rattle.hol_spec.specs.Definitions.{TypeNames}
+use Rattle.hol_spec.specs.Types.{HolType}
+use Rattle.hol_spec.specs.Terms.{Term, bound}
 use Rattle.hol_spec.specs.Sequents.{Sequent}
-use Rattle.hol_spec.specs.Proofs.{Made, Step, sequents_of, sequent_at, ArePremises, IsMade, IsProof}
+use Rattle.hol_spec.specs.Symbols.{Symbol}
+use Rattle.hol_spec.specs.Proofs.{Made, Step, sequents_of, sequent_at, ArePremises, IsMade, IsPlain, IsProof}
 use Rattle.proof_laws.specs.ProofGrowth.{sequents_of-append}
 use Rattle.module_spec.specs.Rows.{has_row}
 use Rattle.module_spec.specs.Items.{Content, Item}
-use Rattle.module_spec.specs.MadeItems.{Naming, contents_of, said_of, said_by, premise_at, content_by, proves_nothing, restated, needed, sequents_at, shown_content, step_content, contents, numbered, items_after, items_of}
+use Rattle.module_spec.specs.MadeItems.{Naming, contents_of, type_contents, said_of, said_by, premise_at, content_by, proves_nothing, restated, needed, sequents_at, shown_content, step_content, contents, numbered, items_after, items_of}
 use Rattle.module_laws.specs.AcceptedItems.{EachAfter, each-after, says-step, symbol-said}
 use Rattle.module_laws.specs.NeededSteps.{needed-sequent}
 
@@ -66,6 +69,9 @@ module _ (named : Naming) where
       let new = numbered (named (length (said_by before)) (Made.symbol x)) (length before) (contents_of x) in
       said-after (before ++ new) xs
       ∙ ap (λ l. map (λ (p : ℕ × Sequent). p.1) l ++ sequents_of xs) (filter_map-append said_of before new ∙ ap (λ l. said_by before ++ l) (symbol-said (named (length (said_by before)) (Made.symbol x)) (length before) x) ∙ append-nil (said_by before))
+  said-after before (Made.type_definition names c f i ∷ xs) =
+      let new = numbered (named (length (said_by before)) (Made.type_definition names c f i)) (length before) (type_contents names c f (premise_at before i)) in
+      said-after (before ++ new) xs ∙ ap (λ l. map (λ (p : ℕ × Sequent). p.1) l ++ sequents_of xs) (filter_map-append said_of before new ∙ append-nil (said_by before))
   said-after before (Made.step x ∷ xs) =
       let new = numbered (named (length (said_by before)) (Made.step x)) (length before) (step_content before x ∷ []) in
       said-after (before ++ new) xs
@@ -82,7 +88,7 @@ module _ (named : Naming) where
     said-count : length (said_by (items_of named front)) ≡ length (sequents_of front)
     said-count = sym (length-map (said_by (items_of named front)) (λ (p : ℕ × Sequent). p.1)) ∙ ap length (said-sequents front)
 
-    number-front : (k : ℕ) → k < length (sequents_of front) → (premise_at (items_of named front) k).0 ≡ slice_index_or (numbers_of (items_of named (front ++ rest))) k 0
+    pub number-front : (k : ℕ) → k < length (sequents_of front) → (premise_at (items_of named front) k).0 ≡ slice_index_or (numbers_of (items_of named (front ++ rest))) k 0
     number-front k l =
         let r = items_of-front front rest in
         let before = said_by (items_of named front) in
@@ -129,6 +135,17 @@ pub step-earlier : (front rest : List Made) (x : Step) → IsProof (front ++ Mad
 step-earlier front rest x proof =
     let h = each-at IsMade [] front rest (Made.step x) (each-after IsMade (front ++ Made.step x ∷ rest) proof) in
     premises-earlier (sequents_of front) x.premises h.premises h.earlier
+
+-- and so is a type definition
+pub definition-earlier : (front rest : List Made) (names : TypeNames) (c : HolType) (f : Term) (i : ℕ) → IsProof (front ++ Made.type_definition names c f i ∷ rest) → i < length (sequents_of front)
+definition-earlier front rest names c f i proof =
+    let made = Made.type_definition names c f i in
+    let h = each-at IsMade [] front rest made (each-after IsMade (front ++ made ∷ rest) proof) in
+    slice_get_within (sequents_of front) i h.one h.at
+
+-- a symbol that is made alone is no type operator's
+pub symbol-plain : (front rest : List Made) (x : Symbol) → IsProof (front ++ Made.symbol x ∷ rest) → IsPlain x
+symbol-plain front rest x proof = (each-at IsMade [] front rest (Made.symbol x) (each-after IsMade (front ++ Made.symbol x ∷ rest) proof)).0
 
 needed-earlier : (n : ℕ) (ss : List Sequent) (x : Step) → AllByRecursion (λ k. k < n) x.premises → AllByRecursion (λ k. k < n) (needed ss x).premises
 needed-earlier n ss x h = go (proves_nothing x.kind ss)

@@ -18,10 +18,9 @@ use Rattle.hol_spec.specs.Proofs.{Made, Step, steps_of, sequent_at, IsProof}
 use Rattle.proof_laws.specs.SymbolGrowth.{symmetric}
 use Rattle.proof_laws.specs.ProofGrowth.{steps_of-append}
 use Rattle.standing_laws.specs.Keys.{key_eq-is}
-use Rattle.module_spec.specs.Items.{Content, operator, constant, defined_constant, unproved, step, Item, is_constant, is_operator, says}
+use Rattle.module_spec.specs.Items.{Content, operator, constant, defined_constant, type_operator, type_abstraction, type_representation, unproved, step, Item, is_constant, is_operator, says}
 use Rattle.module_spec.specs.MadeItems.{said_of, said_by, needed, sequents_at, step_content, premise_at}
 use Rattle.module_spec.specs.Rows.{has_row}
-use Rattle.module_spec.specs.Reach as reach
 use Rattle.module_spec.specs.Reach.{Key, operator_key, constant_key, number_key, gives, gives_of, needs, key_eq}
 use Rattle.module_laws.specs.AcceptedItems.{says-step}
 use Rattle.module_laws.specs.MadeModules.{any_content}
@@ -109,6 +108,9 @@ fresh-constant n (x ∷ xs) e y (inl same) = subst (λ (z : Item). key_eq (gives
     one i (operator m k) f = refl
     one i (constant m a) f = symmetric name_eq name_eq-Decides n m f
     one i (defined_constant m a t) f = symmetric name_eq name_eq-Decides n m f
+    one i (type_operator names c u j s) f = refl
+    one i (type_abstraction names c u j s) f = symmetric name_eq name_eq-Decides n names.abstraction f
+    one i (type_representation names c u j s) f = symmetric name_eq name_eq-Decides n names.representation f
     one i (unproved s) f = refl
     one i (step kind js ss g s) f = refl
 fresh-constant n (x ∷ xs) e y (inr h) = fresh-constant n xs (or_parts (is_constant n x.content) (any_content (is_constant n) xs) e).1 y h
@@ -122,8 +124,8 @@ fresh-operator n k (x ∷ xs) e y (inl same) =
     turn true c f e = let g : true ≡ false = sym (f refl) ∙ e in absurd (cc)
     turn false c f e = refl
 
-    one : (i : ℕ) (c : Content) → is_operator n k c ≡ false → key_eq (gives_of i c) (operator_key n k) ≡ false
-    one i (operator m j) f =
+    other : (m : Name) (j : ℕ) → is_operator n k (operator m j) ≡ false → key_eq (operator_key m j) (operator_key n k) ≡ false
+    other m j f =
         turn (key_eq (operator_key m j) (operator_key n k)) (is_operator n k (operator m j)) (λ e. subst (λ q. is_operator n k (of_key q) ≡ true) (sym (key_eq-is (operator_key m j) (operator_key n k) e)) self) f
       where
         of_key : Key → Content
@@ -133,8 +135,14 @@ fresh-operator n k (x ∷ xs) e y (inl same) =
 
         self : is_operator n k (operator n k) ≡ true
         self = rw ((name_eq-Decides n n).1 refl) ((unsigned_Decides k k).1 refl)
+
+    one : (i : ℕ) (c : Content) → is_operator n k c ≡ false → key_eq (gives_of i c) (operator_key n k) ≡ false
+    one i (operator m j) f = other m j f
     one i (constant m a) f = refl
     one i (defined_constant m a t) f = refl
+    one i (type_operator names c u j s) f = other names.operator (length names.variables) f
+    one i (type_abstraction names c u j s) f = refl
+    one i (type_representation names c u j s) f = refl
     one i (unproved s) f = refl
     one i (step kind js ss g s) f = refl
 fresh-operator n k (x ∷ xs) e y (inr h) = fresh-operator n k xs (or_parts (is_operator n k x.content) (any_content (is_operator n k) xs) e).1 y h
@@ -174,14 +182,14 @@ module _ (p : Kept) (list : List Item) (x : Item) (old new : Items) (h : AreList
   }
 
   -- AN OPERATOR MORE
-  pub operator-AreListed : (n : Name) (k : ℕ) → AddsOperator list n k x → new.steps.items ≡ old.steps.items → new.needs.items ≡ old.needs.items ++ need.Nothing ∷ []
+  pub operator-AreListed : (n : Name) (k : ℕ) (what : Need) → AddsOperator p list n k what x → new.steps.items ≡ old.steps.items → new.needs.items ≡ old.needs.items ++ what ∷ []
       → ((q : Key) → found new.index q ≡ cond (key_eq (operator_key n k) q) (Some (length old.needs.items)) (found old.index q)) → AreListed p (list ++ x ∷ []) new
-  operator-AreListed n k a steps needs f = record {
-    index = index-named list x old.index new.index (operator_key n k) h.index (ap (gives_of x.symbol) a.is) a.number (fresh-operator n k list a.new)
+  operator-AreListed n k what a steps needs f = record {
+    index = index-named list x old.index new.index (operator_key n k) h.index a.key a.number (fresh-operator n k list a.new)
         (λ q. f q ∙ ap (λ j. cond (key_eq (operator_key n k) q) (Some j) (found old.index q)) needs-count);
-    steps = steps ∙ h.steps ∙ sym (numbers-silent list x (ap says a.is));
-    needs = needs-more need.Nothing needs (sym (ap reach.needs a.is));
-    known = known-more need.Nothing needs (tt {0});
+    steps = steps ∙ h.steps ∙ sym (numbers-silent list x a.silent);
+    needs = needs-more what needs (sym a.needs);
+    known = known-more what needs a.known;
   }
 
   said-AreListed : (id : ℕ) (s : Sequent) → says x.content ≡ Some s → x.symbol ≡ length list → need_keys p (need.Step id) ≡ needs x.content → IsNeedKnown p (need.Step id) → new.index ≡ old.index

@@ -9,7 +9,7 @@ use Rattle.hol_spec.specs.Sequents.{Sequent}
 use Rattle.hol_spec.specs.Proofs.{Made, Step}
 use Rattle.module_spec.specs.Rows.{has_row}
 use Rattle.module_spec.specs.Items.{Content, Item, says}
-use Rattle.module_spec.specs.MadeItems.{Naming, contents_of, said_by, content_by, needed, contents, numbered, items_after, items_of, roots_of}
+use Rattle.module_spec.specs.MadeItems.{Naming, contents_of, type_contents, said_by, content_by, needed, contents, numbered, items_after, items_of, roots_of}
 use Rattle.module_spec.specs.Reach.{Key, number_key, needs, is_wanted, wanted_after, wanted_from, keep_of}
 
 -- items with the same numbers and contents
@@ -56,10 +56,12 @@ shown_from said y = content_by (has_row y.kind) y.kind (map (λ k. (said_at said
 
 abbrev contents_from : List (ℕ × Sequent) → Made → List Content
 contents_from said (Made.symbol x) = contents_of x
+contents_from said (Made.type_definition names c f i) = type_contents names c f (said_at said i)
 contents_from said (Made.step x) = shown_from said (needed (map (λ k. (said_at said k).1) x.premises) x) ∷ []
 
 contents-from : (before : List Item) (x : Made) → contents before x ≡ contents_from (said_by before) x
 contents-from before (Made.symbol x) = refl
+contents-from before (Made.type_definition names c f i) = refl
 contents-from before (Made.step x) = refl
 
 contents-alike : (xs ys : List Item) (x : Made) → AreAlike xs ys → contents xs x ≡ contents ys x

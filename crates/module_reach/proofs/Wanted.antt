@@ -21,17 +21,18 @@ use Rattle.hol_term.specs.declared.TermId.{TermId}
 use Rattle.hol_term.specs.Tables.{Trees, term_at, terms_at, AreKnown, IsDistinct}
 use Rattle.hol_term.specs.TableLaws.{term_in-same}
 use Rattle.module_spec.specs.Rows.{has_row}
-use Rattle.module_spec.specs.Items.{Content, operator, constant, defined_constant, unproved, step, Item, says}
+use Rattle.module_spec.specs.Items.{Content, operator, constant, defined_constant, type_operator, type_abstraction, type_representation, unproved, step, Item, says}
 use Rattle.module_spec.specs.MadeItems.{said_by, content_by, proves_nothing, restated}
-use Rattle.module_spec.specs.Reach.{constant_key, number_key, gives, gives_of, key_eq, needs, sequent_keys, given_keys, term_keys}
+use Rattle.module_spec.specs.Reach.{Key, constant_key, number_key, gives, gives_of, key_eq, is_wanted, needs, sequent_keys, given_keys, term_keys}
 use Rattle.module_laws.specs.AcceptedItems.{said-in}
 use Rattle.module_laws.specs.NeededSteps.{needed-row, needed-sequent}
 use Rattle.module_laws.specs.SaidItems.{says-gives_of}
+use Rattle.module_reach.specs.declared.index.Index.{Index}
 use Rattle.module_reach.specs.declared.items.Items.{Items}
 use Rattle.module_reach.specs.declared.walk.Task.{Task}
 use Rattle.module_reach.specs.declared.walk.Task.TheVariants as task
 use Rattle.module_reach.specs.declared.walk.Walk.{Walk}
-use Rattle.module_reach.specs.Indexes.{found}
+use Rattle.module_reach.specs.Indexes.{found, IsNamedKey, IsIndex}
 use Rattle.module_reach.specs.Reached.{flag}
 use Rattle.hol_rules.specs.Kept.{Kept, step_count}
 use Rattle.hol_rules.specs.Views.{step_at}
@@ -41,7 +42,7 @@ use Rattle.module_reach.proofs.Fronts.{at-map, step-earlier}
 use Rattle.module_reach.proofs.Listed.{step-there, steps-count}
 use Rattle.module_reach.proofs.Looked.{at-symbol}
 use Rattle.module_reach.proofs.Parts.{flag-key}
-use Rattle.module_reach.proofs.Walked.{flag-marked_at, length-marked, or-false, Gains}
+use Rattle.module_reach.proofs.Walked.{flag-marked_at, length-marked, or-assoc, or-false, wanted-append, Gains}
 
 -- the item of a step is the one that says so
 said-there : (said : List (ℕ × Sequent)) (k : ℕ) (d : ℕ × Sequent) → k < length said → IsIn said (slice_index_or said k d)
@@ -62,6 +63,9 @@ number-key x z s said one = go (x.symbol == z.symbol) (unsigned_Decides x.symbol
     silent i (operator n k) h = refl
     silent i (constant n a) h = refl
     silent i (defined_constant n a t) h = refl
+    silent i (type_operator names c f j one) h = refl
+    silent i (type_abstraction names c f j one) h = refl
+    silent i (type_representation names c f j one) h = refl
     silent i (unproved r) h = ne_eqb i z.symbol h
     silent i (step kind js ss g r) h = ne_eqb i z.symbol h
 
@@ -123,6 +127,9 @@ record IsStepThere (made : List Made) (id : ℕ) : Type 0 where
 step-split : (made : List Made) (id : ℕ) → id < length (steps_of made) → IsStepThere made id
 step-split [] id l = absurd (omega arith)
 step-split (Made.symbol x ∷ made) id l = let r = step-split made id l in record { front = Made.symbol x ∷ r.front; rest = r.rest; one = r.one; whole = ap (λ m. Made.symbol x ∷ m) r.whole; place = r.place }
+step-split (Made.type_definition names c f i ∷ made) id l =
+    let r = step-split made id l in
+    record { front = Made.type_definition names c f i ∷ r.front; rest = r.rest; one = r.one; whole = ap (λ m. Made.type_definition names c f i ∷ m) r.whole; place = r.place }
 step-split (Made.step x ∷ made) zero l = record { front = []; rest = made; one = x; whole = refl; place = refl }
 step-split (Made.step x ∷ made) (suc id) l =
     let r = step-split made id (omega arith) in record { front = Made.step x ∷ r.front; rest = r.rest; one = r.one; whole = ap (λ m. Made.step x ∷ m) r.whole; place = ap suc r.place }
@@ -233,17 +240,40 @@ pub step_keys-last : (p : Kept) (ids : List ℕ) (id : ℕ) → step_keys p ids 
 step_keys-last p [] id = refl
 step_keys-last p (i ∷ ids) id = ap (λ l. number_key (number_in (numbers_of (made_items p.made)) i) ∷ l) (step_keys-last p ids id)
 
--- the item of a constant is marked
-pub constant-Gains : (p : Kept) (items : Items) → AreItems p items → (w v : Walk) → IsWalkOf p w → (n : Name) (more : List Task) → AllByRecursion (IsTaskKnown p.trees) more → v.marks.items ≡ marked w.marks.items (found items.index (constant_key n))
-    → v.types.items ≡ w.types.items → v.terms.items ≡ w.terms.items → v.tasks ≡ more ++ w.tasks → Gains p.trees (made_items p.made) w v (constant_key n ∷ []) more
-constant-Gains p items a w v h n more known marks types terms tasks = record {
+-- flags with the items of some keys marked, one after another
+abbrev pub marked_by : Index → List Bool → List Key → List Bool
+marked_by index flags [] = flags
+marked_by index flags (q ∷ qs) = marked_by index (marked flags (found index q)) qs
+
+length-marked_by : (index : Index) (flags : List Bool) (qs : List Key) → length (marked_by index flags qs) ≡ length flags
+length-marked_by index flags [] = refl
+length-marked_by index flags (q ∷ qs) = length-marked_by index (marked flags (found index q)) qs ∙ length-marked flags (found index q)
+
+module _ (items : List Item) (index : Index) (h : IsIndex items index) where
+  flag-marked_by : (qs : List Key) → AllByRecursion IsNamedKey qs → (flags : List Bool) → length flags ≡ length items → (x : Item) → IsIn items x → flag (marked_by index flags qs) x.symbol ≡ (flag flags x.symbol || is_wanted qs x)
+  flag-marked_by [] named flags e x i = sym (or-false (flag flags x.symbol))
+  flag-marked_by (q ∷ qs) named flags e x i =
+      flag-marked_by qs named.1 (marked flags (found index q)) (length-marked flags (found index q) ∙ e) x i
+      ∙ ap (λ b. b || is_wanted qs x) (flag-key items index flags h e q named.0 x i)
+      ∙ or-assoc (flag flags x.symbol) (is_wanted (q ∷ []) x) (is_wanted qs x)
+      ∙ ap (λ b. flag flags x.symbol || b) (sym (wanted-append (q ∷ []) qs x))
+
+-- the items of operators and constants are marked
+pub keys-Gains : (p : Kept) (items : Items) → AreItems p items → (w v : Walk) → IsWalkOf p w → (own : List Key) → AllByRecursion IsNamedKey own → (more : List Task) → AllByRecursion (IsTaskKnown p.trees) more → v.marks.items ≡ marked_by items.index w.marks.items own
+    → v.types.items ≡ w.types.items → v.terms.items ≡ w.terms.items → v.tasks ≡ more ++ w.tasks → Gains p.trees (made_items p.made) w v own more
+keys-Gains p items a w v h own named more known marks types terms tasks = record {
   known = known;
-  marks = λ x i. ap (λ l. flag l x.symbol) marks ∙ flag-key (made_items p.made) items.index w.marks.items a.index h.marks (constant_key n) (tt {0}) x i;
-  marks_count = ap length marks ∙ length-marked w.marks.items (found items.index (constant_key n));
+  marks = λ x i. ap (λ l. flag l x.symbol) marks ∙ flag-marked_by (made_items p.made) items.index a.index own named w.marks.items h.marks x i;
+  marks_count = ap length marks ∙ length-marked_by items.index w.marks.items own;
   types = types;
   terms = terms;
   tasks = tasks;
 }
+
+-- the item of a constant is marked
+pub constant-Gains : (p : Kept) (items : Items) → AreItems p items → (w v : Walk) → IsWalkOf p w → (n : Name) (more : List Task) → AllByRecursion (IsTaskKnown p.trees) more → v.marks.items ≡ marked w.marks.items (found items.index (constant_key n))
+    → v.types.items ≡ w.types.items → v.terms.items ≡ w.terms.items → v.tasks ≡ more ++ w.tasks → Gains p.trees (made_items p.made) w v (constant_key n ∷ []) more
+constant-Gains p items a w v h n more known marks types terms tasks = keys-Gains p items a w v h (constant_key n ∷ []) (tt {0}, tt {0}) more known marks types terms tasks
 
 -- all but the first
 take-all : {A : Type 0} (xs : List A) (n : ℕ) → n ≡ length xs → take n xs ≡ xs

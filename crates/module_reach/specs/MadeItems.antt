@@ -1,19 +1,22 @@
 -- The items of what a proof made, without names, and what each of them needs by the numbers of a table.
-use Rattle.std.specs.Prelude.{◌≡◌, ℕ, ◌<◌, ◌≤◌, List, [], ◌++◌, map, length, drop, slice_index_or, None, Bool, false}
+use Rattle.std.specs.Prelude.{◌≡◌, ℕ, ◌<◌, ◌≤◌, List, [], ◌∷◌, ◌++◌, map, length, drop, slice_index_or, None, Bool, false}
 use Rattle.std.specs.List.{AllByRecursion}
 use Rattle.hol_spec.specs.Names.{Name}
 use Rattle.hol_spec.specs.Lists.{IsIn}
 use Rattle.hol_spec.specs.Proofs.{Made, Step, sequent_at, steps_of, symbols_of}
 use Rattle.hol_spec.specs.Symbols.{Symbol}
 use Rattle.hol_type.specs.Tables.{tree_at}
-use Rattle.hol_term.specs.Tables.{term_at}
+use Rattle.hol_term.specs.Tables.{Trees, term_at, type_at}
+use Rattle.hol_defs.specs.declared.readers.TypeOpView.{TypeOpView}
+use Rattle.hol_defs.specs.Symbols.{named}
 use Rattle.hol_rules.specs.Kept.{Kept, step_count}
 use Rattle.hol_rules.specs.declared.made.Made.{Made as OneMade}
+use Rattle.hol_rules.specs.declared.made.Made.TheVariants as one
 use Rattle.hol_rules.specs.Views.{made_of, step_at}
 use Rattle.module_spec.specs.Rows.{has_row}
 use Rattle.module_spec.specs.Items.{Content, Item, is_constant, is_operator, says}
 use Rattle.module_spec.specs.MadeItems.{Naming, content_by, items_of, needed, roots_of, said_by}
-use Rattle.module_spec.specs.Reach.{Key, constant_key, number_key, gives, given_keys, is_wanted, keep_of, needs, type_keys, term_keys, wanted_from}
+use Rattle.module_spec.specs.Reach.{Key, constant_key, operator_key, number_key, gives, given_keys, is_wanted, keep_of, needs, type_keys, term_keys, wanted_from}
 use Rattle.module_laws.specs.MadeModules.{any_content}
 use Rattle.module_laws.specs.WantedItems.{AreMadeInOrder}
 use Rattle.module_reach.specs.declared.items.Items.{Items}
@@ -54,19 +57,19 @@ content_at numbers made id = shown_at numbers made (needed_at made id)
 -- the keys that an item needs
 abbrev pub need_keys : Kept → Need → List Key
 need_keys p need.Nothing = []
-need_keys p (need.Type id) = type_keys (tree_at p.trees.types id.0)
 need_keys p (need.Term id) = term_keys (term_at p.trees id.0)
+need_keys p (need.Part id a) = number_key (number_in (numbers_of (made_items p.made)) id) ∷ type_keys (tree_at p.trees.types a.0)
 need_keys p (need.Step id) = needs (content_at (numbers_of (made_items p.made)) p.made id)
 
 -- what the item with a number needs
 abbrev pub need_at : Items → ℕ → Need
 need_at items i = slice_index_or items.needs.items i need.Nothing
 
--- the number in it is of the proof
+-- the numbers in it are of the proof
 abbrev pub IsNeedKnown : Kept → Need → Type 0
 IsNeedKnown p need.Nothing = Unit {0}
-IsNeedKnown p (need.Type id) = id.0 < length p.trees.types
 IsNeedKnown p (need.Term id) = id.0 < length p.trees.terms
+IsNeedKnown p (need.Part id a) = (id < step_count p) × (a.0 < length p.trees.types)
 IsNeedKnown p (need.Step id) = id < step_count p
 
 abbrev pub needs_item : Item → List Key
@@ -96,11 +99,25 @@ pub record AddsConstant (p : Kept) (list : List Item) (n : Name) (what : Need) (
   pub needs : needs x.content ≡ need_keys p what
   pub known : IsNeedKnown p what
 
--- an item that comes next, an operator with this name and so many arguments
-pub record AddsOperator (list : List Item) (n : Name) (k : ℕ) (x : Item) : Type 0 where
+-- an item that comes next, an operator with this name, so many arguments and what it needs
+pub record AddsOperator (p : Kept) (list : List Item) (n : Name) (k : ℕ) (what : Need) (x : Item) : Type 0 where
   pub number : x.symbol ≡ length list
-  pub is : x.content ≡ Content.operator n k
+  pub key : gives x ≡ operator_key n k
+  pub silent : says x.content ≡ None
   pub new : any_content (is_operator n k) list ≡ false
+  pub needs : needs x.content ≡ need_keys p what
+  pub known : IsNeedKnown p what
+
+-- what is noted stands for a symbol, or for a type definition, which is noted with its step
+abbrev pub IsNoted : Made → OneMade → Type 0
+IsNoted (Made.symbol x) m = Unit {0}
+IsNoted (Made.type_definition names c f i) (one.TypeOp n j) = i ≡ j
+IsNoted (Made.type_definition names c f i) m = ⊥
+IsNoted (Made.step x) m = ⊥
+
+-- the definition of a type operator from a step
+abbrev pub definition_made : Trees → TypeOpView → ℕ → Made
+definition_made trees x i = Made.type_definition (named x.op.now x.abs.now x.rep.now x.names.now) (type_at trees x.whole.0) (term_at trees x.predicate.0) i
 
 -- a walk over these items, and what it wants more
 abbrev pub IsWalkOf : Kept → Walk → Type 0

@@ -2,13 +2,14 @@
 ghost use Rattle.std.specs.Prelude.{◌≡◌, ◌<◌, ◌++◌, ◌∷◌, List, [], length, IfOk, OnOk};
 ghost use Rattle.hol_rules.specs.Kept.{Kept};
 ghost use Rattle.hol_spec.specs.Proofs.{Made as AMade, Step, symbols_of, IsProof};
-ghost use Rattle.hol_spec.specs.Symbols.{Symbol};
+ghost use Rattle.hol_defs.specs.Symbols.{IsKnownSymbol};
+ghost use Rattle.hol_defs.specs.Views.{operator_of_view};
 ghost use Rattle.module_spec.specs.Items.{Item};
-ghost use Rattle.module_reach.specs.MadeItems.{made_items, AddsConstant, AddsOperator, AreItems, AreListed, IsInOrder};
+ghost use Rattle.module_reach.specs.MadeItems.{definition_made, made_items, AddsConstant, AddsOperator, AreItems, AreListed, IsInOrder, IsNoted};
 
 use crate::index::Index;
 use bridge_base::Memory;
-use hol_defs::SymbolView;
+use hol_defs::{SymbolView, TypeOpView};
 use hol_name::Name;
 use hol_rules::{Made, Proof, StepId};
 use hol_term::TermId;
@@ -20,10 +21,10 @@ use std::alloc::Global;
 pub(crate) enum Need {
     /// Nothing.
     Nothing,
-    /// The symbols of a type.
-    Type(TypeId),
     /// The symbols of a term.
     Term(TermId),
+    /// The step from which a type definition is made, and the symbols of a type.
+    Part(StepId, TypeId),
     /// What the proof of a step needs, and the symbols of its sequent.
     Step(StepId),
 }
@@ -54,8 +55,8 @@ impl Items {
         for one in proof.made() {
             match one {
                 Made::Step(_) => items.take_step()?,
-                Made::InputConst(_) | Made::InputOp(..) | Made::Const(_) | Made::TypeOp(_) => {
-                    items.take_symbol(proof, symbol)?;
+                Made::InputConst(_) | Made::InputOp(..) | Made::Const(_) | Made::TypeOp(..) => {
+                    items.take_symbol(proof, symbol, one)?;
                     symbol += 1;
                 }
             }
@@ -80,21 +81,30 @@ impl Items {
         Ok(())
     }
 
-    // The symbol with a number.
-    fn take_symbol(&mut self, proof: &Proof, symbol: usize) -> Result<(), Memory>
+    // The symbol with a number, and what was noted of it.
+    fn take_symbol(&mut self, proof: &Proof, symbol: usize, one: &Made) -> Result<(), Memory>
         requires { symbol < length (symbols_of proof.now.made) }
-        ensures { OnOk result ((front rest : List AMade) (x : Symbol) → IsInOrder proof.now → proof.now.made ≡ front ++ AMade.symbol x ∷ rest → symbol ≡ length (symbols_of front) → AreListed proof.now (made_items front) self.old → AreListed proof.now (made_items (front ++ AMade.symbol x ∷ [])) self.new) }
+        ensures { OnOk result ((front rest : List AMade) (y : AMade) → IsProof proof.now.made → IsInOrder proof.now → proof.now.made ≡ front ++ y ∷ rest → IsNoted y one.now → symbol ≡ length (symbols_of front) → AreListed proof.now (made_items front) self.old → AreListed proof.now (made_items (front ++ y ∷ [])) self.new) }
     {
         match proof.symbols().view(symbol) {
             SymbolView::InputConst(name) => self.add_constant(name, Need::Nothing),
-            SymbolView::InputOp(name, arity) => self.add_operator(name, arity),
+            SymbolView::InputOp(name, arity) => self.add_operator(name, arity, Need::Nothing),
             SymbolView::Const(name, term, _) => self.add_constant(name, Need::Term(term)),
-            SymbolView::TypeOp(x) => {
-                self.add_operator(x.op, x.names.len())?;
-                self.add_constant(x.abs, Need::Type(x.abs_type))?;
-                self.add_constant(x.rep, Need::Type(x.rep_type))
-            }
+            SymbolView::TypeOp(x) => match one {
+                Made::TypeOp(_, premise) => self.take_definition(x, *premise),
+                // A type definition is noted with its step.
+                _ => Ok(()),
+            },
         }
+    }
+
+    // A type definition from this step: the operator and its two constants.
+    fn take_definition(&mut self, x: TypeOpView<'_>, premise: StepId) -> Result<(), Memory>
+        ensures { OnOk result ((p : Kept) (front rest : List AMade) → IsProof p.made → IsInOrder p → IsKnownSymbol p.trees (operator_of_view x.entry) → p.made ≡ front ++ definition_made p.trees x.entry premise ∷ rest → AreListed p (made_items front) self.old → AreListed p (made_items (front ++ definition_made p.trees x.entry premise ∷ [])) self.new) }
+    {
+        self.add_operator(x.op, x.names.len(), Need::Part(premise, x.whole))?;
+        self.add_constant(x.abs, Need::Part(premise, x.abs_type))?;
+        self.add_constant(x.rep, Need::Part(premise, x.rep_type))
     }
 
     // The next item is a constant.
@@ -106,12 +116,12 @@ impl Items {
         Ok(())
     }
 
-    // The next item is an operator, which needs nothing.
-    fn add_operator(&mut self, name: &Name, arity: usize) -> Result<(), Memory>
-        ensures { OnOk result ((p : Kept) (list : List Item) (x : Item) → AddsOperator list name.now arity x → AreListed p list self.old → AreListed p (list ++ x ∷ []) self.new) }
+    // The next item is an operator.
+    fn add_operator(&mut self, name: &Name, arity: usize, need: Need) -> Result<(), Memory>
+        ensures { OnOk result ((p : Kept) (list : List Item) (x : Item) → AddsOperator p list name.now arity need x → AreListed p list self.old → AreListed p (list ++ x ∷ []) self.new) }
     {
         self.index.add_operator(name, arity, self.needs.len())?;
-        self.needs.push(Need::Nothing)?;
+        self.needs.push(need)?;
         Ok(())
     }
 }

@@ -2,9 +2,10 @@
 //!
 //! What a proof made is a list of items: each symbol that it took, the operator and the two constants of a type definition one after
 //! the other, and each step. An item needs the constants and operators of the sequent that it says, of the term that defines it or of its
-//! generic type, the premises of its proof, and what it defines. [`reached`] tells of each item whether an export needs it, directly or
-//! through what it needs. An item needs only earlier ones, so one pass from the last item to the first tells; each type and each term is
-//! entered once in the whole pass, whatever its depth. Memory grows with the items and with the table.
+//! generic type, the premises of its proof, and what it defines or which type definition it is a law of. The operator and the constants of
+//! a type definition need the step from which it is made. [`reached`] tells of each item whether an export needs it, directly or through
+//! what it needs. An item needs only earlier ones, so one pass from the last item to the first tells; each type and each term is entered
+//! once in the whole pass, whatever its depth. Memory grows with the items and with the table.
 //!
 //! ```
 //! let reached = reached(alloc, &proof, &exports)?;

@@ -22,6 +22,7 @@ use hol_name::Name;
 use hol_rules::{Parameters, Proof, StepId};
 use hol_spec::StepKind;
 use hol_term::Variable;
+use hol_type::TypeId;
 use sequent::Sequent;
 use std::alloc::Global;
 
@@ -85,10 +86,29 @@ impl Walk {
     {
         match need {
             Need::Nothing => Ok(()),
-            Need::Type(id) => self.tasks.push(Task::Type(id)),
             Need::Term(id) => self.tasks.push(Task::Term(id)),
+            Need::Part(premise, ty) => self.want_part(proof, items, premise, ty),
             Need::Step(id) => self.want_step(proof, items, id),
         }
+    }
+
+    // What a symbol of a type definition needs: the step from which it is made, and the symbols of a type.
+    fn want_part(
+        &mut self,
+        proof: &Proof,
+        items: &Items,
+        premise: StepId,
+        ty: TypeId,
+    ) -> Result<(), Memory>
+        requires order { IsInOrder proof.now }
+        requires items { AreItems proof.now items.now }
+        requires walk { IsWalkOf proof.now self.old }
+        requires known { IsNeedKnown proof.now (need.Part premise ty) }
+        ensures walk { OnOk result (IsWalkOf proof.now self.new) }
+        ensures wants { OnOk result (WantsOf proof.now (need_keys proof.now (need.Part premise ty)) self.old self.new) }
+    {
+        self.want_steps(proof, items, &[premise]);
+        self.tasks.push(Task::Type(ty))
     }
 
     // What a step needs: the symbols of its sequent, the premises of its proof, and what it defines.
@@ -155,7 +175,8 @@ impl Walk {
         }
     }
 
-    // The constants that a step defines, with their types where they come as a list.
+    // The constants that a step defines, with their types where they come as a list; the symbols of the type definition whose
+    // law it is.
     fn want_given(&mut self, proof: &Proof, items: &Items, given: &Parameters) -> Result<(), Memory>
         requires items { AreItems proof.now items.now }
         requires walk { IsWalkOf proof.now self.old }
@@ -169,12 +190,23 @@ impl Walk {
                 Ok(())
             }
             Parameters::List(pairs) => self.want_pairs(proof, items, pairs),
+            Parameters::TypeOp {
+                op,
+                abs,
+                rep,
+                names,
+            } => {
+                let item = items.index.operator(op, names.len())?;
+                mark(&mut self.marks, item);
+                mark(&mut self.marks, items.index.constant(abs));
+                mark(&mut self.marks, items.index.constant(rep));
+                Ok(())
+            }
             Parameters::Nothing
             | Parameters::Term(_)
             | Parameters::Variable(_)
             | Parameters::Subst(_)
-            | Parameters::Sequent(_)
-            | Parameters::TypeOp { .. } => Ok(()),
+            | Parameters::Sequent(_) => Ok(()),
         }
     }
 
@@ -203,10 +235,7 @@ impl Walk {
 fn has_proof(kind: StepKind) -> bool
     ensures { result ≡ has_row kind }
 {
-    !matches!(
-        kind,
-        StepKind::Axiom | StepKind::FirstLaw | StepKind::SecondLaw
-    )
+    kind != StepKind::Axiom
 }
 
 // Whether a step removes a hypothesis that its second premise lacks.

@@ -55,7 +55,7 @@ loop-one-preserved c =
           (subst (λ y. AreTaken p (y ∷ drop (i + 1) ms) c.loop-one.items c.loop-one.symbol) w.in-Step.is h) w.in_ok-take_step-in-Step.ensures)
       | in-InputConst+in_ok-take_symbol-in-InputConst w ↦
           rw (w.items-is, w.symbol-is)
-          (symbol-taken p c.requires.order m (drop (i + 1) ms) c.loop-one.items w.take_symbol.new.self c.loop-one.symbol (kinds-IsSymbol m w.in-InputConst.is) h w.in_ok-take_symbol-in-InputConst.ensures)
+          (symbol-taken p c.is_proof.ensures c.requires.order m (drop (i + 1) ms) c.loop-one.items w.take_symbol.new.self c.loop-one.symbol (kinds-IsSymbol m w.in-InputConst.is) h w.in_ok-take_symbol-in-InputConst.ensures)
     ]
 
 pub returns : goal.returns

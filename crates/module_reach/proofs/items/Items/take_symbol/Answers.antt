@@ -1,54 +1,76 @@
-use Rattle.std.proofs.Common.{ap, sym, ◌∙◌, slice_get}
+use Rattle.std.proofs.Common.{◌≡◌, [], ◌∷◌, ◌++◌, ap, sym, subst, ◌∙◌, slice_get}
 use Rattle.std.proofs.lemmas.Result.{on_ok_weaker}
 use Rattle.proof_laws.specs.ProofGrowth.{All-get}
 use Rattle.hol_term.specs.Tables.{term_at, type_at}
+use Rattle.hol_spec.specs.Definitions.{Definition}
+use Rattle.hol_spec.specs.Proofs.{IsProof}
+use Rattle.hol_spec.specs.Symbols.{Symbol}
 use Rattle.hol_defs.specs.Symbols.{Taken, named, IsKnownSymbol}
-use Rattle.module_reach.proofs.Given.{symbol-there}
-use Rattle.module_reach.proofs.Taken.{input_constant-Listed, input_operator-Listed, defined_constant-Listed, type_operator-Listed}
+use Rattle.hol_defs.specs.Views.{operator_of_view}
+use Rattle.module_reach.specs.MadeItems.{definition_made, made_items, AreListed, IsNoted}
+use Rattle.module_reach.proofs.Given.{symbol-there, plain-made, operator-made, definition-noted}
+use Rattle.module_reach.proofs.Taken.{input_constant-Listed, input_operator-Listed, defined_constant-Listed}
 use Rattle.module_reach.proofs.items.Items.take_symbol.Goals as goal
 
 pub returns-in-InputConst : goal.returns-in-InputConst
 returns-in-InputConst c = on_ok_weaker c.add_constant.result
-    (λ adds front rest x order whole e h.
+    (λ adds front rest y proof order whole noted e h.
     let p = c.args.proof.now in
     let taken = c.symbols.result.now in
     let n = c.in-InputConst.name.now in
-    let is = symbol-there p front rest x whole taken (Taken.input_constant n) c.symbols.ensures.are (ap (slice_get taken) (sym e) ∙ c.in-InputConst.ensures) in
-    input_constant-Listed p order front rest c.args.self.now h x whole n is _ adds)
+    let is = symbol-there p front rest y c.args.one.now whole noted taken (Taken.input_constant n) c.symbols.ensures.are (ap (slice_get taken) (sym e) ∙ c.in-InputConst.ensures) in
+    input_constant-Listed p order front rest c.args.self.now h y whole n (plain-made y (Symbol.input_constant n) is (tt {0})) _ adds)
     c.add_constant.ensures
 
 pub returns-in-InputOp : goal.returns-in-InputOp
 returns-in-InputOp c = on_ok_weaker c.add_operator.result
-    (λ adds front rest x order whole e h.
+    (λ adds front rest y proof order whole noted e h.
     let p = c.args.proof.now in
     let taken = c.symbols.result.now in
     let n = c.in-InputOp.name.now in
-    let is = symbol-there p front rest x whole taken (Taken.input_operator n c.in-InputOp.arity) c.symbols.ensures.are (ap (slice_get taken) (sym e) ∙ c.in-InputOp.ensures) in
-    input_operator-Listed p order front rest c.args.self.now h x whole n c.in-InputOp.arity is _ adds)
+    let k = c.in-InputOp.arity in
+    let is = symbol-there p front rest y c.args.one.now whole noted taken (Taken.input_operator n k) c.symbols.ensures.are (ap (slice_get taken) (sym e) ∙ c.in-InputOp.ensures) in
+    input_operator-Listed p order front rest c.args.self.now h y whole n k (plain-made y (Symbol.input_operator n k) is (tt {0})) _ adds)
     c.add_operator.ensures
 
 pub returns-in-Const : goal.returns-in-Const
 returns-in-Const c = on_ok_weaker c.add_constant-in-Const.result
-    (λ adds front rest x order whole e h.
+    (λ adds front rest y proof order whole noted e h.
     let p = c.args.proof.now in
     let taken = c.symbols.result.now in
     let n = c.in-Const.name.now in
-    let y = Taken.constant n c.in-Const.term c.in-Const.field-2 in
-    let is = symbol-there p front rest x whole taken y c.symbols.ensures.are (ap (slice_get taken) (sym e) ∙ c.in-Const.ensures) in
-    let known : IsKnownSymbol p.trees y = All-get (IsKnownSymbol p.trees) taken c.args.symbol y c.symbols.ensures.known c.in-Const.ensures in
-    defined_constant-Listed p order front rest c.args.self.now h x whole n c.in-Const.term is known.term _ adds)
+    let t = c.in-Const.term in
+    let z = Taken.constant n t c.in-Const.field-2 in
+    let is = symbol-there p front rest y c.args.one.now whole noted taken z c.symbols.ensures.are (ap (slice_get taken) (sym e) ∙ c.in-Const.ensures) in
+    let known : IsKnownSymbol p.trees z = All-get (IsKnownSymbol p.trees) taken c.args.symbol z c.symbols.ensures.known c.in-Const.ensures in
+    defined_constant-Listed p order front rest c.args.self.now h y whole n t (plain-made y (Symbol.defined (Definition.constant n (term_at p.trees t.0))) is (tt {0})) known.term _ adds)
     c.add_constant-in-Const.ensures
 
-pub returns-in_ok-add_constant-in-TypeOp : goal.returns-in_ok-add_constant-in-TypeOp
-returns-in_ok-add_constant-in-TypeOp c = on_ok_weaker c.add_constant-in-TypeOp-2.result
-    (λ adds front rest x order whole e h.
+pub returns-in-TypeOp-one : goal.returns-in-TypeOp-one
+returns-in-TypeOp-one c = on_ok_weaker c.take_definition.result
+    (λ takes front rest y proof order whole noted e h.
     let p = c.args.proof.now in
     let taken = c.symbols.result.now in
-    let v = c.in-TypeOp.x in
-    let names = named v.op.now v.abs.now v.rep.now v.names.now in
-    let y = Taken.type_operator names v.whole v.predicate v.abs_type v.rep_type in
-    let is = symbol-there p front rest x whole taken y c.symbols.ensures.are (ap (slice_get taken) (sym e) ∙ c.in-TypeOp.ensures) in
-    let known : IsKnownSymbol p.trees y = All-get (IsKnownSymbol p.trees) taken c.args.symbol y c.symbols.ensures.known c.in-TypeOp.ensures in
-    type_operator-Listed p order front rest c.args.self.now h names (type_at p.trees v.whole.0) (term_at p.trees v.predicate.0) v.abs_type v.rep_type x whole is
-    known.constants.abstraction known.constants.representation known.constants.from known.constants.to _ _ _ c.in_ok-add_operator-in-TypeOp.ensures c.in_ok-add_constant-in-TypeOp.ensures adds)
-    c.add_constant-in-TypeOp-2.ensures
+    let x = c.in-TypeOp.x in
+    let names = named x.op.now x.abs.now x.rep.now x.names.now in
+    let z = operator_of_view x in
+    let is = symbol-there p front rest y c.args.one.now whole noted taken z c.symbols.ensures.are (ap (slice_get taken) (sym e) ∙ c.in-TypeOp.ensures) in
+    let known : IsKnownSymbol p.trees z = All-get (IsKnownSymbol p.trees) taken c.args.symbol z c.symbols.ensures.known c.in-TypeOp.ensures in
+    let made = operator-made front rest y c.args.one.now names (type_at p.trees x.whole.0) (term_at p.trees x.predicate.0) (subst IsProof whole proof) noted is in
+    let premise = subst (IsNoted (definition_made p.trees x made.0)) c.in-TypeOp-one.is made.2 in
+    let same : y ≡ definition_made p.trees x c.in-TypeOp-one.premise = made.1 ∙ ap (definition_made p.trees x) premise in
+    subst (λ d. AreListed p (made_items (front ++ d ∷ [])) c.take_definition.new.self) (sym same) (takes p front rest proof order known (whole ∙ ap (λ d. front ++ d ∷ rest) same) h))
+    c.take_definition.ensures
+
+pub returns-in_default : goal.returns-in_default
+returns-in_default c = λ front rest y proof order whole noted e h.
+    let p = c.args.proof.now in
+    let taken = c.symbols.result.now in
+    let x = c.in-TypeOp.x in
+    let names = named x.op.now x.abs.now x.rep.now x.names.now in
+    let is = symbol-there p front rest y c.args.one.now whole noted taken (operator_of_view x) c.symbols.ensures.are (ap (slice_get taken) (sym e) ∙ c.in-TypeOp.ensures) in
+    let a = type_at p.trees x.whole.0 in
+    let f = term_at p.trees x.predicate.0 in
+    let made = operator-made front rest y c.args.one.now names a f (subst IsProof whole proof) noted is in
+    let one = definition-noted names a f made.0 c.args.one.now made.2 in
+    absurd (c.in_default.not-TypeOp one.0 made.0 one.1)

@@ -7,22 +7,12 @@ use Rattle.module_reach.proofs.Walked.{gains-IsWalk}
 use Rattle.module_reach.proofs.Wanted.{no-marks}
 use Rattle.module_reach.proofs.walk.Walk.want_parts.Goals as goal
 
-pub returns-in-Type-clause-walk : goal.returns-in-Type-clause-walk
-returns-in-Type-clause-walk c = on_ok_weaker c.push.result
+pub returns-in-Term-clause-walk : goal.returns-in-Term-clause-walk
+returns-in-Term-clause-walk c = on_ok_weaker c.push.result
     (λ put.
     let p = c.args.proof.now in
     let w = c.args.self.now in
     let v : Walk = record { marks = w.marks; types = w.types; terms = w.terms; tasks = c.push.new.self } in
-    let more = task.Type c.in-Type.id ∷ [] in
-    gains-IsWalk p.trees (made_items p.made) w v [] more c.requires.walk (no-marks p.trees (made_items p.made) w v more (rw c.in-Type.is at c.requires.known, tt {0}) refl refl refl put))
-    c.push.ensures.pushed
-
-pub returns-in-Term-clause-walk : goal.returns-in-Term-clause-walk
-returns-in-Term-clause-walk c = on_ok_weaker c.push-in-Term.result
-    (λ put.
-    let p = c.args.proof.now in
-    let w = c.args.self.now in
-    let v : Walk = record { marks = w.marks; types = w.types; terms = w.terms; tasks = c.push-in-Term.new.self } in
     let more = task.Term c.in-Term.id ∷ [] in
     gains-IsWalk p.trees (made_items p.made) w v [] more c.requires.walk (no-marks p.trees (made_items p.made) w v more (rw c.in-Term.is at c.requires.known, tt {0}) refl refl refl put))
-    c.push-in-Term.ensures.pushed
+    c.push.ensures.pushed
