@@ -15,6 +15,8 @@ mod PlaceOf
 mod ConclusionLaws
 mod SetLaws
 mod BinderRows
+mod PartLaws
+mod LawEquations
 mod MatchLaws
 mod ImageLaws
 mod ConstantLaws

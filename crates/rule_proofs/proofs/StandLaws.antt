@@ -1,5 +1,5 @@
 -- What an environment stands for: it lasts while the table grows, and it is what its binders were placed for.
-use Rattle.std.proofs.Common.{◌≡◌, ℕ, ◌+◌, refl, sym, ap, subst, ◌∙◌, List, [], length}
+use Rattle.std.proofs.Common.{◌≡◌, ℕ, ◌+◌, refl, sym, ap, subst, ◌∙◌, arith, List, [], length}
 use Rattle.hol_spec.specs.Names.{Name}
 use Rattle.hol_spec.specs.NameEquality.{name_eq}
 use Rattle.hol_spec.specs.Types.{HolType}
@@ -18,7 +18,8 @@ use Rattle.rule_proofs.specs.declared.scope.Environment.{Environment}
 use Rattle.rule_proofs.specs.Environments.{Given, Stands, Ready, TellTypes, TellTerms, TellProofs, filled_terms, unproved}
 use Rattle.rule_proofs.specs.Placed.{placed}
 use Rattle.rule_proofs.specs.Placing.{IsPlaced, TypesAlone, TermsAlone, ProofsAlone}
-use Rattle.translate_term.specs.GrowLaws.{Grows-trans, IsHeld-Grows, declarations_of-Grows, trees_at-Keeps, AreKnown-Keeps}
+use Rattle.translate_term.specs.GrowLaws.{Grows-refl, Grows-trans, IsHeld-Grows, declarations_of-Grows, trees_at-Keeps, AreKnown-Keeps}
+use Rattle.rule_proofs.proofs.PlaceLaws.{TermsAlone-refl, ProofsAlone-refl}
 use Rattle.rule_proofs.proofs.TellLaws.{TellTypes-same, TellTerms-same, TellProofs-same}
 use Rattle.rule_proofs.specs.EnvironmentLaws.{TellTypes-Keeps, TellTerms-Keeps}
 
@@ -69,3 +70,12 @@ module _ (given : Given) (trees : Trees) (m one two three : Module) (none first 
             (TellTerms-Keeps k.table trees.types second.terms.entries (filled_terms given.symbols given.scope.types) given.scope.terms terms_there);
         proofs = proofs_there;
       }
+
+-- binders placed for type variables alone
+pub stands-placed_types : (given : Given) (trees : Trees) (m one : Module) (none first : Environment) (names : List Name) → IsPlaced given m trees names [] [] 0
+    → none.types.entries ≡ [] → none.terms.entries ≡ [] → none.proofs.entries ≡ [] → none.scope.types ≡ [] → none.scope.terms ≡ [] → (depth : ℕ) → depth ≡ length names
+    → ((scope : TypeScope) → TellTypes m.table none.types.entries scope → TellTypes one.table first.types.entries (placed name_eq depth names scope)) → TypesAlone none first → Grows m one → Stands given one trees first
+stands-placed_types given trees m one none first names is a b c d e depth long types alone g =
+    let count : depth ≡ 0 + 0 + 0 + length names = long ∙ (let f : length names ≡ 0 + 0 + 0 + length names = omega arith in f) in
+    stands-placed given trees m one one one none first first first names [] [] 0 is a b c d e (λ scope h. subst (λ n. TellTypes one.table first.types.entries (placed name_eq n names scope)) count (types scope h)) alone g
+    (λ scope h. h) (TermsAlone-refl first) (Grows-refl one) (λ scope h. h) (ProofsAlone-refl first) (Grows-refl one)

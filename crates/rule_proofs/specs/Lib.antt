@@ -8,6 +8,7 @@ pub mod Parameters
 pub mod Rescoped
 pub mod Images
 pub mod Constants
+pub mod Parts
 pub mod PlacedLaws
 pub mod EnvironmentLaws
 pub mod FormulaLaws

@@ -39,6 +39,12 @@ module _ {A : Type 0} (same : A → A → Bool) where
       go true z = lift_own (j + length xs)
       go false z = suc_lift (j + length xs) (f z) ∙ ap (λ k. lift k (f z)) one
 
+-- under the binders of type variables alone
+pub placed-under_types : (names : List Name) (n : Name) → placed name_eq (0 + 0 + 0 + length names) names (λ m. bools) n ≡ under_types names unfilled n
+placed-under_types names n =
+    ap (λ k. placed name_eq k names (λ m. bools) n) (let e : 0 + 0 + 0 + length names ≡ 0 + length names = omega arith in e)
+    ∙ sym (lift-under_all name_eq 0 names unfilled n) ∙ lift_zero (under_all name_eq names unfilled n) ∙ sym (under_types-all names unfilled n)
+
 under_proofs-all : (hs : List Term) (scope : Scope) (h : Term) → (under_proofs hs scope).proofs h ≡ under_all term_eq hs scope.proofs h
 under_proofs-all [] scope h = refl
 under_proofs-all (g ∷ hs) scope h = under_proofs-all hs (under_proof g scope) h

@@ -22,17 +22,20 @@
 //! | `subst` | `subst`, with what the step's parameters put |
 //! | `restate` | `Environment::theorem` |
 //! | `defineConstList` | `constant_list`, with the pairs of the step's parameters |
+//! | the laws of `defineTypeOp` | `first_law` and `second_law`, with the environment of `Environment::of` under one binder more |
 //!
 //! Under a substitution the images of the premise's own parameters stand for them. Which of the step's variables and hypotheses they are is
 //! told by comparing trees part by part: nothing is made in the proof's table.
 //!
-//! `step_name` gives the name under which a module declares a step, and `abstracted` puts a proof under the binders of its type.
+//! `step_name` gives the name under which a module declares a step, and `abstracted` puts a proof under the binders of its type. `type_part`
+//! gives what the operator or a constant of a type definition stands for, in the environment of `Environment::of_types`.
 #![tactic(auto)]
 
 mod constants;
 mod images;
 mod matching;
 mod names;
+mod parts;
 mod premise;
 mod rows;
 mod scope;
@@ -41,6 +44,7 @@ mod trees;
 pub use constants::constant_list;
 pub use images::subst;
 pub use names::step_name;
+pub use parts::{Part, first_law, second_law, type_part};
 pub use premise::Premise;
 pub use rows::{abs_thm, app_thm, deduct_antisym, eq_mp, prove_hyp, refl, sym, trans};
 pub use scope::Environment;

@@ -57,6 +57,20 @@ impl Environment {
         Ok(made)
     }
 
+    /// What stands for type variables under a binder for each, where nothing else is told.
+    pub fn of_types(
+        alloc: Global,
+        target: &mut Module,
+        names: &[Name],
+    ) -> Result<Environment, Memory>
+        ensures made { IfOk result (λ env. (given : Given) (trees : Trees) → IsPlaced given target.old trees names.now [] [] 0 → Stands given target.new trees env) }
+        ensures grows { Grows target.old target.new }
+    {
+        let mut made = Environment::new(alloc);
+        made.place_types(target, names, names.len() as u128)?;
+        Ok(made)
+    }
+
     /// Lets the binders of a sequent's parameters stand for these where so many binders more are inside theirs, and nothing is told yet.
     fn place(
         &mut self,

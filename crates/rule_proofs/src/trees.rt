@@ -1,7 +1,7 @@
 //! Trees that are made of symbols.
 ghost use Rattle.std.specs.Prelude.{◌≡◌, ◌<◌, ◌∷◌, ℕ, List, [], length, IfOk};
 ghost use Rattle.lp_spec.specs.Modules.{abstractions, applied, products};
-ghost use Rattle.lp_spec.specs.Trees.{Tree, Lam, Sym};
+ghost use Rattle.lp_spec.specs.Trees.{Tree, App, Lam, Sym, Var};
 ghost use Rattle.lp_term.specs.Tables.{tree_at, trees_at, AreKnown, Holds, Keeps};
 
 use bridge_base::Memory;
@@ -23,9 +23,19 @@ pub(crate) const PROP_EXT: usize = 11;
 
 pub(crate) const EQ_MP: usize = 12;
 
-pub(crate) const SYM: usize = 13;
+pub(crate) const SUB: usize = 13;
 
-pub(crate) const TRANS: usize = 14;
+pub(crate) const SUB_ABS: usize = 14;
+
+pub(crate) const SUB_REP: usize = 15;
+
+pub(crate) const SUB_ABS_REP: usize = 16;
+
+pub(crate) const SUB_REP_ABS: usize = 17;
+
+pub(crate) const SYM: usize = 18;
+
+pub(crate) const TRANS: usize = 19;
 
 // A tree applied to arguments, the first innermost.
 fn apply(table: &mut LpTable, head: LpId, args: &[LpId]) -> Result<LpId, Memory>
@@ -49,6 +59,16 @@ pub(crate) fn call(table: &mut LpTable, symbol: usize, args: &[LpId]) -> Result<
 {
     let head = table.node(LpNode::Sym(symbol))?;
     apply(table, head, args)
+}
+
+// A tree at the variable of a binder round it.
+pub(crate) fn at_variable(table: &mut LpTable, head: LpId) -> Result<LpId, Memory>
+    requires { head.0 < length table.old }
+    ensures made { IfOk result (λ r. Holds table.new r.0 (App (tree_at table.old head.0) (Var 0))) }
+    ensures keeps { Keeps table.old table.new }
+{
+    let variable = table.node(LpNode::Var(0))?;
+    table.node(LpNode::App(head, variable))
 }
 
 // An abstraction over what a symbol gives at an index: the terms of a type, or the proofs of a formula.
