@@ -33,7 +33,7 @@ symbol-known trees d text ty is h = subst (IsKnown trees) (sym is) (record { ty 
 pub generic-is : (symbols : Symbols) → generic_tree symbols generic ≡ Pi types (term_of (Var 0))
 generic-is symbols = refl
 
-binders-are : (names vars : List Name) (count : ℕ) → names ≡ vars → count ≡ length names → replicate count types ≡ map (λ (n : Name). types) vars
+pub binders-are : (names vars : List Name) (count : ℕ) → names ≡ vars → count ≡ length names → replicate count types ≡ map (λ (n : Name). types) vars
 binders-are names vars count e c = ap (λ n. replicate n types) c ∙ binders-of names ∙ ap (map (λ (n : Name). types)) e
 
 -- what a scope tells, as a function

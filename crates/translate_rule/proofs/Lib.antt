@@ -7,6 +7,8 @@ mod DeclarationLaws
 mod SubstitutionRows
 mod VariableRows
 mod ListRows
+mod LawRows
+mod PartLaws
 mod GenericLaws
 mod GrowLaws
 mod ItemLaws
@@ -14,5 +16,6 @@ mod LemmaLaws
 mod NextItems
 mod PushLaws
 mod RunLaws
+mod DefinitionItems
 mod TakenLaws
 mod TurnLaws

@@ -14,8 +14,8 @@ use Rattle.lp_spec.specs.Lemmas.{lemmas}
 use Rattle.lp_spec.specs.Modules.{Declaration, signature}
 use Rattle.module_laws.specs.NeededSteps.{needed-row}
 use Rattle.module_spec.specs.Image.{symbol_name, step_name}
-use Rattle.module_spec.specs.Items.{Content, declaration}
-use Rattle.module_spec.specs.MadeItems.{contents_of, content_by, needed, numbered}
+use Rattle.module_spec.specs.Items.{Content, Item, declaration}
+use Rattle.module_spec.specs.MadeItems.{contents_of, content_by, contents, needed, numbered}
 use Rattle.module_spec.specs.Rows.{has_row}
 use Rattle.telling_laws.specs.MadeInOrder.{items-grow, items-stay, next-made}
 use Rattle.telling_laws.specs.Making.{items_made, made_items, is_kept, module_number, kept_of, kept_symbols, declared, step_item, step_symbol, used_step, module_content, items_up_to, content_number, step_in_module, symbol_in_module}
@@ -25,7 +25,7 @@ use Rattle.telling_laws.specs.Positions.{index-front, index-seam}
 use Rattle.translate_rule.specs.declared.items.Item.{Item as AnItem}
 use Rattle.translate_rule.specs.declared.items.Item.TheVariants as item
 use Rattle.translate_rule.specs.ItemViews.{run_of, item_name, item_content, IsItemKnown}
-use Rattle.translate_rule.specs.Making.{HaveNumbers, IsNextItem}
+use Rattle.translate_rule.specs.Making.{HaveNumbers, IsKeptItem, IsNextItem}
 use Rattle.translate_rule.specs.Steps.{symbol_in, needed_at, content_at}
 use Rattle.translate_rule.proofs.RunLaws.{step-there, step-within, steps-more}
 
@@ -33,46 +33,49 @@ numbered-length : (named : Content → List ℕ) (i : ℕ) (cs : List Content) �
 numbered-length named i [] = refl
 numbered-length named i (c ∷ cs) = ap suc (numbered-length named (i + 1) cs)
 
--- A CONTENT OF THE NEXT SYMBOL
-module _ (run : Accepted) (earlier later : List Made) (s : Symbol) (whole : run.made ≡ earlier ++ Made.symbol s ∷ later) where
-  pub items-before : items_up_to run earlier s [] ≡ items_made run earlier
-  items-before = append-nil (items_made run earlier)
+-- WHAT IS MADE NEXT, BUT FOR A STEP: items under such names
+module _ (run : Accepted) (earlier later : List Made) (y : Made) (whole : run.made ≡ earlier ++ y ∷ later) (named : Content → List ℕ) where
+  abbrev pub up_to : List Content → List Item
+  up_to cs = items_made run earlier ++ numbered named (length (items_made run earlier)) cs
 
-  pub items-after : items_up_to run earlier s (contents_of s) ≡ items_made run (earlier ++ Made.symbol s ∷ [])
-  items-after = sym (items-grow run earlier (Made.symbol s))
+  abbrev own : List Content
+  own = contents (items_made run earlier) y
 
-  up-to-length : (cs : List Content) → length (items_up_to run earlier s cs) ≡ content_number run earlier cs
+  up-to-length : (cs : List Content) → length (up_to cs) ≡ content_number run earlier cs
   up-to-length cs =
       let items = items_made run earlier in
-      length-append items (numbered (symbol_name s) (length items) cs) ∙ ap (λ n. length items + n) (numbered-length (symbol_name s) (length items) cs)
+      length-append items (numbered named (length items) cs) ∙ ap (λ n. length items + n) (numbered-length named (length items) cs)
 
-  pub next-content : (front back : List Content) (c : Content) → contents_of s ≡ front ++ c ∷ back → (k : Kept) (numbers : List ℕ) (one : AnItem) → symbol_name s c ≡ item_name run one → c ≡ item_content k numbers one
-      → IsItemKnown k numbers one → IsNextItem run (items_up_to run earlier s front) (items_up_to run earlier s (front ++ c ∷ [])) k numbers one
-  next-content front back c among k numbers one name content known =
+  -- the item of a content, which adds something or nothing
+  pub content-next : items_made run (earlier ++ y ∷ []) ≡ up_to own → (front back : List Content) (c : Content) → own ≡ front ++ c ∷ back → (k : Kept) (numbers : List ℕ) (one : AnItem)
+      → (is_kept run (content_number run earlier front) ≡ true → IsKeptItem run (up_to front) (up_to (front ++ c ∷ [])) k numbers one)
+      → (is_kept run (content_number run earlier front) ≡ false → kept_of run (up_to (front ++ c ∷ [])) ≡ kept_of run (up_to front))
+      → IsNextItem run (up_to front) (up_to (front ++ c ∷ [])) k numbers one
+  content-next all front back c among k numbers one kept gone =
       let here = up-to-length front in
-      let stay = items-stay run (earlier ++ Made.symbol s ∷ []) later (whole ∙ sym (append_assoc earlier (Made.symbol s ∷ []) later)) in
-      let all : length (made_items run) ≡ length (items_made run (earlier ++ Made.symbol s ∷ [])) + length stay.0 = ap length stay.1 ∙ length-append (items_made run (earlier ++ Made.symbol s ∷ [])) stay.0 in
-      let own : length (items_made run (earlier ++ Made.symbol s ∷ [])) ≡ content_number run earlier (contents_of s) = sym (ap length items-after) ∙ up-to-length (contents_of s) in
-      let some : length (contents_of s) ≡ length front + length (c ∷ back) = ap length among ∙ length-append front (c ∷ back) in
+      let stay = items-stay run (earlier ++ y ∷ []) later (whole ∙ sym (append_assoc earlier (y ∷ []) later)) in
+      let count : length (made_items run) ≡ length (items_made run (earlier ++ y ∷ [])) + length stay.0 = ap length stay.1 ∙ length-append (items_made run (earlier ++ y ∷ [])) stay.0 in
+      let grown : length (items_made run (earlier ++ y ∷ [])) ≡ content_number run earlier own = ap length all ∙ up-to-length own in
+      let some : length own ≡ length front + length (c ∷ back) = ap length among ∙ length-append front (c ∷ back) in
       record {
-        within = omega (arith, here, all, own, some);
+        within = omega (arith, here, count, grown, some);
         more = let two = up-to-length (front ++ c ∷ []) in let three = length-append front (c ∷ []) in omega (arith, here, two, three);
-        kept = λ e. record {
-          x = symbol_in_module run earlier s front c;
-          next = next-symbol-kept run earlier later s whole front back c among (subst (λ n. is_kept run n ≡ true) here e);
-          name = name;
-          content = content;
-          known = known;
-        };
-        gone = λ e. next-symbol-gone run earlier later s whole front back c among (subst (λ n. is_kept run n ≡ false) here e);
+        kept = λ e. kept (subst (λ n. is_kept run n ≡ true) here e);
+        gone = λ e. gone (subst (λ n. is_kept run n ≡ false) here e);
       }
 
-  -- the one content of a symbol
-  pub only-content : (c : Content) → contents_of s ≡ c ∷ [] → (k : Kept) (numbers : List ℕ) (one : AnItem) → symbol_name s c ≡ item_name run one → c ≡ item_content k numbers one → IsItemKnown k numbers one
-      → IsNextItem run (items_made run earlier) (items_made run (earlier ++ Made.symbol s ∷ [])) k numbers one
-  only-content c among k numbers one name content known =
-      subst (λ l. IsNextItem run l (items_made run (earlier ++ Made.symbol s ∷ [])) k numbers one) items-before
-      (subst (λ l. IsNextItem run (items_up_to run earlier s []) l k numbers one) (sym (ap (items_up_to run earlier s) among) ∙ items-after) (next-content [] [] c among k numbers one name content known))
+-- THE ONE CONTENT OF A SYMBOL
+pub only-content : (run : Accepted) (earlier later : List Made) (s : Symbol) → run.made ≡ earlier ++ Made.symbol s ∷ later → (c : Content) → contents_of s ≡ c ∷ [] → (k : Kept) (numbers : List ℕ) (one : AnItem) → symbol_name s ≡ item_name run one
+    → c ≡ item_content k numbers one → IsItemKnown k numbers one → IsNextItem run (items_made run earlier) (items_made run (earlier ++ Made.symbol s ∷ [])) k numbers one
+only-content run earlier later s whole c among k numbers one name content known =
+    let items = items_made run earlier in
+    let grown = items_made run (earlier ++ Made.symbol s ∷ []) in
+    let all : grown ≡ items_up_to run earlier s (contents_of s) = items-grow run earlier (Made.symbol s) in
+    subst (λ l. IsNextItem run l grown k numbers one) (append-nil items)
+    (subst (λ l. IsNextItem run (items_up_to run earlier s []) l k numbers one) (sym (all ∙ ap (items_up_to run earlier s) among))
+    (content-next run earlier later (Made.symbol s) whole (λ (c : Content). symbol_name s) all [] [] c among k numbers one
+    (λ e. record { x = symbol_in_module run earlier s [] c; next = next-symbol-kept run earlier later s whole [] [] c among e; name = name; content = content; known = known })
+    (λ e. next-symbol-gone run earlier later s whole [] [] c among e)))
 
 -- A STEP
 content-premises : (b : Bool) (kind : StepKind) (js ks : List ℕ) (ss : List Sequent) (g : Parameters) (s : Sequent) → (b ≡ true → js ≡ ks) → content_by b kind js ss g s ≡ content_by b kind ks ss g s

@@ -8,7 +8,8 @@ use Rattle.hol_spec.specs.Terms.{Term, Variable, variable_eq, term_eq}
 use Rattle.hol_term.specs.declared.TermId.{TermId}
 use Rattle.hol_term.specs.declared.Variable.{Variable as AVariable}
 use Rattle.hol_term.specs.Subterms.{variables_of}
-use Rattle.hol_term.specs.Tables.{Trees, terms_at, AreKnown}
+use Rattle.hol_type.specs.Tables as type
+use Rattle.hol_term.specs.Tables.{Trees, terms_at, AreKnown, IsDistinct}
 use Rattle.hol_rules.specs.Kept.{Kept}
 use Rattle.lp_spec.specs.Modules.{Declaration, bools}
 use Rattle.lp_spec.specs.Trees.{Tree, lift}
@@ -20,8 +21,8 @@ use Rattle.rule_proofs.specs.Environments.{filled_terms, unproved}
 use Rattle.rule_proofs.specs.Placed.{placed}
 use Rattle.rule_proofs.specs.Placing.{IsPlaced}
 use Rattle.rule_proofs.specs.Rescoped.{with_scope}
-use Rattle.translate_rule.specs.Steps.{given_at, AreParams}
-use Rattle.rule_proofs.specs.PlacedLaws.{types-placed, terms-placed, proofs-placed}
+use Rattle.translate_rule.specs.Steps.{given_at, given_over, AreParams}
+use Rattle.rule_proofs.specs.PlacedLaws.{placed-under_types, types-placed, terms-placed, proofs-placed}
 
 -- as many terms and variables as numbers
 pub terms-count : (trees : Trees) (hs : List TermId) → length (terms_at trees hs) ≡ length hs
@@ -58,3 +59,17 @@ module _ (k : Kept) (id : ℕ) (d : List Declaration) (symbols : Symbols) (m : M
 
   pub placed-under : IsPlaced (with_scope (given_at d symbols s) (lifted (scope_of symbols s))) m k.trees names variables hyps 1
   placed-under = placed-in 1 (lifted (scope_of symbols s)) (λ n. refl) (λ v. refl) (λ h. refl)
+
+-- the binders of type variables alone
+pub placed-over : (trees : Trees) (d : List Declaration) (symbols : Symbols) (m : Module) → IsHeld m → declarations_of m ≡ d → type.IsDistinct trees.types → IsDistinct trees.terms → (names : List Name) → IsPlaced (given_over d symbols names) m trees names [] [] 0
+placed-over trees d symbols m held declared one_type one_term names = record {
+  held = held;
+  declared = declared;
+  one_type = one_type;
+  one_term = one_term;
+  variables_known = tt;
+  hyps_known = tt;
+  types = placed-under_types names;
+  terms = λ v. refl;
+  proofs = λ h. refl;
+}

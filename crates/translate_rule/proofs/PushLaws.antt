@@ -14,7 +14,7 @@ use Rattle.holide_sig.specs.Modules.{declarations_of}
 use Rattle.lp_spec.specs.Lemmas.{lemmas}
 use Rattle.lp_spec.specs.ModuleOrder.{MayFollow}
 use Rattle.lp_spec.specs.Modules.{Declaration, signature}
-use Rattle.module_spec.specs.Items.{Content, operator, constant, defined_constant, unproved, step, Item, declaration, declaration_of, module_of}
+use Rattle.module_spec.specs.Items.{Content, operator, constant, defined_constant, type_operator, type_abstraction, type_representation, unproved, step, Item, declaration, declaration_of, module_of}
 use Rattle.module_spec.specs.Scopes.{Symbols}
 use Rattle.rule_proofs.specs.Told as rule
 use Rattle.run_laws.specs.Named.{HasNames}
@@ -30,7 +30,7 @@ use Rattle.translate_rule.specs.Steps as steps
 
 -- what a step asks of what is told
 module _ (ds : List Declaration) (symbols : Symbols) where
-  told-sequent : (s : Sequent) → TellsSequent ds symbols s → rule.TellsSequent ds symbols s
+  pub told-sequent : (s : Sequent) → TellsSequent ds symbols s → rule.TellsSequent ds symbols s
   told-sequent s h = record { hypotheses = h.hypotheses; conclusion = h.conclusion }
 
   told-sequents : (ss : List Sequent) → AllByRecursion (TellsSequent ds symbols) ss → AllByRecursion (rule.TellsSequent ds symbols) ss
@@ -55,6 +55,9 @@ module _ (ds : List Declaration) (symbols : Symbols) where
   told-content (operator n k) h = tt
   told-content (constant n a) h = tt
   told-content (defined_constant n a t) h = tt
+  told-content (type_operator names c f j one) h = tt
+  told-content (type_abstraction names c f j one) h = tt
+  told-content (type_representation names c f j one) h = tt
   told-content (unproved s) h = told-sequent s h
   told-content (step kind js ss given s) h = (told-sequent s h.0, told-sequents ss h.1, told-given given h.2)
 

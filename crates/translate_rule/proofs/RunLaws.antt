@@ -1,21 +1,24 @@
 -- What was made, one thing after another: which symbol or step is the next.
 use Rattle.std.proofs.Common.{◌≡◌, ℕ, zero, suc, ◌+◌, ◌<◌, ◌≤◌, Bool, true, false, cond, refl, sym, ap, ◌∙◌, subst, arith, List, [], ◌∷◌, ◌++◌, length, get_or, Some, slice_get}
 use Rattle.std.specs.Prelude.{drop, take, slice_index_or, slice_index}
-use Rattle.std.specs.List.{AllByRecursion}
+use Rattle.std.specs.List.{AllByRecursion, cons_option}
 use Rattle.std.proofs.lemmas.List.{length-append, take-append-drop, take_all}
 use Rattle.std.proofs.lemmas.Option.{same_Some}
 use Rattle.article_spec.specs.Ascending.{Ascend}
 use Rattle.article_spec.specs.SoundRuns.{IsSoundRun, IsDerived, assumed_from}
 use Rattle.hol_laws.specs.Members.{All-weaker}
+use Rattle.hol_spec.specs.Definitions.{Definition}
 use Rattle.hol_spec.specs.Derivations.{infers}
-use Rattle.hol_spec.specs.Proofs.{Made, Step, steps_of, symbols_of, Accepted}
+use Rattle.hol_spec.specs.Names.{Name}
+use Rattle.hol_spec.specs.Proofs.{Made, Step, made_symbol, steps_of, symbols_of, Accepted}
 use Rattle.hol_spec.specs.Rules as rule
 use Rattle.hol_spec.specs.Symbols.{Symbol}
 use Rattle.hol_spec.specs.Terms.{bound}
 use Rattle.hol_spec.specs.declared.StepKind.TheVariants.{Refl}
 use Rattle.hol_rules.specs.declared.made.Made.{Made as OneMade}
 use Rattle.hol_rules.specs.declared.made.Made.TheVariants as one
-use Rattle.hol_rules.specs.Views.{made_of, other_symbols, step_at}
+use Rattle.hol_rules.specs.Views.{made_of, first_symbol, other_symbols, type_operator_made, step_at}
+use Rattle.module_reach.specs.MadeItems.{IsNoted}
 use Rattle.proof_laws.specs.ProofGrowth.{symbols_of-append, steps_of-append}
 use Rattle.rule_proofs.specs.Numbers.{IsRising}
 use Rattle.telling_laws.specs.Positions.{index-seam}
@@ -35,17 +38,24 @@ made-suc y made i m h =
 made-first : (y : Made) (made : List Made) (m n : OneMade) → Some m ≡ Some n → IsSameKind m y → IsMadeAt (y ∷ made) zero n
 made-first y made m n e k = record { thing = y; rest = refl; kind = subst (λ l. IsSameKind l y) (same_Some _ _ e) k }
 
+-- what a type operator's note stands for
+operator-noted : (n : Name) (i : ℕ) (x : Symbol) → IsNoted (type_operator_made n i x) (one.TypeOp n i)
+operator-noted n i (Symbol.input_constant m) = tt
+operator-noted n i (Symbol.input_operator m k) = tt
+operator-noted n i (Symbol.defined (Definition.constant m t)) = tt
+operator-noted n i (Symbol.defined (Definition.type_operator names c f)) = refl
+
 made-get : (ss : List Symbol) (xs : List Step) (ms : List OneMade) (i : ℕ) (m : OneMade) → slice_get ms i ≡ Some m → IsMadeAt (made_of ss xs ms) i m
 made-get ss xs [] i m e = absurd (cc)
 made-get ss xs (one.InputConst n ∷ ms) zero m e = made-first _ _ (one.InputConst n) m e tt
 made-get ss xs (one.InputOp n k ∷ ms) zero m e = made-first _ _ (one.InputOp n k) m e tt
 made-get ss xs (one.Const n ∷ ms) zero m e = made-first _ _ (one.Const n) m e tt
-made-get ss xs (one.TypeOp n ∷ ms) zero m e = made-first _ _ (one.TypeOp n) m e tt
+made-get ss xs (one.TypeOp n j ∷ ms) zero m e = made-first _ _ (one.TypeOp n j) m e (operator-noted n j (first_symbol ss))
 made-get ss xs (one.Step j ∷ ms) zero m e = made-first _ _ (one.Step j) m e tt
 made-get ss xs (one.InputConst n ∷ ms) (suc i) m e = made-suc _ _ i m (made-get (other_symbols ss) xs ms i m e)
 made-get ss xs (one.InputOp n k ∷ ms) (suc i) m e = made-suc _ _ i m (made-get (other_symbols ss) xs ms i m e)
 made-get ss xs (one.Const n ∷ ms) (suc i) m e = made-suc _ _ i m (made-get (other_symbols ss) xs ms i m e)
-made-get ss xs (one.TypeOp n ∷ ms) (suc i) m e = made-suc _ _ i m (made-get (other_symbols ss) xs ms i m e)
+made-get ss xs (one.TypeOp n j ∷ ms) (suc i) m e = made-suc _ _ i m (made-get (other_symbols ss) xs ms i m e)
 made-get ss xs (one.Step j ∷ ms) (suc i) m e = made-suc _ _ i m (made-get ss xs ms i m e)
 
 made-length : (ss : List Symbol) (xs : List Step) (ms : List OneMade) → length (made_of ss xs ms) ≡ length ms
@@ -53,7 +63,7 @@ made-length ss xs [] = refl
 made-length ss xs (one.InputConst n ∷ ms) = ap suc (made-length (other_symbols ss) xs ms)
 made-length ss xs (one.InputOp n k ∷ ms) = ap suc (made-length (other_symbols ss) xs ms)
 made-length ss xs (one.Const n ∷ ms) = ap suc (made-length (other_symbols ss) xs ms)
-made-length ss xs (one.TypeOp n ∷ ms) = ap suc (made-length (other_symbols ss) xs ms)
+made-length ss xs (one.TypeOp n j ∷ ms) = ap suc (made-length (other_symbols ss) xs ms)
 made-length ss xs (one.Step j ∷ ms) = ap suc (made-length ss xs ms)
 
 get-item : {X : Type 0} (xs : List X) (i : ℕ) (x : X) → x ≡ get_or xs i x → i < length xs → slice_get xs i ≡ Some x
@@ -102,24 +112,31 @@ step-within made earlier later x e =
 pub steps-more : (earlier : List Made) (x : Step) → length (steps_of (earlier ++ Made.step x ∷ [])) ≡ length (steps_of earlier) + 1
 steps-more earlier x = ap length (steps_of-append earlier (Made.step x ∷ [])) ∙ length-append (steps_of earlier) (x ∷ [])
 
-pub steps-same : (earlier : List Made) (x : Symbol) → length (steps_of (earlier ++ Made.symbol x ∷ [])) ≡ length (steps_of earlier)
-steps-same earlier x = let e = ap length (steps_of-append earlier (Made.symbol x ∷ [])) ∙ length-append (steps_of earlier) [] in omega (arith, e)
-
 -- THE NEXT SYMBOL
 get-seam : {X : Type 0} (xs ys : List X) (y : X) → slice_get (xs ++ y ∷ ys) (length xs) ≡ Some y
 get-seam [] ys y = refl
 get-seam (x ∷ xs) ys y = get-seam xs ys y
 
-pub symbol-there : (made earlier later : List Made) (x : Symbol) → made ≡ earlier ++ Made.symbol x ∷ later → slice_get (symbols_of made) (length (symbols_of earlier)) ≡ Some x
-symbol-there made earlier later x e = ap (λ l. slice_get (symbols_of l) (length (symbols_of earlier))) e ∙ ap (λ l. slice_get l (length (symbols_of earlier))) (symbols_of-append earlier (Made.symbol x ∷ later)) ∙ get-seam (symbols_of earlier) (symbols_of later) x
+pub symbol-there : (made earlier later : List Made) (y : Made) (x : Symbol) → made_symbol y ≡ Some x → made ≡ earlier ++ y ∷ later → slice_get (symbols_of made) (length (symbols_of earlier)) ≡ Some x
+symbol-there made earlier later y x is e =
+    ap (λ l. slice_get (symbols_of l) (length (symbols_of earlier))) e
+    ∙ ap (λ l. slice_get l (length (symbols_of earlier))) (symbols_of-append earlier (y ∷ later) ∙ ap (λ o. symbols_of earlier ++ cons_option o (symbols_of later)) is) ∙ get-seam (symbols_of earlier) (symbols_of later) x
 
-pub symbol-within : (made earlier later : List Made) (x : Symbol) → made ≡ earlier ++ Made.symbol x ∷ later → length (symbols_of earlier) < length (symbols_of made)
-symbol-within made earlier later x e =
-    let whole : length (symbols_of made) ≡ length (symbols_of earlier) + length (symbols_of (Made.symbol x ∷ later)) = ap (λ l. length (symbols_of l)) e ∙ ap length (symbols_of-append earlier (Made.symbol x ∷ later)) ∙ length-append (symbols_of earlier) (symbols_of (Made.symbol x ∷ later)) in
-    omega (arith, whole)
+symbols-count : (earlier later : List Made) (y : Made) (x : Symbol) → made_symbol y ≡ Some x → length (symbols_of (earlier ++ y ∷ later)) ≡ length (symbols_of earlier) + suc (length (symbols_of later))
+symbols-count earlier later y x is =
+    ap length (symbols_of-append earlier (y ∷ later) ∙ ap (λ o. symbols_of earlier ++ cons_option o (symbols_of later)) is) ∙ length-append (symbols_of earlier) (x ∷ symbols_of later)
 
-pub symbols-more : (earlier : List Made) (x : Symbol) → length (symbols_of (earlier ++ Made.symbol x ∷ [])) ≡ length (symbols_of earlier) + 1
-symbols-more earlier x = ap length (symbols_of-append earlier (Made.symbol x ∷ [])) ∙ length-append (symbols_of earlier) (x ∷ [])
+pub symbol-within : (made earlier later : List Made) (y : Made) (x : Symbol) → made_symbol y ≡ Some x → made ≡ earlier ++ y ∷ later → length (symbols_of earlier) < length (symbols_of made)
+symbol-within made earlier later y x is e = let whole = ap (λ l. length (symbols_of l)) e ∙ symbols-count earlier later y x is in omega (arith, whole)
+
+pub symbols-more : (earlier : List Made) (y : Made) (x : Symbol) → made_symbol y ≡ Some x → length (symbols_of (earlier ++ y ∷ [])) ≡ length (symbols_of earlier) + 1
+symbols-more earlier y x is = symbols-count earlier [] y x is
+
+-- what gives a symbol is no step
+pub steps-same : (earlier : List Made) (y : Made) (x : Symbol) → made_symbol y ≡ Some x → length (steps_of (earlier ++ y ∷ [])) ≡ length (steps_of earlier)
+steps-same earlier (Made.symbol z) x is = let e = ap length (steps_of-append earlier (Made.symbol z ∷ [])) ∙ length-append (steps_of earlier) [] in omega (arith, e)
+steps-same earlier (Made.type_definition names c f i) x is = let e = ap length (steps_of-append earlier (Made.type_definition names c f i ∷ [])) ∙ length-append (steps_of earlier) [] in omega (arith, e)
+steps-same earlier (Made.step z) x is = absurd (cc)
 
 pub symbols-same : (earlier : List Made) (x : Step) → length (symbols_of (earlier ++ Made.step x ∷ [])) ≡ length (symbols_of earlier)
 symbols-same earlier x = let e = ap length (symbols_of-append earlier (Made.step x ∷ [])) ∙ length-append (symbols_of earlier) [] in omega (arith, e)

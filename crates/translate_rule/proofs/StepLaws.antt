@@ -58,16 +58,21 @@ premises-within xs (n ∷ ns) (s ∷ ss) h = (within-list xs n s h.0, premises-w
 premises-within xs [] (s ∷ ss) h = absurd h
 premises-within xs (n ∷ ns) [] h = absurd h
 
-step-rests : (m : List Made) → IsProof m → (i : ℕ) (x : Step) → slice_get (steps_of m) i ≡ Some x → Rests m i x
-step-rests m made.Each.empty i x e = absurd (cc)
-step-rests m (made.Each.more {made = before} (Made.symbol y) p h is) i x e =
-    let r = step-rests before p i x (subst (λ l. slice_get l i ≡ Some x) (append-nil (steps_of before)) (subst (λ l. slice_get l i ≡ Some x) (ap steps_of is ∙ steps_of-append before (Made.symbol y ∷ [])) e)) in
+-- what is no step leaves the steps before it
+another : (m before : List Made) (y : Made) (i : ℕ) (x : Step) → steps_of (y ∷ []) ≡ [] → m ≡ before ++ y ∷ [] → (slice_get (steps_of before) i ≡ Some x → Rests before i x) → slice_get (steps_of m) i ≡ Some x → Rests m i x
+another m before y i x none is on e =
+    let r = on (subst (λ l. slice_get l i ≡ Some x) (ap steps_of is ∙ steps_of-append before (y ∷ []) ∙ ap (λ l. steps_of before ++ l) none ∙ append-nil (steps_of before)) e) in
     subst (λ w. Rests w i x) (sym is) (record {
       premises = r.premises;
-      earlier = subst (λ l. ArePremises l x.premises r.premises) (sym (sequents_of-append before (Made.symbol y ∷ []))) (more-premises (sequents_of before) [] x.premises r.premises r.earlier);
+      earlier = subst (λ l. ArePremises l x.premises r.premises) (sym (sequents_of-append before (y ∷ []))) (more-premises (sequents_of before) (sequents_of (y ∷ [])) x.premises r.premises r.earlier);
       below = r.below;
       rule = r.rule;
     })
+
+step-rests : (m : List Made) → IsProof m → (i : ℕ) (x : Step) → slice_get (steps_of m) i ≡ Some x → Rests m i x
+step-rests m made.Each.empty i x e = absurd (cc)
+step-rests m (made.Each.more {made = before} (Made.symbol y) p h is) i x e = another m before (Made.symbol y) i x refl is (step-rests before p i x) e
+step-rests m (made.Each.more {made = before} (Made.type_definition names c f j) p h is) i x e = another m before (Made.type_definition names c f j) i x refl is (step-rests before p i x) e
 step-rests m (made.Each.more {made = before} (Made.step y) p h is) i x e =
     go (λ f. step-rests before p i x f) (get-at (steps_of before) y x i (subst (λ l. slice_get l i ≡ Some x) (ap steps_of is ∙ steps_of-append before (Made.step y ∷ [])) e))
   where

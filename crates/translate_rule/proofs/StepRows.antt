@@ -128,27 +128,27 @@ plain-kinds kinds.Subst e r a b c d = omega (arith, e)
 plain-kinds kinds.Restate e r a b c d = omega (arith, e)
 plain-kinds kinds.DefineConstList e r a b c d = omega (arith, e)
 plain-kinds kinds.Axiom e r a b c d = cc
-plain-kinds kinds.FirstLaw e r a b c d = cc
-plain-kinds kinds.SecondLaw e r a b c d = cc
+plain-kinds kinds.FirstLaw e r a b c d = omega (arith, e)
+plain-kinds kinds.SecondLaw e r a b c d = omega (arith, e)
 
-pub one-kinds : (kind : StepKind) → premise_count kind ≡ 1 → has_row kind ≡ true → (kind ≡ kinds.AbsThm → ⊥) → (kind ≡ kinds.Sym → ⊥) → (kind ≡ kinds.Subst → ⊥) → (kind ≡ kinds.Restate → ⊥) → (kind ≡ kinds.DefineConstList → ⊥) → ⊥
-one-kinds kinds.AbsThm e r a b c d f = a refl
-one-kinds kinds.Sym e r a b c d f = b refl
-one-kinds kinds.Subst e r a b c d f = c refl
-one-kinds kinds.Restate e r a b c d f = d refl
-one-kinds kinds.DefineConstList e r a b c d f = f refl
-one-kinds kinds.Refl e r a b c d f = omega (arith, e)
-one-kinds kinds.BetaConv e r a b c d f = omega (arith, e)
-one-kinds kinds.DefineConst e r a b c d f = omega (arith, e)
-one-kinds kinds.Assume e r a b c d f = omega (arith, e)
-one-kinds kinds.EqMp e r a b c d f = omega (arith, e)
-one-kinds kinds.AppThm e r a b c d f = omega (arith, e)
-one-kinds kinds.DeductAntisym e r a b c d f = omega (arith, e)
-one-kinds kinds.Trans e r a b c d f = omega (arith, e)
-one-kinds kinds.ProveHyp e r a b c d f = omega (arith, e)
-one-kinds kinds.Axiom e r a b c d f = cc
-one-kinds kinds.FirstLaw e r a b c d f = cc
-one-kinds kinds.SecondLaw e r a b c d f = cc
+pub one-kinds : (kind : StepKind) → premise_count kind ≡ 1 → has_row kind ≡ true → (kind ≡ kinds.AbsThm → ⊥) → (kind ≡ kinds.Sym → ⊥) → (kind ≡ kinds.Subst → ⊥) → (kind ≡ kinds.Restate → ⊥) → (kind ≡ kinds.DefineConstList → ⊥) → (kind ≡ kinds.FirstLaw → ⊥) → (kind ≡ kinds.SecondLaw → ⊥) → ⊥
+one-kinds kinds.AbsThm e r a b c d f g h = a refl
+one-kinds kinds.Sym e r a b c d f g h = b refl
+one-kinds kinds.Subst e r a b c d f g h = c refl
+one-kinds kinds.Restate e r a b c d f g h = d refl
+one-kinds kinds.DefineConstList e r a b c d f g h = f refl
+one-kinds kinds.Refl e r a b c d f g h = omega (arith, e)
+one-kinds kinds.BetaConv e r a b c d f g h = omega (arith, e)
+one-kinds kinds.DefineConst e r a b c d f g h = omega (arith, e)
+one-kinds kinds.Assume e r a b c d f g h = omega (arith, e)
+one-kinds kinds.EqMp e r a b c d f g h = omega (arith, e)
+one-kinds kinds.AppThm e r a b c d f g h = omega (arith, e)
+one-kinds kinds.DeductAntisym e r a b c d f g h = omega (arith, e)
+one-kinds kinds.Trans e r a b c d f g h = omega (arith, e)
+one-kinds kinds.ProveHyp e r a b c d f g h = omega (arith, e)
+one-kinds kinds.Axiom e r a b c d f g h = cc
+one-kinds kinds.FirstLaw e r a b c d f g h = g refl
+one-kinds kinds.SecondLaw e r a b c d f g h = h refl
 
 pub two-kinds : (kind : StepKind) → premise_count kind ≡ 2 → (kind ≡ kinds.EqMp → ⊥) → (kind ≡ kinds.AppThm → ⊥) → (kind ≡ kinds.DeductAntisym → ⊥) → (kind ≡ kinds.Trans → ⊥) → (kind ≡ kinds.ProveHyp → ⊥) → ⊥
 two-kinds kinds.EqMp e a b c d f = a refl

@@ -5,7 +5,8 @@ use Rattle.std.proofs.lemmas.List.{length-map, length-append}
 use Rattle.std.proofs.lemmas.Option.{same_Some}
 use Rattle.article_spec.specs.SoundRuns.{IsSoundRun}
 use Rattle.hol_defs.specs.Symbols.{Taken, symbol_at, symbols_at, IsKnownSymbol}
-use Rattle.hol_spec.specs.Proofs.{Made, Step, steps_of, symbols_of, Accepted}
+use Rattle.hol_spec.specs.Definitions.{Definition}
+use Rattle.hol_spec.specs.Proofs.{Made, Step, made_symbol, steps_of, symbols_of, Accepted}
 use Rattle.hol_spec.specs.Symbols.{Symbol}
 use Rattle.hol_term.specs.Tables.{Trees}
 use Rattle.hol_rules.specs.declared.made.Made.{Made as OneMade}
@@ -13,6 +14,7 @@ use Rattle.hol_rules.specs.declared.made.Made.TheVariants as one
 use Rattle.hol_rules.specs.Kept.{Kept}
 use Rattle.holide_sig.specs.Modules.{declarations_of, declaration_in}
 use Rattle.lp_spec.specs.Modules.{signature}
+use Rattle.module_reach.specs.MadeItems.{IsNoted}
 use Rattle.module_reach.specs.Reached.{flag}
 use Rattle.module_spec.specs.Image.{name_in, image}
 use Rattle.module_spec.specs.Items.{Item}
@@ -47,25 +49,33 @@ All-get P (y ∷ xs) (suc i) x h e = All-get P xs i x h.1 e
 pub taken-known : (trees : Trees) (symbols : List Taken) (i : ℕ) (t : Taken) → AllByRecursion (IsKnownSymbol trees) symbols → slice_get symbols i ≡ Some t → IsKnownSymbol trees t
 taken-known trees symbols i t h e = All-get (IsKnownSymbol trees) symbols i t h e
 
-pub taken-here : (trees : Trees) (symbols : List Taken) (made earlier later : List Made) (x : Symbol) (i : ℕ) (t : Taken) → symbols_at trees symbols ≡ symbols_of made → made ≡ earlier ++ Made.symbol x ∷ later → i ≡ length (symbols_of earlier) → slice_get symbols i ≡ Some t → symbol_at trees t ≡ x
-taken-here trees symbols made earlier later x i t are whole place e =
-    same_Some _ _
-    (sym (get-map (symbol_at trees) symbols i t e) ∙ ap (λ l. slice_get l i) are ∙ ap (slice_get (symbols_of made)) place ∙ symbol-there made earlier later x whole)
+-- what is noted of a symbol gives one
+pub noted-symbol : (y : Made) (m : OneMade) → IsNoted y m → (x : Symbol) × (made_symbol y ≡ Some x)
+noted-symbol (Made.symbol x) m h = (x, refl)
+noted-symbol (Made.type_definition names c f i) m h = (Symbol.defined (Definition.type_operator names c f), refl)
+noted-symbol (Made.step x) m h = absurd h
 
-pub taken-within : (trees : Trees) (symbols : List Taken) (made earlier later : List Made) (x : Symbol) (i : ℕ) → symbols_at trees symbols ≡ symbols_of made → made ≡ earlier ++ Made.symbol x ∷ later → i ≡ length (symbols_of earlier) → i < length symbols
-taken-within trees symbols made earlier later x i are whole place =
-    let within = symbol-within made earlier later x whole in
+pub taken-here : (trees : Trees) (symbols : List Taken) (made earlier later : List Made) (y : Made) (m : OneMade) (i : ℕ) (t : Taken) → symbols_at trees symbols ≡ symbols_of made → made ≡ earlier ++ y ∷ later → IsNoted y m → i ≡ length (symbols_of earlier)
+    → slice_get symbols i ≡ Some t → made_symbol y ≡ Some (symbol_at trees t)
+taken-here trees symbols made earlier later y m i t are whole noted place e =
+    let x = noted-symbol y m noted in
+    x.1 ∙ sym (symbol-there made earlier later y x.0 x.1 whole) ∙ sym (ap (slice_get (symbols_of made)) place) ∙ sym (ap (λ l. slice_get l i) are) ∙ get-map (symbol_at trees) symbols i t e
+
+pub taken-within : (trees : Trees) (symbols : List Taken) (made earlier later : List Made) (y : Made) (m : OneMade) (i : ℕ) → symbols_at trees symbols ≡ symbols_of made → made ≡ earlier ++ y ∷ later → IsNoted y m → i ≡ length (symbols_of earlier) → i < length symbols
+taken-within trees symbols made earlier later y m i are whole noted place =
+    let x = noted-symbol y m noted in
+    let within = symbol-within made earlier later y x.0 x.1 whole in
     let long : length symbols ≡ length (symbols_of made) = sym (length-map symbols (symbol_at trees)) ∙ ap length are in
     omega (arith, within, long, place)
 
 -- AFTER A SYMBOL
-pub symbol-made : (run : Accepted) (earlier : List Made) (x : Symbol) (old new : Making) (next : ℕ) → IsMaking run earlier old → AreCounted run (items_made run (earlier ++ Made.symbol x ∷ [])) new → new.numbers ≡ old.numbers → next ≡ old.symbol + 1
-    → IsMaking run (earlier ++ Made.symbol x ∷ []) (record new { symbol = next })
-symbol-made run earlier x old new next h counted numbers is =
-    let count = steps-same earlier x in
+pub symbol-made : (run : Accepted) (earlier : List Made) (y : Made) (x : Symbol) → made_symbol y ≡ Some x → (old new : Making) (next : ℕ) → IsMaking run earlier old → AreCounted run (items_made run (earlier ++ y ∷ [])) new → new.numbers ≡ old.numbers → next ≡ old.symbol + 1
+    → IsMaking run (earlier ++ y ∷ []) (record new { symbol = next })
+symbol-made run earlier y x one old new next h counted numbers is =
+    let count = steps-same earlier y x one in
     record {
       counted = record { declared = counted.declared; item = counted.item };
-      symbol = is ∙ ap (λ n. n + 1) h.symbol ∙ sym (symbols-more earlier x);
+      symbol = is ∙ ap (λ n. n + 1) h.symbol ∙ sym (symbols-more earlier y x one);
       steps = ap (λ v. length v.items) numbers ∙ h.steps ∙ sym count;
       numbers = λ k l keep. ap (λ v. symbol_in v.items k) numbers ∙ h.numbers k (omega (arith, l, count)) keep;
     }
@@ -90,21 +100,21 @@ module _ (k : Kept) (assumptions exports : List ℕ) (sound : IsSoundRun (run_of
       let steps = h.steps in
       omega (arith, count, long, steps)
 
--- THE NEXT THING IS A STEP OR A SYMBOL
+-- THE NEXT THING IS A STEP, OR WHAT IS NOTED OF A SYMBOL
 pub kind-step : {j : ℕ} (m : OneMade) (y : Made) → m ≡ one.Step j → IsSameKind m y → (x : Step) × (y ≡ Made.step x)
 kind-step {j = j} m y e h = go y (subst (λ n. IsSameKind n y) e h)
   where
     go : (y : Made) → IsSameKind (one.Step j) y → (x : Step) × (y ≡ Made.step x)
     go (Made.step x) h = (x, refl)
     go (Made.symbol x) h = absurd h
+    go (Made.type_definition names c f i) h = absurd h
 
-pub kind-symbol : (m : OneMade) (y : Made) → ((j : ℕ) → m ≡ one.Step j → ⊥) → IsSameKind m y → (x : Symbol) × (y ≡ Made.symbol x)
-kind-symbol m (Made.symbol x) other h = (x, refl)
-kind-symbol (one.InputConst n) (Made.step x) other h = absurd h
-kind-symbol (one.InputOp n k) (Made.step x) other h = absurd h
-kind-symbol (one.Const n) (Made.step x) other h = absurd h
-kind-symbol (one.TypeOp n) (Made.step x) other h = absurd h
-kind-symbol (one.Step j) (Made.step x) other h = absurd (other j refl)
+pub kind-noted : (m : OneMade) (y : Made) → ((j : ℕ) → m ≡ one.Step j → ⊥) → IsSameKind m y → IsNoted y m
+kind-noted (one.InputConst n) y other h = h
+kind-noted (one.InputOp n k) y other h = h
+kind-noted (one.Const n) y other h = h
+kind-noted (one.TypeOp n i) y other h = h
+kind-noted (one.Step j) y other h = absurd (other j refl)
 
 -- the next step as the next item
 pub step-next : (k : Kept) (assumptions exports : List ℕ) → IsSoundRun (run_of k assumptions exports) → (earlier later : List Made) (x : Step) → k.made ≡ earlier ++ Made.step x ∷ later → (now : Making) → IsMaking (run_of k assumptions exports) earlier now → (id : ℕ) → id ≡ length now.numbers.items

@@ -7,6 +7,7 @@ use Rattle.hol_rules.specs.declared.made.Made.TheVariants as one
 use Rattle.hol_rules.specs.Kept.{Kept}
 use Rattle.holide_sig.specs.declared.module.Module.{Module}
 use Rattle.holide_sig.specs.Modules.{declarations_of, IsHeld}
+use Rattle.module_reach.specs.MadeItems.{IsNoted}
 use Rattle.module_reach.specs.Reached.{IsReach}
 use Rattle.module_spec.specs.Items.{Item}
 use Rattle.run_laws.specs.Named.{HasNames}
@@ -58,11 +59,8 @@ pub record IsMaking (run : Accepted) (earlier : List Made) (now : Making) : Type
   pub steps : length now.numbers.items ≡ length (steps_of earlier)
   pub numbers : HaveNumbers run earlier now.numbers.items
 
--- a step stands for a step, and every other thing for a symbol
+-- a step stands for a step, and every other thing for a symbol or a type definition
 abbrev pub IsSameKind : OneMade → Made → Type 0
-IsSameKind (one.InputConst n) (Made.symbol x) = Unit {0}
-IsSameKind (one.InputOp n k) (Made.symbol x) = Unit {0}
-IsSameKind (one.Const n) (Made.symbol x) = Unit {0}
-IsSameKind (one.TypeOp n) (Made.symbol x) = Unit {0}
 IsSameKind (one.Step i) (Made.step x) = Unit {0}
-IsSameKind m y = ⊥
+IsSameKind (one.Step i) y = ⊥
+IsSameKind m y = IsNoted y m

@@ -13,10 +13,10 @@ use Rattle.hol_rules.specs.Kept.{Kept, step_count}
 use Rattle.hol_rules.specs.Views.{step_at}
 use Rattle.lp_spec.specs.Modules.{Declaration}
 use Rattle.lp_spec.specs.Trees.{Tree}
-use Rattle.module_spec.specs.Items.{Content, operator, constant, defined_constant, unproved, step}
+use Rattle.module_spec.specs.Items.{Content, operator, constant, defined_constant, type_operator, type_abstraction, type_representation, unproved, step}
 use Rattle.module_spec.specs.MadeItems.{content_by, needed}
 use Rattle.module_spec.specs.Rows.{has_row, proof_tree}
-use Rattle.module_spec.specs.Scopes.{Symbols, Scope, scope_of}
+use Rattle.module_spec.specs.Scopes.{Symbols, Scope, filled, scope_of, under_types, unfilled}
 use Rattle.translate_term.specs.Told.{TellsConstant}
 use Rattle.rule_proofs.specs.declared.premise.Premise.{Premise}
 use Rattle.rule_proofs.specs.Environments.{Given}
@@ -50,6 +50,9 @@ abbrev pub TellsContent : List Declaration → Symbols → Content → Type 0
 TellsContent declarations symbols (operator n k) = Unit {0}
 TellsContent declarations symbols (constant n a) = Unit {0}
 TellsContent declarations symbols (defined_constant n a t) = Unit {0}
+TellsContent declarations symbols (type_operator names c f j one) = Unit {0}
+TellsContent declarations symbols (type_abstraction names c f j one) = Unit {0}
+TellsContent declarations symbols (type_representation names c f j one) = Unit {0}
 TellsContent declarations symbols (unproved s) = TellsSequent declarations symbols s
 TellsContent declarations symbols (step kind js premises given s) = TellsSequent declarations symbols s × AllByRecursion (TellsSequent declarations symbols) premises × TellsGiven declarations symbols given
 
@@ -62,6 +65,10 @@ pub record TellsRow (declarations : List Declaration) (symbols : Symbols) (made 
 -- the binders of a sequent stand for its parameters
 abbrev pub given_at : List Declaration → Symbols → Sequent → Given
 given_at declarations symbols s = record { declarations = declarations; symbols = symbols; scope = scope_of symbols s }
+
+-- a binder for each of some type variables stands for it, and nothing else is told
+abbrev pub given_over : List Declaration → Symbols → List Name → Given
+given_over declarations symbols names = record { declarations = declarations; symbols = symbols; scope = filled symbols (under_types names unfilled) }
 
 -- these are the parameters of a step's sequent, in a table where nothing has two numbers
 pub record AreParams (k : Kept) (id : ℕ) (names : List Name) (variables : List Variable) : Type 0 where

@@ -28,7 +28,7 @@ use std::alloc::Global;
 use translate_term::closed_ty;
 
 /// The declaration of a step: a theorem, whose body is the proof by its rule under the binders of its parameters; or a symbol without a
-/// body, for an assumption and for the two laws of a type definition. The declarations of the steps before it have these symbols.
+/// body, for an assumption. The declarations of the steps before it have these symbols.
 pub fn step(
     alloc: Global,
     target: &mut Module,
@@ -74,7 +74,7 @@ fn has_row(kind: StepKind) -> bool
     ensures { result ≡ row_of_kind kind }
 {
     match kind {
-        StepKind::Axiom | StepKind::FirstLaw | StepKind::SecondLaw => false,
+        StepKind::Axiom => false,
         StepKind::Refl
         | StepKind::Assume
         | StepKind::EqMp
@@ -88,7 +88,9 @@ fn has_row(kind: StepKind) -> bool
         | StepKind::Subst
         | StepKind::Restate
         | StepKind::DefineConst
-        | StepKind::DefineConstList => true,
+        | StepKind::DefineConstList
+        | StepKind::FirstLaw
+        | StepKind::SecondLaw => true,
     }
 }
 

@@ -20,7 +20,7 @@ const TYPE: usize = 0;
 const TERM: usize = 4;
 
 // The type of simple types.
-pub(crate) fn simple_type(table: &mut LpTable) -> Result<LpId, Memory>
+fn simple_type(table: &mut LpTable) -> Result<LpId, Memory>
     ensures made { IfOk result (λ r. Holds table.new r.0 simple_types) }
     ensures known { IfOk result (λ r. r.0 < length table.new) }
     ensures keeps { Keeps table.old table.new }
@@ -48,6 +48,16 @@ pub(crate) fn terms_of_all(table: &mut LpTable) -> Result<LpId, Memory>
     let variable = table.node(LpNode::Var(0))?;
     let inside = terms(table, variable)?;
     over_types(table, 1, inside)
+}
+
+// The declared type of an operator with so many arguments: over that many simple types, the type of simple types.
+pub(crate) fn operator_type(table: &mut LpTable, arity: usize) -> Result<LpId, Memory>
+    ensures made { IfOk result (λ r. Holds table.new r.0 (products (replicate arity simple_types) simple_types)) }
+    ensures known { IfOk result (λ r. r.0 < length table.new) }
+    ensures keeps { Keeps table.old table.new }
+{
+    let end = simple_type(table)?;
+    over_types(table, arity, end)
 }
 
 // The product over so many simple types.

@@ -16,17 +16,30 @@ ghost use Rattle.translate_term.specs.Walks.{Grows};
 ghost use Rattle.translate_rule.specs.ItemViews.{item_content, item_name, run_of, IsItemKnown};
 
 use crate::declaration::step;
-use crate::generics::{at_types, over_types, simple_type, terms, terms_of_all, type_scope};
-use crate::symbol_names::{constant_name, input_constant_name, input_operator_name, operator_name};
+use crate::generics::{at_types, operator_type, over_types, terms, terms_of_all, type_scope};
+use crate::parts::part_declaration;
+use crate::premises::with_symbol;
+use crate::symbol_names::{constant_name, input_constant_name, input_operator_name};
 use bridge_base::Memory;
+use hol_defs::TypeOpView;
 use hol_name::Name;
 use hol_rules::{Proof, StepId};
 use hol_term::{TermId, TermTable};
 use hol_type::{TypeId, TypeTable};
 use holide_sig::{Decl, Form, Ident, Module};
 use lp_term::LpId;
+use rule_proofs::Part;
 use std::alloc::Global;
 use translate_term::{tm, ty};
+
+/// A type definition, by its numbers.
+#[derive(Clone, Copy)]
+pub(crate) struct TypeDefinition<'a> {
+    /// The operator with its constants, as it is taken.
+    pub(crate) view: TypeOpView<'a>,
+    /// The step from which it is made.
+    pub(crate) premise: StepId,
+}
 
 /// An item of what a proof made, by its numbers.
 #[derive(Clone, Copy)]
@@ -37,10 +50,8 @@ pub(crate) enum Item<'a> {
     InputOp(&'a Name, usize),
     /// A constant, the term that it stands for, and its generic type.
     Const(&'a Name, TermId, TypeId),
-    /// The operator of a type definition, with so many arguments.
-    TypeOp(&'a Name, usize),
-    /// One of its constants, with its generic type.
-    TypeConst(&'a Name, TypeId),
+    /// The operator of a type definition, or one of its constants.
+    Part(Part, TypeDefinition<'a>),
     /// The step of this number.
     Step(StepId),
 }
@@ -71,11 +82,10 @@ pub(crate) fn declaration(
             operator(target, text, arity)
         }
         Item::Const(name, term, ty) => constant(alloc, target, proof.terms(), name, term, ty),
-        Item::TypeOp(name, arity) => {
-            let text = operator_name(alloc, name)?;
-            operator(target, text, arity)
+        Item::Part(part, definition) => {
+            let one = with_symbol(numbers, definition.premise);
+            part_declaration(alloc, target, proof, part, definition.view, one)
         }
-        Item::TypeConst(name, ty) => type_constant(alloc, target, proof.terms().types(), name, ty),
         Item::Step(id) => step(alloc, target, proof, assumptions, exports, numbers, id),
     }
 }
@@ -97,28 +107,7 @@ fn operator(target: &mut Module, text: Vec<u8>, arity: usize) -> Result<Decl, Me
     ensures known { IfOk result (IsKnown target.new.table) }
     ensures grows { Grows target.old target.new }
 {
-    let end = simple_type(&mut target.table)?;
-    let ty = over_types(&mut target.table, arity, end)?;
-    Ok(symbol(text, ty))
-}
-
-// A constant of a type definition.
-fn type_constant(
-    alloc: Global,
-    target: &mut Module,
-    types: &TypeTable,
-    name: &Name,
-    id: TypeId,
-) -> Result<Decl, Memory>
-    requires id { id.0 < length types.now }
-    requires held { IsHeld target.old }
-    requires told { (tables : Tables) × TellsType (declarations_of target.old) tables (type.tree_at types.now id.0) }
-    ensures made { IfOk result (λ decl. (tables : Tables) → TellsType (declarations_of target.old) tables (type.tree_at types.now id.0) → declaration_in target.new.table decl ≡ declaration_of tables (name_of_constant name.now) (Content.constant name.now (type.tree_at types.now id.0))) }
-    ensures known { IfOk result (IsKnown target.new.table) }
-    ensures grows { Grows target.old target.new }
-{
-    let text = constant_name(alloc, name)?;
-    let ty = constant_type(alloc, target, types, id)?;
+    let ty = operator_type(&mut target.table, arity)?;
     Ok(symbol(text, ty))
 }
 
@@ -163,7 +152,7 @@ fn symbol(text: Vec<u8>, ty: LpId) -> Decl
 }
 
 // The declared type of a constant with a generic type: over its variables, the terms of it.
-fn constant_type(
+pub(crate) fn constant_type(
     alloc: Global,
     target: &mut Module,
     types: &TypeTable,

@@ -6,9 +6,8 @@
 //!
 //! [`step`] makes the declaration of one step in the table of a module.
 //! A step becomes a theorem, whose type is what its sequent says and whose body is the proof by its rule under the binders of its
-//! parameters. An assumption and the two laws of a type definition become symbols without a body. The declaration is the one that the
-//! definitions give of the step, for whatever symbols the module tells; the module's own declarations stay, and so does the tree of each
-//! number.
+//! parameters. An assumption becomes a symbol without a body. The declaration is the one that the definitions give of the step, for whatever
+//! symbols the module tells; the module's own declarations stay, and so does the tree of each number.
 //!
 //! ```
 //! let module = module(alloc, machine.proof(), machine.assumptions(), machine.exports())?;
@@ -22,6 +21,7 @@
 //! | `own` | the environment of a step's own parameters, also under one binder more |
 //! | `making` | `module`: the module of a run, item by item |
 //! | `items` | an item of what was made, and its declaration |
+//! | `parts` | the declarations of a type definition's operator and constants, by the theorem from which it is made |
 //! | `generics` | types and definitions of constants, over the type variables of their types |
 //! | `symbol_names` | the names of operators and constants |
 //! | `lemmas` | the two lemmas with which each module begins, by the nodes of their trees |
@@ -33,6 +33,7 @@ mod items;
 mod lemmas;
 mod making;
 mod own;
+mod parts;
 mod premises;
 mod row;
 mod symbol_names;

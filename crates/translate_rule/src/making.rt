@@ -1,25 +1,26 @@
 //! The module of a run, made item by item.
-ghost use Rattle.std.specs.Prelude.{◌≡◌, ◌<◌, ◌++◌, ◌∷◌, List, [], length, IfOk, OnOk};
+ghost use Rattle.std.specs.Prelude.{◌≡◌, ◌<◌, ◌++◌, ◌∷◌, List, [], length, Some, IfOk, OnOk};
 ghost use Rattle.article_spec.specs.SoundRuns.{IsSoundRun};
 ghost use Rattle.hol_defs.specs.Symbols.{symbol_at, IsKnownSymbol};
-ghost use Rattle.hol_spec.specs.Proofs.{Made as AMade, Step as AStep, Accepted};
-ghost use Rattle.hol_spec.specs.Symbols.{Symbol as ASymbol};
+ghost use Rattle.hol_spec.specs.Proofs.{made_symbol, Made as AMade, Step as AStep, Accepted};
 ghost use Rattle.holide_sig.specs.Modules.{declarations_of, IsHeld};
+ghost use Rattle.module_reach.specs.MadeItems.{definition_made, IsNoted};
 ghost use Rattle.module_spec.specs.Image.{image};
 ghost use Rattle.module_spec.specs.Items.{Item as AnItem};
 ghost use Rattle.run_laws.specs.Named.{HasNames};
 ghost use Rattle.telling_laws.specs.Making.{items_made};
 ghost use Rattle.translate_rule.specs.ItemViews.{run_of};
 ghost use Rattle.translate_rule.specs.Making.{AreCounted, AreDeclared, IsKeptItem, IsMaking, IsNextItem, IsRun, IsSameKind};
-ghost use Rattle.hol_defs.specs.Views.{taken_of_view};
+ghost use Rattle.hol_defs.specs.Views.{operator_of_view, taken_of_view};
 
-use crate::items::{Item, declaration};
+use crate::items::{Item, TypeDefinition, declaration};
 use crate::lemmas::declare_lemmas;
 use bridge_base::Memory;
 use hol_defs::SymbolView;
 use hol_rules::{Made, Proof, StepId};
 use holide_sig::{Module, SIGNATURE};
 use module_reach::Reached;
+use rule_proofs::Part;
 use std::alloc::Global;
 
 /// The module of what a proof made and its exports reach: the two lemmas, and then each item that is reached, in order of making. The
@@ -86,7 +87,7 @@ impl Making {
     {
         match one {
             Made::Step(_) => self.add_step(proof, assumptions, exports, reached),
-            _ => self.add_symbol(proof, assumptions, exports, reached),
+            _ => self.add_symbol(proof, assumptions, exports, reached, one),
         }
     }
 
@@ -116,15 +117,16 @@ impl Making {
         assumptions: &[StepId],
         exports: &[StepId],
         reached: &Reached,
+        one: &Made,
     ) -> Result<(), Memory>
         requires run { IsRun proof.now assumptions.now exports.now reached.now }
-        requires next { (earlier later : List AMade) × (x : ASymbol) × (proof.now.made ≡ earlier ++ AMade.symbol x ∷ later) × IsMaking (run_of proof.now assumptions.now exports.now) earlier self.old }
-        ensures { OnOk result ((earlier later : List AMade) (x : ASymbol) → proof.now.made ≡ earlier ++ AMade.symbol x ∷ later → IsMaking (run_of proof.now assumptions.now exports.now) earlier self.old → IsMaking (run_of proof.now assumptions.now exports.now) (earlier ++ AMade.symbol x ∷ []) self.new) }
+        requires next { (earlier later : List AMade) × (y : AMade) × (proof.now.made ≡ earlier ++ y ∷ later) × IsNoted y one.now × IsMaking (run_of proof.now assumptions.now exports.now) earlier self.old }
+        ensures { OnOk result ((earlier later : List AMade) (y : AMade) → proof.now.made ≡ earlier ++ y ∷ later → IsNoted y one.now → IsMaking (run_of proof.now assumptions.now exports.now) earlier self.old → IsMaking (run_of proof.now assumptions.now exports.now) (earlier ++ y ∷ []) self.new) }
     {
         let symbols = proof.symbols();
         let _count = symbols.count();
         let taken = symbols.view(self.symbol);
-        self.add_taken(proof, assumptions, exports, reached, taken)?;
+        self.add_taken(proof, assumptions, exports, reached, taken, one)?;
         self.symbol += 1;
         Ok(())
     }
@@ -137,11 +139,12 @@ impl Making {
         exports: &[StepId],
         reached: &Reached,
         taken: SymbolView<'_>,
+        one: &Made,
     ) -> Result<(), Memory>
         requires run { IsRun proof.now assumptions.now exports.now reached.now }
         requires known { IsKnownSymbol proof.now.trees (taken_of_view taken) }
-        requires next { (earlier later : List AMade) × (proof.now.made ≡ earlier ++ AMade.symbol (symbol_at proof.now.trees (taken_of_view taken)) ∷ later) × AreCounted (run_of proof.now assumptions.now exports.now) (items_made (run_of proof.now assumptions.now exports.now) earlier) self.old }
-        ensures counted { OnOk result ((earlier later : List AMade) → proof.now.made ≡ earlier ++ AMade.symbol (symbol_at proof.now.trees (taken_of_view taken.entry)) ∷ later → AreCounted (run_of proof.now assumptions.now exports.now) (items_made (run_of proof.now assumptions.now exports.now) earlier) self.old → AreCounted (run_of proof.now assumptions.now exports.now) (items_made (run_of proof.now assumptions.now exports.now) (earlier ++ AMade.symbol (symbol_at proof.now.trees (taken_of_view taken.entry)) ∷ [])) self.new) }
+        requires next { (earlier later : List AMade) × (y : AMade) × (proof.now.made ≡ earlier ++ y ∷ later) × IsNoted y one.now × (made_symbol y ≡ Some (symbol_at proof.now.trees (taken_of_view taken))) × IsMaking (run_of proof.now assumptions.now exports.now) earlier self.old }
+        ensures counted { OnOk result ((earlier later : List AMade) (y : AMade) → proof.now.made ≡ earlier ++ y ∷ later → IsNoted y one.now → made_symbol y ≡ Some (symbol_at proof.now.trees (taken_of_view taken.entry)) → IsMaking (run_of proof.now assumptions.now exports.now) earlier self.old → AreCounted (run_of proof.now assumptions.now exports.now) (items_made (run_of proof.now assumptions.now exports.now) (earlier ++ y ∷ [])) self.new) }
         ensures numbers { self.new.numbers ≡ self.old.numbers }
         ensures symbol { self.new.symbol ≡ self.old.symbol }
     {
@@ -167,30 +170,57 @@ impl Making {
                 reached,
                 Item::Const(name, term, ty),
             ),
-            SymbolView::TypeOp(x) => {
-                self.add(
-                    proof,
-                    assumptions,
-                    exports,
-                    reached,
-                    Item::TypeOp(x.op, x.names.len()),
-                )?;
-                self.add(
-                    proof,
-                    assumptions,
-                    exports,
-                    reached,
-                    Item::TypeConst(x.abs, x.abs_type),
-                )?;
-                self.add(
-                    proof,
-                    assumptions,
-                    exports,
-                    reached,
-                    Item::TypeConst(x.rep, x.rep_type),
-                )
-            }
+            SymbolView::TypeOp(view) => match one {
+                Made::TypeOp(_, premise) => {
+                    let definition = TypeDefinition {
+                        view,
+                        premise: *premise,
+                    };
+                    self.add_definition(proof, assumptions, exports, reached, definition)
+                }
+                // A type definition is noted with its step.
+                _ => Ok(()),
+            },
         }
+    }
+
+    // Adds the items of a type definition.
+    fn add_definition(
+        &mut self,
+        proof: &Proof,
+        assumptions: &[StepId],
+        exports: &[StepId],
+        reached: &Reached,
+        definition: TypeDefinition<'_>,
+    ) -> Result<(), Memory>
+        requires run { IsRun proof.now assumptions.now exports.now reached.now }
+        requires known { IsKnownSymbol proof.now.trees (operator_of_view definition.view) }
+        requires next { (earlier later : List AMade) × (proof.now.made ≡ earlier ++ definition_made proof.now.trees definition.view definition.premise ∷ later) × IsMaking (run_of proof.now assumptions.now exports.now) earlier self.old }
+        ensures counted { OnOk result ((earlier later : List AMade) → proof.now.made ≡ earlier ++ definition_made proof.now.trees definition.entry.view definition.entry.premise ∷ later → IsMaking (run_of proof.now assumptions.now exports.now) earlier self.old → AreCounted (run_of proof.now assumptions.now exports.now) (items_made (run_of proof.now assumptions.now exports.now) (earlier ++ definition_made proof.now.trees definition.entry.view definition.entry.premise ∷ [])) self.new) }
+        ensures numbers { self.new.numbers ≡ self.old.numbers }
+        ensures symbol { self.new.symbol ≡ self.old.symbol }
+    {
+        self.add(
+            proof,
+            assumptions,
+            exports,
+            reached,
+            Item::Part(Part::Operator, definition),
+        )?;
+        self.add(
+            proof,
+            assumptions,
+            exports,
+            reached,
+            Item::Part(Part::Abstraction, definition),
+        )?;
+        self.add(
+            proof,
+            assumptions,
+            exports,
+            reached,
+            Item::Part(Part::Representation, definition),
+        )
     }
 
     // Adds an item: its declaration, where it is reached.

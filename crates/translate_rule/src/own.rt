@@ -6,13 +6,14 @@ ghost use Rattle.hol_rules.specs.Kept.{step_count};
 ghost use Rattle.hol_rules.specs.Views.{variable_view};
 ghost use Rattle.holide_sig.specs.Modules.{declarations_of, IsHeld};
 ghost use Rattle.lp_spec.specs.Modules.{Declaration};
-ghost use Rattle.module_spec.specs.Scopes.{Symbols, scope_of, under_proof as proof_under, under_term};
+ghost use Rattle.module_spec.specs.Scopes.{Symbols, lifted, scope_of, under_proof as proof_under, under_term};
 ghost use Rattle.translate_term.specs.Walks.{Grows};
 ghost use Rattle.rule_proofs.specs.Environments.{Stands};
 ghost use Rattle.rule_proofs.specs.Rescoped.{with_scope};
-ghost use Rattle.translate_rule.specs.Steps.{given_at, AreParams};
+ghost use Rattle.translate_rule.specs.Steps.{given_at, given_over, AreParams};
 
 use bridge_base::Memory;
+use hol_name::Name;
 use hol_rules::{Proof, StepId};
 use hol_term::{TermId, Variable};
 use holide_sig::Module;
@@ -46,6 +47,44 @@ pub(crate) fn own_environment(
     ensures grows { Grows target.old target.new }
 {
     Environment::of(alloc, target, params, proof.sequent(id).hyps.ids(), 0)
+}
+
+// That of a binder for each of some type variables, and of nothing else.
+pub(crate) fn type_environment(
+    alloc: Global,
+    target: &mut Module,
+    proof: &Proof,
+    names: &[Name],
+    id: StepId,
+) -> Result<Environment, Memory>
+    requires id { id < step_count proof.now }
+    requires held { IsHeld target.old }
+    ensures made { IfOk result (λ env. (declarations : List Declaration) (symbols : Symbols) → declarations_of target.old ≡ declarations → Stands (given_over declarations symbols names.now) target.new proof.now.trees env) }
+    ensures grows { Grows target.old target.new }
+{
+    let table = proof.terms();
+    let concl = proof.sequent(id).concl;
+    // No term of the table has two numbers, and no type has.
+    let _conclusion = table.view(concl);
+    let _ty = table.ty(concl);
+    Environment::of_types(alloc, target, names)
+}
+
+// That under one binder more, which stands for nothing.
+pub(crate) fn under_binder(
+    alloc: Global,
+    target: &mut Module,
+    proof: &Proof,
+    params: &Params,
+    id: StepId,
+) -> Result<Environment, Memory>
+    requires id { id < step_count proof.now }
+    requires params { AreParams proof.now id params.now.type_vars params.now.free_vars }
+    requires held { IsHeld target.old }
+    ensures made { IfOk result (λ env. (declarations : List Declaration) (symbols : Symbols) → declarations_of target.old ≡ declarations → Stands (with_scope (given_at declarations symbols (sequent_at proof.now.made id)) (lifted (scope_of symbols (sequent_at proof.now.made id)))) target.new proof.now.trees env) }
+    ensures grows { Grows target.old target.new }
+{
+    Environment::of(alloc, target, params, proof.sequent(id).hyps.ids(), 1)
 }
 
 // That under one binder more, which stands for a variable.

@@ -52,7 +52,7 @@ fn pair(ids: &[StepId]) -> (StepId, StepId)
 }
 
 // A step with the symbol of its declaration.
-fn with_symbol(symbols: &[usize], id: StepId) -> Premise
+pub(crate) fn with_symbol(symbols: &[usize], id: StepId) -> Premise
     requires { id < length symbols.now }
     ensures id { result.id ≡ id }
     ensures symbol { result.symbol ≡ symbol_in symbols.now id }

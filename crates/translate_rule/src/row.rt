@@ -1,7 +1,7 @@
 //! The row of a step: its proof by its rule, in the environment of its sequent.
 ghost use Rattle.std.specs.Prelude.{true, ◌≡◌, ◌<◌, ◌≤◌, ◌∷◌, List, [], length, IfOk};
 ghost use Rattle.hol_spec.specs.Proofs.{sequent_at};
-ghost use Rattle.hol_spec.specs.declared.StepKind.TheVariants.{AbsThm, DefineConstList, Subst};
+ghost use Rattle.hol_spec.specs.declared.StepKind.TheVariants.{AbsThm, DefineConstList, FirstLaw, SecondLaw, Subst};
 ghost use Rattle.hol_rules.specs.Kept.{step_count};
 ghost use Rattle.hol_rules.specs.Views.{step_at};
 ghost use Rattle.lp_spec.specs.Modules.{Declaration};
@@ -14,7 +14,7 @@ ghost use Rattle.rule_proofs.specs.Environments.{Stands};
 ghost use Rattle.rule_proofs.specs.Told.{TellsSequent};
 ghost use Rattle.translate_rule.specs.Steps.{given_at, needed_at, row_of, AreParams, TellsGiven, TellsRow};
 
-use crate::own::{under_proof, under_variable};
+use crate::own::{under_binder, under_proof, under_variable};
 use crate::premises::{one_premise, proves_nothing, two_premises};
 use bridge_base::Memory;
 use hol_rules::{Parameters, Proof, StepId};
@@ -22,8 +22,8 @@ use hol_spec::StepKind;
 use holide_sig::Module;
 use lp_term::LpId;
 use rule_proofs::{
-    Environment, Premise, abs_thm, app_thm, constant_list, deduct_antisym, eq_mp, prove_hyp, refl,
-    subst, sym, trans,
+    Environment, Premise, abs_thm, app_thm, constant_list, deduct_antisym, eq_mp, first_law,
+    prove_hyp, refl, second_law, subst, sym, trans,
 };
 use sequent::Params;
 use std::alloc::Global;
@@ -137,6 +137,8 @@ fn one_row(
         StepKind::Subst => subst_row(target, proof, id, env, one),
         StepKind::Restate => env.theorem(target, proof, one),
         StepKind::DefineConstList => list_row(target, proof, id, env, one),
+        StepKind::FirstLaw => first_law_row(alloc, target, proof, params, id, env, one),
+        StepKind::SecondLaw => second_law_row(alloc, target, proof, params, id, env, one),
         _ => unreachable!(),
     }
 }
@@ -269,4 +271,52 @@ fn list_row(
         unreachable!()
     };
     constant_list(target, proof, env, pairs, one)
+}
+
+// The row of the first law of a type definition, with the environment under a binder.
+fn first_law_row(
+    alloc: Global,
+    target: &mut Module,
+    proof: &Proof,
+    params: &Params,
+    id: StepId,
+    env: &Environment,
+    one: Premise,
+) -> Result<LpId, Memory>
+    requires id { id < step_count proof.now }
+    requires kind { (step_at proof.now.made id).kind ≡ FirstLaw }
+    requires premise { (step_at proof.now.made id).premises ≡ one.id ∷ [] }
+    requires one { one.id < step_count proof.now }
+    requires params { AreParams proof.now id params.now.type_vars params.now.free_vars }
+    requires told { (declarations : List Declaration) × (tables : Symbols) × Stands (given_at declarations tables (sequent_at proof.now.made id)) target.old proof.now.trees env.now × TellsSequent declarations tables (sequent_at proof.now.made id) × TellsSequent declarations tables (sequent_at proof.now.made one.id) }
+    ensures made { IfOk result (λ r. (declarations : List Declaration) (tables : Symbols) → Stands (given_at declarations tables (sequent_at proof.now.made id)) target.old proof.now.trees env.now → TellsSequent declarations tables (sequent_at proof.now.made id) → TellsSequent declarations tables (sequent_at proof.now.made one.id) → Holds target.new.table r.0 (proof_tree tables (scope_of tables (sequent_at proof.now.made id)) FirstLaw (one.symbol ∷ []) (sequent_at proof.now.made one.id ∷ []) (step_at proof.now.made id).parameters)) }
+    ensures grows { Grows target.old target.new }
+{
+    proof.is_proof();
+    let inner = under_binder(alloc, target, proof, params, id)?;
+    first_law(target, proof, env, &inner, id, one)
+}
+
+// The row of the second law of a type definition, with the environment under a binder.
+fn second_law_row(
+    alloc: Global,
+    target: &mut Module,
+    proof: &Proof,
+    params: &Params,
+    id: StepId,
+    env: &Environment,
+    one: Premise,
+) -> Result<LpId, Memory>
+    requires id { id < step_count proof.now }
+    requires kind { (step_at proof.now.made id).kind ≡ SecondLaw }
+    requires premise { (step_at proof.now.made id).premises ≡ one.id ∷ [] }
+    requires one { one.id < step_count proof.now }
+    requires params { AreParams proof.now id params.now.type_vars params.now.free_vars }
+    requires told { (declarations : List Declaration) × (tables : Symbols) × Stands (given_at declarations tables (sequent_at proof.now.made id)) target.old proof.now.trees env.now × TellsSequent declarations tables (sequent_at proof.now.made id) × TellsSequent declarations tables (sequent_at proof.now.made one.id) }
+    ensures made { IfOk result (λ r. (declarations : List Declaration) (tables : Symbols) → Stands (given_at declarations tables (sequent_at proof.now.made id)) target.old proof.now.trees env.now → TellsSequent declarations tables (sequent_at proof.now.made id) → TellsSequent declarations tables (sequent_at proof.now.made one.id) → Holds target.new.table r.0 (proof_tree tables (scope_of tables (sequent_at proof.now.made id)) SecondLaw (one.symbol ∷ []) (sequent_at proof.now.made one.id ∷ []) (step_at proof.now.made id).parameters)) }
+    ensures grows { Grows target.old target.new }
+{
+    proof.is_proof();
+    let inner = under_binder(alloc, target, proof, params, id)?;
+    second_law(target, proof, env, &inner, id, one)
 }

@@ -1,10 +1,16 @@
-use Rattle.std.proofs.Common.{subst}
+use Rattle.std.proofs.Common.{◌∙◌, ◌<◌, ap, subst, sym}
 use Rattle.std.proofs.lemmas.Result.{IfOk-weaker}
+use Rattle.hol_spec.specs.Proofs.{sequent_at}
+use Rattle.hol_spec.specs.TypeDefinitions.{IsTypeDefinition}
+use Rattle.hol_term.specs.Tables.{term_at, type_at}
+use Rattle.hol_rules.specs.Kept.{step_count}
 use Rattle.holide_sig.specs.Modules.{declarations_of}
+use Rattle.module_spec.specs.Items.{declaration_of}
 use Rattle.telling_laws.specs.Told.{TellsContent}
-use Rattle.translate_rule.specs.ItemViews.{item_content}
+use Rattle.translate_rule.specs.ItemViews.{item_content, names_of, names_of_view, part_name, IsItemKnown}
 use Rattle.translate_rule.specs.Steps.{content_at}
 use Rattle.translate_rule.proofs.ItemLaws.{operator-named}
+use Rattle.translate_rule.proofs.PartLaws.{part-content}
 use Rattle.translate_rule.proofs.PushLaws.{told-content}
 use Rattle.translate_rule.proofs.items.declaration.Goals as goal
 
@@ -23,9 +29,39 @@ pub returns-in_ok-text-in-InputOp-clause-made : goal.returns-in_ok-text-in-Input
 returns-in_ok-text-in-InputOp-clause-made c =
     rw c.in-InputOp.is (IfOk-weaker c.operator.result _ _ (λ d h tables told. operator-named tables _ _ c.in-InputOp.name.now c.in-InputOp.arity (h tables c.in-InputOp.name.now) c.in_ok-text-in-InputOp.ensures) c.operator.ensures.made)
 
-pub returns-in_ok-text-in-TypeOp-clause-made : goal.returns-in_ok-text-in-TypeOp-clause-made
-returns-in_ok-text-in-TypeOp-clause-made c =
-    rw c.in-TypeOp.is (IfOk-weaker c.operator-in-TypeOp.result _ _ (λ d h tables told. operator-named tables _ _ c.in-TypeOp.name.now c.in-TypeOp.arity (h tables c.in-TypeOp.name.now) c.in_ok-text-in-TypeOp.ensures) c.operator-in-TypeOp.ensures.made)
+pub with_symbol-one-requires : goal.with_symbol-one-requires
+with_symbol-one-requires c = (subst (IsItemKnown c.args.proof.now c.args.numbers.now) c.in-Part.is c.requires.known).earlier
+
+pub part_declaration-requires-clause-known : goal.part_declaration-requires-clause-known
+part_declaration-requires-clause-known c = (subst (IsItemKnown c.args.proof.now c.args.numbers.now) c.in-Part.is c.requires.known).operator
+
+pub part_declaration-requires-clause-one : goal.part_declaration-requires-clause-one
+part_declaration-requires-clause-one c =
+    subst (λ j. j < step_count c.args.proof.now) (sym c.with_symbol-one.ensures.id) (subst (IsItemKnown c.args.proof.now c.args.numbers.now) c.in-Part.is c.requires.known).premise
+
+pub part_declaration-requires-clause-defines : goal.part_declaration-requires-clause-defines
+part_declaration-requires-clause-defines c =
+    let k = c.args.proof.now in
+    let x = c.in-Part.definition.view in
+    subst (λ j. IsTypeDefinition (names_of_view x) (type_at k.trees x.whole.0) (term_at k.trees x.predicate.0) (sequent_at k.made j)) (sym c.with_symbol-one.ensures.id) (subst (IsItemKnown k c.args.numbers.now) c.in-Part.is c.requires.known).defines
+
+pub part_declaration-requires-clause-told : goal.part_declaration-requires-clause-told
+part_declaration-requires-clause-told c =
+    let k = c.args.proof.now in
+    let q = c.requires.told in
+    let here = subst (λ i. TellsContent (declarations_of c.args.target.now) q.0 (item_content k c.args.numbers.now i)) c.in-Part.is q.1 in
+    let same = part-content k c.args.numbers.now c.in-Part.part c.in-Part.definition c.with_symbol-one.result c.with_symbol-one.ensures.id c.with_symbol-one.ensures.symbol in
+    (q.0, subst (TellsContent (declarations_of c.args.target.now) q.0) (sym same) here)
+
+pub returns-in-Part-clause-made : goal.returns-in-Part-clause-made
+returns-in-Part-clause-made c =
+    let k = c.args.proof.now in
+    let part = c.in-Part.part in
+    let definition = c.in-Part.definition in
+    let same = part-content k c.args.numbers.now part definition c.with_symbol-one.result c.with_symbol-one.ensures.id c.with_symbol-one.ensures.symbol in
+    rw c.in-Part.is
+    (IfOk-weaker c.part_declaration.result _ _
+    (λ d h tables told. h tables (subst (TellsContent (declarations_of c.args.target.now) tables) (sym same) told) ∙ ap (declaration_of tables (part_name part (names_of definition))) same) c.part_declaration.ensures.made)
 
 pub returns-in-Step-clause-made : goal.returns-in-Step-clause-made
 returns-in-Step-clause-made c =

@@ -1,14 +1,9 @@
-use Rattle.std.proofs.Common.{◌∙◌, ap, refl, Some}
-use Rattle.std.specs.Prelude.{replicate}
-use Rattle.lp_spec.specs.Modules.{products, types}
-use Rattle.lp_term.specs.TableLaws.{Holds-tree_at}
+use Rattle.std.proofs.Common.{refl}
 use Rattle.translate_rule.proofs.ItemLaws.{symbol-declared, symbol-known}
 use Rattle.translate_rule.proofs.items.operator.Goals as goal
 
 pub returns-clause-made : goal.returns-clause-made
-returns-clause-made c = λ tables n.
-    symbol-declared _ c.symbol.result _ _ c.in_ok-ty.ty _ c.symbol.ensures refl
-    (c.in_ok-ty.ensures.made ∙ ap (λ t. Some (products (replicate c.args.arity types) t)) (Holds-tree_at _ c.in_ok-end.end.0 _ c.in_ok-end.ensures.made))
+returns-clause-made c = λ tables n. symbol-declared _ c.symbol.result _ _ c.in_ok-ty.ty _ c.symbol.ensures refl c.in_ok-ty.ensures.made
 
 pub returns-clause-known : goal.returns-clause-known
 returns-clause-known c = symbol-known _ c.symbol.result _ c.in_ok-ty.ty c.symbol.ensures c.in_ok-ty.ensures.known

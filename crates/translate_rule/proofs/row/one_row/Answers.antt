@@ -146,6 +146,60 @@ returns-in-DefineConstList-clause-made c =
     ∙ ap Some (row-kind k id l p tables (scope_of tables s) kinds.DefineConstList (sym c.kind.ensures ∙ c.in-DefineConstList.is) (c.args.one.symbol ∷ []) (sequent_at k.made c.args.one.id ∷ [])))
     c.list_row.ensures.made
 
+pub first_law_row-requires-clause-kind : goal.first_law_row-requires-clause-kind
+first_law_row-requires-clause-kind c = sym c.kind.ensures ∙ c.in-FirstLaw.is
+
+pub first_law_row-requires-clause-told : goal.first_law_row-requires-clause-told
+first_law_row-requires-clause-told c =
+    let k = c.args.proof.now in
+    let id = c.args.id in
+    let l = c.requires.id in
+    let p = c.is_proof.ensures in
+    let d = c.requires.told.0 in
+    let tables = c.requires.told.1 in
+    let told = c.requires.told.3 in
+    (d, tables, c.requires.told.2, own-told k id l p d tables told, one-told k id l p d tables told c.args.one.id c.requires.premise)
+
+pub returns-in-FirstLaw-clause-made : goal.returns-in-FirstLaw-clause-made
+returns-in-FirstLaw-clause-made c =
+    let k = c.args.proof.now in
+    let id = c.args.id in
+    let l = c.requires.id in
+    let p = c.is_proof.ensures in
+    let s = sequent_at k.made id in
+    IfOk-weaker c.first_law_row.result _ _
+    (λ r h d tables stands told.
+    h d tables stands (own-told k id l p d tables told) (one-told k id l p d tables told c.args.one.id c.requires.premise)
+    ∙ ap Some (row-kind k id l p tables (scope_of tables s) kinds.FirstLaw (sym c.kind.ensures ∙ c.in-FirstLaw.is) (c.args.one.symbol ∷ []) (sequent_at k.made c.args.one.id ∷ [])))
+    c.first_law_row.ensures.made
+
+pub second_law_row-requires-clause-kind : goal.second_law_row-requires-clause-kind
+second_law_row-requires-clause-kind c = sym c.kind.ensures ∙ c.in-SecondLaw.is
+
+pub second_law_row-requires-clause-told : goal.second_law_row-requires-clause-told
+second_law_row-requires-clause-told c =
+    let k = c.args.proof.now in
+    let id = c.args.id in
+    let l = c.requires.id in
+    let p = c.is_proof.ensures in
+    let d = c.requires.told.0 in
+    let tables = c.requires.told.1 in
+    let told = c.requires.told.3 in
+    (d, tables, c.requires.told.2, own-told k id l p d tables told, one-told k id l p d tables told c.args.one.id c.requires.premise)
+
+pub returns-in-SecondLaw-clause-made : goal.returns-in-SecondLaw-clause-made
+returns-in-SecondLaw-clause-made c =
+    let k = c.args.proof.now in
+    let id = c.args.id in
+    let l = c.requires.id in
+    let p = c.is_proof.ensures in
+    let s = sequent_at k.made id in
+    IfOk-weaker c.second_law_row.result _ _
+    (λ r h d tables stands told.
+    h d tables stands (own-told k id l p d tables told) (one-told k id l p d tables told c.args.one.id c.requires.premise)
+    ∙ ap Some (row-kind k id l p tables (scope_of tables s) kinds.SecondLaw (sym c.kind.ensures ∙ c.in-SecondLaw.is) (c.args.one.symbol ∷ []) (sequent_at k.made c.args.one.id ∷ [])))
+    c.second_law_row.ensures.made
+
 pub unreachable-requires : goal.unreachable-requires
 unreachable-requires c =
     let k = c.args.proof.now in
@@ -154,3 +208,4 @@ unreachable-requires c =
     let p = c.is_proof.ensures in
     one-kinds (step_at k.made id).kind (sym (kind-count k id l p (step_at k.made id).kind refl) ∙ ap length c.requires.premise) c.requires.row
     (λ e. c.in_default.not-AbsThm (c.kind.ensures ∙ e)) (λ e. c.in_default.not-Sym (c.kind.ensures ∙ e)) (λ e. c.in_default.not-Subst (c.kind.ensures ∙ e)) (λ e. c.in_default.not-Restate (c.kind.ensures ∙ e)) (λ e. c.in_default.not-DefineConstList (c.kind.ensures ∙ e))
+    (λ e. c.in_default.not-FirstLaw (c.kind.ensures ∙ e)) (λ e. c.in_default.not-SecondLaw (c.kind.ensures ∙ e))

@@ -2,7 +2,7 @@ use Rattle.std.proofs.Common.{◌∙◌, ◌++◌, ◌∷◌, [], ap, sym, subst
 use Rattle.std.proofs.lemmas.Result.{on_ok_weaker}
 use Rattle.translate_rule.specs.ItemViews.{run_of}
 use Rattle.translate_rule.specs.Making.{IsMaking}
-use Rattle.translate_rule.proofs.TurnLaws.{kind-step, kind-symbol}
+use Rattle.translate_rule.proofs.TurnLaws.{kind-step, kind-noted}
 use Rattle.translate_rule.proofs.making.Making.add_made.Goals as goal
 
 pub add_step-requires-clause-next : goal.add_step-requires-clause-next
@@ -14,8 +14,7 @@ add_step-requires-clause-next c =
 pub add_symbol-requires-clause-next : goal.add_symbol-requires-clause-next
 add_symbol-requires-clause-next c =
     let q = c.requires.next in
-    let x = kind-symbol c.args.one.now q.2 c.in_default.not-Step q.4 in
-    (q.0, q.1, x.0, q.3 ∙ ap (λ y. q.0 ++ y ∷ q.1) x.1, q.5)
+    (q.0, q.1, q.2, q.3, kind-noted c.args.one.now q.2 c.in_default.not-Step q.4, q.5)
 
 pub returns-in-Step : goal.returns-in-Step
 returns-in-Step c =
@@ -27,10 +26,4 @@ returns-in-Step c =
     c.add_step.ensures
 
 pub returns-in_default : goal.returns-in_default
-returns-in_default c =
-    let run = run_of c.args.proof.now c.args.assumptions.now c.args.exports.now in
-    on_ok_weaker c.add_symbol.result
-    (λ h earlier later y whole kind making.
-    let x = kind-symbol c.args.one.now y c.in_default.not-Step kind in
-    subst (λ z. IsMaking run (earlier ++ z ∷ []) c.add_symbol.new.self) (sym x.1) (h earlier later x.0 (whole ∙ ap (λ z. earlier ++ z ∷ later) x.1) making))
-    c.add_symbol.ensures
+returns-in_default c = on_ok_weaker c.add_symbol.result (λ h earlier later y whole kind making. h earlier later y whole (kind-noted c.args.one.now y c.in_default.not-Step kind) making) c.add_symbol.ensures
