@@ -4,7 +4,7 @@ use Rattle.std.specs.Prelude.{false, IsFalse}
 use Rattle.std.specs.Option.{is_some}
 use Rattle.lp_spec.specs.declared.form.Form.TheVariants.{Def, Thm}
 use Rattle.lp_spec.specs.Trees.{Tree, depth}
-use Rattle.lp_spec.specs.Modules.{Declaration, types}
+use Rattle.lp_spec.specs.Modules.{Declaration, signature, types}
 use Rattle.lp_spec.specs.ModuleOrder.{IsOver, MayFollow, is_declared}
 use Rattle.lp_term.specs.declared.LpId.{LpId}
 use Rattle.lp_term.specs.Tables.{tree_at, AreKnown, Keeps}
@@ -14,12 +14,12 @@ use Rattle.holide_sig.specs.Modules.{declaration_in, IsBodyKnown, AreDeclsKnown}
 use Rattle.dk_write.specs.Shallow.{IsBodyShallow, IsShallow, AreShallow}
 
 -- a tree over the signature is one over more declarations
-over_more : (count : ℕ) (t : Tree) → 13 ≤ count → IsOver 13 t → IsOver count t
+over_more : (count : ℕ) (t : Tree) → length signature ≤ count → IsOver (length signature) t → IsOver count t
 over_more count t h o = record { closed = o.closed; kindless = o.kindless; known = omega (arith, h, o.known) }
 
 -- a definition of a new name by a tree over the signature
-pub may_define : (before : List Declaration) (ts : List Tree) (bytes name : List ℕ) (ty body : LpId) → 13 ≤ length before → IsFalse (is_declared before name) → bytes ≡ name
-    → tree_at ts ty.0 ≡ types → IsOver 13 (tree_at ts body.0) → MayFollow before (declaration_in ts (record { name = bytes; form = Def; ty = ty; body = Some body }))
+pub may_define : (before : List Declaration) (ts : List Tree) (bytes name : List ℕ) (ty body : LpId) → length signature ≤ length before → IsFalse (is_declared before name) → bytes ≡ name
+    → tree_at ts ty.0 ≡ types → IsOver (length signature) (tree_at ts body.0) → MayFollow before (declaration_in ts (record { name = bytes; form = Def; ty = ty; body = Some body }))
 may_define before ts bytes name ty body h new e f o = record {
   new_name = subst (λ n. IsFalse (is_declared before n)) (sym e) new;
   ty = subst (IsOver (length before)) (sym f) (record { closed = refl; kindless = refl; known = omega (arith, h) });

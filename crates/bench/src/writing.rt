@@ -19,9 +19,9 @@ use std::io;
 // `arr bool` applied to the tree.
 fn deeper(table: &mut LpTable, tree: LpId) -> Result<LpId, Memory>
     requires known { tree.0 < length table.old }
-    requires over { IsOver 13 (tree_at table.old tree.0) }
+    requires over { IsOver (length signature) (tree_at table.old tree.0) }
     ensures known { IfOk result (λ id. id.0 < length table.new) }
-    ensures over { IfOk result (λ id. IsOver 13 (tree_at table.new id.0)) }
+    ensures over { IfOk result (λ id. IsOver (length signature) (tree_at table.new id.0)) }
     ensures keeps { Keeps table.old table.new }
 {
     let bools = table.node(LpNode::Sym(1))?;
@@ -33,7 +33,7 @@ fn deeper(table: &mut LpTable, tree: LpId) -> Result<LpId, Memory>
 // `bool`, so many times deeper.
 fn nest(table: &mut LpTable, count: usize) -> Result<LpId, Memory>
     ensures known { IfOk result (λ id. id.0 < length table.new) }
-    ensures over { IfOk result (λ id. IsOver 13 (tree_at table.new id.0)) }
+    ensures over { IfOk result (λ id. IsOver (length signature) (tree_at table.new id.0)) }
     ensures keeps { Keeps table.old table.new }
 {
     let mut tree = table.node(LpNode::Sym(1))?;

@@ -33,6 +33,11 @@ fun_ext : a : type -> b : type -> f : term (arr a b) -> g : term (arr a b) -> (x
 app_thm : a : type -> b : type -> f : term (arr a b) -> g : term (arr a b) -> x : term a -> y : term a -> proof (eq (arr a b) f g) -> proof (eq a x y) -> proof (eq b (f x) (g y)).
 prop_ext : p : term bool -> q : term bool -> (proof p -> proof q) -> (proof q -> proof p) -> proof (eq bool p q).
 eq_mp : p : term bool -> q : term bool -> proof (eq bool p q) -> proof p -> proof q.
+sub : a : type -> p : term (arr a bool) -> w : term a -> proof (p w) -> type.
+sub_abs : a : type -> p : term (arr a bool) -> w : term a -> h : proof (p w) -> term (arr a (sub a p w h)).
+sub_rep : a : type -> p : term (arr a bool) -> w : term a -> h : proof (p w) -> term (arr (sub a p w h) a).
+sub_abs_rep : a : type -> p : term (arr a bool) -> w : term a -> h : proof (p w) -> x : term (sub a p w h) -> proof (eq (sub a p w h) (sub_abs a p w h (sub_rep a p w h x)) x).
+sub_rep_abs : a : type -> p : term (arr a bool) -> w : term a -> h : proof (p w) -> x : term a -> proof (eq bool (eq a (sub_rep a p w h (sub_abs a p w h x)) x) (p x)).
 '''
 lemmas = '''
 (; bound 10764582912 ;)

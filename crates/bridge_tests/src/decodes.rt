@@ -45,7 +45,7 @@ E10: [] [x0:bool] {x0} |- x0
 [[test.case]]
 texts.lines = "E0 : proof e."
 number = 6
-note = "byte 843: UnknownName e\n"
+note = "byte 1481: UnknownName e\n"
 
 [[test]]
 name = "says_constants_and_operators_by_their_names"

@@ -72,10 +72,12 @@ article.a = [
     '"x" 2 ref var "x" 2 ref var varTerm absTerm appTerm thm',
 ]
 texts.lines = '''
-o_two : v0 : type -> v1 : type -> type.
-c_mk : v0 : type -> v1 : type -> term (arr (arr v0 v1) (o_two v1 v0)).
-c_dest : v0 : type -> v1 : type -> term (arr (o_two v0 v1) (arr v1 v0)).
-L1 : v0 : type -> v1 : type -> proof (eq (arr (o_two v0 v1) (o_two v0 v1)) (v2 : term (o_two v0 v1) => c_mk v1 v0 (c_dest v0 v1 v2)) (v2 : term (o_two v0 v1) => v2)).
+A0 : v0 : type -> v1 : type -> v2 : term (arr v0 v1) -> proof ((v3 : term (arr v0 v1) => eq (arr v0 v1) v3 v3) v2).
+def o_two : v0 : type -> v1 : type -> type := v0 : type => v1 : type => sub (arr v1 v0) (v2 : term (arr v1 v0) => eq (arr v1 v0) v2 v2) (select (arr v1 v0) (v2 : term (arr v1 v0) => eq (arr v1 v0) v2 v2)) (A0 v1 v0 (select (arr v1 v0) (v2 : term (arr v1 v0) => eq (arr v1 v0) v2 v2))).
+def c_mk : v0 : type -> v1 : type -> term (arr (arr v0 v1) (o_two v1 v0)) := v0 : type => v1 : type => sub_abs (arr v0 v1) (v2 : term (arr v0 v1) => eq (arr v0 v1) v2 v2) (select (arr v0 v1) (v2 : term (arr v0 v1) => eq (arr v0 v1) v2 v2)) (A0 v0 v1 (select (arr v0 v1) (v2 : term (arr v0 v1) => eq (arr v0 v1) v2 v2))).
+def c_dest : v0 : type -> v1 : type -> term (arr (o_two v0 v1) (arr v1 v0)) := v0 : type => v1 : type => sub_rep (arr v1 v0) (v2 : term (arr v1 v0) => eq (arr v1 v0) v2 v2) (select (arr v1 v0) (v2 : term (arr v1 v0) => eq (arr v1 v0) v2 v2)) (A0 v1 v0 (select (arr v1 v0) (v2 : term (arr v1 v0) => eq (arr v1 v0) v2 v2))).
+(; bound 88716536000 ;)
+thm L1 : v0 : type -> v1 : type -> proof (eq (arr (o_two v0 v1) (o_two v0 v1)) (v2 : term (o_two v0 v1) => c_mk v1 v0 (c_dest v0 v1 v2)) (v2 : term (o_two v0 v1) => v2)) := v0 : type => v1 : type => fun_ext (o_two v0 v1) (o_two v0 v1) (v2 : term (o_two v0 v1) => c_mk v1 v0 (c_dest v0 v1 v2)) (v2 : term (o_two v0 v1) => v2) (v2 : term (o_two v0 v1) => sub_abs_rep (arr v1 v0) (v3 : term (arr v1 v0) => eq (arr v1 v0) v3 v3) (select (arr v1 v0) (v3 : term (arr v1 v0) => eq (arr v1 v0) v3 v3)) (A0 v1 v0 (select (arr v1 v0) (v3 : term (arr v1 v0) => eq (arr v1 v0) v3 v3))) v2).
 (; bound 592704000 ;)
 thm E0 : v0 : type -> v1 : type -> proof (eq (arr (o_two v0 v1) (o_two v0 v1)) (v2 : term (o_two v0 v1) => c_mk v1 v0 (c_dest v0 v1 v2)) (v2 : term (o_two v0 v1) => v2)) := v0 : type => v1 : type => L1 v0 v1.
 '''
@@ -83,8 +85,70 @@ texts.counts = '''
 articles 1
 assumptions 1
 exports 1
-declarations 7
-bounds 16809062912
+declarations 8
+bounds 105525598912
+'''
+
+# The same definition, of which the second law is exported.
+[[test]]
+name = "second_law_of_a_type_definition"
+article.a = [
+    "$version", '"->" typeOp "a" varType "b" varType nil cons cons opType 0 def pop',
+    '"two" "mk" "dest" "b" "a" nil cons cons nil "r" 0 ref var', "$equality", "$witness",
+    '"two" typeOp "b" varType "a" varType nil cons cons opType 1 def pop "r" 0 ref var', "$equality",
+    '"dest" const "->" typeOp 1 ref 0 ref nil cons cons opType constTerm',
+    '"mk" const "->" typeOp 0 ref 1 ref nil cons cons opType constTerm "r" 0 ref var varTerm appTerm appTerm appTerm',
+    '"r" 0 ref var varTerm appTerm absTerm 2 def pop "r" 0 ref var "r" 0 ref var', "$equality",
+    '"r" 0 ref var varTerm appTerm "r" 0 ref var varTerm appTerm absTerm "r" 0 ref var varTerm appTerm absTerm 3 def pop',
+    '"->" typeOp 0 ref "bool" typeOp nil opType nil cons cons opType 0 def pop nil', "$equality", "2 ref appTerm 3 ref appTerm thm",
+]
+texts.lines = '''
+A0 : v0 : type -> v1 : type -> v2 : term (arr v0 v1) -> proof ((v3 : term (arr v0 v1) => eq (arr v0 v1) v3 v3) v2).
+def o_two : v0 : type -> v1 : type -> type := v0 : type => v1 : type => sub (arr v1 v0) (v2 : term (arr v1 v0) => eq (arr v1 v0) v2 v2) (select (arr v1 v0) (v2 : term (arr v1 v0) => eq (arr v1 v0) v2 v2)) (A0 v1 v0 (select (arr v1 v0) (v2 : term (arr v1 v0) => eq (arr v1 v0) v2 v2))).
+def c_mk : v0 : type -> v1 : type -> term (arr (arr v0 v1) (o_two v1 v0)) := v0 : type => v1 : type => sub_abs (arr v0 v1) (v2 : term (arr v0 v1) => eq (arr v0 v1) v2 v2) (select (arr v0 v1) (v2 : term (arr v0 v1) => eq (arr v0 v1) v2 v2)) (A0 v0 v1 (select (arr v0 v1) (v2 : term (arr v0 v1) => eq (arr v0 v1) v2 v2))).
+def c_dest : v0 : type -> v1 : type -> term (arr (o_two v0 v1) (arr v1 v0)) := v0 : type => v1 : type => sub_rep (arr v1 v0) (v2 : term (arr v1 v0) => eq (arr v1 v0) v2 v2) (select (arr v1 v0) (v2 : term (arr v1 v0) => eq (arr v1 v0) v2 v2)) (A0 v1 v0 (select (arr v1 v0) (v2 : term (arr v1 v0) => eq (arr v1 v0) v2 v2))).
+(; bound 99639211456 ;)
+thm L2 : v0 : type -> v1 : type -> proof (eq (arr (arr v0 v1) bool) (v2 : term (arr v0 v1) => eq (arr v0 v1) (c_dest v1 v0 (c_mk v0 v1 v2)) v2) (v2 : term (arr v0 v1) => (v3 : term (arr v0 v1) => eq (arr v0 v1) v3 v3) v2)) := v0 : type => v1 : type => fun_ext (arr v0 v1) bool (v2 : term (arr v0 v1) => eq (arr v0 v1) (c_dest v1 v0 (c_mk v0 v1 v2)) v2) (v2 : term (arr v0 v1) => (v3 : term (arr v0 v1) => eq (arr v0 v1) v3 v3) v2) (v2 : term (arr v0 v1) => sub_rep_abs (arr v0 v1) (v3 : term (arr v0 v1) => eq (arr v0 v1) v3 v3) (select (arr v0 v1) (v3 : term (arr v0 v1) => eq (arr v0 v1) v3 v3)) (A0 v0 v1 (select (arr v0 v1) (v3 : term (arr v0 v1) => eq (arr v0 v1) v3 v3))) v2).
+(; bound 1780360128 ;)
+thm E0 : v0 : type -> v1 : type -> proof (eq (arr (arr v0 v1) bool) (v2 : term (arr v0 v1) => eq (arr v0 v1) (c_dest v1 v0 (c_mk v0 v1 v2)) v2) (v2 : term (arr v0 v1) => (v3 : term (arr v0 v1) => eq (arr v0 v1) v3 v3) v2)) := v0 : type => v1 : type => L2 v0 v1.
+'''
+texts.counts = '''
+articles 1
+assumptions 1
+exports 1
+declarations 8
+bounds 117635930496
+'''
+
+# A definition from a theorem with a type variable and a free variable that its predicate lacks: they are filled.
+[[test]]
+name = "type_definition_whose_theorem_has_more_variables"
+article.a = [
+    "$version", '"a" varType 0 def pop "one" "mk" "dest" "a" nil cons nil "r" 0 ref var', "$equality",
+    '"r" 0 ref var varTerm appTerm "r" 0 ref var varTerm appTerm absTerm "y" "c" varType var "g" 0 ref var varTerm absTerm',
+    '"z" "c" varType var varTerm appTerm appTerm axiom defineTypeOp',
+    'pop 0 ref 1 def pop "one" typeOp "a" varType nil cons opType 2 def pop',
+    '"->" typeOp 2 ref 2 ref nil cons cons opType 0 def pop nil', "$equality",
+    '"x" 2 ref var "mk" const "->" typeOp 1 ref 2 ref nil cons cons opType constTerm',
+    '"dest" const "->" typeOp 2 ref 1 ref nil cons cons opType constTerm "x" 2 ref var varTerm appTerm appTerm absTerm appTerm',
+    '"x" 2 ref var "x" 2 ref var varTerm absTerm appTerm thm',
+]
+texts.lines = '''
+A0 : v0 : type -> v1 : type -> v2 : term v0 -> v3 : term v1 -> proof ((v4 : term v0 => eq v0 v4 v4) ((v4 : term v1 => v2) v3)).
+def o_one : v0 : type -> type := v0 : type => sub v0 (v1 : term v0 => eq v0 v1 v1) ((v1 : term bool => select v0 (v2 : term v0 => eq v0 v2 v2)) (select bool (v1 : term bool => eq bool v1 v1))) (A0 v0 bool (select v0 (v1 : term v0 => eq v0 v1 v1)) (select bool (v1 : term bool => eq bool v1 v1))).
+def c_mk : v0 : type -> term (arr v0 (o_one v0)) := v0 : type => sub_abs v0 (v1 : term v0 => eq v0 v1 v1) ((v1 : term bool => select v0 (v2 : term v0 => eq v0 v2 v2)) (select bool (v1 : term bool => eq bool v1 v1))) (A0 v0 bool (select v0 (v1 : term v0 => eq v0 v1 v1)) (select bool (v1 : term bool => eq bool v1 v1))).
+def c_dest : v0 : type -> term (arr (o_one v0) v0) := v0 : type => sub_rep v0 (v1 : term v0 => eq v0 v1 v1) ((v1 : term bool => select v0 (v2 : term v0 => eq v0 v2 v2)) (select bool (v1 : term bool => eq bool v1 v1))) (A0 v0 bool (select v0 (v1 : term v0 => eq v0 v1 v1)) (select bool (v1 : term bool => eq bool v1 v1))).
+(; bound 62476255232 ;)
+thm L1 : v0 : type -> proof (eq (arr (o_one v0) (o_one v0)) (v1 : term (o_one v0) => c_mk v0 (c_dest v0 v1)) (v1 : term (o_one v0) => v1)) := v0 : type => fun_ext (o_one v0) (o_one v0) (v1 : term (o_one v0) => c_mk v0 (c_dest v0 v1)) (v1 : term (o_one v0) => v1) (v1 : term (o_one v0) => sub_abs_rep v0 (v2 : term v0 => eq v0 v2 v2) ((v2 : term bool => select v0 (v3 : term v0 => eq v0 v3 v3)) (select bool (v2 : term bool => eq bool v2 v2))) (A0 v0 bool (select v0 (v2 : term v0 => eq v0 v2 v2)) (select bool (v2 : term bool => eq bool v2 v2))) v1).
+(; bound 220348864 ;)
+thm E0 : v0 : type -> proof (eq (arr (o_one v0) (o_one v0)) (v1 : term (o_one v0) => c_mk v0 (c_dest v0 v1)) (v1 : term (o_one v0) => v1)) := v0 : type => L1 v0.
+'''
+texts.counts = '''
+articles 1
+assumptions 1
+exports 1
+declarations 8
+bounds 78912963008
 '''
 "#;
 

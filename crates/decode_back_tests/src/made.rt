@@ -33,10 +33,10 @@ fn declare(alloc: Global, into: &mut Module, name: &[u8], ty: LpId) -> Result<()
 
 // A relation between two trees.
 fn related(table: &mut LpTable, relation: LpId, left: LpId, right: LpId) -> Result<LpId, Memory>
-    requires relation { IsClosed 14 table.old relation }
-    requires left { IsClosed 14 table.old left }
-    requires right { IsClosed 14 table.old right }
-    ensures closed { IfOk result (IsClosed 14 table.new) }
+    requires relation { IsClosed (length signature + 1) table.old relation }
+    requires left { IsClosed (length signature + 1) table.old left }
+    requires right { IsClosed (length signature + 1) table.old right }
+    ensures closed { IfOk result (IsClosed (length signature + 1) table.new) }
     ensures keeps { Keeps table.old table.new }
 {
     let half = table.node(LpNode::App(relation, left))?;
@@ -45,9 +45,9 @@ fn related(table: &mut LpTable, relation: LpId, left: LpId, right: LpId) -> Resu
 
 // The relation of a tree to itself, so many times over.
 fn doubled(table: &mut LpTable, relation: LpId, leaf: LpId, times: usize) -> Result<LpId, Memory>
-    requires relation { IsClosed 14 table.old relation }
-    requires leaf { IsClosed 14 table.old leaf }
-    ensures closed { IfOk result (IsClosed 14 table.new) }
+    requires relation { IsClosed (length signature + 1) table.old relation }
+    requires leaf { IsClosed (length signature + 1) table.old leaf }
+    ensures closed { IfOk result (IsClosed (length signature + 1) table.new) }
     ensures keeps { Keeps table.old table.new }
 {
     let mut tree = leaf;
@@ -65,10 +65,10 @@ fn assuming(
     large: LpId,
     count: usize,
 ) -> Result<LpId, Memory>
-    requires relation { IsClosed 14 table.old relation }
-    requires leaf { IsClosed 14 table.old leaf }
-    requires large { IsClosed 14 table.old large }
-    ensures closed { IfOk result (IsClosed 14 table.new) }
+    requires relation { IsClosed (length signature + 1) table.old relation }
+    requires leaf { IsClosed (length signature + 1) table.old leaf }
+    requires large { IsClosed (length signature + 1) table.old large }
+    ensures closed { IfOk result (IsClosed (length signature + 1) table.new) }
     ensures keeps { Keeps table.old table.new }
 {
     let proof = table.node(LpNode::Sym(7))?;
@@ -85,7 +85,7 @@ fn assuming(
 
 // The proof of the first symbol that is declared under so many hypotheses, each with a tree so many times doubled.
 fn assumptions(table: &mut LpTable, count: usize, times: usize) -> Result<LpId, Memory>
-    ensures closed { IfOk result (IsClosed 14 table.new) }
+    ensures closed { IfOk result (IsClosed (length signature + 1) table.new) }
     ensures keeps { Keeps table.old table.new }
 {
     let equality = table.node(LpNode::Sym(5))?;
@@ -98,7 +98,7 @@ fn assumptions(table: &mut LpTable, count: usize, times: usize) -> Result<LpId, 
 
 // The type of the truth values.
 fn formulas(table: &mut LpTable) -> Result<LpId, Memory>
-    ensures closed { IfOk result (IsClosed 13 table.new) }
+    ensures closed { IfOk result (IsClosed (length signature) table.new) }
     ensures keeps { Keeps table.old table.new }
 {
     let term = table.node(LpNode::Sym(4))?;
@@ -121,7 +121,7 @@ fn assumed(alloc: Global, count: usize, times: usize) -> Result<Module, Memory>
 
 // The product over so many types of the type of the truth values.
 fn over_types(table: &mut LpTable, count: usize) -> Result<LpId, Memory>
-    ensures closed { IfOk result (IsClosed 13 table.new) }
+    ensures closed { IfOk result (IsClosed (length signature) table.new) }
     ensures keeps { Keeps table.old table.new }
 {
     let types = table.node(LpNode::Sym(0))?;
@@ -134,7 +134,7 @@ fn over_types(table: &mut LpTable, count: usize) -> Result<LpId, Memory>
 
 // The proof of the first symbol that is declared at so many times `bool`.
 fn at_bools(table: &mut LpTable, count: usize) -> Result<LpId, Memory>
-    ensures closed { IfOk result (IsClosed 14 table.new) }
+    ensures closed { IfOk result (IsClosed (length signature + 1) table.new) }
     ensures keeps { Keeps table.old table.new }
 {
     let truth = table.node(LpNode::Sym(1))?;

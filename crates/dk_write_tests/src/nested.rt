@@ -17,9 +17,9 @@ use std::test::Fail;
 // The tree applied to `bool`, or `arr bool` applied to the tree.
 fn deeper(table: &mut LpTable, tree: LpId, on_the_left: bool) -> Result<LpId, Memory>
     requires known { tree.0 < length table.old }
-    requires over { IsOver 13 (tree_at table.old tree.0) }
+    requires over { IsOver (length signature) (tree_at table.old tree.0) }
     ensures known { IfOk result (λ id. id.0 < length table.new) }
-    ensures over { IfOk result (λ id. IsOver 13 (tree_at table.new id.0)) }
+    ensures over { IfOk result (λ id. IsOver (length signature) (tree_at table.new id.0)) }
     ensures keeps { Keeps table.old table.new }
 {
     let bools = table.node(LpNode::Sym(1))?;
@@ -34,7 +34,7 @@ fn deeper(table: &mut LpTable, tree: LpId, on_the_left: bool) -> Result<LpId, Me
 // `bool`, so many times deeper.
 fn nest(table: &mut LpTable, count: usize, on_the_left: bool) -> Result<LpId, Memory>
     ensures known { IfOk result (λ id. id.0 < length table.new) }
-    ensures over { IfOk result (λ id. IsOver 13 (tree_at table.new id.0)) }
+    ensures over { IfOk result (λ id. IsOver (length signature) (tree_at table.new id.0)) }
     ensures keeps { Keeps table.old table.new }
 {
     let mut tree = table.node(LpNode::Sym(1))?;

@@ -2,6 +2,7 @@
 ghost use Rattle.std.specs.Prelude.{◌≡◌, ◌<◌, ◌≤◌, ◌+◌, length, IsFalse, IfOk, IfSome, OnOk};
 ghost use Rattle.std.specs.Bool.{OnTrue};
 ghost use Rattle.lp_spec.specs.Trees.{depth as depth_of, loose};
+ghost use Rattle.lp_spec.specs.Modules.{signature};
 ghost use Rattle.lp_spec.specs.ModuleOrder.{has_kind, symbols, IsOver};
 ghost use Rattle.lp_term.specs.Tables.{tree_at, AreKnown, Keeps, PartsBelow};
 ghost use Rattle.holide_sig.specs.Modules.{IsHeld};
@@ -75,7 +76,7 @@ fn is_over(table: &LpTable, id: LpId, binders: u128) -> bool
     requires { id.0 < length table.now }
     ensures closed { OnTrue result (loose (tree_at table.now id.0) ≤ binders) }
     ensures kindless { OnTrue result (IsFalse (has_kind (tree_at table.now id.0))) }
-    ensures known { OnTrue result (symbols (tree_at table.now id.0) ≤ 13) }
+    ensures known { OnTrue result (symbols (tree_at table.now id.0) ≤ length signature) }
 {
     match table.view(id) {
         LpNode::SortType => true,
@@ -94,7 +95,7 @@ fn is_over(table: &LpTable, id: LpId, binders: u128) -> bool
 // Whether a tree may stand in a declaration that is written.
 fn may_stand(table: &LpTable, id: LpId) -> bool
     requires { id.0 < length table.now }
-    ensures over { OnTrue result (IsOver 13 (tree_at table.now id.0)) }
+    ensures over { OnTrue result (IsOver (length signature) (tree_at table.now id.0)) }
     ensures shallow { OnTrue result (depth_of (tree_at table.now id.0) ≤ 16384) }
 {
     is_over(table, id, 0) && table.depth(id) <= 16_384

@@ -569,6 +569,36 @@ impl Bench {
             Err(UNKNOWN)
         }
     }
+
+    /// Whether the thing of this number that was made is an operator that was defined from this step.
+    pub(crate) fn is_defined_from(
+        &self,
+        index: usize,
+        text: &[u8],
+        id: StepId,
+    ) -> Result<bool, Fault> {
+        let name = self.name(text)?;
+        let made = self.proof.made().get(index);
+        Ok(matches!(made, Some(Made::TypeOp(own, one)) if *own == name && *one == id))
+    }
+
+    /// The laws of an operator of no arguments, from a step.
+    pub(crate) fn define_type_op(
+        &mut self,
+        operator: &[u8],
+        abs: &[u8],
+        rep: &[u8],
+        one: StepId,
+    ) -> Result<(StepId, StepId), Fault> {
+        let op = self.name(operator)?;
+        let abs = self.name(abs)?;
+        let rep = self.name(rep)?;
+        if self.is_step(one) {
+            self.proof.define_type_op(&op, &abs, &rep, &[], one)
+        } else {
+            Err(UNKNOWN)
+        }
+    }
 }
 
 /// Whether a rule was refused for this reason.

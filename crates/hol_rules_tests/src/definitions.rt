@@ -1,4 +1,4 @@
-//! Definitions of constants.
+//! Definitions of constants and of type operators.
 use crate::bench::{Bench, is_refused};
 use bridge_base::{Fault, Kind};
 use hol_spec::StepKind;
@@ -35,4 +35,18 @@ pub(crate) fn refused(bench: &mut Bench) -> Result<bool, Fault> {
     let same = bench.equal(own, own)?;
     let extra = is_refused(bench.define_const(b"m", same), Kind::ExtraTypeVars);
     Ok(taken && open && extra && bench.proof.len() == 0 && bench.proof.made().len() == 1)
+}
+
+/// n for the functions that are equal to \x. x: it is noted with the second step, from which it and its laws are made.
+pub(crate) fn type_operator(bench: &mut Bench) -> Result<bool, Fault> {
+    let x = bench.truth(b'x')?;
+    bench.refl(x)?;
+    let identity = bench.abs(b'x', x)?;
+    let one = bench.refl(identity)?;
+    let (first, second) = bench.define_type_op(b"n", b"abs", b"rep", one)?;
+    let noted = one == 1 && bench.is_defined_from(2, b"n", one)?;
+    let steps = bench.is_step_at(3, first) && bench.is_step_at(4, second);
+    let by = bench.is_by(first, StepKind::FirstLaw, &[one])
+        && bench.is_by(second, StepKind::SecondLaw, &[one]);
+    Ok(noted && steps && by && bench.proof.made().len() == 5)
 }

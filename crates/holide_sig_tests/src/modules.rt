@@ -38,8 +38,9 @@ fn numbers_the_signature_and_then_the_declarations(rt: HostRuntime) -> Result<()
     for (name, number) in [
         (b"type".as_slice(), Some(0)),
         (b"eq_mp".as_slice(), Some(12)),
+        (b"sub_rep_abs".as_slice(), Some(17)),
         (b"nat".as_slice(), Some(SIGNATURE)),
-        (b"list".as_slice(), Some(14)),
+        (b"list".as_slice(), Some(SIGNATURE + 1)),
         (b"lis".as_slice(), None),
         (b"".as_slice(), None),
     ] {
@@ -48,10 +49,10 @@ fn numbers_the_signature_and_then_the_declarations(rt: HostRuntime) -> Result<()
     assert_eq!(rt; module.decls.len(), 2);
     assert_eq!(rt; module.decls.get(1).name.as_bytes(), b"list".as_slice());
     assert_eq!(rt; module.symbol_name(5), b"eq".as_slice());
-    assert_eq!(rt; module.symbol_name(13), b"nat".as_slice());
+    assert_eq!(rt; module.symbol_name(SIGNATURE), b"nat".as_slice());
     let ty = module.symbol_type(4);
     let node = module.table.view(ty);
-    let (types, sort) = (module.symbol_type(13), module.symbol_type(0));
+    let (types, sort) = (module.symbol_type(SIGNATURE), module.symbol_type(0));
     assert_eq!(rt; node, LpNode::Pi(types, sort), "term : type -> Type");
     Ok(())
 }
@@ -66,6 +67,6 @@ fn names_are_their_bytes(rt: HostRuntime) -> Result<(), Fail> {
     assert!(rt; one == copy);
     assert_eq!(rt; two.into_bytes().as_slice(), b"E1".as_slice());
     assert!(rt; PRELUDE.starts_with(b"type : Type.\nbool : type.\n"));
-    assert_eq!(rt; PRELUDE.iter().filter(|byte| **byte == b'\n').count(), 14);
+    assert_eq!(rt; PRELUDE.iter().filter(|byte| **byte == b'\n').count(), 19);
     Ok(())
 }

@@ -39,6 +39,19 @@ name = "a_variable_of_an_outer_binder_counts_the_binders_between"
 [[test.case]]
 texts.after = "i_f : v0 : type -> term v0. E0 : proof (i_f (arr (arr bool (arr bool bool)) bool) (v0 : term bool => v1 : term bool => v0))."
 comes = "[] [] {} |- ((f:((bool -> (bool -> bool)) -> bool)) (\\b0:bool. (\\b1:bool. b0)))"
+
+[[test]]
+name = "a_definition_of_a_part_is_an_operator_and_the_part_itself_is_none"
+texts.part = "p : term (arr bool bool). w : term bool. A0 : proof (p w). def o_t : type := sub bool p w A0. "
+text = ["$prelude", "$part", "$after"]
+
+[[test.case]]
+texts.after = "E0 : v0 : term o_t -> proof (eq o_t v0 v0)."
+comes = "[] [x0:t] {} |- (((=:(t -> (t -> bool))) x0) x0)"
+
+[[test.case]]
+texts.after = "E0 : v0 : term (sub bool p w A0) -> proof (eq (sub bool p w A0) v0 v0)."
+comes = "none"
 "#;
 
 #[test]

@@ -25,6 +25,8 @@ mod limits;
 #[cfg(test)]
 mod misleading;
 #[cfg(test)]
+mod parts;
+#[cfg(test)]
 mod prices;
 #[cfg(test)]
 mod readings;

@@ -25,7 +25,7 @@ comes = "symbol c, def d, thm e"
 [[test.case]]
 by = "find"
 names = ["c"]
-comes = "13"
+comes = "18"
 
 [[test]]
 name = "reads_several_declarations_and_comments_in_any_pieces"
@@ -38,7 +38,7 @@ comes = "symbol first_name, def second, thm third"
 [[test.case]]
 by = "find"
 names = ["first_name", "x"]
-comes = "13, none"
+comes = "18, none"
 
 [[test]]
 name = "the_signature_alone_reads_as_no_declaration"

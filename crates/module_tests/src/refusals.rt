@@ -84,6 +84,26 @@ comes = "NoPrelude at 7"
 text = "type : Type.\r\n"
 comes = "NoPrelude at 12"
 
+[[test.case]]
+# the signature without parts of types, and a declaration where the first of its further lines stands
+text = ['''
+type : Type.
+bool : type.
+ind : type.
+arr : type -> type -> type.
+def term : type -> Type.
+[a, b] term (arr a b) --> term a -> term b.
+eq : a : type -> term (arr a (arr a bool)).
+select : a : type -> term (arr (arr a bool) a).
+proof : term bool -> Type.
+refl : a : type -> x : term a -> proof (eq a x x).
+fun_ext : a : type -> b : type -> f : term (arr a b) -> g : term (arr a b) -> (x : term a -> proof (eq b (f x) (g x))) -> proof (eq (arr a b) f g).
+app_thm : a : type -> b : type -> f : term (arr a b) -> g : term (arr a b) -> x : term a -> y : term a -> proof (eq (arr a b) f g) -> proof (eq a x y) -> proof (eq b (f x) (g y)).
+prop_ext : p : term bool -> q : term bool -> (proof p -> proof q) -> (proof q -> proof p) -> proof (eq bool p q).
+eq_mp : p : term bool -> q : term bool -> proof (eq bool p q) -> proof p -> proof q.
+''', "x : type."]
+comes = "NoPrelude at 832"
+
 [[test]]
 name = "refuses_a_part_of_the_signature_at_its_length"
 limits = ["free"]
@@ -92,7 +112,7 @@ pieces = [4096]
 [[test.case]]
 by = "cuts"
 text = "$prelude"
-comes = "832"
+comes = "1470"
 "#;
 
 #[test]

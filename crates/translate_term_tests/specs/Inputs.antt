@@ -1,8 +1,8 @@
 -- The module of the tests, which declares one input constant.
-use Rattle.std.specs.Prelude.{List, [], ◌∷◌, codes}
+use Rattle.std.specs.Prelude.{List, [], ◌∷◌, length, codes}
 use Rattle.hol_spec.specs.Types.{variable}
 use Rattle.lp_spec.specs.Trees.{Tree, Var, Pi}
-use Rattle.lp_spec.specs.Modules.{Declaration, symbol, types, term_of}
+use Rattle.lp_spec.specs.Modules.{Declaration, signature, symbol, types, term_of}
 use Rattle.module_spec.specs.Scopes.{Symbols}
 
 -- v0 : type -> term v0
@@ -15,4 +15,4 @@ input_module = symbol (codes "i_u") input_type ∷ []
 
 -- its symbols: u is the one after the signature's, at every type
 abbrev pub input_symbols : Symbols
-input_symbols = record { operator = λ n k. 0; constant = λ n. 13; generic = λ n. variable (codes "A" ∷ []) }
+input_symbols = record { operator = λ n k. 0; constant = λ n. length signature; generic = λ n. variable (codes "A" ∷ []) }

@@ -1,10 +1,12 @@
+use Rattle.std.proofs.Common.{length, ◌+◌}
+use Rattle.lp_spec.specs.Modules.{signature}
 use Rattle.lp_term.specs.Tables.{Keeps}
 use Rattle.decode_back_tests.specs.ClosedTrees.{IsClosed}
 use Rattle.decode_back_tests.proofs.made.doubled.Given as goal
 
 abbrev pub invariant-loop : goal.invariant-loop
 invariant-loop l = record {
-  relation : IsClosed 14 l.table l.relation;
-  tree : IsClosed 14 l.table l.tree;
+  relation : IsClosed (length signature + 1) l.table l.relation;
+  tree : IsClosed (length signature + 1) l.table l.tree;
   keeps : Keeps l.fn.table l.table;
 }

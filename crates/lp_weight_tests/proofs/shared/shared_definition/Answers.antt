@@ -1,4 +1,4 @@
-use Rattle.std.proofs.Common.{sym, ◌∙◌, subst, refl, arith, ◌++◌, map, IsFalse, Some}
+use Rattle.std.proofs.Common.{sym, ◌∙◌, subst, refl, arith, ◌++◌, length, map, IsFalse, Some}
 use Rattle.lp_spec.specs.declared.form.Form.TheVariants.{Def}
 use Rattle.lp_spec.specs.Trees.{Sym}
 use Rattle.lp_spec.specs.Modules.{signature}
@@ -14,11 +14,11 @@ use Rattle.lp_weight_tests.proofs.shared.shared_definition.Goals as goal
 grown : (c : goal.After-into-2-1) → Keeps c.in_ok-into.into.table c.doubled.new.table
 grown c = Keeps-trans c.node.ensures.keeps (Keeps-trans c.node-2.ensures.keeps c.doubled.ensures.keeps)
 
-ty : (c : goal.After-into-2-1) → IsOpen 0 13 c.doubled.new.table c.in_ok-ty.ty
-ty c = open-Keeps 0 13 c.in_ok-ty.ty (Keeps-trans c.node-2.ensures.keeps c.doubled.ensures.keeps) (open-Holds 0 13 c.node.new.self c.in_ok-ty.ty (Sym 0) c.in_ok-ty.ensures.made (omega arith) refl (omega arith))
+ty : (c : goal.After-into-2-1) → IsOpen 0 (length signature) c.doubled.new.table c.in_ok-ty.ty
+ty c = open-Keeps 0 (length signature) c.in_ok-ty.ty (Keeps-trans c.node-2.ensures.keeps c.doubled.ensures.keeps) (open-Holds 0 (length signature) c.node.new.self c.in_ok-ty.ty (Sym 0) c.in_ok-ty.ensures.made (omega arith) refl (omega arith))
 
-body : (c : goal.After-into-2-1) → IsOpen 0 13 c.doubled.new.table c.in_ok-body.body
-body c = c.in_ok-body.ensures.«open» 0 13 (omega arith) (open-Holds 0 13 c.node-2.new.self c.in_ok-leaf.leaf (Sym 1) c.in_ok-leaf.ensures.made (omega arith) refl (omega arith))
+body : (c : goal.After-into-2-1) → IsOpen 0 (length signature) c.doubled.new.table c.in_ok-body.body
+body c = c.in_ok-body.ensures.«open» 0 (length signature) (omega arith) (open-Holds 0 (length signature) c.node-2.new.self c.in_ok-leaf.leaf (Sym 1) c.in_ok-leaf.ensures.made (omega arith) refl (omega arith))
 
 pub push-requires-clause-held : goal.push-requires-clause-held
 push-requires-clause-held c = IsHeld-Keeps c.in_ok-into.into c.doubled.new.table (grown c) c.in_ok-into.ensures.held

@@ -1,4 +1,4 @@
-use Rattle.std.proofs.Common.{sym, ◌∙◌, subst, refl, arith, ◌++◌, map, IsFalse, None}
+use Rattle.std.proofs.Common.{sym, ◌∙◌, subst, refl, arith, ◌++◌, length, map, IsFalse, None}
 use Rattle.lp_spec.specs.declared.form.Form.TheVariants.{Symbol}
 use Rattle.lp_spec.specs.Trees.{Sym, Var}
 use Rattle.lp_spec.specs.Modules.{signature}
@@ -14,14 +14,14 @@ use Rattle.lp_weight_tests.proofs.shared.shared_type.Goals as goal
 grown : (c : goal.After-into-2-1) → Keeps c.in_ok-into.into.table c.node-3.new.self
 grown c = Keeps-trans c.node.ensures.keeps (Keeps-trans c.node-2.ensures.keeps (Keeps-trans c.doubled.ensures.keeps c.node-3.ensures.keeps))
 
-result : (c : goal.After-into-2-1) → IsOpen 1 13 c.doubled.new.table c.in_ok-result.result
-result c = c.in_ok-result.ensures.«open» 1 13 (omega arith) (open-Holds 1 13 c.node-2.new.self c.in_ok-leaf.leaf (Var 0) c.in_ok-leaf.ensures.made (omega arith) refl (omega arith))
+result : (c : goal.After-into-2-1) → IsOpen 1 (length signature) c.doubled.new.table c.in_ok-result.result
+result c = c.in_ok-result.ensures.«open» 1 (length signature) (omega arith) (open-Holds 1 (length signature) c.node-2.new.self c.in_ok-leaf.leaf (Var 0) c.in_ok-leaf.ensures.made (omega arith) refl (omega arith))
 
-simple : (c : goal.After-into-2-1) → IsOpen 0 13 c.doubled.new.table c.in_ok-simple.simple
-simple c = open-Keeps 0 13 c.in_ok-simple.simple (Keeps-trans c.node-2.ensures.keeps c.doubled.ensures.keeps) (open-Holds 0 13 c.node.new.self c.in_ok-simple.simple (Sym 0) c.in_ok-simple.ensures.made (omega arith) refl (omega arith))
+simple : (c : goal.After-into-2-1) → IsOpen 0 (length signature) c.doubled.new.table c.in_ok-simple.simple
+simple c = open-Keeps 0 (length signature) c.in_ok-simple.simple (Keeps-trans c.node-2.ensures.keeps c.doubled.ensures.keeps) (open-Holds 0 (length signature) c.node.new.self c.in_ok-simple.simple (Sym 0) c.in_ok-simple.ensures.made (omega arith) refl (omega arith))
 
-ty : (c : goal.After-into-2-1) → IsOpen 0 13 c.node-3.new.self c.in_ok-ty.ty
-ty c = open-product 0 13 c.doubled.new.table c.node-3.new.self c.in_ok-simple.simple c.in_ok-result.result c.in_ok-ty.ty c.in_ok-ty.ensures.made (simple c) (result c)
+ty : (c : goal.After-into-2-1) → IsOpen 0 (length signature) c.node-3.new.self c.in_ok-ty.ty
+ty c = open-product 0 (length signature) c.doubled.new.table c.node-3.new.self c.in_ok-simple.simple c.in_ok-result.result c.in_ok-ty.ty c.in_ok-ty.ensures.made (simple c) (result c)
 
 pub push-requires-clause-held : goal.push-requires-clause-held
 push-requires-clause-held c = IsHeld-Keeps c.in_ok-into.into c.node-3.new.self (grown c) c.in_ok-into.ensures.held
