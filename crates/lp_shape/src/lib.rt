@@ -8,10 +8,10 @@
 //! |---|---|
 //! | `HeadSteps` | the head step of a tree |
 //! | `Check` | the directed rules as plans of questions, how they end, and at which price |
-//! | `Shaped` | the shapes of types, terms and proofs that come from higher-order logic |
+//! | `Shaped`, `ShapedParts` | the shapes of types, terms and proofs that come from higher-order logic, and of what a type definition defines |
 //! | `HeadStepLaws`, `ConvertLaws` | a head step is a chain of steps, and what is found convertible is |
 //! | `CheckLaws`, `PlanLaws`, `CheckerLaw` | a check has one answer and one price; what passes is typed |
-//! | `Sizes`, `Found`, `SizedTerms`, `TermPrice`, `DeclaredPrice`, `ProofPrice`, `LawPrice` | what the rules find of shaped trees, and at which price |
+//! | `Sizes`, `Found`, `SizedTerms`, `TermPrice`, `DeclaredPrice`, `ProofPrice`, `LawSpreads`, `LawPrice` | what the rules find of shaped trees, and at which price |
 //! | `ShapedCalls`, `ShapedRows`, `ShapedPasses`, `PricedModules` | a shaped declaration passes within 64 times the square of its weight, and a shaped module is well typed |
 //! | `FastCheck`, `ClosedTrees`, `EarlierDeclarations` | a check without rechecks of sorts; what is found of closed trees owes nothing to the context, and nothing to later declarations |
 //! | `ShapeStatements` | the statements of the functions below |

@@ -11,7 +11,8 @@
 //! | `ScopeTyping`, `TheoremTyping`, `SequentScope`, `Bodies`, `BodyTyping` | what a scope and a premise must be |
 //! | `ShapeLaws`, `ShapedScopes`, `ShapedTheorems`, `ShapedSequents` | translated terms, theorems and sequents are shaped |
 //! | `ShapedRows`, `AbstractionBody`, `AbstractionRow`, `SubstitutionBody`, `SubstitutionRow`, `ComputingBodies`, `ComputingRows`, `RuleShapes` | every rule's proof is shaped |
-//! | `ItemConditions`, `MadeModules`, `KeptModules`, `WantedItems`, `ModuleTyping`, `ItemShapes` | what each item asks of those before it; what is reached is kept and renumbered; each declaration is shaped |
+//! | `PartTrees`, `PartRows` | the definitions of a type definition and its two laws are shaped |
+//! | `ItemConditions`, `HeldItems`, `NeededSteps`, `MadeModules`, `KeptModules`, `WantedItems`, `ModuleTyping`, `ItemShapes` | what each item asks of those before it; what is reached is kept and renumbered; each declaration is shaped |
 //! | `ShapesTyped`, `OrderedModules`, `PricedModules` | what is shaped is typed, over what stands before it, and checked at its price |
 //! | `SymbolsHeld`, `DefinitionsHeld`, `SaidItems`, `AcceptedItems` | what a proof made is, as items, made in order; what items say |
 //! | `NumeralLaws`, `ExportNames` | how names write numbers: differently, and so that a test tells the names of exports |
@@ -68,7 +69,7 @@ pub fn theorems_shaped()
     ensures { TheoremsShaped }
 {}
 
-/// The law of rows: the proof of a step is shaped, and its found type is near its conclusion.
+/// The law of rows: the proof of a step is shaped, and its found type is near its conclusion; so are the two laws of a type definition.
 pub fn rules_shaped()
     ensures { RulesShaped }
 {}
