@@ -1,4 +1,6 @@
 -- The words that define symbols keep a state sound.
+use Rattle.hol_spec.specs.declared.Version.{Version}
+use Rattle.hol_spec.specs.declared.Version.TheVariants.{Five, Six}
 use Rattle.std.proofs.Common.{◌≡◌, ℕ, ◌+◌, ◌<◌, List, [], ◌∷◌, ◌++◌, map, length, true, false, ◌&&◌, cond, Option, None, Some, Result, Ok, slice_get, refl, sym, ap, subst, ◌∙◌, arith}
 use Rattle.std.specs.Prelude.{is_some, not, nat_eq}
 use Rattle.std.specs.Option.{ok_or, option_map, option_or, option_to_list}
@@ -28,7 +30,7 @@ use Rattle.hol_spec.specs.Repeats.{no_repeats}
 use Rattle.hol_spec.specs.Equations.{Equation, equation_parts}
 use Rattle.proof_laws.specs.EquationLaws.{equation_parts-is, equation-sides}
 use Rattle.hol_spec.specs.DefinitionLists.{ConstantPairs, names_of, variables_of, variable_side, of_equation, variable_equation, defining_equations, definiens, is_definition_list, definitions_in}
-use Rattle.hol_spec.specs.TypeDefinitions.{IsTypeDefinition, are_type_variables_of, first_law, second_law}
+use Rattle.hol_spec.specs.TypeDefinitions.{IsTypeDefinition, are_type_variables_of, first_law_of, second_law_of}
 use Rattle.hol_spec.specs.Symbols.{Symbol, defined, generic_type, is_input_constant, is_taken_constant}
 use Rattle.proof_laws.specs.SymbolGrowth.{symmetric, generic_type-new, term-more, type-more}
 use Rattle.hol_spec.specs.Taking.{Takes, AreNew}
@@ -48,7 +50,7 @@ use Rattle.hol_spec.specs.Proofs.{Made, symbols_of, steps_of, sequents_of, seque
 use Rattle.proof_laws.specs.ProofGrowth.{All-get, symbols_of-append, sequents_of-append, definitions_of-append, over-sequents}
 use Rattle.proof_laws.specs.ProofLaws.{symbols_of-symbols}
 use Rattle.hol_spec.specs.declared.StepKind.TheVariants as by_rule
-use Rattle.article_spec.specs.State.{Object, State, Objects}
+use Rattle.article_spec.specs.State.{Object, State, Objects, version_at}
 use Rattle.article_spec.specs.State as object
 use Rattle.article_spec.specs.Operands.{as_name, as_names, as_term, as_theorem, as_constant_pairs, pop}
 use Rattle.article_spec.specs.Conditions.{demand, in_limits, typed}
@@ -264,12 +266,21 @@ used m names c f u p is h k =
     subst (λ q. AllByRecursion (IsAmong (definitions_of m)) (type_definition_in names q)) (sym is)
     (subst (λ o. AllByRecursion (IsAmong (definitions_of m)) (option_to_list (option_map (λ c. Definition.type_operator names c f) o))) (sym h) (k, tt {0}))
 
-make_type-sound : (s t : State) (names : TypeNames) (i : ℕ) (c : HolType) (f u : Term) → IsSound s → i < length (steps_of s.made) → AreNew (symbols_of s.made) names → PredicateFits names.variables f
-    → (sequent_at s.made i).hypotheses ≡ [] → (sequent_at s.made i).conclusion ≡ app f u → HasType u c → make_type s names i c f ≡ Ok t → IsSound t
-make_type-sound s t names i c f u g l new fit alone is typed e =
+-- a law in an article of a version
+first_rule : (version : Version) (names : TypeNames) (c : HolType) (f : Term) (one : Sequent) → IsTypeDefinition names c f one → rule.Rule by_rule.FirstLaw (one ∷ []) (Parameters.type_operator names version) (first_law_of version names c)
+first_rule Five names c f one d = rule.Rule.first_law_free d refl
+first_rule Six names c f one d = rule.Rule.first_law d refl
+
+second_rule : (version : Version) (names : TypeNames) (c : HolType) (f : Term) (one : Sequent) → IsTypeDefinition names c f one → rule.Rule by_rule.SecondLaw (one ∷ []) (Parameters.type_operator names version) (second_law_of version names c f)
+second_rule Five names c f one d = rule.Rule.second_law_free d refl
+second_rule Six names c f one d = rule.Rule.second_law d refl
+
+make_type-sound : (version : Version) (s t : State) (names : TypeNames) (i : ℕ) (c : HolType) (f u : Term) → IsSound s → i < length (steps_of s.made) → AreNew (symbols_of s.made) names → PredicateFits names.variables f
+    → (sequent_at s.made i).hypotheses ≡ [] → (sequent_at s.made i).conclusion ≡ app f u → HasType u c → make_type version s names i c f ≡ Ok t → IsSound t
+make_type-sound version s t names i c f u g l new fit alone is typed e =
     let symbols = symbols_of s.made in
     let one = sequent_at s.made i in
-    let measures = type_measure (new_type names) ∷ type_measure (abstraction_type names c) ∷ type_measure (representation_type names c) ∷ sequent_measure (first_law names c) ∷ sequent_measure (second_law names c f) ∷ [] in
+    let measures = type_measure (new_type names) ∷ type_measure (abstraction_type names c) ∷ type_measure (representation_type names c) ∷ sequent_measure (first_law_of version names c) ∷ sequent_measure (second_law_of version names c f) ∷ [] in
     let limits = passed (in_limits measures) _ t e in
     let within = in_limits-All measures limits.0 limits.1 in
     let definition : IsTypeDefinition names c f one = record { witness = u; no_hypotheses = alone; holds = is; typed = typed; closed = fit.closed; variables = fit.names } in
@@ -281,21 +292,21 @@ make_type-sound s t names i c f u g l new fit alone is typed e =
     let sound : IsSound s1 = definition-more (with_stack s stack) names c f i (restacked s stack g (tt {0}, (tt {0}, (tt {0}, g.stack))))
     (record { one = one; at = at_step s.made i l; defines = definition; taken = taking.Takes.type_operator new (predicate-typed names c f one definition (sequent_at-IsSequent s i g l).conclusion) fit.closed fit.names })
     (type_of-taken symbols u c application.1 typed, application.0) in
-    let first = step_by by_rule.FirstLaw (i ∷ []) (Parameters.type_operator names) (first_law names c) in
-    let second = step_by by_rule.SecondLaw (i ∷ []) (Parameters.type_operator names) (second_law names c f) in
+    let first = step_by by_rule.FirstLaw (i ∷ []) (Parameters.type_operator names version) (first_law_of version names c) in
+    let second = step_by by_rule.SecondLaw (i ∷ []) (Parameters.type_operator names version) (second_law_of version names c f) in
     let premise = premise-more s.made (m ∷ []) i one (at_step s.made i l) in
     let made1 : IsAmong s1.made m = (all-second s.made (m ∷ [])).0 in
     let among : IsAmong (definitions_of s1.made) d = subst (λ es. IsAmong es d) (sym (definitions_of-append s.made (m ∷ []))) (all-second (definitions_of s.made) (d ∷ [])).0 in
     let s2 = with_theorem s1 first in
     let sound2 : IsSound s2 = theorem-sound s1 first sound
-    (record { premises = one ∷ []; earlier = (premise, tt {0}); rule = rule.Rule.first_law definition refl; defined = used s1.made names c f u one.conclusion is typed among; parameters = tt {0}; law = record { c = c; f = f; number = i; among = made1; is = refl } }) refl
-    (sequent-within (first_law names c) within.1.1.1.0) in
+    (record { premises = one ∷ []; earlier = (premise, tt {0}); rule = first_rule version names c f one definition; defined = used s1.made names c f u one.conclusion is typed among; parameters = tt {0}; law = record { c = c; f = f; number = i; among = made1; is = refl } }) refl
+    (sequent-within (first_law_of version names c) within.1.1.1.0) in
     let among2 : IsAmong (definitions_of s2.made) d = subst (λ es. IsAmong es d) (sym (definitions_of-append s1.made (Made.step first ∷ []))) (among-front (definitions_of s1.made) [] d among) in
     let made2 : IsAmong s2.made m = among-front s1.made (Made.step first ∷ []) m made1 in
     answered (with_theorem s2 second) t limits.2
     (theorem-sound s2 second sound2
-    (record { premises = one ∷ []; earlier = (premise-more s1.made (Made.step first ∷ []) i one premise, tt {0}); rule = rule.Rule.second_law definition refl; defined = used s2.made names c f u one.conclusion is typed among2; parameters = tt {0}; law = record { c = c; f = f; number = i; among = made2; is = refl } }) refl
-    (sequent-within (second_law names c f) within.1.1.1.1.0))
+    (record { premises = one ∷ []; earlier = (premise-more s1.made (Made.step first ∷ []) i one premise, tt {0}); rule = second_rule version names c f one definition; defined = used s2.made names c f u one.conclusion is typed among2; parameters = tt {0}; law = record { c = c; f = f; number = i; among = made2; is = refl } }) refl
+    (sequent-within (second_law_of version names c f) within.1.1.1.1.0))
 
 define_type-sound : (s t : State) (names : TypeNames) (i : ℕ) → IsSound s → i < length (steps_of s.made) → define_type s names i ≡ Ok t → IsSound t
 define_type-sound s t names i g l e =
@@ -306,7 +317,7 @@ define_type-sound s t names i g l e =
     let parts = bound (ok_or (application_parts one.conclusion) NotTheSequent) _ t alone.2 in
     let c = bound (typed parts.0.1) _ t parts.2 in
     let some : application_parts one.conclusion ≡ Some (parts.0.0, parts.0.1) = found (application_parts one.conclusion) NotTheSequent parts.0 parts.1 in
-    make_type-sound s t names i c.0 parts.0.0 parts.0.1 g l (new-names (symbols_of s.made) names new.0 new.1)
+    make_type-sound (version_at s.place) s t names i c.0 parts.0.0 parts.0.1 g l (new-names (symbols_of s.made) names new.0 new.1)
     (fits-is names.variables (application_parts one.conclusion) parts.0.0 parts.0.1 fits.0 fits.1 some) (no-hypotheses one.hypotheses (demanded (nat_eq (length one.hypotheses) 0) NotTheSequent alone.0 alone.1))
     (application-is one.conclusion parts.0.0 parts.0.1 some) (typed-is parts.0.1 c.0 c.1) c.2
 

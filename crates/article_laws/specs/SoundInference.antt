@@ -86,6 +86,8 @@ lawless before kind ks ss p s (rule.Rule.define_const h e) u = tt
 lawless before kind ks ss p s (rule.Rule.define_const_list d l e) u = tt
 lawless before kind ks ss p s (rule.Rule.first_law {names = names} {c = c} {f = f} {one = one} d e) u = absurd (no_definition names c f one d u)
 lawless before kind ks ss p s (rule.Rule.second_law {names = names} {c = c} {f = f} {one = one} d e) u = absurd (no_definition names c f one d u)
+lawless before kind ks ss p s (rule.Rule.first_law_free {names = names} {c = c} {f = f} {one = one} d e) u = absurd (no_definition names c f one d u)
+lawless before kind ks ss p s (rule.Rule.second_law_free {names = names} {c = c} {f = f} {one = one} d e) u = absurd (no_definition names c f one d u)
 
 -- a state whose stack is what is left, and a step on one or two premises
 module _ (s t : State) (g : IsSound s) (rest : List Object) (left : AllByRecursion (IsObject s.made) rest) where

@@ -6,7 +6,8 @@ use Rattle.std.specs.Ordering.{int_eq, int_cmp}
 use Rattle.std.specs.FinMap as entries
 use Rattle.article_spec.specs.Ascending.{Ascend}
 use Rattle.bridge_base.specs.declared.faults.Kind.{Kind}
-use Rattle.bridge_base.specs.declared.faults.Kind.TheVariants.{VersionPlace}
+use Rattle.hol_spec.specs.declared.Version.{Version}
+use Rattle.hol_spec.specs.declared.Version.TheVariants.{Five}
 use Rattle.article_spec.specs.declared.commands.Command.{Command}
 use Rattle.article_spec.specs.declared.commands.Item.{Item}
 use Rattle.article_spec.specs.declared.commands.Item.TheVariants as item
@@ -21,7 +22,7 @@ use Rattle.proof_laws.specs.StepsDerive.{proof-derives}
 use Rattle.article_spec.specs.Lines.{End, ended, refused}
 use Rattle.article_spec.specs.State.{Object, State, Place, start, version, body, initial}
 use Rattle.article_spec.specs.Conditions.{demand}
-use Rattle.article_spec.specs.Step.{obey, step_at, step, is_version, is_body, finish}
+use Rattle.article_spec.specs.Step.{obey, in_body, obey_item, second_word, step_at, step, finish}
 use Rattle.article_spec.specs.Run.{Obeys, machine, at_line, obey_all, end_article, obey_article, accepted_state, Outcome, accepted, refused_at, RunsFrom, finished, passed, stopped}
 use Rattle.article_laws.specs.Soundness.{IsObject, IsSound}
 use Rattle.article_spec.specs.SoundRuns.{assumed_from, IsDerived, IsSoundRun, RunsAreSound}
@@ -83,16 +84,59 @@ dropped : (m : List Made) (xs : List Object) → AllByRecursion (IsObject m) xs 
 dropped m [] h = tt
 dropped m (x ∷ xs) h = h.1
 
+-- an article in its body
+in_body-sound : (v : Version) (s : State) → IsSound s → IsSound (in_body v s)
+in_body-sound v s g = record { proof = g.proof; over = g.over; stack = g.stack; dictionary = g.dictionary; exports = g.exports; assumptions = g.assumptions }
+
+obey_item-sound : (s t : State) (i : Item) → IsSound s → obey_item s i ≡ Ok t → IsSound t
+obey_item-sound s t (item.Number z) g e = placed s _ t e g refl refl refl refl (tt {0}, g.stack)
+obey_item-sound s t (item.Name n) g e = placed s _ t e g refl refl refl refl (tt {0}, g.stack)
+obey_item-sound s t (item.Word w) g e = obey-sound s t w g e
+
+second_word-sound : (s t : State) (w : Word) → IsSound s → second_word s w ≡ Ok t → IsSound t
+second_word-sound s t word.Version g e = placed s _ t e g refl refl refl refl (dropped s.made s.stack g.stack)
+second_word-sound s t word.Nil g e = obey-sound (in_body Five s) t word.Nil (in_body-sound Five s g) e
+second_word-sound s t word.Cons g e = obey-sound (in_body Five s) t word.Cons (in_body-sound Five s g) e
+second_word-sound s t word.HdTl g e = obey-sound (in_body Five s) t word.HdTl (in_body-sound Five s g) e
+second_word-sound s t word.TypeOp g e = obey-sound (in_body Five s) t word.TypeOp (in_body-sound Five s g) e
+second_word-sound s t word.VarType g e = obey-sound (in_body Five s) t word.VarType (in_body-sound Five s g) e
+second_word-sound s t word.OpType g e = obey-sound (in_body Five s) t word.OpType (in_body-sound Five s g) e
+second_word-sound s t word.Const g e = obey-sound (in_body Five s) t word.Const (in_body-sound Five s g) e
+second_word-sound s t word.ConstTerm g e = obey-sound (in_body Five s) t word.ConstTerm (in_body-sound Five s g) e
+second_word-sound s t word.Var g e = obey-sound (in_body Five s) t word.Var (in_body-sound Five s g) e
+second_word-sound s t word.VarTerm g e = obey-sound (in_body Five s) t word.VarTerm (in_body-sound Five s g) e
+second_word-sound s t word.AppTerm g e = obey-sound (in_body Five s) t word.AppTerm (in_body-sound Five s g) e
+second_word-sound s t word.AbsTerm g e = obey-sound (in_body Five s) t word.AbsTerm (in_body-sound Five s g) e
+second_word-sound s t word.Def g e = obey-sound (in_body Five s) t word.Def (in_body-sound Five s g) e
+second_word-sound s t word.Ref g e = obey-sound (in_body Five s) t word.Ref (in_body-sound Five s g) e
+second_word-sound s t word.Remove g e = obey-sound (in_body Five s) t word.Remove (in_body-sound Five s g) e
+second_word-sound s t word.Pop g e = obey-sound (in_body Five s) t word.Pop (in_body-sound Five s g) e
+second_word-sound s t word.Pragma g e = obey-sound (in_body Five s) t word.Pragma (in_body-sound Five s g) e
+second_word-sound s t word.Refl g e = obey-sound (in_body Five s) t word.Refl (in_body-sound Five s g) e
+second_word-sound s t word.Assume g e = obey-sound (in_body Five s) t word.Assume (in_body-sound Five s g) e
+second_word-sound s t word.EqMp g e = obey-sound (in_body Five s) t word.EqMp (in_body-sound Five s g) e
+second_word-sound s t word.AbsThm g e = obey-sound (in_body Five s) t word.AbsThm (in_body-sound Five s g) e
+second_word-sound s t word.AppThm g e = obey-sound (in_body Five s) t word.AppThm (in_body-sound Five s g) e
+second_word-sound s t word.DeductAntisym g e = obey-sound (in_body Five s) t word.DeductAntisym (in_body-sound Five s g) e
+second_word-sound s t word.BetaConv g e = obey-sound (in_body Five s) t word.BetaConv (in_body-sound Five s g) e
+second_word-sound s t word.Sym g e = obey-sound (in_body Five s) t word.Sym (in_body-sound Five s g) e
+second_word-sound s t word.Trans g e = obey-sound (in_body Five s) t word.Trans (in_body-sound Five s g) e
+second_word-sound s t word.ProveHyp g e = obey-sound (in_body Five s) t word.ProveHyp (in_body-sound Five s g) e
+second_word-sound s t word.Subst g e = obey-sound (in_body Five s) t word.Subst (in_body-sound Five s g) e
+second_word-sound s t word.DefineConst g e = obey-sound (in_body Five s) t word.DefineConst (in_body-sound Five s g) e
+second_word-sound s t word.DefineConstList g e = obey-sound (in_body Five s) t word.DefineConstList (in_body-sound Five s g) e
+second_word-sound s t word.DefineTypeOp g e = obey-sound (in_body Five s) t word.DefineTypeOp (in_body-sound Five s g) e
+second_word-sound s t word.Axiom g e = obey-sound (in_body Five s) t word.Axiom (in_body-sound Five s g) e
+second_word-sound s t word.Thm g e = obey-sound (in_body Five s) t word.Thm (in_body-sound Five s g) e
+
 step_at-sound : (s t : State) (p : Place) (i : Item) → IsSound s → step_at p s i ≡ Ok t → IsSound t
-step_at-sound s t start (item.Number z) g e = let six = sound.passed (demand (int_eq z (pos 6)) VersionPlace) _ t e in placed s _ t six.2 g refl refl refl refl (tt {0}, g.stack)
-step_at-sound s t start (item.Name n) g e = absurd (cc)
-step_at-sound s t start (item.Word w) g e = absurd (cc)
-step_at-sound s t version (item.Number z) g e = absurd (cc)
-step_at-sound s t version (item.Name n) g e = absurd (cc)
-step_at-sound s t version (item.Word w) g e = let second = sound.passed (demand (is_version w) VersionPlace) _ t e in placed s _ t second.2 g refl refl refl refl (dropped s.made s.stack g.stack)
-step_at-sound s t body (item.Number z) g e = placed s _ t e g refl refl refl refl (tt {0}, g.stack)
-step_at-sound s t body (item.Name n) g e = placed s _ t e g refl refl refl refl (tt {0}, g.stack)
-step_at-sound s t body (item.Word w) g e = obey-sound s t w g e
+step_at-sound s t start (item.Number z) g e = placed s _ t e g refl refl refl refl (tt {0}, g.stack)
+step_at-sound s t start (item.Name n) g e = obey_item-sound (in_body Five s) t (item.Name n) (in_body-sound Five s g) e
+step_at-sound s t start (item.Word w) g e = obey_item-sound (in_body Five s) t (item.Word w) (in_body-sound Five s g) e
+step_at-sound s t version (item.Number z) g e = obey_item-sound (in_body Five s) t (item.Number z) (in_body-sound Five s g) e
+step_at-sound s t version (item.Name n) g e = obey_item-sound (in_body Five s) t (item.Name n) (in_body-sound Five s g) e
+step_at-sound s t version (item.Word w) g e = second_word-sound s t w g e
+step_at-sound s t (body v) x g e = obey_item-sound s t x g e
 
 pub step-sound : (s t : State) (c : Command) → IsSound s → step s c ≡ Ok t → IsSound t
 step-sound s t c g e = step_at-sound s t s.place c.item g e
@@ -102,8 +146,7 @@ nothing-kept m k x e = let f : entries.get {K = ℤ} {X = Object} {R = int_cmp} 
 
 pub finish-sound : (s t : State) → IsSound s → finish s ≡ Ok t → IsSound t
 finish-sound s t g e =
-    let ends = sound.passed (demand (is_body s.place) VersionPlace) _ t e in
-    answered _ t ends.2 (record { proof = g.proof; over = g.over; stack = tt {0}; dictionary = nothing-kept s.made; exports = g.exports; assumptions = g.assumptions })
+    answered _ t e (record { proof = g.proof; over = g.over; stack = tt {0}; dictionary = nothing-kept s.made; exports = g.exports; assumptions = g.assumptions })
 
 pub initial-sound : IsSound initial
 initial-sound = record { proof = made.Each.empty; over = made.Each.empty; stack = tt {0}; dictionary = nothing-kept []; exports = omega arith; assumptions = refl }

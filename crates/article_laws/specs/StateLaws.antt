@@ -1,4 +1,5 @@
 -- Laws of the machine's state: objects and states can be told apart as values.
+use Rattle.hol_spec.specs.declared.Version.TheVariants.{Five, Six}
 use Rattle.std.specs.Coded.{code_by, coded×, coded_list, coded_ℕ, coded_ℤ}
 use base.Stored.{Coded, Gv, gnil, gnum, gcons}
 use Rattle.std.proofs.Common.{◌≡◌, ℕ, zero, suc, List, refl}
@@ -53,17 +54,20 @@ coded_object = record { code = object_code; inj = object_inj }
 abbrev place_number : Place → ℕ
 place_number start = 0
 place_number version = 1
-place_number body = 2
+place_number (body Five) = 2
+place_number (body Six) = 3
 
 abbrev place_of : ℕ → Place
 place_of zero = start
 place_of (suc zero) = version
-place_of (suc (suc n)) = body
+place_of (suc (suc zero)) = body Five
+place_of (suc (suc (suc n))) = body Six
 
 pub place_of-number : (p : Place) → place_of (place_number p) ≡ p
 place_of-number start = refl
 place_of-number version = refl
-place_of-number body = refl
+place_of-number (body Five) = refl
+place_of-number (body Six) = refl
 
 abbrev pub coded_place : Coded Place
 coded_place = code_by ℕ coded_ℕ place_number place_of place_of-number

@@ -1,4 +1,5 @@
 -- Cases at the edges of the definitions, computed: lines, names, measures, the order of refusals.
+use Rattle.hol_spec.specs.declared.Version.TheVariants.{Five, Six}
 use Rattle.std.specs.Prelude.{ℕ, ◌+◌, pos, negsuc, List, [], ◌∷◌, ◌++◌, ◌≡◌, true, false, Result, Ok, Err, length, codes, Some, None, Option}
 use Rattle.std.proofs.Common.{refl}
 use Rattle.hol_spec.specs.Names.{Name}
@@ -199,8 +200,8 @@ missing_object_below_key = refl
 key_of_wrong_kind : after_header (w word.Nil ∷ w word.Def ∷ []) ≡ Err (0, WrongKind)
 key_of_wrong_kind = refl
 
--- version needs its place, before the stack
-word_in_place_of_version : kinds initial (item.Number (pos 6) ∷ w word.Nil ∷ []) ≡ Err (0, VersionPlace)
+-- version needs its place; without it an article is of version 5
+word_in_place_of_version : kinds initial (item.Number (pos 6) ∷ w word.Nil ∷ []) ≡ Ok (record initial { place = body Five; stack = Object.list Objects.none ∷ Object.number (pos 6) ∷ [] })
 word_in_place_of_version = refl
 
 version_in_first_place : kinds initial (w word.Version ∷ []) ≡ Err (0, VersionPlace)
@@ -242,13 +243,13 @@ abbrev eqp : Term
 eqp = equation bool p p
 
 abbrev at_body : List Object → State
-at_body stack = record initial { place = body; stack = stack }
+at_body stack = record initial { place = body Six; stack = stack }
 
 abbrev thm_on : List Object → List Item → Result State (ℕ × Kind)
 thm_on stack is = kinds (at_body stack) (w word.Refl ∷ is)
 
 abbrev refl_state : List Object → State
-refl_state below = record initial { place = body; stack = below; made = Made.step (record { kind = StepKind.Refl; premises = []; parameters = Parameters.term p; sequent = record { hypotheses = []; conclusion = eqp } }) ∷ [] }
+refl_state below = record initial { place = body Six; stack = below; made = Made.step (record { kind = StepKind.Refl; premises = []; parameters = Parameters.term p; sequent = record { hypotheses = []; conclusion = eqp } }) ∷ [] }
 
 abbrev listed : List Term → Objects
 listed [] = Objects.none

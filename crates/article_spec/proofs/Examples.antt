@@ -138,11 +138,11 @@ wrong_operand = refl
 version_again : after_header (w word.Version ∷ []) ≡ Err (0, VersionPlace)
 version_again = refl
 
-other_version : kinds initial (item.Number (pos 5) ∷ w word.Version ∷ []) ≡ Err (1, VersionPlace)
+other_version : kinds initial (item.Number (pos 5) ∷ w word.Version ∷ []) ≡ Err (0, VersionPlace)
 other_version = refl
 
-no_end : obey_article machine initial (lines 1 (item.Number (pos 6) ∷ [])) (End.ended 2) ≡ Err (2, VersionPlace)
-no_end = refl
+six_alone : obey_article machine initial (lines 1 (item.Number (pos 6) ∷ [])) (End.ended 2) ≡ Ok initial
+six_alone = refl
 
 -- what `def` keeps, `ref` gives back
 abbrev stack_of : Result State (ℕ × Kind) → List Object

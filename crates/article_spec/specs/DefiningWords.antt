@@ -1,5 +1,6 @@
 -- The words that define constants and type operators.
 -- Source: the OpenTheory article file format, version 6, "Commands".
+use Rattle.hol_spec.specs.declared.Version.{Version}
 use Rattle.std.specs.Prelude.{ℕ, List, [], ◌∷◌, map, length, not, ◌||◌, nat_eq, Option, None, Some, Result, Ok}
 use Rattle.std.specs.Option.{ok_or}
 use Rattle.std.specs.List.{list_all, list_any}
@@ -14,14 +15,14 @@ use Rattle.hol_spec.specs.Definitions.{Definition, TypeNames}
 use Rattle.hol_spec.specs.NewTypes.{new_type, abstraction_type, representation_type}
 use Rattle.hol_spec.specs.Defining.{is_closed, has_type_variables_of}
 use Rattle.hol_spec.specs.DefinitionLists.{names_of, defining_equations, is_definition_list, definitions_in, constants_put}
-use Rattle.hol_spec.specs.TypeDefinitions.{are_type_variables_of, first_law, second_law}
+use Rattle.hol_spec.specs.TypeDefinitions.{are_type_variables_of, first_law_of, second_law_of}
 use Rattle.hol_spec.specs.Symbols.{Symbol, defined, is_taken_constant, is_taken_operator}
 use Rattle.hol_spec.specs.Measures.{type_measure, sequent_measure}
 use Rattle.hol_spec.specs.Rules.{Parameters, constants, derived}
 use Rattle.hol_spec.specs.Rules as rule
 use Rattle.hol_spec.specs.Proofs.{symbols_of, sequent_at}
 use Rattle.hol_spec.specs.declared.StepKind.TheVariants as by_rule
-use Rattle.article_spec.specs.State.{Objects, list, type_operator, constant, none, more, State}
+use Rattle.article_spec.specs.State.{Objects, list, type_operator, constant, none, more, State, version_at}
 use Rattle.article_spec.specs.Results.{◌>>=◌, ◌>>◌}
 use Rattle.article_spec.specs.Operands.{as_name, as_names, as_term, as_theorem, as_constant_pairs, pop}
 use Rattle.article_spec.specs.Conditions.{demand, in_limits, typed}
@@ -75,14 +76,14 @@ are_new_names symbols names =
     || name_eq names.abstraction names.representation)) NameTaken
 
 -- The type operator is defined, and its two laws are made.
-abbrev pub make_type : State → TypeNames → ℕ → HolType → Term → Result State Kind
-make_type s names i c f = do
+abbrev pub make_type : Version → State → TypeNames → ℕ → HolType → Term → Result State Kind
+make_type version s names i c f = do
   in_limits (type_measure (new_type names) ∷ type_measure (abstraction_type names c) ∷ type_measure (representation_type names c)
-      ∷ sequent_measure (first_law names c) ∷ sequent_measure (second_law names c f) ∷ [])
+      ∷ sequent_measure (first_law_of version names c) ∷ sequent_measure (second_law_of version names c f) ∷ [])
   let stack = constant names.representation ∷ constant names.abstraction ∷ type_operator names.operator ∷ s.stack
   let taken = with_type_definition (with_stack s stack) names c f i
-  Ok (with_theorem (with_theorem taken (step_by by_rule.FirstLaw (i ∷ []) (rule.type_operator names) (first_law names c)))
-      (step_by by_rule.SecondLaw (i ∷ []) (rule.type_operator names) (second_law names c f)))
+  Ok (with_theorem (with_theorem taken (step_by by_rule.FirstLaw (i ∷ []) (rule.type_operator names version) (first_law_of version names c)))
+      (step_by by_rule.SecondLaw (i ∷ []) (rule.type_operator names version) (second_law_of version names c f)))
 
 -- What is judged of the names and of the theorem of step i, which is to be |- f t.
 abbrev pub define_type : State → TypeNames → ℕ → Result State Kind
@@ -93,7 +94,7 @@ define_type s names i = do
   demand (nat_eq (length one.hypotheses) 0) NotTheSequent
   (f, t) ← ok_or (application_parts one.conclusion) NotTheSequent
   c ← typed t
-  make_type s names i c f
+  make_type (version_at s.place) s names i c f
 
 abbrev pub define_type_op : State → Result State Kind
 define_type_op s = do

@@ -1,5 +1,7 @@
 -- The state of the stack machine.
 -- Source: the OpenTheory article file format, version 6, "The Virtual Machine".
+use Rattle.hol_spec.specs.declared.Version.{Version}
+use Rattle.hol_spec.specs.declared.Version.TheVariants.{Five}
 use Rattle.std.specs.Prelude.{ℕ, ℤ, List, []}
 use Rattle.std.specs.Ordering.{int_cmp}
 use Rattle.std.specs.FinMap.{FinMap, empty}
@@ -25,11 +27,17 @@ mutual
     none : Objects
     more : Object → Objects → Objects
 
--- Where an article is: before its first command, before its second, or in its body.
+-- Where an article is: before its first command, after the number 6 as its first, or later, in an article of version 5 or of version 6.
 pub data Place : Type 0 where
   start : Place
   version : Place
-  body : Place
+  body : Version → Place
+
+-- The version of an article so far.
+abbrev pub version_at : Place → Version
+version_at start = Five
+version_at version = Five
+version_at (body v) = v
 
 pub record State : Type 0 where
   -- of the article: the objects from the top, what the numbers stand for, and the place

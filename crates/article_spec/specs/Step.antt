@@ -1,6 +1,8 @@
 -- What one command of the stack machine does: it gives the next state, or is refused. Its operands and conditions are judged in the order in which they stand.
 -- Source: the OpenTheory article file format, version 6, "Commands".
-use Rattle.std.specs.Prelude.{pos, [], ◌∷◌, drop, Bool, true, false, Result, Ok, Err}
+use Rattle.hol_spec.specs.declared.Version.{Version}
+use Rattle.hol_spec.specs.declared.Version.TheVariants.{Five, Six}
+use Rattle.std.specs.Prelude.{pos, [], ◌∷◌, drop, if◌then◌else◌, Result, Ok, Err}
 use Rattle.std.specs.Ordering.{int_eq}
 use Rattle.std.specs.FinMap as entries
 use Rattle.bridge_base.specs.declared.faults.Kind.{Kind}
@@ -11,8 +13,6 @@ use Rattle.article_spec.specs.declared.commands.Item.TheVariants as item
 use Rattle.article_spec.specs.declared.commands.Word.{Word}
 use Rattle.article_spec.specs.declared.commands.Word.TheVariants as word
 use Rattle.article_spec.specs.State.{number, name, Place, start, version, body, State}
-use Rattle.article_spec.specs.Results.{◌>>◌}
-use Rattle.article_spec.specs.Conditions.{demand}
 use Rattle.article_spec.specs.Changes.{with_stack}
 use Rattle.article_spec.specs.Building.{nil, cons, hd_tl, type_op, var_type, op_type, const, const_term, var, var_term, app_term, abs_term, def, ref, remove, drop_object}
 use Rattle.article_spec.specs.Inference.{refl_word, assume, eq_mp, abs_thm, app_thm, deduct_antisym, beta_conv, sym_word, trans_word, prove_hyp, subst_word}
@@ -56,37 +56,34 @@ obey s word.DefineTypeOp = define_type_op s
 obey s word.Axiom = axiom_word s
 obey s word.Thm = thm s
 
-abbrev pub is_version : Word → Bool
-is_version word.Version = true
-is_version w = false
+-- An article in its body, of a version.
+abbrev pub in_body : Version → State → State
+in_body v s = record s { place = body v }
 
--- A command at a place. The first two of an article are the number 6 and `version`, which takes the number away.
+abbrev pub obey_item : State → Item → Result State Kind
+obey_item s (item.Number z) = Ok (with_stack s (number z ∷ s.stack))
+obey_item s (item.Name n) = Ok (with_stack s (name n ∷ s.stack))
+obey_item s (item.Word w) = obey s w
+
+-- A word as the second command, after the number 6: `version` takes the number away.
+abbrev pub second_word : State → Word → Result State Kind
+second_word s word.Version = Ok (record s { stack = drop 1 s.stack; place = body Six })
+second_word s w = obey (in_body Five s) w
+
+-- A command at a place. An article is of version 6 where its first two are the number 6 and `version`.
 abbrev pub step_at : Place → State → Item → Result State Kind
-step_at start s (item.Number z) = do
-  demand (int_eq z (pos 6)) VersionPlace
-  Ok (record s { stack = number z ∷ s.stack; place = version })
-step_at start s (item.Name n) = Err VersionPlace
-step_at start s (item.Word w) = Err VersionPlace
-step_at version s (item.Number z) = Err VersionPlace
-step_at version s (item.Name n) = Err VersionPlace
-step_at version s (item.Word w) = do
-  demand (is_version w) VersionPlace
-  Ok (record s { stack = drop 1 s.stack; place = body })
-step_at body s (item.Number z) = Ok (with_stack s (number z ∷ s.stack))
-step_at body s (item.Name n) = Ok (with_stack s (name n ∷ s.stack))
-step_at body s (item.Word w) = obey s w
+step_at start s (item.Number z) = Ok (record s { stack = number z ∷ s.stack; place = if int_eq z (pos 6) then version else body Five })
+step_at start s (item.Name n) = obey_item (in_body Five s) (item.Name n)
+step_at start s (item.Word w) = obey_item (in_body Five s) (item.Word w)
+step_at version s (item.Number z) = obey_item (in_body Five s) (item.Number z)
+step_at version s (item.Name n) = obey_item (in_body Five s) (item.Name n)
+step_at version s (item.Word w) = second_word s w
+step_at (body v) s x = obey_item s x
 
 -- A command.
 abbrev pub step : State → Command → Result State Kind
 step s command = step_at s.place s command.item
 
-abbrev pub is_body : Place → Bool
-is_body start = false
-is_body version = false
-is_body body = true
-
 -- The end of an article. The next one begins with an empty stack and an empty dictionary, and has all exports in its pool.
 abbrev pub finish : State → Result State Kind
-finish s = do
-  demand (is_body s.place) VersionPlace
-  Ok (record s { stack = []; dictionary = entries.empty; place = start; pool = s.exports })
+finish s = Ok (record s { stack = []; dictionary = entries.empty; place = start; pool = s.exports })

@@ -1,4 +1,4 @@
--- A type that stands for a closed sequent has at most 4,196,353 nodes, so that larger ones need not be walked.
+-- A type that stands for a closed sequent has a limited number of nodes, so that larger ones need not be walked.
 use Rattle.std.proofs.Common.{◌≡◌, ℕ, zero, suc, ◌+◌, ◌*◌, ◌≤◌, List, [], ◌∷◌, ◌++◌, map, length, refl, sym, ap, ◌∙◌, arith}
 use Rattle.std.specs.Prelude.{replicate}
 use Rattle.std.specs.List.{flat_map, sum_by}
@@ -7,7 +7,7 @@ use Rattle.hol_spec.specs.Names.{Name}
 use Rattle.hol_spec.specs.Terms as term
 use Rattle.hol_spec.specs.Terms.{Term, Variable, variable_eq, free_places}
 use Rattle.hol_spec.specs.Sequents.{Sequent, terms_of, type_variables_of, free_variables_of}
-use Rattle.hol_spec.specs.Limits.{type_size, term_size, sequent_size}
+use Rattle.hol_spec.specs.Limits.{type_size, term_size, sequent_size, greatest_size, greatest_parameter_count}
 use Rattle.hol_spec.specs.ClosedForm.{ClosedType, ClosedTerm, ClosedSequent}
 use Rattle.lp_spec.specs.Trees.{Tree, size}
 use Rattle.lp_spec.specs.Modules.{Declaration, products, types, term_of, proof_of}
@@ -17,6 +17,10 @@ use Rattle.decode_spec.specs.Opened.{open_term, open_variables, opened}
 use Rattle.decode_laws.specs.ClosedFormTestLaws.{IsClosedForm-IsOpen, length-numbers}
 use Rattle.hol_laws.specs.RenamingLaws.{length_map}
 use Rattle.decode_laws.specs.SizeLaws.{summed, summed-append, summed-distinct, type-size, term-size}
+
+-- four for each node of the sequent, two for each of its parameters, and the proof that it ends in
+abbrev pub greatest_tree : ℕ
+greatest_tree = 4 * greatest_size + 2 * greatest_parameter_count + 1
 
 abbrev variable_size : Variable → ℕ
 variable_size v = 1 + type_size v.1
@@ -64,7 +68,7 @@ module _ (named : ℕ → Name) (d : List Declaration) where
   hypotheses-size variables (t ∷ ts) [] n m l h = absurd h
   hypotheses-size variables (t ∷ ts) (A ∷ As) n m l h = omega (arith, term-size named d variables t (place n m l 0) A h.0, hypotheses-size variables ts As n m (suc l) h.1)
 
-pub Enc-size : (named : ℕ → Name) → ((i j : ℕ) → named i ≡ named j → i ≡ j) → (d : List Declaration) (s : ClosedSequent) (A : Tree) → Enc d s A → size A ≤ 4196353
+pub Enc-size : (named : ℕ → Name) → ((i j : ℕ) → named i ≡ named j → i ≡ j) → (d : List Declaration) (s : ClosedSequent) (A : Tree) → Enc d s A → size A ≤ greatest_tree
 Enc-size named apart d s A h =
     let is = IsClosedForm-IsOpen named apart s h.closed in
     let o = opened named s in

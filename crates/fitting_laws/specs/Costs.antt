@@ -1,13 +1,14 @@
 -- Costs of trees: their size with the spread of every symbol in them; and how far a symbol spreads whose type is a product.
-use Rattle.std.proofs.Common.{◌≡◌, ℕ, zero, suc, ◌+◌, ◌*◌, ◌≤◌, List, [], ◌∷◌, ◌++◌, length, Some, refl, ap, subst, arith}
+use Rattle.std.proofs.Common.{◌≡◌, ℕ, zero, suc, ◌+◌, ◌≤◌, List, [], ◌∷◌, ◌++◌, length, Some, refl, ap, subst, arith}
 use Rattle.std.specs.Prelude.{replicate}
 use Rattle.std.specs.Option.{option_map_or}
-use Rattle.lp_spec.specs.Trees.{Tree, SortType, Var, Sym, App, lift, put_all_at, size}
+use Rattle.lp_spec.specs.Trees.{Tree, SortType, Var, Sym, App, lift, size}
 use Rattle.lp_spec.specs.Substitution.{sub, cons}
 use Rattle.lp_spec.specs.Modules.{Declaration, applied, products, abstractions, types, bools, symbol_type}
 use Rattle.lp_spec.specs.Weight.{spread_after, spread, spreads}
 use Rattle.module_laws.specs.SimultaneousArguments.{after, after-append}
 use Rattle.module_laws.specs.PuttingLaws.{put_all-after}
+use Rattle.fitting_laws.specs.Sums.{sums}
 
 -- the sizes of domains, each with the arguments before it put in
 abbrev pub domain_sizes : (ℕ → Tree) → List Tree → List Tree → ℕ
@@ -34,15 +35,16 @@ spread_after-products before (u ∷ us) args (d ∷ ds) f x e =
 pub spread-products : (us args ds : List Tree) (f x : Tree) → length us ≡ length ds → spread (us ++ args) (products ds (App f x)) ≡ domain_sizes Var ds us + size (sub (after Var us) (App f x))
 spread-products us args ds f x e = spread_after-products [] us args ds f x e
 
--- an operator's type spreads little
-operator-size : (d : ℕ) (us : List Tree) (k : ℕ) → size (put_all_at d us (products (replicate k types) types)) ≡ 2 * k + 1
-operator-size d us zero = refl
-operator-size d us (suc k) = let h = operator-size (suc d) us k in omega (arith, h)
+-- an operator's type spreads as its arguments are many
+type-spread : (before args : List Tree) → spread_after before args types ≡ 1
+type-spread before [] = refl
+type-spread before (u ∷ us) = refl
 
-pub operator-spread : (before us : List Tree) (k : ℕ) → spread_after before us (products (replicate k types) types) ≤ 2 * k + 1
-operator-spread before [] k = let h = operator-size 0 before k in omega (arith, h)
-operator-spread before (u ∷ us) zero = omega arith
-operator-spread before (u ∷ us) (suc k) = let h = operator-spread (before ++ u ∷ []) us k in omega (arith, h)
+pub operator-spread : (before us args : List Tree) (k : ℕ) → length us ≡ k → spread_after before (us ++ args) (products (replicate k types) types) ≡ k + 1
+operator-spread before [] args zero e = type-spread before args
+operator-spread before [] args (suc k) e = absurd (omega (arith, e))
+operator-spread before (u ∷ us) args zero e = absurd (omega (arith, e))
+operator-spread before (u ∷ us) args (suc k) e = let h = operator-spread (before ++ u ∷ []) us args k (omega (arith, e)) in omega (arith, h)
 
 -- a tree of one node that stands in a scope
 pub data Plain : Tree → Type 0 where
@@ -50,10 +52,19 @@ pub data Plain : Tree → Type 0 where
   truth : Plain bools
   nothing : Plain types
 
+pub plain-size : (t : Tree) → Plain t → size t ≡ 1
+plain-size (Var n) variable = refl
+plain-size t truth = refl
+plain-size t nothing = refl
+
 pub plain-lift : (t : Tree) → Plain t → Plain (lift 1 t)
 plain-lift (Var n) variable = variable
 plain-lift t truth = truth
 plain-lift t nothing = nothing
+
+pub size-applied : (f : Tree) (xs : List Tree) → size (applied f xs) ≡ size f + sums (λ x. 1 + size x) xs
+size-applied f [] = omega arith
+size-applied f (x ∷ xs) = let h = size-applied (App f x) xs in omega (arith, h)
 
 module _ (m : List Declaration) where
   -- the size of a tree with the spread of every symbol in it, where it stands at these arguments
@@ -80,17 +91,13 @@ module _ (m : List Declaration) where
   cost-abstractions [] t = omega arith
   cost-abstractions (d ∷ ds) t = let h = cost-abstractions ds t in omega (arith, h)
 
-  lone-type : (args : List Tree) → spread args types ≡ 1
-  lone-type [] = refl
-  lone-type (u ∷ us) = refl
-
   lone-sort : (args : List Tree) → spread args SortType ≡ 1
   lone-sort [] = refl
   lone-sort (u ∷ us) = refl
 
   pub plain-cost : (args : List Tree) (t : Tree) → Plain t → cost args t ≤ 2
   plain-cost args (Var n) variable = omega arith
-  plain-cost args t truth = let l = lone-type args in omega (arith, l)
+  plain-cost args t truth = let l = type-spread [] args in omega (arith, l)
   plain-cost args t nothing = let l = lone-sort args in omega (arith, l)
 
   -- a symbol of this type

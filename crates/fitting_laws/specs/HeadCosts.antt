@@ -1,7 +1,7 @@
 -- Costs of the inferences of the signature and of the two lemmas at their arguments: a constant times the costs of the types and terms,
 -- beside those of the proofs.
 use Rattle.std.proofs.Common.{ℕ, ◌+◌, ◌*◌, ◌≤◌, List, [], ◌∷◌, arith}
-use Rattle.lp_spec.specs.Trees.{Tree, Var, Sym, size}
+use Rattle.lp_spec.specs.Trees.{Tree, Sym, size}
 use Rattle.lp_spec.specs.Modules.{Declaration, applied, refl_of, fun_ext_symbol, app_thm_symbol, prop_ext_symbol, eq_mp_symbol, sub_symbol, sub_abs_symbol, sub_rep_symbol, sub_abs_rep_symbol, sub_rep_abs_symbol}
 use Rattle.lp_spec.specs.Lemmas.{sym_lemma, trans_lemma}
 use Rattle.lp_shape.specs.Sizes.{size-lift}
@@ -80,21 +80,23 @@ module _ (m : List Declaration) (c : ℕ) where
       let h0 = size-lift 0 h in
       omega (arith, i, j, k, a0, p0, w0, h0)
 
-  pub sub_abs_rep-cost : IsPartBound (Var 0 ∷ []) sub_abs_rep_symbol
-  sub_abs_rep-cost a p w h i j k =
+  pub sub_abs_rep-cost : (x : Tree) → cost m [] x ≤ c → IsPartBound (x ∷ []) sub_abs_rep_symbol
+  sub_abs_rep-cost x l a p w h i j k =
+      let x0 = size-lift 0 x in
       let a0 = size-lift 0 a in
       let p0 = size-lift 0 p in
       let w0 = size-lift 0 w in
       let h0 = size-lift 0 h in
-      omega (arith, i, j, k, a0, p0, w0, h0)
+      omega (arith, l, i, j, k, a0, p0, w0, h0, x0)
 
-  pub sub_rep_abs-cost : IsPartBound (Var 0 ∷ []) sub_rep_abs_symbol
-  sub_rep_abs-cost a p w h i j k =
+  pub sub_rep_abs-cost : (x : Tree) → cost m [] x ≤ c → IsPartBound (x ∷ []) sub_rep_abs_symbol
+  sub_rep_abs-cost x l a p w h i j k =
+      let x0 = size-lift 0 x in
       let a0 = size-lift 0 a in
       let p0 = size-lift 0 p in
       let w0 = size-lift 0 w in
       let h0 = size-lift 0 h in
-      omega (arith, i, j, k, a0, p0, w0, h0)
+      omega (arith, l, i, j, k, a0, p0, w0, h0, x0)
 
   pub sym-cost : HasLemmas m → (a x y h : Tree) → cost m [] a ≤ c → cost m [] x ≤ c → cost m [] y ≤ c → cost m [] (applied (Sym sym_symbol) (a ∷ x ∷ y ∷ h ∷ [])) ≤ 20 * c + 100 + cost m [] h
   sym-cost lemmas a x y h ha hx hy =

@@ -13,6 +13,7 @@ pub mod SmallRows
 pub mod SmallRuns
 pub mod SmallScopes
 pub mod SmallTheorems
+pub mod Sums
 pub mod SymbolLimits
 pub mod TermMeasures
 pub mod TermSizes

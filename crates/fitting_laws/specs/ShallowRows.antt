@@ -4,7 +4,7 @@ use Rattle.std.specs.List.{AllByRecursion}
 use Rattle.std.proofs.lemmas.List.{length-map, length-append}
 use Rattle.hol_spec.specs.Names.{Name}
 use Rattle.hol_spec.specs.Types.{HolType, operator, more}
-use Rattle.hol_spec.specs.Limits.{type_depth, term_depth, greatest_depth, SequentWithin}
+use Rattle.hol_spec.specs.Limits.{type_depth, term_depth, greatest_depth, greatest_parameter_count, SequentWithin}
 use Rattle.hol_spec.specs.Substitution.{TypePairs, image, substitute}
 use Rattle.hol_spec.specs.Primitives.{bool, function}
 use Rattle.hol_spec.specs.Definitions.{TypeNames}
@@ -25,8 +25,8 @@ use Rattle.hol_laws.specs.Members.{All-weaker, All-append, All-mapped, All-left,
 use Rattle.hol_laws.specs.TermInstances.{substitute-nothing}
 use Rattle.lp_spec.specs.Trees.{Tree, Var, Sym, App, Lam, depth}
 use Rattle.lp_spec.specs.Modules.{types, term_of, fun_ext_symbol, sub_abs_rep_symbol, sub_rep_abs_symbol}
-use Rattle.module_spec.specs.Scopes.{Symbols, type_tree, Scope, term_tree, lifted, under_term, under_proof, under_types, set_proof, unfilled, term_domains, proof_domains, scope_of_types, scope_of_terms, scope_of, domains_of, conclusion_tree, theorem_tree, images}
-use Rattle.module_spec.specs.ProofTrees.{Premise, premise_tree, refl_tree, eq_mp_tree, fun_ext_tree, app_thm_tree, prop_ext_tree, sym_tree, trans_tree, prove_hyp_tree, subst_tree, self_proof, constants_scope, abs_tree, predicate, witness, part_tree, law_tree, first_law_tree, second_law_tree}
+use Rattle.module_spec.specs.Scopes.{Symbols, type_tree, Scope, term_tree, lifted, under_term, under_proof, under_types, set_proof, unfilled, term_domains, proof_domains, scope_of_types, scope_of_terms, scope_of, domains_of, conclusion_tree, theorem_tree, images, filled}
+use Rattle.module_spec.specs.ProofTrees.{Premise, premise_tree, refl_tree, eq_mp_tree, fun_ext_tree, app_thm_tree, prop_ext_tree, sym_tree, trans_tree, prove_hyp_tree, subst_tree, self_proof, constants_scope, abs_tree, predicate, witness, part_tree, law_tree, sym_symbol, first_law_tree, second_law_tree, first_law_free_tree, second_law_free_tree}
 use Rattle.module_spec.specs.Rows.{type_or, equated_type, left_side, right_side, argument_type, result_type, of_one, of_two, proof_tree}
 use Rattle.module_laws.specs.BodyTyping.{IsIn-map}
 use Rattle.module_laws.specs.DefinitionsHeld.{type_or-is}
@@ -36,16 +36,16 @@ use Rattle.fitting_laws.specs.TermMeasures.{AreShallowTerms, HasType-depth, sequ
 
 -- the trees of a term, of a type that is put in a substitution, of a premise and of the proof of a step are no deeper than this
 abbrev pub deepest_term : ℕ
-deepest_term = 2050
+deepest_term = greatest_depth + greatest_parameter_count + 2
 
 abbrev pub deepest_argument : ℕ
 deepest_argument = 3 * greatest_depth + 1
 
 abbrev pub deepest_premise : ℕ
-deepest_premise = deepest_argument + 1024
+deepest_premise = deepest_argument + greatest_parameter_count
 
 abbrev pub deepest_proof : ℕ
-deepest_proof = 6000
+deepest_proof = deepest_premise + greatest_parameter_count + 20
 
 -- parts of terms and of types
 left_side-depth : (t : Term) → term_depth (left_side t) ≤ term_depth t
@@ -86,7 +86,7 @@ pub record AreShallowArguments (d : ℕ) (scope : Scope) (s : Sequent) : Type 0 
   pub terms : AllByRecursion (λ v. depth (scope.terms v) ≤ d) (free_variables_of s)
   pub proofs : AllByRecursion (λ h. depth (scope.proofs h) ≤ d) s.hypotheses
 
-pub theorem_tree-depth : (d : ℕ) (scope : Scope) (k : ℕ) (s : Sequent) → 1 ≤ d → SequentWithin s → AreShallowArguments d scope s → depth (theorem_tree scope k s) ≤ d + 1024
+pub theorem_tree-depth : (d : ℕ) (scope : Scope) (k : ℕ) (s : Sequent) → 1 ≤ d → SequentWithin s → AreShallowArguments d scope s → depth (theorem_tree scope k s) ≤ d + greatest_parameter_count
 theorem_tree-depth d scope k s l within h =
     let ts = map scope.types (type_variables_of s) in
     let us = map scope.terms (free_variables_of s) in
@@ -104,8 +104,8 @@ theorem_tree-depth d scope k s l within h =
     omega (arith, whole, one, two, three, four, five, most)
 
 -- a type definition's type
-pub part-shallow : (names : TypeNames) (c : HolType) (f : Term) (one : Sequent) → IsTypeDefinition names c f one → term_depth one.conclusion ≤ 1024 → type_depth c ≤ 3 * 1024
-part-shallow names c f one d l = let same = ap term_depth d.holds in HasType-depth 1024 d.witness c (omega (arith, same, l)) d.typed
+pub part-shallow : (names : TypeNames) (c : HolType) (f : Term) (one : Sequent) → IsTypeDefinition names c f one → term_depth one.conclusion ≤ greatest_depth → type_depth c ≤ 3 * greatest_depth
+part-shallow names c f one d l = let same = ap term_depth d.holds in HasType-depth greatest_depth d.witness c (omega (arith, same, l)) d.typed
 
 pub every : {A : Type 0} (P : A → Type 0) → ((x : A) → P x) → (xs : List A) → AllByRecursion P xs
 every P f [] = tt
@@ -122,10 +122,10 @@ own_arguments scope h s within = record {
 premise-depth : (scope : Scope) → IsShallowScope scope → (p : Premise) → SequentWithin p.1 → depth (premise_tree scope p) ≤ deepest_premise
 premise-depth scope h p within = theorem_tree-depth deepest_argument scope p.0 p.1 (omega arith) within (own_arguments scope h p.1 within)
 
-pub conclusion-depth : (s : Sequent) → SequentWithin s → term_depth s.conclusion ≤ 1024
+pub conclusion-depth : (s : Sequent) → SequentWithin s → term_depth s.conclusion ≤ greatest_depth
 conclusion-depth s h = (All-right (λ t. term_depth t ≤ greatest_depth) s.hypotheses (s.conclusion ∷ []) (sequent-depth s h)).0
 
-hypotheses-depth : (s : Sequent) → SequentWithin s → AreShallowTerms 1024 s.hypotheses
+hypotheses-depth : (s : Sequent) → SequentWithin s → AreShallowTerms greatest_depth s.hypotheses
 hypotheses-depth s h = All-left (λ t. term_depth t ≤ greatest_depth) s.hypotheses (s.conclusion ∷ []) (sequent-depth s h)
 
 module _ (symbols : Symbols) where
@@ -138,7 +138,7 @@ module _ (symbols : Symbols) where
   length-proof_domains [] scope = refl
   length-proof_domains (h ∷ hs) scope = ap suc (length-proof_domains hs (under_proof h scope))
 
-  pub length-domains : (s : Sequent) → SequentWithin s → length (domains_of symbols s) ≤ 1024
+  pub length-domains : (s : Sequent) → SequentWithin s → length (domains_of symbols s) ≤ greatest_parameter_count
   length-domains s within =
       let ts = map (λ (n : Name). types) (type_variables_of s) in
       let us = term_domains symbols (free_variables_of s) (scope_of_types symbols s) in
@@ -192,13 +192,13 @@ module _ (symbols : Symbols) (few : HasFewArguments symbols) where
     ty-depth : (a : HolType) (d : ℕ) → type_depth a ≤ d → depth (type_tree symbols scope.types a) ≤ d + 1
     ty-depth a d l = let k = type_tree-depth symbols scope.types h.types a in omega (arith, k, l)
 
-    tm-depth : (t : Term) → term_depth t ≤ 1024 → depth (term_tree symbols scope t) ≤ deepest_term
+    tm-depth : (t : Term) → term_depth t ≤ greatest_depth → depth (term_tree symbols scope t) ≤ deepest_term
     tm-depth t l = let k = term_tree-depth symbols few scope h t in omega (arith, k, l)
 
-    refl-depth : (a : HolType) (t : Term) → type_depth a ≤ 1024 → term_depth t ≤ 1024 → depth (refl_tree symbols scope a t) ≤ deepest_proof
-    refl-depth a t k l = let b = ty-depth a 1024 k in let u = tm-depth t l in omega (arith, b, u)
+    refl-depth : (a : HolType) (t : Term) → type_depth a ≤ greatest_depth → term_depth t ≤ greatest_depth → depth (refl_tree symbols scope a t) ≤ deepest_proof
+    refl-depth a t k l = let b = ty-depth a greatest_depth k in let u = tm-depth t l in omega (arith, b, u)
 
-    eq_mp-depth : (p q : Term) (one two : Premise) → term_depth p ≤ 1024 → term_depth q ≤ 1024 → SequentWithin one.1 → SequentWithin two.1 → depth (eq_mp_tree symbols scope p q one two) ≤ deepest_proof
+    eq_mp-depth : (p q : Term) (one two : Premise) → term_depth p ≤ greatest_depth → term_depth q ≤ greatest_depth → SequentWithin one.1 → SequentWithin two.1 → depth (eq_mp_tree symbols scope p q one two) ≤ deepest_proof
     eq_mp-depth p q one two k l v w =
         let a = tm-depth p k in
         let b = tm-depth q l in
@@ -206,11 +206,11 @@ module _ (symbols : Symbols) (few : HasFewArguments symbols) where
         let d = premise-depth scope h two w in
         omega (arith, a, b, c, d)
 
-    app_thm-depth : (a b : HolType) (f g x y : Term) (one two : Premise) → type_depth a ≤ 1024 → type_depth b ≤ 1024 → term_depth f ≤ 1024 → term_depth g ≤ 1024 → term_depth x ≤ 1024 → term_depth y ≤ 1024
+    app_thm-depth : (a b : HolType) (f g x y : Term) (one two : Premise) → type_depth a ≤ greatest_depth → type_depth b ≤ greatest_depth → term_depth f ≤ greatest_depth → term_depth g ≤ greatest_depth → term_depth x ≤ greatest_depth → term_depth y ≤ greatest_depth
         → SequentWithin one.1 → SequentWithin two.1 → depth (app_thm_tree symbols scope a b f g x y one two) ≤ deepest_proof
     app_thm-depth a b f g x y one two i j k l m n v w =
-        let a = ty-depth a 1024 i in
-        let b = ty-depth b 1024 j in
+        let a = ty-depth a greatest_depth i in
+        let b = ty-depth b greatest_depth j in
         let f = tm-depth f k in
         let g = tm-depth g l in
         let x = tm-depth x m in
@@ -219,18 +219,18 @@ module _ (symbols : Symbols) (few : HasFewArguments symbols) where
         let d = premise-depth scope h two w in
         omega (arith, a, b, f, g, x, y, c, d)
 
-    sym-depth : (a : HolType) (x y : Term) (one : Premise) → type_depth a ≤ 1024 → term_depth x ≤ 1024 → term_depth y ≤ 1024 → SequentWithin one.1 → depth (sym_tree symbols scope a x y one) ≤ deepest_proof
+    sym-depth : (a : HolType) (x y : Term) (one : Premise) → type_depth a ≤ greatest_depth → term_depth x ≤ greatest_depth → term_depth y ≤ greatest_depth → SequentWithin one.1 → depth (sym_tree symbols scope a x y one) ≤ deepest_proof
     sym-depth a x y one i k l v =
-        let a = ty-depth a 1024 i in
+        let a = ty-depth a greatest_depth i in
         let x = tm-depth x k in
         let y = tm-depth y l in
         let c = premise-depth scope h one v in
         omega (arith, a, x, y, c)
 
-    trans-depth : (a : HolType) (x y z : Term) (one two : Premise) → type_depth a ≤ 1024 → term_depth x ≤ 1024 → term_depth y ≤ 1024 → term_depth z ≤ 1024 → SequentWithin one.1 → SequentWithin two.1
+    trans-depth : (a : HolType) (x y z : Term) (one two : Premise) → type_depth a ≤ greatest_depth → term_depth x ≤ greatest_depth → term_depth y ≤ greatest_depth → term_depth z ≤ greatest_depth → SequentWithin one.1 → SequentWithin two.1
         → depth (trans_tree symbols scope a x y z one two) ≤ deepest_proof
     trans-depth a x y z one two i k l m v w =
-        let a = ty-depth a 1024 i in
+        let a = ty-depth a greatest_depth i in
         let x = tm-depth x k in
         let y = tm-depth y l in
         let z = tm-depth z m in
@@ -254,20 +254,20 @@ module _ (symbols : Symbols) (few : HasFewArguments symbols) where
         choice true x y k l = k
         choice false x y k l = l
 
-    subst-depth : (pairs : TypePairs) (terms : TermPairs) (one : Premise) → AreFitting terms → SequentWithin one.1 → AllByRecursion (λ t. term_depth (sub pairs terms t) ≤ 1024) (terms_of one.1)
+    subst-depth : (pairs : TypePairs) (terms : TermPairs) (one : Premise) → AreFitting terms → SequentWithin one.1 → AllByRecursion (λ t. term_depth (sub pairs terms t) ≤ greatest_depth) (terms_of one.1)
         → depth (subst_tree symbols scope pairs terms one) ≤ deepest_proof
     subst-depth pairs terms one fitting v all =
         let whole = theorem_tree-depth deepest_argument (images symbols pairs terms scope) one.0 one.1 (omega arith) v (record {
-          types = All-weaker (λ n. type_depth (image pairs n) ≤ 3 * 1024) (λ n. depth (type_tree symbols scope.types (image pairs n)) ≤ deepest_argument) (λ n k. ty-depth (image pairs n) 3072 k) (type_variables_of one.1) (type_images-depth pairs terms fitting 1024 one.1 all);
-          terms = All-weaker (λ v. term_depth (term_image terms (v.0, substitute pairs v.1)) ≤ 1024) (λ v. depth (term_tree symbols scope (term_image terms (v.0, substitute pairs v.1))) ≤ deepest_argument)
-              (λ v k. let l = tm-depth (term_image terms (v.0, substitute pairs v.1)) k in omega (arith, l)) (free_variables_of one.1) (term_images_of-depth pairs terms 1024 one.1 all);
+          types = All-weaker (λ n. type_depth (image pairs n) ≤ 3 * greatest_depth) (λ n. depth (type_tree symbols scope.types (image pairs n)) ≤ deepest_argument) (λ n k. ty-depth (image pairs n) (3 * greatest_depth) k) (type_variables_of one.1) (type_images-depth pairs terms fitting greatest_depth one.1 all);
+          terms = All-weaker (λ v. term_depth (term_image terms (v.0, substitute pairs v.1)) ≤ greatest_depth) (λ v. depth (term_tree symbols scope (term_image terms (v.0, substitute pairs v.1))) ≤ deepest_argument)
+              (λ v k. let l = tm-depth (term_image terms (v.0, substitute pairs v.1)) k in omega (arith, l)) (free_variables_of one.1) (term_images_of-depth pairs terms greatest_depth one.1 all);
           proofs = every _ (λ g. let l = h.proofs (sub pairs terms g) in omega (arith, l)) one.1.hypotheses;
         }) in
         omega (arith, whole)
 
-    self_proof-depth : (t : Term) → term_depth t ≤ 1024 → depth (self_proof symbols scope t) ≤ deepest_argument
+    self_proof-depth : (t : Term) → term_depth t ≤ greatest_depth → depth (self_proof symbols scope t) ≤ deepest_argument
     self_proof-depth (app (app (constant n (operator f (more a ts))) x) u) l =
-        let b = ty-depth a 1024 (omega (arith, l)) in
+        let b = ty-depth a greatest_depth (omega (arith, l)) in
         let c = tm-depth u (omega (arith, l)) in
         omega (arith, b, c)
     self_proof-depth t l = omega arith
@@ -282,27 +282,27 @@ module _ (symbols : Symbols) (few : HasFewArguments symbols) where
               let same = ap type_depth (substitute-nothing v.1) in
               let l = term_tree-depth symbols few scope h (term_image (constants_put pairs) (v.0, substitute [] v.1)) in
               omega (arith, c, same, l, k)) (free_variables_of one.1) (free_variables-depth one.1 greatest_depth (sequent-depth one.1 v));
-          proofs = All-weaker (λ t. term_depth t ≤ 1024) (λ t. depth (self_proof symbols scope t) ≤ deepest_argument) self_proof-depth one.1.hypotheses (hypotheses-depth one.1 v);
+          proofs = All-weaker (λ t. term_depth t ≤ greatest_depth) (λ t. depth (self_proof symbols scope t) ≤ deepest_argument) self_proof-depth one.1.hypotheses (hypotheses-depth one.1 v);
         }) in
         omega (arith, whole)
 
-    abs_tree-depth : (v : Variable) (t : Term) → type_depth v.1 ≤ 1024 → term_depth t ≤ 1024 → depth (abs_tree symbols scope v t) ≤ deepest_term
+    abs_tree-depth : (v : Variable) (t : Term) → type_depth v.1 ≤ greatest_depth → term_depth t ≤ greatest_depth → depth (abs_tree symbols scope v t) ≤ deepest_term
     abs_tree-depth v t k l =
-        let a = ty-depth v.1 1024 k in
+        let a = ty-depth v.1 greatest_depth k in
         let u = term_tree-depth symbols few (under_term v scope) (under_term-shallow v scope h) t in
         omega (arith, a, u, l)
 
-    fun_ext-depth : (v : Variable) (b : HolType) (t u : Term) (one : Premise) → type_depth v.1 ≤ 1024 → type_depth b ≤ 1024 → term_depth t ≤ 1024 → term_depth u ≤ 1024 → SequentWithin one.1
+    fun_ext-depth : (v : Variable) (b : HolType) (t u : Term) (one : Premise) → type_depth v.1 ≤ greatest_depth → type_depth b ≤ greatest_depth → term_depth t ≤ greatest_depth → term_depth u ≤ greatest_depth → SequentWithin one.1
         → depth (fun_ext_tree symbols scope v b t u one) ≤ deepest_proof
     fun_ext-depth v b t u one i j k l w =
-        let a = ty-depth v.1 1024 i in
-        let c = ty-depth b 1024 j in
+        let a = ty-depth v.1 greatest_depth i in
+        let c = ty-depth b greatest_depth j in
         let x = abs_tree-depth v t i k in
         let y = abs_tree-depth v u i l in
         let p = premise-depth (under_term v scope) (under_term-shallow v scope h) one w in
         omega (arith, a, c, x, y, p)
 
-    prop_ext-depth : (p q : Term) (one two : Premise) → term_depth p ≤ 1024 → term_depth q ≤ 1024 → SequentWithin one.1 → SequentWithin two.1 → depth (prop_ext_tree symbols scope p q one two) ≤ deepest_proof
+    prop_ext-depth : (p q : Term) (one two : Premise) → term_depth p ≤ greatest_depth → term_depth q ≤ greatest_depth → SequentWithin one.1 → SequentWithin two.1 → depth (prop_ext_tree symbols scope p q one two) ≤ deepest_proof
     prop_ext-depth p q one two k l v w =
         let a = tm-depth p k in
         let b = tm-depth q l in
@@ -311,9 +311,9 @@ module _ (symbols : Symbols) (few : HasFewArguments symbols) where
         omega (arith, a, b, c, d)
 
     -- a symbol of parts at a premise
-    pub part-depth : (i : ℕ) (c : HolType) (j : ℕ) (one : Sequent) → type_depth c ≤ 3 * 1024 → SequentWithin one → depth (part_tree symbols scope i c (j, one)) ≤ deepest_premise + 16
+    pub part-depth : (i : ℕ) (c : HolType) (j : ℕ) (one : Sequent) → type_depth c ≤ 3 * greatest_depth → SequentWithin one → depth (part_tree symbols scope i c (j, one)) ≤ deepest_premise + 16
     part-depth i c j one l w =
-        let a = ty-depth c 3072 l in
+        let a = ty-depth c (3 * greatest_depth) l in
         let own = conclusion-depth one w in
         let f = tm-depth (predicate one.conclusion) (let k = predicate-depth one.conclusion in omega (arith, k, own)) in
         let x = tm-depth (witness one.conclusion) (let k = witness-depth one.conclusion in omega (arith, k, own)) in
@@ -322,11 +322,11 @@ module _ (symbols : Symbols) (few : HasFewArguments symbols) where
 
   -- a law of a type definition
   module _ (scope : Scope) (h : IsShallowScope scope) where
-    law-depth : (a b : HolType) (t u : Term) (i : ℕ) (c : HolType) (j : ℕ) (one : Sequent) → term_depth (lam a t) ≤ 1024 → type_depth b ≤ 1024 → term_depth (lam a u) ≤ 1024 → type_depth c ≤ 3 * 1024 → SequentWithin one
+    law-depth : (a b : HolType) (t u : Term) (i : ℕ) (c : HolType) (j : ℕ) (one : Sequent) → term_depth (lam a t) ≤ greatest_depth → type_depth b ≤ greatest_depth → term_depth (lam a u) ≤ greatest_depth → type_depth c ≤ 3 * greatest_depth → SequentWithin one
         → depth (law_tree symbols scope a b t u i c (j, one)) ≤ deepest_proof
     law-depth a b t u i c j one k l m n w =
-        let x = ty-depth scope h a 1024 (omega (arith, k)) in
-        let y = ty-depth scope h b 1024 l in
+        let x = ty-depth scope h a greatest_depth (omega (arith, k)) in
+        let y = ty-depth scope h b greatest_depth l in
         let f = tm-depth scope h (lam a t) k in
         let g = tm-depth scope h (lam a u) m in
         let p = part-depth (lifted scope) (lifted-shallow scope h) i c j one n w in
@@ -336,7 +336,7 @@ module _ (symbols : Symbols) (few : HasFewArguments symbols) where
         (omega (arith, x), (omega (arith, y), (omega (arith, f), (omega (arith, g), (body, tt {0}))))) in
         omega (arith, whole)
       where
-        body-depth : (A p : Tree) → depth A ≤ 1025 → depth p ≤ deepest_premise + 16 → depth (Lam (term_of A) (App p (Var 0))) ≤ deepest_premise + 20
+        body-depth : (A p : Tree) → depth A ≤ greatest_depth + 1 → depth p ≤ deepest_premise + 16 → depth (Lam (term_of A) (App p (Var 0))) ≤ deepest_premise + 20
         body-depth A p x y = omega (arith, x, y)
 
     first_law-depth : (names : TypeNames) (c : HolType) (f : Term) (one s : Sequent) (j : ℕ) → IsTypeDefinition names c f one → s ≡ type_definition.first_law names c → SequentWithin one → SequentWithin s
@@ -348,7 +348,7 @@ module _ (symbols : Symbols) (few : HasFewArguments symbols) where
         subst (λ c. depth (first_law_tree symbols scope names c (j, one)) ≤ deepest_proof) (sym (part-type names c f one d))
         (law-depth (new_type names) (new_type names) (abstracted names c (represented names c (bound 0))) (bound 0) sub_abs_rep_symbol c j one (omega (arith, own, is)) (omega (arith, own, is)) (omega (arith, own, is)) deep v)
 
-    sides-depth : (a : HolType) (x y : Term) → term_depth (equation a x y) ≤ 1024 → (term_depth x ≤ 1024) × (term_depth y ≤ 1024)
+    sides-depth : (a : HolType) (x y : Term) → term_depth (equation a x y) ≤ greatest_depth → (term_depth x ≤ greatest_depth) × (term_depth y ≤ greatest_depth)
     sides-depth a x y l = (omega (arith, l), omega (arith, l))
 
     second_law-depth : (names : TypeNames) (c : HolType) (f : Term) (one s : Sequent) (j : ℕ) → IsTypeDefinition names c f one → s ≡ type_definition.second_law names c f → SequentWithin one → SequentWithin s
@@ -356,11 +356,49 @@ module _ (symbols : Symbols) (few : HasFewArguments symbols) where
     second_law-depth names c f one s j d e v w =
         let own = conclusion-depth s w in
         let is = ap (λ (x : Sequent). x.conclusion) e in
-        let sides = sides-depth (function c bool) (lam c (equation c (represented names c (abstracted names c (bound 0))) (bound 0))) (lam c (app f (bound 0))) (subst (λ t. term_depth t ≤ 1024) is own) in
-        let right = subst (λ p. term_depth (lam c (app p (bound 0))) ≤ 1024) (sym (ap predicate d.holds)) sides.1 in
+        let sides = sides-depth (function c bool) (lam c (equation c (represented names c (abstracted names c (bound 0))) (bound 0))) (lam c (app f (bound 0))) (subst (λ t. term_depth t ≤ greatest_depth) is own) in
+        let right = subst (λ p. term_depth (lam c (app p (bound 0))) ≤ greatest_depth) (sym (ap predicate d.holds)) sides.1 in
         let deep = part-shallow names c f one d (conclusion-depth one v) in
         subst (λ c. depth (second_law_tree symbols scope names c (j, one)) ≤ deepest_proof) (sym (part-type names c f one d))
         (law-depth c bool (equation c (represented names c (abstracted names c (bound 0))) (bound 0)) (app (predicate one.conclusion) (bound 0)) sub_rep_abs_symbol c j one sides.0 (omega arith) right deep v)
+
+    -- the laws in version 5
+    call-depth : (i : ℕ) (c : HolType) (x : Term) (j : ℕ) (one : Sequent) → type_depth c ≤ 3 * greatest_depth → SequentWithin one → term_depth x ≤ greatest_depth
+        → depth (App (part_tree symbols (filled symbols scope.types) i c (j, one)) (term_tree symbols scope x)) ≤ deepest_premise + 20
+    call-depth i c x j one l w k =
+        let p = part-depth (filled symbols scope.types) (filled-shallow symbols scope.types h.types) i c j one l w in
+        let q = tm-depth scope h x k in
+        omega (arith, p, q)
+
+    first_free-depth : (names : TypeNames) (c : HolType) (f : Term) (one s : Sequent) (j : ℕ) → IsTypeDefinition names c f one → s ≡ type_definition.first_law_free names c → SequentWithin one → SequentWithin s
+        → depth (first_law_free_tree symbols scope names (type_or (witness one.conclusion)) (j, one)) ≤ deepest_proof
+    first_free-depth names c f one s j d e v w =
+        let own = conclusion-depth s w in
+        let is = ap (λ (x : Sequent). x.conclusion) e in
+        let sides = sides-depth (new_type names) (abstracted names c (represented names c (type_definition.new_variable names))) (type_definition.new_variable names) (subst (λ t. term_depth t ≤ greatest_depth) is own) in
+        let deep = part-shallow names c f one d (conclusion-depth one v) in
+        let whole = call-depth sub_abs_rep_symbol c (type_definition.new_variable names) j one deep v sides.1 in
+        subst (λ c. depth (first_law_free_tree symbols scope names c (j, one)) ≤ deepest_proof) (sym (part-type names c f one d)) (omega (arith, whole))
+
+    second_free-depth : (names : TypeNames) (c : HolType) (f : Term) (one s : Sequent) (j : ℕ) → IsTypeDefinition names c f one → s ≡ type_definition.second_law_free names c f → SequentWithin one → SequentWithin s
+        → depth (second_law_free_tree symbols scope names (type_or (witness one.conclusion)) (j, one)) ≤ deepest_proof
+    second_free-depth names c f one s j d e v w =
+        let own = conclusion-depth s w in
+        let is = ap (λ (x : Sequent). x.conclusion) e in
+        let r = type_definition.old_variable c in
+        let right = equation c (represented names c (abstracted names c r)) r in
+        let sides = sides-depth bool (app f r) right (subst (λ t. term_depth t ≤ greatest_depth) is own) in
+        let inner = sides-depth c (represented names c (abstracted names c r)) r sides.1 in
+        let left = subst (λ p. term_depth (app p r) ≤ greatest_depth) (sym (ap predicate d.holds)) sides.0 in
+        let deep = part-shallow names c f one d (conclusion-depth one v) in
+        let x = ty-depth scope h bool greatest_depth (omega arith) in
+        let y = tm-depth scope h right sides.1 in
+        let z = tm-depth scope h (app (predicate one.conclusion) r) left in
+        let last = call-depth sub_rep_abs_symbol c r j one deep v inner.1 in
+        let whole = applied-depth (Sym sym_symbol)
+        (type_tree symbols scope.types bool ∷ term_tree symbols scope right ∷ term_tree symbols scope (app (predicate one.conclusion) r) ∷ App (part_tree symbols (filled symbols scope.types) sub_rep_abs_symbol c (j, one)) (term_tree symbols scope r) ∷ []) (deepest_premise + 20)
+        (omega arith) (omega (arith, x), (omega (arith, y), (omega (arith, z), (last, tt {0})))) in
+        subst (λ c. depth (second_law_free_tree symbols scope names c (j, one)) ≤ deepest_proof) (sym (part-type names c f one d)) (omega (arith, whole))
 
   of_one-depth : (d : ℕ) (row : Premise → Tree) (js : List ℕ) (one : Sequent) → 1 ≤ d → ((j : ℕ) → depth (row (j, one)) ≤ d) → depth (of_one row js (one ∷ [])) ≤ d
   of_one-depth d row [] one l f = l
@@ -440,10 +478,10 @@ module _ (symbols : Symbols) (few : HasFewArguments symbols) where
         of_two-depth deepest_proof (λ one two. prove_hyp_tree symbols scope one.1.conclusion one two) js one two (omega arith) (λ j k. prove_hyp-depth scope h one.conclusion (j, one) (k, two) p.0 p.1.0)
     proof_tree-depth kind js premises given s (rule.subst {types = pairs} {terms = terms} {one = one} fitting i) p w =
         of_one-depth deepest_proof (λ one. subst_tree symbols scope pairs terms one) js one (omega arith) (λ j. subst-depth scope h pairs terms (j, one) fitting p.0
-        (All-append (λ t. term_depth (sub pairs terms t) ≤ 1024) one.hypotheses (one.conclusion ∷ [])
-        (All-each (λ t. term_depth (sub pairs terms t) ≤ 1024) one.hypotheses (λ t k. All-at (λ u. term_depth u ≤ 1024) s.hypotheses (sub pairs terms t) (hypotheses-depth s w)
+        (All-append (λ t. term_depth (sub pairs terms t) ≤ greatest_depth) one.hypotheses (one.conclusion ∷ [])
+        (All-each (λ t. term_depth (sub pairs terms t) ≤ greatest_depth) one.hypotheses (λ t k. All-at (λ u. term_depth u ≤ greatest_depth) s.hypotheses (sub pairs terms t) (hypotheses-depth s w)
         (subst (λ l. IsIn l (sub pairs terms t)) (sym (ap (λ (x : Sequent). x.hypotheses) i)) (IsIn-distinct term_eq term_eq-Decides (map (sub pairs terms) one.hypotheses) (sub pairs terms t) (IsIn-map (sub pairs terms) one.hypotheses t k)))))
-        (subst (λ t. term_depth t ≤ 1024) (ap (λ (x : Sequent). x.conclusion) i) (conclusion-depth s w), tt {0})))
+        (subst (λ t. term_depth t ≤ greatest_depth) (ap (λ (x : Sequent). x.conclusion) i) (conclusion-depth s w), tt {0})))
     proof_tree-depth kind js premises given s (rule.recorded is) p w = omega arith
     proof_tree-depth kind js premises given s (rule.restate {one = one} is e) p w =
         of_one-depth deepest_proof (premise_tree scope) js one (omega arith) (λ j. let l = premise-depth scope h (j, one) p.0 in omega (arith, l))
@@ -458,3 +496,7 @@ module _ (symbols : Symbols) (few : HasFewArguments symbols) where
         of_one-depth deepest_proof (λ one. first_law_tree symbols scope names (type_or (witness one.1.conclusion)) one) js one (omega arith) (λ j. first_law-depth scope h names c f one s j d e p.0 w)
     proof_tree-depth kind js premises given s (rule.second_law {names = names} {c = c} {f = f} {one = one} d e) p w =
         of_one-depth deepest_proof (λ one. second_law_tree symbols scope names (type_or (witness one.1.conclusion)) one) js one (omega arith) (λ j. second_law-depth scope h names c f one s j d e p.0 w)
+    proof_tree-depth kind js premises given s (rule.first_law_free {names = names} {c = c} {f = f} {one = one} d e) p w =
+        of_one-depth deepest_proof (λ one. first_law_free_tree symbols scope names (type_or (witness one.1.conclusion)) one) js one (omega arith) (λ j. first_free-depth scope h names c f one s j d e p.0 w)
+    proof_tree-depth kind js premises given s (rule.second_law_free {names = names} {c = c} {f = f} {one = one} d e) p w =
+        of_one-depth deepest_proof (λ one. second_law_free_tree symbols scope names (type_or (witness one.1.conclusion)) one) js one (omega arith) (λ j. second_free-depth scope h names c f one s j d e p.0 w)

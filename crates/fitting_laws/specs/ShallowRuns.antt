@@ -1,10 +1,10 @@
 -- THE MODULE OF EVERY ACCEPTED RUN IS SHALLOW: the type and the body of each declaration are no deeper than a text allows.
-use Rattle.std.proofs.Common.{ℕ, zero, suc, ◌+◌, ◌≤◌, List, [], ◌∷◌, map, length, arith}
+use Rattle.std.proofs.Common.{ℕ, zero, suc, ◌+◌, ◌*◌, ◌≤◌, List, [], ◌∷◌, map, length, arith}
 use Rattle.std.specs.Prelude.{replicate}
 use Rattle.std.proofs.lemmas.List.{length-map}
 use Rattle.hol_spec.specs.Names.{Name}
 use Rattle.hol_spec.specs.Types.{HolType, type_variables}
-use Rattle.hol_spec.specs.Limits.{SequentWithin}
+use Rattle.hol_spec.specs.Limits.{greatest_depth, greatest_parameter_count, SequentWithin}
 use Rattle.hol_spec.specs.Sequents.{Sequent}
 use Rattle.hol_spec.specs.Definitions.{TypeNames}
 use Rattle.hol_spec.specs.NewTypes.{abstraction_type, representation_type}
@@ -44,7 +44,7 @@ module _ (symbols : Symbols) (few : HasFewArguments symbols) where
   generic_tree-depth a h =
       let own = type_tree-depth symbols (under_types (type_variables a) unfilled) (under_types-depth (type_variables a)) a in
       let deep = h.depth in
-      let whole = products-depth (map (λ (n : Name). types) (type_variables a)) (term_of (type_tree symbols (under_types (type_variables a) unfilled) a)) 4000 (types-shallow 4000 (type_variables a) (omega arith)) (omega (arith, own, deep)) in
+      let whole = products-depth (map (λ (n : Name). types) (type_variables a)) (term_of (type_tree symbols (under_types (type_variables a) unfilled) a)) (4 * greatest_depth) (types-shallow (4 * greatest_depth) (type_variables a) (omega arith)) (omega (arith, own, deep)) in
       let long = length-map (type_variables a) (λ (n : Name). types) in
       let most = h.variables in
       omega (arith, whole, long, most)
@@ -54,13 +54,13 @@ module _ (symbols : Symbols) (few : HasFewArguments symbols) where
       let scope = filled symbols (under_types (type_variables a) unfilled) in
       let own = term_tree-depth symbols few scope (filled-shallow symbols (under_types (type_variables a) unfilled) (under_types-depth (type_variables a))) t in
       let deep = d.within.depth in
-      let whole = abstractions-depth (map (λ (n : Name). types) (type_variables a)) (term_tree symbols scope t) 4000 (types-shallow 4000 (type_variables a) (omega arith)) (omega (arith, own, deep)) in
+      let whole = abstractions-depth (map (λ (n : Name). types) (type_variables a)) (term_tree symbols scope t) (4 * greatest_depth) (types-shallow (4 * greatest_depth) (type_variables a) (omega arith)) (omega (arith, own, deep)) in
       let long = length-map (type_variables a) (λ (n : Name). types) in
       let most = h.variables in
       omega (arith, whole, long, most)
 
   -- what a symbol of a type definition stands for, under few type variables
-  part_definition-depth : (ns : List Name) (names : TypeNames) (i : ℕ) (c : HolType) (f : Term) (j : ℕ) (one : Sequent) → length ns ≤ 1024 → IsTypeDefinition names c f one → SequentWithin one
+  part_definition-depth : (ns : List Name) (names : TypeNames) (i : ℕ) (c : HolType) (f : Term) (j : ℕ) (one : Sequent) → length ns ≤ greatest_parameter_count → IsTypeDefinition names c f one → SequentWithin one
       → depth (part_definition_tree symbols ns i c j one) ≤ max_depth
   part_definition-depth ns names i c f j one l d w =
       let scope = filled symbols (under_types ns unfilled) in

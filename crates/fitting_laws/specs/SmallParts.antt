@@ -1,5 +1,5 @@
 -- Costs of what a type definition gives, in a plain scope: a symbol of parts at the premise, and each of the two laws.
-use Rattle.std.proofs.Common.{◌≡◌, ℕ, ◌+◌, ◌*◌, ◌≤◌, List, [], ◌∷◌, map, sym, ap, subst, arith}
+use Rattle.std.proofs.Common.{◌≡◌, ℕ, ◌+◌, ◌*◌, ◌≤◌, List, [], ◌∷◌, sym, ap, subst, arith}
 use Rattle.hol_spec.specs.Types.{HolType}
 use Rattle.hol_spec.specs.Primitives.{bool, function}
 use Rattle.hol_spec.specs.Terms.{Term, bound, app, lam, equation}
@@ -10,23 +10,22 @@ use Rattle.hol_spec.specs.TypeDefinitions.{IsTypeDefinition, abstracted, represe
 use Rattle.hol_spec.specs.TypeDefinitions as type_definition
 use Rattle.lp_spec.specs.Trees.{Tree, Var, App, Lam}
 use Rattle.lp_spec.specs.Modules.{Declaration, term_of, sub_abs_rep_symbol, sub_rep_abs_symbol}
-use Rattle.module_spec.specs.Scopes.{Symbols, type_tree, Scope, term_tree, lifted}
-use Rattle.module_spec.specs.ProofTrees.{predicate, witness, premise_tree, part_tree, law_tree, first_law_tree, second_law_tree}
+use Rattle.module_spec.specs.Scopes.{Symbols, type_tree, Scope, term_tree, lifted, filled}
+use Rattle.module_spec.specs.ProofTrees.{predicate, witness, premise_tree, part_tree, law_tree, first_law_tree, second_law_tree, first_law_free_tree, second_law_free_tree}
 use Rattle.module_spec.specs.Rows.{type_or}
 use Rattle.module_laws.specs.ScopeTyping.{TypeOver-type_under}
-use Rattle.module_laws.specs.SequentScope.{SequentOver-instances}
-use Rattle.module_laws.specs.Bodies.{equation-over}
+use Rattle.module_laws.specs.Bodies.{HasLemmas, equation-over}
 use Rattle.fitting_laws.specs.FewVariables.{HasType-size}
 use Rattle.fitting_laws.specs.ShallowRows.{part-type}
-use Rattle.fitting_laws.specs.Costs.{cost, total}
-use Rattle.fitting_laws.specs.SmallScopes.{IsPlainScope, lifted-plain}
-use Rattle.fitting_laws.specs.SmallTheorems.{part_cost, theorem_cost, theorem_tree-cost}
-use Rattle.fitting_laws.specs.HeadCosts.{IsPartBound, fun_ext-cost, sub_abs_rep-cost, sub_rep_abs-cost}
-use Rattle.fitting_laws.specs.SmallPremises.{row_cost, IsSmallTerm, IsSmallType, IsSmallPremise, conclusion-small, ty-cost, tm-cost, own_arguments}
+use Rattle.fitting_laws.specs.Costs.{cost}
+use Rattle.fitting_laws.specs.SmallScopes.{IsPlainScope, lifted-plain, filled-plain}
+use Rattle.fitting_laws.specs.SmallTheorems.{part_cost}
+use Rattle.fitting_laws.specs.HeadCosts.{IsPartBound, fun_ext-cost, sym-cost, sub_abs_rep-cost, sub_rep_abs-cost}
+use Rattle.fitting_laws.specs.SmallPremises.{premise_cost, row_cost, IsSmallTerm, IsSmallType, IsSmallPremise, conclusion-small, ty-cost, tm-cost, premise-cost}
 
 -- what a symbol of parts costs at most
 abbrev pub named_part_cost : ℕ
-named_part_cost = 62 * part_cost + 5 * theorem_cost
+named_part_cost = 62 * part_cost + 5 * premise_cost
 
 module _ (m : List Declaration) (symbols : Symbols) (names : TypeNames) (c : HolType) (f : Term) (j : ℕ) (one : Sequent) (d : IsTypeDefinition names c f one) (v : IsSmallPremise m symbols j one) where
   says : IsSmallTerm m symbols (app f d.witness)
@@ -45,20 +44,12 @@ module _ (m : List Declaration) (symbols : Symbols) (names : TypeNames) (c : Hol
   }
 
   module _ (scope : Scope) (h : IsPlainScope symbols scope) where
-    -- the premise has no hypotheses
-    lone_premise-cost : cost m [] (premise_tree scope (j, one)) ≤ theorem_cost
-    lone_premise-cost =
-        let over = v.is.over in
-        let none = ap (λ hs. total m (map scope.proofs hs)) d.no_hypotheses in
-        let whole = theorem_tree-cost m symbols scope one j 0 v.is.declared v.is.is (SequentOver-instances m symbols one over) v.within (own_arguments m symbols scope h one over v.within) (omega (arith, none)) in
-        omega (arith, whole)
-
     pub part_tree-cost : (args : List Tree) (i : ℕ) → IsPartBound m part_cost args i → cost m args (part_tree symbols scope i c (j, one)) ≤ named_part_cost
     part_tree-cost args i b =
         let x = ty-cost m symbols scope h c part-small in
         let y = tm-cost m symbols scope h (predicate one.conclusion) predicate-small in
         let z = tm-cost m symbols scope h (witness one.conclusion) witness-small in
-        let k = lone_premise-cost in
+        let k = premise-cost m symbols scope h j one v in
         let whole = b (type_tree symbols scope.types c) (term_tree symbols scope (predicate one.conclusion)) (term_tree symbols scope (witness one.conclusion)) (premise_tree scope (j, one)) (omega (arith, x)) (omega (arith, y)) (omega (arith, z)) in
         omega (arith, whole, k)
 
@@ -87,11 +78,47 @@ module _ (m : List Declaration) (symbols : Symbols) (names : TypeNames) (c : Hol
     pub first_law-cost : (s : Sequent) → s ≡ type_definition.first_law names c → IsSmallTerm m symbols s.conclusion → cost m [] (first_law_tree symbols scope names (type_or (witness one.conclusion)) (j, one)) ≤ row_cost
     first_law-cost s e k =
         subst (λ c. cost m [] (first_law_tree symbols scope names c (j, one)) ≤ row_cost) (sym (part-type names c f one d))
-        (law-cost (new_type names) (new_type names) (abstracted names c (represented names c (bound 0))) (bound 0) sub_abs_rep_symbol (sub_abs_rep-cost m part_cost) (ap (λ (x : Sequent). x.conclusion) e) k)
+        (law-cost (new_type names) (new_type names) (abstracted names c (represented names c (bound 0))) (bound 0) sub_abs_rep_symbol (sub_abs_rep-cost m part_cost (Var 0) (omega arith)) (ap (λ (x : Sequent). x.conclusion) e) k)
 
     pub second_law-cost : (s : Sequent) → s ≡ type_definition.second_law names c f → IsSmallTerm m symbols s.conclusion → cost m [] (second_law_tree symbols scope names (type_or (witness one.conclusion)) (j, one)) ≤ row_cost
     second_law-cost s e k =
         let left = lam c (equation c (represented names c (abstracted names c (bound 0))) (bound 0)) in
         subst (λ c. cost m [] (second_law_tree symbols scope names c (j, one)) ≤ row_cost) (sym (part-type names c f one d))
-        (law-cost c bool (equation c (represented names c (abstracted names c (bound 0))) (bound 0)) (app (predicate one.conclusion) (bound 0)) sub_rep_abs_symbol (sub_rep_abs-cost m part_cost)
+        (law-cost c bool (equation c (represented names c (abstracted names c (bound 0))) (bound 0)) (app (predicate one.conclusion) (bound 0)) sub_rep_abs_symbol (sub_rep_abs-cost m part_cost (Var 0) (omega arith))
         (subst (λ p. s.conclusion ≡ equation (function c bool) left (lam c (app p (bound 0)))) (sym (ap predicate d.holds)) (ap (λ (x : Sequent). x.conclusion) e)) k)
+
+    -- in version 5: a symbol of parts at a variable
+    call-cost : (i : ℕ) (x : Term) → IsSmallTerm m symbols x → ((y : Tree) → cost m [] y ≤ part_cost → IsPartBound m part_cost (y ∷ []) i)
+        → cost m [] (App (part_tree symbols (filled symbols scope.types) i c (j, one)) (term_tree symbols scope x)) ≤ part_cost + named_part_cost + 10
+    call-cost i x k bounded =
+        let l = tm-cost m symbols scope h x k in
+        let y = term_tree symbols scope x in
+        let part = part_tree-cost (filled symbols scope.types) (filled-plain symbols scope.types h.types) (y ∷ []) i (bounded y (omega (arith, l))) in
+        omega (arith, l, part)
+
+    pub first_free-cost : (s : Sequent) → s ≡ type_definition.first_law_free names c → IsSmallTerm m symbols s.conclusion → cost m [] (first_law_free_tree symbols scope names (type_or (witness one.conclusion)) (j, one)) ≤ row_cost
+    first_free-cost s e k =
+        let v = type_definition.new_variable names in
+        let shown = subst (IsSmallTerm m symbols) (ap (λ (x : Sequent). x.conclusion) e) k in
+        let parts = equation-over m symbols (new_type names) (abstracted names c (represented names c v)) v shown.over in
+        let own = shown.size in
+        let whole = call-cost sub_abs_rep_symbol v (record { over = parts.right; size = omega (arith, own) }) (sub_abs_rep-cost m part_cost) in
+        subst (λ c. cost m [] (first_law_free_tree symbols scope names c (j, one)) ≤ row_cost) (sym (part-type names c f one d)) (omega (arith, whole))
+
+    pub second_free-cost : HasLemmas m → (s : Sequent) → s ≡ type_definition.second_law_free names c f → IsSmallTerm m symbols s.conclusion → cost m [] (second_law_free_tree symbols scope names (type_or (witness one.conclusion)) (j, one)) ≤ row_cost
+    second_free-cost lemmas s e k =
+        let r = type_definition.old_variable c in
+        let p = predicate one.conclusion in
+        let right = equation c (represented names c (abstracted names c r)) r in
+        let says : s.conclusion ≡ equation bool (app p r) right = subst (λ q. s.conclusion ≡ equation bool (app q r) right) (sym (ap predicate d.holds)) (ap (λ (x : Sequent). x.conclusion) e) in
+        let shown = subst (IsSmallTerm m symbols) says k in
+        let parts = equation-over m symbols bool (app p r) right shown.over in
+        let inner = equation-over m symbols c (represented names c (abstracted names c r)) r parts.right in
+        let own = shown.size in
+        let x = ty-cost m symbols scope h bool (record { over = parts.ty; size = omega (arith, own) }) in
+        let y = tm-cost m symbols scope h right (record { over = parts.right; size = omega (arith, own) }) in
+        let z = tm-cost m symbols scope h (app p r) (record { over = parts.left; size = omega (arith, own) }) in
+        let last = call-cost sub_rep_abs_symbol r (record { over = inner.right; size = omega (arith, own) }) (sub_rep_abs-cost m part_cost) in
+        let whole = sym-cost m part_cost lemmas (type_tree symbols scope.types bool) (term_tree symbols scope right) (term_tree symbols scope (app p r))
+        (App (part_tree symbols (filled symbols scope.types) sub_rep_abs_symbol c (j, one)) (term_tree symbols scope r)) (omega (arith, x)) (omega (arith, y)) (omega (arith, z)) in
+        subst (λ c. cost m [] (second_law_free_tree symbols scope names c (j, one)) ≤ row_cost) (sym (part-type names c f one d)) (omega (arith, whole, last))

@@ -1,12 +1,12 @@
 -- Costs of premises in a plain scope, and the parts of sequents that rows are made of.
-use Rattle.std.proofs.Common.{ℕ, ◌+◌, ◌*◌, ◌≤◌, List, [], ◌∷◌, map, refl, arith}
+use Rattle.std.proofs.Common.{ℕ, ◌+◌, ◌*◌, ◌≤◌, List, [], ◌∷◌, map, length, refl, arith}
 use Rattle.std.specs.List.{AllByRecursion}
+use Rattle.hol_spec.specs.Names.{Name}
 use Rattle.hol_spec.specs.Types.{HolType, operator, more}
-use Rattle.hol_spec.specs.Limits.{type_size, term_size, greatest_size, SequentWithin}
+use Rattle.hol_spec.specs.Limits.{type_size, term_size, sequent_size, greatest_size, greatest_parameter_count, SequentWithin}
 use Rattle.hol_spec.specs.Terms.{Term, bound, constant, app, Variable}
-use Rattle.hol_spec.specs.Sequents.{Sequent, terms_of, type_variables_of, free_variables_of}
-use Rattle.hol_laws.specs.Members.{All-weaker, All-left, All-right}
-use Rattle.lp_spec.specs.Trees.{size}
+use Rattle.hol_spec.specs.Sequents.{Sequent, terms_of, type_variables_of, free_variables_of, parameter_count}
+use Rattle.hol_laws.specs.Members.{All-left, All-right}
 use Rattle.lp_spec.specs.Modules.{Declaration}
 use Rattle.module_spec.specs.Scopes.{Symbols, type_tree, Scope, term_tree}
 use Rattle.module_spec.specs.ProofTrees.{premise_tree}
@@ -14,18 +14,18 @@ use Rattle.module_spec.specs.Rows.{equated_type, left_side, right_side, argument
 use Rattle.module_laws.specs.ScopeTyping.{TypeOver, TermOver}
 use Rattle.module_laws.specs.SequentScope.{SequentOver, IsPremise, terms-over, variables-over, SequentOver-instances}
 use Rattle.fitting_laws.specs.SymbolLimits.{sequent-sizes}
-use Rattle.fitting_laws.specs.TermSizes.{AreSmallTerms, free_variables-size, left_side-size, right_side-size, equated_type-size, argument_type-size, result_type-size}
-use Rattle.fitting_laws.specs.ShallowRows.{every}
+use Rattle.fitting_laws.specs.TermSizes.{AreSmallTerms, variable_size, variables-size, terms-size, left_side-size, right_side-size, equated_type-size, argument_type-size, result_type-size}
+use Rattle.fitting_laws.specs.Sums.{sums}
 use Rattle.fitting_laws.specs.Costs.{cost, total, plain-cost}
-use Rattle.fitting_laws.specs.SmallScopes.{IsPlainScope, type_tree-cost, stands-cost, term_tree-cost}
-use Rattle.fitting_laws.specs.SmallTheorems.{part_cost, AreSmallArguments, total-map, theorem_tree-cost}
+use Rattle.fitting_laws.specs.SmallScopes.{IsPlainScope, type_tree-size, type_tree-cost, stands-cost, term_tree-cost}
+use Rattle.fitting_laws.specs.SmallTheorems.{part_cost, variable_sizes, term_sizes, argument_cost, theorem_tree-cost}
 
 -- what a premise in a plain scope costs at most, and the proof of a step
 abbrev pub premise_cost : ℕ
-premise_cost = 3074 * part_cost
+premise_cost = 3 * part_cost
 
 abbrev pub row_cost : ℕ
-row_cost = 12000 * part_cost
+row_cost = 30 * (greatest_parameter_count * greatest_size)
 
 module _ (m : List Declaration) (symbols : Symbols) where
   -- a term, and a type, over the symbols and within the limits
@@ -103,34 +103,53 @@ module _ (m : List Declaration) (symbols : Symbols) where
     pub tm-cost : (t : Term) → IsSmallTerm t → cost m [] (term_tree symbols scope t) + 8 ≤ part_cost
     tm-cost t o = let l = term_tree-cost m symbols [] scope h t o.over in let k = o.size in omega (arith, l, k)
 
-    variables-small : (vs : List Variable) → AllByRecursion (λ v. TypeOver m symbols v.1) vs → AllByRecursion (λ (v : Variable). type_size v.1 + 1 ≤ greatest_size) vs
-        → AllByRecursion (λ v. cost m [] (scope.terms v) + 1 ≤ part_cost) vs × AllByRecursion (λ v. size (type_tree symbols scope.types v.1) ≤ part_cost) vs
-    variables-small [] o k = (tt {0}, tt {0})
-    variables-small (v ∷ vs) o k =
-        let rest = variables-small vs o.1 k.1 in
+    -- what stands for variables, with the sizes of their types; and terms
+    variables-total : (vs : List Variable) → AllByRecursion (λ v. TypeOver m symbols v.1) vs → total m (map scope.terms vs) + variable_sizes symbols scope vs ≤ 26 * sums variable_size vs
+    variables-total [] o = omega arith
+    variables-total (v ∷ vs) o =
         let one = stands-cost m symbols [] v (scope.terms v) o.0 (h.terms v) in
-        let two = type_tree-cost m symbols scope.types h.types [] v.1 o.0 in
-        ((omega (arith, one, k.0), rest.0), (omega (arith, two, k.0), rest.1))
+        let two = type_tree-size symbols scope.types h.types v.1 in
+        let rest = variables-total vs o.1 in
+        omega (arith, one, two, rest)
 
-    pub own_arguments : (s : Sequent) → SequentOver m symbols s → SequentWithin s → AreSmallArguments m symbols scope s
-    own_arguments s over within =
-        let variables = variables-small (free_variables_of s) (variables-over m symbols s over) (free_variables-size s greatest_size (sequent-sizes s within)) in
-        record {
-          types = every _ (λ n. let l = plain-cost m [] (scope.types n) (h.types n) in omega (arith, l)) (type_variables_of s);
-          terms = variables.0;
-          variables = variables.1;
-          hypotheses = All-weaker IsSmallTerm (λ t. size (term_tree symbols scope t) ≤ part_cost) (λ t k. let l = tm-cost t k in omega (arith, l)) s.hypotheses (hypotheses-small s over within);
-          conclusion = (let l = tm-cost s.conclusion (conclusion-small s over within) in omega (arith, l));
-        }
+    terms-total : (ts : List Term) → AllByRecursion (TermOver m symbols) ts → term_sizes symbols scope ts ≤ 24 * sums term_size ts
+    terms-total [] o = omega arith
+    terms-total (t ∷ ts) o =
+        let one = term_tree-cost m symbols [] scope h t o.0 in
+        let rest = terms-total ts o.1 in
+        omega (arith, one, rest)
 
-    pub plain-total : (s : Sequent) → SequentWithin s → (f : Term → Term) → total m (map (λ g. scope.proofs (f g)) s.hypotheses) ≤ 1024 * part_cost
-    plain-total s within f =
-        let l = total-map m part_cost (λ g. scope.proofs (f g)) s.hypotheses (every _ (λ g. let k = plain-cost m [] (scope.proofs (f g)) (h.proofs (f g)) in omega (arith, k)) s.hypotheses) in
-        let most = within.parameters in
-        omega (arith, l, most)
+    pub types-total : (ns : List Name) → total m (map scope.types ns) ≤ 3 * length ns
+    types-total [] = omega arith
+    types-total (n ∷ ns) =
+        let one = plain-cost m [] (scope.types n) (h.types n) in
+        let rest = types-total ns in
+        omega (arith, one, rest)
+
+    pub plain-total : (f : Term → Term) (hs : List Term) → total m (map (λ g. scope.proofs (f g)) hs) ≤ 3 * length hs
+    plain-total f [] = omega arith
+    plain-total f (g ∷ gs) =
+        let one = plain-cost m [] (scope.proofs (f g)) (h.proofs (f g)) in
+        let rest = plain-total f gs in
+        omega (arith, one, rest)
+
+    -- a sequent's own parts
+    pub own-cost : (s : Sequent) → SequentOver m symbols s → argument_cost symbols scope m s ≤ 50 * sequent_size s + 3 * parameter_count s
+    own-cost s over =
+        let of_types = types-total (type_variables_of s) in
+        let of_variables = variables-total (free_variables_of s) (variables-over m symbols s over) in
+        let of_terms = terms-total s.hypotheses over.hypotheses in
+        let last = term_tree-cost m symbols [] scope h s.conclusion over.conclusion in
+        let variables = variables-size s in
+        let terms = terms-size s in
+        omega (arith, of_types, of_variables, of_terms, last, variables, terms)
 
     pub premise-cost : (j : ℕ) (s : Sequent) → IsSmallPremise j s → cost m [] (premise_tree scope (j, s)) ≤ premise_cost
     premise-cost j s p =
         let over = p.is.over in
-        let whole = theorem_tree-cost m symbols scope s j (1024 * part_cost) p.is.declared p.is.is (SequentOver-instances m symbols s over) p.within (own_arguments s over p.within) (plain-total s p.within (λ g. g)) in
-        omega (arith, whole)
+        let whole = theorem_tree-cost m symbols scope s j p.is.declared p.is.is (SequentOver-instances m symbols s over) in
+        let own = own-cost s over in
+        let proofs = plain-total (λ g. g) s.hypotheses in
+        let size = p.within.size in
+        let most = p.within.parameters in
+        omega (arith, whole, own, proofs, size, most)

@@ -1,9 +1,10 @@
 -- Costs of proofs by their rules: a list of constants that are defined, and each step in the scope of its sequent.
-use Rattle.std.proofs.Common.{◌≡◌, ℕ, ◌+◌, ◌*◌, ◌≤◌, List, [], ◌∷◌, map, inl, refl, sym, ap, subst, ◌∙◌, arith}
+use Rattle.hol_spec.specs.declared.Version.TheVariants.{Five, Six}
+use Rattle.std.proofs.Common.{◌≡◌, ℕ, ◌+◌, ◌*◌, ◌≤◌, List, [], ◌∷◌, map, length, inl, refl, sym, ap, subst, ◌∙◌, arith}
 use Rattle.std.specs.List.{AllByRecursion}
 use Rattle.hol_spec.specs.Types.{HolType, operator, more}
 use Rattle.hol_spec.specs.Primitives.{bool, function}
-use Rattle.hol_spec.specs.Limits.{type_size, term_size, greatest_size, SequentWithin}
+use Rattle.hol_spec.specs.Limits.{type_size, term_size, SequentWithin}
 use Rattle.hol_spec.specs.Substitution.{substitute}
 use Rattle.hol_spec.specs.Terms.{Term, free, bound, constant, app, lam, Variable, term_eq, HasType, equation, free_places}
 use Rattle.hol_spec.specs.TermBinding.{put}
@@ -33,15 +34,14 @@ use Rattle.module_laws.specs.Bodies.{HasLemmas, equation-over}
 use Rattle.module_laws.specs.BodyTyping.{ArePremises, Defined, one_premise, two_premises, IsIn-map}
 use Rattle.module_laws.specs.ComputingBodies.{StandsForVariable, constant-over}
 use Rattle.module_laws.specs.DefinitionsHeld.{type_or-is}
-use Rattle.fitting_laws.specs.TermSizes.{free_variables-size, constants_put-size, constants_sub-size}
-use Rattle.fitting_laws.specs.SymbolLimits.{sequent-sizes}
-use Rattle.fitting_laws.specs.ShallowRows.{every}
-use Rattle.fitting_laws.specs.Costs.{Plain, cost, plain-cost}
-use Rattle.fitting_laws.specs.SmallScopes.{IsPlainScope, type_tree-cost}
-use Rattle.fitting_laws.specs.SmallTheorems.{part_cost, total-map, theorem_tree-cost}
+use Rattle.fitting_laws.specs.Sums.{sums}
+use Rattle.fitting_laws.specs.TermSizes.{variable_size, variables-size, terms-size, constants_put-size, constants_sub-size}
+use Rattle.fitting_laws.specs.Costs.{Plain, cost, total, plain-cost}
+use Rattle.fitting_laws.specs.SmallScopes.{IsPlainScope, type_tree-size, type_tree-cost, term_tree-cost}
+use Rattle.fitting_laws.specs.SmallTheorems.{variable_sizes, term_sizes, theorem_tree-cost}
 use Rattle.fitting_laws.specs.HeadCosts.{refl_of-cost}
-use Rattle.fitting_laws.specs.SmallPremises.{row_cost, IsSmallTerm, IsSmallType, IsSmallPremise, conclusion-small, hypotheses-small, left_side-small, right_side-small, equated_type-small, argument_type-small, result_type-small, ty-cost, tm-cost}
-use Rattle.fitting_laws.specs.SmallParts.{first_law-cost, second_law-cost}
+use Rattle.fitting_laws.specs.SmallPremises.{row_cost, IsSmallTerm, IsSmallType, IsSmallPremise, conclusion-small, hypotheses-small, left_side-small, right_side-small, equated_type-small, argument_type-small, result_type-small, types-total}
+use Rattle.fitting_laws.specs.SmallParts.{first_law-cost, second_law-cost, first_free-cost, second_free-cost}
 use Rattle.fitting_laws.specs.SmallRows.{refl-cost, eq_mp_row-cost, app_thm_row-cost, sym_row-cost, trans_row-cost, fun_ext_row-cost, prop_ext_row-cost, prove_hyp_row-cost, restate_row-cost, subst_row-cost}
 
 -- a term in which constants over the symbols are put for variables
@@ -55,31 +55,48 @@ module _ (m : List Declaration) (symbols : Symbols) (terms : TermPairs) where
   sub-over (lam t b) o k = (subst (TypeOver m symbols) (sym (substitute-nothing t)) o.0, sub-over b o.1 k)
 
 module _ (m : List Declaration) (lemmas : HasLemmas m) (symbols : Symbols) (scope : Scope) (h : IsPlainScope symbols scope) where
-  self_proof-cost : (t : Term) → IsSmallTerm m symbols t → cost m [] (self_proof symbols scope t) + 1 ≤ 6 * part_cost + 101
-  self_proof-cost (app (app (constant n (operator f (more a ts))) x) u) k =
-      let size = k.size in
-      let b = ty-cost m symbols scope h a (record { over = k.over.0.0.ty.1.0; size = omega (arith, size) }) in
-      let c = tm-cost m symbols scope h u (record { over = k.over.1; size = omega (arith, size) }) in
-      let whole = refl_of-cost m part_cost (type_tree symbols scope.types a) (term_tree symbols scope u) (omega (arith, b)) (omega (arith, c)) in
+  -- a formula of a sequent, over the symbols
+  record IsPut (one : Sequent) (t : Term) : Type 0 where
+    over : TermOver m symbols t
+    within : IsIn (terms_of one) t
+    typed : HasType t bool
+
+  self_proof-cost : (t : Term) → TermOver m symbols t → cost m [] (self_proof symbols scope t) + 1 ≤ 144 * term_size t + 101
+  self_proof-cost (app (app (constant n (operator f (more a ts))) x) u) o =
+      let b = type_tree-cost m symbols scope.types h.types [] a o.0.0.ty.1.0 in
+      let c = term_tree-cost m symbols [] scope h u o.1 in
+      let size = term_size (app (app (constant n (operator f (more a ts))) x) u) in
+      let whole = refl_of-cost m (24 * size) (type_tree symbols scope.types a) (term_tree symbols scope u) (omega (arith, b)) (omega (arith, c)) in
       omega (arith, whole)
-  self_proof-cost t k = let l = plain-cost m [] types Plain.nothing in omega (arith, l)
+  self_proof-cost t o = let l = plain-cost m [] types Plain.nothing in omega (arith, l)
+
+  self_proofs-total : (ts : List Term) → AllByRecursion (TermOver m symbols) ts → total m (map (self_proof symbols scope) ts) ≤ 144 * sums term_size ts + 101 * length ts
+  self_proofs-total [] o = omega arith
+  self_proofs-total (t ∷ ts) o =
+      let one = self_proof-cost t o.0 in
+      let rest = self_proofs-total ts o.1 in
+      omega (arith, one, rest)
 
   -- constants that are defined stand for the variables
   list_row-cost : (pairs : ConstantPairs) (i : ℕ) (one : Sequent) → IsSmallPremise m symbols i one → AllByRecursion (StandsForVariable m symbols (constants_put pairs)) (free_variables_of one)
       → cost m [] (premise_tree (constants_scope symbols scope (constants_put pairs)) (i, one)) ≤ row_cost
   list_row-cost pairs i one v stand =
       let inner = constants_scope symbols scope terms in
-      let proofs = total-map m (6 * part_cost + 101) (self_proof symbols scope) one.hypotheses (All-weaker (IsSmallTerm m symbols) (λ t. cost m [] (self_proof symbols scope t) + 1 ≤ 6 * part_cost + 101) self_proof-cost one.hypotheses (hypotheses-small m symbols one v.is.over v.within)) in
+      let whole = theorem_tree-cost m symbols inner one i v.is.declared v.is.is (SequentOver-instances m symbols one v.is.over) in
+      let of_types = types-total m symbols scope h (type_variables_of one) in
+      let of_variables = put_variables (free_variables_of one) puts in
+      let of_hypotheses = formulas one.hypotheses (All-each (IsPut one) one.hypotheses (λ t k. record {
+        over = All-at (TermOver m symbols) one.hypotheses t v.is.over.hypotheses k;
+        within = IsIn-left one.hypotheses (one.conclusion ∷ []) t k;
+        typed = All-at (λ t. HasType t bool) one.hypotheses t v.is.is.hypotheses k;
+      })) in
+      let of_conclusion = formula one.conclusion (record { over = v.is.over.conclusion; within = IsIn-right one.hypotheses (one.conclusion ∷ []) one.conclusion (inl refl); typed = v.is.is.conclusion }) in
+      let of_proofs = self_proofs-total one.hypotheses v.is.over.hypotheses in
+      let variables = variables-size one in
+      let sizes = terms-size one in
+      let size = v.within.size in
       let most = v.within.parameters in
-      let whole = theorem_tree-cost m symbols inner one i (1024 * (6 * part_cost + 101)) v.is.declared v.is.is (SequentOver-instances m symbols one v.is.over) v.within
-      (record {
-        types = every _ (λ n. let l = plain-cost m [] (scope.types n) (h.types n) in omega (arith, l)) (type_variables_of one);
-        terms = put_terms (free_variables_of one) puts sizes;
-        variables = put_variables (free_variables_of one) (variables-over m symbols one v.is.over) sizes;
-        hypotheses = All-each (λ t. size (term_tree symbols (constants_scope symbols scope terms) t) ≤ part_cost) one.hypotheses (λ t k. formula t (All-at (IsSmallTerm m symbols) one.hypotheses t (hypotheses-small m symbols one v.is.over v.within) k) (IsIn-left one.hypotheses (one.conclusion ∷ []) t k) (All-at (λ t. HasType t bool) one.hypotheses t v.is.is.hypotheses k));
-        conclusion = formula one.conclusion (conclusion-small m symbols one v.is.over v.within) (IsIn-right one.hypotheses (one.conclusion ∷ []) one.conclusion (inl refl)) v.is.is.conclusion;
-      }) (omega (arith, proofs, most)) in
-      omega (arith, whole)
+      omega (arith, whole, of_types, of_variables, of_hypotheses, of_conclusion, of_proofs, variables, sizes, size, most)
     where
       terms : TermPairs
       terms = constants_put pairs
@@ -96,31 +113,32 @@ module _ (m : List Declaration) (lemmas : HasLemmas m) (symbols : Symbols) (scop
       puts : AllByRecursion (λ w. TermOver m symbols (term_image (constants_put pairs) (w.0, substitute [] w.1))) (free_variables_of one)
       puts = All-each (λ w. TermOver m symbols (term_image (constants_put pairs) (w.0, substitute [] w.1))) (free_variables_of one) put_over
 
-      sizes : AllByRecursion (λ (w : Variable). type_size w.1 + 1 ≤ greatest_size) (free_variables_of one)
-      sizes = free_variables-size one greatest_size (sequent-sizes one v.within)
-
-      put_terms : (vs : List Variable) → AllByRecursion (λ w. TermOver m symbols (term_image (constants_put pairs) (w.0, substitute [] w.1))) vs → AllByRecursion (λ (w : Variable). type_size w.1 + 1 ≤ greatest_size) vs
-          → AllByRecursion (λ w. cost m [] (term_tree symbols scope (term_image (constants_put pairs) (w.0, substitute [] w.1))) + 1 ≤ part_cost) vs
-      put_terms [] o k = tt
-      put_terms (w ∷ ws) o k =
+      put_variables : (vs : List Variable) → AllByRecursion (λ w. TermOver m symbols (term_image (constants_put pairs) (w.0, substitute [] w.1))) vs
+          → total m (map (λ w. term_tree symbols scope (term_image (constants_put pairs) (w.0, substitute [] w.1))) vs) + variable_sizes symbols (constants_scope symbols scope (constants_put pairs)) vs ≤ 27 * sums variable_size vs
+      put_variables [] o = omega arith
+      put_variables (w ∷ ws) o =
           let c = constants_put-size pairs (w.0, substitute [] w.1) in
           let same = ap type_size (substitute-nothing w.1) in
-          let l = tm-cost m symbols scope h (term_image (constants_put pairs) (w.0, substitute [] w.1)) (record { over = o.0; size = omega (arith, c, same, k.0) }) in
-          (omega (arith, l), put_terms ws o.1 k.1)
+          let cost = term_tree-cost m symbols [] scope h (term_image (constants_put pairs) (w.0, substitute [] w.1)) o.0 in
+          let own = type_tree-size symbols scope.types h.types w.1 in
+          let rest = put_variables ws o.1 in
+          omega (arith, c, same, cost, own, rest)
 
-      put_variables : (vs : List Variable) → AllByRecursion (λ w. TypeOver m symbols w.1) vs → AllByRecursion (λ (w : Variable). type_size w.1 + 1 ≤ greatest_size) vs → AllByRecursion (λ w. size (type_tree symbols scope.types w.1) ≤ part_cost) vs
-      put_variables [] o k = tt
-      put_variables (w ∷ ws) o k = (let l = type_tree-cost m symbols scope.types h.types [] w.1 o.0 in omega (arith, l, k.0), put_variables ws o.1 k.1)
-
-      formula : (t : Term) → IsSmallTerm m symbols t → IsIn (terms_of one) t → HasType t bool → size (term_tree symbols (constants_scope symbols scope (constants_put pairs)) t) ≤ part_cost
-      formula t s k typed =
-          let instances = AreInstances-over m symbols t s.over in
-          let free_over = All-weaker (IsIn (free_variables_of one)) (λ w. TermOver m symbols (term_image (constants_put pairs) (w.0, substitute [] w.1))) put_over (free_places t) (term-IsFormula one symbols t k instances typed).free_variables in
-          let own = s.size in
+      formula : (t : Term) → IsPut one t → size (term_tree symbols (constants_scope symbols scope (constants_put pairs)) t) ≤ 24 * term_size t
+      formula t p =
+          let instances = AreInstances-over m symbols t p.over in
+          let free_over = All-weaker (IsIn (free_variables_of one)) (λ w. TermOver m symbols (term_image (constants_put pairs) (w.0, substitute [] w.1))) put_over (free_places t) (term-IsFormula one symbols t p.within instances p.typed).free_variables in
           let smaller = constants_sub-size pairs t in
-          let l = tm-cost m symbols scope h (sub [] (constants_put pairs) t) (record { over = sub-over m symbols (constants_put pairs) t s.over free_over; size = omega (arith, own, smaller) }) in
+          let l = term_tree-cost m symbols [] scope h (sub [] (constants_put pairs) t) (sub-over m symbols (constants_put pairs) t p.over free_over) in
           let same = ap size (term_tree-substitution symbols [] (constants_put pairs) (AreFitting-closed m symbols [] (constants_put pairs) fitting) scope t instances ∙ term_tree-proofs symbols (self_proof symbols scope) (images symbols [] (constants_put pairs) scope) t) in
-          omega (arith, l, same)
+          omega (arith, l, same, smaller)
+
+      formulas : (ts : List Term) → AllByRecursion (IsPut one) ts → term_sizes symbols (constants_scope symbols scope (constants_put pairs)) ts ≤ 24 * sums term_size ts
+      formulas [] k = omega arith
+      formulas (t ∷ ts) k =
+          let first = formula t k.0 in
+          let rest = formulas ts k.1 in
+          omega (arith, first, rest)
 
   -- reflexivity of a side of an equation that is concluded
   sides_row : (a : HolType) (x y : Term) {c : Term} → c ≡ equation a x y → IsSmallTerm m symbols c → cost m [] (refl_tree symbols scope a y) ≤ row_cost
@@ -218,9 +236,17 @@ module _ (m : List Declaration) (lemmas : HasLemmas m) (symbols : Symbols) (scop
       (list_row-cost pairs n.j one (record { is = n.first; within = ws.0 }) d.1)
   proof_tree-cost kind js premises given s (rule.first_law {names = names} {c = c} {f = f} {one = one} t e) p d over ws w =
       let n = one_premise m symbols js one p in
-      subst (λ l. cost m [] (proof_tree symbols scope kinds.FirstLaw l (one ∷ []) (Parameters.type_operator names)) ≤ row_cost) (sym n.is)
+      subst (λ l. cost m [] (proof_tree symbols scope kinds.FirstLaw l (one ∷ []) (Parameters.type_operator names Six)) ≤ row_cost) (sym n.is)
       (first_law-cost m symbols names c f n.j one t (record { is = n.first; within = ws.0 }) scope h s e (conclusion-small m symbols s over w))
   proof_tree-cost kind js premises given s (rule.second_law {names = names} {c = c} {f = f} {one = one} t e) p d over ws w =
       let n = one_premise m symbols js one p in
-      subst (λ l. cost m [] (proof_tree symbols scope kinds.SecondLaw l (one ∷ []) (Parameters.type_operator names)) ≤ row_cost) (sym n.is)
+      subst (λ l. cost m [] (proof_tree symbols scope kinds.SecondLaw l (one ∷ []) (Parameters.type_operator names Six)) ≤ row_cost) (sym n.is)
       (second_law-cost m symbols names c f n.j one t (record { is = n.first; within = ws.0 }) scope h s e (conclusion-small m symbols s over w))
+  proof_tree-cost kind js premises given s (rule.first_law_free {names = names} {c = c} {f = f} {one = one} t e) p d over ws w =
+      let n = one_premise m symbols js one p in
+      subst (λ l. cost m [] (proof_tree symbols scope kinds.FirstLaw l (one ∷ []) (Parameters.type_operator names Five)) ≤ row_cost) (sym n.is)
+      (first_free-cost m symbols names c f n.j one t (record { is = n.first; within = ws.0 }) scope h s e (conclusion-small m symbols s over w))
+  proof_tree-cost kind js premises given s (rule.second_law_free {names = names} {c = c} {f = f} {one = one} t e) p d over ws w =
+      let n = one_premise m symbols js one p in
+      subst (λ l. cost m [] (proof_tree symbols scope kinds.SecondLaw l (one ∷ []) (Parameters.type_operator names Five)) ≤ row_cost) (sym n.is)
+      (second_free-cost m symbols names c f n.j one t (record { is = n.first; within = ws.0 }) scope h lemmas s e (conclusion-small m symbols s over w))

@@ -19,29 +19,29 @@ use Rattle.module_spec.specs.Scopes.{Symbols, type_tree, Scope, term_tree, under
 use Rattle.module_spec.specs.ProofTrees.{premise_tree, abs_tree, refl_tree, eq_mp_tree, fun_ext_tree, app_thm_tree, prop_ext_tree, sym_tree, trans_tree, prove_hyp_tree, subst_tree}
 use Rattle.module_laws.specs.ScopeLaws.{type_tree-substitute}
 use Rattle.module_laws.specs.TermScopeLaws.{term_tree-substitution}
-use Rattle.module_laws.specs.ScopeTyping.{TypeOver, TermOver, AreInstances-over, TypeOver-type_under}
+use Rattle.module_laws.specs.ScopeTyping.{TypeOver, TermOver, AreInstances-over}
 use Rattle.module_laws.specs.SequentScope.{with_proofs, term_tree-proofs, SequentOver-instances}
-use Rattle.module_laws.specs.SubstitutionBody.{image_of-type, AreFitting-closed, all_types-over, all_terms-over}
+use Rattle.module_laws.specs.SubstitutionBody.{AreFitting-closed, all_types-over, all_terms-over}
 use Rattle.module_laws.specs.Bodies.{HasLemmas}
 use Rattle.fitting_laws.specs.TermMeasures.{All-distinct}
 use Rattle.fitting_laws.specs.TermSizes.{type_images-size, term_images_of-size, image_type-size}
 use Rattle.fitting_laws.specs.ShallowRows.{every}
 use Rattle.fitting_laws.specs.Costs.{cost, total, plain-cost}
-use Rattle.fitting_laws.specs.SmallScopes.{IsPlainScope, under_term-plain, under_proof-plain}
-use Rattle.fitting_laws.specs.SmallTheorems.{part_cost, AreSmallArguments, theorem_tree-cost}
+use Rattle.fitting_laws.specs.SmallScopes.{IsPlainScope, type_tree-size, under_term-plain, under_proof-plain}
+use Rattle.fitting_laws.specs.SmallTheorems.{part_cost, variable_sizes, term_sizes, argument_cost, theorem_tree-cost}
 use Rattle.fitting_laws.specs.HeadCosts.{refl_of-cost, eq_mp-cost, prop_ext-cost, fun_ext-cost, app_thm-cost, sym-cost, trans-cost}
-use Rattle.fitting_laws.specs.SmallPremises.{premise_cost, row_cost, IsSmallTerm, IsSmallType, IsSmallPremise, ty-cost, tm-cost, own_arguments, plain-total, premise-cost}
+use Rattle.fitting_laws.specs.SmallPremises.{row_cost, IsSmallTerm, IsSmallType, IsSmallPremise, ty-cost, tm-cost, plain-total, own-cost, premise-cost}
 
 -- the proof of one hypothesis among those of a list without repeats
 module _ (m : List Declaration) (f : Term → Tree) (p : Term) (x : Tree) where
-  without_it : (hs : List Term) → AllByRecursion (λ g. cost m [] (f g) + 1 ≤ part_cost) hs → AllByRecursion (λ g. term_eq g p ≡ false) hs → total m (map (λ g. cond (term_eq g p) x (f g)) hs) ≤ length hs * part_cost
+  without_it : (hs : List Term) → AllByRecursion (λ g. cost m [] (f g) ≤ 2) hs → AllByRecursion (λ g. term_eq g p ≡ false) hs → total m (map (λ g. cond (term_eq g p) x (f g)) hs) ≤ 3 * length hs
   without_it [] h k = omega arith
   without_it (g ∷ gs) h k =
       let same = ap (λ b. cost m [] (cond b x (f g))) k.0 in
       let rest = without_it gs h.1 k.1 in
       omega (arith, same, rest, h.0)
 
-  once : (hs : List Term) → IsDistinct term_eq hs → AllByRecursion (λ g. cost m [] (f g) + 1 ≤ part_cost) hs → total m (map (λ g. cond (term_eq g p) x (f g)) hs) ≤ length hs * part_cost + cost m [] x + 1
+  once : (hs : List Term) → IsDistinct term_eq hs → AllByRecursion (λ g. cost m [] (f g) ≤ 2) hs → total m (map (λ g. cond (term_eq g p) x (f g)) hs) ≤ 3 * length hs + cost m [] x + 1
   once [] d h = omega arith
   once (g ∷ gs) d h = go (term_eq g p) refl (once gs (IsDistinct-tail term_eq g gs d) h.1)
     where
@@ -49,24 +49,27 @@ module _ (m : List Declaration) (f : Term → Tree) (p : Term) (x : Tree) where
       others e [] k = tt
       others e (y ∷ ys) k = (ap (term_eq y) (sym e) ∙ symmetric term_eq term_eq-Decides g y k.0, others e ys k.1)
 
-      go : (b : Bool) → term_eq g p ≡ b → total m (map (λ g. cond (term_eq g p) x (f g)) gs) ≤ length gs * part_cost + cost m [] x + 1
-          → total m (map (λ g. cond (term_eq g p) x (f g)) (g ∷ gs)) ≤ length (g ∷ gs) * part_cost + cost m [] x + 1
+      go : (b : Bool) → term_eq g p ≡ b → total m (map (λ g. cond (term_eq g p) x (f g)) gs) ≤ 3 * length gs + cost m [] x + 1
+          → total m (map (λ g. cond (term_eq g p) x (f g)) (g ∷ gs)) ≤ 3 * length (g ∷ gs) + cost m [] x + 1
       go true e later =
           let same = ap (λ b. cost m [] (cond b x (f g))) e in
           let rest = without_it gs h.1 (others ((term_eq-Decides g p).0 e) gs (IsDistinct-head term_eq g gs d)) in
           omega (arith, same, rest)
       go false e later = let same = ap (λ b. cost m [] (cond b x (f g))) e in omega (arith, same, later, h.0)
 
--- arguments owe nothing to what stands for hypotheses
-arguments-proofs : (m : List Declaration) (symbols : Symbols) (proofs : Term → Tree) (scope : Scope) (s : Sequent) → AreSmallArguments m symbols scope s → AreSmallArguments m symbols (with_proofs proofs scope) s
-arguments-proofs m symbols proofs scope s h = record {
-  types = h.types;
-  terms = h.terms;
-  variables = h.variables;
-  hypotheses = All-weaker (λ t. size (term_tree symbols scope t) ≤ part_cost) (λ t. size (term_tree symbols (with_proofs proofs scope) t) ≤ part_cost)
-      (λ t k. let same = ap size (term_tree-proofs symbols proofs scope t) in omega (arith, same, k)) s.hypotheses h.hypotheses;
-  conclusion = (let same = ap size (term_tree-proofs symbols proofs scope s.conclusion) in let k = h.conclusion in omega (arith, same, k));
-}
+-- the sizes of terms owe nothing to what stands for hypotheses
+term_sizes-proofs : (symbols : Symbols) (proofs : Term → Tree) (scope : Scope) (ts : List Term) → term_sizes symbols (with_proofs proofs scope) ts ≡ term_sizes symbols scope ts
+term_sizes-proofs symbols proofs scope [] = refl
+term_sizes-proofs symbols proofs scope (t ∷ ts) =
+    let same = ap size (term_tree-proofs symbols proofs scope t) in
+    let rest = term_sizes-proofs symbols proofs scope ts in
+    omega (arith, same, rest)
+
+arguments-proofs : (m : List Declaration) (symbols : Symbols) (proofs : Term → Tree) (scope : Scope) (s : Sequent) → argument_cost symbols (with_proofs proofs scope) m s ≡ argument_cost symbols scope m s
+arguments-proofs m symbols proofs scope s =
+    let hypotheses = term_sizes-proofs symbols proofs scope s.hypotheses in
+    let conclusion = ap size (term_tree-proofs symbols proofs scope s.conclusion) in
+    omega (arith, hypotheses, conclusion)
 
 module _ (m : List Declaration) (lemmas : HasLemmas m) (symbols : Symbols) (scope : Scope) (h : IsPlainScope symbols scope) where
   pub refl-cost : (a : HolType) (t : Term) → IsSmallType m symbols a → IsSmallTerm m symbols t → cost m [] (refl_tree symbols scope a t) ≤ row_cost
@@ -156,11 +159,13 @@ module _ (m : List Declaration) (lemmas : HasLemmas m) (symbols : Symbols) (scop
   prove_hyp_row-cost p i j one two v w =
       let x = premise_tree scope (i, one) in
       let c = premise-cost m symbols scope h i one v in
-      let proofs = once m scope.proofs p x two.hypotheses w.is.is.no_repeats (every _ (λ g. let k = plain-cost m [] (scope.proofs g) (h.proofs g) in omega (arith, k)) two.hypotheses) in
+      let proofs = once m scope.proofs p x two.hypotheses w.is.is.no_repeats (every _ (λ g. plain-cost m [] (scope.proofs g) (h.proofs g)) two.hypotheses) in
+      let whole = theorem_tree-cost m symbols (set_proof p x scope) two j w.is.declared w.is.is (SequentOver-instances m symbols two w.is.over) in
+      let same = arguments-proofs m symbols (set_proof p x scope).proofs scope two in
+      let own = own-cost m symbols scope h two w.is.over in
+      let size = w.within.size in
       let most = w.within.parameters in
-      let whole = theorem_tree-cost m symbols (set_proof p x scope) two j (1024 * part_cost + premise_cost + 1) w.is.declared w.is.is (SequentOver-instances m symbols two w.is.over) w.within
-      (arguments-proofs m symbols (set_proof p x scope).proofs scope two (own_arguments m symbols scope h two w.is.over w.within)) (omega (arith, proofs, c, most)) in
-      omega (arith, whole)
+      omega (arith, whole, same, own, proofs, c, size, most)
 
   pub restate_row-cost : (i : ℕ) (one : Sequent) → IsSmallPremise m symbols i one → cost m [] (premise_tree scope (i, one)) ≤ row_cost
   restate_row-cost i one v = let c = premise-cost m symbols scope h i one v in omega (arith, c)
@@ -174,36 +179,43 @@ module _ (m : List Declaration) (lemmas : HasLemmas m) (symbols : Symbols) (scop
       let types_put = All-distinct _ name_eq (flat_map type_variable_places (terms_of one)) (all_types-over m symbols pairs terms fitting (terms_of one) overs) in
       let type_sizes = type_images-size pairs terms fitting greatest_size one sizes in
       let terms_put = All-distinct _ variable_eq (flat_map free_places (terms_of one)) (all_terms-over m symbols pairs terms fitting (terms_of one) overs) in
-      let term_sizes = term_images_of-size pairs terms greatest_size one sizes in
+      let put_sizes = term_images_of-size pairs terms greatest_size one sizes in
       let inner = images symbols pairs terms scope in
-      let whole = theorem_tree-cost m symbols inner one i (1024 * part_cost) v.is.declared v.is.is (SequentOver-instances m symbols one v.is.over) v.within
-      (record {
-        types = put_types (type_variables_of one) types_put type_sizes;
-        terms = put_terms (free_variables_of one) terms_put term_sizes;
-        variables = put_variables (free_variables_of one) terms_put term_sizes;
-        hypotheses = hypotheses one.hypotheses v.is.over.hypotheses (All-left (λ t. IsSmallTerm m symbols (sub pairs terms t)) one.hypotheses (one.conclusion ∷ []) all);
-        conclusion = formula one.conclusion v.is.over.conclusion (All-right (λ t. IsSmallTerm m symbols (sub pairs terms t)) one.hypotheses (one.conclusion ∷ []) all).0;
-      }) (plain-total m symbols scope h one v.within (sub pairs terms)) in
-      omega (arith, whole)
+      let whole = theorem_tree-cost m symbols inner one i v.is.declared v.is.is (SequentOver-instances m symbols one v.is.over) in
+      let of_types = put_types (type_variables_of one) types_put type_sizes in
+      let of_terms = put_terms (free_variables_of one) terms_put put_sizes in
+      let of_variables = put_variables (free_variables_of one) terms_put put_sizes in
+      let of_hypotheses = hypotheses one.hypotheses v.is.over.hypotheses (All-left (λ t. IsSmallTerm m symbols (sub pairs terms t)) one.hypotheses (one.conclusion ∷ []) all) in
+      let of_conclusion = formula one.conclusion v.is.over.conclusion (All-right (λ t. IsSmallTerm m symbols (sub pairs terms t)) one.hypotheses (one.conclusion ∷ []) all).0 in
+      let of_proofs = plain-total m symbols scope h (sub pairs terms) one.hypotheses in
+      let most = v.within.parameters in
+      omega (arith, whole, of_types, of_terms, of_variables, of_hypotheses, of_conclusion, of_proofs, most)
     where
       put_types : (ns : List Name) → AllByRecursion (λ n. TypeOver m symbols (image pairs n)) ns → AllByRecursion (λ n. type_size (image pairs n) ≤ 2 * greatest_size) ns
-          → AllByRecursion (λ n. cost m [] (type_tree symbols scope.types (image pairs n)) + 1 ≤ part_cost) ns
-      put_types [] o k = tt
-      put_types (n ∷ ns) o k = (let l = ty-cost m symbols scope h (image pairs n) (record { over = o.0; size = k.0 }) in omega (arith, l), put_types ns o.1 k.1)
+          → total m (map (λ n. type_tree symbols scope.types (image pairs n)) ns) ≤ length ns * part_cost
+      put_types [] o k = omega arith
+      put_types (n ∷ ns) o k =
+          let one = ty-cost m symbols scope h (image pairs n) (record { over = o.0; size = k.0 }) in
+          let rest = put_types ns o.1 k.1 in
+          omega (arith, one, rest)
 
       put_terms : (vs : List Variable) → AllByRecursion (λ v. TermOver m symbols (term_image terms (v.0, substitute pairs v.1))) vs → AllByRecursion (λ v. term_size (term_image terms (v.0, substitute pairs v.1)) ≤ greatest_size) vs
-          → AllByRecursion (λ v. cost m [] (term_tree symbols scope (term_image terms (v.0, substitute pairs v.1))) + 1 ≤ part_cost) vs
-      put_terms [] o k = tt
-      put_terms (v ∷ vs) o k = (let l = tm-cost m symbols scope h (term_image terms (v.0, substitute pairs v.1)) (record { over = o.0; size = k.0 }) in omega (arith, l), put_terms vs o.1 k.1)
+          → total m (map (λ v. term_tree symbols scope (term_image terms (v.0, substitute pairs v.1))) vs) ≤ length vs * part_cost
+      put_terms [] o k = omega arith
+      put_terms (v ∷ vs) o k =
+          let one = tm-cost m symbols scope h (term_image terms (v.0, substitute pairs v.1)) (record { over = o.0; size = k.0 }) in
+          let rest = put_terms vs o.1 k.1 in
+          omega (arith, one, rest)
 
       put_variables : (vs : List Variable) → AllByRecursion (λ v. TermOver m symbols (term_image terms (v.0, substitute pairs v.1))) vs → AllByRecursion (λ v. term_size (term_image terms (v.0, substitute pairs v.1)) ≤ greatest_size) vs
-          → AllByRecursion (λ v. size (type_tree symbols (images symbols pairs terms scope).types v.1) ≤ part_cost) vs
-      put_variables [] o k = tt
+          → variable_sizes symbols (images symbols pairs terms scope) vs ≤ length vs * (4 * greatest_size)
+      put_variables [] o k = omega arith
       put_variables (v ∷ vs) o k =
-          let over = TypeOver-type_under m symbols [] (λ n a e. absurd (cc)) (term_image terms (v.0, substitute pairs v.1)) (substitute pairs v.1) o.0 (image_of-type m symbols pairs terms fitting (v.0, substitute pairs v.1)) in
-          let l = ty-cost m symbols scope h (substitute pairs v.1) (record { over = over; size = image_type-size pairs terms fitting greatest_size v k.0 }) in
+          let one = type_tree-size symbols scope.types h.types (substitute pairs v.1) in
+          let own = image_type-size pairs terms fitting greatest_size v k.0 in
           let same = ap size (type_tree-substitute symbols pairs scope.types v.1) in
-          (omega (arith, l, same), put_variables vs o.1 k.1)
+          let rest = put_variables vs o.1 k.1 in
+          omega (arith, one, own, same, rest)
 
       formula : (t : Term) → TermOver m symbols t → IsSmallTerm m symbols (sub pairs terms t) → size (term_tree symbols (images symbols pairs terms scope) t) ≤ part_cost
       formula t o k =
@@ -211,6 +223,9 @@ module _ (m : List Declaration) (lemmas : HasLemmas m) (symbols : Symbols) (scop
           let same = ap size (term_tree-substitution symbols pairs terms (AreFitting-closed m symbols pairs terms fitting) scope t (AreInstances-over m symbols t o)) in
           omega (arith, l, same)
 
-      hypotheses : (hs : List Term) → AllByRecursion (TermOver m symbols) hs → AllByRecursion (λ t. IsSmallTerm m symbols (sub pairs terms t)) hs → AllByRecursion (λ t. size (term_tree symbols (images symbols pairs terms scope) t) ≤ part_cost) hs
-      hypotheses [] o k = tt
-      hypotheses (t ∷ ts) o k = (formula t o.0 k.0, hypotheses ts o.1 k.1)
+      hypotheses : (hs : List Term) → AllByRecursion (TermOver m symbols) hs → AllByRecursion (λ t. IsSmallTerm m symbols (sub pairs terms t)) hs → term_sizes symbols (images symbols pairs terms scope) hs ≤ length hs * part_cost
+      hypotheses [] o k = omega arith
+      hypotheses (t ∷ ts) o k =
+          let one = formula t o.0 k.0 in
+          let rest = hypotheses ts o.1 k.1 in
+          omega (arith, one, rest)

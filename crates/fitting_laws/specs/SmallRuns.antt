@@ -7,7 +7,7 @@ use Rattle.std.proofs.lemmas.List.{length-append, append-nil}
 use Rattle.std.proofs.lemmas.Nat.{mul-le}
 use Rattle.hol_spec.specs.Names.{Name}
 use Rattle.hol_spec.specs.Types.{HolType, type_variables}
-use Rattle.hol_spec.specs.Limits.{type_size, greatest_size, SequentWithin}
+use Rattle.hol_spec.specs.Limits.{term_size, greatest_parameter_count, SequentWithin}
 use Rattle.hol_spec.specs.Terms.{Term, Variable}
 use Rattle.hol_spec.specs.Sequents.{Sequent, type_variables_of, free_variables_of}
 use Rattle.hol_spec.specs.Definitions.{TypeNames}
@@ -35,15 +35,16 @@ use Rattle.module_laws.specs.MadeModules.{items-made}
 use Rattle.module_laws.specs.ModuleTyping.{HoldsItem, Holds-append, TypeOver-taken, TermOver-taken, SequentOver-taken, ArePremises-among, defined_among, slice_get-last, content-holds}
 use Rattle.lp_shape.specs.PricedModules.{IsPriced-bound}
 use Rattle.run_laws.specs.AcceptedRuns.{runs_are_carried}
-use Rattle.fitting_laws.specs.SymbolLimits.{DefinitionWithin, GenericWithin, sequent-sizes}
+use Rattle.fitting_laws.specs.SymbolLimits.{DefinitionWithin, GenericWithin}
 use Rattle.fitting_laws.specs.FittingItems.{ContentFits, AreFittingItems, kept_items, kept-made, kept-fit}
-use Rattle.fitting_laws.specs.TermSizes.{free_variables-size}
+use Rattle.fitting_laws.specs.Sums.{sums}
+use Rattle.fitting_laws.specs.TermSizes.{variable_size, variables-size, terms-size}
 use Rattle.fitting_laws.specs.Costs.{Plain, cost, total, total-append, cost-products, cost-abstractions, plain-cost}
 use Rattle.fitting_laws.specs.SmallScopes.{IsPlainScope, under_term-plain, under_proof-plain, under_types-plain, under_terms-plain, filled-plain, scope_of_types-plain, scope_of-plain, type_tree-cost, term_tree-cost}
 use Rattle.fitting_laws.specs.SmallTheorems.{part_cost}
 use Rattle.fitting_laws.specs.HeadCosts.{IsPartBound, sub-cost, sub_abs-cost, sub_rep-cost}
 use Rattle.fitting_laws.specs.SmallParts.{named_part_cost, part_tree-cost}
-use Rattle.fitting_laws.specs.SmallPremises.{IsSmallTerm, IsSmallPremise, conclusion-small, hypotheses-small, tm-cost}
+use Rattle.fitting_laws.specs.SmallPremises.{IsSmallPremise, conclusion-small, tm-cost}
 use Rattle.fitting_laws.specs.SmallProofs.{proof_tree-cost}
 
 -- what a declaration weighs at most
@@ -66,23 +67,22 @@ replicate-total m (suc k) =
     omega (arith, one, rest)
 
 module _ (m : List Declaration) (symbols : Symbols) where
-  terms-total : (vs : List Variable) (scope : Scope) → IsPlainScope symbols scope → AllByRecursion (λ v. TypeOver m symbols v.1) vs → AllByRecursion (λ (v : Variable). type_size v.1 + 1 ≤ greatest_size) vs
-      → total m (term_domains symbols vs scope) ≤ length vs * part_cost
-  terms-total [] scope h o k = omega arith
-  terms-total (v ∷ vs) scope h o k =
+  variables-total : (vs : List Variable) (scope : Scope) → IsPlainScope symbols scope → AllByRecursion (λ v. TypeOver m symbols v.1) vs → total m (term_domains symbols vs scope) ≤ 4 * sums variable_size vs
+  variables-total [] scope h o = omega arith
+  variables-total (v ∷ vs) scope h o =
       let one = type_tree-cost m symbols scope.types h.types [] v.1 o.0 in
-      let rest = terms-total vs (under_term v scope) (under_term-plain symbols v scope h) o.1 k.1 in
-      omega (arith, one, rest, k.0)
+      let rest = variables-total vs (under_term v scope) (under_term-plain symbols v scope h) o.1 in
+      omega (arith, one, rest)
 
-  proofs-total : (hs : List Term) (scope : Scope) → IsPlainScope symbols scope → AllByRecursion (IsSmallTerm m symbols) hs → total m (proof_domains symbols hs scope) ≤ length hs * part_cost
-  proofs-total [] scope h k = omega arith
-  proofs-total (p ∷ ps) scope h k =
-      let one = tm-cost m symbols scope h p k.0 in
-      let rest = proofs-total ps (under_proof p scope) (under_proof-plain symbols p scope h) k.1 in
+  proofs-total : (hs : List Term) (scope : Scope) → IsPlainScope symbols scope → AllByRecursion (TermOver m symbols) hs → total m (proof_domains symbols hs scope) ≤ 24 * sums term_size hs + 7 * length hs
+  proofs-total [] scope h o = omega arith
+  proofs-total (p ∷ ps) scope h o =
+      let one = term_tree-cost m symbols [] scope h p o.0 in
+      let rest = proofs-total ps (under_proof p scope) (under_proof-plain symbols p scope h) o.1 in
       omega (arith, one, rest)
 
   -- the telescope of a sequent, and its conclusion
-  domains-total : (s : Sequent) → SequentOver m symbols s → SequentWithin s → total m (domains_of symbols s) ≤ 1024 * part_cost
+  domains-total : (s : Sequent) → SequentOver m symbols s → SequentWithin s → total m (domains_of symbols s) ≤ 2 * part_cost
   domains-total s over within =
       let scope = scope_of_types symbols s in
       let h = scope_of_types-plain symbols s in
@@ -92,10 +92,13 @@ module _ (m : List Declaration) (symbols : Symbols) where
       let one = total-append m (ts ++ us) ps in
       let two = total-append m ts us in
       let of_types = types-total m (type_variables_of s) in
-      let of_terms = terms-total (free_variables_of s) scope h (variables-over m symbols s over) (free_variables-size s greatest_size (sequent-sizes s within)) in
-      let of_proofs = proofs-total s.hypotheses (scope_of_terms symbols s) (under_terms-plain symbols (free_variables_of s) scope h) (hypotheses-small m symbols s over within) in
+      let of_terms = variables-total (free_variables_of s) scope h (variables-over m symbols s over) in
+      let of_proofs = proofs-total s.hypotheses (scope_of_terms symbols s) (under_terms-plain symbols (free_variables_of s) scope h) over.hypotheses in
+      let variables = variables-size s in
+      let sizes = terms-size s in
+      let size = within.size in
       let most = within.parameters in
-      omega (arith, one, two, of_types, of_terms, of_proofs, most)
+      omega (arith, one, two, of_types, of_terms, of_proofs, variables, sizes, size, most)
 
   conclusion-cost : (s : Sequent) → SequentOver m symbols s → SequentWithin s → cost m [] (conclusion_tree symbols s) ≤ part_cost
   conclusion-cost s over within = let l = tm-cost m symbols (scope_of symbols s) (scope_of-plain symbols s) s.conclusion (conclusion-small m symbols s over within) in omega (arith, l)
@@ -123,7 +126,7 @@ module _ (m : List Declaration) (symbols : Symbols) where
       let most = h.variables in
       omega (arith, own, whole, front, size, most)
 
-  part_definition-cost : (ns : List Name) (i : ℕ) → IsPartBound m part_cost [] i → (names : TypeNames) (c : HolType) (f : Term) (j : ℕ) (one : Sequent) → length ns ≤ 1024 → IsTypeDefinition names c f one → IsSmallPremise m symbols j one
+  part_definition-cost : (ns : List Name) (i : ℕ) → IsPartBound m part_cost [] i → (names : TypeNames) (c : HolType) (f : Term) (j : ℕ) (one : Sequent) → length ns ≤ greatest_parameter_count → IsTypeDefinition names c f one → IsSmallPremise m symbols j one
       → cost m [] (part_definition_tree symbols ns i c j one) ≤ part_cost + named_part_cost
   part_definition-cost ns i b names c f j one l d v =
       let scope = filled symbols (under_types ns unfilled) in

@@ -6,7 +6,7 @@ use Rattle.std.proofs.lemmas.List.{length-map}
 use Rattle.hol_spec.specs.Names.{Name}
 use Rattle.hol_spec.specs.NameEquality.{name_eq}
 use Rattle.hol_laws.specs.NameEqualityLaws.{name_eq-Decides}
-use Rattle.hol_spec.specs.Lists.{is_in, union, IsIn}
+use Rattle.hol_spec.specs.Lists.{IsIn}
 use Rattle.hol_spec.specs.Types.{HolType, HolTypes, variable, operator, none, more, count, variable_places, variable_places_of_all, type_variables}
 use Rattle.hol_spec.specs.Limits.{type_size, types_size, term_size}
 use Rattle.hol_spec.specs.Substitution.{TypePairs, image, substitute, substitute_all, type_arguments}
@@ -23,30 +23,15 @@ use Rattle.module_laws.specs.ScopeLaws.{through_types, type_tree-sub, type_tree-
 use Rattle.module_laws.specs.TermScopeLaws.{type_tree-agrees}
 use Rattle.module_laws.specs.SimultaneousArguments.{after}
 use Rattle.module_laws.specs.ListedScopes.{filler-lift}
-use Rattle.module_laws.specs.ScopeTyping.{TypeOver, TypesOver, ConstantOver, TermOver, TypeOver-filled_in, types-agree}
-use Rattle.fitting_laws.specs.Costs.{domain_sizes, spread-products, operator-spread, Plain, plain-lift, cost, total, cost-applied, plain-cost, symbol-cost}
+use Rattle.module_laws.specs.ScopeTyping.{length-type_trees, TypeOver, TypesOver, ConstantOver, TermOver, TypeOver-filled_in, types-agree}
+use Rattle.fitting_laws.specs.Sums.{sums, sums-append, sums-distinct}
+use Rattle.fitting_laws.specs.Costs.{domain_sizes, spread-products, operator-spread, Plain, plain-size, plain-lift, size-applied, cost, total, cost-applied, plain-cost, symbol-cost}
 
 -- the sizes of what is put for these variables
 abbrev pub put_sizes : TypePairs → List Name → ℕ
-put_sizes pairs [] = 0
-put_sizes pairs (n ∷ ns) = type_size (image pairs n) + put_sizes pairs ns
+put_sizes pairs ns = sums (λ n. type_size (image pairs n)) ns
 
 module _ (pairs : TypePairs) where
-  put_sizes-append : (ms ns : List Name) → put_sizes pairs (ms ++ ns) ≡ put_sizes pairs ms + put_sizes pairs ns
-  put_sizes-append [] ns = omega arith
-  put_sizes-append (m ∷ ms) ns = let h = put_sizes-append ms ns in omega (arith, h)
-
-  put_sizes-new : (b : Bool) (ms : List Name) (n : Name) → put_sizes pairs (cond b ms (ms ++ n ∷ [])) ≤ put_sizes pairs ms + type_size (image pairs n)
-  put_sizes-new true ms n = omega arith
-  put_sizes-new false ms n = let h = put_sizes-append ms (n ∷ []) in omega (arith, h)
-
-  put_sizes-union : (ns ms : List Name) → put_sizes pairs (union name_eq ms ns) ≤ put_sizes pairs ms + put_sizes pairs ns
-  put_sizes-union [] ms = omega arith
-  put_sizes-union (n ∷ ns) ms =
-      let new = put_sizes-new (is_in name_eq n ms) ms n in
-      let rest = put_sizes-union ns (cond (is_in name_eq n ms) ms (ms ++ n ∷ [])) in
-      omega (arith, new, rest)
-
   mutual
     put_sizes-places : (t : HolType) → put_sizes pairs (variable_places t) ≤ type_size (substitute pairs t)
     put_sizes-places (variable n) = omega arith
@@ -57,12 +42,12 @@ module _ (pairs : TypePairs) where
     put_sizes-all (more t ts) =
         let one = put_sizes-places t in
         let rest = put_sizes-all ts in
-        let both = put_sizes-append (variable_places t) (variable_places_of_all ts) in
+        let both = sums-append (λ n. type_size (image pairs n)) (variable_places t) (variable_places_of_all ts) in
         omega (arith, one, rest, both)
 
   put_sizes-variables : (t : HolType) → put_sizes pairs (type_variables t) ≤ type_size (substitute pairs t)
   put_sizes-variables t =
-      let once = put_sizes-union (variable_places t) [] in
+      let once = sums-distinct (λ n. type_size (image pairs n)) name_eq (variable_places t) in
       let all = put_sizes-places t in
       omega (arith, once, all)
 
@@ -155,21 +140,38 @@ pub domain_sizes-types : (other : Name → Tree) (ns : List Name) (s : ℕ → T
 domain_sizes-types other [] s = refl
 domain_sizes-types other (n ∷ ns) s = let k = domain_sizes-types other ns (cons (other n) s) in omega (arith, k)
 
+-- a type has at most two nodes for each of its own
+module _ (symbols : Symbols) (scope : TypeScope) (h : (n : Name) → Plain (scope n)) where
+  mutual
+    pub type_tree-size : (t : HolType) → size (type_tree symbols scope t) + 1 ≤ 2 * type_size t
+    type_tree-size (variable n) = let l = plain-size (scope n) (h n) in omega (arith, l)
+    type_tree-size (operator n ts) =
+        let whole = size-applied (Sym (operator_symbol symbols n (count ts))) (type_trees symbols scope ts) in
+        let rest = type_trees-size ts in
+        omega (arith, whole, rest)
+
+    type_trees-size : (ts : HolTypes) → sums (λ x. 1 + size x) (type_trees symbols scope ts) ≤ 2 * types_size ts
+    type_trees-size none = omega arith
+    type_trees-size (more t ts) =
+        let one = type_tree-size t in
+        let rest = type_trees-size ts in
+        omega (arith, one, rest)
+
 module _ (m : List Declaration) (symbols : Symbols) (scope : TypeScope) (h : (n : Name) → Plain (scope n)) where
   mutual
     -- a type
-    pub type_tree-cost : (args : List Tree) (t : HolType) → TypeOver m symbols t → cost m args (type_tree symbols scope t) + 3 ≤ 6 * type_size t
+    pub type_tree-cost : (args : List Tree) (t : HolType) → TypeOver m symbols t → cost m args (type_tree symbols scope t) + 2 ≤ 4 * type_size t
     type_tree-cost args (variable n) o = let l = plain-cost m args (scope n) (h n) in omega (arith, l)
     type_tree-cost args (operator n ts) o =
         let s = operator_symbol symbols n (count ts) in
         let trees = type_trees symbols scope ts in
         let whole = cost-applied m (Sym s) trees args in
         let head = symbol-cost m s (trees ++ args) (products (replicate (count ts) types) types) o.0 in
-        let spreads_to = operator-spread [] (trees ++ args) (count ts) in
+        let spreads_to = operator-spread [] trees args (count ts) (sym (length-type_trees symbols scope ts)) in
         let rest = type_trees-cost ts o.1 in
         omega (arith, whole, head, spreads_to, rest)
 
-    type_trees-cost : (ts : HolTypes) → TypesOver m symbols ts → total m (type_trees symbols scope ts) + 2 * count ts ≤ 6 * types_size ts
+    type_trees-cost : (ts : HolTypes) → TypesOver m symbols ts → total m (type_trees symbols scope ts) + count ts ≤ 4 * types_size ts
     type_trees-cost none o = omega arith
     type_trees-cost (more t ts) o =
         let one = type_tree-cost [] t o.0 in
@@ -177,14 +179,14 @@ module _ (m : List Declaration) (symbols : Symbols) (scope : TypeScope) (h : (n 
         omega (arith, one, rest)
 
   -- a constant: its type arguments fill its generic type
-  arguments-cost : (pairs : TypePairs) (ns : List Name) → AllByRecursion (λ n. TypeOver m symbols (image pairs n)) ns → total m (map (λ n. type_tree symbols scope (image pairs n)) ns) + 2 * length ns ≤ 6 * put_sizes pairs ns
+  arguments-cost : (pairs : TypePairs) (ns : List Name) → AllByRecursion (λ n. TypeOver m symbols (image pairs n)) ns → total m (map (λ n. type_tree symbols scope (image pairs n)) ns) + length ns ≤ 4 * put_sizes pairs ns
   arguments-cost pairs [] o = omega arith
   arguments-cost pairs (n ∷ ns) o =
       let one = type_tree-cost [] (image pairs n) o.0 in
       let rest = arguments-cost pairs ns o.1 in
       omega (arith, one, rest)
 
-  pub constant_tree-cost : (args : List Tree) (n : Name) (t : HolType) → ConstantOver m symbols n t → cost m args (constant_tree symbols scope n t) ≤ 12 * type_size t + 3
+  pub constant_tree-cost : (args : List Tree) (n : Name) (t : HolType) → ConstantOver m symbols n t → cost m args (constant_tree symbols scope n t) ≤ 6 * type_size t + 2
   constant_tree-cost args n t o =
       let generic = generic_type symbols n in
       let pairs = o.instance.0 in
@@ -214,31 +216,32 @@ module _ (m : List Declaration) (symbols : Symbols) (scope : TypeScope) (h : (n 
       let spreads_to = spread-products xs args domains (Sym term_symbol) inner long in
       let firsts = domain_sizes-types other names Var in
       let last = ap size result in
-      let kind = type_tree-cost [] t o.ty in
+      let kind = type_tree-size symbols scope h t in
       let puts = arguments-cost pairs names over in
       let sizes = put_sizes-variables pairs generic in
       let instance = ap type_size o.instance.1 in
       omega (arith, whole, same, head, spreads_to, firsts, last, kind, puts, sizes, instance)
 
 -- some term of a type
-filler-cost : (m : List Declaration) (args : List Tree) (a : Tree) (c : ℕ) → cost m [] a ≤ c → cost m [] (lift 1 a) ≤ c → cost m args (filler a) ≤ 7 * c + 40
+filler-cost : (m : List Declaration) (args : List Tree) (a : Tree) (c : ℕ) → cost m [] a + 2 ≤ c → cost m [] (lift 1 a) + 2 ≤ c → cost m args (filler a) ≤ 3 * c + 4 * size a + 28
 filler-cost m args a c h k =
     let same = size-lift 0 a in
     let under = size-lift 0 (lift 1 a) in
     let one = size-lift 1 a in
     omega (arith, h, k, same, under, one)
 
-pub stands-cost : (m : List Declaration) (symbols : Symbols) (args : List Tree) (v : Variable) (t : Tree) → TypeOver m symbols v.1 → StandsFor symbols v t → cost m args t ≤ 64 * type_size v.1 + 64
+pub stands-cost : (m : List Declaration) (symbols : Symbols) (args : List Tree) (v : Variable) (t : Tree) → TypeOver m symbols v.1 → StandsFor symbols v t → cost m args t ≤ 24 * type_size v.1 + 24
 stands-cost m symbols args v (Var n) o entry = omega arith
 stands-cost m symbols args v t o (filling scope h) =
     let own = type_tree-cost m symbols scope h [] v.1 o in
     let under = type_tree-cost m symbols (lifted_types scope) (λ n. plain-lift (scope n) (h n)) [] v.1 o in
     let lifted = ap (cost m []) (type_tree-lift symbols scope v.1) in
-    let whole = filler-cost m args (type_tree symbols scope v.1) (6 * type_size v.1) (omega (arith, own)) (omega (arith, under, lifted)) in
-    omega (arith, whole)
+    let most = type_tree-size symbols scope h v.1 in
+    let whole = filler-cost m args (type_tree symbols scope v.1) (4 * type_size v.1) own (omega (arith, under, lifted)) in
+    omega (arith, whole, most)
 
 -- A TERM
-pub term_tree-cost : (m : List Declaration) (symbols : Symbols) (args : List Tree) (scope : Scope) → IsPlainScope symbols scope → (t : Term) → TermOver m symbols t → cost m args (term_tree symbols scope t) ≤ 64 * term_size t
+pub term_tree-cost : (m : List Declaration) (symbols : Symbols) (args : List Tree) (scope : Scope) → IsPlainScope symbols scope → (t : Term) → TermOver m symbols t → cost m args (term_tree symbols scope t) ≤ 24 * term_size t
 term_tree-cost m symbols args scope h (free n t) o = let l = stands-cost m symbols args (n, t) (scope.terms (n, t)) o (h.terms (n, t)) in omega (arith, l)
 term_tree-cost m symbols args scope h (bound k) o = let l = plain-cost m args (scope.bounds k) (h.bounds k) in omega (arith, l)
 term_tree-cost m symbols args scope h (constant n t) o = let l = constant_tree-cost m symbols scope.types h.types args n t o in omega (arith, l)

@@ -6,8 +6,8 @@ use Rattle.hol_spec.specs.Names.{Name}
 use Rattle.hol_spec.specs.Types.{variable_places}
 use Rattle.hol_spec.specs.Terms.{Term, Variable}
 use Rattle.hol_spec.specs.Lists.{IsIn}
-use Rattle.hol_spec.specs.Limits.{greatest_size, SequentWithin}
-use Rattle.hol_spec.specs.Sequents.{Sequent, IsSequent, type_variables_of, free_variables_of}
+use Rattle.hol_spec.specs.Limits.{greatest_size}
+use Rattle.hol_spec.specs.Sequents.{Sequent, IsSequent, type_variables_of, free_variables_of, parameter_count}
 use Rattle.hol_laws.specs.Members.{IsIn-left, IsIn-right, All-each, All-at}
 use Rattle.hol_laws.specs.RenamedSequents.{free_variables-known}
 use Rattle.lp_spec.specs.Trees.{Tree, Var, Sym, size}
@@ -20,24 +20,28 @@ use Rattle.module_laws.specs.SimultaneousArguments.{after, after-append}
 use Rattle.module_laws.specs.ScopeTyping.{types-agree}
 use Rattle.module_laws.specs.TheoremTyping.{IsFormula, HasInstances, TypesAgree, TermsAgree, TypesAgree-under, TermsAgree-under, terms-TypesAgree, terms-agree, formula-agrees, proofs-TypesAgree, proofs-TermsAgree, term-IsFormula}
 use Rattle.fitting_laws.specs.ShallowRows.{length-term_domains, length-proof_domains}
+use Rattle.fitting_laws.specs.Sums.{sums}
 use Rattle.fitting_laws.specs.Costs.{domain_sizes, spread-products, cost, total, cost-applied, total-append, symbol-cost}
 use Rattle.fitting_laws.specs.SmallScopes.{domain_sizes-types}
 
 -- what a translated term costs at most
 abbrev pub part_cost : ℕ
-part_cost = 64 * greatest_size + 8
+part_cost = 24 * greatest_size + 8
 
--- and a theorem in a scope, beside the proofs of its hypotheses
-abbrev pub theorem_cost : ℕ
-theorem_cost = 2050 * part_cost
+module _ (symbols : Symbols) (scope : Scope) where
+  -- the sizes of the types of variables, and of terms
+  abbrev pub variable_sizes : List Variable → ℕ
+  variable_sizes vs = sums (λ v. size (type_tree symbols scope.types v.1)) vs
 
--- what stands in a scope for the parameters of a sequent is small, and so are the sequent's types and terms there
-pub record AreSmallArguments (m : List Declaration) (symbols : Symbols) (scope : Scope) (s : Sequent) : Type 0 where
-  pub types : AllByRecursion (λ n. cost m [] (scope.types n) + 1 ≤ part_cost) (type_variables_of s)
-  pub terms : AllByRecursion (λ v. cost m [] (scope.terms v) + 1 ≤ part_cost) (free_variables_of s)
-  pub variables : AllByRecursion (λ v. size (type_tree symbols scope.types v.1) ≤ part_cost) (free_variables_of s)
-  pub hypotheses : AllByRecursion (λ h. size (term_tree symbols scope h) ≤ part_cost) s.hypotheses
-  pub conclusion : size (term_tree symbols scope s.conclusion) ≤ part_cost
+  abbrev pub term_sizes : List Term → ℕ
+  term_sizes ts = sums (λ t. size (term_tree symbols scope t)) ts
+
+  -- what a theorem costs in a scope beside the proofs of its hypotheses: what stands for its type variables and its free variables, and how
+  -- large its sequent is there
+  abbrev pub argument_cost : List Declaration → Sequent → ℕ
+  argument_cost m s =
+      total m (map scope.types (type_variables_of s)) + total m (map scope.terms (free_variables_of s)) + variable_sizes (free_variables_of s)
+      + (term_sizes s.hypotheses + size (term_tree symbols scope s.conclusion))
 
 pub total-map : {A : Type 0} (m : List Declaration) (c : ℕ) (f : A → Tree) (xs : List A) → AllByRecursion (λ x. cost m [] (f x) + 1 ≤ c) xs → total m (map f xs) ≤ length xs * c
 total-map m c f [] h = omega arith
@@ -51,25 +55,25 @@ domain_sizes-append s (d ∷ ds) es (u ∷ us) vs e = let l = domain_sizes-appen
 
 module _ (m : List Declaration) (G : List Tree) (symbols : Symbols) (other : Scope) (P : Name → Type 0) (Q : Variable → Type 0) where
   terms-sizes : (vs : List Variable) (scope : Scope) (s : ℕ → Tree) → TypesAgree m G symbols other P Q s scope → AllByRecursion (λ v. AllByRecursion P (variable_places v.1)) vs
-      → AllByRecursion (λ v. size (type_tree symbols other.types v.1) ≤ part_cost) vs → domain_sizes s (term_domains symbols vs scope) (map other.terms vs) ≤ length vs * (part_cost + 2)
-  terms-sizes [] scope s a k h = omega arith
-  terms-sizes (v ∷ vs) scope s a k h =
+      → domain_sizes s (term_domains symbols vs scope) (map other.terms vs) ≡ variable_sizes symbols other vs + 2 * length vs
+  terms-sizes [] scope s a k = omega arith
+  terms-sizes (v ∷ vs) scope s a k =
       let same = ap size (type_tree-sub symbols s scope.types v.1 ∙ type_tree-agrees symbols P (through_types s scope.types) other.types a v.1 k.0) in
-      let rest = terms-sizes vs (under_term v scope) (cons (other.terms v) s) (TypesAgree-under m G symbols other P Q s (other.terms v) scope a) k.1 h.1 in
-      omega (arith, same, rest, h.0)
+      let rest = terms-sizes vs (under_term v scope) (cons (other.terms v) s) (TypesAgree-under m G symbols other P Q s (other.terms v) scope a) k.1 in
+      omega (arith, same, rest)
 
   proofs-sizes : (hs : List Term) (scope : Scope) (s : ℕ → Tree) → TypesAgree m G symbols other P Q s scope → TermsAgree m G symbols other P Q s scope → AllByRecursion (IsFormula symbols P Q) hs
-      → AllByRecursion (λ h. size (term_tree symbols other h) ≤ part_cost) hs → domain_sizes s (proof_domains symbols hs scope) (map other.proofs hs) ≤ length hs * (part_cost + 2)
-  proofs-sizes [] scope s a b f h = omega arith
-  proofs-sizes (p ∷ ps) scope s a b f h =
+      → domain_sizes s (proof_domains symbols hs scope) (map other.proofs hs) ≡ term_sizes symbols other hs + 2 * length hs
+  proofs-sizes [] scope s a b f = omega arith
+  proofs-sizes (p ∷ ps) scope s a b f =
       let same = ap size (formula-agrees m G symbols other P Q s scope a b p f.0) in
-      let rest = proofs-sizes ps (under_proof p scope) (cons (other.proofs p) s) (TypesAgree-under m G symbols other P Q s (other.proofs p) scope a) (TermsAgree-under m G symbols other P Q s (other.proofs p) scope b) f.1 h.1 in
-      omega (arith, same, rest, h.0)
+      let rest = proofs-sizes ps (under_proof p scope) (cons (other.proofs p) s) (TypesAgree-under m G symbols other P Q s (other.proofs p) scope a) (TermsAgree-under m G symbols other P Q s (other.proofs p) scope b) f.1 in
+      omega (arith, same, rest)
 
 -- A THEOREM IN A SCOPE
-pub theorem_tree-cost : (m : List Declaration) (symbols : Symbols) (scope : Scope) (s : Sequent) (symbol x : ℕ) → symbol_type m symbol ≡ Some (sequent_tree symbols s) → IsSequent s → HasInstances symbols s → SequentWithin s
-    → AreSmallArguments m symbols scope s → total m (map scope.proofs s.hypotheses) ≤ x → cost m [] (theorem_tree scope symbol s) ≤ x + theorem_cost
-theorem_tree-cost m symbols scope s symbol x declared is instances within fits l =
+pub theorem_tree-cost : (m : List Declaration) (symbols : Symbols) (scope : Scope) (s : Sequent) (symbol : ℕ) → symbol_type m symbol ≡ Some (sequent_tree symbols s) → IsSequent s → HasInstances symbols s
+    → cost m [] (theorem_tree scope symbol s) ≤ argument_cost symbols scope m s + total m (map scope.proofs s.hypotheses) + 2 * parameter_count s + 3
+theorem_tree-cost m symbols scope s symbol declared is instances =
     let P = IsIn (type_variables_of s) in
     let Q = IsIn (free_variables_of s) in
     let names = map scope.types (type_variables_of s) in
@@ -88,8 +92,8 @@ theorem_tree-cost m symbols scope s symbol x declared is instances within fits l
     let conclusion : IsFormula symbols P Q s.conclusion =
     term-IsFormula s symbols s.conclusion (IsIn-right s.hypotheses (s.conclusion ∷ []) s.conclusion (inl refl)) instances.conclusion is.conclusion in
     let first = domain_sizes-types scope.types (type_variables_of s) Var in
-    let second = terms-sizes m [] symbols scope P Q (free_variables_of s) (scope_of_types symbols s) one types_one (free_variables-known s) fits.variables in
-    let third = proofs-sizes m [] symbols scope P Q s.hypotheses (scope_of_terms symbols s) two types_two terms_two formulas fits.hypotheses in
+    let second = terms-sizes m [] symbols scope P Q (free_variables_of s) (scope_of_types symbols s) one types_one (free_variables-known s) in
+    let third = proofs-sizes m [] symbols scope P Q s.hypotheses (scope_of_terms symbols s) two types_two terms_two formulas in
     let type_domains = map (λ (n : Name). types) (type_variables_of s) in
     let variable_domains = term_domains symbols (free_variables_of s) (scope_of_types symbols s) in
     let hypothesis_domains = proof_domains symbols s.hypotheses (scope_of_terms symbols s) in
@@ -113,8 +117,4 @@ theorem_tree-cost m symbols scope s symbol x declared is instances within fits l
     let spreads_to = spread-products args [] (domains_of symbols s) (Sym proof_symbol) inner long in
     let totals = total-append m (names ++ variables) proofs in
     let totals_front = total-append m names variables in
-    let of_types = total-map m part_cost scope.types (type_variables_of s) fits.types in
-    let of_terms = total-map m part_cost scope.terms (free_variables_of s) fits.terms in
-    let most = within.parameters in
-    let last = fits.conclusion in
-    omega (arith, whole, head, spreads_to, becomes, sizes_all, sizes_front, sizes_last, first, second, third, totals, totals_front, of_types, of_terms, most, last, l)
+    omega (arith, whole, head, spreads_to, becomes, sizes_all, sizes_front, sizes_last, first, second, third, totals, totals_front)

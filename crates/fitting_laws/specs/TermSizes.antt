@@ -5,7 +5,7 @@ use Rattle.std.specs.Option.{unwrap_or}
 use Rattle.std.specs.List.{AllByRecursion, flat_map}
 use Rattle.hol_spec.specs.NameEquality.{name_eq}
 use Rattle.hol_spec.specs.Types.{HolType, HolTypes, variable, operator, none, more, variable_places, variable_places_of_all}
-use Rattle.hol_spec.specs.Limits.{type_size, types_size, term_size}
+use Rattle.hol_spec.specs.Limits.{type_size, types_size, term_size, sequent_size}
 use Rattle.hol_spec.specs.Substitution.{TypePairs, image, substitute, substitute_all}
 use Rattle.hol_spec.specs.Terms.{Term, free, bound, constant, app, lam, Variable, variable_eq, type_variable_places, free_places}
 use Rattle.hol_spec.specs.TermSubstitution.{TermPairs, term_image, sub, AreFitting}
@@ -16,6 +16,7 @@ use Rattle.hol_laws.specs.TermLaws.{variable_eq-Decides}
 use Rattle.hol_laws.specs.TermInstances.{substitute-nothing}
 use Rattle.module_spec.specs.Rows.{equated_type, left_side, right_side, argument_type, result_type}
 use Rattle.fitting_laws.specs.FewVariables.{HasType-size}
+use Rattle.fitting_laws.specs.Sums.{sums, sums-is, sums-append, sums-flat_map, sums-distinct}
 use Rattle.fitting_laws.specs.TermMeasures.{All-distinct, image-typed}
 
 -- terms of at most this size
@@ -36,6 +37,34 @@ all_free_places-size (t ∷ ts) d h = All-append _ (free_places t) (flat_map fre
 
 pub free_variables-size : (s : Sequent) (d : ℕ) → AreSmallTerms d (terms_of s) → AllByRecursion (λ (v : Variable). type_size v.1 + 1 ≤ d) (free_variables_of s)
 free_variables-size s d h = All-distinct _ variable_eq (flat_map free_places (terms_of s)) (all_free_places-size (terms_of s) d h)
+
+-- the types of the free variables of a sequent all lie in it
+abbrev pub variable_size : Variable → ℕ
+variable_size v = type_size v.1 + 1
+
+places-size : (t : Term) → sums variable_size (free_places t) ≤ term_size t
+places-size (free n t) = omega arith
+places-size (bound k) = omega arith
+places-size (constant n t) = omega arith
+places-size (app f x) =
+    let one = places-size f in
+    let two = places-size x in
+    let both = sums-append variable_size (free_places f) (free_places x) in
+    omega (arith, one, two, both)
+places-size (lam t b) = let one = places-size b in omega (arith, one)
+
+pub variables-size : (s : Sequent) → sums variable_size (free_variables_of s) ≤ sequent_size s
+variables-size s =
+    let once = sums-distinct variable_size variable_eq (flat_map free_places (terms_of s)) in
+    let all = sums-flat_map variable_size term_size free_places places-size (terms_of s) in
+    let same = sums-is term_size (terms_of s) in
+    omega (arith, once, all, same)
+
+pub terms-size : (s : Sequent) → sums term_size s.hypotheses + term_size s.conclusion ≡ sequent_size s
+terms-size s =
+    let both = sums-append term_size s.hypotheses (s.conclusion ∷ []) in
+    let same = sums-is term_size (terms_of s) in
+    omega (arith, both, same)
 
 -- what is put for the variables of a type lies in what it becomes
 module _ (pairs : TypePairs) where

@@ -1,4 +1,6 @@
 -- The words that define keep what was made within the limits: the term of each constant lies in a sequent within them.
+use Rattle.hol_spec.specs.declared.Version.{Version}
+use Rattle.hol_spec.specs.declared.Version.TheVariants.{Five, Six}
 use Rattle.std.proofs.Common.{◌≡◌, ℕ, zero, suc, ◌≤◌, List, [], ◌∷◌, ◌++◌, map, length, Option, None, Some, Ok, inl, refl, sym, ap, subst, arith}
 use Rattle.std.specs.Prelude.{not, nat_eq, slice_index_or}
 use Rattle.std.specs.Option.{ok_or, option_map}
@@ -19,7 +21,7 @@ use Rattle.hol_spec.specs.NewTypes.{new_type, abstraction_type, representation_t
 use Rattle.hol_spec.specs.Defining.{is_closed, has_type_variables_of}
 use Rattle.hol_spec.specs.DefinitionLists.{ConstantPairs, names_of, variables_of, variable_side, of_equation, variable_equation, defining_equations, definiens, is_definition_list, definitions_in, constants_put}
 use Rattle.hol_spec.specs.Primitives.{function, equality_name, equality_type}
-use Rattle.hol_spec.specs.TypeDefinitions.{abstracted, represented, first_law, second_law}
+use Rattle.hol_spec.specs.TypeDefinitions.{abstracted, represented, new_variable, first_law, first_law_free, first_law_of, second_law_of}
 use Rattle.hol_spec.specs.Symbols.{defined, is_taken_constant}
 use Rattle.hol_spec.specs.Measures.{type_measure, sequent_measure}
 use Rattle.hol_spec.specs.Rules.{Parameters, constants, derived}
@@ -28,7 +30,7 @@ use Rattle.hol_spec.specs.declared.StepKind.TheVariants as by_rule
 use Rattle.hol_laws.specs.ListLaws.{All-filter}
 use Rattle.hol_laws.specs.Members.{All-append, All-each, IsIn-left, IsIn-right}
 use Rattle.proof_laws.specs.RuleTaken.{lookup-All}
-use Rattle.article_spec.specs.State.{Object, State}
+use Rattle.article_spec.specs.State.{Object, State, version_at}
 use Rattle.article_spec.specs.State as object
 use Rattle.article_spec.specs.Operands.{as_name, as_names, as_term, as_theorem, as_constant_pairs, pop}
 use Rattle.article_spec.specs.Conditions.{demand, in_limits, typed}
@@ -159,36 +161,55 @@ law-places names c n k =
     (IsIn-right (type_variable_places equality) (type_variable_places (lam new body)) n
     (IsIn-right (variable_places new) (type_variable_places body) n k)))
 
-abstraction-within : (names : TypeNames) (c : HolType) → SequentWithin (first_law names c) → type_size (abstraction_type names c) ≤ greatest_size → type_depth (abstraction_type names c) ≤ greatest_depth → GenericWithin (abstraction_type names c)
-abstraction-within names c h size depth =
-    let a = abstraction_type names c in
-    let r = representation_type names c in
-    generic-of_law (first_law names c) h a size depth (All-each (IsIn (flat_map type_variable_places (terms_of (first_law names c)))) (variable_places a) (λ n k. law-places names c n (IsIn-left (variable_places a) (variable_places r ++ []) n k)))
+free-places : (names : TypeNames) (c : HolType) (n : Name) → IsIn (variable_places (abstraction_type names c) ++ (variable_places (representation_type names c) ++ variable_places (new_type names))) n
+    → IsIn (flat_map type_variable_places (terms_of (first_law_free names c))) n
+free-places names c n k =
+    let new = new_type names in
+    let v = new_variable names in
+    let body = abstracted names c (represented names c v) in
+    let equality = constant equality_name (equality_type new) in
+    IsIn-left (type_variable_places (first_law_free names c).conclusion) [] n
+    (IsIn-left (type_variable_places (app equality body)) (type_variable_places v) n
+    (IsIn-right (type_variable_places equality) (type_variable_places body) n k))
 
-representation-within : (names : TypeNames) (c : HolType) → SequentWithin (first_law names c) → type_size (representation_type names c) ≤ greatest_size → type_depth (representation_type names c) ≤ greatest_depth → GenericWithin (representation_type names c)
-representation-within names c h size depth =
+abstraction-places : (edition : Version) (names : TypeNames) (c : HolType) (n : Name) → IsIn (variable_places (abstraction_type names c)) n → IsIn (flat_map type_variable_places (terms_of (first_law_of edition names c))) n
+abstraction-places Five names c n k = free-places names c n (IsIn-left (variable_places (abstraction_type names c)) (variable_places (representation_type names c) ++ variable_places (new_type names)) n k)
+abstraction-places Six names c n k = law-places names c n (IsIn-left (variable_places (abstraction_type names c)) (variable_places (representation_type names c) ++ []) n k)
+
+representation-places : (edition : Version) (names : TypeNames) (c : HolType) (n : Name) → IsIn (variable_places (representation_type names c)) n → IsIn (flat_map type_variable_places (terms_of (first_law_of edition names c))) n
+representation-places Five names c n k =
+    free-places names c n (IsIn-right (variable_places (abstraction_type names c)) (variable_places (representation_type names c) ++ variable_places (new_type names)) n (IsIn-left (variable_places (representation_type names c)) (variable_places (new_type names)) n k))
+representation-places Six names c n k =
+    law-places names c n (IsIn-right (variable_places (abstraction_type names c)) (variable_places (representation_type names c) ++ []) n (IsIn-left (variable_places (representation_type names c)) [] n k))
+
+abstraction-within : (edition : Version) (names : TypeNames) (c : HolType) → SequentWithin (first_law_of edition names c) → type_size (abstraction_type names c) ≤ greatest_size → type_depth (abstraction_type names c) ≤ greatest_depth → GenericWithin (abstraction_type names c)
+abstraction-within edition names c h size depth =
     let a = abstraction_type names c in
+    generic-of_law (first_law_of edition names c) h a size depth (All-each (IsIn (flat_map type_variable_places (terms_of (first_law_of edition names c)))) (variable_places a) (λ n k. abstraction-places edition names c n k))
+
+representation-within : (edition : Version) (names : TypeNames) (c : HolType) → SequentWithin (first_law_of edition names c) → type_size (representation_type names c) ≤ greatest_size → type_depth (representation_type names c) ≤ greatest_depth → GenericWithin (representation_type names c)
+representation-within edition names c h size depth =
     let r = representation_type names c in
-    generic-of_law (first_law names c) h r size depth (All-each (IsIn (flat_map type_variable_places (terms_of (first_law names c)))) (variable_places r) (λ n k. law-places names c n (IsIn-right (variable_places a) (variable_places r ++ []) n (IsIn-left (variable_places r) [] n k))))
+    generic-of_law (first_law_of edition names c) h r size depth (All-each (IsIn (flat_map type_variable_places (terms_of (first_law_of edition names c)))) (variable_places r) (λ n k. representation-places edition names c n k))
 
 -- defineTypeOp
-make_type-within : (s t : State) (names : TypeNames) (i : ℕ) (c : HolType) (f : Term) → AreWithin s.made → make_type s names i c f ≡ Ok t → AreWithin t.made
-make_type-within s t names i c f g e =
-    let measures = type_measure (new_type names) ∷ type_measure (abstraction_type names c) ∷ type_measure (representation_type names c) ∷ sequent_measure (first_law names c) ∷ sequent_measure (second_law names c f) ∷ [] in
+make_type-within : (edition : Version) (s t : State) (names : TypeNames) (i : ℕ) (c : HolType) (f : Term) → AreWithin s.made → make_type edition s names i c f ≡ Ok t → AreWithin t.made
+make_type-within edition s t names i c f g e =
+    let measures = type_measure (new_type names) ∷ type_measure (abstraction_type names c) ∷ type_measure (representation_type names c) ∷ sequent_measure (first_law_of edition names c) ∷ sequent_measure (second_law_of edition names c f) ∷ [] in
     let limits = passed (in_limits measures) _ t e in
     let within = in_limits-All measures limits.0 limits.1 in
     let stack = object.constant names.representation ∷ object.constant names.abstraction ∷ object.type_operator names.operator ∷ s.stack in
     let u = with_type_definition (with_stack s stack) names c f i in
-    let first = step_by by_rule.FirstLaw (i ∷ []) (Parameters.type_operator names) (first_law names c) in
-    let second = step_by by_rule.SecondLaw (i ∷ []) (Parameters.type_operator names) (second_law names c f) in
+    let first = step_by by_rule.FirstLaw (i ∷ []) (Parameters.type_operator names edition) (first_law_of edition names c) in
+    let second = step_by by_rule.SecondLaw (i ∷ []) (Parameters.type_operator names edition) (second_law_of edition names c f) in
     let v = with_theorem u first in
-    let law = sequent-within (first_law names c) within.1.1.1.0 in
+    let law = sequent-within (first_law_of edition names c) within.1.1.1.0 in
     let long = length-map names.variables variable in
     let arguments = arguments-few names.operator (map variable names.variables) within.0.depth in
     let symbol : SymbolWithin (defined (Definition.type_operator names c f)) =
-    (omega (arith, long, arguments), abstraction-within names c law within.1.0.size within.1.0.depth, representation-within names c law within.1.1.0.size within.1.1.0.depth) in
+    (omega (arith, long, arguments), abstraction-within edition names c law within.1.0.size within.1.0.depth, representation-within edition names c law within.1.1.0.size within.1.1.0.depth) in
     let one = All-append MadeWithin u.made (Made.step first ∷ []) (with_type_definition-within (with_stack s stack) names c f i g symbol) (law, tt {0}) in
-    answers (with_theorem v second) t limits.2 (All-append MadeWithin v.made (Made.step second ∷ []) one (sequent-within (second_law names c f) within.1.1.1.1.0, tt {0}))
+    answers (with_theorem v second) t limits.2 (All-append MadeWithin v.made (Made.step second ∷ []) one (sequent-within (second_law_of edition names c f) within.1.1.1.1.0, tt {0}))
 
 define_type-within : (s t : State) (names : TypeNames) (i : ℕ) → AreWithin s.made → define_type s names i ≡ Ok t → AreWithin t.made
 define_type-within s t names i g e =
@@ -198,7 +219,7 @@ define_type-within s t names i g e =
     let alone = passed (demand (nat_eq (length one.hypotheses) 0) NotTheSequent) _ t fits.2 in
     let parts = bound (ok_or (application_parts one.conclusion) NotTheSequent) _ t alone.2 in
     let c = bound (typed parts.0.1) _ t parts.2 in
-    make_type-within s t names i c.0 parts.0.0 g c.2
+    make_type-within (version_at s.place) s t names i c.0 parts.0.0 g c.2
 
 pub define_type_op-within : (s t : State) → AreWithin s.made → define_type_op s ≡ Ok t → AreWithin t.made
 define_type_op-within s t g e =

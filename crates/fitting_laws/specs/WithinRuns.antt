@@ -1,8 +1,8 @@
 -- What is made in an accepted run is within the limits.
+use Rattle.hol_spec.specs.declared.Version.TheVariants.{Five}
 use Rattle.std.proofs.Common.{◌≡◌, ℕ, List, Ok, refl}
 use Rattle.std.specs.Prelude.{pos}
 use Rattle.std.specs.Ordering.{int_eq}
-use Rattle.bridge_base.specs.declared.faults.Kind.TheVariants.{VersionPlace}
 use Rattle.hol_spec.specs.Proofs.{Accepted}
 use Rattle.article_spec.specs.declared.commands.Command.{Command}
 use Rattle.article_spec.specs.declared.commands.Item.{Item}
@@ -11,7 +11,7 @@ use Rattle.article_spec.specs.declared.commands.Word.{Word}
 use Rattle.article_spec.specs.declared.commands.Word.TheVariants as word
 use Rattle.article_spec.specs.State.{State, Place, start, version, body, initial}
 use Rattle.article_spec.specs.Conditions.{demand}
-use Rattle.article_spec.specs.Step.{obey, step_at, step, is_version, is_body, finish}
+use Rattle.article_spec.specs.Step.{obey, in_body, obey_item, second_word, step_at, step, finish}
 use Rattle.article_spec.specs.Run.{machine, accepted, Run}
 use Rattle.article_laws.specs.SoundStates.{passed}
 use Rattle.article_laws.specs.SoundSteps.{runs-have}
@@ -59,22 +59,61 @@ obey-within s t word.Axiom g e = axiom-within s t g e
 obey-within s t word.Thm g e = thm-within s t g e
 
 -- COMMANDS
+obey_item-within : (s t : State) (i : Item) → AreWithin s.made → obey_item s i ≡ Ok t → AreWithin t.made
+obey_item-within s t (item.Number z) g e = answers _ t e g
+obey_item-within s t (item.Name n) g e = answers _ t e g
+obey_item-within s t (item.Word w) g e = obey-within s t w g e
+
+second_word-within : (s t : State) (w : Word) → AreWithin s.made → second_word s w ≡ Ok t → AreWithin t.made
+second_word-within s t word.Version g e = answers _ t e g
+second_word-within s t word.Nil g e = obey-within (in_body Five s) t word.Nil g e
+second_word-within s t word.Cons g e = obey-within (in_body Five s) t word.Cons g e
+second_word-within s t word.HdTl g e = obey-within (in_body Five s) t word.HdTl g e
+second_word-within s t word.TypeOp g e = obey-within (in_body Five s) t word.TypeOp g e
+second_word-within s t word.VarType g e = obey-within (in_body Five s) t word.VarType g e
+second_word-within s t word.OpType g e = obey-within (in_body Five s) t word.OpType g e
+second_word-within s t word.Const g e = obey-within (in_body Five s) t word.Const g e
+second_word-within s t word.ConstTerm g e = obey-within (in_body Five s) t word.ConstTerm g e
+second_word-within s t word.Var g e = obey-within (in_body Five s) t word.Var g e
+second_word-within s t word.VarTerm g e = obey-within (in_body Five s) t word.VarTerm g e
+second_word-within s t word.AppTerm g e = obey-within (in_body Five s) t word.AppTerm g e
+second_word-within s t word.AbsTerm g e = obey-within (in_body Five s) t word.AbsTerm g e
+second_word-within s t word.Def g e = obey-within (in_body Five s) t word.Def g e
+second_word-within s t word.Ref g e = obey-within (in_body Five s) t word.Ref g e
+second_word-within s t word.Remove g e = obey-within (in_body Five s) t word.Remove g e
+second_word-within s t word.Pop g e = obey-within (in_body Five s) t word.Pop g e
+second_word-within s t word.Pragma g e = obey-within (in_body Five s) t word.Pragma g e
+second_word-within s t word.Refl g e = obey-within (in_body Five s) t word.Refl g e
+second_word-within s t word.Assume g e = obey-within (in_body Five s) t word.Assume g e
+second_word-within s t word.EqMp g e = obey-within (in_body Five s) t word.EqMp g e
+second_word-within s t word.AbsThm g e = obey-within (in_body Five s) t word.AbsThm g e
+second_word-within s t word.AppThm g e = obey-within (in_body Five s) t word.AppThm g e
+second_word-within s t word.DeductAntisym g e = obey-within (in_body Five s) t word.DeductAntisym g e
+second_word-within s t word.BetaConv g e = obey-within (in_body Five s) t word.BetaConv g e
+second_word-within s t word.Sym g e = obey-within (in_body Five s) t word.Sym g e
+second_word-within s t word.Trans g e = obey-within (in_body Five s) t word.Trans g e
+second_word-within s t word.ProveHyp g e = obey-within (in_body Five s) t word.ProveHyp g e
+second_word-within s t word.Subst g e = obey-within (in_body Five s) t word.Subst g e
+second_word-within s t word.DefineConst g e = obey-within (in_body Five s) t word.DefineConst g e
+second_word-within s t word.DefineConstList g e = obey-within (in_body Five s) t word.DefineConstList g e
+second_word-within s t word.DefineTypeOp g e = obey-within (in_body Five s) t word.DefineTypeOp g e
+second_word-within s t word.Axiom g e = obey-within (in_body Five s) t word.Axiom g e
+second_word-within s t word.Thm g e = obey-within (in_body Five s) t word.Thm g e
+
 step_at-within : (s t : State) (p : Place) (i : Item) → AreWithin s.made → step_at p s i ≡ Ok t → AreWithin t.made
-step_at-within s t start (item.Number z) g e = let six = passed (demand (int_eq z (pos 6)) VersionPlace) _ t e in answers _ t six.2 g
-step_at-within s t start (item.Name n) g e = absurd (cc)
-step_at-within s t start (item.Word w) g e = absurd (cc)
-step_at-within s t version (item.Number z) g e = absurd (cc)
-step_at-within s t version (item.Name n) g e = absurd (cc)
-step_at-within s t version (item.Word w) g e = let second = passed (demand (is_version w) VersionPlace) _ t e in answers _ t second.2 g
-step_at-within s t body (item.Number z) g e = answers _ t e g
-step_at-within s t body (item.Name n) g e = answers _ t e g
-step_at-within s t body (item.Word w) g e = obey-within s t w g e
+step_at-within s t start (item.Number z) g e = answers _ t e g
+step_at-within s t start (item.Name n) g e = obey_item-within (in_body Five s) t (item.Name n) g e
+step_at-within s t start (item.Word w) g e = obey_item-within (in_body Five s) t (item.Word w) g e
+step_at-within s t version (item.Number z) g e = obey_item-within (in_body Five s) t (item.Number z) g e
+step_at-within s t version (item.Name n) g e = obey_item-within (in_body Five s) t (item.Name n) g e
+step_at-within s t version (item.Word w) g e = second_word-within s t w g e
+step_at-within s t (body v) i g e = obey_item-within s t i g e
 
 step-within : (s t : State) (c : Command) → AreWithin s.made → step s c ≡ Ok t → AreWithin t.made
 step-within s t c g e = step_at-within s t s.place c.item g e
 
 finish-within : (s t : State) → AreWithin s.made → finish s ≡ Ok t → AreWithin t.made
-finish-within s t g e = let ends = passed (demand (is_body s.place) VersionPlace) _ t e in answers _ t ends.2 g
+finish-within s t g e = answers _ t e g
 
 -- WHAT AN ACCEPTED RUN MADE IS WITHIN THE LIMITS
 pub run-within : (articles : List (List ℕ)) (a : Accepted) → Run articles (accepted a) → AreWithin a.made

@@ -5,6 +5,7 @@
 //!
 //! | File | Laws of |
 //! |---|---|
+//! | `Sums` | sums of a measure over lists |
 //! | `FewVariables`, `TermMeasures`, `TermSizes` | parts of terms: their type variables, depths and sizes, those of their types and of what a substitution puts |
 //! | `SymbolLimits`, `WithinStates` | what it is for a symbol or a step to be within the limits, and what a command adds |
 //! | `WithinBuilding`, `WithinInference`, `WithinDefining`, `WithinRuns` | every word, and so every accepted run, takes and makes only what is within the limits |

@@ -20,8 +20,8 @@ type_definition_in names t = []
 abbrev pub definitions_used : StepKind → List Sequent → Parameters → List Definition
 definitions_used DefineConst premises (constant n t) = Definition.constant n t ∷ []
 definitions_used DefineConstList (one ∷ []) (constants pairs) = definitions_in pairs one.hypotheses
-definitions_used FirstLaw (one ∷ []) (type_operator names) = type_definition_in names one.conclusion
-definitions_used SecondLaw (one ∷ []) (type_operator names) = type_definition_in names one.conclusion
+definitions_used FirstLaw (one ∷ []) (type_operator names version) = type_definition_in names one.conclusion
+definitions_used SecondLaw (one ∷ []) (type_operator names version) = type_definition_in names one.conclusion
 definitions_used kind premises parameters = []
 
 -- Whether a rule infers: all do but that of assumptions.

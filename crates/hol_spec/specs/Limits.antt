@@ -10,10 +10,10 @@ abbrev pub greatest_size : ℕ
 greatest_size = 1048576
 
 abbrev pub greatest_depth : ℕ
-greatest_depth = 1024
+greatest_depth = 16384
 
 abbrev pub greatest_parameter_count : ℕ
-greatest_parameter_count = 1024
+greatest_parameter_count = 16384
 
 abbrev mutual
   pub type_size : HolType → ℕ

@@ -85,8 +85,8 @@ pub record IsOfDefinition (before : List Made) (names : TypeNames) (premises : L
 
 -- The laws of a type operator are made from the theorem by which it was defined.
 abbrev pub IsLawOfDefinition : List Made → StepKind → List ℕ → Parameters → Type 0
-IsLawOfDefinition before FirstLaw premises (type_operator names) = IsOfDefinition before names premises
-IsLawOfDefinition before SecondLaw premises (type_operator names) = IsOfDefinition before names premises
+IsLawOfDefinition before FirstLaw premises (type_operator names version) = IsOfDefinition before names premises
+IsLawOfDefinition before SecondLaw premises (type_operator names version) = IsOfDefinition before names premises
 IsLawOfDefinition before kind premises parameters = Unit {0}
 
 -- A step follows from what was made before it.

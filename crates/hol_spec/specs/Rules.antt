@@ -17,6 +17,8 @@ use Rattle.hol_spec.specs.DefinitionLists.{ConstantPairs, defining_equations, is
 use Rattle.hol_spec.specs.TypeDefinitions.{IsTypeDefinition}
 use Rattle.hol_spec.specs.TypeDefinitions as type_definition
 use Rattle.hol_spec.specs.declared.StepKind.{StepKind}
+use Rattle.hol_spec.specs.declared.Version.{Version}
+use Rattle.hol_spec.specs.declared.Version.TheVariants.{Five, Six}
 use Rattle.hol_spec.specs.declared.StepKind.TheVariants.{Refl, Assume, EqMp, AbsThm, AppThm, DeductAntisym, BetaConv, Sym, Trans, ProveHyp, Subst, Axiom, Restate, DefineConst, DefineConstList, FirstLaw, SecondLaw}
 
 -- What a rule is given beside its premises.
@@ -28,7 +30,7 @@ pub data Parameters : Type 0 where
   sequent : Sequent → Parameters
   constant : Name → Term → Parameters
   constants : ConstantPairs → Parameters
-  type_operator : TypeNames → Parameters
+  type_operator : TypeNames → Version → Parameters
 
 -- The sequent G |- p.
 abbrev pub derived : List Term → Term → Sequent
@@ -97,7 +99,12 @@ pub data Rule : StepKind → List Sequent → Parameters → Sequent → Type 0 
       → s ≡ derived [] (sub [] (constants_put pairs) one.conclusion) → Rule DefineConstList (one ∷ []) (constants pairs) s
   -- from |- f t: |- (\a. abs (rep a)) = (\a. a)
   first_law : {names : TypeNames} {c : HolType} {f : Term} {one s : Sequent} → IsTypeDefinition names c f one
-      → s ≡ type_definition.first_law names c → Rule FirstLaw (one ∷ []) (type_operator names) s
+      → s ≡ type_definition.first_law names c → Rule FirstLaw (one ∷ []) (type_operator names Six) s
   -- from |- f t: |- (\r. rep (abs r) = r) = (\r. f r)
   second_law : {names : TypeNames} {c : HolType} {f : Term} {one s : Sequent} → IsTypeDefinition names c f one
-      → s ≡ type_definition.second_law names c f → Rule SecondLaw (one ∷ []) (type_operator names) s
+      → s ≡ type_definition.second_law names c f → Rule SecondLaw (one ∷ []) (type_operator names Six) s
+  -- the same two, in an article of version 5
+  first_law_free : {names : TypeNames} {c : HolType} {f : Term} {one s : Sequent} → IsTypeDefinition names c f one
+      → s ≡ type_definition.first_law_free names c → Rule FirstLaw (one ∷ []) (type_operator names Five) s
+  second_law_free : {names : TypeNames} {c : HolType} {f : Term} {one s : Sequent} → IsTypeDefinition names c f one
+      → s ≡ type_definition.second_law_free names c f → Rule SecondLaw (one ∷ []) (type_operator names Five) s

@@ -53,7 +53,7 @@ ParametersTaken symbols (Parameters.substitution types terms) =
 ParametersTaken symbols (Parameters.sequent s) = TermsTaken symbols s
 ParametersTaken symbols (Parameters.constant n t) = TermTaken symbols t
 ParametersTaken symbols (Parameters.constants pairs) = AllByRecursion (λ (p : Name × Variable). TypeTaken symbols p.1.1) pairs
-ParametersTaken symbols (Parameters.type_operator names) = Unit {0}
+ParametersTaken symbols (Parameters.type_operator names version) = Unit {0}
 
 -- What a definition defines stands among the symbols, at its generic type or arity.
 abbrev pub DefinitionTaken : List Symbol → Definition → Type 0

@@ -1,7 +1,7 @@
 //! What higher-order logic means here, as definitions: its names, types, terms and sequents, its inference
 //! rules, and what derives from what.
 //!
-//! There is no code beyond the type `StepKind`, of which definitions speak, and the limits as numbers that code compares with
+//! There is no code beyond the types `StepKind` and `Version`, of which definitions speak, and the limits as numbers that code compares with
 //! (`limits.rt`), and no law: whoever wants to trust what stands above reads this crate and meets no proof. The definitions stand in `specs/`, one notion a file, to be read in this order:
 //!
 //! | File | Notion |
@@ -36,6 +36,15 @@
 mod limits;
 
 pub use limits::{GREATEST_DEPTH, GREATEST_PARAMETER_COUNT, GREATEST_SIZE};
+
+/// The version of an article.
+#[derive(Clone, Copy, Debug, PartialEq, Eq)]
+pub enum Version {
+    /// Version 5, in which the laws of a type definition are about free variables.
+    Five,
+    /// Version 6, in which they are equations of abstractions.
+    Six,
+}
 
 /// The inference rule by which a step of a proof was made.
 #[derive(Clone, Copy, Debug, PartialEq, Eq)]

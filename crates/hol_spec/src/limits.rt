@@ -5,7 +5,7 @@
 pub const GREATEST_SIZE: u64 = 1_048_576;
 
 /// The greatest depth of a type, of a term and of a sequent.
-pub const GREATEST_DEPTH: u64 = 1_024;
+pub const GREATEST_DEPTH: u64 = 16_384;
 
 /// The greatest number of parameters of a sequent: its type variables, free variables and hypotheses together.
-pub const GREATEST_PARAMETER_COUNT: usize = 1_024;
+pub const GREATEST_PARAMETER_COUNT: usize = 16_384;

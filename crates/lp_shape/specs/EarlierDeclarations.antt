@@ -362,7 +362,7 @@ declared-settled before (d ∷ ds) h a =
     (declared-settled (before ++ d ∷ []) ds (AreSettled-more (length before) (length (before ++ d ∷ [])) more (before ++ d ∷ []) both) a.1)
 
 -- the signature is settled
-settled : (name : List ℕ) (A : Tree) → loose A ≡ 0 → symbols A ≤ 18 → IsSettled 18 (symbol name A)
+settled : (name : List ℕ) (A : Tree) → loose A ≡ 0 → symbols A ≤ length signature → IsSettled (length signature) (symbol name A)
 settled name A c k = record { closed = c; known = k; definition = λ t e. absurd (cc) }
 
 signature-settled : AllByRecursion (IsSettled (length signature)) signature

@@ -1,14 +1,14 @@
 -- Shapes of type definitions: the symbols of parts at a type, a predicate on it, a term of it and a proof that the predicate holds of it; the
 -- operator and the two constants that stand for them, and the two laws.
-use Rattle.std.proofs.Common.{◌≡◌, refl, sym, ap, ◌∙◌, subst, ℕ, zero, suc, arith, true, false, List, [], ◌∷◌, Option, Some, None}
-use Rattle.lp_spec.specs.Trees.{Tree, SortType, SortKind, Var, Sym, App, Lam, Pi, lift, lift_at, put, put_all, loose, size}
+use Rattle.std.proofs.Common.{◌≡◌, length, refl, ap, ℕ, zero, suc, arith, true, false, List, [], ◌∷◌, Some, None}
+use Rattle.lp_spec.specs.Trees.{Tree, SortType, SortKind, Var, Sym, App, Lam, Pi, lift, put, put_all, loose}
 use Rattle.lp_binding.specs.Composition.{lift_zero, put-lift_at}
 use Rattle.lp_binding.specs.Binding.{put-lift}
-use Rattle.lp_spec.specs.Weight.{spreads}
-use Rattle.lp_spec.specs.Modules.{Declaration, symbol_type, applied, products, types, bools, arr_of, term_of, eq_of, proof_of, fun_ext_symbol, two_functions, pointwise_equal, sub_symbol, sub_abs_symbol, sub_rep_symbol, sub_abs_rep_symbol, sub_rep_abs_symbol, part_domains, part_arguments, sub_type, sub_abs_type, sub_rep_type, abstraction_undoes, part_holds}
+use Rattle.lp_spec.specs.Lemmas.{sym_lemma}
+use Rattle.lp_spec.specs.Modules.{Declaration, signature, symbol_type, applied, products, types, bools, arr_of, term_of, eq_of, proof_of, fun_ext_symbol, two_functions, pointwise_equal, sub_symbol, sub_abs_symbol, sub_rep_symbol, sub_abs_rep_symbol, sub_rep_abs_symbol, part_domains, part_arguments, abstraction_undoes, part_holds}
 use Rattle.lp_shape.specs.HeadSteps.{head_step}
 use Rattle.lp_shape.specs.LawSpreads.{spreads-same}
-use Rattle.lp_shape.specs.Shaped.{Solid, constant, at_type, IsSimple, IsTerm, of_entry, of_function, of_binder, IsProof, call, at_a_term, two_abstractions, pointwise, Close, close_same, close_step, close_arrow, close_application, IsLast, last_call, last_defined, IsLaw, at_close_abstractions, IsCallDefinition, by_type, by_term}
+use Rattle.lp_shape.specs.Shaped.{Solid, constant, IsSimple, IsTerm, of_entry, of_function, of_binder, IsProof, call, at_a_term, two_abstractions, pointwise, Close, close_same, close_step, close_arrow, close_application, IsLast, last_call, last_defined, IsLaw, at_close_abstractions, law_last, at_close_equation, IsCallDefinition, by_type, by_term}
 use Rattle.lp_shape.specs.ShapedCalls.{a_type, a_term, a_proof, shaped-call, shaped-equation}
 
 -- what becomes another tree by a head step is no type of functions
@@ -170,3 +170,42 @@ second_law-shaped m {G = G} B N C F W H A R hB same p hA hR stepA stepR =
     close_same)))
     (close_step (ap Some (put-lift_at (App F (Var 0)))) close_same)))
     (concluded m hB bool t u h)
+
+-- IN VERSION 5: abs undoes rep at a term of the new type
+pub first_law_free-shaped : (m : List Declaration) {G : List Tree} (N C F W H x : Tree) → IsPartAt m G C F W H → IsTerm m G x N → head_step m N ≡ Some (part_of sub_symbol C F W H)
+    → IsLaw m G (App (part_of sub_abs_rep_symbol C F W H) x) (proof_of (eq_of (part_of sub_symbol C F W H) (App (part_of sub_abs_symbol C F W H) (App (part_of sub_rep_symbol C F W H) x)) x))
+first_law_free-shaped m N C F W H x p hx stepN = law_last (omega arith) (first-last m C F W H p N x hx stepN)
+
+pub first_law_free-close : (m : List Declaration) (N C F W H A R x : Tree) → head_step m N ≡ Some (part_of sub_symbol C F W H)
+    → ((y : Tree) → head_step m (App A y) ≡ Some (App (part_of sub_abs_symbol C F W H) y)) → ((y : Tree) → head_step m (App R y) ≡ Some (App (part_of sub_rep_symbol C F W H) y))
+    → Close m 3 (proof_of (eq_of N (App A (App R x)) x)) (proof_of (eq_of (part_of sub_symbol C F W H) (App (part_of sub_abs_symbol C F W H) (App (part_of sub_rep_symbol C F W H) x)) x))
+first_law_free-close m N C F W H A R x stepN stepA stepR =
+    close_application refl refl close_same
+    (close_application refl refl
+    (close_application refl refl
+    (close_application refl refl close_same (close_step stepN close_same))
+    (close_step (stepA (App R x)) (close_application refl refl close_same (close_step (stepR x) close_same))))
+    close_same)
+
+-- and rep undoes abs at a term of the old type where the predicate holds of it, turned round
+pub second_law_free-shaped : (m : List Declaration) {G : List Tree} (N C F W H A R x : Tree) → IsPartAt m G C F W H → IsTerm m G x C → IsTerm m G A (arr_of C N) → IsTerm m G R (arr_of N C)
+    → ((y : Tree) → head_step m (App A y) ≡ Some (App (part_of sub_abs_symbol C F W H) y)) → ((y : Tree) → head_step m (App R y) ≡ Some (App (part_of sub_rep_symbol C F W H) y))
+    → symbol_type m (length signature) ≡ Some sym_lemma.ty
+    → IsLaw m G (applied (Sym (length signature)) (bools ∷ eq_of C (App R (App A x)) x ∷ App F x ∷ App (part_of sub_rep_abs_symbol C F W H) x ∷ [])) (proof_of (eq_of bools (App F x) (eq_of C (App R (App A x)) x)))
+second_law_free-shaped m {G = G} N C F W H A R x p hx hA hR stepA stepR lemma =
+    let l = eq_of C (App R (App A x)) x in
+    let r = App F x in
+    let hl : IsTerm m G l bools = shaped-equation m p.ty (of_function hR (of_function hA hx)) hx in
+    let hr : IsTerm m G r bools = of_function p.predicate hx in
+    let h = App (part_of sub_rep_abs_symbol C F W H) x in
+    let c = shaped-call m G (types ∷ term_of (Var 0) ∷ term_of (Var 1) ∷ []) (bools ∷ l ∷ r ∷ []) (length signature) (Pi (proof_of (eq_of (Var 2) (Var 1) (Var 0))) (proof_of (eq_of (Var 3) (Var 1) (Var 2)))) lemma tt refl
+    (a_type (constant refl tt), (a_term hl, (a_term hr, tt {0}))) in
+    at_close_equation (simp lift_zero at c) hl hr (omega arith) (omega arith) (second-last m C F W H p x hx)
+    (close_application refl refl close_same
+    (close_application refl refl
+    (close_application refl refl close_same
+    (close_application refl refl
+    (close_application refl refl close_same (close_step (stepR (App A x)) (close_application refl refl close_same (close_step (stepA x) close_same))))
+    close_same))
+    close_same))
+    (λ i. proof_of (eq_of bools (put-lift h r i) (put-lift h l i)))

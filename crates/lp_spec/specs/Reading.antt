@@ -23,7 +23,7 @@ symbol_of m name = position (λ d. bytes_eq d.name name) (signature ++ m)
 
 -- a type or a body of a declaration has at most this depth
 abbrev pub max_depth : ℕ
-max_depth = 16384
+max_depth = 262144
 
 -- Between the first tokens and the second ones stands this tree, where these declarations come before and the scope is this:
 -- an atom, an atom and its arguments, or a term.

@@ -1,4 +1,5 @@
 -- What an accepted run made is, as items, made in order: each is new and asks for nothing but what was made before it.
+use Rattle.hol_spec.specs.declared.Version.TheVariants.{Five, Six}
 use Rattle.std.proofs.Common.{◌≡◌, ℕ, zero, suc, ◌+◌, List, [], ◌∷◌, ◌++◌, map, length, Bool, true, false, ◌&&◌, ◌||◌, Option, None, Some, slice_get, inl, inr, refl, sym, ap, subst, ◌∙◌, append_assoc}
 use Rattle.std.specs.Prelude.{◌==◌, slice_index_or}
 use Rattle.std.specs.Option.{option_map}
@@ -179,9 +180,13 @@ rule-defines before ps parts ks kind premises p s (rule.restate is w) are held s
 rule-defines before ps parts ks kind premises p s (rule.define_const h e) are held same law = held.0
 rule-defines before ps parts ks kind premises p s (rule.define_const_list {pairs = pairs} {one = one} defining list e) are held same law = list-defines ps pairs one are.0 defining list held
 rule-defines before ps parts ks kind premises p s (rule.first_law {names = names} {one = one} d e) are held same law =
-    subst (λ l. DefinesAmong ps kinds.FirstLaw (map (λ k. (premise_at ps k).0) l) (one ∷ []) (Parameters.type_operator names)) (sym law.is) (law-part before ps parts ks names one law same)
+    subst (λ l. DefinesAmong ps kinds.FirstLaw (map (λ k. (premise_at ps k).0) l) (one ∷ []) (Parameters.type_operator names Six)) (sym law.is) (law-part before ps parts ks names one law same)
+rule-defines before ps parts ks kind premises p s (rule.first_law_free {names = names} {one = one} d e) are held same law =
+    subst (λ l. DefinesAmong ps kinds.FirstLaw (map (λ k. (premise_at ps k).0) l) (one ∷ []) (Parameters.type_operator names Five)) (sym law.is) (law-part before ps parts ks names one law same)
 rule-defines before ps parts ks kind premises p s (rule.second_law {names = names} {one = one} d e) are held same law =
-    subst (λ l. DefinesAmong ps kinds.SecondLaw (map (λ k. (premise_at ps k).0) l) (one ∷ []) (Parameters.type_operator names)) (sym law.is) (law-part before ps parts ks names one law same)
+    subst (λ l. DefinesAmong ps kinds.SecondLaw (map (λ k. (premise_at ps k).0) l) (one ∷ []) (Parameters.type_operator names Six)) (sym law.is) (law-part before ps parts ks names one law same)
+rule-defines before ps parts ks kind premises p s (rule.second_law_free {names = names} {one = one} d e) are held same law =
+    subst (λ l. DefinesAmong ps kinds.SecondLaw (map (λ k. (premise_at ps k).0) l) (one ∷ []) (Parameters.type_operator names Five)) (sym law.is) (law-part before ps parts ks names one law same)
 
 pub says-step : (b : Bool) (kind : StepKind) (js : List ℕ) (ss : List Sequent) (g : Parameters) (s : Sequent) → says (content_by b kind js ss g s) ≡ Some s
 says-step false kind js ss g s = refl

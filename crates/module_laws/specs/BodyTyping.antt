@@ -32,8 +32,8 @@ abbrev pub Defined : List Declaration → Symbols → StepKind → List ℕ → 
 Defined m symbols kinds.DefineConst js premises (Parameters.constant n t) = IsDefinition m symbols n (type_or t) t
 Defined m symbols kinds.DefineConstList js (one ∷ []) (Parameters.constants pairs) =
     AllByRecursion (DefinesConstant m symbols (constants_put pairs)) one.hypotheses × AllByRecursion (StandsForVariable m symbols (constants_put pairs)) (free_variables_of one)
-Defined m symbols kinds.FirstLaw (j ∷ []) (one ∷ []) (Parameters.type_operator names) = DefinesPart m symbols names j one
-Defined m symbols kinds.SecondLaw (j ∷ []) (one ∷ []) (Parameters.type_operator names) = DefinesPart m symbols names j one
+Defined m symbols kinds.FirstLaw (j ∷ []) (one ∷ []) (Parameters.type_operator names version) = DefinesPart m symbols names j one
+Defined m symbols kinds.SecondLaw (j ∷ []) (one ∷ []) (Parameters.type_operator names version) = DefinesPart m symbols names j one
 Defined m symbols kind js premises given = Unit {0}
 
 pub record One (m : List Declaration) (symbols : Symbols) (js : List ℕ) (one : Sequent) : Type 0 where

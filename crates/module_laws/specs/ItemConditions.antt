@@ -115,8 +115,8 @@ abbrev pub DefinesAmong : List Item → StepKind → List ℕ → List Sequent �
 DefinesAmong items kinds.DefineConst js premises (Parameters.constant n t) = Has items (defined_constant n (type_or t) t)
 DefinesAmong items kinds.DefineConstList js (one ∷ []) (Parameters.constants pairs) =
     AllByRecursion (IsDefiningEquation items (constants_put pairs)) one.hypotheses × AllByRecursion (λ v. (t : Term) × IsDefinedBy items (constants_put pairs) v t) (free_variables_of one)
-DefinesAmong items kinds.FirstLaw (j ∷ []) (one ∷ []) (Parameters.type_operator names) = HasPart items names j one
-DefinesAmong items kinds.SecondLaw (j ∷ []) (one ∷ []) (Parameters.type_operator names) = HasPart items names j one
+DefinesAmong items kinds.FirstLaw (j ∷ []) (one ∷ []) (Parameters.type_operator names version) = HasPart items names j one
+DefinesAmong items kinds.SecondLaw (j ∷ []) (one ∷ []) (Parameters.type_operator names version) = HasPart items names j one
 DefinesAmong items kind js premises given = Unit {0}
 
 -- what an item asks of those before it

@@ -1,4 +1,5 @@
 -- The module of what is kept of what was made: where all that a kept item needs is kept, the kept items, renumbered, are a well-typed module.
+use Rattle.hol_spec.specs.declared.Version.TheVariants.{Six}
 use Rattle.std.proofs.Common.{◌≡◌, ℕ, suc, ◌+◌, List, [], ◌∷◌, ◌++◌, map, length, Bool, true, false, cond, ◌||◌, Some, inl, inr, ⊎_elim, refl, sym, ap, subst, ◌∙◌, arith}
 use Rattle.std.specs.Option.{unwrap_or}
 use Rattle.std.specs.Map.{lookup}
@@ -139,7 +140,7 @@ module _ (keep : ℕ → Bool) (before : List Item) where
   list-kept js (one ∷ []) (Parameters.substitution ps ts) h d = tt
   list-kept js (one ∷ []) (Parameters.constant n t) h d = tt
   list-kept js (one ∷ []) (Parameters.sequent s) h d = tt
-  list-kept js (one ∷ []) (Parameters.type_operator names) h d = tt
+  list-kept js (one ∷ []) (Parameters.type_operator names version) h d = tt
 
   one-kept : (js : List ℕ) (premises : List Sequent) (given : Parameters) → AreKept keep before (given_keys given) → DefinesAmong before kinds.DefineConst js premises given → DefinesAmong (kept keep before) kinds.DefineConst js premises given
   one-kept js premises (Parameters.constant n t) h d = Has-kept (defined_constant n (type_or t) t) (constant_key n ∷ []) (λ i. inl refl) h d
@@ -149,7 +150,7 @@ module _ (keep : ℕ → Bool) (before : List Item) where
   one-kept js premises (Parameters.substitution ps ts) h d = tt
   one-kept js premises (Parameters.constants ts) h d = tt
   one-kept js premises (Parameters.sequent s) h d = tt
-  one-kept js premises (Parameters.type_operator names) h d = tt
+  one-kept js premises (Parameters.type_operator names version) h d = tt
 
   part-kept : (names : TypeNames) (c : HolType) (u : Term) (j : ℕ) (one : Sequent) → AreKept keep before (number_key j ∷ type_keys c) → IsPart before names c u j one → IsPart (kept keep before) names c u j one
   part-kept names c u j one h o = record {
@@ -168,14 +169,14 @@ module _ (keep : ℕ → Bool) (before : List Item) where
   operator-of-new names h x i (inl e) = h x i (inl (e ∙ ap (operator_key names.operator) (sym (count-variables names.variables))))
   operator-of-new names h x i (inr n) = absurd n
 
-  law-kept : (names : TypeNames) (j : ℕ) (one : Sequent) → AreKept keep before (given_keys (Parameters.type_operator names)) → HasPart before names j one → HasPart (kept keep before) names j one
+  law-kept : (names : TypeNames) (j : ℕ) (one : Sequent) → AreKept keep before (given_keys (Parameters.type_operator names Six)) → HasPart before names j one → HasPart (kept keep before) names j one
   law-kept names j one h o = record {
     c = o.c;
     f = o.f;
     defines = o.defines;
-    operator = Has-kept (type_operator names o.c o.f j one) (given_keys (Parameters.type_operator names)) (λ i. inl refl) h o.operator;
-    abstraction = Has-kept (type_abstraction names o.c o.f j one) (given_keys (Parameters.type_operator names)) (λ i. inr (inl refl)) h o.abstraction;
-    representation = Has-kept (type_representation names o.c o.f j one) (given_keys (Parameters.type_operator names)) (λ i. inr (inr (inl refl))) h o.representation;
+    operator = Has-kept (type_operator names o.c o.f j one) (given_keys (Parameters.type_operator names Six)) (λ i. inl refl) h o.operator;
+    abstraction = Has-kept (type_abstraction names o.c o.f j one) (given_keys (Parameters.type_operator names Six)) (λ i. inr (inl refl)) h o.abstraction;
+    representation = Has-kept (type_representation names o.c o.f j one) (given_keys (Parameters.type_operator names Six)) (λ i. inr (inr (inl refl))) h o.representation;
   }
 
   defines-kept : (kind : StepKind) (js : List ℕ) (premises : List Sequent) (given : Parameters) → AreKept keep before (given_keys given) → DefinesAmong before kind js premises given → DefinesAmong (kept keep before) kind js premises given
@@ -194,7 +195,7 @@ module _ (keep : ℕ → Bool) (before : List Item) where
   defines-kept kinds.Subst js premises given h d = tt
   defines-kept kinds.Restate js premises given h d = tt
   defines-kept kinds.Axiom js premises given h d = tt
-  defines-kept kinds.FirstLaw (j ∷ []) (one ∷ []) (Parameters.type_operator names) h d = law-kept names j one h d
+  defines-kept kinds.FirstLaw (j ∷ []) (one ∷ []) (Parameters.type_operator names version) h d = law-kept names j one h d
   defines-kept kinds.FirstLaw [] premises given h d = tt
   defines-kept kinds.FirstLaw (j ∷ k ∷ js) premises given h d = tt
   defines-kept kinds.FirstLaw (j ∷ []) [] given h d = tt
@@ -206,7 +207,7 @@ module _ (keep : ℕ → Bool) (before : List Item) where
   defines-kept kinds.FirstLaw (j ∷ []) (one ∷ []) (Parameters.constant n t) h d = tt
   defines-kept kinds.FirstLaw (j ∷ []) (one ∷ []) (Parameters.sequent s) h d = tt
   defines-kept kinds.FirstLaw (j ∷ []) (one ∷ []) (Parameters.constants ps) h d = tt
-  defines-kept kinds.SecondLaw (j ∷ []) (one ∷ []) (Parameters.type_operator names) h d = law-kept names j one h d
+  defines-kept kinds.SecondLaw (j ∷ []) (one ∷ []) (Parameters.type_operator names version) h d = law-kept names j one h d
   defines-kept kinds.SecondLaw [] premises given h d = tt
   defines-kept kinds.SecondLaw (j ∷ k ∷ js) premises given h d = tt
   defines-kept kinds.SecondLaw (j ∷ []) [] given h d = tt
@@ -333,7 +334,7 @@ module _ (number : ℕ → ℕ) (xs : List Item) where
   list-renumbered js (one ∷ []) (Parameters.substitution ps ts) d = tt
   list-renumbered js (one ∷ []) (Parameters.constant n t) d = tt
   list-renumbered js (one ∷ []) (Parameters.sequent s) d = tt
-  list-renumbered js (one ∷ []) (Parameters.type_operator names) d = tt
+  list-renumbered js (one ∷ []) (Parameters.type_operator names version) d = tt
 
   one-renumbered : (js : List ℕ) (premises : List Sequent) (given : Parameters) → DefinesAmong xs kinds.DefineConst js premises given → DefinesAmong ys kinds.DefineConst (map number js) premises given
   one-renumbered js premises (Parameters.constant n t) d = Has-renumbered (defined_constant n (type_or t) t) d
@@ -343,7 +344,7 @@ module _ (number : ℕ → ℕ) (xs : List Item) where
   one-renumbered js premises (Parameters.substitution ps ts) d = tt
   one-renumbered js premises (Parameters.constants ts) d = tt
   one-renumbered js premises (Parameters.sequent s) d = tt
-  one-renumbered js premises (Parameters.type_operator names) d = tt
+  one-renumbered js premises (Parameters.type_operator names version) d = tt
 
   part-renumbered : (names : TypeNames) (c : HolType) (u : Term) (j : ℕ) (one : Sequent) → IsPart xs names c u j one → IsPart ys names c u (number j) one
   part-renumbered names c u j one o = record { defines = o.defines; among = premises-renumbered (j ∷ []) (one ∷ []) o.among; ty = type-renumbered c o.ty }
@@ -374,7 +375,7 @@ module _ (number : ℕ → ℕ) (xs : List Item) where
   defines-renumbered kinds.Subst js premises given d = tt
   defines-renumbered kinds.Restate js premises given d = tt
   defines-renumbered kinds.Axiom js premises given d = tt
-  defines-renumbered kinds.FirstLaw (j ∷ []) (one ∷ []) (Parameters.type_operator names) d = law-renumbered names j one d
+  defines-renumbered kinds.FirstLaw (j ∷ []) (one ∷ []) (Parameters.type_operator names version) d = law-renumbered names j one d
   defines-renumbered kinds.FirstLaw [] premises given d = tt
   defines-renumbered kinds.FirstLaw (j ∷ k ∷ js) premises given d = tt
   defines-renumbered kinds.FirstLaw (j ∷ []) [] given d = tt
@@ -386,7 +387,7 @@ module _ (number : ℕ → ℕ) (xs : List Item) where
   defines-renumbered kinds.FirstLaw (j ∷ []) (one ∷ []) (Parameters.constant n t) d = tt
   defines-renumbered kinds.FirstLaw (j ∷ []) (one ∷ []) (Parameters.sequent s) d = tt
   defines-renumbered kinds.FirstLaw (j ∷ []) (one ∷ []) (Parameters.constants ps) d = tt
-  defines-renumbered kinds.SecondLaw (j ∷ []) (one ∷ []) (Parameters.type_operator names) d = law-renumbered names j one d
+  defines-renumbered kinds.SecondLaw (j ∷ []) (one ∷ []) (Parameters.type_operator names version) d = law-renumbered names j one d
   defines-renumbered kinds.SecondLaw [] premises given d = tt
   defines-renumbered kinds.SecondLaw (j ∷ k ∷ js) premises given d = tt
   defines-renumbered kinds.SecondLaw (j ∷ []) [] given d = tt

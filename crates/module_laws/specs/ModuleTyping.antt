@@ -223,7 +223,7 @@ module _ (m : List Declaration) (symbols : Symbols) (before : List Item) (holds 
   defined_list js (one ∷ []) (Parameters.substitution ps ts) h = tt
   defined_list js (one ∷ []) (Parameters.constant n t) h = tt
   defined_list js (one ∷ []) (Parameters.sequent s) h = tt
-  defined_list js (one ∷ []) (Parameters.type_operator names) h = tt
+  defined_list js (one ∷ []) (Parameters.type_operator names version) h = tt
 
   defined_one : (js : List ℕ) (premises : List Sequent) (given : Parameters) → DefinesAmong before kinds.DefineConst js premises given → Defined m symbols kinds.DefineConst js premises given
   defined_one js premises (Parameters.constant n t) h = (held (defined_constant n (type_or t) t) h).1
@@ -233,7 +233,7 @@ module _ (m : List Declaration) (symbols : Symbols) (before : List Item) (holds 
   defined_one js premises (Parameters.substitution ps ts) h = tt
   defined_one js premises (Parameters.constants ts) h = tt
   defined_one js premises (Parameters.sequent s) h = tt
-  defined_one js premises (Parameters.type_operator names) h = tt
+  defined_one js premises (Parameters.type_operator names version) h = tt
 
   defined_law : (names : TypeNames) (j : ℕ) (one : Sequent) → HasPart before names j one → DefinesPart m symbols names j one
   defined_law names j one h = record {
@@ -261,7 +261,7 @@ module _ (m : List Declaration) (symbols : Symbols) (before : List Item) (holds 
   defined_among kinds.Subst js premises given h = tt
   defined_among kinds.Restate js premises given h = tt
   defined_among kinds.Axiom js premises given h = tt
-  defined_among kinds.FirstLaw (j ∷ []) (one ∷ []) (Parameters.type_operator names) h = defined_law names j one h
+  defined_among kinds.FirstLaw (j ∷ []) (one ∷ []) (Parameters.type_operator names version) h = defined_law names j one h
   defined_among kinds.FirstLaw [] premises given h = tt
   defined_among kinds.FirstLaw (j ∷ k ∷ js) premises given h = tt
   defined_among kinds.FirstLaw (j ∷ []) [] given h = tt
@@ -273,7 +273,7 @@ module _ (m : List Declaration) (symbols : Symbols) (before : List Item) (holds 
   defined_among kinds.FirstLaw (j ∷ []) (one ∷ []) (Parameters.constant n t) h = tt
   defined_among kinds.FirstLaw (j ∷ []) (one ∷ []) (Parameters.sequent s) h = tt
   defined_among kinds.FirstLaw (j ∷ []) (one ∷ []) (Parameters.constants ps) h = tt
-  defined_among kinds.SecondLaw (j ∷ []) (one ∷ []) (Parameters.type_operator names) h = defined_law names j one h
+  defined_among kinds.SecondLaw (j ∷ []) (one ∷ []) (Parameters.type_operator names version) h = defined_law names j one h
   defined_among kinds.SecondLaw [] premises given h = tt
   defined_among kinds.SecondLaw (j ∷ k ∷ js) premises given h = tt
   defined_among kinds.SecondLaw (j ∷ []) [] given h = tt

@@ -70,7 +70,9 @@ restated-rule kind ss g s (rule.restate h w) are n = absurd (cc)
 restated-rule kind ss g s (rule.define_const h e) are n = absurd (cc)
 restated-rule kind ss g s (rule.define_const_list d l e) are n = absurd (cc)
 restated-rule kind ss g s (rule.first_law d e) are n = absurd (cc)
+restated-rule kind ss g s (rule.first_law_free d e) are n = absurd (cc)
 restated-rule kind ss g s (rule.second_law d e) are n = absurd (cc)
+restated-rule kind ss g s (rule.second_law_free d e) are n = absurd (cc)
 
 fewer-premises : (sequents : List Sequent) (ns : List ℕ) (ss : List Sequent) → ArePremises sequents ns ss → ArePremises sequents (drop 1 ns) (drop 1 ss)
 fewer-premises sequents [] [] h = tt

@@ -1,5 +1,5 @@
 -- TYPE DEFINITIONS ARE SHAPED: the definitions of the operator and of the two constants, and the two laws, in the scope of their sequents.
-use Rattle.std.proofs.Common.{◌≡◌, ◌≤◌, ℕ, zero, suc, List, [], ◌∷◌, ◌++◌, map, length, Bool, true, false, Option, Some, None, ◌⊎◌, inl, inr, refl, sym, ap, subst, ◌∙◌, arith, flat_map, nat_eq}
+use Rattle.std.proofs.Common.{◌≡◌, ◌≤◌, ℕ, zero, suc, List, [], ◌∷◌, ◌++◌, map, length, Bool, true, false, Option, Some, inl, inr, refl, sym, ap, subst, ◌∙◌, arith, flat_map, nat_eq, codes}
 use Rattle.std.specs.Prelude.{slice_get, replicate, unwrap_or, not, IsTrue}
 use Rattle.std.specs.List.{AllByRecursion, IsDistinct, list_all}
 use Rattle.std.proofs.Math.Path.{subst₂}
@@ -9,7 +9,7 @@ use Rattle.std.proofs.lemmas.Option.{same_Some}
 use Rattle.hol_spec.specs.Names.{Name}
 use Rattle.hol_spec.specs.NameEquality.{name_eq}
 use Rattle.hol_laws.specs.NameEqualityLaws.{name_eq-Decides}
-use Rattle.hol_spec.specs.Types.{HolType, HolTypes, variable, types_of, variable_places, variable_places_of_all, type_variables}
+use Rattle.hol_spec.specs.Types.{HolType, variable, types_of, variable_places, variable_places_of_all, type_variables}
 use Rattle.hol_laws.specs.TypeLaws.{count-variables}
 use Rattle.hol_spec.specs.Primitives.{bool, function, equality_type}
 use Rattle.hol_spec.specs.Substitution.{Instance}
@@ -21,35 +21,35 @@ use Rattle.hol_laws.specs.TermSubstitutionLaws.{application_type-is, abstraction
 use Rattle.hol_spec.specs.Sequents.{Sequent, IsSequent, type_variables_of, free_variables_of, terms_of}
 use Rattle.hol_spec.specs.Definitions.{TypeNames}
 use Rattle.hol_spec.specs.NewTypes.{new_type, abstraction_type, representation_type}
-use Rattle.hol_spec.specs.TypeDefinitions.{are_type_variables_of, IsTypeDefinition, abstracted, represented, first_law, second_law}
+use Rattle.hol_spec.specs.TypeDefinitions.{are_type_variables_of, IsTypeDefinition, abstracted, represented, first_law, second_law, new_variable, old_variable, first_law_free, second_law_free}
 use Rattle.hol_spec.specs.declared.StepKind.{StepKind}
 use Rattle.hol_spec.specs.declared.StepKind.TheVariants.{FirstLaw, SecondLaw}
 use Rattle.proof_laws.specs.RuleSequents.{predicate-typed}
 use Rattle.hol_spec.specs.Lists.{is_in, IsIn}
 use Rattle.hol_spec.specs.Repeats.{no_repeats}
 use Rattle.hol_laws.specs.Members.{All-left, All-right, All-append, All-at, IsIn-distinct, IsIn-distinct_of, is_in-IsIn, IsIn-right, IsIn-left}
+use Rattle.lp_spec.specs.Lemmas.{sym_lemma}
 use Rattle.lp_spec.specs.Trees.{Tree, Var, Sym, App, Lam, lift, size}
 use Rattle.lp_spec.specs.Modules.{Declaration, applied, products, abstractions, types, bools, arr_of, term_of, proof_of, eq_of, sub_symbol, sub_abs_symbol, sub_rep_symbol, sub_rep_abs_symbol, symbol_type}
 use Rattle.lp_typing.specs.ConversionLaws.{IsClosed}
 use Rattle.lp_typing.specs.Telescopes.{under}
 use Rattle.lp_shape.specs.HeadSteps.{head_step}
-use Rattle.lp_shape.specs.Shaped.{IsSimple, IsTerm, IsProof, IsDeclared, of_types, Close, close_same, close_product, IsLaw, law_under, IsCallDefinition, call_under}
+use Rattle.lp_shape.specs.Shaped.{IsTerm, IsProof, Close, close_same, IsLaw, IsCallDefinition, call_under}
 use Rattle.lp_shape.specs.Shaped as shape
 use Rattle.lp_shape.specs.Found.{simple-weaken}
-use Rattle.lp_shape.specs.ShapedParts.{IsPartAt, part_of, operator-definition, abstraction-definition, representation-definition, first_law-shaped, second_law-shaped}
-use Rattle.module_spec.specs.Scopes.{Symbols, TypeScope, type_tree, Scope, lifted_types, lifted, inside, constant_tree, term_tree, under_types, under_terms, under_proofs, unfilled, filled, scope_of_types, scope_of, domains_of, generic_type, theorem_tree, operator_symbol, generic_tree}
-use Rattle.module_spec.specs.ProofTrees.{predicate, witness, part_tree, first_law_tree, second_law_tree}
+use Rattle.lp_shape.specs.ShapedParts.{IsPartAt, operator-definition, abstraction-definition, representation-definition, first_law-shaped, second_law-shaped, first_law_free-shaped, first_law_free-close, second_law_free-shaped}
+use Rattle.module_spec.specs.Scopes.{Symbols, TypeScope, type_tree, Scope, lifted_types, lifted, inside, constant_tree, term_tree, under_types, under_terms, under_proofs, unfilled, filled, scope_of_types, scope_of_terms, scope_of, theorem_tree, operator_symbol, generic_tree}
+use Rattle.module_spec.specs.ProofTrees.{predicate, witness, part_tree, sym_symbol, first_law_tree, second_law_tree, first_law_free_tree, second_law_free_tree}
 use Rattle.module_spec.specs.Items.{part_definition_tree}
 use Rattle.module_spec.specs.Rows.{type_or}
 use Rattle.module_laws.specs.ScopeLaws.{type_tree-lift, term_tree-lift}
 use Rattle.module_laws.specs.TermScopeLaws.{term_tree-inside}
-use Rattle.module_laws.specs.ScopeTyping.{DeclaresConstant, ConstantOver, TypeOver, TypesOver, TermOver}
-use Rattle.module_laws.specs.SequentScope.{IsPremise, SequentOver, context_of}
+use Rattle.module_laws.specs.ScopeTyping.{TypeOver, TypesOver, TermOver}
+use Rattle.module_laws.specs.SequentScope.{SequentOver, context_of}
 use Rattle.module_laws.specs.ComputingBodies.{IsPartPremise, IsPartOperator, IsPartConstant, DefinesPart}
-use Rattle.module_laws.specs.ShapeLaws.{AreDeclared}
 use Rattle.module_laws.specs.ShapedScopes.{ShapedScope, lifted-shaped, type_tree-shaped, term_tree-shaped}
 use Rattle.module_laws.specs.ShapedSequents.{under_types-shaped, filled-shaped, premise-shaped, own_shape}
-use Rattle.module_laws.specs.PartTrees.{IsShut, Covers, Covers-lifted, Covers-more, Covers-under, part_tree-lift, part_tree-lifted, operator-head, constant-part}
+use Rattle.module_laws.specs.PartTrees.{IsShut, Covers, Covers-lifted, Covers-more, Covers-under, Covers-terms, Covers-proofs, closed-agree, part_tree-lift, part_tree-lifted, operator-head, constant-part}
 use Rattle.module_laws.specs.SequentEncoding.{types-are}
 use Rattle.std.proofs.lemmas.Bool.Decides.{Decides-eqb}
 
@@ -322,6 +322,74 @@ module _ (m : List Declaration) (closed : IsClosed m) (symbols : Symbols) (names
           (own-shaped A names.representation (representation_type names c) sub_rep_symbol rep representation-over)
           abs-head rep-head)
 
+    -- IN VERSION 5: the laws at a variable of a shaped scope, with the premise where nothing is put for its free variables
+    module _ (abs : IsPartConstant m symbols names.abstraction (abstraction_type names c) sub_abs_symbol c j one) (rep : IsPartConstant m symbols names.representation (representation_type names c) sub_rep_symbol c j one)
+        (G : List Tree) (scope : Scope) (is : ShapedScope m symbols G scope) (covers : Covers names.variables scope.types) where
+      abbrev K : ℕ → Tree
+      K s = part_tree symbols (filled symbols scope.types) s c (j, one)
+
+      abbrev C0 : Tree
+      C0 = type_tree symbols scope.types c
+
+      abbrev F0 : Tree
+      F0 = term_tree symbols (filled symbols scope.types) (predicate one.conclusion)
+
+      abbrev W0 : Tree
+      W0 = term_tree symbols (filled symbols scope.types) (witness one.conclusion)
+
+      abbrev H0 : Tree
+      H0 = theorem_tree (filled symbols scope.types) j one
+
+      at-filled : IsPartAt m G C0 F0 W0 H0
+      at-filled = part-at G (filled symbols scope.types) (filled-shaped m closed symbols G scope.types is.types)
+
+      free-abs : (y : Tree) → head_step m (App (constant_tree symbols scope.types names.abstraction (abstraction_type names c)) y) ≡ Some (App (K sub_abs_symbol) y)
+      free-abs y =
+          constant-part m symbols c j one shut names.abstraction (abstraction_type names c) sub_abs_symbol abs.generic abs.definition scope.types
+          (Covers-more names.variables (type_variables (abstraction_type names c)) scope.types (abstraction-own names c) covers) y
+
+      free-rep : (y : Tree) → head_step m (App (constant_tree symbols scope.types names.representation (representation_type names c)) y) ≡ Some (App (K sub_rep_symbol) y)
+      free-rep y =
+          constant-part m symbols c j one shut names.representation (representation_type names c) sub_rep_symbol rep.generic rep.definition scope.types
+          (Covers-more names.variables (type_variables (representation_type names c)) scope.types (representation-own names c) covers) y
+
+      free-constant : (n : Name) (a : HolType) (s : ℕ) → IsPartConstant m symbols n a s c j one → TypeOver m symbols a → IsTerm m G (constant_tree symbols scope.types n a) (type_tree symbols scope.types a)
+      free-constant n a s k o =
+          term_tree-shaped m closed symbols G scope [] is (λ k a e. absurd (cc)) (λ k a e. absurd (cc)) (constant n a) a
+          (record { declared = k.declared; instance = subst (λ g. Instance g a) (sym k.generic) ([], substitute-nothing a); ty = o }) refl
+
+      pub first_free : ShownLaw m G (first_law_free_tree symbols scope names c (j, one)) (term_tree symbols scope (first_law_free names c).conclusion)
+      first_free =
+          let N = type_tree symbols scope.types (new_type names) in
+          let x = term_tree symbols scope (new_variable names) in
+          let A = constant_tree symbols scope.types names.abstraction (abstraction_type names c) in
+          let R = constant_tree symbols scope.types names.representation (representation_type names c) in
+          let step = new-head scope.types covers in
+          record {
+            found = proof_of (eq_of (K sub_symbol) (App (K sub_abs_symbol) (App (K sub_rep_symbol) x)) x);
+            law = first_law_free-shaped m N C0 F0 W0 H0 x at-filled (is.terms (codes "a" ∷ [], new_type names) new_type-over) step;
+            close = first_law_free-close m N C0 F0 W0 H0 A R x step free-abs free-rep;
+          }
+
+      pub second_free : symbol_type m sym_symbol ≡ Some sym_lemma.ty → free_places (predicate one.conclusion) ≡ []
+          → ShownLaw m G (second_law_free_tree symbols scope names c (j, one)) (term_tree symbols scope (second_law_free names c (predicate one.conclusion)).conclusion)
+      second_free lemma places =
+          let N = type_tree symbols scope.types (new_type names) in
+          let x = term_tree symbols scope (old_variable c) in
+          let A = constant_tree symbols scope.types names.abstraction (abstraction_type names c) in
+          let R = constant_tree symbols scope.types names.representation (representation_type names c) in
+          let l = eq_of C0 (App R (App A x)) x in
+          let same : F0 ≡ term_tree symbols scope (predicate one.conclusion) =
+          closed-agree symbols 0 (filled symbols scope.types) scope refl (λ k l. absurd (omega (arith, l))) (predicate one.conclusion) (subst (AllByRecursion (λ (v : Variable). ⊥)) (sym places) (tt {0})) (omega (arith, shut.predicate)) in
+          let law = second_law_free-shaped m N C0 F0 W0 H0 A R x at-filled (is.terms (codes "r" ∷ [], c) d.ty)
+          (free-constant names.abstraction (abstraction_type names c) sub_abs_symbol abs abstraction-over) (free-constant names.representation (representation_type names c) sub_rep_symbol rep representation-over)
+          free-abs free-rep lemma in
+          record {
+            found = proof_of (eq_of bools (App (term_tree symbols scope (predicate one.conclusion)) x) l);
+            law = subst (λ f. IsLaw m G (applied (Sym sym_symbol) (bools ∷ l ∷ App f x ∷ App (K sub_rep_abs_symbol) x ∷ [])) (proof_of (eq_of bools (App f x) l))) same law;
+            close = close_same;
+          }
+
 -- THE SCOPE OF A LAW: it has type variables alone
 law-scope : (symbols : Symbols) (s : Sequent) → free_variables_of s ≡ [] → s.hypotheses ≡ [] → scope_of symbols s ≡ filled symbols (under_types (type_variables_of s) unfilled)
 law-scope symbols s e h i = under_proofs (h i) (under_terms (e i) (scope_of_types symbols s))
@@ -359,6 +427,20 @@ module _ (names : TypeNames) (c : HolType) (f : Term) (one : Sequent) (d : IsTyp
       equation-listed (function c bool) (lam c (equation c undone (bound 0))) (lam c (app f (bound 0))) (function-listed names c f one d typed c bool k (tt {0}))
       (under-listed c (equation c undone (bound 0)) k (equation-listed c undone (bound 0) k (represented-listed (abstracted names c (bound 0)) (abstracted-listed (bound 0) (tt {0}))) (tt {0})))
       (under-listed c (app f (bound 0)) k (All-append (IsIn names.variables) (type_variable_places f) [] (predicate-places names f d.variables) (tt {0})))
+
+  pub first_free-listed : Listed (type_variable_places (first_law_free names c).conclusion)
+  first_free-listed =
+      let n = new-listed names c f one d typed in
+      let v = new_variable names in
+      equation-listed (new_type names) (abstracted names c (represented names c v)) v n (abstracted-listed (represented names c v) (represented-listed v n)) n
+
+  pub second_free-listed : Listed (type_variable_places (second_law_free names c f).conclusion)
+  second_free-listed =
+      let k = type-listed names c f one d typed in
+      let v = old_variable c in
+      let undone = represented names c (abstracted names c v) in
+      equation-listed bool (app f v) (equation c undone v) (tt {0}) (All-append (IsIn names.variables) (type_variable_places f) (type_variable_places v) (predicate-places names f d.variables) k)
+      (equation-listed c undone v k (represented-listed (abstracted names c v) (abstracted-listed v k)) k)
 
 law-listed : (names : TypeNames) (s : Sequent) → s.hypotheses ≡ [] → AllByRecursion (IsIn names.variables) (type_variable_places s.conclusion) → (n : Name) → IsIn (type_variables_of s) n → IsIn names.variables n
 law-listed names s none h n i =
@@ -435,6 +517,37 @@ module _ (m : List Declaration) (closed : IsClosed m) (symbols : Symbols) (names
         law = subst₂ (λ c p. IsLaw m (context_of symbols s) (second_law_tree symbols (scope_of symbols s) names c (j, one)) (proof_of (term_tree symbols (scope_of symbols s) p))) (sym own_type) (sym shown) in_scope;
         close = close_same;
       }
+
+  -- the scope of a law covers the type variables of the definition
+  law-covers : s.hypotheses ≡ [] → AllByRecursion (IsIn names.variables) (type_variable_places s.conclusion) → Covers names.variables (scope_of symbols s).types
+  law-covers none places =
+      Covers-proofs names.variables s.hypotheses (scope_of_terms symbols s)
+      (Covers-terms names.variables (free_variables_of s) (scope_of_types symbols s)
+      (Covers-more (type_variables_of s) names.variables (under_types (type_variables_of s) unfilled) (law-listed names s none places) (Covers-under (type_variables_of s))))
+
+  -- THE LAWS IN VERSION 5
+  pub first_law_free-row : (c : HolType) (f : Term) → IsTypeDefinition names c f one → s ≡ first_law_free names c
+      → ShownLaw m (context_of symbols s) (first_law_free_tree symbols (scope_of symbols s) names (type_or (witness one.conclusion)) (j, one)) (term_tree symbols (scope_of symbols s) s.conclusion)
+  first_law_free-row c f d e =
+      let says : s ≡ first_law_free names part.c = e ∙ ap (first_law_free names) (same_type c f d) in
+      let none : s.hypotheses ≡ [] = ap (λ (x : Sequent). x.hypotheses) says in
+      let shown : s.conclusion ≡ (first_law_free names part.c).conclusion = ap (λ (x : Sequent). x.conclusion) says in
+      let own = own_shape m closed symbols s is over in
+      let places = subst (λ p. AllByRecursion (IsIn names.variables) (type_variable_places p)) (sym shown) (first_free-listed names part.c (predicate one.conclusion) one own_definition own_predicate) in
+      subst₂ (λ c p. ShownLaw m (context_of symbols s) (first_law_free_tree symbols (scope_of symbols s) names c (j, one)) (term_tree symbols (scope_of symbols s) p)) (sym own_type) (sym shown)
+      (first_free m closed symbols names part.c j one premise part.operator part.abstraction part.representation (context_of symbols s) (scope_of symbols s) own.scope (law-covers none places))
+
+  pub second_law_free-row : symbol_type m sym_symbol ≡ Some sym_lemma.ty → (c : HolType) (f : Term) → IsTypeDefinition names c f one → s ≡ second_law_free names c f
+      → ShownLaw m (context_of symbols s) (second_law_free_tree symbols (scope_of symbols s) names (type_or (witness one.conclusion)) (j, one)) (term_tree symbols (scope_of symbols s) s.conclusion)
+  second_law_free-row lemma c f d e =
+      let says : s ≡ second_law_free names part.c (predicate one.conclusion) = e ∙ (λ i. second_law_free names (same_type c f d i) (same_predicate c f d i)) in
+      let none : s.hypotheses ≡ [] = ap (λ (x : Sequent). x.hypotheses) says in
+      let shown : s.conclusion ≡ (second_law_free names part.c (predicate one.conclusion)).conclusion = ap (λ (x : Sequent). x.conclusion) says in
+      let own = own_shape m closed symbols s is over in
+      let places = subst (λ p. AllByRecursion (IsIn names.variables) (type_variable_places p)) (sym shown) (second_free-listed names part.c (predicate one.conclusion) one own_definition own_predicate) in
+      subst₂ (λ c p. ShownLaw m (context_of symbols s) (second_law_free_tree symbols (scope_of symbols s) names c (j, one)) (term_tree symbols (scope_of symbols s) p)) (sym own_type) (sym shown)
+      (second_free m closed symbols names part.c j one premise part.operator part.abstraction part.representation (context_of symbols s) (scope_of symbols s) own.scope (law-covers none places) lemma
+      (shut-places (free_places (predicate one.conclusion)) own_definition.closed))
 
 -- THE DEFINITIONS UNDER THEIR BINDERS
 call-abstractions : (m : List Declaration) {G : List Tree} (ns : List Name) {t A : Tree} → IsCallDefinition m (under G (map (λ n. types) ns)) t A → IsCallDefinition m G (abstractions (map (λ n. types) ns) t) (products (map (λ n. types) ns) A)

@@ -1,12 +1,16 @@
 -- The trees of parts in a scope: what a substitution makes of them, and that the operator and the constants of a type definition become them by
 -- a head step.
-use Rattle.std.proofs.Common.{◌≡◌, ℕ, zero, suc, List, [], ◌∷◌, ◌++◌, map, length, append_assoc, Bool, true, false, cond, Option, Some, None, ◌⊎◌, inl, inr, refl, sym, ap, subst, ◌∙◌, arith}
+use Rattle.hol_laws.specs.Members.{All-left, All-right}
+use Rattle.hol_spec.specs.Terms.{Term, Variable, free_places}
+use Rattle.hol_spec.specs.Terms as term
+use Rattle.std.specs.List.{AllByRecursion}
+use Rattle.std.proofs.Common.{◌≡◌, ◌<◌, ◌≤◌, ap₂, ℕ, zero, suc, List, [], ◌∷◌, ◌++◌, map, length, append_assoc, Bool, true, false, cond, Some, ◌⊎◌, inl, inr, refl, sym, ap, ◌∙◌, arith}
 use Rattle.std.proofs.Math.Path.{fun_ext}
 use Rattle.std.proofs.lemmas.List.{append-nil, map-append}
 use Rattle.hol_spec.specs.Names.{Name}
 use Rattle.hol_spec.specs.NameEquality.{name_eq}
 use Rattle.hol_laws.specs.NameEqualityLaws.{name_eq-Decides}
-use Rattle.hol_spec.specs.Types.{HolType, variable, types_of, count, type_variables}
+use Rattle.hol_spec.specs.Types.{HolType, variable, types_of, type_variables}
 use Rattle.hol_laws.specs.TypeLaws.{count-variables}
 use Rattle.hol_spec.specs.Substitution.{image, type_arguments}
 use Rattle.hol_laws.specs.TermInstances.{substitute-nothing}
@@ -22,12 +26,12 @@ use Rattle.lp_spec.specs.Substitution.{sub}
 use Rattle.lp_binding.specs.SubstitutionLaws.{sub-lift}
 use Rattle.lp_spec.specs.Modules.{Declaration, applied, abstractions, types, bools, term_of, eq_of, select_symbol}
 use Rattle.lp_spec.specs.Conversion.{symbol_definition}
-use Rattle.lp_shape.specs.HeadSteps.{given, unfolded, symbol_step, spine_step, head_step}
+use Rattle.lp_shape.specs.HeadSteps.{given, spine_step, head_step}
 use Rattle.lp_shape.specs.ShapedParts.{part_of}
-use Rattle.module_spec.specs.Scopes.{Symbols, operator_symbol, constant_symbol, generic_type, TypeScope, type_tree, type_trees, Scope, lifted_types, lifted, constant_tree, term_tree, under_type, under_types, filler, unfilled, filled, theorem_tree}
+use Rattle.module_spec.specs.Scopes.{Symbols, operator_symbol, constant_symbol, generic_type, TypeScope, type_tree, type_trees, Scope, lifted_types, lifted, constant_tree, term_tree, under_type, under_types, filler, unfilled, filled, theorem_tree, inside, under_term, under_terms, under_proof, under_proofs}
 use Rattle.module_spec.specs.ProofTrees.{Premise, predicate, witness, part_tree}
 use Rattle.module_spec.specs.Items.{part_definition_tree}
-use Rattle.module_laws.specs.ScopeLaws.{sub-applied, lift_sub, through_types, through, same_scope, type_tree-sub, type_tree-lift, term_tree-sub}
+use Rattle.module_laws.specs.ScopeLaws.{sub-applied, lift_sub, through, same_scope, type_tree-sub, type_tree-lift, term_tree-sub}
 use Rattle.module_laws.specs.ScopeTyping.{types-agree}
 use Rattle.module_laws.specs.TermScopeLaws.{with_bounds, term_tree-bounds}
 use Rattle.module_laws.specs.PuttingLaws.{put_all-after}
@@ -89,6 +93,22 @@ module _ (symbols : Symbols) where
       part_tree-bounds (lifted (filled symbols scope)) Var r c p shut
       ∙ ap (λ w. part_tree symbols w r c p)
       (same_scope (with_bounds Var (lifted (filled symbols scope))) (filled symbols (lifted_types scope)) (λ n. refl) (λ v. filler-lift (type_tree symbols scope v.1) ∙ ap filler (type_tree-lift symbols scope v.1)) (λ h. refl) (λ k. refl))
+
+-- a term without free variables and loose numbers is alike in scopes that are alike in types
+module _ (symbols : Symbols) where
+  pub closed-agree : (d : ℕ) (scope other : Scope) → scope.types ≡ other.types → ((k : ℕ) → k < d → scope.bounds k ≡ other.bounds k) → (t : Term) → AllByRecursion (λ (v : Variable). ⊥) (free_places t) → loose t ≤ d
+      → term_tree symbols scope t ≡ term_tree symbols other t
+  closed-agree d scope other e b (term.Term.free n t) h l = absurd h.0
+  closed-agree d scope other e b (term.Term.bound k) h l = b k (omega (arith, l))
+  closed-agree d scope other e b (term.Term.constant n t) h l = ap (λ s. constant_tree symbols s n t) e
+  closed-agree d scope other e b (term.Term.app f x) h l =
+      ap₂ App (closed-agree d scope other e b f (All-left (λ (v : Variable). ⊥) (free_places f) (free_places x) h) (omega (arith, l))) (closed-agree d scope other e b x (All-right (λ (v : Variable). ⊥) (free_places f) (free_places x) h) (omega (arith, l)))
+  closed-agree d scope other e b (term.Term.lam a t) h l =
+      ap₂ Lam (ap (λ s. term_of (type_tree symbols s a)) e) (closed-agree (suc d) (inside scope) (inside other) (ap lifted_types e) inner t h (omega (arith, l)))
+    where
+      inner : (k : ℕ) → k < suc d → (inside scope).bounds k ≡ (inside other).bounds k
+      inner zero l = refl
+      inner (suc k) l = ap (lift 1) (b k (omega (arith, l)))
 
 -- where there is no argument for a type variable, it is `bool`
 abbrev pub Covers : List Name → TypeScope → Type 0
@@ -173,3 +193,12 @@ module _ (m : List Declaration) (symbols : Symbols) (c : HolType) (j : ℕ) (one
   constant-part n a r generic d other covers y =
       ap (λ l. head_step m (App (applied (Sym (constant_symbol symbols n)) l) y)) (generic-arguments n a generic other)
       ∙ part-head (constant_symbol symbols n) (type_variables a) r d other covers (y ∷ [])
+
+-- they are covered under binders of terms and of proofs too
+pub Covers-terms : (ns : List Name) (vs : List Variable) (scope : Scope) → Covers ns scope.types → Covers ns (under_terms vs scope).types
+Covers-terms ns [] scope h = h
+Covers-terms ns (v ∷ vs) scope h = Covers-terms ns vs (under_term v scope) (Covers-lifted ns scope.types h)
+
+pub Covers-proofs : (ns : List Name) (hs : List Term) (scope : Scope) → Covers ns scope.types → Covers ns (under_proofs hs scope).types
+Covers-proofs ns [] scope h = h
+Covers-proofs ns (p ∷ ps) scope h = Covers-proofs ns ps (under_proof p scope) (Covers-lifted ns scope.types h)

@@ -1,4 +1,4 @@
--- EVERY ROW IS SHAPED: the proof of a step, by its rule, is a shaped proof in the scope of its sequent.
+-- EVERY ROW IS SHAPED: the proof of a step, by its rule, is a shaped proof in the scope of its sequent, or a shaped law there.
 use Rattle.std.proofs.Common.{Bool, true, false, ◌⊎◌, ◌∙◌, ◌≡◌, ℕ, List, [], ◌∷◌, map, inl, inr, ⊎_elim, refl, sym, ap, subst}
 use Rattle.std.specs.Prelude.{unwrap_or}
 use Rattle.std.specs.List.{AllByRecursion, list_all, list_any, flat_map}
@@ -36,7 +36,7 @@ use Rattle.hol_spec.specs.DefinitionLists.{constants_put}
 use Rattle.proof_laws.specs.SymbolGrowth.{symmetric}
 use Rattle.proof_laws.specs.RuleSequents.{constants-fit}
 use Rattle.module_laws.specs.AbstractionBody.{IsFresh}
-use Rattle.module_laws.specs.PartRows.{is_law, ShownLaw, first_law-row, second_law-row}
+use Rattle.module_laws.specs.PartRows.{is_law, ShownLaw, first_law-row, second_law-row, first_law_free-row, second_law_free-row}
 
 -- freshness, hypothesis by hypothesis
 fresh_places : (v : Variable) (ws : List Variable) → list_any (variable_eq v) ws ≡ false → AllByRecursion (λ w. variable_eq w v ≡ false) ws
@@ -163,17 +163,25 @@ module _ (m : List Declaration) (closed : IsClosed m) (lemmas : HasLemmas m) (sy
       shown (define_const_list-row m closed symbols G scope [] st (constants_put pairs) (constants-fit pairs) w.j one w.first d.0 d.1)))
   rule-shaped kind js premises given s (rule.recorded proper) row lawless p d is over = absurd (cc)
   rule-shaped kind js premises given s (rule.first_law defining e) row lawless p d is over = absurd (cc)
+  rule-shaped kind js premises given s (rule.first_law_free defining e) row lawless p d is over = absurd (cc)
   rule-shaped kind js premises given s (rule.second_law defining e) row lawless p d is over = absurd (cc)
+  rule-shaped kind js premises given s (rule.second_law_free defining e) row lawless p d is over = absurd (cc)
 
   -- THE LAWS: a law of a type definition has a law's body
   pub law-shaped : (kind : StepKind) (js : List ℕ) (premises : List Sequent) (given : Parameters) (s : Sequent) → Rule kind premises given s → is_law kind ≡ true → ArePremises m symbols js premises → Defined m symbols kind js premises given → IsSequent s → SequentOver m symbols s
       → ShownLaw m (context_of symbols s) (proof_tree symbols (scope_of symbols s) kind js premises given) (term_tree symbols (scope_of symbols s) s.conclusion)
   law-shaped kind [] premises given s (rule.first_law defining e) law p d is over = absurd p
+  law-shaped kind [] premises given s (rule.first_law_free defining e) law p d is over = absurd p
   law-shaped kind (j ∷ k ∷ js) premises given s (rule.first_law defining e) law p d is over = absurd p.1
+  law-shaped kind (j ∷ k ∷ js) premises given s (rule.first_law_free defining e) law p d is over = absurd p.1
   law-shaped kind (j ∷ []) premises given s (rule.first_law {names = names} {c = c} {f = f} {one = one} defining e) law p d is over = first_law-row m closed symbols names j one d s is over c f defining e
+  law-shaped kind (j ∷ []) premises given s (rule.first_law_free {names = names} {c = c} {f = f} {one = one} defining e) law p d is over = first_law_free-row m closed symbols names j one d s is over c f defining e
   law-shaped kind [] premises given s (rule.second_law defining e) law p d is over = absurd p
+  law-shaped kind [] premises given s (rule.second_law_free defining e) law p d is over = absurd p
   law-shaped kind (j ∷ k ∷ js) premises given s (rule.second_law defining e) law p d is over = absurd p.1
+  law-shaped kind (j ∷ k ∷ js) premises given s (rule.second_law_free defining e) law p d is over = absurd p.1
   law-shaped kind (j ∷ []) premises given s (rule.second_law {names = names} {c = c} {f = f} {one = one} defining e) law p d is over = second_law-row m closed symbols names j one d s is over c f defining e
+  law-shaped kind (j ∷ []) premises given s (rule.second_law_free {names = names} {c = c} {f = f} {one = one} defining e) law p d is over = second_law_free-row m closed symbols names j one d s is over lemmas.symmetry c f defining e
   law-shaped kind js premises given s (rule.refl h e) law p d is over = absurd (cc)
   law-shaped kind js premises given s (rule.assume h e) law p d is over = absurd (cc)
   law-shaped kind js premises given s (rule.eq_mp e f i) law p d is over = absurd (cc)

@@ -1,12 +1,12 @@
 -- How items are numbered: an input operator, an assumption, a type definition of three items, its law, and an export of it.
-use Rattle.std.specs.Prelude.{◌≡◌, ℕ, List, [], ◌∷◌, length}
+use Rattle.hol_spec.specs.declared.Version.TheVariants.{Six}
+use Rattle.std.specs.Prelude.{◌≡◌, ℕ, List, [], ◌∷◌}
 use Rattle.std.proofs.Common.{refl}
 use Rattle.hol_spec.specs.Names.{Name}
 use Rattle.hol_spec.specs.Types.{HolType}
 use Rattle.hol_spec.specs.Terms.{Term}
 use Rattle.hol_spec.specs.Sequents.{Sequent}
-use Rattle.hol_spec.specs.Definitions.{Definition, TypeNames}
-use Rattle.hol_spec.specs.NewTypes.{abstraction_type, representation_type}
+use Rattle.hol_spec.specs.Definitions.{TypeNames}
 use Rattle.hol_spec.specs.Symbols.{Symbol}
 use Rattle.hol_spec.specs.Rules.{Parameters}
 use Rattle.hol_spec.specs.Proofs.{Made}
@@ -20,7 +20,7 @@ module _ (n : Name) (names : TypeNames) (c : HolType) (f : Term) (one law : Sequ
   run =
       Made.symbol (Symbol.input_operator n 1) ∷ Made.step (record { kind = Axiom; premises = []; parameters = Parameters.sequent one; sequent = one })
       ∷ Made.type_definition names c f 0
-      ∷ Made.step (record { kind = FirstLaw; premises = 0 ∷ []; parameters = Parameters.type_operator names; sequent = law })
+      ∷ Made.step (record { kind = FirstLaw; premises = 0 ∷ []; parameters = Parameters.type_operator names Six; sequent = law })
       ∷ Made.step (record { kind = Restate; premises = 1 ∷ []; parameters = Parameters.sequent law; sequent = law }) ∷ []
 
   abbrev plain : Naming
@@ -31,7 +31,7 @@ module _ (n : Name) (names : TypeNames) (c : HolType) (f : Term) (one law : Sequ
 
   example_items : items_of plain run
       ≡ item 0 (Content.operator n 1) ∷ item 1 (Content.unproved one) ∷ item 2 (Content.type_operator names c f 1 one) ∷ item 3 (Content.type_abstraction names c f 1 one)
-      ∷ item 4 (Content.type_representation names c f 1 one) ∷ item 5 (Content.step FirstLaw (1 ∷ []) (one ∷ []) (Parameters.type_operator names) law)
+      ∷ item 4 (Content.type_representation names c f 1 one) ∷ item 5 (Content.step FirstLaw (1 ∷ []) (one ∷ []) (Parameters.type_operator names Six) law)
       ∷ item 6 (Content.step Restate (5 ∷ []) (law ∷ []) (Parameters.sequent law) law) ∷ []
   example_items = refl
 

@@ -6,12 +6,12 @@ use Rattle.hol_spec.specs.Substitution.{TypePairs}
 use Rattle.hol_spec.specs.Terms.{Term, bound, constant, app, lam, equation, Variable}
 use Rattle.hol_spec.specs.Definitions.{TypeNames}
 use Rattle.hol_spec.specs.NewTypes.{new_type}
-use Rattle.hol_spec.specs.TypeDefinitions.{abstracted, represented}
+use Rattle.hol_spec.specs.TypeDefinitions.{abstracted, represented, new_variable, old_variable}
 use Rattle.hol_spec.specs.TermSubstitution.{TermPairs}
 use Rattle.hol_spec.specs.Sequents.{Sequent}
 use Rattle.lp_spec.specs.Trees.{Tree, Var, Sym, App, Lam}
 use Rattle.lp_spec.specs.Modules.{signature, applied, term_of, proof_of, refl_of, fun_ext_symbol, app_thm_symbol, prop_ext_symbol, eq_mp_symbol, sub_abs_rep_symbol, sub_rep_abs_symbol}
-use Rattle.module_spec.specs.Scopes.{Symbols, type_tree, Scope, term_tree, lifted, under_term, under_proof, set_proof, theorem_tree, images}
+use Rattle.module_spec.specs.Scopes.{Symbols, type_tree, Scope, term_tree, filled, lifted, under_term, under_proof, set_proof, theorem_tree, images}
 
 -- the two lemmas with which every module begins
 abbrev pub sym_symbol : ℕ
@@ -110,3 +110,15 @@ first_law_tree symbols scope names c one =
 abbrev pub second_law_tree : Symbols → Scope → TypeNames → HolType → Premise → Tree
 second_law_tree symbols scope names c one =
     law_tree symbols scope c bool (equation c (represented names c (abstracted names c (bound 0))) (bound 0)) (app (predicate one.1.conclusion) (bound 0)) sub_rep_abs_symbol c one
+
+-- in version 5: abs (rep a) = a, and f r = (rep (abs r) = r). The premise stands where nothing is put for its free variables, as in what the symbols
+-- of the definition stand for
+abbrev pub first_law_free_tree : Symbols → Scope → TypeNames → HolType → Premise → Tree
+first_law_free_tree symbols scope names c one = App (part_tree symbols (filled symbols scope.types) sub_abs_rep_symbol c one) (term_tree symbols scope (new_variable names))
+
+abbrev pub second_law_free_tree : Symbols → Scope → TypeNames → HolType → Premise → Tree
+second_law_free_tree symbols scope names c one =
+    applied (Sym sym_symbol)
+    (type_tree symbols scope.types bool ∷ term_tree symbols scope (equation c (represented names c (abstracted names c (old_variable c))) (old_variable c))
+    ∷ term_tree symbols scope (app (predicate one.1.conclusion) (old_variable c))
+    ∷ App (part_tree symbols (filled symbols scope.types) sub_rep_abs_symbol c one) (term_tree symbols scope (old_variable c)) ∷ [])

@@ -1,5 +1,6 @@
 -- The proof of a step by its rule: each row of the table of bodies, read off the step's premises and parameters.
 -- Source: Assaf and Burel, "Translating HOL to Dedukti", 3.
+use Rattle.hol_spec.specs.declared.Version.TheVariants.{Five, Six}
 use Rattle.std.specs.Prelude.{ℕ, List, [], ◌∷◌, unwrap_or, Bool, true, false}
 use Rattle.hol_spec.specs.Types.{HolType, operator, more}
 use Rattle.hol_spec.specs.Primitives.{bool}
@@ -13,7 +14,7 @@ use Rattle.hol_spec.specs.declared.StepKind.TheVariants.{Refl, Assume, EqMp, Abs
 use Rattle.lp_spec.specs.Trees.{Tree}
 use Rattle.lp_spec.specs.Trees as tree
 use Rattle.module_spec.specs.Scopes.{Symbols, Scope}
-use Rattle.module_spec.specs.ProofTrees.{Premise, premise_tree, refl_tree, trans_tree, eq_mp_tree, sym_tree, fun_ext_tree, app_thm_tree, prop_ext_tree, prove_hyp_tree, subst_tree, constants_scope, witness, first_law_tree, second_law_tree}
+use Rattle.module_spec.specs.ProofTrees.{Premise, premise_tree, refl_tree, trans_tree, eq_mp_tree, sym_tree, fun_ext_tree, app_thm_tree, prop_ext_tree, prove_hyp_tree, subst_tree, constants_scope, witness, first_law_tree, second_law_tree, first_law_free_tree, second_law_free_tree}
 
 -- whether a step of this kind has a proof
 abbrev pub has_row : StepKind → Bool
@@ -81,11 +82,13 @@ list_row symbols scope given one = tree.Sym 0
 
 -- a law of the type operator with these names, by the theorem that defines it
 abbrev first_law_row : Symbols → Scope → Parameters → Premise → Tree
-first_law_row symbols scope (Parameters.type_operator names) one = first_law_tree symbols scope names (type_or (witness one.1.conclusion)) one
+first_law_row symbols scope (Parameters.type_operator names Six) one = first_law_tree symbols scope names (type_or (witness one.1.conclusion)) one
+first_law_row symbols scope (Parameters.type_operator names Five) one = first_law_free_tree symbols scope names (type_or (witness one.1.conclusion)) one
 first_law_row symbols scope given one = tree.Sym 0
 
 abbrev second_law_row : Symbols → Scope → Parameters → Premise → Tree
-second_law_row symbols scope (Parameters.type_operator names) one = second_law_tree symbols scope names (type_or (witness one.1.conclusion)) one
+second_law_row symbols scope (Parameters.type_operator names Six) one = second_law_tree symbols scope names (type_or (witness one.1.conclusion)) one
+second_law_row symbols scope (Parameters.type_operator names Five) one = second_law_free_tree symbols scope names (type_or (witness one.1.conclusion)) one
 second_law_row symbols scope given one = tree.Sym 0
 
 abbrev app_row : Symbols → Scope → Premise → Premise → Tree

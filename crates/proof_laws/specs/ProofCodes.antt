@@ -13,6 +13,8 @@ use Rattle.hol_spec.specs.Symbols.{Symbol, input_constant, input_operator, defin
 use Rattle.hol_spec.specs.Rules.{Parameters}
 use Rattle.hol_spec.specs.Proofs.{Step, Made}
 use Rattle.hol_spec.specs.declared.StepKind.{StepKind}
+use Rattle.hol_spec.specs.declared.Version.{Version}
+use Rattle.hol_spec.specs.declared.Version.TheVariants.{Five, Six}
 use Rattle.hol_spec.specs.declared.StepKind.TheVariants.{Refl, Assume, EqMp, AbsThm, AppThm, DeductAntisym, BetaConv, Sym, Trans, ProveHyp, Subst, Axiom, Restate, DefineConst, DefineConstList, FirstLaw, SecondLaw}
 
 abbrev pub coded_sequent : Coded Sequent
@@ -78,6 +80,21 @@ kind_of-number SecondLaw = refl
 abbrev pub coded_step_kind : Coded StepKind
 coded_step_kind = code_by ℕ coded_ℕ kind_number kind_of kind_of-number
 
+abbrev pub version_number : Version → ℕ
+version_number Five = 0
+version_number Six = 1
+
+abbrev pub version_of : ℕ → Version
+version_of zero = Five
+version_of n = Six
+
+pub version_of-number : (v : Version) → version_of (version_number v) ≡ v
+version_of-number Five = refl
+version_of-number Six = refl
+
+abbrev pub coded_version : Coded Version
+coded_version = code_by ℕ coded_ℕ version_number version_of version_of-number
+
 abbrev pub coded_type_names : Coded TypeNames
 coded_type_names = code_by ((Name × Name) × (Name × List Name)) (coded× (coded× coded_name coded_name) (coded× coded_name (coded_list coded_name)))
     (λ n. ((n.operator, n.abstraction), (n.representation, n.variables))) (λ p. record { operator = p.0.0; abstraction = p.0.1; representation = p.1.0; variables = p.1.1 }) (λ _. refl)
@@ -99,7 +116,7 @@ parameters_code (Parameters.substitution types terms) = gcons (gnum 3) (gcons (c
 parameters_code (Parameters.sequent s) = gcons (gnum 4) (coded_sequent.code s)
 parameters_code (Parameters.constant n t) = gcons (gnum 5) (gcons (coded_name.code n) (coded_term.code t))
 parameters_code (Parameters.constants pairs) = gcons (gnum 6) (coded_constant_pairs.code pairs)
-parameters_code (Parameters.type_operator names) = gcons (gnum 7) (coded_type_names.code names)
+parameters_code (Parameters.type_operator names version) = gcons (gnum 7) (gcons (coded_type_names.code names) (coded_version.code version))
 
 pub parameters_inj : (p q : Parameters) → parameters_code p ≡ parameters_code q → p ≡ q
 unfolding parameters_code
@@ -110,7 +127,7 @@ parameters_inj (Parameters.substitution a x) (Parameters.substitution b y) e = l
 parameters_inj (Parameters.sequent s) (Parameters.sequent t) e = let f : s ≡ t = coded_sequent.inj s t (cc) in cc
 parameters_inj (Parameters.constant m t) (Parameters.constant n u) e = let f : m ≡ n = coded_name.inj m n (cc) in let g : t ≡ u = coded_term.inj t u (cc) in cc
 parameters_inj (Parameters.constants a) (Parameters.constants b) e = let f : a ≡ b = coded_constant_pairs.inj a b (cc) in cc
-parameters_inj (Parameters.type_operator a) (Parameters.type_operator b) e = let f : a ≡ b = coded_type_names.inj a b (cc) in cc
+parameters_inj (Parameters.type_operator a v) (Parameters.type_operator b w) e = let f : a ≡ b = coded_type_names.inj a b (cc) in let g : v ≡ w = coded_version.inj v w (cc) in cc
 parameters_inj p q e = cc
 
 abbrev pub coded_parameters : Coded Parameters

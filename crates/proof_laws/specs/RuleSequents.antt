@@ -98,6 +98,19 @@ second_law-typed names c f h =
     (type_under-lam [] c (equation c back (bound 0)) bool (type_under-equation own c back (bound 0) (represented-typed names c (abstracted names c (bound 0)) own (abstracted-typed names c (bound 0) own refl)) refl))
     (type_under-lam [] c (app f (bound 0)) bool (type_under-app own f (bound 0) c bool (type_under-any own f (function c bool) h) refl))
 
+first_law_free-typed : (names : TypeNames) (c : HolType) → HasType (type_definition.first_law_free names c).conclusion bool
+first_law_free-typed names c =
+    let n = new_type names in
+    let v = type_definition.new_variable names in
+    type_of-equation n (abstracted names c (represented names c v)) v (abstracted-typed names c (represented names c v) [] (represented-typed names c v [] refl)) refl
+
+second_law_free-typed : (names : TypeNames) (c : HolType) (f : Term) → HasType f (function c bool) → HasType (type_definition.second_law_free names c f).conclusion bool
+second_law_free-typed names c f h =
+    let v = type_definition.old_variable c in
+    let back = represented names c (abstracted names c v) in
+    type_of-equation bool (app f v) (equation c back v) (type_under-app [] f v c bool h refl)
+    (type_of-equation c back v (represented-typed names c (abstracted names c v) [] (abstracted-typed names c v [] refl)) refl)
+
 -- THE LAW OF RULES.
 pub rule-IsSequent : (kind : StepKind) (premises : List Sequent) (given : Parameters) (s : Sequent) → Rule kind premises given s → AllByRecursion IsSequent premises → IsSequent s
 rule-IsSequent kind premises given s (rule.refl {t = t} {a = a} h e) p = made [] (equation a t t) s e IsDistinct-none (tt {0}) (type_of-equation a t t h h)
@@ -148,3 +161,7 @@ rule-IsSequent kind premises given s (rule.define_const_list {pairs = pairs} {on
 rule-IsSequent kind premises given s (rule.first_law {names = names} {c = c} {f = f} {one = one} d e) p = made [] (type_definition.first_law names c).conclusion s e IsDistinct-none (tt {0}) (first_law-typed names c)
 rule-IsSequent kind premises given s (rule.second_law {names = names} {c = c} {f = f} {one = one} d e) p =
     made [] (type_definition.second_law names c f).conclusion s e IsDistinct-none (tt {0}) (second_law-typed names c f (predicate-typed names c f one d p.0.conclusion))
+rule-IsSequent kind premises given s (rule.first_law_free {names = names} {c = c} {f = f} {one = one} d e) p =
+    made [] (type_definition.first_law_free names c).conclusion s e IsDistinct-none (tt {0}) (first_law_free-typed names c)
+rule-IsSequent kind premises given s (rule.second_law_free {names = names} {c = c} {f = f} {one = one} d e) p =
+    made [] (type_definition.second_law_free names c f).conclusion s e IsDistinct-none (tt {0}) (second_law_free-typed names c f (predicate-typed names c f one d p.0.conclusion))

@@ -177,3 +177,16 @@ module _ (symbols : List Symbol) where
       (equation-taken symbols (function c bool) (term.Term.lam c (equation c back b)) (term.Term.lam c (term.Term.app f b)) (function-taken symbols c bool parts.whole (bool-taken symbols))
       (parts.whole, equation-taken symbols c back b parts.whole (represented-taken names c f (abstracted names c b) parts (abstracted-taken names c f b parts (tt {0}))) (tt {0}))
       (parts.whole, (parts.predicate, tt {0})))
+  rule-taken kind premises given s (rule.first_law_free {names = names} {c = c} {f = f} {one = one} t e) p g d =
+      let parts = type_definition-parts names c f one t p.0.conclusion d in
+      let n = new_type names in
+      let v = type_definition.new_variable names in
+      concludes [] (type_definition.first_law_free names c).conclusion s e (tt {0})
+      (equation-taken symbols n (abstracted names c (represented names c v)) v parts.part (abstracted-taken names c f (represented names c v) parts (represented-taken names c f v parts parts.part)) parts.part)
+  rule-taken kind premises given s (rule.second_law_free {names = names} {c = c} {f = f} {one = one} t e) p g d =
+      let parts = type_definition-parts names c f one t p.0.conclusion d in
+      let v = type_definition.old_variable c in
+      let back = represented names c (abstracted names c v) in
+      concludes [] (type_definition.second_law_free names c f).conclusion s e (tt {0})
+      (equation-taken symbols bool (term.Term.app f v) (equation c back v) (bool-taken symbols) (parts.predicate, parts.whole)
+      (equation-taken symbols c back v parts.whole (represented-taken names c f (abstracted names c v) parts (abstracted-taken names c f v parts parts.whole)) parts.whole))

@@ -1,15 +1,17 @@
 -- Each export of an accepted run is a step that restates a theorem.
+use Rattle.hol_spec.specs.declared.Version.{Version}
+use Rattle.hol_spec.specs.declared.Version.TheVariants.{Five}
 use Rattle.std.proofs.Common.{◌≡◌, ℕ, List, [], ◌∷◌, ◌++◌, map, length, Bool, true, false, Result, Ok, Err, Option, Some, None, slice_get, refl, sym, ap, subst, ◌∙◌, append_assoc}
 use Rattle.bridge_base.specs.declared.faults.Kind.{Kind}
 use Rattle.std.proofs.lemmas.List.{append-nil}
 use Rattle.hol_spec.specs.Proofs.{Made, Step, steps_of, Accepted, sequent_at, symbols_of}
-use Rattle.article_spec.specs.State.{State, Object, Place, start, version, body, initial, list, constant, variable}
+use Rattle.article_spec.specs.State.{State, Object, Place, start, version, body, version_at, initial, list, constant, variable}
 use Rattle.article_spec.specs.Results.{◌>>=◌, ◌>>◌}
 use Rattle.article_spec.specs.Changes.{with_stack, conclude, next_step, with_symbols}
 use Rattle.article_spec.specs.Conditions.{sequent_in_limits, all_bool, follows, demand, in_limits, typed, type_in_limits, term_in_limits, arity_fits, generic_fits, is_of_type, equation_of}
 use Rattle.article_spec.specs.Inference.{eq_mp, refl_word, step_by, assume, abs_thm, app_thm, deduct_antisym, contracted, beta_conv, sym_word, trans_word, prove_hyp, subst_word}
 use Rattle.article_spec.specs.Operands.{as_name, as_names, as_term, as_theorem, as_constant_pairs, pop, as_number, as_list, as_type_operator, as_type, as_types, as_constant, as_variable, any_object, head_and_tail, as_terms, as_substitution}
-use Rattle.bridge_base.specs.declared.faults.Kind.TheVariants.{VersionPlace, NameTaken, NotClosed, ExtraTypeVars, BadDefinitionList, NotTheSequent, NoSuchKey, TypeMismatch, NotBool, NotAlike, VarInHyps, NotRedex, BadSubst}
+use Rattle.bridge_base.specs.declared.faults.Kind.TheVariants.{NameTaken, NotClosed, ExtraTypeVars, BadDefinitionList, NotTheSequent, NoSuchKey, TypeMismatch, NotBool, NotAlike, VarInHyps, NotRedex, BadSubst}
 use Rattle.hol_spec.specs.Defining.{is_closed, has_type_variables_of}
 use Rattle.hol_spec.specs.DefinitionLists.{names_of, defining_equations, is_definition_list, definitions_in, constants_put}
 use Rattle.hol_spec.specs.Definitions.{Definition, TypeNames}
@@ -22,7 +24,7 @@ use Rattle.hol_spec.specs.Sequents.{Sequent}
 use Rattle.hol_spec.specs.Symbols.{defined, is_taken_constant, generic_type, operator_arity, new_constant, new_operator}
 use Rattle.hol_spec.specs.TermSubstitution.{sub}
 use Rattle.hol_spec.specs.Terms.{Term, app, equation, term_eq, application_type, type_of}
-use Rattle.hol_spec.specs.TypeDefinitions.{first_law, second_law}
+use Rattle.hol_spec.specs.TypeDefinitions.{first_law_of, second_law_of}
 use Rattle.hol_spec.specs.Types.{HolType, types_of}
 use Rattle.hol_spec.specs.declared.StepKind.TheVariants as by_rule
 use Rattle.std.specs.FinMap as entries
@@ -32,7 +34,7 @@ use Rattle.std.specs.Prelude.{pos, not, ◌||◌, nat_eq, is_some}
 use Rattle.article_spec.specs.Building.{nil, cons, hd_tl, type_op, var_type, op_type, const, const_term, var, var_term, app_term, abs_term, def, ref, remove, drop_object}
 use Rattle.article_spec.specs.DefiningWords.{define_const, constant_objects, define_const_list, application_parts, predicate_fits, are_new_names, make_type, define_type, define_type_op}
 use Rattle.article_spec.specs.Stating.{stated, restatement, assume_or_meet, axiom_word, export, thm}
-use Rattle.article_spec.specs.Step.{obey, step_at, is_version, is_body, finish}
+use Rattle.article_spec.specs.Step.{obey, in_body, obey_item, second_word, step_at, finish}
 use Rattle.article_spec.specs.Run.{machine, accepted, Run}
 use Rattle.article_laws.specs.SoundSteps.{runs-have}
 use Rattle.article_spec.specs.declared.commands.Item.{Item}
@@ -170,19 +172,19 @@ restacked s t stack h = record { exports = h.exports; more = h.more; made = h.ma
 two_more : {A : Type 0} (xs ys zs ws : List A) → ((xs ++ ys) ++ zs) ++ ws ≡ xs ++ (ys ++ (zs ++ ws))
 two_more xs ys zs ws = append_assoc (xs ++ ys) zs ws ∙ append_assoc xs ys (zs ++ ws)
 
-make_type-keeps : (s : State) (names : TypeNames) (i : ℕ) (c : HolType) (f : Term) → Keeps s (make_type s names i c f)
-make_type-keeps s names i c f =
-    let one = Made.step (step_by by_rule.FirstLaw (i ∷ []) (Parameters.type_operator names) (first_law names c)) in
-    let two = Made.step (step_by by_rule.SecondLaw (i ∷ []) (Parameters.type_operator names) (second_law names c f)) in
+make_type-keeps : (edition : Version) (s : State) (names : TypeNames) (i : ℕ) (c : HolType) (f : Term) → Keeps s (make_type edition s names i c f)
+make_type-keeps edition s names i c f =
+    let one = Made.step (step_by by_rule.FirstLaw (i ∷ []) (Parameters.type_operator names edition) (first_law_of edition names c)) in
+    let two = Made.step (step_by by_rule.SecondLaw (i ∷ []) (Parameters.type_operator names edition) (second_law_of edition names c f)) in
     let taken = Made.type_definition names c f i ∷ [] in
-    Keeps-bind s (in_limits (type_measure (new_type names) ∷ type_measure (abstraction_type names c) ∷ type_measure (representation_type names c) ∷ sequent_measure (first_law names c) ∷ sequent_measure (second_law names c f) ∷ [])) _
+    Keeps-bind s (in_limits (type_measure (new_type names) ∷ type_measure (abstraction_type names c) ∷ type_measure (representation_type names c) ∷ sequent_measure (first_law_of edition names c) ∷ sequent_measure (second_law_of edition names c f) ∷ [])) _
     (answer s _ (record { exports = refl; more = taken ++ (one ∷ [] ++ two ∷ []); made = two_more s.made taken (one ∷ []) (two ∷ []) }))
 
 define_type-keeps : (s : State) (names : TypeNames) (i : ℕ) → Keeps s (define_type s names i)
 define_type-keeps s names i =
     let one = sequent_at s.made i in
     Keeps-bind s (are_new_names (symbols_of s.made) names) _ (Keeps-bind s (predicate_fits names.variables (application_parts one.conclusion)) _ (Keeps-bind s (demand (nat_eq (length one.hypotheses) 0) NotTheSequent) _
-    (bind s (ok_or (application_parts one.conclusion) NotTheSequent) _ (λ p. bind s (typed p.1) _ (λ c. make_type-keeps s names i c p.0)))))
+    (bind s (ok_or (application_parts one.conclusion) NotTheSequent) _ (λ p. bind s (typed p.1) _ (λ c. make_type-keeps (version_at s.place) s names i c p.0)))))
 
 define_type_op-keeps : (s : State) → Keeps s (define_type_op s)
 define_type_op-keeps s =
@@ -281,19 +283,58 @@ obey-gives s t word.DefineTypeOp h e = extended s t h (define_type_op-keeps s t 
 obey-gives s t word.Axiom h e = extended s t h (axiom_word-keeps s t e)
 obey-gives s t word.Thm h e = thm-gives s h t e
 
+obey_item-gives : (s t : State) (i : Item) → HasRestated s → obey_item s i ≡ Ok t → HasRestated t
+obey_item-gives s t (item.Number z) h e = extended s t h (Keeps-same s _ refl refl t e)
+obey_item-gives s t (item.Name n) h e = extended s t h (Keeps-same s _ refl refl t e)
+obey_item-gives s t (item.Word w) h e = obey-gives s t w h e
+
+second_word-gives : (s t : State) (w : Word) → HasRestated s → second_word s w ≡ Ok t → HasRestated t
+second_word-gives s t word.Version h e = extended s t h (Keeps-same s _ refl refl t e)
+second_word-gives s t word.Nil h e = obey-gives (in_body Five s) t word.Nil h e
+second_word-gives s t word.Cons h e = obey-gives (in_body Five s) t word.Cons h e
+second_word-gives s t word.HdTl h e = obey-gives (in_body Five s) t word.HdTl h e
+second_word-gives s t word.TypeOp h e = obey-gives (in_body Five s) t word.TypeOp h e
+second_word-gives s t word.VarType h e = obey-gives (in_body Five s) t word.VarType h e
+second_word-gives s t word.OpType h e = obey-gives (in_body Five s) t word.OpType h e
+second_word-gives s t word.Const h e = obey-gives (in_body Five s) t word.Const h e
+second_word-gives s t word.ConstTerm h e = obey-gives (in_body Five s) t word.ConstTerm h e
+second_word-gives s t word.Var h e = obey-gives (in_body Five s) t word.Var h e
+second_word-gives s t word.VarTerm h e = obey-gives (in_body Five s) t word.VarTerm h e
+second_word-gives s t word.AppTerm h e = obey-gives (in_body Five s) t word.AppTerm h e
+second_word-gives s t word.AbsTerm h e = obey-gives (in_body Five s) t word.AbsTerm h e
+second_word-gives s t word.Def h e = obey-gives (in_body Five s) t word.Def h e
+second_word-gives s t word.Ref h e = obey-gives (in_body Five s) t word.Ref h e
+second_word-gives s t word.Remove h e = obey-gives (in_body Five s) t word.Remove h e
+second_word-gives s t word.Pop h e = obey-gives (in_body Five s) t word.Pop h e
+second_word-gives s t word.Pragma h e = obey-gives (in_body Five s) t word.Pragma h e
+second_word-gives s t word.Refl h e = obey-gives (in_body Five s) t word.Refl h e
+second_word-gives s t word.Assume h e = obey-gives (in_body Five s) t word.Assume h e
+second_word-gives s t word.EqMp h e = obey-gives (in_body Five s) t word.EqMp h e
+second_word-gives s t word.AbsThm h e = obey-gives (in_body Five s) t word.AbsThm h e
+second_word-gives s t word.AppThm h e = obey-gives (in_body Five s) t word.AppThm h e
+second_word-gives s t word.DeductAntisym h e = obey-gives (in_body Five s) t word.DeductAntisym h e
+second_word-gives s t word.BetaConv h e = obey-gives (in_body Five s) t word.BetaConv h e
+second_word-gives s t word.Sym h e = obey-gives (in_body Five s) t word.Sym h e
+second_word-gives s t word.Trans h e = obey-gives (in_body Five s) t word.Trans h e
+second_word-gives s t word.ProveHyp h e = obey-gives (in_body Five s) t word.ProveHyp h e
+second_word-gives s t word.Subst h e = obey-gives (in_body Five s) t word.Subst h e
+second_word-gives s t word.DefineConst h e = obey-gives (in_body Five s) t word.DefineConst h e
+second_word-gives s t word.DefineConstList h e = obey-gives (in_body Five s) t word.DefineConstList h e
+second_word-gives s t word.DefineTypeOp h e = obey-gives (in_body Five s) t word.DefineTypeOp h e
+second_word-gives s t word.Axiom h e = obey-gives (in_body Five s) t word.Axiom h e
+second_word-gives s t word.Thm h e = obey-gives (in_body Five s) t word.Thm h e
+
 step_at-gives : (s t : State) (p : Place) (i : Item) → HasRestated s → step_at p s i ≡ Ok t → HasRestated t
-step_at-gives s t start (item.Number z) h e = extended s t h (Keeps-bind s (demand (int_eq z (pos 6)) VersionPlace) _ (Keeps-same s _ refl refl) t e)
-step_at-gives s t start (item.Name n) h e = absurd (cc)
-step_at-gives s t start (item.Word w) h e = absurd (cc)
-step_at-gives s t version (item.Number z) h e = absurd (cc)
-step_at-gives s t version (item.Name n) h e = absurd (cc)
-step_at-gives s t version (item.Word w) h e = extended s t h (Keeps-bind s (demand (is_version w) VersionPlace) _ (Keeps-same s _ refl refl) t e)
-step_at-gives s t body (item.Number z) h e = extended s t h (Keeps-same s _ refl refl t e)
-step_at-gives s t body (item.Name n) h e = extended s t h (Keeps-same s _ refl refl t e)
-step_at-gives s t body (item.Word w) h e = obey-gives s t w h e
+step_at-gives s t start (item.Number z) h e = extended s t h (Keeps-same s _ refl refl t e)
+step_at-gives s t start (item.Name n) h e = obey_item-gives (in_body Five s) t (item.Name n) h e
+step_at-gives s t start (item.Word w) h e = obey_item-gives (in_body Five s) t (item.Word w) h e
+step_at-gives s t version (item.Number z) h e = obey_item-gives (in_body Five s) t (item.Number z) h e
+step_at-gives s t version (item.Name n) h e = obey_item-gives (in_body Five s) t (item.Name n) h e
+step_at-gives s t version (item.Word w) h e = second_word-gives s t w h e
+step_at-gives s t (body v) i h e = obey_item-gives s t i h e
 
 finish-gives : (s t : State) → HasRestated s → finish s ≡ Ok t → HasRestated t
-finish-gives s t h e = extended s t h (Keeps-bind s (demand (is_body s.place) VersionPlace) _ (Keeps-same s _ refl refl) t e)
+finish-gives s t h e = extended s t h (Keeps-same s _ refl refl t e)
 
 abbrev RestatesExports : Accepted → Type 0
 RestatesExports a = AllByRecursion (IsRestated a.made) a.exports

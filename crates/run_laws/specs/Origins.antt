@@ -1,4 +1,4 @@
--- Where each item of a run comes from: a symbol that was taken or a step that was made; and what its name is.
+-- Where each item of a run comes from: a symbol that was taken, a step that was made, or a type definition; and what its name is.
 use Rattle.std.proofs.Common.{map, ◌≡◌, ℕ, ◌+◌, List, [], ◌∷◌, ◌++◌, length, Some, slice_get, inl, inr, refl, sym, ap, subst, ◌∙◌, append_assoc}
 use Rattle.std.proofs.lemmas.List.{append-nil, length-append}
 use Rattle.hol_spec.specs.Sequents.{Sequent}

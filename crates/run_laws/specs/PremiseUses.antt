@@ -15,8 +15,8 @@ use Rattle.hol_spec.specs.Lists.{IsIn}
 use Rattle.hol_laws.specs.Members.{IsIn-right}
 use Rattle.lp_spec.specs.Trees.{Tree, Sym, Lam, App, Var}
 use Rattle.lp_spec.specs.Modules.{applied, term_of, proof_of, eq_mp_symbol, fun_ext_symbol, app_thm_symbol, prop_ext_symbol, sub_abs_rep_symbol, sub_rep_abs_symbol, types}
-use Rattle.module_spec.specs.Scopes.{Symbols, Scope, type_tree, term_tree, under_term, under_proof, set_proof, images, lifted}
-use Rattle.module_spec.specs.ProofTrees.{sym_symbol, trans_symbol, premise_tree, prove_hyp_tree, constants_scope, part_tree, law_tree, part_arguments_of, witness, predicate}
+use Rattle.module_spec.specs.Scopes.{Symbols, Scope, type_tree, term_tree, under_term, under_proof, set_proof, images, lifted, filled}
+use Rattle.module_spec.specs.ProofTrees.{sym_symbol, trans_symbol, premise_tree, prove_hyp_tree, constants_scope, part_tree, law_tree, part_arguments_of, witness, predicate, first_law_free_tree, second_law_free_tree}
 use Rattle.module_spec.specs.Rows.{proof_tree, equated_type, left_side, right_side, argument_type, result_type, type_or}
 use Rattle.module_spec.specs.Items.{Item}
 use Rattle.module_spec.specs.Stands.{occurs}
@@ -24,8 +24,9 @@ use Rattle.module_laws.specs.ItemConditions.{ArePremisesAmong}
 use Rattle.run_laws.specs.Uses.{head-occurs, argument-occurs}
 use Rattle.hol_spec.specs.Types.{HolType}
 use Rattle.hol_spec.specs.NewTypes.{new_type}
-use Rattle.hol_spec.specs.TypeDefinitions.{abstracted, represented}
+use Rattle.hol_spec.specs.TypeDefinitions.{abstracted, represented, new_variable, old_variable}
 use Rattle.hol_spec.specs.Primitives.{bool}
+use Rattle.hol_spec.specs.Definitions.{TypeNames}
 
 -- the premise that proves a hypothesis proves one of the other premise
 abbrev pub ProvesHypothesis : StepKind → List Sequent → Type 0
@@ -96,6 +97,20 @@ module _ (j : ℕ) where
         within fun_ext_symbol (type_tree symbols scope.types b ∷ type_tree symbols scope.types d ∷ term_tree symbols scope (lam b t) ∷ term_tree symbols scope (lam b u) ∷ Lam D (App part (Var 0)) ∷ [])
         (Lam D (App part (Var 0))) (inr (inr (inr (inr (inl refl))))) (under_lam D (App part (Var 0)) (ap (λ x. x || occurs j (Var 0)) (part-used (lifted scope) s c a one same)))
 
+    -- and so do the laws in version 5
+    first-used : (names : TypeNames) (c : HolType) (a : ℕ) (one : Sequent) → IsIn (a ∷ []) j → occurs j (first_law_free_tree symbols scope names c (a, one)) ≡ true
+    first-used names c a one (inr none) = absurd none
+    first-used names c a one (inl same) = ap (λ b. b || occurs j (term_tree symbols scope (new_variable names))) (part-used (filled symbols scope.types) sub_abs_rep_symbol c a one same)
+
+    second-used : (names : TypeNames) (c : HolType) (a : ℕ) (one : Sequent) → IsIn (a ∷ []) j → occurs j (second_law_free_tree symbols scope names c (a, one)) ≡ true
+    second-used names c a one (inr none) = absurd none
+    second-used names c a one (inl same) =
+        let x = term_tree symbols scope (old_variable c) in
+        let last = App (part_tree symbols (filled symbols scope.types) sub_rep_abs_symbol c (a, one)) x in
+        within sym_symbol
+        (type_tree symbols scope.types bool ∷ term_tree symbols scope (equation c (represented names c (abstracted names c (old_variable c))) (old_variable c)) ∷ term_tree symbols scope (app (predicate one.conclusion) (old_variable c)) ∷ last ∷ [])
+        last (inr (inr (inr (inl refl)))) (ap (λ b. b || occurs j x) (part-used (filled symbols scope.types) sub_rep_abs_symbol c a one same))
+
     -- THE PROOF OF A STEP USES ITS PREMISES
     pub premises-used : (before : List Item) (kind : StepKind) (js : List ℕ) (premises : List Sequent) (given : Parameters) (s : Sequent) → Rule kind premises given s → ArePremisesAmong before js premises → ProvesHypothesis kind premises → Uses kind premises given js
     premises-used before kind js premises given s (rule.refl h e) among used = none before kind given js among
@@ -110,6 +125,12 @@ module _ (j : ℕ) where
         let w = one-premise before js one among in
         let c = type_or (witness one.conclusion) in
         subst (Uses kind premises given) (sym w.1) (law-used c bool (equation c (represented names c (abstracted names c (bound 0))) (bound 0)) (app (predicate one.conclusion) (bound 0)) sub_rep_abs_symbol c w.0 one)
+    premises-used before kind js premises given s (rule.first_law_free {names = names} {one = one} d e) among used =
+        let w = one-premise before js one among in
+        subst (Uses kind premises given) (sym w.1) (first-used names (type_or (witness one.conclusion)) w.0 one)
+    premises-used before kind js premises given s (rule.second_law_free {names = names} {one = one} d e) among used =
+        let w = one-premise before js one among in
+        subst (Uses kind premises given) (sym w.1) (second-used names (type_or (witness one.conclusion)) w.0 one)
     premises-used before kind js premises given s (rule.eq_mp {one = one} {two = two} e p i) among used =
         let w = two-premises before js one two among in
         let xs : List Tree = term_tree symbols scope (left_side one.conclusion) ∷ term_tree symbols scope (right_side one.conclusion) ∷ premise_tree scope (w.0, one) ∷ premise_tree scope (w.1, two) ∷ [] in

@@ -1,6 +1,7 @@
 pub mod ApartNames
 pub mod ClosedTexts
 pub mod DefinedConstant
+pub mod FreeDefinition
 pub mod HeadStep
 pub mod ListedConstants
 pub mod MergedHypotheses

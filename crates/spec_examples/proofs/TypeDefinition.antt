@@ -1,5 +1,6 @@
 -- A type definition: of |- (\r. r = r) g, for r and g of a -> b, the type two over b and a, its constants mk and dest, and its first law
 -- with its proof.
+use Rattle.hol_spec.specs.declared.Version.TheVariants.{Six}
 use Rattle.std.proofs.Common.{◌≡◌, ℕ, [], ◌∷◌, ◌++◌, length, refl, arith, codes}
 use Rattle.std.specs.Prelude.{is_none}
 use Rattle.std.specs.List.{filter}
@@ -21,17 +22,17 @@ use Rattle.module_spec.specs.Image.{image}
 use Rattle.module_spec.specs.Numerals.{numeral}
 use Rattle.spec_examples.proofs.SmallRuns.{name, infers, assumes, exports, theorem, definition, own_lines, next, assumed, exported, alone}
 
-abbrev names : TypeNames
+abbrev pub names : TypeNames
 names = record { operator = name (codes "two"); abstraction = name (codes "mk"); representation = name (codes "dest"); variables = name (codes "b") ∷ name (codes "a") ∷ [] }
 
-abbrev functions : HolType
+abbrev pub functions : HolType
 functions = function (variable (name (codes "a"))) (variable (name (codes "b")))
 
 -- \r. r = r
-abbrev holds : Term
+abbrev pub holds : Term
 holds = lam functions (equation functions (bound 0) (bound 0))
 
-abbrev one_holds : Sequent
+abbrev pub one_holds : Sequent
 one_holds = derived [] (app holds (free (name (codes "g")) functions))
 
 abbrev first : Sequent
@@ -40,12 +41,12 @@ first = first_law names functions
 abbrev second : Sequent
 second = second_law names functions holds
 
-abbrev defines : Made
+abbrev pub defines : Made
 defines = Made.type_definition names functions holds 0
 
 abbrev run : Accepted
 run = record {
-  made = assumes one_holds ∷ defines ∷ infers FirstLaw (0 ∷ []) (Parameters.type_operator names) first ∷ infers SecondLaw (0 ∷ []) (Parameters.type_operator names) second ∷ exports 1 first ∷ [];
+  made = assumes one_holds ∷ defines ∷ infers FirstLaw (0 ∷ []) (Parameters.type_operator names Six) first ∷ infers SecondLaw (0 ∷ []) (Parameters.type_operator names Six) second ∷ exports 1 first ∷ [];
   assumptions = 0 ∷ [];
   exports = 3 ∷ [];
 }
@@ -111,7 +112,7 @@ its_lines : own_lines run
 unfolding digits numeral
 its_lines = refl
 
-is_a_definition : IsTypeDefinition names functions holds one_holds
+pub is_a_definition : IsTypeDefinition names functions holds one_holds
 is_a_definition = record { witness = free (name (codes "g")) functions; no_hypotheses = refl; holds = refl; typed = refl; closed = refl; variables = refl }
 
 is_a_proof : IsProof run.made
@@ -119,8 +120,8 @@ is_a_proof =
     let one = next (assumes one_holds) Each.empty (assumed _ one_holds (alone _ refl)) in
     let two = next defines one (record { one = one_holds; at = refl; defines = is_a_definition; taken = Takes.type_operator (record { operator = refl; abstraction = refl; representation = refl; apart = refl }) refl refl refl }) in
     let of_it : IsOfDefinition (assumes one_holds ∷ defines ∷ []) names (0 ∷ []) = record { c = functions; f = holds; number = 0; among = (1, (omega arith, refl)); is = refl } in
-    let three = next (infers FirstLaw (0 ∷ []) (Parameters.type_operator names) first) two
+    let three = next (infers FirstLaw (0 ∷ []) (Parameters.type_operator names Six) first) two
     (record { premises = one_holds ∷ []; earlier = (refl, tt); follows = record { rule = Rule.first_law is_a_definition refl; defined = ((0, (omega arith, refl)), tt) }; law = of_it }) in
-    let four = next (infers SecondLaw (0 ∷ []) (Parameters.type_operator names) second) three
+    let four = next (infers SecondLaw (0 ∷ []) (Parameters.type_operator names Six) second) three
     (record { premises = one_holds ∷ []; earlier = (refl, tt); follows = record { rule = Rule.second_law is_a_definition refl; defined = ((0, (omega arith, refl)), tt) }; law = record { c = functions; f = holds; number = 0; among = (1, (omega arith, refl)); is = refl } }) in
     next (exports 1 first) four (exported _ 1 first refl (alone _ refl) refl)

@@ -15,6 +15,7 @@
 //! | `NewerConstant`, `ListedConstants` | a constant that stands for an older one, and a list of constants |
 //! | `TypeDefinition` | a type definition: its operator and its constants as parts of its type, and its first law with its proof |
 //! | `ProofRows` | two runs as proofs, and what their steps say derives |
+//! | `FreeDefinition` | the same type definition in an article of version 5 |
 //! | `Reasons` | why the other declarations may have no body: inputs |
 //! | `WhatWasRead` | what was read of a shelf that tells its files, and of one that doesn't, and how an answer comes of it |
 //! | `ClosedTexts` | small sequents as `show` prints them |

@@ -1,6 +1,6 @@
 -- Wherever a body of a run's module uses a declaration whose type stands for a closed sequent, it applies it to exactly as many arguments
 -- as the sequent has parameters: what vanishes is filled, and hypotheses that became one are passed for each that they were.
-use Rattle.std.proofs.Common.{◌≡◌, ℕ, zero, suc, ◌+◌, ◌≤◌, inl, inr, List, [], ◌∷◌, map, length, Bool, true, false, cond, Some, slice_get, refl, sym, ap, subst, ◌∙◌, arith}
+use Rattle.std.proofs.Common.{◌≡◌, ℕ, zero, suc, ◌+◌, ◌<◌, ◌≤◌, inl, inr, List, [], ◌∷◌, map, length, Bool, true, false, cond, Some, slice_get, refl, sym, ap, subst, ◌∙◌, arith}
 use Rattle.article_spec.specs.Run.{accepted, Run}
 use Rattle.hol_spec.specs.Names.{Name}
 use Rattle.hol_spec.specs.NameEquality.{name_eq}
@@ -184,7 +184,7 @@ module _ (xs : List Item) (made : AreMade [] xs) (j : ℕ) (e : Declaration) (cl
   )
 
   -- what a type definition makes
-  part-applied : (before : List Item) → ((x : Item) → IsIn before x → IsIn xs x) → (names : List Name) (r : ℕ) → r ≤ 17 → (c : HolType) (i : ℕ) (one : Sequent) → ArePremisesAmong before (i ∷ []) (one ∷ []) → (t : Tree)
+  part-applied : (before : List Item) → ((x : Item) → IsIn before x → IsIn xs x) → (names : List Name) (r : ℕ) → r < length signature → (c : HolType) (i : ℕ) (one : Sequent) → ArePremisesAmong before (i ∷ []) (one ∷ []) → (t : Tree)
       → Some (part_definition_tree symbols names r c i one) ≡ Some t → IsAppliedTo s n 0 t
   part-applied before among names r l c i one h t b =
       let scope = under_types names unfilled in

@@ -1,5 +1,6 @@
 -- The proof of a step applies each premise to as many arguments as the premise's sequent has parameters, row by row.
-use Rattle.std.proofs.Common.{◌≡◌, ℕ, ◌+◌, ◌≤◌, List, [], ◌∷◌, ◌++◌, map, length, ◌∙◌, arith}
+use Rattle.hol_spec.specs.declared.Version.TheVariants.{Five, Six}
+use Rattle.std.proofs.Common.{◌≡◌, ℕ, ◌+◌, ◌<◌, List, [], ◌∷◌, ◌++◌, map, length, ◌∙◌, arith}
 use Rattle.std.proofs.lemmas.List.{length-append, length-map}
 use Rattle.hol_spec.specs.Types as type
 use Rattle.hol_spec.specs.Types.{HolType}
@@ -13,15 +14,16 @@ use Rattle.hol_spec.specs.declared.StepKind.{StepKind}
 use Rattle.hol_spec.specs.declared.StepKind.TheVariants as kinds
 use Rattle.hol_laws.specs.Members.{All-append, All-mapped, All-each}
 use Rattle.lp_spec.specs.Trees.{Tree, Sym, Lam, Var, App}
-use Rattle.lp_spec.specs.Modules.{term_of, proof_of, fun_ext_symbol, app_thm_symbol, prop_ext_symbol, eq_mp_symbol, types}
-use Rattle.module_spec.specs.Scopes.{Symbols, type_tree, Scope, term_tree, under_term, under_proof, set_proof, images, lifted}
-use Rattle.module_spec.specs.ProofTrees.{sym_symbol, trans_symbol, Premise, premise_tree, refl_tree, eq_mp_tree, abs_tree, fun_ext_tree, app_thm_tree, prop_ext_tree, sym_tree, trans_tree, prove_hyp_tree, self_proof, constants_scope, predicate, witness, part_tree, law_tree, part_arguments_of, first_law_tree, second_law_tree}
+use Rattle.lp_spec.specs.Modules.{signature, term_of, proof_of, fun_ext_symbol, app_thm_symbol, prop_ext_symbol, eq_mp_symbol, types, sub_rep_abs_symbol}
+use Rattle.module_spec.specs.Scopes.{Symbols, type_tree, Scope, term_tree, under_term, under_proof, set_proof, images, lifted, filled}
+use Rattle.module_spec.specs.ProofTrees.{sym_symbol, trans_symbol, Premise, premise_tree, refl_tree, eq_mp_tree, abs_tree, fun_ext_tree, app_thm_tree, prop_ext_tree, sym_tree, trans_tree, prove_hyp_tree, self_proof, constants_scope, predicate, witness, part_tree, law_tree, part_arguments_of, first_law_tree, second_law_tree, first_law_free_tree, second_law_free_tree}
 use Rattle.module_spec.specs.Rows.{equated_type, left_side, right_side, argument_type, result_type, contracted, of_one, of_two, type_or, proof_tree}
 use Rattle.standing_laws.specs.PlaceCounts.{IsAppliedTo, lacking-applied, applied-applied}
-use Rattle.standing_laws.specs.LackingTrees.{IsApart, ScopeApplies, unlike, term_of-lacks, proof_of-lacks, type_tree-lacks, term_tree-lacks, under_term-applies, under_proof-applies, set_proof-applies, images-applies, lifted-applies}
+use Rattle.standing_laws.specs.LackingTrees.{IsApart, ScopeApplies, unlike, term_of-lacks, proof_of-lacks, type_tree-lacks, term_tree-lacks, under_term-applies, under_proof-applies, set_proof-applies, images-applies, lifted-applies, filled-applies}
 use Rattle.hol_spec.specs.NewTypes.{new_type}
-use Rattle.hol_spec.specs.TypeDefinitions.{abstracted, represented}
+use Rattle.hol_spec.specs.TypeDefinitions.{abstracted, represented, new_variable, old_variable}
 use Rattle.hol_spec.specs.Primitives.{bool}
+use Rattle.hol_spec.specs.Definitions.{TypeNames}
 
 -- a premise with this symbol has n parameters
 abbrev pub Fits : ℕ → ℕ → Premise → Type 0
@@ -80,11 +82,11 @@ module _ (symbols : Symbols) (s n : ℕ) (counted : IsCounted symbols s n) where
       (All-mapped Right scope.proofs q.hypotheses (All-each _ q.hypotheses (λ p i. h.proofs p))))
 
   -- what isn't s is applied to any number of arguments
-  other-right : (r k : ℕ) → r ≤ 17 → IsAppliedTo s n k (Sym r)
+  other-right : (r k : ℕ) → r < length signature → IsAppliedTo s n k (Sym r)
   other-right r k l e = absurd (unlike symbols s counted.apart r l e)
 
   -- A PART, at so many arguments more
-  pub part-right : (scope : Scope) → Applies scope → (k r : ℕ) → r ≤ 17 → (c : HolType) (one : Premise) → Fits s n one → IsAppliedTo s n k (part_tree symbols scope r c one)
+  pub part-right : (scope : Scope) → Applies scope → (k r : ℕ) → r < length signature → (c : HolType) (one : Premise) → Fits s n one → IsAppliedTo s n k (part_tree symbols scope r c one)
   part-right scope h k r l c one fits =
       applied-applied s n k (Sym r) (part_arguments_of symbols scope c one) (other-right r _ l)
       (ty-right scope h c, (tm-right scope h (predicate one.1.conclusion), (tm-right scope h (witness one.1.conclusion), (premise-right scope h one fits, tt {0}))))
@@ -163,7 +165,7 @@ module _ (symbols : Symbols) (s n : ℕ) (counted : IsCounted symbols s n) where
         let i = images-applies symbols s counted.apart n [] terms scope h in record { types = i.types; terms = i.terms; proofs = self-right; bounds = i.bounds }
 
     -- A LAW
-    law-right : (a b : HolType) (t u : Term) (r : ℕ) → r ≤ 17 → (c : HolType) (one : Premise) → Fits s n one → Right (law_tree symbols scope a b t u r c one)
+    law-right : (a b : HolType) (t u : Term) (r : ℕ) → r < length signature → (c : HolType) (one : Premise) → Fits s n one → Right (law_tree symbols scope a b t u r c one)
     law-right a b t u r l c one fits =
         let A = type_tree symbols scope.types a in
         applied-applied s n 0 (Sym fun_ext_symbol)
@@ -180,6 +182,18 @@ module _ (symbols : Symbols) (s n : ℕ) (counted : IsCounted symbols s n) where
             ),
           ),
         )
+
+    -- the laws in version 5
+    first-right : (names : TypeNames) (c : HolType) (one : Premise) → Fits s n one → Right (first_law_free_tree symbols scope names c one)
+    first-right names c one fits = (part-right (filled symbols scope.types) (filled-applies symbols s counted.apart n scope.types h.types) 1 16 (omega arith) c one fits, tm-of (new_variable names))
+
+    second-right : (names : TypeNames) (c : HolType) (one : Premise) → Fits s n one → Right (second_law_free_tree symbols scope names c one)
+    second-right names c one fits =
+        let r = old_variable c in
+        let x = term.equation c (represented names c (abstracted names c r)) r in
+        let y = term.Term.app (predicate one.1.conclusion) r in
+        applied-applied s n 0 (Sym sym_symbol) (type_tree symbols scope.types bool ∷ term_tree symbols scope x ∷ term_tree symbols scope y ∷ App (part_tree symbols (filled symbols scope.types) sub_rep_abs_symbol c one) (term_tree symbols scope r) ∷ []) (λ e. counted.symmetry e)
+        (ty-of bool, (tm-of x, (tm-of y, ((part-right (filled symbols scope.types) (filled-applies symbols s counted.apart n scope.types h.types) 1 17 (omega arith) c one fits, tm-of r), tt {0}))))
 
     -- one premise, and two
     one-right : (row : Premise → Tree) → ((one : Premise) → Fits s n one → Right (row one)) → (js : List ℕ) (qs : List Sequent) → AllFit s n js qs → Right (of_one row js qs)
@@ -225,13 +239,17 @@ module _ (symbols : Symbols) (s n : ℕ) (counted : IsCounted symbols s n) where
         (λ one. premise-right (constants_scope symbols scope (constants_put pairs)) (constants-apply (constants_put pairs)) one) js qs fit
     proof-right kinds.DefineConstList js qs g fit = one-right (λ one. Sym 0) (λ one f. no_row) js qs fit
     proof-right kinds.Axiom js qs g fit = no_row
-    proof-right kinds.FirstLaw js qs (Parameters.type_operator names) fit =
+    proof-right kinds.FirstLaw js qs (Parameters.type_operator names Six) fit =
         one-right (λ one. first_law_tree symbols scope names (type_or (witness one.1.conclusion)) one)
         (λ one. let c = type_or (witness one.1.conclusion) in
         law-right (new_type names) (new_type names) (abstracted names c (represented names c (term.Term.bound 0))) (term.Term.bound 0) 16 (omega arith) c one) js qs fit
+    proof-right kinds.FirstLaw js qs (Parameters.type_operator names Five) fit =
+        one-right (λ one. first_law_free_tree symbols scope names (type_or (witness one.1.conclusion)) one) (λ one. first-right names (type_or (witness one.1.conclusion)) one) js qs fit
     proof-right kinds.FirstLaw js qs g fit = one-right (λ one. Sym 0) (λ one f. no_row) js qs fit
-    proof-right kinds.SecondLaw js qs (Parameters.type_operator names) fit =
+    proof-right kinds.SecondLaw js qs (Parameters.type_operator names Six) fit =
         one-right (λ one. second_law_tree symbols scope names (type_or (witness one.1.conclusion)) one)
         (λ one. let c = type_or (witness one.1.conclusion) in
         law-right c bool (term.equation c (represented names c (abstracted names c (term.Term.bound 0))) (term.Term.bound 0)) (term.Term.app (predicate one.1.conclusion) (term.Term.bound 0)) 17 (omega arith) c one) js qs fit
+    proof-right kinds.SecondLaw js qs (Parameters.type_operator names Five) fit =
+        one-right (λ one. second_law_free_tree symbols scope names (type_or (witness one.1.conclusion)) one) (λ one. second-right names (type_or (witness one.1.conclusion)) one) js qs fit
     proof-right kinds.SecondLaw js qs g fit = one-right (λ one. Sym 0) (λ one f. no_row) js qs fit

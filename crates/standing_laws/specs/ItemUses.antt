@@ -1,4 +1,5 @@
 -- The declaration of an item uses the symbol of each key that the item needs, or a constant whose generic type mentions it.
+use Rattle.hol_spec.specs.declared.Version.TheVariants.{Five, Six}
 use Rattle.std.proofs.Common.{◌≡◌, ℕ, List, [], ◌∷◌, ◌++◌, map, true, false, ◌⊎◌, Some, inl, inr, refl, sym, ap, subst, ◌∙◌}
 use Rattle.std.specs.Prelude.{nat_eq, length}
 use Rattle.std.specs.Cmp.{unsigned_Decides}
@@ -15,7 +16,7 @@ use Rattle.hol_spec.specs.TermSubstitution.{term_image}
 use Rattle.hol_laws.specs.TermInstances.{substitute-nothing}
 use Rattle.hol_spec.specs.DefinitionLists.{ConstantPairs, is_definition_list, constants_put}
 use Rattle.hol_spec.specs.Sequents.{Sequent, type_variables_of, free_variables_of}
-use Rattle.hol_spec.specs.Rules.{Rule, Parameters, derived}
+use Rattle.hol_spec.specs.Rules.{Rule, Parameters}
 use Rattle.hol_spec.specs.Rules as rule
 use Rattle.hol_spec.specs.declared.StepKind.{StepKind}
 use Rattle.hol_spec.specs.declared.StepKind.TheVariants as kinds
@@ -26,7 +27,7 @@ use Rattle.lp_spec.specs.Trees.{Tree, Sym}
 use Rattle.lp_spec.specs.Modules.{Declaration, abstractions, types, term_of, sub_symbol, sub_abs_symbol, sub_rep_symbol}
 use Rattle.module_spec.specs.Scopes.{Symbols, constant_symbol, generic_type, generic_tree, type_tree, under_types, unfilled, filled, Scope, term_tree, scope_of, domains_of}
 use Rattle.module_spec.specs.ProofTrees.{constants_scope, part_tree, part_arguments_of}
-use Rattle.module_spec.specs.Rows.{has_row, proof_tree}
+use Rattle.module_spec.specs.Rows.{proof_tree}
 use Rattle.module_spec.specs.Items.{Content, operator, constant, defined_constant, type_operator, type_abstraction, type_representation, unproved, step, Item, declaration_of, symbols_of, part_definition_tree}
 use Rattle.module_spec.specs.Reach.{Key, constant_key, number_key, type_keys, term_keys, sequent_keys, given_keys, needs, operator_key}
 use Rattle.module_spec.specs.Stands.{occurs, uses}
@@ -39,7 +40,7 @@ use Rattle.standing_laws.specs.ModuleItems.{has-told, has-among, term-instances,
 use Rattle.standing_laws.specs.ListedVariables.{listed-free, listed-variable, constant-put, put-from}
 use Rattle.hol_spec.specs.Definitions.{TypeNames}
 use Rattle.hol_spec.specs.NewTypes.{new_type, abstraction_type, representation_type}
-use Rattle.hol_spec.specs.TypeDefinitions.{abstracted, represented, first_law, second_law}
+use Rattle.hol_spec.specs.TypeDefinitions.{abstracted, represented, first_law, second_law, new_variable, old_variable, first_law_free, second_law_free}
 use Rattle.hol_laws.specs.TypeLaws.{count-variables}
 
 -- the premise that proves a hypothesis proves one of the other premise
@@ -180,19 +181,19 @@ module _ (xs : List Item) (made : AreMade [] xs) (before : List Item) (among : (
       let e : List Key = term_keys (term.Term.constant equality_name (equality_type a)) in
       IsIn-left (e ++ term_keys x) (term_keys y) k (IsIn-right e (term_keys x) k i)
 
-  first-keys : (names : TypeNames) (c : HolType) → IsIn (given_keys (Parameters.type_operator names)) k → IsIn (sequent_keys (first_law names c)) k
+  first-keys : (names : TypeNames) (c : HolType) → IsIn (given_keys (Parameters.type_operator names Six)) k → IsIn (sequent_keys (first_law names c)) k
   first-keys names c i = left-side (function (new_type names) (new_type names)) (term.Term.lam (new_type names) inside) (term.Term.lam (new_type names) (term.Term.bound 0)) (go i)
     where
       inside : Term
       inside = abstracted names c (represented names c (term.Term.bound 0))
 
-      go : IsIn (given_keys (Parameters.type_operator names)) k → IsIn (type_keys (new_type names) ++ term_keys inside) k
+      go : IsIn (given_keys (Parameters.type_operator names Six)) k → IsIn (type_keys (new_type names) ++ term_keys inside) k
       go (inl e) = IsIn-left (type_keys (new_type names)) (term_keys inside) k (operator-in names e)
       go (inr (inl e)) = IsIn-right (type_keys (new_type names)) (term_keys inside) k (abstracted-in names c (represented names c (term.Term.bound 0)) e)
       go (inr (inr (inl e))) = IsIn-right (type_keys (new_type names)) (term_keys inside) k (within-abstracted names c (represented names c (term.Term.bound 0)) (represented-in names c (term.Term.bound 0) e))
       go (inr (inr (inr n))) = absurd n
 
-  second-keys : (names : TypeNames) (c : HolType) (f : Term) → IsIn (given_keys (Parameters.type_operator names)) k → IsIn (sequent_keys (second_law names c f)) k
+  second-keys : (names : TypeNames) (c : HolType) (f : Term) → IsIn (given_keys (Parameters.type_operator names Six)) k → IsIn (sequent_keys (second_law names c f)) k
   second-keys names c f i =
       left-side (function c bool) (term.Term.lam c (equation c undone (term.Term.bound 0))) (term.Term.lam c (term.Term.app f (term.Term.bound 0)))
       (IsIn-right (type_keys c) (term_keys (equation c undone (term.Term.bound 0))) k (left-side c undone (term.Term.bound 0) (go i)))
@@ -200,10 +201,44 @@ module _ (xs : List Item) (made : AreMade [] xs) (before : List Item) (among : (
       undone : Term
       undone = represented names c (abstracted names c (term.Term.bound 0))
 
-      go : IsIn (given_keys (Parameters.type_operator names)) k → IsIn (term_keys undone) k
+      go : IsIn (given_keys (Parameters.type_operator names Six)) k → IsIn (term_keys undone) k
       go (inl e) = inr (inr (IsIn-left (type_keys (new_type names) ++ (type_keys c ++ [])) (term_keys (abstracted names c (term.Term.bound 0))) k (IsIn-left (type_keys (new_type names)) (type_keys c ++ []) k (operator-in names e))))
       go (inr (inl e)) = within-represented names c (abstracted names c (term.Term.bound 0)) (abstracted-in names c (term.Term.bound 0) e)
       go (inr (inr (inl e))) = represented-in names c (abstracted names c (term.Term.bound 0)) e
+      go (inr (inr (inr n))) = absurd n
+
+  right-side : (a : HolType) (x y : Term) → IsIn (term_keys y) k → IsIn (term_keys (equation a x y)) k
+  right-side a x y i = IsIn-right (term_keys (term.Term.constant equality_name (equality_type a)) ++ term_keys x) (term_keys y) k i
+
+  -- and in version 5
+  first_free-keys : (names : TypeNames) (c : HolType) → IsIn (given_keys (Parameters.type_operator names Five)) k → IsIn (sequent_keys (first_law_free names c)) k
+  first_free-keys names c i = left-side (new_type names) inside v (go i)
+    where
+      v : Term
+      v = new_variable names
+
+      inside : Term
+      inside = abstracted names c (represented names c (new_variable names))
+
+      go : IsIn (given_keys (Parameters.type_operator names Five)) k → IsIn (term_keys inside) k
+      go (inl e) = inr (inr (IsIn-left (type_keys c ++ (type_keys (new_type names) ++ [])) (term_keys (represented names c v)) k (IsIn-right (type_keys c) (type_keys (new_type names) ++ []) k (IsIn-left (type_keys (new_type names)) [] k (operator-in names e)))))
+      go (inr (inl e)) = abstracted-in names c (represented names c v) e
+      go (inr (inr (inl e))) = within-abstracted names c (represented names c v) (represented-in names c v e)
+      go (inr (inr (inr n))) = absurd n
+
+  second_free-keys : (names : TypeNames) (c : HolType) (f : Term) → IsIn (given_keys (Parameters.type_operator names Five)) k → IsIn (sequent_keys (second_law_free names c f)) k
+  second_free-keys names c f i = right-side bool (term.Term.app f v) (equation c undone v) (left-side c undone v (go i))
+    where
+      v : Term
+      v = old_variable c
+
+      undone : Term
+      undone = represented names c (abstracted names c (old_variable c))
+
+      go : IsIn (given_keys (Parameters.type_operator names Five)) k → IsIn (term_keys undone) k
+      go (inl e) = inr (inr (IsIn-left (type_keys (new_type names) ++ (type_keys c ++ [])) (term_keys (abstracted names c v)) k (IsIn-left (type_keys (new_type names)) (type_keys c ++ []) k (operator-in names e))))
+      go (inr (inl e)) = within-represented names c (abstracted names c v) (abstracted-in names c v e)
+      go (inr (inr (inl e))) = represented-in names c (abstracted names c v) e
       go (inr (inr (inr n))) = absurd n
 
   -- what a step is given stands in what it says or in its proof
@@ -230,6 +265,8 @@ module _ (xs : List Item) (made : AreMade [] xs) (before : List Item) (among : (
   given-uses kind premises given s (rule.restate h w) js p defines i = absurd i
   given-uses kind premises given s (rule.first_law {names = names} {c = c} d e) js p defines i = inl (subst (λ (q : Sequent). IsIn (sequent_keys q) k) (sym e) (first-keys names c i))
   given-uses kind premises given s (rule.second_law {names = names} {c = c} {f = f} d e) js p defines i = inl (subst (λ (q : Sequent). IsIn (sequent_keys q) k) (sym e) (second-keys names c f i))
+  given-uses kind premises given s (rule.first_law_free {names = names} {c = c} d e) js p defines i = inl (subst (λ (q : Sequent). IsIn (sequent_keys q) k) (sym e) (first_free-keys names c i))
+  given-uses kind premises given s (rule.second_law_free {names = names} {c = c} {f = f} d e) js p defines i = inl (subst (λ (q : Sequent). IsIn (sequent_keys q) k) (sym e) (second_free-keys names c f i))
 
   map-from : (js : List ℕ) → IsIn (map number_key js) k → (j : ℕ) × IsIn js j × (k ≡ number_key j)
   map-from [] i = absurd i

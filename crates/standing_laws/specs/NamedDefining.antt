@@ -1,4 +1,5 @@
 -- The words that define keep the names of a state: what they define is named by name objects.
+use Rattle.hol_spec.specs.declared.Version.{Version}
 use Rattle.std.proofs.Common.{◌≡◌, ℕ, List, [], ◌∷◌, map, length, Option, None, Some, Ok}
 use Rattle.std.specs.Prelude.{not, nat_eq}
 use Rattle.std.specs.Option.{ok_or, option_map}
@@ -12,13 +13,13 @@ use Rattle.hol_spec.specs.Definitions.{Definition, TypeNames}
 use Rattle.hol_spec.specs.NewTypes.{new_type, abstraction_type, representation_type}
 use Rattle.hol_spec.specs.Defining.{is_closed, has_type_variables_of}
 use Rattle.hol_spec.specs.DefinitionLists.{ConstantPairs, names_of, defining_equations, definiens, is_definition_list, definitions_in, constants_put}
-use Rattle.hol_spec.specs.TypeDefinitions.{first_law, second_law}
+use Rattle.hol_spec.specs.TypeDefinitions.{first_law_of, second_law_of}
 use Rattle.hol_spec.specs.Symbols.{Symbol, defined, is_taken_constant}
 use Rattle.hol_spec.specs.Measures.{type_measure, sequent_measure}
 use Rattle.hol_spec.specs.Rules.{Parameters, constants, derived}
 use Rattle.hol_spec.specs.Proofs.{symbols_of, sequent_at}
 use Rattle.hol_spec.specs.declared.StepKind.TheVariants as by_rule
-use Rattle.article_spec.specs.State.{Object, State}
+use Rattle.article_spec.specs.State.{Object, State, version_at}
 use Rattle.article_spec.specs.State as object
 use Rattle.article_spec.specs.Operands.{as_name, as_names, as_term, as_theorem, as_constant_pairs, pop}
 use Rattle.article_spec.specs.Conditions.{demand, in_limits, typed}
@@ -87,14 +88,14 @@ abbrev AreTypeNames : TypeNames → Type 0
 AreTypeNames names = IsName names.operator × IsName names.abstraction × IsName names.representation
 
 -- defineTypeOp: the operator and its two constants have the names that were popped, and two steps are made
-make_type-named : (s t : State) (names : TypeNames) (i : ℕ) (c : HolType) (f : Term) → IsNamedState s → AreTypeNames names → make_type s names i c f ≡ Ok t → IsNamedState t
-make_type-named s t names i c f g h e =
-    let measures = type_measure (new_type names) ∷ type_measure (abstraction_type names c) ∷ type_measure (representation_type names c) ∷ sequent_measure (first_law names c) ∷ sequent_measure (second_law names c f) ∷ [] in
+make_type-named : (version : Version) (s t : State) (names : TypeNames) (i : ℕ) (c : HolType) (f : Term) → IsNamedState s → AreTypeNames names → make_type version s names i c f ≡ Ok t → IsNamedState t
+make_type-named version s t names i c f g h e =
+    let measures = type_measure (new_type names) ∷ type_measure (abstraction_type names c) ∷ type_measure (representation_type names c) ∷ sequent_measure (first_law_of version names c) ∷ sequent_measure (second_law_of version names c f) ∷ [] in
     let limits = passed (in_limits measures) _ t e in
     let stack = object.constant names.representation ∷ object.constant names.abstraction ∷ object.type_operator names.operator ∷ s.stack in
     let u = with_type_definition (with_stack s stack) names c f i in
-    let first = step_by by_rule.FirstLaw (i ∷ []) (Parameters.type_operator names) (first_law names c) in
-    let second = step_by by_rule.SecondLaw (i ∷ []) (Parameters.type_operator names) (second_law names c f) in
+    let first = step_by by_rule.FirstLaw (i ∷ []) (Parameters.type_operator names version) (first_law_of version names c) in
+    let second = step_by by_rule.SecondLaw (i ∷ []) (Parameters.type_operator names version) (second_law_of version names c f) in
     let v = with_theorem u first in
     let named = with_type_definition-named (with_stack s stack) names c f i (record { stack = (h.2, (h.1, (h.0, g.stack))); dictionary = g.dictionary; made = g.made }) h in
     let two = with_step-named v second (record { stack = (tt {0}, named.stack); dictionary = named.dictionary; made = (with_step-named u first named).made }) in
@@ -108,7 +109,7 @@ define_type-named s t names i g h e =
     let alone = passed (demand (nat_eq (length one.hypotheses) 0) NotTheSequent) _ t fits.2 in
     let parts = bound (ok_or (application_parts one.conclusion) NotTheSequent) _ t alone.2 in
     let c = bound (typed parts.0.1) _ t parts.2 in
-    make_type-named s t names i c.0 parts.0.0 g h c.2
+    make_type-named (version_at s.place) s t names i c.0 parts.0.0 g h c.2
 
 pub define_type_op-named : (s t : State) → IsNamedState s → define_type_op s ≡ Ok t → IsNamedState t
 define_type_op-named s t g e =

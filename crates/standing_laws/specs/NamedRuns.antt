@@ -1,11 +1,11 @@
 -- Every accepted run over articles of bytes has names, so its module stands for it.
+use Rattle.hol_spec.specs.declared.Version.TheVariants.{Five}
 use Rattle.std.proofs.Common.{◌≡◌, ℕ, ◌+◌, ℤ, List, [], ◌∷◌, Result, Ok, None, Some, refl, sym, ap, subst, ◌∙◌}
 use Rattle.std.specs.Prelude.{pos, drop}
 use Rattle.std.specs.List.{AllByRecursion}
 use Rattle.std.specs.Ordering.{int_eq, int_cmp}
 use Rattle.std.specs.FinMap as entries
 use Rattle.bridge_base.specs.declared.faults.Kind.{Kind}
-use Rattle.bridge_base.specs.declared.faults.Kind.TheVariants.{VersionPlace}
 use Rattle.hol_spec.specs.Mangling.{AreBytes}
 use Rattle.hol_spec.specs.Proofs.{Made, symbols_of, Accepted}
 use Rattle.article_spec.specs.declared.commands.Command.{Command}
@@ -16,7 +16,7 @@ use Rattle.article_spec.specs.declared.commands.Word.TheVariants as word
 use Rattle.article_spec.specs.Lines.{End, ended, refused, Lines}
 use Rattle.article_spec.specs.State.{Object, State, Place, start, version, body, initial}
 use Rattle.article_spec.specs.Conditions.{demand}
-use Rattle.article_spec.specs.Step.{obey, step_at, step, is_version, is_body, finish}
+use Rattle.article_spec.specs.Step.{obey, in_body, obey_item, second_word, step_at, step, finish}
 use Rattle.article_spec.specs.Run.{machine, at_line, obey_all, end_article, obey_article, Outcome, accepted, refused_at, RunsFrom, finished, passed, stopped, Run}
 use Rattle.article_laws.specs.SoundStates.{bound}
 use Rattle.article_laws.specs.SoundStates as sound
@@ -82,16 +82,58 @@ dropped [] h = tt
 dropped (x ∷ xs) h = h.1
 
 -- COMMANDS
+in_body-named : (s : State) → IsNamedState s → IsNamedState (in_body Five s)
+in_body-named s g = record { stack = g.stack; dictionary = g.dictionary; made = g.made }
+
+obey_item-named : (s t : State) (i : Item) → IsNamedState s → IsNamedItem i → obey_item s i ≡ Ok t → IsNamedState t
+obey_item-named s t (item.Number z) g h e = placed s _ t e g refl refl (tt {0}, g.stack)
+obey_item-named s t (item.Name n) g h e = placed s _ t e g refl refl (h, g.stack)
+obey_item-named s t (item.Word w) g h e = obey-named s t w g e
+
+second_word-named : (s t : State) (w : Word) → IsNamedState s → second_word s w ≡ Ok t → IsNamedState t
+second_word-named s t word.Version g e = placed s _ t e g refl refl (dropped s.stack g.stack)
+second_word-named s t word.Nil g e = obey-named (in_body Five s) t word.Nil (in_body-named s g) e
+second_word-named s t word.Cons g e = obey-named (in_body Five s) t word.Cons (in_body-named s g) e
+second_word-named s t word.HdTl g e = obey-named (in_body Five s) t word.HdTl (in_body-named s g) e
+second_word-named s t word.TypeOp g e = obey-named (in_body Five s) t word.TypeOp (in_body-named s g) e
+second_word-named s t word.VarType g e = obey-named (in_body Five s) t word.VarType (in_body-named s g) e
+second_word-named s t word.OpType g e = obey-named (in_body Five s) t word.OpType (in_body-named s g) e
+second_word-named s t word.Const g e = obey-named (in_body Five s) t word.Const (in_body-named s g) e
+second_word-named s t word.ConstTerm g e = obey-named (in_body Five s) t word.ConstTerm (in_body-named s g) e
+second_word-named s t word.Var g e = obey-named (in_body Five s) t word.Var (in_body-named s g) e
+second_word-named s t word.VarTerm g e = obey-named (in_body Five s) t word.VarTerm (in_body-named s g) e
+second_word-named s t word.AppTerm g e = obey-named (in_body Five s) t word.AppTerm (in_body-named s g) e
+second_word-named s t word.AbsTerm g e = obey-named (in_body Five s) t word.AbsTerm (in_body-named s g) e
+second_word-named s t word.Def g e = obey-named (in_body Five s) t word.Def (in_body-named s g) e
+second_word-named s t word.Ref g e = obey-named (in_body Five s) t word.Ref (in_body-named s g) e
+second_word-named s t word.Remove g e = obey-named (in_body Five s) t word.Remove (in_body-named s g) e
+second_word-named s t word.Pop g e = obey-named (in_body Five s) t word.Pop (in_body-named s g) e
+second_word-named s t word.Pragma g e = obey-named (in_body Five s) t word.Pragma (in_body-named s g) e
+second_word-named s t word.Refl g e = obey-named (in_body Five s) t word.Refl (in_body-named s g) e
+second_word-named s t word.Assume g e = obey-named (in_body Five s) t word.Assume (in_body-named s g) e
+second_word-named s t word.EqMp g e = obey-named (in_body Five s) t word.EqMp (in_body-named s g) e
+second_word-named s t word.AbsThm g e = obey-named (in_body Five s) t word.AbsThm (in_body-named s g) e
+second_word-named s t word.AppThm g e = obey-named (in_body Five s) t word.AppThm (in_body-named s g) e
+second_word-named s t word.DeductAntisym g e = obey-named (in_body Five s) t word.DeductAntisym (in_body-named s g) e
+second_word-named s t word.BetaConv g e = obey-named (in_body Five s) t word.BetaConv (in_body-named s g) e
+second_word-named s t word.Sym g e = obey-named (in_body Five s) t word.Sym (in_body-named s g) e
+second_word-named s t word.Trans g e = obey-named (in_body Five s) t word.Trans (in_body-named s g) e
+second_word-named s t word.ProveHyp g e = obey-named (in_body Five s) t word.ProveHyp (in_body-named s g) e
+second_word-named s t word.Subst g e = obey-named (in_body Five s) t word.Subst (in_body-named s g) e
+second_word-named s t word.DefineConst g e = obey-named (in_body Five s) t word.DefineConst (in_body-named s g) e
+second_word-named s t word.DefineConstList g e = obey-named (in_body Five s) t word.DefineConstList (in_body-named s g) e
+second_word-named s t word.DefineTypeOp g e = obey-named (in_body Five s) t word.DefineTypeOp (in_body-named s g) e
+second_word-named s t word.Axiom g e = obey-named (in_body Five s) t word.Axiom (in_body-named s g) e
+second_word-named s t word.Thm g e = obey-named (in_body Five s) t word.Thm (in_body-named s g) e
+
 step_at-named : (s t : State) (p : Place) (i : Item) → IsNamedState s → IsNamedItem i → step_at p s i ≡ Ok t → IsNamedState t
-step_at-named s t start (item.Number z) g h e = let six = sound.passed (demand (int_eq z (pos 6)) VersionPlace) _ t e in placed s _ t six.2 g refl refl (tt {0}, g.stack)
-step_at-named s t start (item.Name n) g h e = absurd (cc)
-step_at-named s t start (item.Word w) g h e = absurd (cc)
-step_at-named s t version (item.Number z) g h e = absurd (cc)
-step_at-named s t version (item.Name n) g h e = absurd (cc)
-step_at-named s t version (item.Word w) g h e = let second = sound.passed (demand (is_version w) VersionPlace) _ t e in placed s _ t second.2 g refl refl (dropped s.stack g.stack)
-step_at-named s t body (item.Number z) g h e = placed s _ t e g refl refl (tt {0}, g.stack)
-step_at-named s t body (item.Name n) g h e = placed s _ t e g refl refl (h, g.stack)
-step_at-named s t body (item.Word w) g h e = obey-named s t w g e
+step_at-named s t start (item.Number z) g h e = placed s _ t e g refl refl (tt {0}, g.stack)
+step_at-named s t start (item.Name n) g h e = obey_item-named (in_body Five s) t (item.Name n) (in_body-named s g) h e
+step_at-named s t start (item.Word w) g h e = obey_item-named (in_body Five s) t (item.Word w) (in_body-named s g) h e
+step_at-named s t version (item.Number z) g h e = obey_item-named (in_body Five s) t (item.Number z) (in_body-named s g) h e
+step_at-named s t version (item.Name n) g h e = obey_item-named (in_body Five s) t (item.Name n) (in_body-named s g) h e
+step_at-named s t version (item.Word w) g h e = second_word-named s t w g e
+step_at-named s t (body v) i g h e = obey_item-named s t i g h e
 
 -- the end of an article, and the first state, whose dictionary is empty
 nothing-kept : (k : ℤ) (x : Object) → entries.get {K = ℤ} {X = Object} {R = int_cmp} entries.empty k ≡ Some x → IsNamed x
@@ -99,8 +141,7 @@ nothing-kept k x e = let f : entries.get {K = ℤ} {X = Object} {R = int_cmp} en
 
 finish-named : (s t : State) → IsNamedState s → finish s ≡ Ok t → IsNamedState t
 finish-named s t g e =
-    let ends = sound.passed (demand (is_body s.place) VersionPlace) _ t e in
-    answers _ t ends.2 (record { stack = tt {0}; dictionary = nothing-kept; made = g.made })
+    answers _ t e (record { stack = tt {0}; dictionary = nothing-kept; made = g.made })
 
 initial-named : IsNamedState initial
 initial-named = record { stack = tt {0}; dictionary = nothing-kept; made = tt {0} }

@@ -133,10 +133,10 @@ module _ (number : ℕ → ℕ) where
   given_keys-symbols (Parameters.variable v) k i = absurd i
   given_keys-symbols (Parameters.substitution ps ts) k i = absurd i
   given_keys-symbols (Parameters.sequent s) k i = absurd i
-  given_keys-symbols (Parameters.type_operator names) k (inl e) = subst IsSymbolKey (sym e) (tt {0})
-  given_keys-symbols (Parameters.type_operator names) k (inr (inl e)) = subst IsSymbolKey (sym e) (tt {0})
-  given_keys-symbols (Parameters.type_operator names) k (inr (inr (inl e))) = subst IsSymbolKey (sym e) (tt {0})
-  given_keys-symbols (Parameters.type_operator names) k (inr (inr (inr n))) = absurd n
+  given_keys-symbols (Parameters.type_operator names version) k (inl e) = subst IsSymbolKey (sym e) (tt {0})
+  given_keys-symbols (Parameters.type_operator names version) k (inr (inl e)) = subst IsSymbolKey (sym e) (tt {0})
+  given_keys-symbols (Parameters.type_operator names version) k (inr (inr (inl e))) = subst IsSymbolKey (sym e) (tt {0})
+  given_keys-symbols (Parameters.type_operator names version) k (inr (inr (inr n))) = absurd n
 
   premise-renumbered : (js : List ℕ) (k : Key) → IsIn (map number_key js) k → IsIn (map number_key (map number js)) (renumbered_key k)
   premise-renumbered [] k i = absurd i

@@ -186,6 +186,8 @@ module _ (made : List Made) (is_proof : IsProof made) (xs before rest : List Ite
   given-told kind js premises given s (rule.restate h w) defines = tt
   given-told kind js premises given s (rule.first_law d e) defines = tt
   given-told kind js premises given s (rule.second_law d e) defines = tt
+  given-told kind js premises given s (rule.first_law_free d e) defines = tt
+  given-told kind js premises given s (rule.second_law_free d e) defines = tt
 
   -- WHAT IS DECLARED SO FAR TELLS WHAT ASKS FOR NOTHING BUT THE ITEMS SO FAR
   pub content-told : (c : Content) → IsContent before c → TellsContent m symbols c

@@ -2,6 +2,7 @@
 use Rattle.std.proofs.Common.{◌≡◌, refl, ℕ, zero, suc, ◌+◌, ◌≤◌, subst, arith, Some, List, [], ◌∷◌, ◌++◌, length, drop, codes}
 use Rattle.lp_spec.specs.Text.{prelude}
 use Rattle.lp_spec.specs.Tokens.{Name, TypeWord, Colon, Arrow, Dot, Placed, at}
+use Rattle.lp_spec.specs.Reading.{max_depth}
 use Rattle.lp_spec.specs.ReadingFaults.{answer_within, refused, DkTooLong, refusal, NoPrelude, BadText, UnknownName, NameTwice, DkTooDeep}
 use Rattle.lp_spec.specs.Faults.{identifier, sort, none, application, BareTerm, nameless, plain, first, of_symbol, of_theorem, only_type, type_before_body, of_whole, of_term, further, TokensShow, name_twice, unknown_name, too_deep, Shows, no_prelude, by_tokens, no_token}
 use Rattle.text_laws.specs.FaultLaws.{refusals_shown}
@@ -35,8 +36,8 @@ arrows-BareTerm : (n : ℕ) (rest : List Placed) → BareTerm (arrows n rest) re
 arrows-BareTerm zero rest = plain (application sort none)
 arrows-BareTerm (suc n) rest = subst (BareTerm (arrows (suc n) rest) rest) (omega arith) (nameless (application sort none) (arrows-BareTerm n rest))
 
--- a type of depth 16,385 or more
-deep : (n : ℕ) (name : List ℕ) (p : ℕ) → 16384 ≤ n → TokensShow (at 0 (Name name) ∷ at 0 Colon ∷ arrows n (at p Dot ∷ [])) (refusal p DkTooDeep)
+-- a type that is deeper than the limit
+deep : (n : ℕ) (name : List ℕ) (p : ℕ) → max_depth ≤ n → TokensShow (at 0 (Name name) ∷ at 0 Colon ∷ arrows n (at p Dot ∷ [])) (refusal p DkTooDeep)
 deep n name p h = too_deep (only_type (of_symbol first)) (arrows-BareTerm n (at p Dot ∷ [])) (omega (arith, h))
 
 -- a token that the limit cuts is not judged, also where it can't follow whatever it becomes

@@ -1,4 +1,5 @@
 -- What the machine does with the commands of an article, and what stays known of the steps that were made.
+use Rattle.hol_spec.specs.declared.Version.TheVariants.{Six}
 use Rattle.std.proofs.Common.{◌≡◌, ℕ, zero, suc, ◌+◌, pos, true, false, cond, List, [], ◌∷◌, ◌++◌, map, length, Option, Some, slice_get, sym, ap, subst, ◌∙◌, Result, Ok, Err}
 use Rattle.std.specs.Prelude.{slice_index_or}
 use Rattle.std.specs.Ordering.{int_cmp, eq_by_cmp}
@@ -58,7 +59,7 @@ Dictionary = FinMap int_cmp Object
 
 -- the state in the body of the article, before its export
 abbrev pub state : Dictionary → List Made → List Object → State
-state d made stack = record { stack = stack; dictionary = d; place = body; made = made; assumptions = []; exports = []; pool = [] }
+state d made stack = record { stack = stack; dictionary = d; place = body Six; made = made; assumptions = []; exports = []; pool = [] }
 
 -- the dictionary has this object at a number
 abbrev pub Has : Dictionary → ℕ → Object → Type 0
