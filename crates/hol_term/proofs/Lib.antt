@@ -10,8 +10,11 @@ pub mod Remade
 pub mod Settled
 pub mod Shaped
 pub mod Gathered
-pub mod VisitSteps
+pub mod InferringTurns
+mod VisitSteps
 pub mod SeenLaws
 pub mod PutFor
 pub mod ImageLaws
 pub mod FoundLaws
+pub mod WalkTurns
+pub mod SubstitutionTurns

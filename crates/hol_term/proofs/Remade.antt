@@ -1,5 +1,5 @@
 -- What a walk makes, place by place.
-use Rattle.std.proofs.Common.{◌≡◌, ℕ, zero, suc, ◌+◌, ◌-◌, ◌*◌, ◌<◌, ◌≤◌, ◌^◌, refl, sym, ap, ◌∙◌, subst, arith, List, [], ◌∷◌, ◌++◌, map, length, reverse, Some, Bool, true, false, cond, ◌⊎◌, ⊎_elim}
+use Rattle.std.proofs.Common.{◌≡◌, ℕ, zero, suc, ◌+◌, ◌-◌, ◌<◌, ◌≤◌, ◌^◌, refl, sym, ap, ◌∙◌, subst, arith, List, [], ◌∷◌, ◌++◌, map, length, reverse, Some, Bool, true, false, cond, ⊎_elim}
 use Rattle.std.specs.Prelude.{slice_get}
 use Rattle.std.specs.Option.{option_map, option_map_or}
 use Rattle.std.proofs.lemmas.Option.{slice_get-map, same_Some}
@@ -11,26 +11,20 @@ use Rattle.hol_laws.specs.TermLaws.{variable_eq-Decides}
 use Rattle.hol_spec.specs.TermBinding.{lift, close_at, loose, put_all_at}
 use Rattle.hol_laws.specs.TermRenamings.{put_all_bound-high}
 use Rattle.hol_laws.specs.TermClosed.{lift_at-closed, lift_at-zero, put_all_at-closed}
-use Rattle.hol_type.specs.declared.table.TypeId.{TypeId}
-use Rattle.hol_type.specs.TableLaws as type_law
 use Rattle.hol_term.specs.declared.TermId.{TermId}
 use Rattle.hol_term.specs.declared.memo.Change.{Change}
 use Rattle.hol_term.specs.declared.memo.Change.TheVariants.{Raise, Replace, Close}
 use Rattle.hol_term.specs.declared.memo.Place.{Place}
 use Rattle.hol_term.specs.declared.walk.Replacement.TheVariants.{Renamed, Argument}
-use Rattle.hol_term.specs.Tables.{Trees, term_at, type_at, terms_at, AreKnown, Holds, Keeps, IsDistinct}
-use Rattle.hol_term.specs.TableLaws.{term_in-Some, Some-term_in, term_in-Stays, term_in-same, terms_at-Keeps}
-use Rattle.hol_term.specs.Noted.{IsNoted}
+use Rattle.hol_term.specs.Tables.{Trees, term_at, terms_at, AreKnown, Holds, Keeps, IsDistinct}
+use Rattle.hol_term.specs.TableLaws.{term_in-Some, term_in-Stays, term_in-same, terms_at-Keeps}
 use Rattle.hol_term.specs.Parts.{IsLeaf}
-use Rattle.hol_term.specs.Walks.{changed, wanted, CanClose, IsPlace, IsLeftAlone, IsReplaced, IsMemo, total, way_down}
+use Rattle.hol_term.specs.Walks.{changed, wanted, CanClose, IsPlace, IsLeftAlone, IsReplaced, IsTask, turns, turns_of_all, lifting, work_at}
 
 -- a longer table wants the same
 module _ (a b : Trees) (k : Keeps a b) (ids : List TermId) (g : AreKnown a ids) where
   pub wanted-Keeps : (p : Place) → p.id.0 < length a.terms → wanted (terms_at a ids) a p ≡ wanted (terms_at b ids) b p
   wanted-Keeps p h = ap₂ (λ args t. changed args p.change p.depth t) (terms_at-Keeps k ids g) (term_in-Stays k.stays p.id.0 h)
-
-  pub IsMemo-Keeps : (memo : List (Place × TermId)) → IsMemo a ids memo → IsMemo b ids memo
-  IsMemo-Keeps memo h p r n = let w = h p r n in (omega (arith, k.longer, w.0), k.stays.each r.0 (wanted (terms_at a ids) a p) w.1 ∙ ap Some (wanted-Keeps p w.0))
 
   pub CanClose-Keeps : (c : Change) → CanClose (terms_at a ids) c → CanClose (terms_at b ids) c
   CanClose-Keeps c h = λ e. let w = h e in (w.0, sym (terms_at-Keeps k ids g) ∙ w.1)
@@ -40,54 +34,24 @@ changed-closed args (Raise k) d t n h = lift_at-closed d k t h
 changed-closed args Replace d t n h = put_all_at-closed d args t h
 changed-closed args Close d t n h = absurd (n refl)
 
--- what is left alone, or made already, is what is wanted
-pub already_wanted : (a : Trees) (ids : List TermId) (memo : List (Place × TermId)) (p : Place) (r : TermId) → p.id.0 < length a.terms → IsMemo a ids memo → ((r ≡ p.id) × IsLeftAlone a p) ⊎ IsNoted memo p r → Holds a r.0 (wanted (terms_at a ids) a p)
-already_wanted a ids memo p r lt m h = ⊎_elim
-    (λ alone. let e : wanted (terms_at a ids) a p ≡ term_at a p.id.0 = ⊎_elim
+-- what is left alone is what is wanted
+pub alone_wanted : (a : Trees) (ids : List TermId) (p : Place) → p.id.0 < length a.terms → IsLeftAlone a p → Holds a p.id.0 (wanted (terms_at a ids) a p)
+alone_wanted a ids p lt alone =
+    let e : wanted (terms_at a ids) a p ≡ term_at a p.id.0 = ⊎_elim
     (λ none. ap (λ c. changed (terms_at a ids) c p.depth (term_at a p.id.0)) none ∙ lift_at-zero p.depth (term_at a p.id.0))
     (λ closed. changed-closed (terms_at a ids) p.change p.depth (term_at a p.id.0) closed.0 closed.1)
-    alone.1 in
-    ap (λ (i : TermId). slice_get a.terms i.0) alone.0 ∙ term_in-Some a.terms p.id.0 lt ∙ ap Some (sym e))
-    (λ noted. (m p r noted).1)
-    h
+    alone in
+    term_in-Some a.terms p.id.0 lt ∙ ap Some (sym e)
 
--- a memo with one place more
-pub noted_memo : (a b : Trees) (k : Keeps a b) (ids : List TermId) (g : AreKnown a ids) (memo more : List (Place × TermId)) (p : Place) (r : TermId) → p.id.0 < length a.terms → IsMemo b ids memo → Holds b r.0 (wanted (terms_at a ids) a p) → ((q : Place) (s : TermId) → IsNoted more q s → IsNoted memo q s ⊎ ((q ≡ p) × (s ≡ r))) → IsMemo b ids more
-noted_memo a b k ids g memo more p r lt m held notes q s n = ⊎_elim (λ old. m q s old) (λ new. here q s new.0 new.1) (notes q s n)
-  where
-    here : (q : Place) (s : TermId) → q ≡ p → s ≡ r → (q.id.0 < length b.terms) × Holds b s.0 (wanted (terms_at b ids) b q)
-    here q s eq es =
-        let both : (p.id.0 < length b.terms) × Holds b r.0 (wanted (terms_at b ids) b p) = (omega (arith, k.longer, lt), held ∙ ap Some (wanted-Keeps a b k ids g p lt)) in
-        subst (λ (w : Place). (w.id.0 < length b.terms) × Holds b s.0 (wanted (terms_at b ids) b w)) (sym eq) (subst (λ (v : TermId). (p.id.0 < length b.terms) × Holds b v.0 (wanted (terms_at b ids) b p)) (sym es) both)
-
-changed-app : (args : List Term) (c : Change) (d : ℕ) (f x : Term) → app (changed args c d f) (changed args c d x) ≡ changed args c d (app f x)
+pub changed-app : (args : List Term) (c : Change) (d : ℕ) (f x : Term) → app (changed args c d f) (changed args c d x) ≡ changed args c d (app f x)
 changed-app args (Raise k) d f x = refl
 changed-app args Replace d f x = refl
 changed-app args Close d f x = refl
 
-changed-lam : (args : List Term) (c : Change) (d : ℕ) (ty : HolType) (b : Term) → lam ty (changed args c (suc d) b) ≡ changed args c d (lam ty b)
+pub changed-lam : (args : List Term) (c : Change) (d : ℕ) (ty : HolType) (b : Term) → lam ty (changed args c (suc d) b) ≡ changed args c d (lam ty b)
 changed-lam args (Raise k) d ty b = refl
 changed-lam args Replace d ty b = refl
 changed-lam args Close d ty b = refl
-
--- an application whose parts are made
-pub made_app : (a b d g : Trees) (ids : List TermId) (p first second : Place) (f x fn arg id : TermId) → Keeps a b → Keeps b d → AreKnown a ids → x.0 < length a.terms → term_at a p.id.0 ≡ app (term_at a f.0) (term_at a x.0) → first ≡ record p { id = f; depth = p.depth } → second ≡ record p { id = x; depth = p.depth } → Holds b fn.0 (wanted (terms_at a ids) a first) → Holds d arg.0 (wanted (terms_at b ids) b second) → Holds g id.0 (app (term_at d fn.0) (term_at d arg.0)) → Holds g id.0 (wanted (terms_at a ids) a p)
-made_app a b d g ids p first second f x fn arg id k l known lt e is_first is_second hf hx h =
-    let args = terms_at a ids in
-    let left : term_at d fn.0 ≡ changed args p.change p.depth (term_at a f.0)
-    = Some-term_in d.terms fn.0 (wanted args a first) (l.stays.each fn.0 (wanted args a first) hf) ∙ ap (λ w. wanted args a w) is_first in
-    let right : term_at d arg.0 ≡ changed args p.change p.depth (term_at a x.0)
-    = Some-term_in d.terms arg.0 (wanted (terms_at b ids) b second) hx ∙ ap (λ w. wanted (terms_at b ids) b w) is_second ∙ sym (wanted-Keeps a b k ids known (record p { id = x; depth = p.depth }) lt) in
-    h ∙ ap Some (ap₂ app left right ∙ changed-app args p.change p.depth (term_at a f.0) (term_at a x.0) ∙ ap (changed args p.change p.depth) (sym e))
-
--- an abstraction whose body is made
-pub made_lam : (a b g : Trees) (ids : List TermId) (p inner : Place) (ty : TypeId) (x body id : TermId) → Keeps a b → ty.0 < length a.types → term_at a p.id.0 ≡ lam (type_at a ty.0) (term_at a x.0) → inner ≡ record p { id = x; depth = p.depth + 1 } → Holds b body.0 (wanted (terms_at a ids) a inner) → Holds g id.0 (lam (type_at b ty.0) (term_at b body.0)) → Holds g id.0 (wanted (terms_at a ids) a p)
-made_lam a b g ids p inner ty x body id k lt e is_inner hb h =
-    let args = terms_at a ids in
-    let next : p.depth + 1 ≡ suc p.depth = omega arith in
-    let made : term_at b body.0 ≡ changed args p.change (suc p.depth) (term_at a x.0)
-    = Some-term_in b.terms body.0 (wanted args a inner) hb ∙ ap (λ w. wanted args a w) is_inner ∙ ap (λ d. changed args p.change d (term_at a x.0)) next in
-    h ∙ ap Some (ap₂ lam (sym (type_law.tree_at-Stays k.types.stays ty.0 lt)) made ∙ changed-lam args p.change p.depth (type_at a ty.0) (term_at a x.0) ∙ ap (changed args p.change p.depth) (sym e))
 
 -- a bound number that stands for one
 pub made_bound : (a g : Trees) (ids : List TermId) (p : Place) (n m : ℕ) (id : TermId) → term_at a p.id.0 ≡ bound n → IsReplaced ids p n (Renamed m) → Holds g id.0 (bound m) → Holds g id.0 (wanted (terms_at a ids) a p)
@@ -99,10 +63,10 @@ AreKnown-at a [] i id e h = absurd (cc)
 AreKnown-at a (x ∷ ids) zero id e h = subst (λ (y : TermId). y.0 < length a.terms) (same_Some _ _ e) h.0
 AreKnown-at a (x ∷ ids) (suc i) id e h = AreKnown-at a ids i id e h.1
 
-total-at : (ids : List TermId) (i : ℕ) (id : TermId) → slice_get ids i ≡ Some id → id.0 ≤ total ids
-total-at [] i id e = absurd (cc)
-total-at (x ∷ ids) zero id e = omega (arith, ap (λ (y : TermId). y.0) (same_Some _ _ e))
-total-at (x ∷ ids) (suc i) id e = omega (arith, total-at ids i id e)
+turns_of_all-at : (a : Trees) (ids : List TermId) (i : ℕ) (id : TermId) → slice_get ids i ≡ Some id → turns 0 (term_at a id.0) ≤ turns_of_all (terms_at a ids)
+turns_of_all-at a [] i id e = absurd (cc)
+turns_of_all-at a (x ∷ ids) zero id e = omega (arith, ap (λ (y : TermId). turns 0 (term_at a y.0)) (same_Some _ _ e))
+turns_of_all-at a (x ∷ ids) (suc i) id e = omega (arith, turns_of_all-at a ids i id e)
 
 map-reverse : {X Y : Type 0} (f : X → Y) (xs : List X) → map f (reverse xs) ≡ reverse (map f xs)
 map-reverse f [] = refl
@@ -122,14 +86,8 @@ module _ (a : Trees) (ids : List TermId) (p place : Place) (n : ℕ) (id : TermI
   pub argument_closing : (args : List Term) → CanClose args place.change
   argument_closing args = λ e. let w : Raise p.depth ≡ Close = sym (ap (λ (w : Place). w.change) is) ∙ e in absurd (cc)
 
-  pub argument_down : 2 * way_down ids place.change place.id.0 + 1 < 2 * way_down ids p.change p.id.0
-  argument_down =
-      let e : way_down ids place.change place.id.0 ≡ id.0 = ap (λ (w : Place). way_down ids w.change w.id.0) is in
-      let f : way_down ids p.change p.id.0 ≡ 1 + total ids + p.id.0 = ap (λ c. way_down ids c p.id.0) r.0 in
-      omega (arith, e, f, total-at ids r.3.0 id r.3.1)
-
-  pub made_argument : (g : Trees) (made : TermId) → term_at a p.id.0 ≡ bound n → Holds g made.0 (wanted (terms_at a ids) a place) → Holds g made.0 (wanted (terms_at a ids) a p)
-  made_argument g made e h =
+  pub argument_wanted : term_at a p.id.0 ≡ bound n → wanted (terms_at a ids) a place ≡ wanted (terms_at a ids) a p
+  argument_wanted e =
       let args = terms_at a ids in
       let at = ap (λ l. slice_get l (n - p.depth)) (sym (map-reverse (λ (i : TermId). term_at a i.0) ids)) ∙ slice_get-map (λ (i : TermId). term_at a i.0) (reverse ids) (n - p.depth) ∙ ap (option_map (λ (i : TermId). term_at a i.0)) r.2 in
       let w : wanted args a p ≡ lift p.depth (term_at a id.0) =
@@ -137,7 +95,15 @@ module _ (a : Trees) (ids : List TermId) (p place : Place) (n : ℕ) (id : TermI
       ∙ ap (put_all_at p.depth args) e
       ∙ put_all_bound-high p.depth args n r.1
       ∙ ap (λ o. option_map_or (lift p.depth) o (bound (n - length args))) at in
-      h ∙ ap Some (ap (λ w. wanted args a w) is ∙ sym w)
+      ap (λ w. wanted args a w) is ∙ sym w
+
+  -- to lift it is less work than the number's
+  pub argument_less : term_at a p.id.0 ≡ bound n → work_at a ids place + 1 < work_at a ids p
+  argument_less e =
+      let lifts : work_at a ids place ≡ turns 0 (term_at a id.0) = ap (λ (w : Place). work_at a ids w) is in
+      let own : work_at a ids p ≡ 2 + turns_of_all (terms_at a ids) = ap₂ (λ c t. turns (lifting (terms_at a ids) c) t) r.0 e in
+      let most = turns_of_all-at a ids r.3.0 id r.3.1 in
+      omega (arith, lifts, own, most)
 
 -- a free variable or a constant that is not the one that is closed over
 close_leaf : (d : ℕ) (v : Variable) (t : Term) → IsLeaf t → (t ≡ free v.0 v.1 → ⊥) → close_at d v t ≡ t
@@ -192,28 +158,18 @@ leaf_closed a g ids p id closing e one h =
     first : {x y : Term} {xs ys : List Term} → (x ∷ xs) ≡ (y ∷ ys) → x ≡ y
     first e = ap top e
 
--- a part of a place, after the table has grown
-module _ (a b : Trees) (k : Keeps a b) (ids : List TermId) (p place : Place) (x : TermId) (is : place ≡ record p { id = x; depth = p.depth }) (lt : x.0 < p.id.0) where
+-- a part of a place
+module _ (a : Trees) (ids : List TermId) (p place : Place) (x : TermId) (d : ℕ) (is : place ≡ record p { id = x; depth = d }) (lt : x.0 < p.id.0) where
   change_is : place.change ≡ p.change
   change_is = ap (λ (w : Place). w.change) is
 
   id_is : place.id.0 ≡ x.0
   id_is = ap (λ (w : Place). w.id.0) is
 
-  pub part_place : IsPlace a p → IsPlace b place
-  part_place h =
-      let d : place.depth ≡ p.depth = ap (λ (w : Place). w.depth) is in
-      (omega (arith, id_is, lt, h.0, k.longer), omega (arith, id_is, d, lt, h.1))
+  pub part_task : d ≤ p.depth + 1 → IsTask a ids p → IsTask a ids place
+  part_task small h =
+      let e : place.depth ≡ d = ap (λ (w : Place). w.depth) is in
+      ((omega (arith, id_is, lt, h.0.0), omega (arith, id_is, e, lt, h.0.1, small)), subst (CanClose (terms_at a ids)) (sym change_is) h.1)
 
-  pub part_closing : AreKnown a ids → CanClose (terms_at a ids) p.change → CanClose (terms_at b ids) place.change
-  part_closing g h = CanClose-Keeps a b k ids g place.change (subst (CanClose (terms_at a ids)) (sym change_is) h)
-
-  down : (c : Change) → way_down ids c x.0 < way_down ids c p.id.0
-  down (Raise n) = lt
-  down Replace = omega (arith, lt)
-  down Close = lt
-
-  pub part_down : 2 * way_down ids place.change place.id.0 + 1 < 2 * way_down ids p.change p.id.0
-  part_down =
-      let e : way_down ids place.change place.id.0 ≡ way_down ids p.change x.0 = ap₂ (way_down ids) change_is id_is in
-      omega (arith, e, down p.change)
+  pub part_work : work_at a ids place ≡ turns (lifting (terms_at a ids) p.change) (term_at a x.0)
+  part_work = ap (λ (w : Place). work_at a ids w) is

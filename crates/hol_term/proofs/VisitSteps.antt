@@ -6,12 +6,14 @@ use Rattle.hol_laws.specs.ListLaws.{union-append}
 use Rattle.hol_spec.specs.Types.{HolType}
 use Rattle.hol_spec.specs.Terms.{Term, free, bound, constant, app, lam, term_eq}
 use Rattle.hol_laws.specs.TermLaws.{term_eq-Decides}
+use Rattle.hol_spec.specs.Limits.{term_size}
 use Rattle.hol_term.specs.declared.TermId.{TermId}
 use Rattle.hol_term.specs.Tables.{Trees, term_at, terms_at, AreKnown, IsDistinct}
 use Rattle.hol_term.specs.TableLaws.{term_in-same}
 use Rattle.hol_term.specs.Parts.{IsLeaf}
 use Rattle.hol_term.proofs.EntryLaws.{slice_get-one_more}
-use Rattle.hol_term.specs.Subterms.{subterms, IsAmong, AreIn, HasSubterms, IsOnWay, Comes}
+use Rattle.hol_term.specs.Subterms.{subterms, IsAmong, AreIn, HasSubterms, IsOnWay, Comes, IsOnTour, sizes}
+use Rattle.hol_term.proofs.SubstitutionTurns.{size-positive}
 use Rattle.hol_term.proofs.Gathered.{or_either, in_last, AreIn-union, AreIn-itself, union-there}
 
 -- a term is itself
@@ -136,3 +138,44 @@ not_among ids id b e h a = true≢false (sym (h a) ∙ e)
 -- a walk that began with nothing has come to the parts of the tree, each once
 pub came : (trees : Trees) (id : TermId) (old ids : List TermId) → old ≡ [] → Comes trees id old ids → terms_at trees ids ≡ distinct term_eq (subterms (term_at trees id.0))
 came trees id old ids e c = c.terms ∙ ap (λ l. union term_eq (terms_at trees l) (subterms (term_at trees id.0))) e
+
+-- a tour over the same lists
+pub same_tour : (trees : Trees) (root : TermId) (before next others seen more : List TermId) → others ≡ next → more ≡ seen → IsOnTour trees root before next seen → IsOnTour trees root before others more
+same_tour trees root before next others seen more e f h = subst (λ l. IsOnTour trees root before l more) (sym e) (subst (IsOnTour trees root before next) (sym f) h)
+
+-- A STEP OF A TOUR
+module _ (trees : Trees) (root : TermId) (before next : List TermId) (id : TermId) (old : List TermId) (tour : IsOnTour trees root before (id ∷ next) old) where
+  pub tour_again : IsAmong old id → IsOnTour trees root before next old
+  tour_again h = tour.2 old (come_again trees id old tour.1 h)
+
+  module _ (d : IsDistinct trees.terms) (new : IsAmong old id → ⊥) where
+    pub tour_leaf : subterms (term_at trees id.0) ≡ term_at trees id.0 ∷ [] → IsOnTour trees root before next (old ++ id ∷ [])
+    tour_leaf e = tour.2 (old ++ id ∷ []) (come_leaf trees id old d tour.0 tour.1 new e)
+
+    pub tour_lam : (a : HolType) (b : TermId) → term_at trees id.0 ≡ lam a (term_at trees b.0) → b.0 < id.0 → IsOnTour trees root before (b ∷ next) (old ++ id ∷ [])
+    tour_lam a b e h = (
+      (let lt = tour.0 in omega (arith, lt, h)),
+      way_to_part trees id old d tour.0 tour.1 new b h,
+      λ ids c. tour.2 ids (come_lam trees id old d tour.0 tour.1 new a b ids e c),
+    )
+
+    pub tour_app : (f x : TermId) → term_at trees id.0 ≡ app (term_at trees f.0) (term_at trees x.0) → f.0 < id.0 → x.0 < id.0 → IsOnTour trees root before (f ∷ x ∷ next) (old ++ id ∷ [])
+    tour_app f x e h k =
+        let lt = tour.0 in (
+          omega (arith, lt, h),
+          way_to_part trees id old d tour.0 tour.1 new f h,
+          λ mid c. (
+            omega (arith, lt, k),
+            way_to_second trees id old d tour.0 tour.1 new f x mid k c,
+            λ ids s. tour.2 ids (come_app trees id old d tour.0 tour.1 new f x mid ids e c s),
+          ),
+        )
+
+pub tour_less : (trees : Trees) (id : TermId) (next : List TermId) → sizes trees next < sizes trees (id ∷ next)
+tour_less trees id next = let l = size-positive (term_at trees id.0) in omega (arith, l)
+
+pub tour_lam_less : (trees : Trees) (id b : TermId) (a : HolType) (next : List TermId) → term_at trees id.0 ≡ lam a (term_at trees b.0) → sizes trees (b ∷ next) < sizes trees (id ∷ next)
+tour_lam_less trees id b a next e = let l = ap term_size e in omega (arith, l)
+
+pub tour_app_less : (trees : Trees) (id f x : TermId) (next : List TermId) → term_at trees id.0 ≡ app (term_at trees f.0) (term_at trees x.0) → sizes trees (f ∷ x ∷ next) < sizes trees (id ∷ next)
+tour_app_less trees id f x next e = let l = ap term_size e in omega (arith, l)

@@ -4,6 +4,7 @@ pub mod Nodes
 pub mod Noted
 pub mod Scopes
 pub mod Typing
+pub mod Inferring
 pub mod Views
 pub mod Parts
 pub mod Owned
@@ -13,3 +14,4 @@ pub mod Walks
 pub mod BindingLaws
 pub mod Subterms
 pub mod Substitutions
+pub mod Substituting

@@ -1,9 +1,10 @@
 -- The parts of a term, and the walk that comes to each of them once.
-use Rattle.std.specs.Prelude.{◌≡◌, ◌⊎◌, ℕ, ◌<◌, ◌≤◌, List, [], ◌∷◌, ◌++◌, length, Bool, true, Some, slice_get}
+use Rattle.std.specs.Prelude.{◌≡◌, ◌⊎◌, ℕ, ◌+◌, ◌<◌, ◌≤◌, List, [], ◌∷◌, ◌++◌, length, Bool, true, Some, slice_get}
 use Rattle.hol_spec.specs.Names.{Name}
 use Rattle.hol_spec.specs.Lists.{is_in, union}
 use Rattle.hol_spec.specs.Types.{variable_places}
 use Rattle.hol_spec.specs.Terms.{Term, free, bound, constant, app, lam, Variable as AVariable, term_eq}
+use Rattle.hol_spec.specs.Limits.{term_size}
 use Rattle.hol_term.specs.declared.TermId.{TermId}
 use Rattle.hol_term.specs.declared.Variable.{Variable}
 use Rattle.hol_term.specs.Tables.{Trees, term_at, type_at, terms_at, AreKnown}
@@ -67,3 +68,13 @@ pub record Comes (trees : Trees) (id : TermId) (old new : List TermId) : Type 0 
   pub known : AreKnown trees new
   pub terms : terms_at trees new ≡ union term_eq (terms_at trees old) (subterms (term_at trees id.0))
   pub closed : (j : TermId) → IsAmong new j → IsAmong old j ⊎ HasSubterms trees new j
+
+-- A walk that comes to these trees one after another ends where it has come to the root: each is on its way once those before it were come to.
+abbrev pub IsOnTour : Trees → TermId → List TermId → List TermId → List TermId → Type 0
+IsOnTour trees root before [] seen = Comes trees root before seen
+IsOnTour trees root before (id ∷ next) seen = (id.0 < length trees.terms) × IsOnWay trees id seen × ((then : List TermId) → Comes trees id seen then → IsOnTour trees root before next then)
+
+-- how many nodes the trees have together
+abbrev pub sizes : Trees → List TermId → ℕ
+sizes trees [] = 0
+sizes trees (id ∷ ids) = term_size (term_at trees id.0) + sizes trees ids

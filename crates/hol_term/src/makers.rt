@@ -15,7 +15,7 @@ ghost use Rattle.hol_term.specs.Shapes.{equation_of};
 ghost use Rattle.hol_term.specs.Tables.{Trees, term_at, type_at, terms_at, AreKnown, Holds, IsBodyFor, IsDistinct, IsTermAt, Keeps};
 ghost use Rattle.hol_term.specs.Walks.{CanClose, changed};
 
-use crate::memo::{Change, Memo, Place};
+use crate::memo::{Change, Place};
 use crate::node::Node;
 use crate::{Mark, TermId, TermTable, Variable};
 use bridge_base::{Fault, Kind, Memory};
@@ -314,13 +314,12 @@ impl TermTable {
         ensures keeps { Keeps self.old self.new }
     {
         let _small = self.mark();
-        let mut memo = Memo::new(self.alloc);
         let root = Place {
             id,
             depth: 0,
             change,
         };
-        self.remade(args, root, &mut memo)
+        self.remade(args, root)
     }
 
     // What was made, if it is within the limits; else all that came after the mark is given up.

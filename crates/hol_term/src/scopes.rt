@@ -67,15 +67,16 @@ impl Scopes {
         requires { scope.0 < length self.now }
         ensures { result ≡ slice_get (list_in self.now scope.0) n }
     {
-        match self.innermost(scope) {
-            Some(here) => {
-                if n == 0 {
-                    return Some(here.ty);
-                }
-                self.at(here.outer, n - 1)
+        let mut round = scope;
+        let mut left = n;
+        while let Some(here) = self.innermost(round) {
+            if left == 0 {
+                return Some(here.ty);
             }
-            None => None,
+            round = here.outer;
+            left -= 1;
         }
+        None
     }
 
     // A list's innermost binder with those round it, or `None` for the empty list.

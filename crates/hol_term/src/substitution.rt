@@ -1,18 +1,21 @@
 //! The call that puts types and then terms for the variables of a term, with its walk, which comes once to each part.
-ghost use Rattle.std.specs.Prelude.{◌≡◌, ◌⊎◌, ◌<◌, ◌↔◌, length, IfOk, IfErr, IfSome, OnOk, OnErr, IsTrue};
+ghost use Rattle.std.specs.Prelude.{◌≡◌, ◌⊎◌, ◌<◌, ◌↔◌, [], ◌∷◌, length, IfOk, IfErr, IfSome, OnOk, OnErr, IsTrue};
 ghost use Rattle.hol_spec.specs.Limits.{TermWithin};
 ghost use Rattle.hol_spec.specs.Substitution.{substitute};
-ghost use Rattle.hol_spec.specs.Terms.{IsTerm, variable_eq, free as free_tree, constant as constant_tree};
+ghost use Rattle.hol_spec.specs.Terms.{Term as ATerm, IsTerm, variable_eq, free as free_tree, constant as constant_tree};
 ghost use Rattle.hol_spec.specs.TermSubstitution.{sub};
 ghost use Rattle.hol_type.specs.Tables as type;
 ghost use Rattle.hol_term.specs.declared.TermId.{TermId as AnId};
+ghost use Rattle.hol_term.specs.declared.substitution.Turn.TheVariants as the_turn;
 ghost use Rattle.hol_term.specs.Noted.{IsNoted};
-ghost use Rattle.hol_term.specs.Substitutions.{term_pairs_at, AreTermPairs, ArePairsFitting, RefusesSubst, AreTermPairsKnown, AreKnownPairs, image_of, IsPutFor, AreImages};
+ghost use Rattle.hol_term.specs.Substituting.{IsSubstituting, steps};
+ghost use Rattle.hol_term.specs.Walks.{NotEmpty};
+ghost use Rattle.hol_term.specs.Substitutions.{term_pairs_at, AreTermPairs, ArePairsFitting, RefusesSubst, AreTermPairsKnown, AreKnownPairs, image_of, IsPutFor};
 ghost use Rattle.hol_term.specs.Tables.{Trees, term_at, type_at, Holds, IsDistinct, IsTermAt, Keeps};
 
 use crate::node::Node;
 use crate::{TermId, TermTable, TermView, Variable};
-use bridge_base::{Fault, Kind, Memory};
+use bridge_base::{Fault, Kind, Memory, Stack};
 use hol_name::Name;
 use hol_type::TypeId;
 use indexmap::IndexMap;
@@ -54,6 +57,81 @@ impl Images {
     {
         self.made.insert(id, made)?;
         Ok(())
+    }
+}
+
+/// What a substitution is still to do.
+#[derive(Clone, Copy)]
+pub(crate) enum Turn {
+    /// To make what stands for this term.
+    Visit(TermId),
+    /// To apply the tree made second to last to the one made last, and to note this for the term.
+    Apply(TermId),
+    /// To abstract over the tree made last, by a variable of this type, and to note this for the term.
+    Abstract(TermId, TypeId),
+}
+
+/// A substitution on its way: what it is still to do, the trees that are made and not yet taken up, and what was made of each term.
+#[derive(Drop)]
+struct Substituting {
+    tasks: Stack<Turn>,
+    made: Stack<TermId>,
+    images: Images,
+}
+
+impl Substituting {
+    // A substitution that has nothing to do. It takes no memory.
+    fn new(alloc: Global) -> Self
+        ensures tasks { result.tasks ≡ [] }
+        ensures made { result.made ≡ [] }
+        ensures images { (id r : AnId) → IsNoted result.images id r → ⊥ }
+    {
+        Substituting {
+            tasks: Stack::new(alloc),
+            made: Stack::new(alloc),
+            images: Images::new(alloc),
+        }
+    }
+
+    // Keeps what is made of a term.
+    fn keep(&mut self, id: TermId, made: TermId) -> Result<(), Memory>
+        ensures tasks { self.new.tasks ≡ self.old.tasks }
+        ensures made { OnOk result (self.new.made ≡ made ∷ self.old.made) }
+        ensures noted { OnOk result ((i r : AnId) → IsNoted self.new.images i r → IsNoted self.old.images i r ⊎ ((i ≡ id) × (r ≡ made))) }
+    {
+        self.images.note(id, made)?;
+        self.made.push(made)
+    }
+
+    // Sets out to make what stands for the parts of an application, and then to come back to it.
+    fn set_out(&mut self, id: TermId, function: TermId, argument: TermId) -> Result<(), Memory>
+        ensures tasks { OnOk result (self.new.tasks ≡ the_turn.Visit function ∷ the_turn.Visit argument ∷ the_turn.Apply id ∷ self.old.tasks) }
+        ensures made { self.new.made ≡ self.old.made }
+        ensures images { self.new.images ≡ self.old.images }
+    {
+        self.tasks.push(Turn::Apply(id))?;
+        self.tasks.push(Turn::Visit(argument))?;
+        self.tasks.push(Turn::Visit(function))
+    }
+
+    // Sets out to make what stands for the body of an abstraction, and then to come back to it.
+    fn set_out_to(&mut self, id: TermId, ty: TypeId, body: TermId) -> Result<(), Memory>
+        ensures tasks { OnOk result (self.new.tasks ≡ the_turn.Visit body ∷ the_turn.Abstract id ty ∷ self.old.tasks) }
+        ensures made { self.new.made ≡ self.old.made }
+        ensures images { self.new.images ≡ self.old.images }
+    {
+        self.tasks.push(Turn::Abstract(id, ty))?;
+        self.tasks.push(Turn::Visit(body))
+    }
+
+    // Takes up the tree that was made last.
+    fn take(&mut self) -> TermId
+        requires { NotEmpty self.old.made }
+        ensures made { self.old.made ≡ result ∷ self.new.made }
+        ensures tasks { self.new.tasks ≡ self.old.tasks }
+        ensures images { self.new.images ≡ self.old.images }
+    {
+        self.made.pop().unwrap()
     }
 }
 
@@ -116,75 +194,122 @@ impl TermTable {
         ensures made { IfOk result (λ r. Holds self.new r.0 (image_of self.old type_pairs.now term_pairs.now (term_at self.old id.0))) }
         ensures keeps { Keeps self.old self.new }
     {
-        let mut images = Images::new(self.alloc);
-        self.image(type_pairs, term_pairs, id, &mut images)
+        let mut walk = Substituting::new(self.alloc);
+        walk.tasks.push(Turn::Visit(id))?;
+        while let Some(task) = walk.tasks.pop() {
+            self.substitution_turn(type_pairs, term_pairs, task, &mut walk)?;
+        }
+        Ok(walk.take())
     }
 
-    // What the pairs make of a term. Memory is taken for what is noted and for the trees that are new.
-    #[cycle(images)]
-    fn image(
+    // One turn of a substitution.
+    fn substitution_turn(
         &mut self,
         type_pairs: &[(Name, TypeId)],
         term_pairs: &[(Variable, TermId)],
-        id: TermId,
-        images: &mut Images,
-    ) -> Result<TermId, Memory>
-        requires pairs { AreKnownPairs self.old type_pairs.now term_pairs.now }
-        requires id { id.0 < length self.old.terms }
-        requires images { AreImages self.old type_pairs.now term_pairs.now images.old }
-        ensures known { IfOk result (λ r. r.0 < length self.new.terms) }
-        ensures made { IfOk result (λ r. Holds self.new r.0 (image_of self.old type_pairs.now term_pairs.now (term_at self.old id.0))) }
+        task: Turn,
+        walk: &mut Substituting,
+    ) -> Result<(), Memory>
+        requires { (from : Trees) × (root : ATerm) × IsSubstituting from root self.old type_pairs.now term_pairs.now (task ∷ walk.old.tasks) walk.old.made walk.old.images }
         ensures keeps { Keeps self.old self.new }
-        ensures images { OnOk result (AreImages self.new type_pairs.now term_pairs.now images.new) }
+        ensures walk { OnOk result ((from : Trees) (root : ATerm) → IsSubstituting from root self.old type_pairs.now term_pairs.now (task ∷ walk.old.tasks) walk.old.made walk.old.images → IsSubstituting from root self.new type_pairs.now term_pairs.now walk.new.tasks walk.new.made walk.new.images) }
+        ensures less { OnOk result ((from : Trees) (root : ATerm) → IsSubstituting from root self.old type_pairs.now term_pairs.now (task ∷ walk.old.tasks) walk.old.made walk.old.images → steps from walk.new.tasks < steps from (task ∷ walk.old.tasks)) }
     {
-        match images.find(id) {
-            Some(made) => Ok(made),
-            None => {
-                let made = self.image_anew(type_pairs, term_pairs, id, images)?;
-                images.note(id, made)?;
-                Ok(made)
-            }
+        match task {
+            Turn::Visit(id) => self.visit_image(type_pairs, term_pairs, id, walk),
+            Turn::Apply(id) => self.apply_images(type_pairs, term_pairs, id, walk),
+            Turn::Abstract(id, ty) => self.abstract_image(type_pairs, term_pairs, id, ty, walk),
         }
     }
 
-    // What the pairs make of a term of which nothing is made yet.
-    #[cycle(images)]
-    fn image_anew(
+    // Finds what is made of a term already, or sets out to make it.
+    fn visit_image(
         &mut self,
         type_pairs: &[(Name, TypeId)],
         term_pairs: &[(Variable, TermId)],
         id: TermId,
-        images: &mut Images,
-    ) -> Result<TermId, Memory>
-        requires pairs { AreKnownPairs self.old type_pairs.now term_pairs.now }
-        requires id { id.0 < length self.old.terms }
-        requires images { AreImages self.old type_pairs.now term_pairs.now images.old }
-        ensures known { IfOk result (λ r. r.0 < length self.new.terms) }
-        ensures made { IfOk result (λ r. Holds self.new r.0 (image_of self.old type_pairs.now term_pairs.now (term_at self.old id.0))) }
+        walk: &mut Substituting,
+    ) -> Result<(), Memory>
+        requires { (from : Trees) × (root : ATerm) × IsSubstituting from root self.old type_pairs.now term_pairs.now (the_turn.Visit id ∷ walk.old.tasks) walk.old.made walk.old.images }
         ensures keeps { Keeps self.old self.new }
-        ensures images { OnOk result (AreImages self.new type_pairs.now term_pairs.now images.new) }
+        ensures walk { OnOk result ((from : Trees) (root : ATerm) → IsSubstituting from root self.old type_pairs.now term_pairs.now (the_turn.Visit id ∷ walk.old.tasks) walk.old.made walk.old.images → IsSubstituting from root self.new type_pairs.now term_pairs.now walk.new.tasks walk.new.made walk.new.images) }
+        ensures less { OnOk result ((from : Trees) (root : ATerm) → IsSubstituting from root self.old type_pairs.now term_pairs.now (the_turn.Visit id ∷ walk.old.tasks) walk.old.made walk.old.images → steps from walk.new.tasks < steps from (the_turn.Visit id ∷ walk.old.tasks)) }
+    {
+        match walk.images.find(id) {
+            Some(made) => walk.made.push(made),
+            None => self.visit_image_anew(type_pairs, term_pairs, id, walk),
+        }
+    }
+
+    // Makes what stands for a leaf, or sets out to make what stands for the parts of a term.
+    fn visit_image_anew(
+        &mut self,
+        type_pairs: &[(Name, TypeId)],
+        term_pairs: &[(Variable, TermId)],
+        id: TermId,
+        walk: &mut Substituting,
+    ) -> Result<(), Memory>
+        requires { (from : Trees) × (root : ATerm) × IsSubstituting from root self.old type_pairs.now term_pairs.now (the_turn.Visit id ∷ walk.old.tasks) walk.old.made walk.old.images }
+        ensures keeps { Keeps self.old self.new }
+        ensures walk { OnOk result ((from : Trees) (root : ATerm) → IsSubstituting from root self.old type_pairs.now term_pairs.now (the_turn.Visit id ∷ walk.old.tasks) walk.old.made walk.old.images → IsSubstituting from root self.new type_pairs.now term_pairs.now walk.new.tasks walk.new.made walk.new.images) }
+        ensures less { OnOk result ((from : Trees) (root : ATerm) → IsSubstituting from root self.old type_pairs.now term_pairs.now (the_turn.Visit id ∷ walk.old.tasks) walk.old.made walk.old.images → steps from walk.new.tasks < steps from (the_turn.Visit id ∷ walk.old.tasks)) }
     {
         match self.view(id) {
             TermView::Free(name, ty) => {
                 let name = name.clone()?;
-                self.free_image(type_pairs, term_pairs, name, ty)
+                let made = self.free_image(type_pairs, term_pairs, name, ty)?;
+                walk.keep(id, made)
             }
-            TermView::Bound(_) => Ok(id),
+            TermView::Bound(_) => walk.keep(id, id),
             TermView::Const(name, ty) => {
                 let name = name.clone()?;
-                self.constant_image(type_pairs, name, ty)
+                let made = self.constant_image(type_pairs, name, ty)?;
+                walk.keep(id, made)
             }
-            TermView::App(f, x) => {
-                let function = self.image(type_pairs, term_pairs, f, images)?;
-                let argument = self.image(type_pairs, term_pairs, x, images)?;
-                self.add(Node::App(function, argument))
-            }
+            TermView::App(f, x) => walk.set_out(id, f, x),
             TermView::Lam(ty, body) => {
-                let inner = self.image(type_pairs, term_pairs, body, images)?;
                 let binder = self.type_image(type_pairs, ty)?;
-                self.add(Node::Lam(binder, inner))
+                walk.set_out_to(id, binder, body)
             }
         }
+    }
+
+    // Makes an application of what was made of its parts.
+    fn apply_images(
+        &mut self,
+        type_pairs: &[(Name, TypeId)],
+        term_pairs: &[(Variable, TermId)],
+        id: TermId,
+        walk: &mut Substituting,
+    ) -> Result<(), Memory>
+        requires { (from : Trees) × (root : ATerm) × IsSubstituting from root self.old type_pairs.now term_pairs.now (the_turn.Apply id ∷ walk.old.tasks) walk.old.made walk.old.images }
+        ensures keeps { Keeps self.old self.new }
+        ensures walk { OnOk result ((from : Trees) (root : ATerm) → IsSubstituting from root self.old type_pairs.now term_pairs.now (the_turn.Apply id ∷ walk.old.tasks) walk.old.made walk.old.images → IsSubstituting from root self.new type_pairs.now term_pairs.now walk.new.tasks walk.new.made walk.new.images) }
+        ensures less { OnOk result ((from : Trees) (root : ATerm) → IsSubstituting from root self.old type_pairs.now term_pairs.now (the_turn.Apply id ∷ walk.old.tasks) walk.old.made walk.old.images → steps from walk.new.tasks < steps from (the_turn.Apply id ∷ walk.old.tasks)) }
+    {
+        let argument = walk.take();
+        let function = walk.take();
+        let made = self.add(Node::App(function, argument))?;
+        walk.keep(id, made)
+    }
+
+    // Makes an abstraction of what was made of its body.
+    fn abstract_image(
+        &mut self,
+        type_pairs: &[(Name, TypeId)],
+        term_pairs: &[(Variable, TermId)],
+        id: TermId,
+        ty: TypeId,
+        walk: &mut Substituting,
+    ) -> Result<(), Memory>
+        requires { (from : Trees) × (root : ATerm) × IsSubstituting from root self.old type_pairs.now term_pairs.now (the_turn.Abstract id ty ∷ walk.old.tasks) walk.old.made walk.old.images }
+        ensures keeps { Keeps self.old self.new }
+        ensures walk { OnOk result ((from : Trees) (root : ATerm) → IsSubstituting from root self.old type_pairs.now term_pairs.now (the_turn.Abstract id ty ∷ walk.old.tasks) walk.old.made walk.old.images → IsSubstituting from root self.new type_pairs.now term_pairs.now walk.new.tasks walk.new.made walk.new.images) }
+        ensures less { OnOk result ((from : Trees) (root : ATerm) → IsSubstituting from root self.old type_pairs.now term_pairs.now (the_turn.Abstract id ty ∷ walk.old.tasks) walk.old.made walk.old.images → steps from walk.new.tasks < steps from (the_turn.Abstract id ty ∷ walk.old.tasks)) }
+    {
+        let body = walk.take();
+        let made = self.add(Node::Lam(ty, body))?;
+        walk.keep(id, made)
     }
 
     // What the pairs make of a free variable: what the first pair of its name and its new type gives, if there is one.

@@ -1,22 +1,24 @@
 //! How a tree is made with its measures and its type.
-ghost use Rattle.std.specs.Prelude.{◌≡◌, ◌<◌, ◌+◌, ◌-◌, ◌^◌, [], ◌∷◌, min, Option, length, IfOk, OnOk};
+ghost use Rattle.std.specs.Prelude.{◌≡◌, ◌⊎◌, ◌<◌, ◌+◌, ◌-◌, ◌^◌, [], ◌∷◌, min, Option, length, IfOk, IfSome, OnOk};
 ghost use Rattle.std.specs.Option.{option_map};
 ghost use Rattle.hol_spec.specs.Types.{HolType};
 ghost use Rattle.hol_spec.specs.Primitives.{function as function_type};
 ghost use Rattle.hol_spec.specs.Terms.{type_of, lam, application_type};
+ghost use Rattle.hol_spec.specs.TermBinding.{loose};
 ghost use Rattle.hol_spec.specs.Limits.{type_size, type_depth};
 ghost use Rattle.hol_type.specs.declared.table.TypeId.{TypeId as ATypeId};
 ghost use Rattle.hol_type.specs.Tables as type;
 ghost use Rattle.hol_term.specs.declared.seats.Seat.{Seat as ASeat};
+ghost use Rattle.hol_term.specs.declared.seats.Step.TheVariants as the_step;
 ghost use Rattle.hol_term.specs.Noted.{IsNoted};
 ghost use Rattle.hol_term.specs.Tables.{term_at, type_at, Holds, Keeps, IsDistinct, IsTypeNumber};
 ghost use Rattle.hol_term.specs.Nodes.{tree_of_node, PartsBelow, AreMeasures};
-ghost use Rattle.hol_term.specs.Scopes.{KeepsLists};
 ghost use Rattle.hol_term.specs.Typing.{seat_type, AreTypings, IsSeat};
+ghost use Rattle.hol_term.specs.Inferring.{IsInferring, count};
 
 use crate::node::{Entry, Measures, Node};
 use crate::scopes::NO_BINDERS;
-use crate::seats::{Seat, Typings};
+use crate::seats::{Found, Seat, Step, Typings};
 use crate::{Parts, TermId, TermTable};
 use bridge_base::Memory;
 use hol_type::TypeId;
@@ -112,7 +114,7 @@ impl TermTable {
         self.abstraction_inferred(ty, body, &mut typings)
     }
 
-    // The type of an abstraction under no binders, if it has one, where nothing is found yet.
+    // The type of an abstraction under no binders, if it has one, by a walk that has nothing to do yet.
     fn abstraction_inferred(
         &mut self,
         ty: TypeId,
@@ -121,6 +123,8 @@ impl TermTable {
     ) -> Result<Option<TypeId>, Memory>
         requires ty { ty.0 < length self.old.types }
         requires body { body.0 < length self.old.terms }
+        requires steps { typings.old.steps ≡ [] }
+        requires types { typings.old.types ≡ [] }
         requires scopes { typings.old.scopes ≡ [] ∷ [] }
         requires found { (s : ASeat) (r : Option ATypeId) → IsNoted typings.old.found s r → ⊥ }
         ensures typed { IfOk result (λ r. IsTypeNumber self.new.types r (type_of (lam (type_at self.old ty.0) (term_at self.old body.0)))) }
@@ -132,56 +136,106 @@ impl TermTable {
         self.abstracted(ty, codomain)
     }
 
-    // The type of a tree under binders, if it has one. A part without loose numbers has the type that it is kept with.
-    #[cycle(inferring)]
-    fn inferred(&mut self, seat: Seat, typings: &mut Typings) -> Result<Option<TypeId>, Memory>
-        requires seat { IsSeat self.old typings.old.scopes seat }
+    // The type of a tree under binders, if it has one, by a walk that has nothing to do yet.
+    fn inferred(&mut self, root: Seat, typings: &mut Typings) -> Result<Option<TypeId>, Memory>
+        requires root { IsSeat self.old typings.old.scopes root }
+        requires steps { typings.old.steps ≡ [] }
+        requires types { typings.old.types ≡ [] }
         requires typings { AreTypings self.old typings.old.scopes typings.old.found }
-        ensures typed { IfOk result (λ ty. IsTypeNumber self.new.types ty (seat_type self.old typings.old.scopes seat)) }
-        ensures scopes { OnOk result (KeepsLists typings.old.scopes typings.new.scopes) }
-        ensures typings { OnOk result (AreTypings self.new typings.new.scopes typings.new.found) }
+        ensures typed { IfOk result (λ ty. IsTypeNumber self.new.types ty (seat_type self.old typings.old.scopes root)) }
         ensures terms { self.new.terms ≡ self.old.terms }
         ensures keeps { Keeps self.old self.new }
     {
-        if self.measures_of(seat.id).loose == 0 {
-            return Ok(self.ty(seat.id));
+        typings.steps.push(Step::Visit(root))?;
+        while let Some(step) = typings.steps.pop() {
+            self.step(step, typings)?;
         }
-        match typings.found.find(seat) {
-            Some(ty) => Ok(ty),
-            None => {
-                let ty = self.inferred_anew(seat, typings)?;
-                typings.found.note(seat, ty)?;
-                Ok(ty)
+        Ok(typings.take())
+    }
+
+    // One step of the walk.
+    fn step(&mut self, step: Step, typings: &mut Typings) -> Result<(), Memory>
+        requires { (root : Option HolType) × IsInferring root self.old typings.old.scopes typings.old.found (step ∷ typings.old.steps) typings.old.types }
+        ensures keeps { Keeps self.old self.new }
+        ensures terms { self.new.terms ≡ self.old.terms }
+        ensures walk { OnOk result ((root : Option HolType) → IsInferring root self.old typings.old.scopes typings.old.found (step ∷ typings.old.steps) typings.old.types → IsInferring root self.new typings.new.scopes typings.new.found typings.new.steps typings.new.types) }
+        ensures less { OnOk result (count self.new.terms typings.new.steps < count self.old.terms (step ∷ typings.old.steps)) }
+    {
+        match step {
+            Step::Visit(seat) => self.visit_seat(seat, typings),
+            Step::Apply(seat) => self.apply_types(seat, typings),
+            Step::Abstract(seat, ty) => self.abstract_type(seat, ty, typings),
+        }
+    }
+
+    // Finds what is known of a seat already, or sets out to find its type.
+    fn visit_seat(&self, seat: Seat, typings: &mut Typings) -> Result<(), Memory>
+        requires { (root : Option HolType) × IsInferring root self.now typings.old.scopes typings.old.found (the_step.Visit seat ∷ typings.old.steps) typings.old.types }
+        ensures walk { OnOk result ((root : Option HolType) → IsInferring root self.now typings.old.scopes typings.old.found (the_step.Visit seat ∷ typings.old.steps) typings.old.types → IsInferring root self.now typings.new.scopes typings.new.found typings.new.steps typings.new.types) }
+        ensures less { OnOk result (count self.now.terms typings.new.steps < count self.now.terms (the_step.Visit seat ∷ typings.old.steps)) }
+    {
+        match self.found_type(&typings.found, seat) {
+            Some(ty) => typings.types.push(ty),
+            None => self.visit_seat_anew(seat, typings),
+        }
+    }
+
+    // The type of a seat's tree, if it is found already. A tree without loose numbers has the type that it is kept with.
+    fn found_type(&self, found: &Found, seat: Seat) -> Option<Option<TypeId>>
+        requires { seat.id.0 < length self.now.terms }
+        ensures { IfSome result (λ ty. ((loose (term_at self.now seat.id.0) ≡ 0) × IsTypeNumber self.now.types ty (type_of (term_at self.now seat.id.0))) ⊎ IsNoted found.now seat ty) }
+    {
+        if self.measures_of(seat.id).loose == 0 {
+            return Some(self.ty(seat.id));
+        }
+        found.find(seat)
+    }
+
+    // Finds the type of a leaf, or sets out to find those of the parts of a tree.
+    fn visit_seat_anew(&self, seat: Seat, typings: &mut Typings) -> Result<(), Memory>
+        requires { (root : Option HolType) × IsInferring root self.now typings.old.scopes typings.old.found (the_step.Visit seat ∷ typings.old.steps) typings.old.types }
+        ensures walk { OnOk result ((root : Option HolType) → IsInferring root self.now typings.old.scopes typings.old.found (the_step.Visit seat ∷ typings.old.steps) typings.old.types → IsInferring root self.now typings.new.scopes typings.new.found typings.new.steps typings.new.types) }
+        ensures less { OnOk result (count self.now.terms typings.new.steps < count self.now.terms (the_step.Visit seat ∷ typings.old.steps)) }
+    {
+        let scope = seat.scope;
+        match self.parts(seat.id) {
+            Parts::Leaf => typings.keep(seat, self.ty(seat.id)),
+            Parts::Bound(n) => {
+                let ty = typings.scopes.at(scope, n);
+                typings.keep(seat, ty)
+            }
+            Parts::App(f, x) => {
+                typings.set_out(seat, Seat { id: f, scope }, Seat { id: x, scope })
+            }
+            Parts::Lam(ty, body) => {
+                let scope = typings.scopes.enter(scope, ty)?;
+                typings.set_out_under(seat, ty, Seat { id: body, scope })
             }
         }
     }
 
-    // The type of a tree under binders, if it has one, where nothing is found yet.
-    #[cycle(inferring)]
-    fn inferred_anew(&mut self, seat: Seat, typings: &mut Typings) -> Result<Option<TypeId>, Memory>
-        requires seat { IsSeat self.old typings.old.scopes seat }
-        requires typings { AreTypings self.old typings.old.scopes typings.old.found }
-        ensures typed { IfOk result (λ ty. IsTypeNumber self.new.types ty (seat_type self.old typings.old.scopes seat)) }
-        ensures scopes { OnOk result (KeepsLists typings.old.scopes typings.new.scopes) }
-        ensures typings { OnOk result (AreTypings self.new typings.new.scopes typings.new.found) }
-        ensures terms { self.new.terms ≡ self.old.terms }
-        ensures keeps { Keeps self.old self.new }
+    // Finds the type of an application from those of its parts, which are found.
+    fn apply_types(&self, seat: Seat, typings: &mut Typings) -> Result<(), Memory>
+        requires { (root : Option HolType) × IsInferring root self.now typings.old.scopes typings.old.found (the_step.Apply seat ∷ typings.old.steps) typings.old.types }
+        ensures walk { OnOk result ((root : Option HolType) → IsInferring root self.now typings.old.scopes typings.old.found (the_step.Apply seat ∷ typings.old.steps) typings.old.types → IsInferring root self.now typings.new.scopes typings.new.found typings.new.steps typings.new.types) }
+        ensures less { OnOk result (count self.now.terms typings.new.steps < count self.now.terms (the_step.Apply seat ∷ typings.old.steps)) }
     {
-        let scope = seat.scope;
-        match self.parts(seat.id) {
-            Parts::Leaf => Ok(self.ty(seat.id)),
-            Parts::Bound(n) => Ok(typings.scopes.at(scope, n)),
-            Parts::App(f, x) => {
-                let function = self.inferred(Seat { id: f, scope }, typings)?;
-                let argument = self.inferred(Seat { id: x, scope }, typings)?;
-                Ok(self.applied(function, argument))
-            }
-            Parts::Lam(ty, body) => {
-                let scope = typings.scopes.enter(scope, ty)?;
-                let codomain = self.inferred(Seat { id: body, scope }, typings)?;
-                self.abstracted(ty, codomain)
-            }
-        }
+        let argument = typings.take();
+        let function = typings.take();
+        typings.keep(seat, self.applied(function, argument))
+    }
+
+    // Makes the type of an abstraction from that of its body, which is found.
+    fn abstract_type(&mut self, seat: Seat, ty: TypeId, typings: &mut Typings) -> Result<(), Memory>
+        requires { (root : Option HolType) × IsInferring root self.old typings.old.scopes typings.old.found (the_step.Abstract seat ty ∷ typings.old.steps) typings.old.types }
+        ensures keeps { Keeps self.old self.new }
+        ensures terms { self.new.terms ≡ self.old.terms }
+        ensures walk { OnOk result ((root : Option HolType) → IsInferring root self.old typings.old.scopes typings.old.found (the_step.Abstract seat ty ∷ typings.old.steps) typings.old.types → IsInferring root self.new typings.new.scopes typings.new.found typings.new.steps typings.new.types) }
+        ensures less { OnOk result (count self.new.terms typings.new.steps < count self.old.terms (the_step.Abstract seat ty ∷ typings.old.steps)) }
+    {
+        let codomain = typings.take();
+        let made = self.abstracted(ty, codomain)?;
+        typings.keep(seat, made)
     }
 
     // The measures of a free variable or a constant of this type.

@@ -1,18 +1,19 @@
 //! The variables of a term.
-ghost use Rattle.std.specs.Prelude.{◌≡◌, ◌++◌, ◌<◌, [], length, IfOk, OnOk};
+ghost use Rattle.std.specs.Prelude.{◌≡◌, ◌++◌, ◌<◌, List, [], ◌∷◌, length, IfOk, OnOk};
 ghost use Rattle.hol_spec.specs.Lists.{distinct, union};
 ghost use Rattle.hol_spec.specs.NameEquality.{name_eq};
 ghost use Rattle.hol_spec.specs.Terms.{variable_eq, free_places, type_variable_places};
 ghost use Rattle.hol_spec.specs.Types.{variable_places};
 ghost use Rattle.hol_type.specs.Tables as type;
-ghost use Rattle.hol_term.specs.Subterms.{Comes, HaveTypes, IsOnWay, free_head, gathered, type_head, variables_of};
+ghost use Rattle.hol_term.specs.declared.TermId.{TermId as AnId};
+ghost use Rattle.hol_term.specs.Subterms.{Comes, HaveTypes, IsOnTour, IsOnWay, sizes, free_head, gathered, type_head, variables_of};
 ghost use Rattle.hol_term.specs.Tables.{term_at, type_at, terms_at, AreKnown};
 
 use crate::names::Names;
 use crate::node::Node;
 use crate::seen::Seen;
 use crate::{Parts, TermId, TermTable, Variable};
-use bridge_base::Memory;
+use bridge_base::{Memory, Stack};
 use hol_name::Name;
 use hol_type::TypeId;
 
@@ -67,10 +68,24 @@ impl TermTable {
     }
 
     // Comes to a tree and then to its parts, from the left to the right, to each once.
-    fn come_to(&self, id: TermId, seen: &mut Seen) -> Result<(), Memory>
-        requires id { id.0 < length self.now.terms }
-        requires way { IsOnWay self.now id seen.old }
-        ensures { OnOk result (Comes self.now id seen.old seen.new) }
+    fn come_to(&self, root: TermId, seen: &mut Seen) -> Result<(), Memory>
+        requires root { root.0 < length self.now.terms }
+        requires way { IsOnWay self.now root seen.old }
+        ensures { OnOk result (Comes self.now root seen.old seen.new) }
+    {
+        let mut next = Stack::new(self.alloc);
+        next.push(root)?;
+        while let Some(id) = next.pop() {
+            self.come_by(id, &mut next, seen)?;
+        }
+        Ok(())
+    }
+
+    // Notes a tree and sets out for its parts, if it isn't noted yet.
+    fn come_by(&self, id: TermId, next: &mut Stack<TermId>, seen: &mut Seen) -> Result<(), Memory>
+        requires { (root : AnId) × (before : List AnId) × IsOnTour self.now root before (id ∷ next.old) seen.old }
+        ensures tour { OnOk result ((root : AnId) (before : List AnId) → IsOnTour self.now root before (id ∷ next.old) seen.old → IsOnTour self.now root before next.new seen.new) }
+        ensures less { OnOk result (sizes self.now next.new < sizes self.now (id ∷ next.old)) }
     {
         if seen.has(id) {
             return Ok(());
@@ -79,10 +94,10 @@ impl TermTable {
         match self.parts(id) {
             Parts::Leaf | Parts::Bound(_) => Ok(()),
             Parts::App(f, x) => {
-                self.come_to(f, seen)?;
-                self.come_to(x, seen)
+                next.push(x)?;
+                next.push(f)
             }
-            Parts::Lam(_, body) => self.come_to(body, seen),
+            Parts::Lam(_, body) => next.push(body),
         }
     }
 

@@ -1,16 +1,23 @@
-//! The walk that lifts a tree, puts trees into it, or closes it over a free variable. It comes once to each place.
+//! The walk that lifts a tree, puts trees into it, or closes it over a free variable. It comes once to each place, and keeps a stack of its
+//! own of what it is still to do.
+ghost use Rattle.hol_spec.specs.Terms.{Term};
+ghost use Rattle.hol_term.specs.declared.TermId.{TermId as AnId};
+ghost use Rattle.hol_term.specs.declared.memo.Place.{Place as APlace};
+ghost use Rattle.hol_term.specs.declared.walk.Task.TheVariants as the_task;
 ghost use Rattle.std.specs.Prelude.{◌≡◌, ◌⊎◌, ℕ, ◌<◌, ◌≤◌, ◌+◌, ◌-◌, ◌^◌, ◌↔◌, [], ◌∷◌, length, reverse, slice_get, Some, IfOk, IfSome, IfNone, OnOk, IsTrue};
 ghost use Rattle.hol_term.specs.declared.memo.Change.TheVariants as the_change;
 ghost use Rattle.hol_term.specs.declared.walk.Replacement.TheVariants as the_replacement;
 ghost use Rattle.hol_term.specs.Noted.{IsNoted};
-ghost use Rattle.hol_term.specs.Tables.{AreKnown, Holds, Keeps, term_at, terms_at};
-ghost use Rattle.hol_term.specs.Walks.{CanClose, IsLeftAlone, IsMemo, IsPlace, IsReplaced, wanted};
+ghost use Rattle.hol_term.specs.Tables.{AreKnown, Holds, Keeps, Trees, term_at, terms_at};
+ghost use Rattle.hol_term.specs.Walks.{CanClose, IsLeftAlone, IsPlace, IsReplaced, IsWalk, NotEmpty, wanted, work};
 ghost use Rattle.hol_term.specs.Parts.{IsLeaf};
 
 use crate::memo::{Change, Memo, Place};
 use crate::node::Node;
 use crate::{Parts, TermId, TermTable};
-use bridge_base::Memory;
+use bridge_base::{Memory, Stack};
+use hol_type::TypeId;
+use std::alloc::Global;
 
 /// What stands for a bound number.
 pub(crate) enum Replacement {
@@ -20,67 +27,201 @@ pub(crate) enum Replacement {
     Argument(TermId),
 }
 
-impl TermTable {
-    // The tree that is wanted at a place. Memory is taken for the memo and for the trees that are new.
-    #[cycle(walk)]
-    pub(crate) fn remade(
-        &mut self,
-        args: &[TermId],
-        place: Place,
-        memo: &mut Memo,
-    ) -> Result<TermId, Memory>
-        requires place { IsPlace self.old place }
-        requires args { AreKnown self.old args.now }
-        requires closing { CanClose (terms_at self.old args.now) place.change }
-        requires memo { IsMemo self.old args.now memo.old }
-        ensures known { IfOk result (λ r. r.0 < length self.new.terms) }
-        ensures made { IfOk result (λ r. Holds self.new r.0 (wanted (terms_at self.old args.now) self.old place)) }
-        ensures keeps { Keeps self.old self.new }
-        ensures memo { OnOk result (IsMemo self.new args.now memo.new) }
+/// What a walk is still to do.
+#[derive(Clone, Copy)]
+pub(crate) enum Task {
+    /// To make what is wanted at this place.
+    Visit(Place),
+    /// To apply the tree made second to last to the one made last, and to note this for the place.
+    Apply(Place),
+    /// To abstract over the tree made last, by a variable of this type, and to note this for the place.
+    Abstract(Place, TypeId),
+    /// To note the tree made last for this place too.
+    Note(Place),
+}
+
+/// A walk on its way: what it is still to do, the trees that are made and not yet taken up, and what was made at each place.
+#[derive(Drop)]
+pub(crate) struct Walk {
+    tasks: Stack<Task>,
+    made: Stack<TermId>,
+    memo: Memo,
+}
+
+impl Walk {
+    // A walk that has nothing to do. It takes no memory.
+    fn new(alloc: Global) -> Self
+        ensures tasks { result.tasks ≡ [] }
+        ensures made { result.made ≡ [] }
+        ensures memo { (p : APlace) (r : AnId) → IsNoted result.memo p r → ⊥ }
     {
-        match self.already(memo, place) {
-            Some(id) => Ok(id),
-            None => {
-                let id = self.remade_anew(args, place, memo)?;
-                memo.note(place, id)?;
-                Ok(id)
-            }
+        Walk {
+            tasks: Stack::new(alloc),
+            made: Stack::new(alloc),
+            memo: Memo::new(alloc),
         }
     }
 
-    // The tree that is wanted at a place where nothing is made yet.
-    #[cycle(walk)]
-    fn remade_anew(
+    // Keeps the tree that is made at a place.
+    fn keep(&mut self, place: Place, id: TermId) -> Result<(), Memory>
+        ensures tasks { self.new.tasks ≡ self.old.tasks }
+        ensures made { OnOk result (self.new.made ≡ id ∷ self.old.made) }
+        ensures noted { OnOk result ((p : APlace) (r : AnId) → IsNoted self.new.memo p r → IsNoted self.old.memo p r ⊎ ((p ≡ place) × (r ≡ id))) }
+    {
+        self.memo.note(place, id)?;
+        self.made.push(id)
+    }
+
+    // Sets out to make the parts of an application, and then to come back to it.
+    fn set_out(&mut self, place: Place, function: Place, argument: Place) -> Result<(), Memory>
+        ensures tasks { OnOk result (self.new.tasks ≡ the_task.Visit function ∷ the_task.Visit argument ∷ the_task.Apply place ∷ self.old.tasks) }
+        ensures made { self.new.made ≡ self.old.made }
+        ensures memo { self.new.memo ≡ self.old.memo }
+    {
+        self.tasks.push(Task::Apply(place))?;
+        self.tasks.push(Task::Visit(argument))?;
+        self.tasks.push(Task::Visit(function))
+    }
+
+    // Sets out to make one tree, and then to do this.
+    fn set_out_to(&mut self, next: Place, then: Task) -> Result<(), Memory>
+        ensures tasks { OnOk result (self.new.tasks ≡ the_task.Visit next ∷ then ∷ self.old.tasks) }
+        ensures made { self.new.made ≡ self.old.made }
+        ensures memo { self.new.memo ≡ self.old.memo }
+    {
+        self.tasks.push(then)?;
+        self.tasks.push(Task::Visit(next))
+    }
+
+    // Takes up the tree that was made last.
+    fn take(&mut self) -> TermId
+        requires { NotEmpty self.old.made }
+        ensures made { self.old.made ≡ result ∷ self.new.made }
+        ensures tasks { self.new.tasks ≡ self.old.tasks }
+        ensures memo { self.new.memo ≡ self.old.memo }
+    {
+        self.made.pop().unwrap()
+    }
+}
+
+impl TermTable {
+    // The tree that is wanted at a place. Memory is taken for the walk and for the trees that are new.
+    pub(crate) fn remade(&mut self, args: &[TermId], root: Place) -> Result<TermId, Memory>
+        requires root { IsPlace self.old root }
+        requires args { AreKnown self.old args.now }
+        requires closing { CanClose (terms_at self.old args.now) root.change }
+        ensures known { IfOk result (λ r. r.0 < length self.new.terms) }
+        ensures made { IfOk result (λ r. Holds self.new r.0 (wanted (terms_at self.old args.now) self.old root)) }
+        ensures keeps { Keeps self.old self.new }
+    {
+        let mut walk = Walk::new(self.alloc);
+        walk.tasks.push(Task::Visit(root))?;
+        while let Some(task) = walk.tasks.pop() {
+            self.turn(args, task, &mut walk)?;
+        }
+        Ok(walk.take())
+    }
+
+    // One turn of the walk.
+    fn turn(&mut self, args: &[TermId], task: Task, walk: &mut Walk) -> Result<(), Memory>
+        requires { (from : Trees) × (root : Term) × IsWalk from root self.old args.now (task ∷ walk.old.tasks) walk.old.made walk.old.memo }
+        ensures keeps { Keeps self.old self.new }
+        ensures walk { OnOk result ((from : Trees) (root : Term) → IsWalk from root self.old args.now (task ∷ walk.old.tasks) walk.old.made walk.old.memo → IsWalk from root self.new args.now walk.new.tasks walk.new.made walk.new.memo) }
+        ensures less { OnOk result ((from : Trees) (root : Term) → IsWalk from root self.old args.now (task ∷ walk.old.tasks) walk.old.made walk.old.memo → work from args.now walk.new.tasks < work from args.now (task ∷ walk.old.tasks)) }
+    {
+        match task {
+            Task::Visit(place) => self.visit(args, place, walk),
+            Task::Apply(place) => self.apply(args, place, walk),
+            Task::Abstract(place, ty) => self.abstract_over(args, place, ty, walk),
+            Task::Note(place) => self.note(args, place, walk),
+        }
+    }
+
+    // Finds what is made at a place already, or sets out to make it.
+    fn visit(&mut self, args: &[TermId], place: Place, walk: &mut Walk) -> Result<(), Memory>
+        requires { (from : Trees) × (root : Term) × IsWalk from root self.old args.now (the_task.Visit place ∷ walk.old.tasks) walk.old.made walk.old.memo }
+        ensures keeps { Keeps self.old self.new }
+        ensures walk { OnOk result ((from : Trees) (root : Term) → IsWalk from root self.old args.now (the_task.Visit place ∷ walk.old.tasks) walk.old.made walk.old.memo → IsWalk from root self.new args.now walk.new.tasks walk.new.made walk.new.memo) }
+        ensures less { OnOk result ((from : Trees) (root : Term) → IsWalk from root self.old args.now (the_task.Visit place ∷ walk.old.tasks) walk.old.made walk.old.memo → work from args.now walk.new.tasks < work from args.now (the_task.Visit place ∷ walk.old.tasks)) }
+    {
+        match self.already(&walk.memo, place) {
+            Some(id) => walk.made.push(id),
+            None => self.visit_anew(args, place, walk),
+        }
+    }
+
+    // Makes a leaf, or sets out to make the parts of a tree.
+    fn visit_anew(&mut self, args: &[TermId], place: Place, walk: &mut Walk) -> Result<(), Memory>
+        requires { (from : Trees) × (root : Term) × IsWalk from root self.old args.now (the_task.Visit place ∷ walk.old.tasks) walk.old.made walk.old.memo }
+        ensures keeps { Keeps self.old self.new }
+        ensures walk { OnOk result ((from : Trees) (root : Term) → IsWalk from root self.old args.now (the_task.Visit place ∷ walk.old.tasks) walk.old.made walk.old.memo → IsWalk from root self.new args.now walk.new.tasks walk.new.made walk.new.memo) }
+        ensures less { OnOk result ((from : Trees) (root : Term) → IsWalk from root self.old args.now (the_task.Visit place ∷ walk.old.tasks) walk.old.made walk.old.memo → work from args.now walk.new.tasks < work from args.now (the_task.Visit place ∷ walk.old.tasks)) }
+    {
+        match self.parts(place.id) {
+            Parts::Leaf => {
+                let id = self.remade_leaf(args, place)?;
+                walk.keep(place, id)
+            }
+            Parts::Bound(n) => match replaced(args, place, n)? {
+                Replacement::Renamed(n) => {
+                    let id = self.add(Node::Bound(n))?;
+                    walk.keep(place, id)
+                }
+                Replacement::Argument(id) => {
+                    walk.set_out_to(lifted(id, place.depth), Task::Note(place))
+                }
+            },
+            Parts::App(f, x) => walk.set_out(
+                place,
+                part(place, f, place.depth),
+                part(place, x, place.depth),
+            ),
+            Parts::Lam(ty, body) => walk.set_out_to(
+                part(place, body, place.depth + 1),
+                Task::Abstract(place, ty),
+            ),
+        }
+    }
+
+    // Makes an application of its parts, which are made.
+    fn apply(&mut self, args: &[TermId], place: Place, walk: &mut Walk) -> Result<(), Memory>
+        requires { (from : Trees) × (root : Term) × IsWalk from root self.old args.now (the_task.Apply place ∷ walk.old.tasks) walk.old.made walk.old.memo }
+        ensures keeps { Keeps self.old self.new }
+        ensures walk { OnOk result ((from : Trees) (root : Term) → IsWalk from root self.old args.now (the_task.Apply place ∷ walk.old.tasks) walk.old.made walk.old.memo → IsWalk from root self.new args.now walk.new.tasks walk.new.made walk.new.memo) }
+        ensures less { OnOk result ((from : Trees) (root : Term) → IsWalk from root self.old args.now (the_task.Apply place ∷ walk.old.tasks) walk.old.made walk.old.memo → work from args.now walk.new.tasks < work from args.now (the_task.Apply place ∷ walk.old.tasks)) }
+    {
+        let argument = walk.take();
+        let function = walk.take();
+        let id = self.add(Node::App(function, argument))?;
+        walk.keep(place, id)
+    }
+
+    // Makes an abstraction of its body, which is made.
+    fn abstract_over(
         &mut self,
         args: &[TermId],
         place: Place,
-        memo: &mut Memo,
-    ) -> Result<TermId, Memory>
-        requires place { IsPlace self.old place }
-        requires args { AreKnown self.old args.now }
-        requires closing { CanClose (terms_at self.old args.now) place.change }
-        requires memo { IsMemo self.old args.now memo.old }
-        ensures known { IfOk result (λ r. r.0 < length self.new.terms) }
-        ensures made { IfOk result (λ r. Holds self.new r.0 (wanted (terms_at self.old args.now) self.old place)) }
+        ty: TypeId,
+        walk: &mut Walk,
+    ) -> Result<(), Memory>
+        requires { (from : Trees) × (root : Term) × IsWalk from root self.old args.now (the_task.Abstract place ty ∷ walk.old.tasks) walk.old.made walk.old.memo }
         ensures keeps { Keeps self.old self.new }
-        ensures memo { OnOk result (IsMemo self.new args.now memo.new) }
+        ensures walk { OnOk result ((from : Trees) (root : Term) → IsWalk from root self.old args.now (the_task.Abstract place ty ∷ walk.old.tasks) walk.old.made walk.old.memo → IsWalk from root self.new args.now walk.new.tasks walk.new.made walk.new.memo) }
+        ensures less { OnOk result ((from : Trees) (root : Term) → IsWalk from root self.old args.now (the_task.Abstract place ty ∷ walk.old.tasks) walk.old.made walk.old.memo → work from args.now walk.new.tasks < work from args.now (the_task.Abstract place ty ∷ walk.old.tasks)) }
     {
-        match self.parts(place.id) {
-            Parts::Leaf => self.remade_leaf(args, place),
-            Parts::Bound(n) => match replaced(args, place, n)? {
-                Replacement::Renamed(n) => self.add(Node::Bound(n)),
-                Replacement::Argument(id) => self.remade(args, lifted(id, place.depth), memo),
-            },
-            Parts::App(f, x) => {
-                let function = self.remade(args, part(place, f, place.depth), memo)?;
-                let argument = self.remade(args, part(place, x, place.depth), memo)?;
-                self.add(Node::App(function, argument))
-            }
-            Parts::Lam(ty, body) => {
-                let body = self.remade(args, part(place, body, place.depth + 1), memo)?;
-                self.add(Node::Lam(ty, body))
-            }
-        }
+        let body = walk.take();
+        let id = self.add(Node::Lam(ty, body))?;
+        walk.keep(place, id)
+    }
+
+    // Notes the tree made last for one place more.
+    fn note(&self, args: &[TermId], place: Place, walk: &mut Walk) -> Result<(), Memory>
+        requires { (from : Trees) × (root : Term) × IsWalk from root self.now args.now (the_task.Note place ∷ walk.old.tasks) walk.old.made walk.old.memo }
+        ensures walk { OnOk result ((from : Trees) (root : Term) → IsWalk from root self.now args.now (the_task.Note place ∷ walk.old.tasks) walk.old.made walk.old.memo → IsWalk from root self.now args.now walk.new.tasks walk.new.made walk.new.memo) }
+        ensures less { OnOk result ((from : Trees) (root : Term) → IsWalk from root self.now args.now (the_task.Note place ∷ walk.old.tasks) walk.old.made walk.old.memo → work from args.now walk.new.tasks < work from args.now (the_task.Note place ∷ walk.old.tasks)) }
+    {
+        let id = walk.take();
+        walk.keep(place, id)
     }
 
     // What is wanted in the place of a free variable or a constant.

@@ -36,11 +36,12 @@ pub(crate) fn has_type(bench: &mut Bench, term: &[&[Step]], ty: &[&[Step]]) -> R
 
 #[test]
 fn terms_have_types(rt: HostRuntime) -> Result<(), Fail> {
-    let cases: [(&[&[Step]], &[&[Step]]); 5] = [
+    let cases: [(&[&[Step]], &[&[Step]]); 6] = [
         (&[K, X, APP, Y, APP, OVER_Y], &[UNARY]),
         (&[K, X, APP, Y, APP, OVER_Y, OVER_X], &[BINARY]),
         (&[P, Q, EQUALS], &[BOOL]),
         (&[LARGE, OVER_P], &[PREDICATE]),
+        (&[DEEP_BODY, OVER_P], &[PREDICATE]),
         // Each part is typed by the binders round it: \x. p (\y. k x y) (\b. m x b).
         (
             &[
@@ -85,9 +86,9 @@ fn terms_have_a_size_and_a_depth(rt: HostRuntime) -> Result<(), Fail> {
     let cases: [(&[&[Step]], (u64, u64)); 5] = [
         (&[P], (2, 2)),
         (&[P, Q, EQUALS], (12, 8)),
-        (&[DEEP], (5_102, 1_024)),
+        (&[DEEP], (81_902, 16_384)),
         (&[LARGE], (655_352, 38)),
-        (&[LARGE_DEEP], (660_282, 1_024)),
+        (&[LARGE_DEEP], (737_082, 16_384)),
     ];
     for (index, (term, wanted)) in cases.iter().enumerate() {
         let trial = Trial::Measures(term, *wanted);

@@ -54,17 +54,17 @@ pub(crate) const LARGEST_TYPE: &[Step] = &[
     Step::Type(TypeStep::Lists(1)),
 ];
 
-/// A type of depth 1,024.
-pub(crate) const DEEPEST_TYPE: &[Step] = &[TRUTH, Step::Type(TypeStep::Lists(1023))];
+/// A type of depth 16,384.
+pub(crate) const DEEPEST_TYPE: &[Step] = &[TRUTH, Step::Type(TypeStep::Lists(16_383))];
 
 /// A type of size 1,048,575 over the variable A.
 pub(crate) const LARGE_OVER_A: &[Step] = &[OVER_A, Step::Type(TypeStep::Doubled(19))];
 
-/// A type of depth 600 over the variable A.
-pub(crate) const DEEP_OVER_A: &[Step] = &[OVER_A, Step::Type(TypeStep::Lists(599))];
+/// A type of depth 10,000 over the variable A.
+pub(crate) const DEEP_OVER_A: &[Step] = &[OVER_A, Step::Type(TypeStep::Lists(9_999))];
 
-/// A type of depth 600.
-pub(crate) const DEEP_TYPE: &[Step] = &[TRUTH, Step::Type(TypeStep::Lists(599))];
+/// A type of depth 10,000.
+pub(crate) const DEEP_TYPE: &[Step] = &[TRUTH, Step::Type(TypeStep::Lists(9_999))];
 
 /// The constant `k : ind -> ind -> ind`.
 pub(crate) const K: &[Step] = &[
@@ -232,7 +232,7 @@ pub(crate) const LARGE: &[Step] = &[
     Step::Term(TermStep::Doubled(16)),
 ];
 
-/// A term of depth 1,024 over `f` and `p`.
+/// A term of depth 16,384 over `f` and `p`.
 pub(crate) const DEEP: &[Step] = &[
     TRUTH,
     TRUTH,
@@ -240,10 +240,10 @@ pub(crate) const DEEP: &[Step] = &[
     Step::Term(TermStep::Free(b'f')),
     TRUTH,
     Step::Term(TermStep::Free(b'p')),
-    Step::Term(TermStep::Applied(1020)),
+    Step::Term(TermStep::Applied(16_380)),
 ];
 
-/// A term of size 660,282 and depth 1,024 over `f`, `g` and `p`.
+/// A term of size 737,082 and depth 16,384 over `f`, `g` and `p`.
 pub(crate) const LARGE_DEEP: &[Step] = &[
     TRUTH,
     TRUTH,
@@ -258,10 +258,10 @@ pub(crate) const LARGE_DEEP: &[Step] = &[
     TRUTH,
     Step::Term(TermStep::Free(b'p')),
     Step::Term(TermStep::Doubled(16)),
-    Step::Term(TermStep::Applied(986)),
+    Step::Term(TermStep::Applied(16_346)),
 ];
 
-/// A term of depth 1,023 over `f` and `p`.
+/// A term of depth 16,383 over `f` and `p`.
 pub(crate) const DEEP_BODY: &[Step] = &[
     TRUTH,
     TRUTH,
@@ -269,10 +269,10 @@ pub(crate) const DEEP_BODY: &[Step] = &[
     Step::Term(TermStep::Free(b'f')),
     TRUTH,
     Step::Term(TermStep::Free(b'p')),
-    Step::Term(TermStep::Applied(1019)),
+    Step::Term(TermStep::Applied(16_379)),
 ];
 
-/// A term of depth 1,022 over `f` and `p`.
+/// A term of depth 16,382 over `f` and `p`.
 pub(crate) const DEEP_BODY_OF_TWO: &[Step] = &[
     TRUTH,
     TRUTH,
@@ -280,7 +280,7 @@ pub(crate) const DEEP_BODY_OF_TWO: &[Step] = &[
     Step::Term(TermStep::Free(b'f')),
     TRUTH,
     Step::Term(TermStep::Free(b'p')),
-    Step::Term(TermStep::Applied(1018)),
+    Step::Term(TermStep::Applied(16_378)),
 ];
 
 /// The variable `v` of a type that was made before.

@@ -26,7 +26,7 @@ fn refusals_name_the_limit(rt: HostRuntime) -> Result<(), Fail> {
             Step::List,
             Kind::TooLarge,
         ),
-        (&[a, Step::Lists(1023)], Step::List, Kind::TooDeep),
+        (&[a, Step::Lists(16_383)], Step::List, Kind::TooDeep),
         (&[a, Step::Doubled(100_000)], Step::List, Kind::TooLarge),
         (
             &[a, Step::Doubled(19), a, Step::Doubled(19)],
@@ -34,7 +34,7 @@ fn refusals_name_the_limit(rt: HostRuntime) -> Result<(), Fail> {
             Kind::TooLarge,
         ),
         (
-            &[a, Step::Lists(1000), a, Step::Lists(1000)],
+            &[a, Step::Lists(10_000), a, Step::Lists(10_000)],
             Step::Put,
             Kind::TooDeep,
         ),

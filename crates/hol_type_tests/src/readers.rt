@@ -31,7 +31,10 @@ fn types_have_a_size_and_a_depth(rt: HostRuntime) -> Result<(), Fail> {
             ],
             (6, 5),
         ),
-        (&[Step::Variable(b'A'), Step::Lists(1023)], (1024, 1024)),
+        (
+            &[Step::Variable(b'A'), Step::Lists(16_383)],
+            (16_384, 16_384),
+        ),
         (
             &[Step::Variable(b'A'), Step::Doubled(19), Step::List],
             (1_048_576, 40),

@@ -16,8 +16,8 @@ use Rattle.hol_term.proofs.TermTable.abstraction_inferred.Goals as goal
 pub enter-requires : goal.enter-requires
 enter-requires c = rw c.requires.scopes (omega arith)
 
-pub inferred-requires-clause-seat : goal.inferred-requires-clause-seat
-inferred-requires-clause-seat c = (c.requires.body, slice_get_within _ _ _ c.in_ok-scope.ensures.entered)
+pub inferred-requires-clause-root : goal.inferred-requires-clause-root
+inferred-requires-clause-root c = (c.requires.body, slice_get_within _ _ _ c.in_ok-scope.ensures.entered)
 
 pub inferred-requires-clause-typings : goal.inferred-requires-clause-typings
 inferred-requires-clause-typings c =

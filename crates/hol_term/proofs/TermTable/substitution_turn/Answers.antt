@@ -1,0 +1,19 @@
+use Rattle.hol_term.proofs.TermTable.substitution_turn.Goals as goal
+
+pub returns-in-Visit-clause-walk : goal.returns-in-Visit-clause-walk
+returns-in-Visit-clause-walk c = rw c.in-Visit.is c.visit_image.ensures.walk
+
+pub returns-in-Visit-clause-less : goal.returns-in-Visit-clause-less
+returns-in-Visit-clause-less c = rw c.in-Visit.is c.visit_image.ensures.less
+
+pub returns-in-Apply-clause-walk : goal.returns-in-Apply-clause-walk
+returns-in-Apply-clause-walk c = rw c.in-Apply.is c.apply_images.ensures.walk
+
+pub returns-in-Apply-clause-less : goal.returns-in-Apply-clause-less
+returns-in-Apply-clause-less c = rw c.in-Apply.is c.apply_images.ensures.less
+
+pub returns-in-Abstract-clause-walk : goal.returns-in-Abstract-clause-walk
+returns-in-Abstract-clause-walk c = rw c.in-Abstract.is c.abstract_image.ensures.walk
+
+pub returns-in-Abstract-clause-less : goal.returns-in-Abstract-clause-less
+returns-in-Abstract-clause-less c = rw c.in-Abstract.is c.abstract_image.ensures.less

@@ -1,0 +1,14 @@
+use Rattle.std.proofs.Common.{refl, ◌∷◌}
+use Rattle.hol_term.proofs.WalkTurns.{OnOk-map, same_walk, walk_found, visit_less}
+use Rattle.hol_term.proofs.TermTable.visit.Goals as goal
+
+pub returns-in-Some-clause-walk : goal.returns-in-Some-clause-walk
+returns-in-Some-clause-walk c =
+    let walk = c.args.walk.now in
+    OnOk-map c.push.result (λ made from root w.
+    same_walk from c.args.self.now root c.args.args.now walk.tasks walk.tasks (c.in-Some.id ∷ walk.made) _ walk.memo walk.memo refl made refl
+    (walk_found from c.args.self.now root c.args.args.now c.args.place walk.tasks walk.made walk.memo w c.in-Some.id c.in-Some.ensures))
+    c.push.ensures.pushed
+
+pub returns-in-Some-clause-less : goal.returns-in-Some-clause-less
+returns-in-Some-clause-less c = OnOk-map c.push.result (λ made from root w. visit_less from c.args.self.now root c.args.args.now c.args.place c.args.walk.now.tasks c.args.walk.now.made c.args.walk.now.memo) c.push.ensures.pushed
