@@ -1,3 +1,3 @@
 pub mod Lists
 pub mod NameTexts
-pub mod Views
+pub mod Operators

@@ -1,5 +1,5 @@
 -- A name by the test whether it has one component.
-use Rattle.std.proofs.Common.{◌≡◌, Bool, true, false, List, [], ◌∷◌, length, codes, ap, sym, refl, ◌∙◌, arith}
+use Rattle.std.proofs.Common.{◌≡◌, ℕ, zero, suc, Bool, true, false, List, codes, ap, sym, refl, ◌∙◌}
 use Rattle.std.specs.Prelude.{IsTrue, ◌↔◌, if◌then◌else◌}
 use Rattle.std.specs.Bool.{Decides}
 use Rattle.hol_spec.specs.Names.{Name}
@@ -8,7 +8,7 @@ use Rattle.hol_spec.specs.ClosedForm as form
 use Rattle.hol_spec.specs.Primitives.{arrow_name, equality_name}
 use Rattle.hol_spec.specs.Mangling.{mangled}
 use Rattle.hol_laws.specs.NameEqualityLaws.{name_eq-Decides}
-use Rattle.sequent.specs.Closed.{closed_types_of}
+use Rattle.sequent.specs.Closed.{firsts, closed_types_of, no_type}
 use Rattle.decode_spec.specs.ClosedText.{name_text, is_function}
 
 -- a test of a name that fails, or holds
@@ -32,20 +32,16 @@ name_text-other n e = ap (λ b. if b then codes "=" else mangled n) e
 pub name_text-equality : (n : Name) → name_eq n equality_name ≡ true → name_text n ≡ codes "="
 name_text-equality n e = ap (λ b. if b then codes "=" else mangled n) e
 
--- the test whether an operator makes the type of functions, by what stands after its first argument
-function-one : (n : Name) (first : form.ClosedType) (ts : List form.ClosedType) → length ts ≡ 1 → name_eq n arrow_name ≡ is_function n (form.ClosedTypes.more first (closed_types_of ts))
-function-one n first [] e = absurd (cc)
-function-one n first (t ∷ []) e = refl
-function-one n first (t ∷ u ∷ ts) e = absurd (omega (arith, e))
-
-pub is_function-single : (b : Bool) (n : Name) (first : form.ClosedType) (ts : List form.ClosedType) → length ts ≡ 1 → (IsTrue b ↔ (n ≡ arrow_name)) → b ≡ is_function n (form.ClosedTypes.more first (closed_types_of ts))
-is_function-single b n first ts e t = same b refl ∙ function-one n first ts e
+-- the test whether an operator makes the type of functions, by how many arguments it has
+pub is_function-two : (b : Bool) (n : Name) (k : ℕ) (ts : List form.ClosedType) → k ≡ 2 → (IsTrue b ↔ (n ≡ arrow_name)) → b ≡ is_function n (closed_types_of (firsts no_type k ts))
+is_function-two b n k ts e t = same b refl ∙ ap (λ j. is_function n (closed_types_of (firsts no_type j ts))) (sym e)
   where
     same : (c : Bool) → b ≡ c → b ≡ name_eq n arrow_name
     same true f = f ∙ sym (equals b n arrow_name t f)
     same false f = f ∙ sym (differs b n arrow_name t f)
 
-pub is_function-other : (n : Name) (first : form.ClosedType) (ts : List form.ClosedType) → (length ts ≡ 1 → ⊥) → is_function n (form.ClosedTypes.more first (closed_types_of ts)) ≡ false
-is_function-other n first [] e = refl
-is_function-other n first (t ∷ []) e = absurd (e refl)
-is_function-other n first (t ∷ u ∷ ts) e = refl
+pub is_function-other : (n : Name) (k : ℕ) (ts : List form.ClosedType) → (k ≡ 2 → ⊥) → is_function n (closed_types_of (firsts no_type k ts)) ≡ false
+is_function-other n zero ts e = refl
+is_function-other n (suc zero) ts e = refl
+is_function-other n (suc (suc zero)) ts e = absurd (e refl)
+is_function-other n (suc (suc (suc k))) ts e = refl

@@ -4,7 +4,8 @@
 //! hypotheses; and the conclusion. A variable that a binder binds has the number of its binder, counted from outside, and
 //! names are mangled. The text is `closed_text` of `decode_spec`.
 //!
-//! It is made with a list of what is still to be written, so that a deep term takes memory alone.
+//! It is made in one pass over the nodes, with a list of what is still to be written, so that a deep term takes memory
+//! alone.
 //!
 //! ```text
 //! let mut text = Vec::new(alloc);
@@ -22,7 +23,7 @@ mod names;
 mod walk;
 
 use crate::names::{add_mark, add_numbered};
-use crate::walk::{Work, add};
+use crate::walk::{add_term, add_type};
 use bridge_base::Memory;
 use sequent::{Closed, ClosedTerm, ClosedType};
 use std::alloc::Global;
@@ -48,7 +49,7 @@ fn line_of(alloc: Global, closed: &Closed) -> Result<Vec<u8>, Memory>
     line.extend_from_slice(b"] {")?;
     add_hypotheses(alloc, &mut line, &closed.hyps)?;
     line.extend_from_slice(b"} |- ")?;
-    add(alloc, &mut line, Work::WriteTerm(&closed.concl, 0))?;
+    add_term(alloc, &mut line, &closed.concl)?;
     Ok(line)
 }
 
@@ -85,7 +86,7 @@ fn add_variable(
 {
     add_numbered(text, b"x", number as u128)?;
     text.extend_from_slice(b":")?;
-    add(alloc, text, Work::WriteType(ty))
+    add_type(alloc, text, ty)
 }
 
 // Adds hypotheses, with a comma and a blank between any two.
@@ -94,7 +95,7 @@ fn add_hypotheses(alloc: Global, text: &mut Vec<u8>, hyps: &[ClosedTerm]) -> Res
 {
     for (place, hyp) in hyps.iter().enumerate() {
         add_mark(text, place, b", ")?;
-        add(alloc, text, Work::WriteTerm(hyp, 0))?;
+        add_term(alloc, text, hyp)?;
     }
     Ok(())
 }

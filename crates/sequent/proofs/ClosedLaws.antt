@@ -1,44 +1,26 @@
 -- The closed form, level by level.
-use Rattle.std.proofs.Common.{rules, ◌≡◌, ℕ, zero, suc, ◌+◌, ◌<◌, ◌≤◌, refl, sym, ap, ◌∙◌, arith, List, [], ◌∷◌, ◌++◌, length, Vec, Global, cond, get_or}
+use Rattle.std.proofs.Common.{◌≡◌, ℕ, zero, suc, ◌+◌, ◌<◌, refl, sym, ap, ◌∙◌, arith, List, [], ◌∷◌, ◌++◌, length, cond, get_or}
 use Rattle.std.specs.Prelude.{map, take, not}
 use Rattle.std.specs.List.{position_or_len}
-use Rattle.std.proofs.lemmas.List.{map_push, map_more, take_all}
+use Rattle.std.proofs.lemmas.List.{map_push, map_more}
 use Rattle.std.proofs.Math.Path.{ap₂}
 use Rattle.hol_spec.specs.ClosedForm as form
-use Rattle.hol_spec.specs.ClosedForm.{close_type, close_types, close_term, closed_form, ClosedSequent}
+use Rattle.hol_spec.specs.ClosedForm.{close_type, close_term, closed_form}
 use Rattle.hol_spec.specs.Names.{Name}
 use Rattle.hol_spec.specs.Sequents.{Sequent, type_variables_of, free_variables_of}
 use Rattle.hol_spec.specs.Terms.{Variable as ATreeVariable, variable_eq, free}
-use Rattle.hol_spec.specs.Types.{HolType, operator, types_of}
 use Rattle.hol_type.specs.declared.table.TypeId.{TypeId}
 use Rattle.hol_type.specs.Tables as type
-use Rattle.hol_type.specs.Tables.{tree_at, types_at}
-use Rattle.hol_type.specs.TableLaws.{Holds-tree_at}
-use Rattle.hol_type.specs.Views.{AreBelow}
 use Rattle.hol_term.specs.declared.TermId.{TermId}
 use Rattle.hol_term.specs.declared.Variable.{Variable}
 use Rattle.hol_term.specs.Subterms.{variables_of, HaveTypes}
 use Rattle.hol_term.specs.Tables.{Trees, term_at, type_at, AreKnown, Holds}
 use Rattle.hol_term.specs.TableLaws.{Some-term_in}
 use Rattle.sequent.specs.declared.closed.Closed.{Closed}
-use Rattle.sequent.specs.declared.closed.ClosedTerm as terms
-use Rattle.sequent.specs.declared.closed.ClosedType as types
 use Rattle.sequent.specs.declared.closed.ClosedType.{ClosedType}
-use Rattle.sequent.specs.Closed.{closed_types_of, closed_type_view, closed_term_view, closed_view}
+use Rattle.sequent.specs.Closed.{closed_type_view, closed_term_view, closed_view}
 use Rattle.sequent.specs.Params.{is_variable}
 use Rattle.sequent.proofs.ParamLaws.{at, variable_eq-at, variables_of-map}
-
-closed_type_view-Operator : (n : Name) (ts : Vec ClosedType Global) → closed_type_view (types.Operator n ts) ≡ form.ClosedType.operator n (closed_types_of (map closed_type_view ts.items))
-closed_type_view-Operator n ts = search (rules, types.the_lemmas)
-
-closed_term_view-Parameter : (n : ℕ) → closed_term_view (terms.Parameter n) ≡ form.ClosedTerm.parameter n
-closed_term_view-Parameter n = search (rules, terms.the_lemmas)
-
--- a place among numbers below n has a number below n
-pub below_at : (n : ℕ) (ids : List TypeId) (i : ℕ) (d : TypeId) → i < length ids → AreBelow n ids → (get_or ids i d).0 < n
-below_at n [] i d h b = absurd (omega arith)
-below_at n (id ∷ ids) zero d h b = b.0
-below_at n (id ∷ ids) (suc i) d h b = below_at n ids i d (omega arith) b.1
 
 -- a place among numbers of a table has a number of the table
 pub known_at : (trees : Trees) (ids : List TermId) (i : ℕ) (d : TermId) → i < length ids → AreKnown trees ids → (get_or ids i d).0 < length trees.terms
@@ -54,18 +36,6 @@ have_type_at trees (v ∷ vs) (suc i) d h k = have_type_at trees vs i d (omega a
 
 pub has_type_at : (trees : Trees) (vs : List Variable) (i : ℕ) (v : Variable) → v ≡ get_or vs i v → i < length vs → HaveTypes trees vs → v.ty.0 < length trees.types
 has_type_at trees vs i v e h k = let known = have_type_at trees vs i v h k in omega (arith, known, ap (λ (w : Variable). w.ty.0) e)
-
-module _ (names : List Name) (trees : List HolType) where
-  close_types-at : (ids : List TypeId) → close_types names (types_of (types_at trees ids)) ≡ closed_types_of (map (λ (id : TypeId). close_type names (tree_at trees id.0)) ids)
-  close_types-at [] = refl
-  close_types-at (id ∷ ids) = ap (form.ClosedTypes.more (close_type names (tree_at trees id.0))) (close_types-at ids)
-
-  -- an operator over what was closed is the closed form of the operator
-  pub closed_operator : (id i : ℕ) (m n : Name) (ids : List TypeId) (ts : Vec ClosedType Global) → m ≡ n → type.Holds trees id (operator n (types_of (types_at trees ids))) → length ids ≤ i → map closed_type_view ts.items ≡ map (λ (id : TypeId). close_type names (tree_at trees id.0)) (take i ids) → closed_type_view (types.Operator m ts) ≡ close_type names (tree_at trees id)
-  closed_operator id i m n ids ts e f h g =
-      closed_type_view-Operator m ts
-      ∙ ap₂ form.ClosedType.operator e (ap closed_types_of (g ∙ ap (map (λ (id : TypeId). close_type names (tree_at trees id.0))) (take_all i ids h)) ∙ sym (close_types-at ids))
-      ∙ ap (close_type names) (sym (Holds-tree_at trees id (operator n (types_of (types_at trees ids))) f))
 
 -- the next of some variables is closed
 pub closes_next : (names : List Name) (trees : Trees) (vs : List Variable) (i : ℕ) (v : Variable) (old new : List ClosedType) (t : ClosedType) → v ≡ get_or vs i v → i < length vs → new ≡ old ++ t ∷ [] → closed_type_view t ≡ close_type names (type_at trees v.ty.0) → map closed_type_view old ≡ map (λ (w : ATreeVariable). close_type names w.1) (variables_of trees (take i vs)) → map closed_type_view new ≡ map (λ (w : ATreeVariable). close_type names w.1) (variables_of trees (take (i + 1) vs))
@@ -89,10 +59,9 @@ module _ (trees : Trees) (d : type.IsDistinct trees.types) (n : Name) (ty : Type
       ap₂ (λ b m. cond (not b) (1 + m) 0) (sym (variable_eq-at trees d (record { name = n; ty = ty }) v k h.0)) (place_of_variable-at vs h.1)
 
   -- the place of a free variable is its closed form
-  pub closed_free : (names : List Name) (vs found : List Variable) (id : ℕ) (place : ℕ) → HaveTypes trees vs → found ≡ vs → Holds trees id (free n (type_at trees ty.0)) → place ≡ position_or_len (is_variable n ty) found → closed_term_view (terms.Parameter place) ≡ close_term names (variables_of trees vs) (term_at trees id)
+  pub closed_free : (names : List Name) (vs found : List Variable) (id : ℕ) (place : ℕ) → HaveTypes trees vs → found ≡ vs → Holds trees id (free n (type_at trees ty.0)) → place ≡ position_or_len (is_variable n ty) found → form.ClosedTerm.parameter place ≡ close_term names (variables_of trees vs) (term_at trees id)
   closed_free names vs found id place h e f g =
-      closed_term_view-Parameter place
-      ∙ ap form.ClosedTerm.parameter (g ∙ ap (position_or_len (is_variable n ty)) e ∙ place_of_variable-at vs h)
+      ap form.ClosedTerm.parameter (g ∙ ap (position_or_len (is_variable n ty)) e ∙ place_of_variable-at vs h)
       ∙ ap (close_term names (variables_of trees vs)) (sym (Some-term_in trees.terms id (free n (type_at trees ty.0)) f))
 
 -- what is closed over a sequent's own parameters is its closed form

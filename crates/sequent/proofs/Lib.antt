@@ -1,3 +1,4 @@
 mod ClosedLaws
 mod HypLaws
 mod ParamLaws
+mod Turns

@@ -1,3 +1,5 @@
 pub mod Closed
+pub mod Closing
+pub mod Listings
 pub mod Params
 pub mod Sequents

@@ -29,7 +29,7 @@ mod hyps;
 mod params;
 
 use bridge_base::Memory;
-pub use closed::{Closed, ClosedTerm, ClosedType};
+pub use closed::{Closed, ClosedTerm, ClosedType, TermNode, TypeNode};
 use closed::{close_term, close_terms, close_variables};
 use hol_term::{TermId, TermTable};
 pub use hyps::Hyps;

@@ -4,14 +4,28 @@ ghost use Rattle.sequent.specs.Sequents.{IsKnown};
 use crate::trials::{Trial, comes_out};
 use bridge_base::Memory;
 use hol_term::TermTable;
-use sequent::{Closed, ClosedTerm, ClosedType, Sequent};
+use sequent::{Closed, ClosedTerm, ClosedType, Sequent, TermNode, TypeNode};
 use std::alloc::Global;
 use std::test::Fail;
 
+fn is_variable(node: &TypeNode, number: usize) -> bool {
+    match node {
+        TypeNode::Parameter(place) => *place == number,
+        TypeNode::Operator(..) => false,
+    }
+}
+
+fn is_operator(node: &TypeNode, wanted: &[u8], arguments: usize) -> bool {
+    match node {
+        TypeNode::Operator(name, count) => name.is_single(wanted) && *count == arguments,
+        TypeNode::Parameter(_) => false,
+    }
+}
+
 fn is_type_parameter(ty: &ClosedType, number: usize) -> bool {
-    match ty {
-        ClosedType::Parameter(place) => *place == number,
-        ClosedType::Operator(..) => false,
+    match ty.nodes.as_slice() {
+        [node] => is_variable(node, number),
+        _ => false,
     }
 }
 
@@ -24,74 +38,53 @@ fn are_type_parameters(types: &[ClosedType], wanted: &[usize]) -> bool {
             .all(|(ty, number)| is_type_parameter(ty, *number))
 }
 
-fn is_bool(ty: &ClosedType) -> bool {
-    match ty {
-        ClosedType::Operator(name, args) => name.is_single(b"bool") && args.is_empty(),
-        ClosedType::Parameter(_) => false,
-    }
-}
-
-// The two sides of a type of functions.
-fn sides(ty: &ClosedType) -> Option<(&ClosedType, &ClosedType)> {
-    match ty {
-        ClosedType::Operator(name, args) => match args.as_slice() {
-            [domain, codomain] if name.is_single(b"->") => Some((domain, codomain)),
-            _ => None,
-        },
-        ClosedType::Parameter(_) => None,
-    }
-}
-
 // Whether a type is that of the relations over a type variable.
 fn is_relation(ty: &ClosedType, number: usize) -> bool {
-    let Some((first, predicate)) = sides(ty) else {
-        return false;
-    };
-    let Some((second, truth)) = sides(predicate) else {
-        return false;
-    };
-    is_type_parameter(first, number) && is_type_parameter(second, number) && is_bool(truth)
-}
-
-fn is_parameter(term: &ClosedTerm, number: usize) -> bool {
-    match term {
-        ClosedTerm::Parameter(place) => *place == number,
-        ClosedTerm::Bound(_)
-        | ClosedTerm::Constant(..)
-        | ClosedTerm::App(..)
-        | ClosedTerm::Lam(..) => false,
+    match ty.nodes.as_slice() {
+        [relation, first, predicate, second, truth] => {
+            is_operator(relation, b"->", 2)
+                && is_variable(first, number)
+                && is_operator(predicate, b"->", 2)
+                && is_variable(second, number)
+                && is_operator(truth, b"bool", 0)
+        }
+        _ => false,
     }
 }
 
-fn is_equality(term: &ClosedTerm, number: usize) -> bool {
-    match term {
-        ClosedTerm::Constant(name, ty) => name.is_single(b"=") && is_relation(ty, number),
-        ClosedTerm::Parameter(_)
-        | ClosedTerm::Bound(_)
-        | ClosedTerm::App(..)
-        | ClosedTerm::Lam(..) => false,
+fn is_application(node: &TermNode) -> bool {
+    match node {
+        TermNode::App => true,
+        TermNode::Parameter(_) | TermNode::Bound(_) | TermNode::Constant(..) | TermNode::Lam(_) =>
+            false,
     }
 }
 
-// Whether a term is a constant of equality over a type variable, applied to a variable.
-fn is_half(term: &ClosedTerm, ty: usize, l: usize) -> bool {
-    match term {
-        ClosedTerm::App(equality, left) => is_equality(equality, ty) && is_parameter(left, l),
-        ClosedTerm::Parameter(_)
-        | ClosedTerm::Bound(_)
-        | ClosedTerm::Constant(..)
-        | ClosedTerm::Lam(..) => false,
+fn is_parameter(node: &TermNode, number: usize) -> bool {
+    match node {
+        TermNode::Parameter(place) => *place == number,
+        TermNode::Bound(_) | TermNode::Constant(..) | TermNode::App | TermNode::Lam(_) => false,
+    }
+}
+
+fn is_equality(node: &TermNode, number: usize) -> bool {
+    match node {
+        TermNode::Constant(name, ty) => name.is_single(b"=") && is_relation(ty, number),
+        TermNode::Parameter(_) | TermNode::Bound(_) | TermNode::App | TermNode::Lam(_) => false,
     }
 }
 
 // Whether a term is the equation of two variables over a type variable, all by number.
 fn is_equation(term: &ClosedTerm, (ty, l, r): (usize, usize, usize)) -> bool {
-    match term {
-        ClosedTerm::App(half, right) => is_half(half, ty, l) && is_parameter(right, r),
-        ClosedTerm::Parameter(_)
-        | ClosedTerm::Bound(_)
-        | ClosedTerm::Constant(..)
-        | ClosedTerm::Lam(..) => false,
+    match term.nodes.as_slice() {
+        [equation, half, equality, left, right] => {
+            is_application(equation)
+                && is_application(half)
+                && is_equality(equality, ty)
+                && is_parameter(left, l)
+                && is_parameter(right, r)
+        }
+        _ => false,
     }
 }
 

@@ -1,6 +1,5 @@
 -- The parts of a closed sequent one after another, from the last to the first.
 use Rattle.std.proofs.Common.{◌≡◌, ℕ, zero, suc, ◌+◌, ◌<◌, List, [], ◌∷◌, ◌++◌, map, length, refl, sym, ap, subst, ◌∙◌, arith}
-use Rattle.std.specs.Borrow.{Bor}
 use Rattle.std.specs.Prelude.{replicate}
 use Rattle.std.proofs.lemmas.List.{map_push}
 use Rattle.hol_laws.specs.RenamingLaws.{length_map}
@@ -10,7 +9,7 @@ use Rattle.hol_spec.specs.Types.{HolType}
 use Rattle.hol_spec.specs.Terms.{Term}
 use Rattle.hol_spec.specs.ClosedForm as form
 use Rattle.lp_spec.specs.Trees.{Tree, Sym, App, Pi}
-use Rattle.lp_spec.specs.Modules.{applied, products, types, term_of, proof_of}
+use Rattle.lp_spec.specs.Modules.{products, types, term_of, proof_of}
 use Rattle.lp_term.specs.declared.LpId.{LpId}
 use Rattle.lp_term.specs.Tables.{tree_at, Holds, Keeps}
 use Rattle.lp_term.specs.TableLaws.{Holds-tree_at, tree_at-Stays}
@@ -18,10 +17,9 @@ use Rattle.holide_sig.specs.declared.module.Module.{Module}
 use Rattle.module_spec.specs.Scopes.{type_tree, term_tree}
 use Rattle.sequent.specs.declared.closed.ClosedType.{ClosedType}
 use Rattle.sequent.specs.declared.closed.ClosedTerm.{ClosedTerm}
-use Rattle.sequent.specs.Closed.{closed_type_view, closed_term_view, closed_types_of}
-use Rattle.translate_term.specs.declared.closed.Work.{Work}
-use Rattle.translate_term.specs.declared.closed.Work.TheVariants as work
-use Rattle.translate_term.specs.Closed.{Numbered, types_under, scope_under, IsInside, IsTypeOf, IsTermOf, Makes, IsNumbered, IsClosedStart, hypothesis_domains, variable_domains, types_work, type_work}
+use Rattle.sequent.specs.Closed.{closed_type_view, closed_term_view}
+use Rattle.translate_term.specs.Closed.{Numbered, types_under, scope_under, IsInside, IsTypeOf, IsTermOf, IsNumbered, IsTypeToMake, IsTermToMake, hypothesis_domains, variable_domains}
+use Rattle.translate_term.proofs.ClosedTurns.{IsNumbered-names}
 
 -- The last of two lists that go together.
 pub record EndsIn {A B : Type 0} (P : A → B → Type 0) (front : List A) (x : A) (ts : List B) : Type 0 where
@@ -102,13 +100,11 @@ module _ (given : Numbered) where
             ∙ h.is;
       }
 
-  pub term_start : (m : Module) (k : ℕ) (x : Bor ClosedTerm) (depth : ℕ) (t : Term) → IsNumbered given m k → IsInside given depth → IsTermOf given (closed_term_view x.now) t
-      → IsClosedStart given (term_tree given.symbols (scope_under given depth) t) m k (work.MakeTerm x depth)
-  term_start m k x depth t numbered within of = record { numbered = numbered; makes = (t, of, within, refl) }
+  pub term_start : (m : Module) (k : ℕ) (x : ClosedTerm) (depth : ℕ) (t : Term) → IsNumbered given m k → IsInside given depth → IsTermOf given (closed_term_view x) t → IsTermToMake given t m k (closed_term_view x) depth
+  term_start m k x depth t numbered within of = record { numbered = numbered; of = of; inside = within }
 
-  pub type_start : (m : Module) (k : ℕ) (x : Bor ClosedType) (depth : ℕ) (t : HolType) → IsNumbered given m k → IsTypeOf given (closed_type_view x.now) t
-      → IsClosedStart given (type_tree given.symbols (types_under given depth) t) m k (work.MakeType x depth)
-  type_start m k x depth t numbered of = record { numbered = numbered; makes = (t, of, refl) }
+  pub type_start : (m : Module) (k : ℕ) (x : ClosedType) (t : HolType) → IsNumbered given m k → IsTypeOf given (closed_type_view x) t → IsTypeToMake given t m (closed_type_view x)
+  type_start m k x t numbered of = record { numbered = IsNumbered-names numbered; of = of }
 
   pub hypotheses_goes_on : (outside : ℕ) (front : List ClosedTerm) (x : ClosedTerm) (depth : ℕ) (product goal made : Tree) → (n : HypothesisNext outside front x depth product goal) → made ≡ Pi (proof_of (term_tree given.symbols (scope_under given depth) n.term)) product
       → HypothesesLeft outside (map closed_term_view front) made goal
@@ -163,48 +159,6 @@ module _ (given : Numbered) where
       go : (left : List HolType) → Pairwise (IsTypeOf given) [] left → products (variable_domains given outside left) product ≡ goal → product ≡ goal
       go [] a is = is
       go (t ∷ ts) a is = absurd a
-
--- Arguments of an operator.
-applied-last : (f : Tree) (xs : List Tree) (x : Tree) → applied f (xs ++ x ∷ []) ≡ App (applied f xs) x
-applied-last f [] x = refl
-applied-last f (y ∷ ys) x = applied-last (App f y) ys x
-
--- the arguments that are left are applied before these tasks
-pub record ArgumentsLeft (given : Numbered) (root head : Tree) (made : List Tree) (depth : ℕ) (closed : List form.ClosedType) (tasks : List Work) : Type 0 where
-  pub left : List HolType
-  pub are : Pairwise (IsTypeOf given) closed left
-  pub makes : Makes given root tasks (applied head (map (type_tree given.symbols (types_under given depth)) left) ∷ made)
-
-pub arguments_goes_on : (given : Numbered) (root head : Tree) (made : List Tree) (depth : ℕ) (rest front : List ClosedType) (x : Bor ClosedType) (tasks : List Work) → front ++ x.now ∷ [] ≡ rest
-    → ArgumentsLeft given root head made depth (map closed_type_view rest) tasks → ArgumentsLeft given root head made depth (map closed_type_view front) (work.MakeType x depth ∷ work.Apply ∷ tasks)
-arguments_goes_on given root head made depth rest front x tasks e h =
-    let split : map closed_type_view rest ≡ map closed_type_view front ++ closed_type_view x.now ∷ [] = ap (map closed_type_view) (sym e) ∙ map_push closed_type_view front x.now in
-    let ends = pairwise-last (IsTypeOf given) (map closed_type_view front) (closed_type_view x.now) h.left (subst (λ l. Pairwise (IsTypeOf given) l h.left) split h.are) in
-    let tree = type_tree given.symbols (types_under given depth) in
-    let is : applied head (map tree h.left) ≡ App (applied head (map tree ends.others)) (tree ends.last) = ap (λ l. applied head (map tree l)) ends.is ∙ ap (applied head) (map_push tree ends.others ends.last) ∙ applied-last head (map tree ends.others) (tree ends.last) in
-    record { left = ends.others; are = ends.all; makes = (ends.last, ends.of, subst (λ t. Makes given root tasks (t ∷ made)) is h.makes) }
-
-pub arguments_end : (given : Numbered) (root head : Tree) (made : List Tree) (depth : ℕ) (rest : List ClosedType) (tasks : List Work) → rest ≡ [] → ArgumentsLeft given root head made depth (map closed_type_view rest) tasks → Makes given root tasks (head ∷ made)
-arguments_end given root head made depth rest tasks e h = go h.left (subst (λ l. Pairwise (IsTypeOf given) (map closed_type_view l) h.left) e h.are) h.makes
-  where
-    go : (left : List HolType) → Pairwise (IsTypeOf given) [] left → Makes given root tasks (applied head (map (type_tree given.symbols (types_under given depth)) left) ∷ made) → Makes given root tasks (head ∷ made)
-    go [] a m = m
-    go (t ∷ ts) a m = absurd a
-
--- and are as much work as there was
-types_work-last : (cs : List form.ClosedType) (c : form.ClosedType) → types_work (closed_types_of (cs ++ c ∷ [])) ≡ types_work (closed_types_of cs) + 1 + type_work c
-types_work-last [] c = omega arith
-types_work-last (d ∷ cs) c = let h = types_work-last cs c in omega (arith, h)
-
-pub work_goes_on : (rest front : List ClosedType) (x : ClosedType) (k : ℕ) → front ++ x ∷ [] ≡ rest
-    → types_work (closed_types_of (map closed_type_view front)) + (type_work (closed_type_view x) + (1 + k)) ≡ types_work (closed_types_of (map closed_type_view rest)) + k
-work_goes_on rest front x k e =
-    let split : map closed_type_view rest ≡ map closed_type_view front ++ closed_type_view x ∷ [] = ap (map closed_type_view) (sym e) ∙ map_push closed_type_view front x in
-    let h = ap (λ l. types_work (closed_types_of l)) split ∙ types_work-last (map closed_type_view front) (closed_type_view x) in
-    omega (arith, h)
-
-pub work_end : (rest : List ClosedType) (k : ℕ) → rest ≡ [] → types_work (closed_types_of (map closed_type_view rest)) + k ≡ k
-work_end rest k e = let h = ap (λ l. types_work (closed_types_of (map closed_type_view l))) e in omega (arith, h)
 
 -- Type variables.
 pub types-last : (k : ℕ) (t : Tree) → products (replicate k types) (Pi types t) ≡ products (replicate (suc k) types) t

@@ -1,6 +1,5 @@
 -- The product over the parameters of a closed sequent, made part by part, is the type of its theorems.
 use Rattle.std.proofs.Common.{◌≡◌, ℕ, ◌+◌, ◌<◌, ◌≤◌, map, length, refl, sym, ap, subst, ◌∙◌, arith}
-use Rattle.std.specs.Borrow.{Bor}
 use Rattle.std.specs.Prelude.{replicate}
 use Rattle.hol_laws.specs.RenamingLaws.{length_map}
 use Rattle.hol_spec.specs.Terms.{Variable}
@@ -14,10 +13,9 @@ use Rattle.module_spec.specs.Scopes.{Symbols, term_tree, sequent_tree}
 use Rattle.sequent.specs.declared.closed.Closed.{Closed}
 use Rattle.sequent.specs.declared.closed.ClosedTerm.{ClosedTerm}
 use Rattle.sequent.specs.Closed.{closed_type_view, closed_term_view, closed_view}
-use Rattle.translate_term.specs.declared.closed.Work.TheVariants as work
 use Rattle.translate_term.specs.Told.{TellsClosed}
 use Rattle.translate_term.specs.Walks.{Grows}
-use Rattle.translate_term.specs.Closed.{Numbered, scope_under, IsTypeOf, IsTermOf, IsInside, IsNumbered, IsClosedStart, AreHypotheses, AreVariables, hypothesis_domains, numbered_of, statement_under, variable_domains}
+use Rattle.translate_term.specs.Closed.{Numbered, scope_under, IsTypeOf, IsTermOf, IsInside, IsNumbered, IsTermToMake, AreHypotheses, AreVariables, hypothesis_domains, numbered_of, statement_under, variable_domains}
 use Rattle.translate_term.proofs.ParameterScopes.{sequent_tree-under, hypotheses-are, conclusion-is, variables-are, count-is}
 use Rattle.translate_term.proofs.ClosedTurns.{IsNumbered-Grows}
 use Rattle.translate_term.proofs.ClosedParts.{pairwise-length, term_start}
@@ -44,8 +42,8 @@ module _ (symbols : Symbols) (s : Sequent) (m : Module) (closed : Closed) (told 
   within : (depth : ℕ) → closed.type_vars + length closed.free_vars.items ≤ depth → IsInside given depth
   within depth h = let c = numbered.count in let v = variables-count in omega (arith, h, c, v)
 
-  pub conclusion_start : (x : Bor ClosedTerm) (proofs : ℕ) → x.now ≡ closed.concl → proofs ≡ closed.type_vars + length closed.free_vars.items + length closed.hyps.items
-      → IsClosedStart given (term_tree symbols (scope_under given proofs) s.conclusion) m closed.type_vars (work.MakeTerm x proofs)
+  pub conclusion_start : (x : ClosedTerm) (proofs : ℕ) → x ≡ closed.concl → proofs ≡ closed.type_vars + length closed.free_vars.items + length closed.hyps.items
+      → IsTermToMake given s.conclusion m closed.type_vars (closed_term_view x) proofs
   conclusion_start x proofs e p =
       term_start given m closed.type_vars x proofs s.conclusion numbered (within proofs (omega (arith, p)))
       (subst (λ c. IsTermOf given (closed_term_view c) s.conclusion) (sym e) (conclusion-is (declarations_of m) symbols s (closed_view closed) told))

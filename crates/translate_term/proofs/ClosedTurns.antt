@@ -1,6 +1,5 @@
 -- What a turn does to a walk over a closed sequent's parts.
-use Rattle.std.proofs.Common.{◌≡◌, ℕ, suc, ◌+◌, ◌-◌, ◌<◌, ◌≤◌, List, [], ◌∷◌, map, length, Some, refl, sym, ap, subst, ◌∙◌, arith}
-use Rattle.std.specs.Borrow.{Bor}
+use Rattle.std.proofs.Common.{◌≡◌, ℕ, zero, suc, ◌+◌, ◌-◌, ◌<◌, ◌≤◌, List, [], ◌∷◌, map, length, Some, refl, sym, ap, subst, ◌∙◌, arith}
 use Rattle.std.specs.Prelude.{IsSome, is_some}
 use Rattle.std.specs.List.{AllByRecursion}
 use Rattle.std.proofs.Math.Path.{ap₂}
@@ -21,32 +20,51 @@ use Rattle.lp_term.specs.Tables.{tree_at, trees_at, AreKnown, Holds}
 use Rattle.lp_term.specs.TableLaws.{Holds-tree_at, Holds-within, tree_at-Holds}
 use Rattle.holide_sig.specs.declared.module.Module.{Module}
 use Rattle.holide_sig.specs.Modules.{declarations_of}
-use Rattle.module_spec.specs.Scopes.{Symbols, TypeScope, operator_symbol, type_tree, type_trees, term_tree, constant_tree}
+use Rattle.module_spec.specs.Scopes.{TypeScope, operator_symbol, type_tree, type_trees, term_tree, constant_tree}
 use Rattle.sequent.specs.declared.closed.ClosedType.{ClosedType}
-use Rattle.sequent.specs.declared.closed.ClosedTerm.{ClosedTerm}
-use Rattle.sequent.specs.Closed.{closed_type_view, closed_term_view, closed_types_of}
-use Rattle.translate_term.specs.declared.closed.Work.{Work}
-use Rattle.translate_term.specs.declared.closed.Work.TheVariants as work
+use Rattle.sequent.specs.declared.closed.TypeNode.{TypeNode}
+use Rattle.sequent.specs.declared.closed.TermNode.{TermNode}
+use Rattle.sequent.specs.Closed.{first, others, firsts, behind, no_type, no_term, closed_type_view, closed_types_of, type_step, term_step, spelled_types, spelled_terms}
+use Rattle.translate_term.specs.declared.closed.TypeWork.{TypeWork}
+use Rattle.translate_term.specs.declared.closed.TypeWork.TheVariants as type_work
+use Rattle.translate_term.specs.declared.closed.TermWork.{TermWork}
+use Rattle.translate_term.specs.declared.closed.TermWork.TheVariants as term_work
 use Rattle.translate_term.specs.Told.{TellsTypes, TellsConstant, told_operator}
 use Rattle.translate_term.specs.Patterns.{IsTypeTree}
 use Rattle.translate_term.specs.Walks.{Grows}
-use Rattle.translate_term.specs.Closed.{Numbered, types_under, scope_under, IsInside, IsTypeOf, IsTermOf, Makes, IsNumbered, IsClosedStart, IsClosedWalk, IsPut, IsTypeVisit, IsTermVisit}
+use Rattle.translate_term.specs.Closed.{Numbered, types_under, scope_under, IsInside, IsTypeOf, IsTermOf, MakesTypes, MakesTerms, IsNumbered, IsTypeWalk, IsTermWalk, IsTypeToMake, IsTermToMake, IsPut}
 use Rattle.translate_term.specs.GrowLaws.{IsHeld-Grows, declarations_of-Grows, trees_at-Keeps, AreKnown-Keeps}
 use Rattle.translate_term.proofs.ParameterScopes.{TellsTerm-AreInstances, type-placed, variable-placed, term_tree-inside_under}
 
 pub IsNumbered-Grows : {m n : Module} → Grows m n → (given : Numbered) (k : ℕ) → IsNumbered given m k → IsNumbered given n k
 IsNumbered-Grows {m = m} {n = n} g given k h = record { held = IsHeld-Grows m n g h.held; declared = declarations_of-Grows m n g h.held ∙ h.declared; count = h.count }
 
+-- the count of the type variables is theirs
+pub IsNumbered-names : {given : Numbered} {m : Module} {k : ℕ} → IsNumbered given m k → IsNumbered given m (length given.names)
+IsNumbered-names h = record { held = h.held; declared = h.declared; count = refl }
+
 -- a tree that was made is put on those that were made before
-pub walk_made : (given : Numbered) (root : Tree) (m now : Module) (k : ℕ) (tasks : List Work) (made after : List LpId) (x : Tree) → Grows m now → IsNumbered given m k → AreKnown m.table made → IsPut made after now.table x
-    → Makes given root tasks (x ∷ trees_at m.table made) → IsClosedWalk given root now k tasks after
-walk_made given root m now k tasks made after x g numbered known p makes =
-    subst (IsClosedWalk given root now k tasks) (sym p.is)
-    (record {
-      numbered = IsNumbered-Grows g given k numbered;
-      known = (Holds-within now.table p.id.0 x p.holds, AreKnown-Keeps g.table made known);
-      makes = subst (Makes given root tasks) (ap₂ (λ t l. t ∷ l) (sym (Holds-tree_at now.table p.id.0 x p.holds)) (sym (trees_at-Keeps g.table made known))) makes;
-    })
+put_known : (m now : Module) (made after : List LpId) (x : Tree) → Grows m now → AreKnown m.table made → IsPut made after now.table x → AreKnown now.table after
+put_known m now made after x g known p = subst (AreKnown now.table) (sym p.is) (Holds-within now.table p.id.0 x p.holds, AreKnown-Keeps g.table made known)
+
+put_trees : (m now : Module) (made after : List LpId) (x : Tree) → Grows m now → AreKnown m.table made → IsPut made after now.table x → x ∷ trees_at m.table made ≡ trees_at now.table after
+put_trees m now made after x g known p = ap₂ (λ t l. t ∷ l) (sym (Holds-tree_at now.table p.id.0 x p.holds)) (sym (trees_at-Keeps g.table made known)) ∙ ap (trees_at now.table) (sym p.is)
+
+type_made : (given : Numbered) (root : Tree) (m now : Module) (depth : ℕ) (works : List TypeWork) (ts : List form.ClosedType) (made after : List LpId) (x : Tree) → Grows m now → IsNumbered given m (length given.names) → AreKnown m.table made → IsPut made after now.table x
+    → MakesTypes given depth root works ts (x ∷ trees_at m.table made) → IsTypeWalk given root now depth works ts after
+type_made given root m now depth works ts made after x g numbered known p makes = record {
+  numbered = IsNumbered-Grows g given (length given.names) numbered;
+  known = put_known m now made after x g known p;
+  makes = subst (MakesTypes given depth root works ts) (put_trees m now made after x g known p) makes;
+}
+
+term_made : (given : Numbered) (root : Tree) (m now : Module) (k : ℕ) (works : List TermWork) (ts : List form.ClosedTerm) (made after : List LpId) (x : Tree) → Grows m now → IsNumbered given m k → AreKnown m.table made → IsPut made after now.table x
+    → MakesTerms given root works ts (x ∷ trees_at m.table made) → IsTermWalk given root now k works ts after
+term_made given root m now k works ts made after x g numbered known p makes = record {
+  numbered = IsNumbered-Grows g given k numbered;
+  known = put_known m now made after x g known p;
+  makes = subst (MakesTerms given root works ts) (put_trees m now made after x g known p) makes;
+}
 
 -- The heads of closed types.
 module _ (given : Numbered) where
@@ -185,145 +203,190 @@ module _ (given : Numbered) where
         is = ap (Lam (term_of (type_tree given.symbols (types_under given depth) a))) (term_tree-inside_under given depth within b (TellsTerm-AreInstances given.declarations given.symbols b h.told.1) over h.terms);
       }
 
--- Visits of types.
-module _ (given : Numbered) (root : Tree) (m : Module) (k depth : ℕ) (tasks : List Work) (made after : List LpId) where
-  -- a type variable
-  pub type_leaf : (now : Module) (i : ℕ) → Grows m now → IsPut made after now.table (Var (depth - i - 1)) → IsTypeVisit given root m k (form.ClosedType.parameter i) depth tasks made → IsClosedWalk given root now k tasks after
-  type_leaf now i g p v = walk_made given root m now k tasks made after _ g v.numbered v.known (subst (IsPut made after now.table) (sym (type-parameter given i depth v.ty v.of)) p) v.makes
+-- A type whose tree is to be made.
+pub type_begins : (given : Numbered) (m : Module) (t : HolType) (nodes : List TypeNode) (depth : ℕ) → IsTypeToMake given t m (first no_type (spelled_types nodes)) → IsTypeWalk given (type_tree given.symbols (types_under given depth) t) m depth (type_work.Next ∷ []) (spelled_types nodes) []
+type_begins given m t nodes depth s = record { numbered = s.numbered; known = tt; makes = (t, s.of, refl) }
 
-  -- the symbol of an operator is found
-  pub operator-found : (n : Name) (cs : List form.ClosedType) (arity : ℕ) → arity ≡ length cs → IsTypeVisit given root m k (form.ClosedType.operator n (closed_types_of cs)) depth tasks made → IsSome (told_operator (declarations_of m) n arity)
-  operator-found n cs arity e v = ap is_some (ap₂ (λ d j. told_operator d n j) v.numbered.declared e ∙ (type-operator given n cs v.ty v.of).symbol)
+pub type_one : (given : Numbered) (root : Tree) (m : Module) (depth : ℕ) (ts : List form.ClosedType) (made : List LpId) → IsTypeWalk given root m depth [] ts made → 0 < length made
+type_one given root m depth ts [] w = absurd (let e : [] ≡ root ∷ [] = w.makes in cc)
+type_one given root m depth ts (x ∷ made) w = omega arith
 
-  -- and applied to the arguments, which are set out
-  pub type_set_out : (now : Module) (n : Name) (cs : List form.ClosedType) (arity : ℕ) (next : List Work) → arity ≡ length cs → Grows m now → ((s : ℕ) → told_operator (declarations_of m) n arity ≡ Some s → IsPut made after now.table (Sym s))
-      → ((given : Numbered) (root head : Tree) (made : List Tree) (ts : List HolType) → Pairwise (IsTypeOf given) cs ts → Makes given root tasks (applied head (map (type_tree given.symbols (types_under given depth)) ts) ∷ made) → Makes given root next (head ∷ made))
-      → IsTypeVisit given root m k (form.ClosedType.operator n (closed_types_of cs)) depth tasks made → IsClosedWalk given root now k next after
-  type_set_out now n cs arity next e g put sets v =
-      let o = type-operator given n cs v.ty v.of in
-      let scope = types_under given depth in
-      let s = operator_symbol given.symbols n (count o.ts) in
-      let is : type_tree given.symbols scope v.ty ≡ applied (Sym s) (map (type_tree given.symbols scope) (listed o.ts)) = ap (type_tree given.symbols scope) o.is ∙ ap (applied (Sym s)) (trees-listed given scope o.ts) in
-      walk_made given root m now k next made after (Sym s) g v.numbered v.known (put s (ap₂ (λ d j. told_operator d n j) v.numbered.declared e ∙ o.symbol))
-      (sets given root (Sym s) (trees_at m.table made) (listed o.ts) o.are (subst (λ t. Makes given root tasks (t ∷ trees_at m.table made)) is v.makes))
-
--- Visits of terms.
-module _ (given : Numbered) (root : Tree) (m : Module) (k depth : ℕ) (tasks : List Work) (made : List LpId) where
-  -- a free variable
-  pub term_leaf : (now : Module) (j : ℕ) (after : List LpId) → Grows m now → IsPut made after now.table (Var (depth - (k + j) - 1)) → IsTermVisit given root m k (form.ClosedTerm.parameter j) depth tasks made → IsClosedWalk given root now k tasks after
-  term_leaf now j after g p v =
-      let is = ap (λ n. Var (depth - (n + j) - 1)) (sym v.numbered.count) ∙ sym (term-parameter given j depth v.term v.of) in
-      walk_made given root m now k tasks made after _ g v.numbered v.known (subst (IsPut made after now.table) is p) v.makes
-
-  pub term_number : (now : Module) (i : ℕ) (after : List LpId) → Grows m now → IsPut made after now.table (Var i) → IsTermVisit given root m k (form.ClosedTerm.bound i) depth tasks made → IsClosedWalk given root now k tasks after
-  term_number now i after g p v = walk_made given root m now k tasks made after _ g v.numbered v.known (subst (IsPut made after now.table) (sym (term-bound given i depth v.term v.of)) p) v.makes
-
-  pub constant_set_out : (n : Bor Name) (ty : Bor ClosedType) → IsTermVisit given root m k (form.ClosedTerm.constant n.now (closed_type_view ty.now)) depth tasks made
-      → IsClosedWalk given root m k (work.MakeType ty depth ∷ work.Constant n ∷ tasks) made
-  constant_set_out n ty v =
-      let c = term-constant given n.now (closed_type_view ty.now) depth v.term v.of in
-      record {
-        numbered = v.numbered;
-        known = v.known;
-        makes = (c.ty, c.of, (types_under given depth, c.ty, c.told, refl, subst (λ t. Makes given root tasks (t ∷ trees_at m.table made)) c.is v.makes));
-      }
-
-  pub application_set_out : (f x : Bor ClosedTerm) → IsTermVisit given root m k (form.ClosedTerm.app (closed_term_view f.now) (closed_term_view x.now)) depth tasks made
-      → IsClosedWalk given root m k (work.MakeTerm f depth ∷ work.MakeTerm x depth ∷ work.Apply ∷ tasks) made
-  application_set_out f x v =
-      let a = term-application given (closed_term_view f.now) (closed_term_view x.now) depth v.term v.of in
-      record {
-        numbered = v.numbered;
-        known = v.known;
-        makes = (a.function, a.function_of, v.inside, (a.argument, a.argument_of, v.inside, subst (λ t. Makes given root tasks (t ∷ trees_at m.table made)) a.is v.makes));
-      }
-
-  pub abstraction_set_out : (ty : Bor ClosedType) (b : Bor ClosedTerm) (within : ℕ) → within ≡ depth + 1 → IsTermVisit given root m k (form.ClosedTerm.lam (closed_type_view ty.now) (closed_term_view b.now)) depth tasks made
-      → IsClosedWalk given root m k (work.MakeType ty depth ∷ work.MakeTerm b within ∷ work.Bind ∷ tasks) made
-  abstraction_set_out ty b within e v =
-      let a = term-abstraction given (closed_type_view ty.now) (closed_term_view b.now) depth v.inside v.term v.of in
-      let next : suc depth ≡ within = omega (arith, e) in
-      let more : length given.names + length given.variables ≤ within = omega (arith, e, v.inside) in
-      let tree = subst (λ j. term_tree given.symbols (scope_under given depth) v.term ≡ Lam (term_of (type_tree given.symbols (types_under given depth) a.ty)) (term_tree given.symbols (scope_under given j) a.body)) next a.is in
-      record {
-        numbered = v.numbered;
-        known = v.known;
-        makes = (a.ty, a.ty_of, (a.body, a.body_of, more, subst (λ t. Makes given root tasks (t ∷ trees_at m.table made)) tree v.makes));
-      }
-
--- Turns of the walk.
-module _ (given : Numbered) (root : Tree) (m : Module) (k : ℕ) (tasks : List Work) where
-  pub type_turn : (ty : Bor ClosedType) (depth : ℕ) (made : List LpId) → IsClosedWalk given root m k (work.MakeType ty depth ∷ tasks) made → IsTypeVisit given root m k (closed_type_view ty.now) depth tasks made
-  type_turn ty depth made w = record { numbered = w.numbered; known = w.known; ty = w.makes.0; of = w.makes.1; makes = w.makes.2 }
-
-  pub term_turn : (t : Bor ClosedTerm) (depth : ℕ) (made : List LpId) → IsClosedWalk given root m k (work.MakeTerm t depth ∷ tasks) made → IsTermVisit given root m k (closed_term_view t.now) depth tasks made
-  term_turn t depth made w = record { numbered = w.numbered; known = w.known; term = w.makes.0; of = w.makes.1; inside = w.makes.2; makes = w.makes.3 }
-
-  -- a constant
-  pub constant-one : (n : Bor Name) (made : List LpId) → IsClosedWalk given root m k (work.Constant n ∷ tasks) made → 0 < length made
-  constant-one n [] w = absurd w.makes
-  constant-one n (x ∷ made) w = omega arith
-
-  constant-typed : (n : Bor Name) (ty : LpId) (made : List LpId) → (w : IsClosedWalk given root m k (work.Constant n ∷ tasks) (ty ∷ made)) → IsTypeTree given.symbols w.makes.0 w.makes.1 m n.now ty
-  constant-typed n ty made w = record {
-    held = w.numbered.held;
-    known = w.known.0;
-    is = w.makes.3;
-    told = subst (λ d. TellsConstant d given.symbols n.now w.makes.1) (sym w.numbered.declared) w.makes.2;
-  }
-
-  pub constant_start : (n : Bor Name) (ty : LpId) (made rest : List LpId) → made ≡ ty ∷ rest → IsClosedWalk given root m k (work.Constant n ∷ tasks) made
-      → (symbols : Symbols) × (scope : TypeScope) × (t : HolType) × IsTypeTree symbols scope t m n.now ty
-  constant_start n ty made rest e h = let w = subst (IsClosedWalk given root m k (work.Constant n ∷ tasks)) e h in (given.symbols, w.makes.0, w.makes.1, constant-typed n ty rest w)
-
-  pub constant_turn : (n : Bor Name) (ty : LpId) (made rest after : List LpId) (now : Module) → made ≡ ty ∷ rest → Grows m now
-      → ((symbols : Symbols) (scope : TypeScope) (t : HolType) → IsTypeTree symbols scope t m n.now ty → IsPut rest after now.table (constant_tree symbols scope n.now t))
-      → IsClosedWalk given root m k (work.Constant n ∷ tasks) made → IsClosedWalk given root now k tasks after
-  constant_turn n ty made rest after now e g put v =
-      let w = subst (IsClosedWalk given root m k (work.Constant n ∷ tasks)) e v in
-      walk_made given root m now k tasks rest after _ g w.numbered w.known.1 (put given.symbols w.makes.0 w.makes.1 (constant-typed n ty rest w)) w.makes.4
-
-  -- an application
-  pub application-two : (made : List LpId) → IsClosedWalk given root m k (work.Apply ∷ tasks) made → 1 < length made
-  application-two [] w = absurd w.makes
-  application-two (x ∷ []) w = absurd w.makes
-  application-two (x ∷ f ∷ rest) w = omega arith
-
-  pub application-known : (x f : LpId) (made rest : List LpId) → made ≡ x ∷ f ∷ rest → IsClosedWalk given root m k (work.Apply ∷ tasks) made → (f.0 < length m.table) × (x.0 < length m.table)
-  application-known x f made rest e v = let w = subst (IsClosedWalk given root m k (work.Apply ∷ tasks)) e v in (w.known.1.0, w.known.0)
-
-  pub application_turn : (x f : LpId) (made rest after : List LpId) (now : Module) → made ≡ x ∷ f ∷ rest → Grows m now → IsPut rest after now.table (App (tree_at m.table f.0) (tree_at m.table x.0))
-      → IsClosedWalk given root m k (work.Apply ∷ tasks) made → IsClosedWalk given root now k tasks after
-  application_turn x f made rest after now e g p v =
-      let w = subst (IsClosedWalk given root m k (work.Apply ∷ tasks)) e v in
-      walk_made given root m now k tasks rest after _ g w.numbered w.known.1.1 p w.makes
-
-  -- an abstraction
-  pub abstraction-two : (made : List LpId) → IsClosedWalk given root m k (work.Bind ∷ tasks) made → 1 < length made
-  abstraction-two [] w = absurd w.makes
-  abstraction-two (b ∷ []) w = absurd w.makes
-  abstraction-two (b ∷ a ∷ rest) w = omega arith
-
-  pub abstraction-known : (b a : LpId) (made rest : List LpId) → made ≡ b ∷ a ∷ rest → IsClosedWalk given root m k (work.Bind ∷ tasks) made → (a.0 < length m.table) × (b.0 < length m.table)
-  abstraction-known b a made rest e v = let w = subst (IsClosedWalk given root m k (work.Bind ∷ tasks)) e v in (w.known.1.0, w.known.0)
-
-  pub abstraction_turn : (b a : LpId) (made rest after : List LpId) (now : Module) → made ≡ b ∷ a ∷ rest → Grows m now → IsPut rest after now.table (Lam (term_of (tree_at m.table a.0)) (tree_at m.table b.0))
-      → IsClosedWalk given root m k (work.Bind ∷ tasks) made → IsClosedWalk given root now k tasks after
-  abstraction_turn b a made rest after now e g p v =
-      let w = subst (IsClosedWalk given root m k (work.Bind ∷ tasks)) e v in
-      walk_made given root m now k tasks rest after _ g w.numbered w.known.1.1 p w.makes
-
--- A walk at its beginning and at its end.
-pub walk_begins : (given : Numbered) (root : Tree) (m : Module) (k : ℕ) (task : Work) → IsClosedStart given root m k task → IsClosedWalk given root m k (task ∷ []) []
-walk_begins given root m k task s = record { numbered = s.numbered; known = tt; makes = s.makes }
-
-pub walk-one : (given : Numbered) (root : Tree) (m : Module) (k : ℕ) (made : List LpId) → IsClosedWalk given root m k [] made → 0 < length made
-walk-one given root m k [] w = absurd (let e : [] ≡ root ∷ [] = w.makes in cc)
-walk-one given root m k (x ∷ made) w = omega arith
-
-pub walk_ends : (given : Numbered) (root : Tree) (m : Module) (k : ℕ) (r : LpId) (made rest : List LpId) → made ≡ r ∷ rest → IsClosedWalk given root m k [] made → Holds m.table r.0 root
-walk_ends given root m k r made rest s v =
-    let w = subst (IsClosedWalk given root m k []) s v in
+pub type_ends : (given : Numbered) (root : Tree) (m : Module) (depth : ℕ) (ts : List form.ClosedType) (r : LpId) (made rest : List LpId) → made ≡ r ∷ rest → IsTypeWalk given root m depth [] ts made → Holds m.table r.0 root
+type_ends given root m depth ts r made rest s v =
+    let w = subst (IsTypeWalk given root m depth [] ts) s v in
     let e : tree_at m.table r.0 ∷ trees_at m.table rest ≡ root ∷ [] = w.makes in
     let same : tree_at m.table r.0 ≡ root = cc in
     tree_at-Holds m.table r.0 w.known.0 ∙ ap Some same
+
+length-firsts : {A : Type 0} (d : A) (k : ℕ) (xs : List A) → length (firsts d k xs) ≡ k
+length-firsts d zero xs = refl
+length-firsts d (suc k) xs = ap suc (length-firsts d k (others xs))
+
+-- an argument that is next
+module _ (given : Numbered) (depth : ℕ) (root : Tree) (works : List TypeWork) (ts : List form.ClosedType) where
+  pub applied_to_next : (k j : ℕ) (made : List Tree) → k ≡ suc j → MakesTypes given depth root (type_work.ApplyTo k ∷ works) ts made → MakesTypes given depth root (type_work.Next ∷ type_work.Apply ∷ type_work.ApplyTo j ∷ works) ts made
+  applied_to_next k j [] e h = absurd h
+  applied_to_next k j (f ∷ made) e h = let n = subst (λ (i : ℕ). MakesTypes given depth root (type_work.ApplyTo i ∷ works) ts (f ∷ made)) e h in go n.0 n.1 n.2
+    where
+      go : (us : List HolType) → Pairwise (IsTypeOf given) (first no_type ts ∷ firsts no_type j (others ts)) us → MakesTypes given depth root works (behind j (others ts)) (applied f (map (type_tree given.symbols (types_under given depth)) us) ∷ made)
+          → MakesTypes given depth root (type_work.Next ∷ type_work.Apply ∷ type_work.ApplyTo j ∷ works) ts (f ∷ made)
+      go [] are makes = absurd are
+      go (u ∷ us) are makes = (u, are.0, (us, are.1, makes))
+
+module _ (given : Numbered) (root : Tree) (m : Module) (depth : ℕ) (works : List TypeWork) where
+  -- a type variable
+  pub type_leaf : (now : Module) (i : ℕ) (cs : List form.ClosedType) (made after : List LpId) → first no_type cs ≡ form.ClosedType.parameter i → Grows m now → IsPut made after now.table (Var (depth - i - 1))
+      → IsTypeWalk given root m depth (type_work.Next ∷ works) cs made → IsTypeWalk given root now depth works (others cs) after
+  type_leaf now i cs made after e g p w =
+      let of = subst (λ c. IsTypeOf given c w.makes.0) e w.makes.1 in
+      type_made given root m now depth works (others cs) made after _ g w.numbered w.known (subst (IsPut made after now.table) (sym (type-parameter given i depth w.makes.0 of)) p) w.makes.2
+
+  -- the symbol of an operator is found, and to be applied to the arguments
+  module _ (n : Name) (k : ℕ) (ts : List form.ClosedType) (made : List LpId) (w : IsTypeWalk given root m depth (type_work.Next ∷ works) (type_step (TypeNode.Operator n k) ts) made) where
+    arguments : IsOperatorOf given n (firsts no_type k ts) w.makes.0
+    arguments = type-operator given n (firsts no_type k ts) w.makes.0 w.makes.1
+
+    found : told_operator (declarations_of m) n k ≡ Some (operator_symbol given.symbols n (count arguments.ts))
+    found = ap₂ (λ d j. told_operator d n j) w.numbered.declared (sym (length-firsts no_type k ts)) ∙ arguments.symbol
+
+    pub operator-found : IsSome (told_operator (declarations_of m) n k)
+    operator-found = ap is_some found
+
+    pub type_operator : (now : Module) (after : List LpId) → Grows m now → ((s : ℕ) → told_operator (declarations_of m) n k ≡ Some s → IsPut made after now.table (Sym s)) → IsTypeWalk given root now depth (type_work.ApplyTo k ∷ works) ts after
+    type_operator now after g put =
+        let o = arguments in
+        let scope = types_under given depth in
+        let s = operator_symbol given.symbols n (count o.ts) in
+        let is : type_tree given.symbols scope w.makes.0 ≡ applied (Sym s) (map (type_tree given.symbols scope) (listed o.ts)) = ap (type_tree given.symbols scope) o.is ∙ ap (applied (Sym s)) (trees-listed given scope o.ts) in
+        type_made given root m now depth (type_work.ApplyTo k ∷ works) ts made after (Sym s) g w.numbered w.known (put s found)
+        (listed o.ts, o.are, subst (λ t. MakesTypes given depth root works (behind k ts) (t ∷ trees_at m.table made)) is w.makes.2)
+
+  -- a function and its argument
+  pub type_two : (ts : List form.ClosedType) (made : List LpId) → IsTypeWalk given root m depth (type_work.Apply ∷ works) ts made → 1 < length made
+  type_two ts [] w = absurd w.makes
+  type_two ts (x ∷ []) w = absurd w.makes
+  type_two ts (x ∷ f ∷ rest) w = omega arith
+
+  pub type_parts : (ts : List form.ClosedType) (x f : LpId) (made rest : List LpId) → made ≡ x ∷ f ∷ rest → IsTypeWalk given root m depth (type_work.Apply ∷ works) ts made → (f.0 < length m.table) × (x.0 < length m.table)
+  type_parts ts x f made rest e v = let w = subst (IsTypeWalk given root m depth (type_work.Apply ∷ works) ts) e v in (w.known.1.0, w.known.0)
+
+  pub type_applied : (ts : List form.ClosedType) (x f : LpId) (made rest after : List LpId) (now : Module) → made ≡ x ∷ f ∷ rest → Grows m now → IsPut rest after now.table (App (tree_at m.table f.0) (tree_at m.table x.0))
+      → IsTypeWalk given root m depth (type_work.Apply ∷ works) ts made → IsTypeWalk given root now depth works ts after
+  type_applied ts x f made rest after now e g p v =
+      let w = subst (IsTypeWalk given root m depth (type_work.Apply ∷ works) ts) e v in
+      type_made given root m now depth works ts rest after _ g w.numbered w.known.1.1 p w.makes
+
+-- A term whose tree is to be made.
+pub term_begins : (given : Numbered) (m : Module) (k : ℕ) (t : Term) (nodes : List TermNode) (depth : ℕ) → IsTermToMake given t m k (first no_term (spelled_terms nodes)) depth → IsTermWalk given (term_tree given.symbols (scope_under given depth) t) m k (term_work.Next depth ∷ []) (spelled_terms nodes) []
+term_begins given m k t nodes depth s = record { numbered = s.numbered; known = tt; makes = (t, s.of, s.inside, refl) }
+
+pub term_one : (given : Numbered) (root : Tree) (m : Module) (k : ℕ) (ts : List form.ClosedTerm) (made : List LpId) → IsTermWalk given root m k [] ts made → 0 < length made
+term_one given root m k ts [] w = absurd (let e : [] ≡ root ∷ [] = w.makes in cc)
+term_one given root m k ts (x ∷ made) w = omega arith
+
+pub term_ends : (given : Numbered) (root : Tree) (m : Module) (k : ℕ) (ts : List form.ClosedTerm) (r : LpId) (made rest : List LpId) → made ≡ r ∷ rest → IsTermWalk given root m k [] ts made → Holds m.table r.0 root
+term_ends given root m k ts r made rest s v =
+    let w = subst (IsTermWalk given root m k [] ts) s v in
+    let e : tree_at m.table r.0 ∷ trees_at m.table rest ≡ root ∷ [] = w.makes in
+    let same : tree_at m.table r.0 ≡ root = cc in
+    tree_at-Holds m.table r.0 w.known.0 ∙ ap Some same
+
+module _ (given : Numbered) (root : Tree) (m : Module) (k depth : ℕ) (works : List TermWork) (made : List LpId) where
+  -- a free variable
+  pub term_leaf : (now : Module) (j : ℕ) (cs : List form.ClosedTerm) (after : List LpId) → first no_term cs ≡ form.ClosedTerm.parameter j → Grows m now → IsPut made after now.table (Var (depth - (k + j) - 1))
+      → IsTermWalk given root m k (term_work.Next depth ∷ works) cs made → IsTermWalk given root now k works (others cs) after
+  term_leaf now j cs after e g p w =
+      let of = subst (λ c. IsTermOf given c w.makes.0) e w.makes.1 in
+      let is = ap (λ n. Var (depth - (n + j) - 1)) (sym w.numbered.count) ∙ sym (term-parameter given j depth w.makes.0 of) in
+      term_made given root m now k works (others cs) made after _ g w.numbered w.known (subst (IsPut made after now.table) is p) w.makes.3
+
+  -- a number
+  pub term_number : (now : Module) (i : ℕ) (ts : List form.ClosedTerm) (after : List LpId) → Grows m now → IsPut made after now.table (Var i)
+      → IsTermWalk given root m k (term_work.Next depth ∷ works) (term_step (TermNode.Bound i) ts) made → IsTermWalk given root now k works ts after
+  term_number now i ts after g p w =
+      term_made given root m now k works ts made after _ g w.numbered w.known (subst (IsPut made after now.table) (sym (term-bound given i depth w.makes.0 w.makes.1)) p) w.makes.3
+
+  -- a constant, once the tree of its type is made
+  module _ (n : Name) (ty : ClosedType) (ts : List form.ClosedTerm) (w : IsTermWalk given root m k (term_work.Next depth ∷ works) (term_step (TermNode.Constant n ty) ts) made) where
+    constant_of : IsConstantOf given n (closed_type_view ty) depth w.makes.0
+    constant_of = term-constant given n (closed_type_view ty) depth w.makes.0 w.makes.1
+
+    pub constant_type : (t : HolType) × IsTypeToMake given t m (closed_type_view ty)
+    constant_type = (constant_of.ty, record { numbered = IsNumbered-names w.numbered; of = constant_of.of })
+
+    pub constant_typed : (now : Module) (r : LpId) → Grows m now → Holds now.table r.0 (type_tree given.symbols (types_under given depth) constant_type.0) → IsTypeTree given.symbols (types_under given depth) constant_type.0 now n r
+    unfolding constant_of constant_type
+    constant_typed now r g h =
+        let numbered = IsNumbered-Grows g given k w.numbered in
+        record {
+          held = numbered.held;
+          known = Holds-within now.table r.0 _ h;
+          is = Holds-tree_at now.table r.0 _ h;
+          told = subst (λ d. TellsConstant d given.symbols n constant_of.ty) (sym numbered.declared) constant_of.told;
+        }
+
+    pub constant_made : (now : Module) (after : List LpId) → Grows m now → IsPut made after now.table (constant_tree given.symbols (types_under given depth) n constant_type.0) → IsTermWalk given root now k works ts after
+    unfolding constant_of constant_type
+    constant_made now after g p = term_made given root m now k works ts made after _ g w.numbered w.known (subst (IsPut made after now.table) (sym constant_of.is) p) w.makes.3
+
+  -- an application
+  pub application_set_out : (ts : List form.ClosedTerm) → IsTermWalk given root m k (term_work.Next depth ∷ works) (term_step TermNode.App ts) made
+      → IsTermWalk given root m k (term_work.Next depth ∷ term_work.Next depth ∷ term_work.Apply ∷ works) ts made
+  application_set_out ts w =
+      let a = term-application given (first no_term ts) (first no_term (others ts)) depth w.makes.0 w.makes.1 in
+      record {
+        numbered = w.numbered;
+        known = w.known;
+        makes = (a.function, a.function_of, w.makes.2, (a.argument, a.argument_of, w.makes.2, subst (λ t. MakesTerms given root works (others (others ts)) (t ∷ trees_at m.table made)) a.is w.makes.3));
+      }
+
+  -- an abstraction, once the tree of its variable's type is made
+  module _ (ty : ClosedType) (ts : List form.ClosedTerm) (w : IsTermWalk given root m k (term_work.Next depth ∷ works) (term_step (TermNode.Lam ty) ts) made) where
+    abstraction_of : IsAbstractionOf given (closed_type_view ty) (first no_term ts) depth w.makes.0
+    abstraction_of = term-abstraction given (closed_type_view ty) (first no_term ts) depth w.makes.2 w.makes.0 w.makes.1
+
+    pub abstraction_type : (t : HolType) × IsTypeToMake given t m (closed_type_view ty)
+    abstraction_type = (abstraction_of.ty, record { numbered = IsNumbered-names w.numbered; of = abstraction_of.ty_of })
+
+    pub abstraction_set_out : (now : Module) (within : ℕ) (after : List LpId) → within ≡ depth + 1 → Grows m now → IsPut made after now.table (type_tree given.symbols (types_under given depth) abstraction_type.0)
+        → IsTermWalk given root now k (term_work.Next within ∷ term_work.Bind ∷ works) ts after
+    unfolding abstraction_of abstraction_type
+    abstraction_set_out now within after e g p =
+        let a = abstraction_of in
+        let own = w.makes.2 in
+        let next : suc depth ≡ within = omega (arith, e) in
+        let more : length given.names + length given.variables ≤ within = omega (arith, e, own) in
+        let tree = subst (λ j. term_tree given.symbols (scope_under given depth) w.makes.0 ≡ Lam (term_of (type_tree given.symbols (types_under given depth) a.ty)) (term_tree given.symbols (scope_under given j) a.body)) next a.is in
+        term_made given root m now k (term_work.Next within ∷ term_work.Bind ∷ works) ts made after _ g w.numbered w.known p
+        (a.body, a.body_of, more, subst (λ t. MakesTerms given root works (others ts) (t ∷ trees_at m.table made)) tree w.makes.3)
+
+module _ (given : Numbered) (root : Tree) (m : Module) (k : ℕ) (works : List TermWork) (ts : List form.ClosedTerm) where
+  -- a function and its argument
+  pub application_two : (made : List LpId) → IsTermWalk given root m k (term_work.Apply ∷ works) ts made → 1 < length made
+  application_two [] w = absurd w.makes
+  application_two (x ∷ []) w = absurd w.makes
+  application_two (x ∷ f ∷ rest) w = omega arith
+
+  pub application_parts : (x f : LpId) (made rest : List LpId) → made ≡ x ∷ f ∷ rest → IsTermWalk given root m k (term_work.Apply ∷ works) ts made → (f.0 < length m.table) × (x.0 < length m.table)
+  application_parts x f made rest e v = let w = subst (IsTermWalk given root m k (term_work.Apply ∷ works) ts) e v in (w.known.1.0, w.known.0)
+
+  pub application_made : (x f : LpId) (made rest after : List LpId) (now : Module) → made ≡ x ∷ f ∷ rest → Grows m now → IsPut rest after now.table (App (tree_at m.table f.0) (tree_at m.table x.0))
+      → IsTermWalk given root m k (term_work.Apply ∷ works) ts made → IsTermWalk given root now k works ts after
+  application_made x f made rest after now e g p v =
+      let w = subst (IsTermWalk given root m k (term_work.Apply ∷ works) ts) e v in
+      term_made given root m now k works ts rest after _ g w.numbered w.known.1.1 p w.makes
+
+  -- the type of a variable and a body
+  pub abstraction_two : (made : List LpId) → IsTermWalk given root m k (term_work.Bind ∷ works) ts made → 1 < length made
+  abstraction_two [] w = absurd w.makes
+  abstraction_two (b ∷ []) w = absurd w.makes
+  abstraction_two (b ∷ a ∷ rest) w = omega arith
+
+  pub abstraction_parts : (b a : LpId) (made rest : List LpId) → made ≡ b ∷ a ∷ rest → IsTermWalk given root m k (term_work.Bind ∷ works) ts made → (a.0 < length m.table) × (b.0 < length m.table)
+  abstraction_parts b a made rest e v = let w = subst (IsTermWalk given root m k (term_work.Bind ∷ works) ts) e v in (w.known.1.0, w.known.0)
+
+  pub abstraction_made : (b a : LpId) (made rest after : List LpId) (now : Module) → made ≡ b ∷ a ∷ rest → Grows m now → IsPut rest after now.table (Lam (term_of (tree_at m.table a.0)) (tree_at m.table b.0))
+      → IsTermWalk given root m k (term_work.Bind ∷ works) ts made → IsTermWalk given root now k works ts after
+  abstraction_made b a made rest after now e g p v =
+      let w = subst (IsTermWalk given root m k (term_work.Bind ∷ works) ts) e v in
+      term_made given root m now k works ts rest after _ g w.numbered w.known.1.1 p w.makes

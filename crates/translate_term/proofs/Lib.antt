@@ -21,4 +21,3 @@ mod ParameterScopes
 mod ClosedTurns
 mod ClosedParts
 mod ClosedProduct
-mod ClosedViews

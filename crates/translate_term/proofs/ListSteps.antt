@@ -1,7 +1,8 @@
 -- The rest of a list from a place on.
 use Rattle.std.proofs.Common.{◌≡◌, ℕ, zero, suc, ◌+◌, ◌-◌, ◌<◌, ◌≤◌, refl, sym, ap, ◌∙◌, arith, List, [], ◌∷◌, ◌++◌, length, get_or}
 use Rattle.std.specs.Prelude.{drop, take}
-use Rattle.std.proofs.lemmas.List.{drop_more, take-append-drop}
+use Rattle.std.proofs.lemmas.List.{drop_more, take-append-drop, take_all}
+use Rattle.std.proofs.Math.Path.{ap₂}
 
 -- the rest begins with the item at its place
 pub drop-item : {X : Type 0} (xs : List X) (i : ℕ) (x : X) → x ≡ get_or xs i x → i < length xs → drop i xs ≡ x ∷ drop (i + 1) xs
@@ -23,11 +24,12 @@ front-last xs d h =
 pub front-item : {X : Type 0} (xs : List X) (x : X) → x ≡ get_or xs (length xs - 1) x → 1 ≤ length xs → take (length xs - 1) xs ++ x ∷ [] ≡ xs
 front-item xs x e h = ap (λ y. take (length xs - 1) xs ++ y ∷ []) e ∙ front-last xs x h
 
+-- a list is its first item and the rest
+pub first-rest : {X : Type 0} (xs : List X) (x : X) → x ≡ get_or xs 0 x → 1 ≤ length xs → x ∷ take (length xs - 1) (drop 1 xs) ≡ xs
+first-rest [] x e h = absurd (omega (arith, h))
+first-rest (y ∷ xs) x e h = ap₂ (λ z l. z ∷ l) e (take_all (length (y ∷ xs) - 1) xs (omega arith))
+
 -- a list of no item
 pub no-item : {X : Type 0} (xs : List X) → length xs < 1 → xs ≡ []
 no-item [] h = refl
 no-item (x ∷ xs) h = absurd (omega (arith, h))
-
--- a list on which two items were put
-pub put-two : {X : Type 0} (a b : X) (l m n : List X) → m ≡ a ∷ l → n ≡ b ∷ m → n ≡ b ∷ a ∷ l
-put-two a b l m n d e = e ∙ ap (λ k. b ∷ k) d

@@ -1,5 +1,5 @@
 -- Walks over the parts of a closed sequent, which make their trees over a module.
-use Rattle.std.specs.Prelude.{◌≡◌, ℕ, ◌+◌, ◌<◌, ◌≤◌, suc, List, [], ◌∷◌, length}
+use Rattle.std.specs.Prelude.{◌≡◌, ℕ, ◌+◌, ◌*◌, ◌<◌, ◌≤◌, suc, List, [], ◌∷◌, map, length}
 use Rattle.std.specs.List.{AllByRecursion}
 use Rattle.bridge_base.specs.Binding.{Pairwise}
 use Rattle.hol_spec.specs.Names.{Name}
@@ -10,18 +10,21 @@ use Rattle.hol_spec.specs.Sequents.{Sequent, type_variables_of, free_variables_o
 use Rattle.hol_spec.specs.ClosedForm as form
 use Rattle.hol_spec.specs.ClosedForm.{close_type, close_term}
 use Rattle.lp_spec.specs.Trees.{Tree, App, Lam}
-use Rattle.lp_spec.specs.Modules.{Declaration, products, term_of, proof_of}
+use Rattle.lp_spec.specs.Modules.{Declaration, applied, products, term_of, proof_of}
 use Rattle.lp_term.specs.declared.LpId.{LpId}
 use Rattle.lp_term.specs.Tables.{trees_at, AreKnown, Holds}
 use Rattle.holide_sig.specs.declared.module.Module.{Module}
 use Rattle.holide_sig.specs.Modules.{declarations_of, IsHeld}
-use Rattle.module_spec.specs.Scopes.{Symbols, TypeScope, Scope, type_tree, term_tree, constant_tree}
+use Rattle.module_spec.specs.Scopes.{Symbols, TypeScope, Scope, type_tree, term_tree}
 use Rattle.module_laws.specs.ListedScopes.{parameters}
 use Rattle.module_laws.specs.ListedScopes.{told_types, told}
-use Rattle.sequent.specs.Closed.{closed_type_view, closed_term_view}
-use Rattle.translate_term.specs.declared.closed.Work.{Work}
-use Rattle.translate_term.specs.declared.closed.Work.TheVariants as work
-use Rattle.translate_term.specs.Told.{TellsType, TellsTerm, TellsConstant}
+use Rattle.sequent.specs.declared.closed.TypeNode.{TypeNode}
+use Rattle.sequent.specs.Closed.{first, others, firsts, behind, no_type, no_term}
+use Rattle.translate_term.specs.declared.closed.TypeWork.{TypeWork}
+use Rattle.translate_term.specs.declared.closed.TypeWork.TheVariants as type_work
+use Rattle.translate_term.specs.declared.closed.TermWork.{TermWork}
+use Rattle.translate_term.specs.declared.closed.TermWork.TheVariants as term_work
+use Rattle.translate_term.specs.Told.{TellsType, TellsTerm}
 
 -- what a walk is given: the declarations of its module, the symbols that these tell, and the type variables and free variables whose places the
 -- numbers are
@@ -63,17 +66,21 @@ OfLast P (x ∷ made) = P x made
 abbrev pub OfLastTwo : (Tree → Tree → List Tree → Type 0) → List Tree → Type 0
 OfLastTwo P = OfLast (λ x. OfLast (P x))
 
--- the tasks make this tree of the trees that were made
-abbrev pub Makes : Numbered → Tree → List Work → List Tree → Type 0
-Makes given root [] made = made ≡ root ∷ []
-Makes given root (work.MakeType ty depth ∷ tasks) made =
-    (t : HolType) × IsTypeOf given (closed_type_view ty.now) t × Makes given root tasks (type_tree given.symbols (types_under given depth) t ∷ made)
-Makes given root (work.MakeTerm term depth ∷ tasks) made =
-    (t : Term) × IsTermOf given (closed_term_view term.now) t × IsInside given depth × Makes given root tasks (term_tree given.symbols (scope_under given depth) t ∷ made)
-Makes given root (work.Constant name ∷ tasks) made =
-    OfLast (λ ty rest. (scope : TypeScope) × (t : HolType) × TellsConstant given.declarations given.symbols name.now t × (ty ≡ type_tree given.symbols scope t) × Makes given root tasks (constant_tree given.symbols scope name.now t ∷ rest)) made
-Makes given root (work.Apply ∷ tasks) made = OfLastTwo (λ x f rest. Makes given root tasks (App f x ∷ rest)) made
-Makes given root (work.Bind ∷ tasks) made = OfLastTwo (λ b a rest. Makes given root tasks (Lam (term_of a) b ∷ rest)) made
+-- The works make this tree of the trees that were made and of the types, or the terms, that are still to be read.
+abbrev pub MakesTypes : Numbered → ℕ → Tree → List TypeWork → List form.ClosedType → List Tree → Type 0
+MakesTypes given depth root [] ts made = made ≡ root ∷ []
+MakesTypes given depth root (type_work.Next ∷ works) ts made =
+    (t : HolType) × IsTypeOf given (first no_type ts) t × MakesTypes given depth root works (others ts) (type_tree given.symbols (types_under given depth) t ∷ made)
+MakesTypes given depth root (type_work.Apply ∷ works) ts made = OfLastTwo (λ x f rest. MakesTypes given depth root works ts (App f x ∷ rest)) made
+MakesTypes given depth root (type_work.ApplyTo k ∷ works) ts made =
+    OfLast (λ f rest. (us : List HolType) × Pairwise (IsTypeOf given) (firsts no_type k ts) us × MakesTypes given depth root works (behind k ts) (applied f (map (type_tree given.symbols (types_under given depth)) us) ∷ rest)) made
+
+abbrev pub MakesTerms : Numbered → Tree → List TermWork → List form.ClosedTerm → List Tree → Type 0
+MakesTerms given root [] ts made = made ≡ root ∷ []
+MakesTerms given root (term_work.Next depth ∷ works) ts made =
+    (t : Term) × IsTermOf given (first no_term ts) t × IsInside given depth × MakesTerms given root works (others ts) (term_tree given.symbols (scope_under given depth) t ∷ made)
+MakesTerms given root (term_work.Apply ∷ works) ts made = OfLastTwo (λ x f rest. MakesTerms given root works ts (App f x ∷ rest)) made
+MakesTerms given root (term_work.Bind ∷ works) ts made = OfLastTwo (λ b a rest. MakesTerms given root works ts (Lam (term_of a) b ∷ rest)) made
 
 -- the module is the one that was given, and so many are the type variables
 pub record IsNumbered (given : Numbered) (m : Module) (type_vars : ℕ) : Type 0 where
@@ -81,11 +88,16 @@ pub record IsNumbered (given : Numbered) (m : Module) (type_vars : ℕ) : Type 0
   pub declared : declarations_of m ≡ given.declarations
   pub count : length given.names ≡ type_vars
 
--- a walk on its way
-pub record IsClosedWalk (given : Numbered) (root : Tree) (m : Module) (type_vars : ℕ) (tasks : List Work) (made : List LpId) : Type 0 where
+-- walks on their way
+pub record IsTypeWalk (given : Numbered) (root : Tree) (m : Module) (depth : ℕ) (works : List TypeWork) (ts : List form.ClosedType) (made : List LpId) : Type 0 where
+  pub numbered : IsNumbered given m (length given.names)
+  pub known : AreKnown m.table made
+  pub makes : MakesTypes given depth root works ts (trees_at m.table made)
+
+pub record IsTermWalk (given : Numbered) (root : Tree) (m : Module) (type_vars : ℕ) (works : List TermWork) (ts : List form.ClosedTerm) (made : List LpId) : Type 0 where
   pub numbered : IsNumbered given m type_vars
   pub known : AreKnown m.table made
-  pub makes : Makes given root tasks (trees_at m.table made)
+  pub makes : MakesTerms given root works ts (trees_at m.table made)
 
 -- a tree was made, and put on those that were made before
 pub record IsPut (old new : List LpId) (trees : List Tree) (tree : Tree) : Type 0 where
@@ -93,51 +105,27 @@ pub record IsPut (old new : List LpId) (trees : List Tree) (tree : Tree) : Type 
   pub is : new ≡ id ∷ old
   pub holds : Holds trees id.0 tree
 
--- the tree of a type or a term, as a walk that begins with it makes it
-pub record IsClosedStart (given : Numbered) (root : Tree) (m : Module) (type_vars : ℕ) (task : Work) : Type 0 where
+-- a type, and a term under so many binders, whose trees are to be made of their closed forms
+pub record IsTypeToMake (given : Numbered) (t : HolType) (m : Module) (closed : form.ClosedType) : Type 0 where
+  pub numbered : IsNumbered given m (length given.names)
+  pub of : IsTypeOf given closed t
+
+pub record IsTermToMake (given : Numbered) (t : Term) (m : Module) (type_vars : ℕ) (closed : form.ClosedTerm) (depth : ℕ) : Type 0 where
   pub numbered : IsNumbered given m type_vars
-  pub makes : Makes given root (task ∷ []) []
-
--- how many turns a type, a term and tasks take
-abbrev mutual
-  pub type_work : form.ClosedType → ℕ
-  type_work (form.ClosedType.parameter i) = 1
-  type_work (form.ClosedType.operator n ts) = 1 + types_work ts
-
-  pub types_work : form.ClosedTypes → ℕ
-  types_work form.ClosedTypes.none = 0
-  types_work (form.ClosedTypes.more t ts) = 1 + type_work t + types_work ts
-
-abbrev pub term_work : form.ClosedTerm → ℕ
-term_work (form.ClosedTerm.parameter i) = 1
-term_work (form.ClosedTerm.bound k) = 1
-term_work (form.ClosedTerm.constant n t) = 2 + type_work t
-term_work (form.ClosedTerm.app f x) = 2 + term_work f + term_work x
-term_work (form.ClosedTerm.lam t b) = 2 + type_work t + term_work b
-
-abbrev pub work_of : List Work → ℕ
-work_of [] = 0
-work_of (work.MakeType ty depth ∷ tasks) = type_work (closed_type_view ty.now) + work_of tasks
-work_of (work.MakeTerm term depth ∷ tasks) = term_work (closed_term_view term.now) + work_of tasks
-work_of (work.Constant name ∷ tasks) = 1 + work_of tasks
-work_of (work.Apply ∷ tasks) = 1 + work_of tasks
-work_of (work.Bind ∷ tasks) = 1 + work_of tasks
-
--- a type and a term that are to be made next, before these tasks
-pub record IsTypeVisit (given : Numbered) (root : Tree) (m : Module) (type_vars : ℕ) (closed : form.ClosedType) (depth : ℕ) (tasks : List Work) (made : List LpId) : Type 0 where
-  pub numbered : IsNumbered given m type_vars
-  pub known : AreKnown m.table made
-  pub ty : HolType
-  pub of : IsTypeOf given closed ty
-  pub makes : Makes given root tasks (type_tree given.symbols (types_under given depth) ty ∷ trees_at m.table made)
-
-pub record IsTermVisit (given : Numbered) (root : Tree) (m : Module) (type_vars : ℕ) (closed : form.ClosedTerm) (depth : ℕ) (tasks : List Work) (made : List LpId) : Type 0 where
-  pub numbered : IsNumbered given m type_vars
-  pub known : AreKnown m.table made
-  pub term : Term
-  pub of : IsTermOf given closed term
+  pub of : IsTermOf given closed t
   pub inside : IsInside given depth
-  pub makes : Makes given root tasks (term_tree given.symbols (scope_under given depth) term ∷ trees_at m.table made)
+
+-- how many turns the works and the nodes of a type take at most
+abbrev pub works_of : List TypeWork → ℕ
+works_of [] = 0
+works_of (type_work.Next ∷ works) = 1 + works_of works
+works_of (type_work.Apply ∷ works) = 1 + works_of works
+works_of (type_work.ApplyTo k ∷ works) = 1 + 3 * k + works_of works
+
+abbrev pub nodes_work : List TypeNode → ℕ
+nodes_work [] = 0
+nodes_work (TypeNode.Parameter n ∷ nodes) = nodes_work nodes
+nodes_work (TypeNode.Operator n k ∷ nodes) = 1 + 3 * k + nodes_work nodes
 
 -- the hypotheses with these closed forms, the first under so many binders, and what is to stand under them
 pub record AreHypotheses (given : Numbered) (hs : List Term) (m : Module) (type_vars : ℕ) (outside : ℕ) (closed : List form.ClosedTerm) (inside : LpId) : Type 0 where

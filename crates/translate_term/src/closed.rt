@@ -1,16 +1,18 @@
-//! The walk over the parts of a closed sequent, and the products over its parameters.
-ghost use Rattle.std.specs.Prelude.{◌≡◌, ◌+◌, ◌-◌, ◌<◌, ◌^◌, ◌∷◌, ℕ, List, length, map, replicate, Some, IsSome, IfOk, OnOk};
-ghost use Rattle.bridge_base.specs.Binding.{Pairwise};
+//! The walks over the nodes of a closed sequent, and the products over its parameters.
+ghost use Rattle.std.specs.Prelude.{◌≡◌, ◌+◌, ◌*◌, ◌-◌, ◌<◌, ◌≤◌, ◌^◌, [], ◌∷◌, ℕ, List, length, map, replicate, Some, IsSome, IfOk, OnOk};
+ghost use Rattle.hol_spec.specs.ClosedForm.{ClosedTerm as AClosedTerm, ClosedType as AClosedType};
 ghost use Rattle.hol_spec.specs.Sequents.{Sequent};
 ghost use Rattle.hol_spec.specs.Terms.{Term as ATerm};
 ghost use Rattle.hol_spec.specs.Types.{HolType};
-ghost use Rattle.lp_spec.specs.Modules.{applied, products, term_of, types as sorts};
-ghost use Rattle.lp_spec.specs.Trees.{Tree, App, Lam, Pi, Sym};
+ghost use Rattle.lp_spec.specs.Modules.{products, term_of, types as sorts};
+ghost use Rattle.lp_spec.specs.Trees.{Tree, App, Lam, Pi, Sym, Var};
 ghost use Rattle.lp_term.specs.Tables.{tree_at, tree_of_node, Holds, PartsBelow};
 ghost use Rattle.holide_sig.specs.Modules.{declarations_of, IsHeld};
-ghost use Rattle.module_spec.specs.Scopes.{Symbols, TypeScope, constant_tree, sequent_tree, type_tree};
-ghost use Rattle.sequent.specs.Closed.{closed_term_view, closed_type_view, closed_types_of, closed_view};
-ghost use Rattle.translate_term.specs.Closed.{AreHypotheses, AreVariables, IsClosedStart, IsClosedWalk, IsPut, IsTermVisit, IsTypeOf, IsTypeVisit, Makes, Numbered, hypothesis_domains, numbered_of, statement_under, term_work, type_work, types_under, types_work, variable_domains, work_of};
+ghost use Rattle.module_spec.specs.Scopes.{Symbols, TypeScope, constant_tree, sequent_tree, term_tree, type_tree};
+ghost use Rattle.sequent.specs.Closed.{closed_term_view, closed_type_view, closed_view, spelled_terms, spelled_types, term_step, type_step};
+ghost use Rattle.translate_term.specs.declared.closed.TermWork.TheVariants as term_work;
+ghost use Rattle.translate_term.specs.declared.closed.TypeWork.TheVariants as type_work;
+ghost use Rattle.translate_term.specs.Closed.{AreHypotheses, AreVariables, IsPut, IsTermToMake, IsTermWalk, IsTypeToMake, IsTypeWalk, MakesTypes, Numbered, hypothesis_domains, nodes_work, numbered_of, scope_under, statement_under, types_under, variable_domains, works_of};
 ghost use Rattle.translate_term.specs.Patterns.{IsTypeTree};
 ghost use Rattle.translate_term.specs.Told.{TellsClosed, told_operator};
 ghost use Rattle.translate_term.specs.Walks.{Grows};
@@ -22,18 +24,25 @@ use bridge_base::{Memory, Stack};
 use hol_name::Name;
 use holide_sig::Module;
 use lp_term::{LpId, LpNode};
-use sequent::{Closed, ClosedTerm, ClosedType};
+use sequent::{Closed, ClosedTerm, ClosedType, TermNode, TypeNode};
 use std::alloc::Global;
 
-/// What is still to be done. What was made lies on a stack.
+/// What is still to be done for a type. What was made lies on a stack.
 #[derive(Clone, Copy)]
-pub(crate) enum Work<'a> {
-    /// To make the tree of a type under so many binders.
-    MakeType(&'a ClosedType, u128),
-    /// To make the tree of a term under so many binders.
-    MakeTerm(&'a ClosedTerm, u128),
-    /// To make a constant of the tree of its type.
-    Constant(&'a Name),
+pub(crate) enum TypeWork {
+    /// To make the tree of the next type.
+    Next,
+    /// To apply a function to its argument, which was made after it.
+    Apply,
+    /// To apply what was made last to so many types.
+    ApplyTo(usize),
+}
+
+/// What is still to be done for a term. What was made lies on a stack.
+#[derive(Clone, Copy)]
+pub(crate) enum TermWork {
+    /// To make the tree of the next term, under so many binders.
+    Next(u128),
     /// To apply a function to its argument, which was made after it.
     Apply,
     /// To make an abstraction of its variable's type and its body, which was made after it.
@@ -71,12 +80,7 @@ fn statement(alloc: Global, target: &mut Module, closed: &Closed) -> Result<LpId
 {
     let terms = closed.type_vars as u128 + closed.free_vars.len() as u128;
     let proofs = terms + closed.hyps.len() as u128;
-    let conclusion = tree_of(
-        alloc,
-        target,
-        closed.type_vars,
-        Work::MakeTerm(&closed.concl, proofs),
-    )?;
+    let conclusion = tree_of_term(alloc, target, closed.type_vars, &closed.concl, proofs)?;
     let proof = call(&mut target.table, PROOF, &[conclusion])?;
     over_hypotheses(alloc, target, closed.type_vars, terms, &closed.hyps, proof)
 }
@@ -99,7 +103,7 @@ fn over_hypotheses(
     let mut rest = hyps;
     while let [front @ .., last] = rest {
         let depth = outside + front.len() as u128;
-        let formula = tree_of(alloc, target, type_vars, Work::MakeTerm(last, depth))?;
+        let formula = tree_of_term(alloc, target, type_vars, last, depth)?;
         product = product_over(target, PROOF, formula, product)?;
         rest = front;
     }
@@ -122,7 +126,7 @@ fn over_variables(
     let mut rest = types;
     while let [front @ .., last] = rest {
         let depth = type_vars as u128 + front.len() as u128;
-        let ty = tree_of(alloc, target, type_vars, Work::MakeType(last, depth))?;
+        let ty = tree_of_type(alloc, target, last, depth)?;
         product = product_over(target, TERM, ty, product)?;
         rest = front;
     }
@@ -160,189 +164,282 @@ fn over_types(target: &mut Module, type_vars: usize, inside: LpId) -> Result<LpI
     Ok(product)
 }
 
-// The tree of a type or a term of a closed sequent with so many type variables.
-fn tree_of(
+// The tree of a type of a closed sequent, under so many binders.
+fn tree_of_type(
     alloc: Global,
     target: &mut Module,
-    type_vars: usize,
-    root: Work<'_>,
+    ty: &ClosedType,
+    depth: u128,
 ) -> Result<LpId, Memory>
-    requires { (given : Numbered) × (tree : Tree) × IsClosedStart given tree target.old type_vars root }
-    ensures made { IfOk result (λ r. (given : Numbered) (tree : Tree) → IsClosedStart given tree target.old type_vars root.entry → Holds target.new.table r.0 tree) }
+    requires { (given : Numbered) × (t : HolType) × IsTypeToMake given t target.old (closed_type_view ty.now) }
+    ensures made { IfOk result (λ r. (given : Numbered) (t : HolType) → IsTypeToMake given t target.old (closed_type_view ty.now) → Holds target.new.table r.0 (type_tree given.symbols (types_under given depth) t)) }
     ensures grows { Grows target.old target.new }
 {
-    let mut tasks = Stack::new(alloc);
+    let mut works = Stack::new(alloc);
     let mut made = Stack::new(alloc);
-    let tree = walked(alloc, target, type_vars, root, &mut tasks, &mut made);
+    let tree = type_made(alloc, target, &ty.nodes, depth, &mut works, &mut made);
     drop(made);
-    drop(tasks);
+    drop(works);
     tree
 }
 
-// The tree that a walk makes, this task first.
-fn walked<'a>(
+// The tree of the type that nodes spell, by a walk that has nothing else to do.
+fn type_made(
     alloc: Global,
     target: &mut Module,
-    type_vars: usize,
-    task: Work<'a>,
-    tasks: &mut Stack<Work<'a>>,
+    nodes: &[TypeNode],
+    depth: u128,
+    works: &mut Stack<TypeWork>,
     made: &mut Stack<LpId>,
 ) -> Result<LpId, Memory>
-    requires { (given : Numbered) × (tree : Tree) × IsClosedWalk given tree target.old type_vars (task ∷ tasks.old) made.old }
-    ensures made { IfOk result (λ r. (given : Numbered) (tree : Tree) → IsClosedWalk given tree target.old type_vars (task.entry ∷ tasks.old) made.old → Holds target.new.table r.0 tree) }
+    requires { (given : Numbered) × (root : Tree) × IsTypeWalk given root target.old depth (type_work.Next ∷ works.old) (spelled_types nodes.now) made.old }
+    ensures made { IfOk result (λ r. (given : Numbered) (root : Tree) → IsTypeWalk given root target.old depth (type_work.Next ∷ works.old) (spelled_types nodes.now) made.old → Holds target.new.table r.0 root) }
     ensures grows { Grows target.old target.new }
 {
-    tasks.push(task)?;
-    while let Some(next) = tasks.pop() {
-        turn(alloc, target, type_vars, next, tasks, made)?;
+    works.push(TypeWork::Next)?;
+    let mut left = nodes;
+    while let Some(work) = works.pop() {
+        left = turn_type(alloc, target, left, depth, work, works, made)?;
     }
     Ok(one(made))
 }
 
-// One turn of the walk.
-fn turn<'a>(
+// One turn of the walk over the nodes of a type: those that are left.
+fn turn_type<'a>(
+    alloc: Global,
+    target: &mut Module,
+    nodes: &'a [TypeNode],
+    depth: u128,
+    work: TypeWork,
+    works: &mut Stack<TypeWork>,
+    made: &mut Stack<LpId>,
+) -> Result<&'a [TypeNode], Memory>
+    requires { (given : Numbered) × (root : Tree) × IsTypeWalk given root target.old depth (work ∷ works.old) (spelled_types nodes.now) made.old }
+    ensures grows { Grows target.old target.new }
+    ensures walk { IfOk result (λ left. (given : Numbered) (root : Tree) → IsTypeWalk given root target.old depth (work ∷ works.old) (spelled_types nodes.now) made.old → IsTypeWalk given root target.new depth works.new (spelled_types left.now) made.new) }
+    ensures less { IfOk result (λ left. works_of works.new + nodes_work left.now < works_of (work ∷ works.old) + nodes_work nodes.now) }
+{
+    match work {
+        TypeWork::Next => begin_type(alloc, target, nodes, depth, works, made),
+        TypeWork::Apply => {
+            let (function, argument) = two(made);
+            put_node(target, LpNode::App(function, argument), made)?;
+            Ok(nodes)
+        }
+        TypeWork::ApplyTo(count) => {
+            set_out_to_apply(count, works)?;
+            Ok(nodes)
+        }
+    }
+}
+
+// The next type as far as its arguments. What nodes lack is the first type variable.
+fn begin_type<'a>(
+    alloc: Global,
+    target: &mut Module,
+    nodes: &'a [TypeNode],
+    depth: u128,
+    works: &mut Stack<TypeWork>,
+    made: &mut Stack<LpId>,
+) -> Result<&'a [TypeNode], Memory>
+    requires { (given : Numbered) × (root : Tree) × IsTypeWalk given root target.old depth (type_work.Next ∷ works.old) (spelled_types nodes.now) made.old }
+    ensures grows { Grows target.old target.new }
+    ensures walk { IfOk result (λ left. (given : Numbered) (root : Tree) → IsTypeWalk given root target.old depth (type_work.Next ∷ works.old) (spelled_types nodes.now) made.old → IsTypeWalk given root target.new depth works.new (spelled_types left.now) made.new) }
+    ensures less { IfOk result (λ left. works_of works.new + nodes_work left.now ≤ works_of works.old + nodes_work nodes.now) }
+{
+    match nodes {
+        [] => {
+            put_type_variable(target, 0, depth, made)?;
+            Ok(nodes)
+        }
+        [node, left @ ..] => {
+            visit_type(alloc, target, node, depth, works, made)?;
+            Ok(left)
+        }
+    }
+}
+
+// Makes the binder of a type variable, or an operator's symbol, which is to be applied to its arguments.
+fn visit_type(
+    alloc: Global,
+    target: &mut Module,
+    node: &TypeNode,
+    depth: u128,
+    works: &mut Stack<TypeWork>,
+    made: &mut Stack<LpId>,
+) -> Result<(), Memory>
+    requires { (given : Numbered) × (root : Tree) × (ts : List AClosedType) × IsTypeWalk given root target.old depth (type_work.Next ∷ works.old) (type_step node.now ts) made.old }
+    ensures grows { Grows target.old target.new }
+    ensures walk { OnOk result ((given : Numbered) (root : Tree) (ts : List AClosedType) → IsTypeWalk given root target.old depth (type_work.Next ∷ works.old) (type_step node.now ts) made.old → IsTypeWalk given root target.new depth works.new ts made.new) }
+    ensures less { OnOk result (works_of works.new ≤ works_of works.old + nodes_work (node.now ∷ [])) }
+{
+    match node {
+        TypeNode::Parameter(place) => put_type_variable(target, *place, depth, made),
+        TypeNode::Operator(name, arity) => {
+            put_operator(alloc, target, name, *arity, made)?;
+            works.push(TypeWork::ApplyTo(*arity))
+        }
+    }
+}
+
+// Sets out to apply what was made to so many types, the first innermost.
+fn set_out_to_apply(count: usize, works: &mut Stack<TypeWork>) -> Result<(), Memory>
+    ensures makes { OnOk result ((given : Numbered) (depth : ℕ) (root : Tree) (ts : List AClosedType) (made : List Tree) → MakesTypes given depth root (type_work.ApplyTo count ∷ works.old) ts made → MakesTypes given depth root works.new ts made) }
+    ensures less { OnOk result (works_of works.new < works_of (type_work.ApplyTo count ∷ works.old)) }
+{
+    let Some(others) = count.checked_sub(1) else {
+        return Ok(());
+    };
+    works.push(TypeWork::ApplyTo(others))?;
+    works.push(TypeWork::Apply)?;
+    works.push(TypeWork::Next)
+}
+
+// The tree of a term of a closed sequent with so many type variables, under so many binders.
+fn tree_of_term(
     alloc: Global,
     target: &mut Module,
     type_vars: usize,
-    task: Work<'a>,
-    tasks: &mut Stack<Work<'a>>,
+    term: &ClosedTerm,
+    depth: u128,
+) -> Result<LpId, Memory>
+    requires { (given : Numbered) × (t : ATerm) × IsTermToMake given t target.old type_vars (closed_term_view term.now) depth }
+    ensures made { IfOk result (λ r. (given : Numbered) (t : ATerm) → IsTermToMake given t target.old type_vars (closed_term_view term.now) depth → Holds target.new.table r.0 (term_tree given.symbols (scope_under given depth) t)) }
+    ensures grows { Grows target.old target.new }
+{
+    let mut works = Stack::new(alloc);
+    let mut made = Stack::new(alloc);
+    let tree = term_made(
+        alloc,
+        target,
+        type_vars,
+        &term.nodes,
+        depth,
+        &mut works,
+        &mut made,
+    );
+    drop(made);
+    drop(works);
+    tree
+}
+
+// The tree of the term that nodes spell, by a walk that has nothing else to do.
+fn term_made(
+    alloc: Global,
+    target: &mut Module,
+    type_vars: usize,
+    nodes: &[TermNode],
+    depth: u128,
+    works: &mut Stack<TermWork>,
+    made: &mut Stack<LpId>,
+) -> Result<LpId, Memory>
+    requires { (given : Numbered) × (root : Tree) × IsTermWalk given root target.old type_vars (term_work.Next depth ∷ works.old) (spelled_terms nodes.now) made.old }
+    ensures made { IfOk result (λ r. (given : Numbered) (root : Tree) → IsTermWalk given root target.old type_vars (term_work.Next depth ∷ works.old) (spelled_terms nodes.now) made.old → Holds target.new.table r.0 root) }
+    ensures grows { Grows target.old target.new }
+{
+    works.push(TermWork::Next(depth))?;
+    let mut left = nodes;
+    while let Some(work) = works.pop() {
+        left = turn_term(alloc, target, type_vars, left, work, works, made)?;
+    }
+    Ok(one(made))
+}
+
+// One turn of the walk over the nodes of a term: those that are left.
+fn turn_term<'a>(
+    alloc: Global,
+    target: &mut Module,
+    type_vars: usize,
+    nodes: &'a [TermNode],
+    work: TermWork,
+    works: &mut Stack<TermWork>,
+    made: &mut Stack<LpId>,
+) -> Result<&'a [TermNode], Memory>
+    requires { (given : Numbered) × (root : Tree) × IsTermWalk given root target.old type_vars (work ∷ works.old) (spelled_terms nodes.now) made.old }
+    ensures grows { Grows target.old target.new }
+    ensures walk { IfOk result (λ left. (given : Numbered) (root : Tree) → IsTermWalk given root target.old type_vars (work ∷ works.old) (spelled_terms nodes.now) made.old → IsTermWalk given root target.new type_vars works.new (spelled_terms left.now) made.new) }
+    ensures less { IfOk result (λ left. length works.new + 3 * length left.now < length (work ∷ works.old) + 3 * length nodes.now) }
+{
+    match work {
+        TermWork::Next(depth) => begin_term(alloc, target, type_vars, nodes, depth, works, made),
+        TermWork::Apply => {
+            let (function, argument) = two(made);
+            put_node(target, LpNode::App(function, argument), made)?;
+            Ok(nodes)
+        }
+        TermWork::Bind => {
+            let (ty, body) = two(made);
+            put_abstraction(target, ty, body, made)?;
+            Ok(nodes)
+        }
+    }
+}
+
+// The next term as far as its parts. What nodes lack is the first free variable.
+fn begin_term<'a>(
+    alloc: Global,
+    target: &mut Module,
+    type_vars: usize,
+    nodes: &'a [TermNode],
+    depth: u128,
+    works: &mut Stack<TermWork>,
+    made: &mut Stack<LpId>,
+) -> Result<&'a [TermNode], Memory>
+    requires { (given : Numbered) × (root : Tree) × IsTermWalk given root target.old type_vars (term_work.Next depth ∷ works.old) (spelled_terms nodes.now) made.old }
+    ensures grows { Grows target.old target.new }
+    ensures walk { IfOk result (λ left. (given : Numbered) (root : Tree) → IsTermWalk given root target.old type_vars (term_work.Next depth ∷ works.old) (spelled_terms nodes.now) made.old → IsTermWalk given root target.new type_vars works.new (spelled_terms left.now) made.new) }
+    ensures less { IfOk result (λ left. length works.new + 3 * length left.now ≤ length works.old + 3 * length nodes.now) }
+{
+    match nodes {
+        [] => {
+            put_variable(target, type_vars, 0, depth, made)?;
+            Ok(nodes)
+        }
+        [node, left @ ..] => {
+            visit_term(alloc, target, type_vars, node, depth, works, made)?;
+            Ok(left)
+        }
+    }
+}
+
+// Makes the binder of a variable or a constant, or sets out to make the parts of a term.
+fn visit_term(
+    alloc: Global,
+    target: &mut Module,
+    type_vars: usize,
+    node: &TermNode,
+    depth: u128,
+    works: &mut Stack<TermWork>,
     made: &mut Stack<LpId>,
 ) -> Result<(), Memory>
-    requires { (given : Numbered) × (root : Tree) × IsClosedWalk given root target.old type_vars (task ∷ tasks.old) made.old }
+    requires { (given : Numbered) × (root : Tree) × (ts : List AClosedTerm) × IsTermWalk given root target.old type_vars (term_work.Next depth ∷ works.old) (term_step node.now ts) made.old }
     ensures grows { Grows target.old target.new }
-    ensures walk { OnOk result ((given : Numbered) (root : Tree) → IsClosedWalk given root target.old type_vars (task.entry ∷ tasks.old) made.old → IsClosedWalk given root target.new type_vars tasks.new made.new) }
-    ensures less { OnOk result (work_of tasks.new < work_of (task.entry ∷ tasks.old)) }
+    ensures walk { OnOk result ((given : Numbered) (root : Tree) (ts : List AClosedTerm) → IsTermWalk given root target.old type_vars (term_work.Next depth ∷ works.old) (term_step node.now ts) made.old → IsTermWalk given root target.new type_vars works.new ts made.new) }
+    ensures less { OnOk result (length works.new ≤ length works.old + 3) }
 {
-    match task {
-        Work::MakeType(ty, depth) => visit_type(alloc, target, ty, depth, tasks, made),
-        Work::MakeTerm(term, depth) => visit_term(target, type_vars, term, depth, tasks, made),
-        Work::Constant(name) => {
-            let ty = one(made);
+    match node {
+        TermNode::Parameter(place) => put_variable(target, type_vars, *place, depth, made),
+        TermNode::Bound(number) => put_node(target, LpNode::Var(*number), made),
+        TermNode::Constant(name, ty) => {
+            let ty = tree_of_type(alloc, target, ty, depth)?;
             put_constant(alloc, target, name, ty, made)
         }
-        Work::Apply => {
-            let (function, argument) = two(made);
-            put_node(target, LpNode::App(function, argument), made)
+        TermNode::App => {
+            works.push(TermWork::Apply)?;
+            works.push(TermWork::Next(depth))?;
+            works.push(TermWork::Next(depth))
         }
-        Work::Bind => {
-            let (ty, body) = two(made);
-            put_abstraction(target, ty, body, made)
-        }
-    }
-}
-
-// Makes the binder of a type variable, or an operator's symbol, and sets out to apply it to its arguments.
-fn visit_type<'a>(
-    alloc: Global,
-    target: &mut Module,
-    ty: &'a ClosedType,
-    depth: u128,
-    tasks: &mut Stack<Work<'a>>,
-    made: &mut Stack<LpId>,
-) -> Result<(), Memory>
-    requires { (given : Numbered) × (root : Tree) × (type_vars : ℕ) × IsTypeVisit given root target.old type_vars (closed_type_view ty.now) depth tasks.old made.old }
-    ensures grows { Grows target.old target.new }
-    ensures walk { OnOk result ((given : Numbered) (root : Tree) (type_vars : ℕ) → IsTypeVisit given root target.old type_vars (closed_type_view ty.now) depth tasks.old made.old → IsClosedWalk given root target.new type_vars tasks.new made.new) }
-    ensures less { OnOk result (work_of tasks.new < type_work (closed_type_view ty.now) + work_of tasks.old) }
-{
-    match ty {
-        ClosedType::Parameter(place) => {
-            let number = binder(depth, *place as u128);
-            put_node(target, LpNode::Var(number), made)
-        }
-        ClosedType::Operator(name, args) => {
-            put_operator(alloc, target, name, args.len(), made)?;
-            set_out(tasks, args, depth)
-        }
-    }
-}
-
-// Makes the binder of a variable, or sets out to make the parts of a term.
-fn visit_term<'a>(
-    target: &mut Module,
-    type_vars: usize,
-    term: &'a ClosedTerm,
-    depth: u128,
-    tasks: &mut Stack<Work<'a>>,
-    made: &mut Stack<LpId>,
-) -> Result<(), Memory>
-    requires { (given : Numbered) × (root : Tree) × IsTermVisit given root target.old type_vars (closed_term_view term.now) depth tasks.old made.old }
-    ensures grows { Grows target.old target.new }
-    ensures walk { OnOk result ((given : Numbered) (root : Tree) → IsTermVisit given root target.old type_vars (closed_term_view term.now) depth tasks.old made.old → IsClosedWalk given root target.new type_vars tasks.new made.new) }
-    ensures less { OnOk result (work_of tasks.new < term_work (closed_term_view term.now) + work_of tasks.old) }
-{
-    match term {
-        ClosedTerm::Parameter(place) => {
-            let number = binder(depth, type_vars as u128 + *place as u128);
-            put_node(target, LpNode::Var(number), made)
-        }
-        ClosedTerm::Bound(number) => put_node(target, LpNode::Var(*number), made),
-        ClosedTerm::Constant(name, ty) => push_two(
-            tasks,
-            Work::MakeType(ty, depth),
-            Work::Constant(name),
-        ),
-        ClosedTerm::App(function, argument) => push_three(
-            tasks,
-            Work::MakeTerm(function, depth),
-            Work::MakeTerm(argument, depth),
-            Work::Apply,
-        ),
-        ClosedTerm::Lam(ty, body) => {
+        TermNode::Lam(ty) => {
             // No memory holds so many binders.
             let Some(inside) = depth.checked_add(1) else {
                 return Err(Memory);
             };
-            push_three(
-                tasks,
-                Work::MakeType(ty, depth),
-                Work::MakeTerm(body, inside),
-                Work::Bind,
-            )
+            let ty = tree_of_type(alloc, target, ty, depth)?;
+            made.push(ty)?;
+            works.push(TermWork::Bind)?;
+            works.push(TermWork::Next(inside))
         }
     }
-}
-
-// Puts two tasks on those that are left, the first on top.
-fn push_two<'a>(
-    tasks: &mut Stack<Work<'a>>,
-    first: Work<'a>,
-    second: Work<'a>,
-) -> Result<(), Memory>
-    ensures { OnOk result (tasks.new ≡ first.entry ∷ second.entry ∷ tasks.old) }
-{
-    tasks.push(second)?;
-    tasks.push(first)
-}
-
-// Puts three tasks on those that are left, the first on top.
-fn push_three<'a>(
-    tasks: &mut Stack<Work<'a>>,
-    first: Work<'a>,
-    second: Work<'a>,
-    third: Work<'a>,
-) -> Result<(), Memory>
-    ensures { OnOk result (tasks.new ≡ first.entry ∷ second.entry ∷ third.entry ∷ tasks.old) }
-{
-    tasks.push(third)?;
-    push_two(tasks, first, second)
-}
-
-// Sets out to apply what was made to these arguments, the first innermost.
-fn set_out<'a>(
-    tasks: &mut Stack<Work<'a>>,
-    args: &'a [ClosedType],
-    depth: u128,
-) -> Result<(), Memory>
-    ensures makes { OnOk result ((given : Numbered) (root head : Tree) (made : List Tree) (ts : List HolType) → Pairwise (IsTypeOf given) (map closed_type_view args.now) ts → Makes given root tasks.old (applied head (map (type_tree given.symbols (types_under given depth)) ts) ∷ made) → Makes given root tasks.new (head ∷ made)) }
-    ensures work { OnOk result (work_of tasks.new ≡ types_work (closed_types_of (map closed_type_view args.now)) + work_of tasks.old) }
-{
-    let mut rest = args;
-    while let [front @ .., last] = rest {
-        push_two(tasks, Work::MakeType(last, depth), Work::Apply)?;
-        rest = front;
-    }
-    Ok(())
 }
 
 // What was made last.
@@ -368,6 +465,35 @@ fn binder(depth: u128, place: u128) -> u128
     ensures { result ≡ depth - place - 1 }
 {
     depth.saturating_sub(place).saturating_sub(1)
+}
+
+// Makes the binder of the type variable at a place, and puts it on what was made.
+fn put_type_variable(
+    target: &mut Module,
+    place: usize,
+    depth: u128,
+    made: &mut Stack<LpId>,
+) -> Result<(), Memory>
+    ensures made { OnOk result (IsPut made.old made.new target.new.table (Var (depth - place - 1))) }
+    ensures grows { Grows target.old target.new }
+{
+    let number = binder(depth, place as u128);
+    put_node(target, LpNode::Var(number), made)
+}
+
+// Makes the binder of the free variable at a place, and puts it on what was made.
+fn put_variable(
+    target: &mut Module,
+    type_vars: usize,
+    place: usize,
+    depth: u128,
+    made: &mut Stack<LpId>,
+) -> Result<(), Memory>
+    ensures made { OnOk result (IsPut made.old made.new target.new.table (Var (depth - (type_vars + place) - 1))) }
+    ensures grows { Grows target.old target.new }
+{
+    let number = binder(depth, type_vars as u128 + place as u128);
+    put_node(target, LpNode::Var(number), made)
 }
 
 // Makes a node, and puts it on what was made.

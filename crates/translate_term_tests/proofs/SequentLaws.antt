@@ -1,5 +1,5 @@
 -- The sequents of which the tests translate the closed forms.
-use Rattle.std.proofs.Common.{◌≡◌, ℕ, ◌+◌, refl, sym, ap, ◌∙◌, subst, List, [], ◌∷◌, ◌++◌, map, add-one, rules}
+use Rattle.std.proofs.Common.{◌≡◌, ℕ, ◌+◌, refl, sym, ap, ◌∙◌, subst, List, [], ◌∷◌, ◌++◌, map, add-one}
 use Rattle.std.proofs.Math.Path.{ap₂}
 use Rattle.std.proofs.lemmas.List.{map-append}
 use Rattle.std.specs.Prelude.{codes}
@@ -15,7 +15,6 @@ use Rattle.hol_laws.specs.PositionLaws.{turned}
 use Rattle.hol_laws.specs.TermLaws.{term_eq-Decides}
 use Rattle.lp_spec.specs.Modules.{Declaration}
 use Rattle.module_spec.specs.Scopes.{Symbols}
-use Rattle.sequent.specs.declared.closed.ClosedTerm as closed_terms
 use Rattle.sequent.specs.declared.closed.ClosedTerm.{ClosedTerm}
 use Rattle.sequent.specs.Closed.{closed_term_view}
 use Rattle.translate_term.specs.Told.{TellsClosed}
@@ -88,7 +87,5 @@ pub closed_told : (m : List Declaration) (c : ClosedSequent) → m ≡ input_mod
 closed_told m c e p = (input_symbols, p.sequent, subst (λ ds. TellsClosed ds input_symbols p.sequent c) (sym e) p.told)
 
 -- with one free variable more
-pub parameters_next : (xs ys : List ClosedTerm) (n : ℕ) → ys ≡ xs ++ ClosedTerm.Parameter n ∷ [] → map closed_term_view xs ≡ parameters n → map closed_term_view ys ≡ parameters (n + 1)
-parameters_next xs ys n e h =
-    let last : closed_term_view (ClosedTerm.Parameter n) ≡ parameter n = search (rules, closed_terms.the_lemmas) in
-    rw add-one (ap (map closed_term_view) e ∙ map-append closed_term_view xs (ClosedTerm.Parameter n ∷ []) ∙ ap₂ (λ (ts : List form.ClosedTerm) (t : form.ClosedTerm). ts ++ t ∷ []) h last)
+pub parameters_next : (xs ys : List ClosedTerm) (t : ClosedTerm) (n : ℕ) → ys ≡ xs ++ t ∷ [] → closed_term_view t ≡ parameter n → map closed_term_view xs ≡ parameters n → map closed_term_view ys ≡ parameters (n + 1)
+parameters_next xs ys t n e is h = rw add-one (ap (map closed_term_view) e ∙ map-append closed_term_view xs (t ∷ []) ∙ ap₂ (λ (us : List form.ClosedTerm) (u : form.ClosedTerm). us ++ u ∷ []) h is)

@@ -1,39 +1,36 @@
 //! Closed sequents, whose symbols the module of the tests tells.
-ghost use Rattle.std.specs.Prelude.{◌≡◌, ◌∷◌, ◌<◌, ◌^◌, [], codes, map, replicate, IfOk};
-ghost use Rattle.hol_spec.specs.ClosedForm.{app, constant, lam, parameter};
-ghost use Rattle.sequent.specs.Closed.{closed_term_view, closed_type_view, closed_view};
+ghost use Rattle.std.specs.Prelude.{◌≡◌, ◌∷◌, ◌++◌, ◌<◌, ◌^◌, [], List, codes, map, replicate, IfOk, OnOk};
+ghost use Rattle.hol_spec.specs.ClosedForm.{ClosedTerm as AClosedTerm, app, constant, lam, parameter};
+ghost use Rattle.sequent.specs.declared.closed.TypeNode.{TypeNode as ATypeNode};
+ghost use Rattle.sequent.specs.Closed.{closed_term_view, closed_type_view, closed_view, term_step};
 ghost use Rattle.translate_term_tests.specs.Sequents.{IsToldClosed, assumed, closed_bool, closed_function, parameters as first_parameters};
 
 use crate::making::named;
 use bridge_base::Memory;
-use sequent::{Closed, ClosedTerm, ClosedType};
+use sequent::{Closed, ClosedTerm, ClosedType, TermNode, TypeNode};
 use std::alloc::Global;
+
+// Adds the node of an operator with so many arguments.
+fn add_operator(
+    alloc: Global,
+    nodes: &mut Vec<TypeNode>,
+    name: &[u8],
+    arguments: usize,
+) -> Result<(), Memory>
+    ensures { OnOk result (nodes.new.items ≡ nodes.old.items ++ ATypeNode.Operator (name.now ∷ []) arguments ∷ []) }
+{
+    let name = named(alloc, name)?;
+    nodes.push(TypeNode::Operator(name, arguments))?;
+    Ok(())
+}
 
 // `bool`
 fn truth(alloc: Global) -> Result<ClosedType, Memory>
     ensures { IfOk result (λ made. closed_type_view made ≡ closed_bool) }
 {
-    let name = named(alloc, b"bool")?;
-    Ok(ClosedType::Operator(name, Vec::new(alloc)))
-}
-
-// Two types.
-fn pair(alloc: Global, first: ClosedType, second: ClosedType) -> Result<Vec<ClosedType>, Memory>
-    ensures { IfOk result (λ types. map closed_type_view types.items ≡ closed_type_view first ∷ closed_type_view second ∷ []) }
-{
-    let mut types = Vec::new(alloc);
-    types.push(first)?;
-    types.push(second)?;
-    Ok(types)
-}
-
-// The type of functions.
-fn function(alloc: Global, domain: ClosedType, codomain: ClosedType) -> Result<ClosedType, Memory>
-    ensures { IfOk result (λ made. closed_type_view made ≡ closed_function (closed_type_view domain) (closed_type_view codomain)) }
-{
-    let args = pair(alloc, domain, codomain)?;
-    let name = named(alloc, b"->")?;
-    Ok(ClosedType::Operator(name, args))
+    let mut nodes = Vec::new(alloc);
+    add_operator(alloc, &mut nodes, b"bool", 0)?;
+    Ok(ClosedType { nodes })
 }
 
 // The types of so many truth values.
@@ -47,13 +44,22 @@ fn truths(alloc: Global, count: usize) -> Result<Vec<ClosedType>, Memory>
     Ok(types)
 }
 
+// A free variable.
+fn parameter_of(alloc: Global, place: usize) -> Result<ClosedTerm, Memory>
+    ensures { IfOk result (λ made. closed_term_view made ≡ parameter place) }
+{
+    let mut nodes = Vec::new(alloc);
+    nodes.push(TermNode::Parameter(place))?;
+    Ok(ClosedTerm { nodes })
+}
+
 // So many free variables.
 fn parameters(alloc: Global, count: usize) -> Result<Vec<ClosedTerm>, Memory>
     ensures { IfOk result (λ terms. map closed_term_view terms.items ≡ first_parameters count) }
 {
     let mut terms = Vec::new(alloc);
     for place in 0..count {
-        terms.push(ClosedTerm::Parameter(place))?;
+        terms.push(parameter_of(alloc, place)?)?;
     }
     Ok(terms)
 }
@@ -65,11 +71,12 @@ fn assuming(alloc: Global, count: usize) -> Result<Closed, Memory>
 {
     let free_vars = truths(alloc, count + 1)?;
     let hyps = parameters(alloc, count)?;
+    let concl = parameter_of(alloc, count)?;
     Ok(Closed {
         type_vars: 0,
         free_vars,
         hyps,
-        concl: ClosedTerm::Parameter(count),
+        concl,
     })
 }
 
@@ -93,35 +100,41 @@ fn two_assumed(alloc: Global) -> Result<Closed, Memory>
 fn quantifier_type(alloc: Global) -> Result<ClosedType, Memory>
     ensures { IfOk result (λ made. closed_type_view made ≡ closed_function (closed_function closed_bool closed_bool) closed_bool) }
 {
-    let predicate = function(alloc, truth(alloc)?, truth(alloc)?)?;
-    function(alloc, predicate, truth(alloc)?)
+    let mut nodes = Vec::new(alloc);
+    add_operator(alloc, &mut nodes, b"->", 2)?;
+    add_operator(alloc, &mut nodes, b"->", 2)?;
+    add_operator(alloc, &mut nodes, b"bool", 0)?;
+    add_operator(alloc, &mut nodes, b"bool", 0)?;
+    add_operator(alloc, &mut nodes, b"bool", 0)?;
+    Ok(ClosedType { nodes })
 }
 
 // u, of predicates of truth values.
-fn quantifier(alloc: Global) -> Result<ClosedTerm, Memory>
-    ensures { IfOk result (λ made. closed_term_view made ≡ constant (codes "u" ∷ []) (closed_function (closed_function closed_bool closed_bool) closed_bool)) }
+fn quantifier(alloc: Global) -> Result<TermNode, Memory>
+    ensures { IfOk result (λ node. (ts : List AClosedTerm) → term_step node ts ≡ constant (codes "u" ∷ []) (closed_function (closed_function closed_bool closed_bool) closed_bool) ∷ ts) }
 {
     let ty = quantifier_type(alloc)?;
     let name = named(alloc, b"u")?;
-    Ok(ClosedTerm::Constant(name, ty))
+    Ok(TermNode::Constant(name, ty))
 }
 
-// The abstraction of x0 over another truth value.
-fn constantly(alloc: Global) -> Result<ClosedTerm, Memory>
-    ensures { IfOk result (λ made. closed_term_view made ≡ lam closed_bool (parameter 0)) }
+// The abstraction over another truth value.
+fn binder(alloc: Global) -> Result<TermNode, Memory>
+    ensures { IfOk result (λ node. (t : AClosedTerm) (ts : List AClosedTerm) → term_step node (t ∷ ts) ≡ lam closed_bool t ∷ ts) }
 {
-    let body = Box::new(alloc, ClosedTerm::Parameter(0))?;
-    Ok(ClosedTerm::Lam(truth(alloc)?, body))
+    Ok(TermNode::Lam(truth(alloc)?))
 }
 
-fn application(
-    alloc: Global,
-    function: ClosedTerm,
-    argument: ClosedTerm,
-) -> Result<ClosedTerm, Memory>
-    ensures { IfOk result (λ made. closed_term_view made ≡ app (closed_term_view function) (closed_term_view argument)) }
+// u (\y. x0)
+fn application(alloc: Global) -> Result<ClosedTerm, Memory>
+    ensures { IfOk result (λ made. closed_term_view made ≡ app (constant (codes "u" ∷ []) (closed_function (closed_function closed_bool closed_bool) closed_bool)) (lam closed_bool (parameter 0))) }
 {
-    Ok(ClosedTerm::App(Box::new(alloc, function)?, Box::new(alloc, argument)?))
+    let mut nodes = Vec::new(alloc);
+    nodes.push(TermNode::App)?;
+    nodes.push(quantifier(alloc)?)?;
+    nodes.push(binder(alloc)?)?;
+    nodes.push(TermNode::Parameter(0))?;
+    Ok(ClosedTerm { nodes })
 }
 
 // |- u (\y. x0)
@@ -129,7 +142,7 @@ fn application(
 fn quantified(alloc: Global) -> Result<Closed, Memory>
     ensures { IfOk result (λ closed. IsToldClosed (closed_view closed)) }
 {
-    let concl = application(alloc, quantifier(alloc)?, constantly(alloc)?)?;
+    let concl = application(alloc)?;
     Ok(Closed {
         type_vars: 0,
         free_vars: truths(alloc, 1)?,

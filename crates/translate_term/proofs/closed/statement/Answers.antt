@@ -5,8 +5,8 @@ use Rattle.translate_term.specs.GrowLaws.{Grows-table, Grows-trans}
 use Rattle.translate_term.proofs.ClosedProduct.{conclusion_start, hypotheses_start, statement_is}
 use Rattle.translate_term.proofs.closed.statement.Goals as goal
 
-pub tree_of-requires : goal.tree_of-requires
-tree_of-requires c =
+pub tree_of_term-requires : goal.tree_of_term-requires
+tree_of_term-requires c =
     let q = c.requires.told in
     (_, _, conclusion_start q.0 q.1 c.args.target.now c.args.closed.now q.2 c.requires.held _ _ refl (omega (arith, c.len.ensures, c.len-2.ensures, c.args.closed.now.free_vars.ok, c.args.closed.now.hyps.ok)))
 
@@ -22,7 +22,7 @@ call-requires c =
 pub over_hypotheses-requires-clause-are : goal.over_hypotheses-requires-clause-are
 over_hypotheses-requires-clause-are c =
     let q = c.requires.told in
-    let grows = Grows-trans c.in_ok-conclusion.ensures.grows (Grows-table c.tree_of.new.target _ c.in_ok-proof.ensures.keeps) in
+    let grows = Grows-trans c.in_ok-conclusion.ensures.grows (Grows-table c.tree_of_term.new.target _ c.in_ok-proof.ensures.keeps) in
     rw c.deref.ensures.value (
       _,
       _,
@@ -31,7 +31,7 @@ over_hypotheses-requires-clause-are c =
 
 pub returns-clause-made : goal.returns-clause-made
 returns-clause-made c =
-    let grows = Grows-trans c.in_ok-conclusion.ensures.grows (Grows-table c.tree_of.new.target _ c.in_ok-proof.ensures.keeps) in
+    let grows = Grows-trans c.in_ok-conclusion.ensures.grows (Grows-table c.tree_of_term.new.target _ c.in_ok-proof.ensures.keeps) in
     let made = rw c.deref.ensures.value at c.over_hypotheses.ensures.made in
     IfOk-weaker c.over_hypotheses.result _ _
     (λ r h symbols s told.
@@ -47,7 +47,7 @@ returns-clause-made c =
     made
 
 pub returns-clause-grows : goal.returns-clause-grows
-returns-clause-grows c = Grows-trans c.in_ok-conclusion.ensures.grows (Grows-trans (Grows-table c.tree_of.new.target _ c.in_ok-proof.ensures.keeps) c.over_hypotheses.ensures.grows)
+returns-clause-grows c = Grows-trans c.in_ok-conclusion.ensures.grows (Grows-trans (Grows-table c.tree_of_term.new.target _ c.in_ok-proof.ensures.keeps) c.over_hypotheses.ensures.grows)
 
 pub returns-in_err-proof-clause-grows : goal.returns-in_err-proof-clause-grows
-returns-in_err-proof-clause-grows c = Grows-trans c.in_ok-conclusion.ensures.grows (Grows-table c.tree_of.new.target _ c.call.ensures.keeps)
+returns-in_err-proof-clause-grows c = Grows-trans c.in_ok-conclusion.ensures.grows (Grows-table c.tree_of_term.new.target _ c.call.ensures.keeps)

@@ -1,69 +1,77 @@
-use Rattle.std.proofs.Common.{arith, ap, sym, subst}
-use Rattle.lp_spec.specs.Trees.{Var}
-use Rattle.translate_term.specs.Closed.{IsClosedWalk, IsPut, IsTermVisit, term_work, work_of}
-use Rattle.translate_term.proofs.EndsLaws.{OnOk-always, OnOk-map}
-use Rattle.translate_term.proofs.ClosedViews.{view-term_parameter, view-term_bound, view-term_constant, view-term_application, view-term_abstraction}
-use Rattle.translate_term.proofs.ClosedTurns.{term_leaf, term_number, constant_set_out, application_set_out, abstraction_set_out}
+use Rattle.std.proofs.Common.{arith, ◌∷◌, ap, refl, sym, subst, ◌∙◌}
+use Rattle.hol_spec.specs.ClosedForm as form
+use Rattle.sequent.specs.Closed.{term_step}
+use Rattle.translate_term.specs.declared.closed.TermWork.TheVariants.{Next}
+use Rattle.translate_term.specs.Closed.{IsTermWalk, types_under}
+use Rattle.translate_term.specs.GrowLaws.{Grows-trans}
+use Rattle.translate_term.proofs.EndsLaws.{OnOk-map}
+use Rattle.translate_term.proofs.ClosedTurns.{term_leaf, term_number, constant_type, constant_typed, constant_made, application_set_out, abstraction_type, abstraction_set_out}
 use Rattle.translate_term.proofs.closed.visit_term.Goals as goal
+
+pub tree_of_type-requires : goal.tree_of_type-requires
+tree_of_type-requires c =
+    let q = c.requires in
+    let w = subst (λ n. IsTermWalk q.0 q.1 c.args.target.now c.args.type_vars (Next c.args.depth ∷ c.args.works.now) (term_step n q.2) c.args.made.now) c.in-Constant.is q.3 in
+    let t = constant_type q.0 q.1 c.args.target.now c.args.type_vars c.args.depth c.args.works.now c.args.made.now c.in-Constant.name c.in-Constant.ty q.2 w in
+    (q.0, t.0, t.1)
+
+pub put_constant-requires : goal.put_constant-requires
+put_constant-requires c =
+    let q = c.requires in
+    let w = subst (λ n. IsTermWalk q.0 q.1 c.args.target.now c.args.type_vars (Next c.args.depth ∷ c.args.works.now) (term_step n q.2) c.args.made.now) c.in-Constant.is q.3 in
+    let t = constant_type q.0 q.1 c.args.target.now c.args.type_vars c.args.depth c.args.works.now c.args.made.now c.in-Constant.name c.in-Constant.ty q.2 w in
+    (q.0.symbols, types_under q.0 c.args.depth, t.0, constant_typed q.0 q.1 c.args.target.now c.args.type_vars c.args.depth c.args.works.now c.args.made.now c.in-Constant.name c.in-Constant.ty q.2 w c.tree_of_type.new.target c.in_ok-ty-in-Constant.ty c.tree_of_type.ensures.grows (c.in_ok-ty-in-Constant.ensures.made q.0 t.0 t.1))
 
 pub returns-in-Parameter-clause-walk : goal.returns-in-Parameter-clause-walk
 returns-in-Parameter-clause-walk c =
-    OnOk-map c.put_node.result
-    (λ put given root v.
-    term_leaf given root _ _ _ _ _ _ c.in-Parameter.place _ c.put_node.ensures.grows (subst (λ k. IsPut c.args.made.now c.put_node.new.made c.put_node.new.target.table (Var k)) c.binder-number.ensures put)
-    (subst (λ x. IsTermVisit given root c.args.target.now c.args.type_vars x c.args.depth c.args.tasks.now c.args.made.now) (view-term_parameter _ c.in-Parameter.place c.in-Parameter.is) v))
-    c.put_node.ensures.made
+    OnOk-map c.put_variable.result
+    (λ put given root ts v.
+    let w = subst (λ n. IsTermWalk given root c.args.target.now c.args.type_vars (Next c.args.depth ∷ c.args.works.now) (term_step n ts) c.args.made.now) c.in-Parameter.is v in
+    term_leaf given root c.args.target.now c.args.type_vars c.args.depth c.args.works.now c.args.made.now c.put_variable.new.target c.in-Parameter.place (form.ClosedTerm.parameter c.in-Parameter.place ∷ ts) c.put_variable.new.made refl c.put_variable.ensures.grows put w)
+    c.put_variable.ensures.made
 
 pub returns-in-Bound-clause-walk : goal.returns-in-Bound-clause-walk
 returns-in-Bound-clause-walk c =
-    OnOk-map c.put_node-in-Bound.result
-    (λ put given root v.
-    term_number given root _ _ _ _ _ _ c.in-Bound.number _ c.put_node-in-Bound.ensures.grows put
-    (subst (λ x. IsTermVisit given root c.args.target.now c.args.type_vars x c.args.depth c.args.tasks.now c.args.made.now) (view-term_bound _ c.in-Bound.number c.in-Bound.is) v))
-    c.put_node-in-Bound.ensures.made
+    OnOk-map c.put_node.result
+    (λ put given root ts v.
+    let w = subst (λ n. IsTermWalk given root c.args.target.now c.args.type_vars (Next c.args.depth ∷ c.args.works.now) (term_step n ts) c.args.made.now) c.in-Bound.is v in
+    term_number given root c.args.target.now c.args.type_vars c.args.depth c.args.works.now c.args.made.now c.put_node.new.target c.in-Bound.number ts c.put_node.new.made c.put_node.ensures.grows put w)
+    c.put_node.ensures.made
 
-pub returns-in-Constant-clause-walk : goal.returns-in-Constant-clause-walk
-returns-in-Constant-clause-walk c =
-    OnOk-map c.push_two.result
-    (λ e given root v.
-    subst (λ l. IsClosedWalk given root c.args.target.now c.args.type_vars l c.args.made.now) (sym e)
-    (constant_set_out given root _ _ _ _ _ _ _
-    (subst (λ x. IsTermVisit given root c.args.target.now c.args.type_vars x c.args.depth c.args.tasks.now c.args.made.now) (view-term_constant _ c.in-Constant.name c.in-Constant.ty c.in-Constant.is) v)))
-    c.push_two.ensures
+pub returns-in_ok-ty-in-Constant-clause-walk : goal.returns-in_ok-ty-in-Constant-clause-walk
+returns-in_ok-ty-in-Constant-clause-walk c =
+    OnOk-map c.put_constant.result
+    (λ put given root ts v.
+    let w = subst (λ n. IsTermWalk given root c.args.target.now c.args.type_vars (Next c.args.depth ∷ c.args.works.now) (term_step n ts) c.args.made.now) c.in-Constant.is v in
+    let t = constant_type given root c.args.target.now c.args.type_vars c.args.depth c.args.works.now c.args.made.now c.in-Constant.name c.in-Constant.ty ts w in
+    let typed = constant_typed given root c.args.target.now c.args.type_vars c.args.depth c.args.works.now c.args.made.now c.in-Constant.name c.in-Constant.ty ts w c.tree_of_type.new.target c.in_ok-ty-in-Constant.ty c.tree_of_type.ensures.grows (c.in_ok-ty-in-Constant.ensures.made given t.0 t.1) in
+    constant_made given root c.args.target.now c.args.type_vars c.args.depth c.args.works.now c.args.made.now c.in-Constant.name c.in-Constant.ty ts w c.put_constant.new.target c.put_constant.new.made (Grows-trans c.tree_of_type.ensures.grows c.put_constant.ensures.grows) (put given.symbols (types_under given c.args.depth) t.0 typed))
+    c.put_constant.ensures.made
 
-pub returns-in-App-clause-walk : goal.returns-in-App-clause-walk
-returns-in-App-clause-walk c =
-    let is = view-term_application _ c.deref.result.now c.deref-in-App.result.now c.in-App.function c.in-App.argument c.in-App.is c.deref.ensures c.deref-in-App.ensures in
-    OnOk-map c.push_three.result
-    (λ e given root v.
-    subst (λ l. IsClosedWalk given root c.args.target.now c.args.type_vars l c.args.made.now) (sym e)
-    (application_set_out given root _ _ _ _ _ c.deref.result c.deref-in-App.result (subst (λ x. IsTermVisit given root c.args.target.now c.args.type_vars x c.args.depth c.args.tasks.now c.args.made.now) is v)))
-    c.push_three.ensures
+pub returns-in_ok-push-in-App-2-clause-walk : goal.returns-in_ok-push-in-App-2-clause-walk
+returns-in_ok-push-in-App-2-clause-walk c =
+    OnOk-map c.push-in-App-2.result
+    (λ pushed given root ts v.
+    let w = subst (λ n. IsTermWalk given root c.args.target.now c.args.type_vars (Next c.args.depth ∷ c.args.works.now) (term_step n ts) c.args.made.now) c.in-App.is v in
+    let all = pushed ∙ ap (λ l. Next c.args.depth ∷ l) (c.in_ok-push-in-App-2.ensures.pushed ∙ ap (λ l. Next c.args.depth ∷ l) c.in_ok-push-in-App.ensures.pushed) in
+    subst (λ l. IsTermWalk given root c.args.target.now c.args.type_vars l ts c.args.made.now) (sym all) (application_set_out given root c.args.target.now c.args.type_vars c.args.depth c.args.works.now c.args.made.now ts w))
+    c.push-in-App-2.ensures.pushed
 
-pub returns-in-App-clause-less : goal.returns-in-App-clause-less
-returns-in-App-clause-less c =
-    let is = view-term_application _ c.deref.result.now c.deref-in-App.result.now c.in-App.function c.in-App.argument c.in-App.is c.deref.ensures c.deref-in-App.ensures in
-    OnOk-map c.push_three.result (λ e. omega (arith, ap work_of e, ap term_work is)) c.push_three.ensures
+pub tree_of_type-requires-in-Lam : goal.tree_of_type-requires-in-Lam
+tree_of_type-requires-in-Lam c =
+    let q = c.requires in
+    let w = subst (λ n. IsTermWalk q.0 q.1 c.args.target.now c.args.type_vars (Next c.args.depth ∷ c.args.works.now) (term_step n q.2) c.args.made.now) c.in-Lam.is q.3 in
+    let t = abstraction_type q.0 q.1 c.args.target.now c.args.type_vars c.args.depth c.args.works.now c.args.made.now c.in-Lam.ty q.2 w in
+    (q.0, t.0, t.1)
 
-pub returns-in-Some-clause-walk : goal.returns-in-Some-clause-walk
-returns-in-Some-clause-walk c =
-    let is = view-term_abstraction _ c.in-Lam.ty c.deref-in-Lam.result.now c.in-Lam.body c.in-Lam.is c.deref-in-Lam.ensures in
-    OnOk-map c.push_three-in-Lam.result
-    (λ e given root v.
-    subst (λ l. IsClosedWalk given root c.args.target.now c.args.type_vars l c.args.made.now) (sym e)
-    (abstraction_set_out given root _ _ _ _ _ _ c.deref-in-Lam.result c.in-Some.inside (omega (arith, c.in-Some.ensures)) (subst (λ x. IsTermVisit given root c.args.target.now c.args.type_vars x c.args.depth c.args.tasks.now c.args.made.now) is v)))
-    c.push_three-in-Lam.ensures
-
-pub returns-in-Some-clause-less : goal.returns-in-Some-clause-less
-returns-in-Some-clause-less c =
-    let is = view-term_abstraction _ c.in-Lam.ty c.deref-in-Lam.result.now c.in-Lam.body c.in-Lam.is c.deref-in-Lam.ensures in
-    OnOk-map c.push_three-in-Lam.result (λ e. omega (arith, ap work_of e, ap term_work is)) c.push_three-in-Lam.ensures
-
-pub returns-in-Parameter-clause-less : goal.returns-in-Parameter-clause-less
-returns-in-Parameter-clause-less c = OnOk-always c.put_node.result (rw (view-term_parameter _ c.in-Parameter.place c.in-Parameter.is) (omega arith))
-
-pub returns-in-Bound-clause-less : goal.returns-in-Bound-clause-less
-returns-in-Bound-clause-less c = OnOk-always c.put_node-in-Bound.result (rw (view-term_bound _ c.in-Bound.number c.in-Bound.is) (omega arith))
-
-pub returns-in-Constant-clause-less : goal.returns-in-Constant-clause-less
-returns-in-Constant-clause-less c = OnOk-map c.push_two.result (λ e. omega (arith, ap work_of e, ap term_work (view-term_constant _ c.in-Constant.name c.in-Constant.ty c.in-Constant.is))) c.push_two.ensures
+pub returns-in_ok-push-in-Lam-2-clause-walk : goal.returns-in_ok-push-in-Lam-2-clause-walk
+returns-in_ok-push-in-Lam-2-clause-walk c =
+    OnOk-map c.push-in-Lam-3.result
+    (λ pushed given root ts v.
+    let w = subst (λ n. IsTermWalk given root c.args.target.now c.args.type_vars (Next c.args.depth ∷ c.args.works.now) (term_step n ts) c.args.made.now) c.in-Lam.is v in
+    let t = abstraction_type given root c.args.target.now c.args.type_vars c.args.depth c.args.works.now c.args.made.now c.in-Lam.ty ts w in
+    let all = pushed ∙ ap (λ l. Next c.in-Some.inside ∷ l) c.in_ok-push-in-Lam-2.ensures.pushed in
+    subst (λ l. IsTermWalk given root c.tree_of_type-in-Lam.new.target c.args.type_vars l ts c.push-in-Lam.new.self) (sym all)
+    (abstraction_set_out given root c.args.target.now c.args.type_vars c.args.depth c.args.works.now c.args.made.now c.in-Lam.ty ts w c.tree_of_type-in-Lam.new.target c.in-Some.inside c.push-in-Lam.new.self (let h = c.in-Some.ensures in omega (arith, h)) c.tree_of_type-in-Lam.ensures.grows
+    (record { id = c.in_ok-ty-in-Lam.ty; is = c.in_ok-push-in-Lam.ensures.pushed; holds = c.in_ok-ty-in-Lam.ensures.made given t.0 t.1 })))
+    c.push-in-Lam-3.ensures.pushed
