@@ -1,5 +1,5 @@
 -- The abstraction of a body over the variable of its binder.
-use Rattle.std.proofs.Common.{◌≡◌, ℕ, suc, ◌+◌, ◌-◌, ◌<◌, ◌≤◌, List, Bool, true, false, cond, Option, Some, None, length, refl, sym, ap, subst, ◌∙◌, arith}
+use Rattle.std.proofs.Common.{◌≡◌, ℕ, suc, ◌+◌, ◌-◌, ◌<◌, ◌≤◌, List, Bool, true, false, cond, Some, None, length, refl, sym, ap, subst, ◌∙◌, arith}
 use Rattle.std.specs.Prelude.{nat_lt, nat_eq, ◌&&◌}
 use Rattle.std.proofs.Math.Path.{ap₂}
 use Rattle.std.proofs.lemmas.Bool.Decides.{Decides-ltb, Decides-eqb}
@@ -26,12 +26,11 @@ use Rattle.lp_spec.specs.Trees.{Tree, Lam}
 use Rattle.lp_spec.specs.Modules.{Declaration}
 use Rattle.module_spec.specs.TypeEnc.{Place, inside}
 use Rattle.decode_spec.specs.Options.{bind, both}
-use Rattle.decode_laws.specs.OptionLaws.{some-injective, bind-is, both-is}
+use Rattle.decode_laws.specs.OptionLaws.{some-injective, both-is}
 use Rattle.decode_spec.specs.Opened.{open_type, open_term}
 use Rattle.decode_spec.specs.Decode.{term_part, type_of_tree, term_from}
-use Rattle.decode_laws.specs.TermWalkLaws.{NoTerm}
-use Rattle.decode_back.specs.Walks.{parameter_name, IsTypeFound}
-use Rattle.decode_back.specs.TermWalks.{outside_name, IsFresh, IsLamFound, IsTermFound}
+use Rattle.decode_back.specs.Walks.{parameter_name, NoTypeWithin}
+use Rattle.decode_back.specs.TermWalks.{outside_name, IsFresh, IsLamFound, NoLamWithin, NoTermWithin}
 
 -- a variable put into a body without it and closed again
 module _ (t : HolType) where
@@ -124,24 +123,18 @@ lam-held one two three four ty name body outside opened id k l typed known e fre
 
 -- what an abstraction's tree stands for
 module _ (d : List Declaration) (at : Place) (types : List ClosedType) (level there : ℕ) (A B : Tree) where
-  abbrev Nothing_here : Type 0
-  Nothing_here = NoTerm parameter_name types there level (term_from d (Lam A B) at)
-
   -- what it is made of
   record IsLam (c : ClosedTerm) : Type 0 where
-    tree : Tree
     t : ClosedType
     b : ClosedTerm
-    part : term_part A ≡ Some tree
-    typed : type_of_tree d at tree ≡ Some t
+    typed : bind (term_part A) (type_of_tree d at) ≡ Some t
     body : term_from d B (inside at) ≡ Some b
     is : c ≡ ClosedTerm.lam t b
 
   lam-parts : (c : ClosedTerm) → term_from d (Lam A B) at ≡ Some c → IsLam c
   lam-parts c e =
       let m = both-is ClosedTerm.lam (bind (term_part A) (type_of_tree d at)) (term_from d B (inside at)) c e in
-      let p = bind-is (term_part A) (type_of_tree d at) m.0 m.2 in
-      record { tree = p.0; t = m.0; b = m.1; part = p.1; typed = p.2; body = m.3; is = m.4 }
+      record { t = m.0; b = m.1; typed = m.2; body = m.3; is = m.4 }
 
   lam-size : (c : ClosedTerm) (h : IsLam c) → term_size (open_term parameter_name types c) ≡ 1 + type_size (open_type parameter_name h.t) + term_size (open_term parameter_name types h.b)
   lam-size c h = ap (λ u. term_size (open_term parameter_name types u)) h.is
@@ -149,38 +142,27 @@ module _ (d : List Declaration) (at : Place) (types : List ClosedType) (level th
   lam-depth : (c : ClosedTerm) (h : IsLam c) → term_depth (open_term parameter_name types c) ≡ term_depth (open_term parameter_name types (ClosedTerm.lam h.t h.b))
   lam-depth c h = ap (λ u. term_depth (open_term parameter_name types u)) h.is
 
-  pub lam-no_domain : term_part A ≡ None → Nothing_here
-  lam-no_domain e c f a b = let h = lam-parts c f in let g : ◌≡◌ {A = Option Tree} None (Some h.tree) = sym e ∙ h.part in absurd (cc)
+  pub lam-no_type : there ≤ greatest_size → NoTypeWithin level (bind (term_part A) (type_of_tree d at)) → NoTermWithin types there level (term_from d (Lam A B) at)
+  lam-no_type l none c e a b =
+      let h = lam-parts c e in
+      let m = lam-size c h in
+      let n = lam-depth c h in
+      none h.t h.typed (omega (arith, a, l, m)) (omega (arith, b, n))
 
-  module _ (T : Tree) (part : term_part A ≡ Some T) where
-    one_type : (c : ClosedTerm) (h : IsLam c) → type_of_tree d at T ≡ Some h.t
-    one_type c h = let e : h.tree ≡ T = some-injective (sym h.part ∙ part) in ap (type_of_tree d at) (sym e) ∙ h.typed
+  pub lam-no_body : (below : ℕ) → level ≤ below + 1 → NoTermWithin types there below (term_from d B (inside at)) → NoTermWithin types there level (term_from d (Lam A B) at)
+  lam-no_body below l none c e a b =
+      let h = lam-parts c e in
+      let m = lam-size c h in
+      let n = lam-depth c h in
+      none h.b h.body (omega (arith, a, m)) (omega (arith, b, n, l))
 
-    pub lam-no_type : (trees : Trees) → there ≤ greatest_size → IsTypeFound level (type_of_tree d at T) trees None → Nothing_here
-    lam-no_type trees l none c e a b =
-        let h = lam-parts c e in
-        let m = lam-size c h in
-        let n = lam-depth c h in
-        none h.t (one_type c h) (omega (arith, a, l, m)) (omega (arith, b, n))
+  module _ (t : ClosedType) (typed : bind (term_part A) (type_of_tree d at) ≡ Some t) (b : ClosedTerm) (body : term_from d B (inside at) ≡ Some b) where
+    pub lam-is : term_from d (Lam A B) at ≡ Some (ClosedTerm.lam t b)
+    lam-is = ap (λ o. both ClosedTerm.lam o (term_from d B (inside at))) typed ∙ ap (both ClosedTerm.lam (Some t)) body
 
-    pub lam-no_body : (below after : ℕ) (trees : Trees) → level ≤ below + 1 → IsTermFound below types there after (term_from d B (inside at)) trees None → Nothing_here
-    lam-no_body below after trees l none c e a b =
-        let h = lam-parts c e in
-        let m = lam-size c h in
-        let n = lam-depth c h in
-        none h.b h.body (omega (arith, a, m)) (omega (arith, b, n, l))
-
-    module _ (t : ClosedType) (typed : type_of_tree d at T ≡ Some t) (b : ClosedTerm) (body : term_from d B (inside at) ≡ Some b) where
-      is_lam : term_from d (Lam A B) at ≡ Some (ClosedTerm.lam t b)
-      is_lam =
-          ap (λ o. both ClosedTerm.lam (bind o (type_of_tree d at)) (term_from d B (inside at))) part
-          ∙ ap (λ o. both ClosedTerm.lam o (term_from d B (inside at))) typed
-          ∙ ap (both ClosedTerm.lam (Some t)) body
-
-      pub lam-found : (after left : ℕ) (trees : Trees) (found : Option TermId) → there ≤ greatest_size → level ≤ greatest_depth → after + term_size (open_term parameter_name types b) ≡ there
-          → IsLamFound (open_type parameter_name t) (open_term parameter_name types b) after left trees found → IsTermFound level types there left (term_from d (Lam A B) at) trees found
-      lam-found after left trees None l m e h = λ c f x y.
-          let g : ClosedTerm.lam t b ≡ c = some-injective (sym is_lam ∙ f) in
-          h there level e l m
-          (subst (λ u. term_size (open_term parameter_name types u) ≤ there) (sym g) x) (subst (λ u. term_depth (open_term parameter_name types u) ≤ level) (sym g) y)
-      lam-found after left trees (Some id) l m e h = (ClosedTerm.lam t b, is_lam, h.0, omega (arith, e, h.1))
+    pub lam-none : (after : ℕ) → there ≤ greatest_size → level ≤ greatest_depth → after + term_size (open_term parameter_name types b) ≡ there → NoLamWithin (open_type parameter_name t) (open_term parameter_name types b) after
+        → NoTermWithin types there level (term_from d (Lam A B) at)
+    lam-none after l m e h c f x y =
+        let g : ClosedTerm.lam t b ≡ c = some-injective (sym lam-is ∙ f) in
+        h there level e l m
+        (subst (λ u. term_size (open_term parameter_name types u) ≤ there) (sym g) x) (subst (λ u. term_depth (open_term parameter_name types u) ≤ level) (sym g) y)

@@ -17,7 +17,7 @@ use Rattle.decode_spec.specs.Decode.{parts, proof_part}
 use Rattle.decode_laws.specs.OptionLaws.{some-injective}
 use Rattle.decode_laws.specs.ClosedFormTestLaws.{IsOpen-IsClosedForm, IsClosedForm-IsOpen}
 use Rattle.decode_laws.specs.DecodingLaws.{parts-Enc, Enc-parts}
-use Rattle.decode_laws.specs.SizeBound.{Enc-size}
+use Rattle.decode_laws.specs.SizeBound.{greatest_tree, Enc-size}
 use Rattle.decode_back.specs.Walks.{parameter_name}
 use Rattle.decode_back.specs.SequentWalks.{IsSequentFound}
 use Rattle.decode_back.proofs.NameLemmas.{parameter_name-apart}
@@ -29,7 +29,7 @@ module _ (d : List Declaration) (A : Tree) where
   Answers found = MatchOption found ((s : ClosedSequent) → Enc d s A → ⊥) (λ closed. Enc d (closed_view closed) A)
 
   -- a tree with too many nodes
-  pub too_large_tree : 4196353 < min (size A) (2 ^ 128 - 1) → (s : ClosedSequent) → Enc d s A → ⊥
+  pub too_large_tree : greatest_tree < min (size A) (2 ^ 128 - 1) → (s : ClosedSequent) → Enc d s A → ⊥
   too_large_tree l s h = omega (arith, l, Enc-size parameter_name parameter_name-apart d s A h)
 
   -- a product that doesn't end in proofs

@@ -10,8 +10,11 @@ pub mod NameLemmas
 pub mod PartsLemmas
 pub mod PeelLemmas
 pub mod SequentLemmas
+pub mod SpineLemmas
 pub mod SubstitutionLemmas
 pub mod SymbolLemmas
 pub mod TermLemmas
+pub mod TermTurns
+pub mod TypeTurns
 pub mod TypeWalk
 pub mod UndeclaredLemmas

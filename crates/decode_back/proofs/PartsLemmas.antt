@@ -6,7 +6,7 @@ use Rattle.std.specs.List.{AllByRecursion, flat_map, sum_by}
 use Rattle.std.proofs.lemmas.List.Sums.{sum_by-cons}
 use Rattle.hol_spec.specs.Lists.{IsIn}
 use Rattle.hol_laws.specs.Members.{All-each, All-at, All-left, All-right, All-append, All-weaker, IsIn-distinct_of}
-use Rattle.hol_spec.specs.Limits.{greatest_size, greatest_depth, greatest_by, type_size, type_depth, term_size, term_depth, sequent_size}
+use Rattle.hol_spec.specs.Limits.{greatest_size, greatest_depth, greatest_parameter_count, greatest_by, type_size, type_depth, term_size, term_depth, sequent_size}
 use Rattle.hol_spec.specs.Terms as term
 use Rattle.hol_spec.specs.Terms.{Term, Variable, variable_eq, free_places}
 use Rattle.hol_laws.specs.TermLaws.{variable_eq-Decides}
@@ -155,7 +155,7 @@ module _ (s : ClosedSequent) (is : IsOpen parameter_name s) where
   abbrev whole : Sequent
   whole = opened parameter_name s
 
-  pub open-count : s.type_variable_count + length s.free_variable_types + length s.hypotheses ≤ 1024
+  pub open-count : s.type_variable_count + length s.free_variable_types + length s.hypotheses ≤ greatest_parameter_count
   open-count =
       let a : length (type_variables_of whole) ≡ s.type_variable_count = ap length is.type_variables ∙ length-numbers parameter_name 0 s.type_variable_count in
       let b : length (free_variables_of whole) ≡ length s.free_variable_types = ap length is.free_variables ∙ open_variables-length 0 s.free_variable_types in
@@ -223,7 +223,7 @@ module _ (d : List Declaration) (trees : List Tree) (p : Parts) (found : PartsFo
       ((λ i. term_from d conclusion_tree (place (are.type_variables i) (length (are.variables i)) (length (are.hypotheses i)) 0)) ∙ g)
       ∙ ap (λ k. Some (closed_sequent k vs hs c)) are.type_variables
 
-  pub too_many_parts : (m h : ℕ) → length variable_trees ≡ m → length hypothesis_trees ≡ h → 1024 < n + m + h → IsSequentFound d p None
+  pub too_many_parts : (m h : ℕ) → length variable_trees ≡ m → length hypothesis_trees ≡ h → greatest_parameter_count < n + m + h → IsSequentFound d p None
   too_many_parts m h e f l s g is =
       let t = told s g in
       let a = variables_from-length d variable_trees n 0 s.free_variable_types t.variables in
@@ -265,7 +265,7 @@ module _ (d : List Declaration) (trees : List Tree) (p : Parts) (found : PartsFo
         -- the terms of the table are those of the sequent
         pub sequent-made : (table : Trees) (there left after : ℕ) (variables ids : List TermId) (concl : TermId) → there ≡ greatest_size → left + all_size types hs ≡ there → AreVariables table variables types
             → terms_at table ids ≡ map (open_term parameter_name types) hs → Holds table concl.0 (open_term parameter_name types c) → after + term_size (open_term parameter_name types c) ≡ left
-            → n + length variables + length ids ≤ 1024 → IsMade table n variables ids concl sequent
+            → n + length variables + length ids ≤ greatest_parameter_count → IsMade table n variables ids concl sequent
         sequent-made table there left after variables ids concl e spent are_variables are_terms held paid few =
             let size = sequent-size sequent in
             record {
@@ -285,10 +285,10 @@ module _ (d : List Declaration) (trees : List Tree) (p : Parts) (found : PartsFo
             (sequent, sequent-of_trees types hs c variables_are hypotheses_are conclusion_is, h.0, h.1 ∙ sym (closed_form-opened parameter_name parameter_name-apart sequent h.0))
 
 -- a sum that is told not to be small is large
-pub told-many : (b : Bool) (a : ℕ) → IsTrue b ↔ (a ≤ 1024) → b ≡ false → 1024 < a
+pub told-many : (b : Bool) (a : ℕ) → IsTrue b ↔ (a ≤ greatest_parameter_count) → b ≡ false → greatest_parameter_count < a
 told-many b a told e = from (λ l. let t = told.1 l in absurd (cc))
   where
-    from : (a ≤ 1024 → ⊥) → 1024 < a
+    from : (a ≤ greatest_parameter_count → ⊥) → greatest_parameter_count < a
     from f = omega (arith, f)
 
 -- The same from what the steps of the walk answer.
@@ -320,7 +320,7 @@ module _ (d : List Declaration) (trees : List Tree) (p : Parts) (found : PartsFo
         (subst (λ k. IsTermFound greatest_depth types left after (term_from d (lp.tree_at trees found.conclusion.0) (place found.type_variables k many 0)) two None) as_many h))
 
     pub terms-answer : (after : ℕ) (two : Trees) (concl : TermId) → IsTermFound greatest_depth types left after (term_from d (lp.tree_at trees found.conclusion.0) (place found.type_variables (length variables) many 0)) two (Some concl)
-        → Keeps zero_table two → Keeps one two → AreKnown zero_table variables → AreKnown one ids.items → found.type_variables + length variables + length found.hypotheses.items ≤ 1024
+        → Keeps zero_table two → Keeps one two → AreKnown zero_table variables → AreKnown one ids.items → found.type_variables + length variables + length found.hypotheses.items ≤ greatest_parameter_count
         → (closed : Option Closed) → ((s : ClosedSequent) → IsMade two found.type_variables variables ids.items concl s → IsJudged s closed) → IsSequentFound d p closed
     terms-answer after two concl h k l known_variables known_ids few closed judged =
         let conclusion_is : term_from d (lp.tree_at trees found.conclusion.0) (place found.type_variables (length (lp.trees_at trees found.variables.items)) (length heads) 0) ≡ Some h.0 =

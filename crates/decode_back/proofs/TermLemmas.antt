@@ -10,8 +10,8 @@ use Rattle.hol_spec.specs.TermBinding.{lift}
 use Rattle.hol_spec.specs.ClosedForm.{ClosedType, ClosedTypes, ClosedTerm}
 use Rattle.hol_term.specs.declared.TermId.{TermId}
 use Rattle.hol_term.specs.Tables.{Trees, Holds, Keeps, term_at, terms_at, AreKnown}
-use Rattle.hol_term.specs.TableLaws.{terms_at-Keeps, Some-term_in, term_in-Some}
-use Rattle.lp_spec.specs.Trees.{Tree, SortType, SortKind, Var, App, Pi}
+use Rattle.hol_term.specs.TableLaws.{terms_at-Keeps, term_in-Some}
+use Rattle.lp_spec.specs.Trees.{Tree, SortType, SortKind, Var, Pi}
 use Rattle.lp_term.specs.declared.LpId.{LpId}
 use Rattle.lp_term.specs.declared.LpNode.{LpNode}
 use Rattle.lp_term.specs.declared.LpNode.TheVariants as node
@@ -22,8 +22,8 @@ use Rattle.decode_spec.specs.Opened.{open_type, type_at, open_term, open_variabl
 use Rattle.decode_spec.specs.Decode.{term_from, constant_from}
 use Rattle.decode_spec.specs.Options.{provided}
 use Rattle.decode_laws.specs.OptionLaws.{some-injective, or_else-is, provided-is}
-use Rattle.decode_laws.specs.TermLaws.{term_from-is, term_from-stands}
-use Rattle.decode_laws.specs.TermWalkLaws.{NoTerm, applied-append, dead-applied, dead-no_constant, dead-application}
+use Rattle.decode_laws.specs.TermLaws.{term_from-stands}
+use Rattle.decode_laws.specs.TermWalkLaws.{NoTerm, applied-append, dead-applied, dead-no_constant}
 use Rattle.decode_back.specs.Walks.{parameter_name}
 use Rattle.decode_back.specs.TermWalks.{free_of, AreVariables, IsHead, IsTermFound, IsHeadFound}
 
@@ -43,53 +43,6 @@ length-map f (x ∷ xs) = ap suc (length-map f xs)
 pub AreVariables-length : (trees : Trees) (ids : List TermId) (types : List ClosedType) → AreVariables trees ids types → length types ≡ length ids
 AreVariables-length trees ids types h =
     sym (length-map free_of (open_variables parameter_name 0 types) ∙ open_variables-length 0 types) ∙ sym (ap length h) ∙ length-map (λ (id : TermId). term_at trees id.0) ids
-
--- a loop that applies a term to what is left of a spine
-pub record IsApplied (d : List Declaration) (at : Place) (types : List ClosedType) (A : Tree) (made : TermId) (rest : List Tree) (trees : Trees) (left whole : ℕ) : Type 0 where
-  pub F : Tree
-  pub f : ClosedTerm
-  pub is : A ≡ applied F rest
-  pub stands : term_from d F at ≡ Some f
-  pub held : Holds trees made.0 (open_term parameter_name types f)
-  pub spent : left + term_size (open_term parameter_name types f) ≡ whole
-
-module _ (d : List Declaration) (at : Place) (types : List ClosedType) where
-  -- at the end it is what was wanted
-  pub applied-end : (level : ℕ) (A : Tree) (made : TermId) (trees : Trees) (left whole : ℕ) → IsApplied d at types A made [] trees left whole → IsTermFound level types whole left (term_from d A at) trees (Some made)
-  applied-end level A made trees left whole h = (h.f, ap (λ B. term_from d B at) h.is ∙ h.stands, h.held, h.spent)
-
-  -- an argument that is nothing within the limits
-  pub applied-none : (level below : ℕ) (A X : Tree) (made : TermId) (rest : List Tree) (trees now : Trees) (left after whole : ℕ) → IsApplied d at types A made (X ∷ rest) trees left whole → level ≤ below + 1
-      → IsTermFound below types left after (term_from d X at) now None → NoTerm parameter_name types whole level (term_from d A at)
-  applied-none level below A X made rest trees now left after whole h l none c e a b =
-      let dead = dead-application parameter_name types d at whole level h.f h.F X h.stands (λ x f m n. none x f (omega (arith, m, h.spent)) (omega (arith, n, l))) in
-      dead-applied parameter_name types d at whole level (App h.F X) rest dead c (ap (λ B. term_from d B at) (sym h.is) ∙ e) a b
-
-  -- an argument that leaves nothing for the application
-  pub applied-short : (level below : ℕ) (A X : Tree) (made id : TermId) (rest : List Tree) (trees now : Trees) (left after whole : ℕ) → IsApplied d at types A made (X ∷ rest) trees left whole
-      → IsTermFound below types left after (term_from d X at) now (Some id) → after < 1 → NoTerm parameter_name types whole level (term_from d A at)
-  applied-short level below A X made id rest trees now left after whole h some short c e a b =
-      let dead = dead-application parameter_name types d at whole level h.f h.F X h.stands (λ x f m n.
-      let same : some.0 ≡ x = some-injective (sym some.1 ∙ f) in
-      let s : term_size (open_term parameter_name types some.0) ≡ term_size (open_term parameter_name types x) = ap (λ u. term_size (open_term parameter_name types u)) same in
-      omega (arith, m, h.spent, some.3, short, s)) in
-      dead-applied parameter_name types d at whole level (App h.F X) rest dead c (ap (λ B. term_from d B at) (sym h.is) ∙ e) a b
-
-  -- and one more argument
-  pub applied-more : (below : ℕ) (A X : Tree) (made id next : TermId) (rest : List Tree) (trees now then : Trees) (left after final whole : ℕ) → IsApplied d at types A made (X ∷ rest) trees left whole
-      → IsTermFound below types left after (term_from d X at) now (Some id) → final + 1 ≡ after → Keeps trees now
-      → Holds then next.0 (term.Term.app (term_at now made.0) (term_at now id.0)) → IsApplied d at types A next rest then final whole
-  applied-more below A X made id next rest trees now then left after final whole h some paid k held =
-      let first : term_at now made.0 ≡ open_term parameter_name types h.f = Some-term_in now.terms made.0 (open_term parameter_name types h.f) (k.stays.each made.0 (open_term parameter_name types h.f) h.held) in
-      let second : term_at now id.0 ≡ open_term parameter_name types some.0 = Some-term_in now.terms id.0 (open_term parameter_name types some.0) some.2 in
-      record {
-        F = App h.F X;
-        f = ClosedTerm.app h.f some.0;
-        is = h.is;
-        stands = term_from-stands d (ClosedTerm.app h.f some.0) at (App h.F X) (h.F, X, term_from-is d h.F at h.f h.stands, term_from-is d X at some.0 some.1, refl);
-        held = subst (λ t. Holds then next.0 t) (λ i. term.Term.app (first i) (second i)) held;
-        spent = omega (arith, h.spent, some.3, paid);
-      }
 
 -- The terms of variables.
 at-variable : (trees : Trees) (ids : List TermId) (types : List ClosedType) (i j : ℕ) (x : TermId) → terms_at trees ids ≡ map free_of (open_variables parameter_name i types) → j < length ids

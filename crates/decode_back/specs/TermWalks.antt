@@ -32,17 +32,20 @@ AreVariables trees ids types = terms_at trees ids ≡ map free_of (open_variable
 abbrev pub IsHead : Tree → Type 0
 IsHead A = (f x : Tree) → A ≡ App f x → ⊥
 
+-- there is no term of at most this size and this depth
+abbrev pub NoTermWithin : List ClosedType → ℕ → ℕ → Option ClosedTerm → Type 0
+NoTermWithin types size depth o = (c : ClosedTerm) → o ≡ Some c → term_size (open_term parameter_name types c) ≤ size → term_depth (open_term parameter_name types c) ≤ depth → ⊥
+
 -- the term is in the table, and what is left and its size are what there was; or there is none of at most what there was and this depth
 abbrev pub IsTermFound : ℕ → List ClosedType → ℕ → ℕ → Option ClosedTerm → Trees → Option TermId → Type 0
-IsTermFound level types there left o trees None = (c : ClosedTerm) → o ≡ Some c → term_size (open_term parameter_name types c) ≤ there → term_depth (open_term parameter_name types c) ≤ level → ⊥
+IsTermFound level types there left o trees None = NoTermWithin types there level o
 IsTermFound level types there left o trees (Some id) =
     (c : ClosedTerm) × (o ≡ Some c) × Holds trees id.0 (open_term parameter_name types c) × (left + term_size (open_term parameter_name types c) ≡ there)
 
 -- a head with some of its arguments stands for the term that was found, and the others are left; or with all of them it stands for none
 -- of at most what there was and this depth
 abbrev pub IsHeadFound : ℕ → List ClosedType → ℕ → ℕ → List Declaration → Place → Tree → List Tree → List Tree → Trees → Option TermId → Type 0
-IsHeadFound level types there left d at H args rest trees None =
-    (c : ClosedTerm) → term_from d (applied H args) at ≡ Some c → term_size (open_term parameter_name types c) ≤ there → term_depth (open_term parameter_name types c) ≤ level → ⊥
+IsHeadFound level types there left d at H args rest trees None = NoTermWithin types there level (term_from d (applied H args) at)
 IsHeadFound level types there left d at H args rest trees (Some id) =
     (taken : List Tree) × (args ≡ taken ++ rest) × IsTermFound level types there left (term_from d (applied H taken) at) trees (Some id)
 
@@ -91,9 +94,11 @@ outside_name = [] ∷ []
 abbrev pub IsFresh : Term → Type 0
 IsFresh t = AllByRecursion (λ v. v.0 ≡ outside_name → ⊥) (free_places t)
 
--- the abstraction is in the table, and what is left, with what it adds, is what there was; or it passes the limits where its body has taken
--- the rest of some size within them
+-- no abstraction over a type is within the limits where its body has taken the rest of some size within them
+abbrev pub NoLamWithin : HolType → Term → ℕ → Type 0
+NoLamWithin t b there = (whole level : ℕ) → there + term_size b ≡ whole → whole ≤ greatest_size → level ≤ greatest_depth → term_size (lam t b) ≤ whole → term_depth (lam t b) ≤ level → ⊥
+
+-- the abstraction is in the table, and what is left, with what it adds, is what there was; or it passes the limits
 abbrev pub IsLamFound : HolType → Term → ℕ → ℕ → Trees → Option TermId → Type 0
-IsLamFound t b there left trees None =
-    (whole level : ℕ) → there + term_size b ≡ whole → whole ≤ greatest_size → level ≤ greatest_depth → term_size (lam t b) ≤ whole → term_depth (lam t b) ≤ level → ⊥
+IsLamFound t b there left trees None = NoLamWithin t b there
 IsLamFound t b there left trees (Some id) = Holds trees id.0 (lam t b) × (left + (1 + type_size t) ≡ there)

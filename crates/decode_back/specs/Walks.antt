@@ -1,5 +1,5 @@
 -- What a walk over the nodes of a type or a term answers.
-use Rattle.std.specs.Prelude.{◌≡◌, ℕ, suc, Bool, true, ◌&&◌, ◌≤◌, ◌/◌, ◌%◌, List, [], ◌∷◌, reverse, Option, None, Some}
+use Rattle.std.specs.Prelude.{◌≡◌, ℕ, suc, Bool, true, ◌&&◌, ◌≤◌, ◌/◌, ◌%◌, List, [], ◌∷◌, Option, None, Some}
 use Rattle.hol_spec.specs.Names.{Name}
 use Rattle.hol_spec.specs.NameEquality.{name_eq}
 use Rattle.hol_spec.specs.Types.{types_of}
@@ -33,14 +33,18 @@ numbered_from i (n ∷ ns) = name_eq n (parameter_name i) && numbered_from (suc 
 abbrev pub at_place : Place → enc.Place
 at_place p = place p.type_variables p.free_variables p.hypotheses p.binders
 
+-- there is no type of at most the greatest size and this depth
+abbrev pub NoTypeWithin : ℕ → Option ClosedType → Type 0
+NoTypeWithin level o = (t : ClosedType) → o ≡ Some t → type_size (open_type parameter_name t) ≤ greatest_size → type_depth (open_type parameter_name t) ≤ level → ⊥
+
 -- the type is in the table, or there is none of at most the greatest size and this depth
 abbrev pub IsTypeFound : ℕ → Option ClosedType → Trees → Option TypeId → Type 0
-IsTypeFound level o trees None = (t : ClosedType) → o ≡ Some t → type_size (open_type parameter_name t) ≤ greatest_size → type_depth (open_type parameter_name t) ≤ level → ⊥
+IsTypeFound level o trees None = NoTypeWithin level o
 IsTypeFound level o trees (Some id) = (t : ClosedType) × (o ≡ Some t) × type.Holds trees.types id.0 (open_type parameter_name t)
 
--- the numbers of arguments, the last first, are those of these types
+-- the numbers of arguments are those of these types
 abbrev pub AreArguments : Trees → List TypeId → ClosedTypes → Type 0
-AreArguments trees args acc = types_of (types_at trees.types (reverse args)) ≡ open_types parameter_name acc
+AreArguments trees args acc = types_of (types_at trees.types args) ≡ open_types parameter_name acc
 
 -- the constant is this one, with its generic type in the table
 abbrev pub IsConstant : Option Constant → Trees → ConstantFound → Type 0

@@ -2,12 +2,13 @@
 //!
 //! `decode_type` finds the type that a tree stands for at a place among the binders of a sequent's product, and `constant_at` the constant
 //! that a symbol stands for, with its generic type. What is read is judged before anything is built of it: a generic type of too many
-//! nodes or too many variables is refused by what its table notes, each type that is made is within the limits, and no call goes deeper
-//! than the greatest depth of a type.
+//! nodes or too many variables is refused by what its table notes, and each type that is made is within the limits. Types and terms are
+//! decoded on stacks of their own, so no function recurses with its input.
 //!
 //! | Module | What it does |
 //! |---|---|
 //! | `places`, `names` | the binders round a part; the name that a parameter has in the table of terms |
+//! | `made` | what a walk has made and not yet taken up |
 //! | `symbols`, `types` | the operators of symbols, and the types of trees |
 //! | `constants` | the constants of symbols, with their generic types |
 //! | `terms` | the terms of trees |
@@ -15,7 +16,7 @@
 //!
 //! ```
 //! let place = Place { type_variables: 1, free_variables: 0, hypotheses: 0, binders: 0 };
-//! let found = decode_type(alloc, &module, place, &mut table, 1024, id)?;
+//! let found = decode_type(alloc, &module, place, &mut table, GREATEST_DEPTH, id)?;
 //! ```
 #![tactic(auto)]
 
@@ -27,6 +28,7 @@ ghost use Rattle.holide_sig.specs.Modules.{declarations_of, IsHeld};
 ghost use Rattle.sequent.specs.Closed.{closed_view};
 
 mod constants;
+mod made;
 mod names;
 mod places;
 mod sequents;

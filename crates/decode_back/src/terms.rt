@@ -1,22 +1,28 @@
 //! The terms that trees stand for.
-ghost use Rattle.std.specs.Prelude.{true, false, ◌≡◌, ◌<◌, ◌≤◌, ◌+◌, ℕ, List, length, IfOk, IfSome, OnOk, MatchOption};
-ghost use Rattle.hol_spec.specs.ClosedForm.{ClosedTerm, ClosedType};
+ghost use Rattle.std.specs.Prelude.{true, false, ◌≡◌, ◌<◌, ◌≤◌, ◌+◌, ◌*◌, ◌-◌, ◌∷◌, ℕ, List, length, IfOk, IfSome, OnOk, MatchOption};
+ghost use Rattle.hol_spec.specs.ClosedForm.{ClosedType};
 ghost use Rattle.hol_spec.specs.Limits.{greatest_depth, greatest_size, term_size, type_size};
 ghost use Rattle.hol_spec.specs.Substitution.{substitute};
 ghost use Rattle.hol_spec.specs.Terms as term;
 ghost use Rattle.lp_spec.specs.Modules.{applied, signature, Declaration};
-ghost use Rattle.lp_spec.specs.Trees.{Sym, Tree, Var};
+ghost use Rattle.lp_spec.specs.Trees.{Sym, Tree, Var, size as tree_size};
 ghost use Rattle.lp_term.specs.Tables as lp;
 ghost use Rattle.lp_term.specs.Tables.{tree_at, trees_at};
+ghost use Rattle.lp_term.specs.declared.LpId.{LpId as AnId};
 ghost use Rattle.holide_sig.specs.Modules.{declarations_of, IsHeld};
 ghost use Rattle.hol_term.specs.Tables.{term_at, type_at, AreKnown, Holds, Keeps};
 ghost use Rattle.hol_type.specs.Tables as type;
-ghost use Rattle.decode_spec.specs.Opened.{open_term};
-ghost use Rattle.decode_spec.specs.Decode.{constant_at as constant_meant, term_from};
-ghost use Rattle.decode_back.specs.Walks.{at_place, greatest_number, parameter_name as the_name, IsConstant};
+ghost use Rattle.module_spec.specs.TypeEnc.{Place as APlace};
+ghost use Rattle.decode_spec.specs.Options.{bind};
+ghost use Rattle.decode_spec.specs.Decode.{constant_at as constant_meant, term_from, term_part, type_of_tree};
+ghost use Rattle.decode_back.specs.Walks.{at_place, greatest_number, IsConstant, IsTypeFound};
 ghost use Rattle.decode_back.specs.TermWalks.{AreTypeArguments, AreVariables, IsConstantMade, IsFresh, IsHead, IsHeadFound, IsLamFound, IsTermFound, outside_name};
+ghost use Rattle.decode_back.specs.TermTasks.{under, visits, AreTermTasks, IsTermShape, IsTermTurn, IsTermWalk, Wanted, term_work};
+ghost use Rattle.decode_back.specs.declared.terms.Task.{Task as ATask};
+ghost use Rattle.decode_back.specs.declared.terms.Task.TheVariants as the_task;
 
 use crate::constants::{Constant, TERM, constant_at, symbol_argument};
+use crate::made::{keep, take};
 use crate::names::parameter_name;
 use crate::places::Place;
 use crate::types::decode_type;
@@ -28,9 +34,19 @@ use holide_sig::{Module, SIGNATURE};
 use lp_term::{LpId, LpNode, LpTable};
 use std::alloc::Global;
 
+/// What is still to be done on the way through a term.
+#[derive(Clone, Copy)]
+enum Task {
+    /// To decode this tree, under so many binders of the term's own, into a term no deeper than the level.
+    Visit(LpId, usize, usize),
+    /// To apply the term made second to last to the one made last.
+    Apply,
+    /// To abstract over the term made last, by a variable of this type.
+    Abstract(TypeId),
+}
+
 /// The term that a tree stands for at a place, no larger than what is left of the budget and no deeper than the level. What it takes of
 /// the budget is its size.
-#[cycle(terms)]
 pub fn decode_term(
     alloc: Global,
     source: &Module,
@@ -55,19 +71,98 @@ pub fn decode_term(
     ensures budget { budget.new ≤ budget.old }
     ensures keeps { Keeps table.old table.new }
 {
+    let mut tasks = Stack::new(alloc);
+    let mut made = Stack::new(alloc);
+    tasks.push(Task::Visit(id, place.binders, level))?;
+    while let Some(task) = tasks.pop() {
+        if !turn(
+            alloc, source, variables, innermost, place, table, budget, task, &mut tasks, &mut made,
+        )? {
+            return Ok(None);
+        }
+    }
+    Ok(made.pop())
+}
+
+// One turn of decoding a term, and whether it goes on.
+fn turn(
+    alloc: Global,
+    source: &Module,
+    variables: &[TermId],
+    innermost: TermId,
+    place: Place,
+    table: &mut TermTable,
+    budget: &mut u64,
+    task: Task,
+    tasks: &mut Stack<Task>,
+    made: &mut Stack<TermId>,
+) -> Result<bool, Memory>
+    requires held { IsHeld source.now }
+    requires few { place.type_variables ≤ greatest_number }
+    requires variables { AreKnown table.old variables.now }
+    requires all { length variables.now ≡ place.free_variables }
+    requires innermost { Holds table.old innermost.0 (term.bound 0) }
+    requires budget { budget.old ≤ greatest_size }
+    requires shaped { IsTermShape source.now.table table.old (task ∷ tasks.old) made.old }
+    ensures turned { IfOk result (λ goes_on. (types : List ClosedType) (wanted : Wanted) → AreVariables table.old variables.now types → IsTermWalk (declarations_of source.now) source.now.table (under place) types wanted table.old budget.old (task ∷ tasks.old) made.old → IsTermTurn (declarations_of source.now) source.now.table (under place) types wanted table.new budget.new tasks.new made.new goes_on) }
+    ensures shaped { IfOk result (λ goes_on. goes_on ≡ true → IsTermShape source.now.table table.new tasks.new made.new) }
+    ensures less { IfOk result (λ goes_on. goes_on ≡ true → term_work source.now.table tasks.new < term_work source.now.table (task ∷ tasks.old)) }
+    ensures budget { budget.new ≤ budget.old }
+    ensures keeps { Keeps table.old table.new }
+{
+    match task {
+        Task::Visit(tree, binders, level) => {
+            let inside = Place {
+                type_variables: place.type_variables,
+                free_variables: place.free_variables,
+                hypotheses: place.hypotheses,
+                binders,
+            };
+            visit(
+                alloc, source, variables, innermost, inside, table, budget, level, tree, tasks,
+                made,
+            )
+        }
+        Task::Apply => apply(table, budget, made),
+        Task::Abstract(ty) => abstract_over(alloc, table, budget, ty, made),
+    }
+}
+
+// Decodes the head of a tree, or sets out to decode its body, and sets out to apply it to the terms of what it is applied to.
+fn visit(
+    alloc: Global,
+    source: &Module,
+    variables: &[TermId],
+    innermost: TermId,
+    place: Place,
+    table: &mut TermTable,
+    budget: &mut u64,
+    level: usize,
+    tree: LpId,
+    tasks: &mut Stack<Task>,
+    made: &mut Stack<TermId>,
+) -> Result<bool, Memory>
+    requires held { IsHeld source.now }
+    requires few { place.type_variables ≤ greatest_number }
+    requires variables { AreKnown table.old variables.now }
+    requires all { length variables.now ≡ place.free_variables }
+    requires innermost { Holds table.old innermost.0 (term.bound 0) }
+    requires budget { budget.old ≤ greatest_size }
+    requires shaped { IsTermShape source.now.table table.old (the_task.Visit tree place.binders level ∷ tasks.old) made.old }
+    ensures turned { IfOk result (λ goes_on. (types : List ClosedType) (wanted : Wanted) → AreVariables table.old variables.now types → IsTermWalk (declarations_of source.now) source.now.table (under place) types wanted table.old budget.old (the_task.Visit tree place.binders level ∷ tasks.old) made.old → IsTermTurn (declarations_of source.now) source.now.table (under place) types wanted table.new budget.new tasks.new made.new goes_on) }
+    ensures shaped { IfOk result (λ goes_on. goes_on ≡ true → IsTermShape source.now.table table.new tasks.new made.new) }
+    ensures less { IfOk result (λ goes_on. goes_on ≡ true → term_work source.now.table tasks.new < term_work source.now.table (the_task.Visit tree place.binders level ∷ tasks.old)) }
+    ensures budget { budget.new ≤ budget.old }
+    ensures keeps { Keeps table.old table.new }
+{
     if level == 0 {
-        return Ok(None);
+        return Ok(false);
     }
     let mut args = Stack::new(alloc);
-    let head = spine(&source.table, id, &mut args)?;
-    let found = decode_head(
-        alloc, source, variables, innermost, place, table, budget, level, head, &mut args,
-    )?;
-    let Some(made) = found else {
-        return Ok(None);
-    };
-    apply_rest(
-        alloc, source, variables, innermost, place, table, budget, level, made, &mut args,
+    let head = spine(&source.table, tree, &mut args)?;
+    visit_head(
+        alloc, source, variables, innermost, place, table, budget, level, head, &mut args, tasks,
+        made,
     )
 }
 
@@ -88,9 +183,8 @@ fn spine(table: &LpTable, id: LpId, args: &mut Stack<LpId>) -> Result<LpId, Memo
     Ok(head)
 }
 
-// The term of the head of a spine. A constant takes its type arguments off the spine.
-#[cycle(terms)]
-fn decode_head(
+// The same for a tree of which the head and what it is applied to are known. A constant takes its type arguments off the spine.
+fn visit_head(
     alloc: Global,
     source: &Module,
     variables: &[TermId],
@@ -101,7 +195,9 @@ fn decode_head(
     level: usize,
     head: LpId,
     args: &mut Stack<LpId>,
-) -> Result<Option<TermId>, Memory>
+    tasks: &mut Stack<Task>,
+    made: &mut Stack<TermId>,
+) -> Result<bool, Memory>
     requires held { IsHeld source.now }
     requires few { place.type_variables ≤ greatest_number }
     requires variables { AreKnown table.old variables.now }
@@ -113,99 +209,160 @@ fn decode_head(
     requires known { head.0 < length source.now.table }
     requires head { IsHead (tree_at source.now.table head.0) }
     requires args { lp.AreKnown source.now.table args.old }
-    ensures decoded { IfOk result (λ found. (types : List ClosedType) → AreVariables table.old variables.now types → IsHeadFound level types budget.old budget.new (declarations_of source.now) (at_place place) (tree_at source.now.table head.0) (trees_at source.now.table args.old) (trees_at source.now.table args.new) table.new found) }
-    ensures known { IfOk result (λ found. IfSome found (λ t. t.0 < length table.new.terms)) }
-    ensures args { OnOk result (lp.AreKnown source.now.table args.new) }
+    requires made { AreKnown table.old made.old }
+    requires tasks { AreTermTasks source.now.table table.old tasks.old (length made.old + 1) }
+    ensures turned { IfOk result (λ goes_on. (types : List ClosedType) (wanted : Wanted) (tree : AnId) → AreVariables table.old variables.now types → applied (tree_at source.now.table head.0) (trees_at source.now.table args.old) ≡ tree_at source.now.table tree.0 → IsTermWalk (declarations_of source.now) source.now.table (under place) types wanted table.old budget.old (the_task.Visit tree place.binders level ∷ tasks.old) made.old → IsTermTurn (declarations_of source.now) source.now.table (under place) types wanted table.new budget.new tasks.new made.new goes_on) }
+    ensures shaped { IfOk result (λ goes_on. goes_on ≡ true → IsTermShape source.now.table table.new tasks.new made.new) }
+    ensures less { IfOk result (λ goes_on. goes_on ≡ true → term_work source.now.table tasks.new < 2 * tree_size (applied (tree_at source.now.table head.0) (trees_at source.now.table args.old)) + term_work source.now.table tasks.old) }
     ensures budget { budget.new ≤ budget.old }
     ensures keeps { Keeps table.old table.new }
 {
     match source.table.view(head) {
-        LpNode::Sym(symbol) => constant(alloc, source, place, table, budget, level, symbol, args),
-        LpNode::Var(number) => variable(variables, innermost, place, table, budget, number),
-        LpNode::Lam(domain, body) => {
-            let Some(tree) = symbol_argument(&source.table, TERM, domain) else {
-                return Ok(None);
-            };
-            let Some(ty) = decode_type(alloc, source, place, table, level, tree)? else {
-                return Ok(None);
-            };
-            let inside = Place {
-                type_variables: place.type_variables,
-                free_variables: place.free_variables,
-                hypotheses: place.hypotheses,
-                binders: place.binders + 1,
-            };
-            let found = decode_term(
-                alloc,
-                source,
-                variables,
-                innermost,
-                inside,
-                table,
-                budget,
-                level - 1,
-                body,
-            )?;
-            let Some(body) = found else {
-                return Ok(None);
-            };
-            abstraction(alloc, table, budget, ty, body)
+        LpNode::Sym(symbol) => {
+            let found = constant(alloc, source, place, table, budget, level, symbol, args)?;
+            go_on(alloc, place, level, found, args, tasks, made)
         }
-        LpNode::SortType | LpNode::SortKind | LpNode::App(_, _) | LpNode::Pi(_, _) => Ok(None),
+        LpNode::Var(number) => {
+            let found = variable(variables, innermost, place, table, budget, number)?;
+            go_on(alloc, place, level, found, args, tasks, made)
+        }
+        LpNode::Lam(domain, body) => {
+            let found = binder(alloc, source, place, table, level, domain)?;
+            go_under(alloc, place, level, found, body, args, tasks)
+        }
+        LpNode::SortType | LpNode::SortKind | LpNode::App(_, _) | LpNode::Pi(_, _) => Ok(false),
     }
 }
 
-// A term applied to the terms of what is left of a spine.
-#[cycle(terms)]
-fn apply_rest(
+// Puts the term of a head with those that were made, and sets out to apply it to the terms of what is left of the spine, if it is found.
+fn go_on(
     alloc: Global,
-    source: &Module,
-    variables: &[TermId],
-    innermost: TermId,
     place: Place,
-    table: &mut TermTable,
-    budget: &mut u64,
     level: usize,
-    head: TermId,
+    found: Option<TermId>,
     args: &mut Stack<LpId>,
-) -> Result<Option<TermId>, Memory>
-    requires held { IsHeld source.now }
-    requires few { place.type_variables ≤ greatest_number }
-    requires variables { AreKnown table.old variables.now }
-    requires all { length variables.now ≡ place.free_variables }
-    requires innermost { Holds table.old innermost.0 (term.bound 0) }
-    requires budget { budget.old ≤ greatest_size }
-    requires level { place.binders + level ≤ greatest_depth }
+    tasks: &mut Stack<Task>,
+    made: &mut Stack<TermId>,
+) -> Result<bool, Memory>
+    requires { 0 < level }
+    ensures { IfOk result (λ goes_on. MatchOption found (goes_on ≡ false) (λ id. (goes_on ≡ true) × (made.new ≡ id ∷ made.old) × (tasks.new ≡ visits place.binders (level - 1) args.old tasks.old))) }
+{
+    let Some(id) = found else {
+        return Ok(false);
+    };
+    made.push(id)?;
+    set_out(alloc, place.binders, level - 1, args, tasks)?;
+    Ok(true)
+}
+
+// Sets out to decode the body of an abstraction, to abstract over it and to apply that to the terms of what is left of the spine, if the type
+// of its binder is found.
+fn go_under(
+    alloc: Global,
+    place: Place,
+    level: usize,
+    found: Option<TypeId>,
+    body: LpId,
+    args: &mut Stack<LpId>,
+    tasks: &mut Stack<Task>,
+) -> Result<bool, Memory>
     requires positive { 0 < level }
-    requires known { head.0 < length table.old.terms }
-    requires args { lp.AreKnown source.now.table args.old }
-    ensures decoded { IfOk result (λ found. (types : List ClosedType) (F : Tree) (f : ClosedTerm) (whole : ℕ) → AreVariables table.old variables.now types → term_from (declarations_of source.now) F (at_place place) ≡ Some f → Holds table.old head.0 (open_term the_name types f) → budget.old + term_size (open_term the_name types f) ≡ whole → IsTermFound level types whole budget.new (term_from (declarations_of source.now) (applied F (trees_at source.now.table args.old)) (at_place place)) table.new found) }
-    ensures known { IfOk result (λ found. IfSome found (λ t. t.0 < length table.new.terms)) }
+    requires level { place.binders + level ≤ greatest_depth }
+    ensures { IfOk result (λ goes_on. MatchOption found (goes_on ≡ false) (λ ty. (goes_on ≡ true) × (tasks.new ≡ the_task.Visit body (place.binders + 1) (level - 1) ∷ the_task.Abstract ty ∷ visits place.binders (level - 1) args.old tasks.old))) }
+{
+    let Some(ty) = found else {
+        return Ok(false);
+    };
+    set_out(alloc, place.binders, level - 1, args, tasks)?;
+    tasks.push(Task::Abstract(ty))?;
+    tasks.push(Task::Visit(body, place.binders + 1, level - 1))?;
+    Ok(true)
+}
+
+// Sets out to apply the term made last to the terms of these trees, one after another.
+fn set_out(
+    alloc: Global,
+    binders: usize,
+    level: usize,
+    args: &mut Stack<LpId>,
+    tasks: &mut Stack<Task>,
+) -> Result<(), Memory>
+    ensures { OnOk result (tasks.new ≡ visits binders level args.old tasks.old) }
+{
+    let mut back = Stack::new(alloc);
+    while let Some(arg) = args.pop() {
+        back.push(arg)?;
+    }
+    while let Some(arg) = back.pop() {
+        tasks.push(Task::Apply)?;
+        tasks.push(Task::Visit(arg, binders, level))?;
+    }
+    Ok(())
+}
+
+// Applies the term made second to last to the one made last.
+fn apply(table: &mut TermTable, budget: &mut u64, made: &mut Stack<TermId>) -> Result<bool, Memory>
+    requires known { AreKnown table.old made.old }
+    requires two { 2 ≤ length made.old }
+    ensures turned { IfOk result (λ goes_on. (d : List Declaration) (trees : List Tree) (at : ℕ → APlace) (types : List ClosedType) (wanted : Wanted) (tasks : List ATask) → IsTermWalk d trees at types wanted table.old budget.old (the_task.Apply ∷ tasks) made.old → IsTermTurn d trees at types wanted table.new budget.new tasks made.new goes_on) }
+    ensures known { IfOk result (λ goes_on. goes_on ≡ true → AreKnown table.new made.new) }
+    ensures fewer { IfOk result (λ goes_on. goes_on ≡ true → length made.new + 1 ≡ length made.old) }
     ensures budget { budget.new ≤ budget.old }
     ensures keeps { Keeps table.old table.new }
 {
-    let mut made = head;
-    while let Some(arg) = args.pop() {
-        let found = decode_term(
-            alloc,
-            source,
-            variables,
-            innermost,
-            place,
-            table,
-            budget,
-            level - 1,
-            arg,
-        )?;
-        let Some(argument) = found else {
-            return Ok(None);
-        };
-        if !spend(budget, 1) {
-            return Ok(None);
-        }
-        made = table.application(made, argument)?;
+    let argument = take(made);
+    let function = take(made);
+    if !spend(budget, 1) {
+        return Ok(false);
     }
-    Ok(Some(made))
+    made.push(table.application(function, argument)?)?;
+    Ok(true)
+}
+
+// Abstracts over the term made last.
+fn abstract_over(
+    alloc: Global,
+    table: &mut TermTable,
+    budget: &mut u64,
+    ty: TypeId,
+    made: &mut Stack<TermId>,
+) -> Result<bool, Memory>
+    requires ty { ty.0 < length table.old.types }
+    requires known { AreKnown table.old made.old }
+    requires one { 1 ≤ length made.old }
+    requires budget { budget.old ≤ greatest_size }
+    ensures turned { IfOk result (λ goes_on. (d : List Declaration) (trees : List Tree) (at : ℕ → APlace) (types : List ClosedType) (wanted : Wanted) (tasks : List ATask) → IsTermWalk d trees at types wanted table.old budget.old (the_task.Abstract ty ∷ tasks) made.old → IsTermTurn d trees at types wanted table.new budget.new tasks made.new goes_on) }
+    ensures known { IfOk result (λ goes_on. goes_on ≡ true → AreKnown table.new made.new) }
+    ensures many { IfOk result (λ goes_on. goes_on ≡ true → length made.new ≡ length made.old) }
+    ensures budget { budget.new ≤ budget.old }
+    ensures keeps { Keeps table.old table.new }
+{
+    let body = take(made);
+    let found = abstraction(alloc, table, budget, ty, body)?;
+    keep(found, made)
+}
+
+// The type over which the domain of a binder tells terms.
+fn binder(
+    alloc: Global,
+    source: &Module,
+    place: Place,
+    table: &mut TermTable,
+    level: usize,
+    domain: LpId,
+) -> Result<Option<TypeId>, Memory>
+    requires held { IsHeld source.now }
+    requires few { place.type_variables ≤ greatest_number }
+    requires level { level ≤ greatest_depth }
+    requires known { domain.0 < length source.now.table }
+    ensures decoded { IfOk result (λ found. IsTypeFound level (bind (term_part (tree_at source.now.table domain.0)) (type_of_tree (declarations_of source.now) (at_place place))) table.new found) }
+    ensures known { IfOk result (λ found. IfSome found (λ t. t.0 < length table.new.types)) }
+    ensures keeps { Keeps table.old table.new }
+{
+    let Some(tree) = symbol_argument(&source.table, TERM, domain) else {
+        return Ok(None);
+    };
+    decode_type(alloc, source, place, table, level, tree)
 }
 
 // The term of a variable: of a binder of its own, or of a free variable of the sequent.

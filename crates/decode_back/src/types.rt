@@ -1,7 +1,6 @@
 //! The types that trees stand for.
-ghost use Rattle.std.specs.Prelude.{◌≡◌, ◌<◌, ◌≤◌, List, length, nat_eq, IfOk, IfSome};
-ghost use Rattle.hol_type.specs.declared.table.TypeId.{TypeId as ATypeId};
-ghost use Rattle.hol_spec.specs.ClosedForm.{ClosedTypes};
+ghost use Rattle.std.specs.Prelude.{true, false, ◌≡◌, ◌<◌, ◌≤◌, ◌∷◌, ◌++◌, [], ℕ, List, Option, length, IfOk, IfSome, MatchOption, OnOk};
+ghost use Rattle.hol_spec.specs.ClosedForm.{ClosedType, ClosedTypes};
 ghost use Rattle.hol_spec.specs.Limits.{greatest_depth};
 ghost use Rattle.lp_spec.specs.Trees.{Sym, Var};
 ghost use Rattle.lp_spec.specs.Modules.{Declaration};
@@ -12,16 +11,27 @@ ghost use Rattle.lp_term.specs.Tables.{tree_at};
 ghost use Rattle.holide_sig.specs.Modules.{declarations_of, IsHeld};
 ghost use Rattle.decode_spec.specs.Decode.{type_from, type_of_tree};
 ghost use Rattle.decode_back.specs.Walks.{at_place, greatest_number, AreArguments, IsTypeFound};
+ghost use Rattle.decode_back.specs.TypeTasks.{IsTypeTurn, IsTypeWalk, type_work};
 
+use crate::made::{keep, take};
 use crate::names::parameter_name;
 use crate::places::Place;
 use crate::symbols::operator_at;
-use bridge_base::{Fault, Memory};
+use bridge_base::{Fault, Memory, Stack};
 use hol_term::TermTable;
 use hol_type::TypeId;
 use holide_sig::{Module, SIGNATURE};
 use lp_term::{LpId, LpNode};
 use std::alloc::Global;
+
+/// What is still to be done on the way through a type: to decode this tree, applied to so many of the types that were made last, the first
+/// of them last, into a type no deeper than the level.
+#[derive(Clone, Copy)]
+struct TypeTask {
+    head: LpId,
+    arguments: usize,
+    level: usize,
+}
 
 /// The type that a tree stands for at a place, no larger than the greatest size and no deeper than the level.
 pub fn decode_type(
@@ -40,38 +50,85 @@ pub fn decode_type(
     ensures known { IfOk result (λ found. IfSome found (λ t. t.0 < length table.new.types)) }
     ensures keeps { Keeps table.old table.new }
 {
-    if level == 0 {
-        return Ok(None);
-    }
-    let mut args = Vec::new(alloc);
-    let mut head = id;
-    loop {
-        match source.table.view(head) {
-            LpNode::App(function, argument) => {
-                let found = decode_type(alloc, source, place, table, level - 1, argument)?;
-                let Some(arg) = found else {
-                    return Ok(None);
-                };
-                args.push(arg)?;
-                head = function;
-            }
-            LpNode::Sym(symbol) => return operator(alloc, source, table, level, symbol, args),
-            LpNode::Var(variable) => return parameter(
-                alloc,
-                place,
-                table,
-                level,
-                variable,
-                args.is_empty(),
-            ),
-            LpNode::SortType | LpNode::SortKind | LpNode::Lam(_, _) | LpNode::Pi(_, _) => return Ok(
-                None,
-            ),
+    let mut tasks = Stack::new(alloc);
+    let mut made = Stack::new(alloc);
+    tasks.push(TypeTask {
+        head: id,
+        arguments: 0,
+        level,
+    })?;
+    while let Some(task) = tasks.pop() {
+        if !turn(alloc, source, place, table, task, &mut tasks, &mut made)? {
+            return Ok(None);
         }
+    }
+    Ok(made.pop())
+}
+
+// One turn of decoding a type, and whether it goes on.
+fn turn(
+    alloc: Global,
+    source: &Module,
+    place: Place,
+    table: &mut TermTable,
+    task: TypeTask,
+    tasks: &mut Stack<TypeTask>,
+    made: &mut Stack<TypeId>,
+) -> Result<bool, Memory>
+    requires held { IsHeld source.now }
+    requires few { place.type_variables ≤ greatest_number }
+    requires walk { (limit : ℕ) × (root : Option ClosedType) × IsTypeWalk (declarations_of source.now) (at_place place) source.now.table limit root table.old (task ∷ tasks.old) made.old }
+    ensures turned { IfOk result (λ goes_on. (limit : ℕ) (root : Option ClosedType) → IsTypeWalk (declarations_of source.now) (at_place place) source.now.table limit root table.old (task ∷ tasks.old) made.old → IsTypeTurn (declarations_of source.now) (at_place place) source.now.table limit root table.new tasks.new made.new goes_on) }
+    ensures less { OnOk result (type_work source.now.table tasks.new < type_work source.now.table (task ∷ tasks.old)) }
+    ensures keeps { Keeps table.old table.new }
+{
+    if task.level == 0 {
+        return Ok(false);
+    }
+    match source.table.view(task.head) {
+        LpNode::App(function, argument) => {
+            tasks.push(TypeTask {
+                head: function,
+                arguments: task.arguments + 1,
+                level: task.level,
+            })?;
+            tasks.push(TypeTask {
+                head: argument,
+                arguments: 0,
+                level: task.level - 1,
+            })?;
+            Ok(true)
+        }
+        LpNode::Sym(symbol) => {
+            let args = gathered(alloc, task.arguments, made)?;
+            let found = operator(alloc, source, table, task.level, symbol, args)?;
+            keep(found, made)
+        }
+        LpNode::Var(variable) => {
+            if task.arguments > 0 {
+                return Ok(false);
+            }
+            let found = parameter(alloc, place, table, task.level, variable)?;
+            keep(found, made)
+        }
+        LpNode::SortType | LpNode::SortKind | LpNode::Lam(_, _) | LpNode::Pi(_, _) => Ok(false),
     }
 }
 
-// The operator that a symbol stands for over these arguments, the last first.
+// Takes up so many of the types that were made last.
+fn gathered(alloc: Global, count: usize, made: &mut Stack<TypeId>) -> Result<Vec<TypeId>, Memory>
+    requires { count ≤ length made.old }
+    ensures parts { IfOk result (λ args. made.old ≡ args.items ++ made.new) }
+    ensures count { IfOk result (λ args. length args.items ≡ count) }
+{
+    let mut args = Vec::new(alloc);
+    for _ in 0..count {
+        args.push(take(made))?;
+    }
+    Ok(args)
+}
+
+// The operator that a symbol stands for over these arguments.
 fn operator(
     alloc: Global,
     source: &Module,
@@ -93,8 +150,6 @@ fn operator(
     let Some(name) = operator_at(alloc, source, symbol, args.len())? else {
         return Ok(None);
     };
-    let mut args = args;
-    args.reverse();
     match table.ty_op(&name, &args) {
         Ok(made) => Ok(Some(made)),
         Err(Fault::Memory) => Err(Memory),
@@ -109,17 +164,13 @@ fn parameter(
     table: &mut TermTable,
     level: usize,
     variable: u128,
-    is_alone: bool,
 ) -> Result<Option<TypeId>, Memory>
     requires few { place.type_variables ≤ greatest_number }
-    ensures decoded { IfOk result (λ found. (d : List Declaration) (args : List ATypeId) (acc : ClosedTypes) → AreArguments table.old args acc → is_alone ≡ nat_eq (length args) 0 → IsTypeFound level (type_from d (at_place place) (Var variable) acc) table.new found) }
+    ensures decoded { IfOk result (λ found. (d : List Declaration) → IsTypeFound level (type_from d (at_place place) (Var variable) ClosedTypes.none) table.new found) }
     ensures known { IfOk result (λ found. IfSome found (λ t. t.0 < length table.new.types)) }
     ensures keeps { Keeps table.old table.new }
 {
     let depth = place.depth();
-    if !is_alone {
-        return Ok(None);
-    }
     if variable >= depth {
         return Ok(None);
     }

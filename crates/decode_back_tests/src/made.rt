@@ -162,7 +162,7 @@ fn of_many_types(alloc: Global, count: usize) -> Result<Module, Memory>
 #[test]
 fn a_constant_of_types_that_its_own_lacks_is_none(rt: HostRuntime) -> Result<(), Fail> {
     let alloc = rt.alloc();
-    let source = of_many_types(alloc, 100_000)?;
+    let source = of_many_types(alloc, 300_000)?;
     assert!(rt; decode(alloc, &source, 1)?.is_none());
     Ok(())
 }
@@ -175,7 +175,7 @@ fn large_hypotheses_are_decoded_up_to_the_size(rt: HostRuntime) -> Result<(), Fa
     assert!(rt; decode(alloc, &fits, 1)?.is_some());
     let large = assumed(alloc, 3, 16)?;
     assert!(rt; decode(alloc, &large, 1)?.is_none());
-    let many = assumed(alloc, 1000, 16)?;
+    let many = assumed(alloc, 16_000, 16)?;
     assert!(rt; decode(alloc, &many, 1)?.is_none());
     Ok(())
 }

@@ -3,6 +3,7 @@ use Rattle.std.specs.Prelude.{MatchOption}
 use Rattle.lp_term.specs.Tables.{tree_at}
 use Rattle.holide_sig.specs.Modules.{declarations_of}
 use Rattle.decode_spec.specs.Decode.{parts, proof_part}
+use Rattle.decode_laws.specs.SizeBound.{greatest_tree}
 use Rattle.decode_back.specs.SequentWalks.{AreParts}
 use Rattle.decode_back.proofs.TypeWalk.{IfOk-weaker}
 use Rattle.decode_back.proofs.DecodeLemmas.{too_large_tree, no_proof_end, parts-answer}
@@ -11,7 +12,7 @@ use Rattle.decode_back.proofs.sequents.sequent_of.Goals as goal
 pub returns-then-size-gt-GREATEST_TREE : goal.returns-then-size-gt-GREATEST_TREE
 returns-then-size-gt-GREATEST_TREE c = record {
   found =
-      too_large_tree (declarations_of c.args.source.now) (tree_at c.args.source.now.table c.args.id.0) (subst (λ n. 4196353 < n) c.size.ensures c.if-size-gt-GREATEST_TREE.true);
+      too_large_tree (declarations_of c.args.source.now) (tree_at c.args.source.now.table c.args.id.0) (subst (λ n. greatest_tree < n) c.size.ensures c.if-size-gt-GREATEST_TREE.true);
 }
 
 pub returns-in_default : goal.returns-in_default

@@ -1,31 +1,20 @@
-use Rattle.std.proofs.Common.{◌≡◌, Some, length, sym, subst, ◌∙◌, arith}
+use Rattle.std.proofs.Common.{sym, subst, arith}
 use Rattle.hol_spec.specs.Types.{variable}
 use Rattle.hol_spec.specs.ClosedForm.{ClosedTypes}
 use Rattle.hol_type.specs.Tables.{Holds}
 use Rattle.hol_term.specs.TableLaws.{Keeps-refl}
-use Rattle.lp_spec.specs.Trees.{Var}
-use Rattle.decode_spec.specs.Decode.{type_from}
-use Rattle.decode_back.specs.Walks.{at_place, IsTypeFound}
-use Rattle.decode_back.proofs.TypeWalk.{arguments-count, applied_variable-none, variable-none, variable-found, no-arguments}
+use Rattle.decode_back.specs.Walks.{at_place}
+use Rattle.decode_back.proofs.TypeWalk.{variable-none, variable-found}
 use Rattle.decode_back.proofs.types.parameter.Goals as goal
 
-pub returns-then-not-is_alone-clause-decoded : goal.returns-then-not-is_alone-clause-decoded
-returns-then-not-is_alone-clause-decoded c d args acc h e =
-    applied_variable-none d (at_place c.args.place) c.args.level c.args.variable acc (length args) (arguments-count c.args.table.now args acc h) (sym c.if-not-is_alone.true ∙ e)
-
 pub returns-then-variable-depth-clause-decoded : goal.returns-then-variable-depth-clause-decoded
-returns-then-variable-depth-clause-decoded c d args acc h e =
-    variable-none d (at_place c.args.place) c.args.level c.args.variable c.depth-depth.result (sym c.depth-depth.ensures) (λ l m. omega (arith, l, c.if-variable-depth.true)) acc
+returns-then-variable-depth-clause-decoded c d =
+    variable-none d (at_place c.args.place) c.args.level c.args.variable c.depth-depth.result (sym c.depth-depth.ensures) (λ l m. omega (arith, l, c.if-variable-depth.true)) ClosedTypes.none
 
 pub returns-in-Ok-clause-decoded : goal.returns-in-Ok-clause-decoded
-returns-in-Ok-clause-decoded c d args acc h e =
-    let alone : acc ≡ ClosedTypes.none = no-arguments acc (length args) (arguments-count c.args.table.now args acc h) (sym c.if-not-is_alone.false ∙ e) in
-    subst (λ us. IsTypeFound c.args.level (type_from d (at_place c.args.place) (Var c.args.variable) us) c.ty_var.new.self (Some c.in-Ok.made)) (sym alone)
-    (variable-found d (at_place c.args.place) c.args.level c.args.variable c.depth-depth.result (sym c.depth-depth.ensures) c.if-variable-depth.false c.if-number-place.false c.ty_var.new.self c.in-Ok.made
-    (subst (λ n. Holds c.ty_var.new.self.types c.in-Ok.made.0 (variable n)) c.in_ok-name.ensures c.in-Ok.ensures.made))
-
-pub returns-then-not-is_alone-clause-keeps : goal.returns-then-not-is_alone-clause-keeps
-returns-then-not-is_alone-clause-keeps c = Keeps-refl c.args.table.now
+returns-in-Ok-clause-decoded c d =
+    variable-found d (at_place c.args.place) c.args.level c.args.variable c.depth-depth.result (sym c.depth-depth.ensures) c.if-variable-depth.false c.if-number-place.false c.ty_var.new.self c.in-Ok.made
+    (subst (λ n. Holds c.ty_var.new.self.types c.in-Ok.made.0 (variable n)) c.in_ok-name.ensures c.in-Ok.ensures.made)
 
 pub returns-then-variable-depth-clause-keeps : goal.returns-then-variable-depth-clause-keeps
 returns-then-variable-depth-clause-keeps c = Keeps-refl c.args.table.now
