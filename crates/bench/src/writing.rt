@@ -6,10 +6,10 @@ ghost use Rattle.lp_spec.specs.Modules.{signature};
 ghost use Rattle.lp_spec.specs.ModuleOrder.{is_declared, IsOver};
 ghost use Rattle.lp_term.specs.Tables.{tree_at, Keeps};
 ghost use Rattle.holide_sig.specs.Modules.{declarations_of, IsHeld};
-ghost use Rattle.dk_write.specs.Shallow.{AreShallow};
+ghost use Rattle.dk_write.specs.Shallow.{AreWithin};
 
 use bridge_base::{Failed, Memory, Sink, StdSink};
-use dk_write::write;
+use dk_write::{Path, write};
 use holide_sig::{Decl, Form, Ident, Module};
 use itoa::Buffer;
 use lp_term::{LpId, LpNode, LpTable};
@@ -54,15 +54,13 @@ fn named(alloc: Global, number: usize) -> Result<Vec<u8>, Memory> {
 // Defines a new name as such a tree.
 fn push_nest(alloc: Global, into: &mut Module, number: usize, depth: usize) -> Result<(), Memory>
     requires held { IsHeld into.old }
-    requires shallow { AreShallow into.old.table into.old.decls }
     ensures held { OnOk result (IsHeld into.new) }
-    ensures shallow { OnOk result (AreShallow into.new.table into.new.decls) }
     ensures count { OnOk result (length into.new.decls ≡ length into.old.decls + 1) }
 {
     let name = named(alloc, number)?;
     let ty = into.table.node(LpNode::Sym(0))?;
     let body = nest(&mut into.table, depth)?;
-    if into.find(&name).is_some() || into.table.depth(body) > 16_384 {
+    if into.find(&name).is_some() {
         return Err(Memory);
     }
     let name = Ident::new(name);
@@ -78,7 +76,6 @@ fn push_nest(alloc: Global, into: &mut Module, number: usize, depth: usize) -> R
 // A module of so many definitions.
 fn made(alloc: Global, count: usize) -> Result<Module, Memory>
     ensures held { IfOk result IsHeld }
-    ensures shallow { IfOk result (λ m. AreShallow m.table m.decls) }
     ensures count { IfOk result (λ m. length m.decls ≡ count) }
 {
     let mut module = Module::new(alloc)?;
@@ -93,14 +90,15 @@ fn write_often<S: Sink>(
     source: &Module,
     bounds: &[u128],
     times: u32,
+    path: &mut Path,
     sink: &mut S,
 ) -> Result<(), Failed>
     requires held { IsHeld source.now }
     requires bounds { length bounds.now ≡ length source.now.decls }
-    requires shallow { AreShallow source.now.table source.now.decls }
+    requires room { AreWithin path.old.room source.now.table source.now.decls }
 {
     for _ in 0..times {
-        write(source, bounds, sink)?;
+        write(source, bounds, path, sink)?;
     }
     Ok(())
 }
@@ -120,7 +118,8 @@ fn bounds_of(alloc: Global, count: usize) -> Result<Vec<u128>, Memory>
 fn run<S: Sink>(alloc: Global, count: usize, times: u32, sink: &mut S) -> Result<bool, Memory> {
     let module = made(alloc, count)?;
     let bounds = bounds_of(alloc, count)?;
-    Ok(write_often(&module, &bounds, times, sink).is_ok())
+    let mut path = Path::new(alloc, &module)?;
+    Ok(write_often(&module, &bounds, times, &mut path, sink).is_ok())
 }
 
 /// Writes a module of so many definitions so many times to standard output.

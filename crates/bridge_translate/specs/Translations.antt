@@ -2,7 +2,6 @@
 use Rattle.std.specs.Prelude.{◌≡◌, ℕ}
 use Rattle.hol_spec.specs.Proofs.{Accepted}
 use Rattle.holide_sig.specs.Modules.{declarations_of, IsHeld}
-use Rattle.dk_write.specs.Shallow.{AreShallow}
 use Rattle.module_spec.specs.Image.{image}
 use Rattle.bridge_spec.specs.Texts as texts
 use Rattle.bridge_spec.specs.Texts.{counts_of, module_bounds}
@@ -18,5 +17,4 @@ pub record IsTranslationOf (articles : ℕ) (run : Accepted) (t : Translation) :
   pub held : IsHeld t.module
   pub declared : declarations_of t.module ≡ image run
   pub bounds : t.bounds.items ≡ module_bounds run
-  pub shallow : AreShallow t.module.table t.module.decls
   pub counts : counts_in t.counts ≡ counts_of articles run

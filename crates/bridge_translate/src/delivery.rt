@@ -1,7 +1,8 @@
 //! A translation as texts to two sinks, and as a status.
-ghost use Rattle.std.specs.Prelude.{◌≡◌, ◌≤◌, ◌++◌, length, OnOk, OnErr};
+ghost use Rattle.std.specs.Prelude.{◌≡◌, ◌⊎◌, ◌≤◌, ◌++◌, length, OnOk, OnErr};
 ghost use Rattle.bridge_base.specs.Outside.{HasCause, Gains, GainsFront};
-ghost use Rattle.dk_write.specs.Shallow.{AreShallow};
+ghost use Rattle.bridge_answer.specs.AnswerTexts.{note_of, status_of, text_of};
+ghost use Rattle.dk_write.specs.Shallow.{AreWithin};
 ghost use Rattle.holide_sig.specs.Modules.{declarations_of, IsHeld};
 ghost use Rattle.lp_spec.specs.Text.{written};
 ghost use Rattle.bridge_spec.specs.Calls.{sunk};
@@ -11,15 +12,18 @@ ghost use Rattle.bridge_spec.specs.declared.status.Status.TheVariants.{Done};
 ghost use Rattle.bridge_translate.specs.Translations.{counts_in};
 
 use crate::translation::{Counts, Translation};
-use bridge_answer::write_parts;
-use bridge_base::{Failed, Sink, write_all};
+use bridge_answer::{Answer, deliver, write_parts};
+use bridge_base::{Failed, Memory, Sink, write_all};
 use bridge_spec::Status;
-use dk_write::write;
+use dk_write::{Path, write};
 use itoa::Buffer;
+use std::alloc::Global;
 
 /// Writes the module, each theorem with its bound, to `out`, and then its counts and a last line to `note`. Where the output fails, the
-/// note says so; where either fails, the status is that of a write fault. It takes no memory.
+/// note says so; where either fails, the status is that of a write fault. Memory is taken before anything is written, and its want is
+/// answered.
 pub fn deliver_translation<O: Sink, N: Sink>(
+    alloc: Global,
     translation: &Translation,
     last: &[u8],
     out: &mut O,
@@ -27,12 +31,33 @@ pub fn deliver_translation<O: Sink, N: Sink>(
 ) -> Status
     requires held { IsHeld translation.now.module }
     requires bounds { length translation.now.bounds.items ≡ length translation.now.module.decls }
-    requires shallow { AreShallow translation.now.module.table translation.now.module.decls }
+    ensures delivered { Delivers Done (written (declarations_of translation.now.module) translation.now.bounds.items) (five_lines (counts_in translation.now.counts) ++ last.now) (sunk O.got O.faults out.old out.new) (sunk N.got N.faults note.old note.new) result
+        ⊎ Delivers (status_of Answer.Memory) (text_of Answer.Memory) (note_of Answer.Memory) (sunk O.got O.faults out.old out.new) (sunk N.got N.faults note.old note.new) result }
+    ensures out_count { O.faults out.old ≤ O.faults out.new }
+    ensures note_count { N.faults note.old ≤ N.faults note.new }
+{
+    match Path::new(alloc, &translation.module) {
+        Ok(mut path) => write_translation(translation, &mut path, last, out, note),
+        Err(Memory) => deliver(Answer::Memory, out, note),
+    }
+}
+
+// Writes them along a path that has room for the module.
+fn write_translation<O: Sink, N: Sink>(
+    translation: &Translation,
+    path: &mut Path,
+    last: &[u8],
+    out: &mut O,
+    note: &mut N,
+) -> Status
+    requires held { IsHeld translation.now.module }
+    requires bounds { length translation.now.bounds.items ≡ length translation.now.module.decls }
+    requires room { AreWithin path.old.room translation.now.module.table translation.now.module.decls }
     ensures delivered { Delivers Done (written (declarations_of translation.now.module) translation.now.bounds.items) (five_lines (counts_in translation.now.counts) ++ last.now) (sunk O.got O.faults out.old out.new) (sunk N.got N.faults note.old note.new) result }
     ensures out_count { O.faults out.old ≤ O.faults out.new }
     ensures note_count { N.faults note.old ≤ N.faults note.new }
 {
-    if write(&translation.module, &translation.bounds, out).is_err() {
+    if write(&translation.module, &translation.bounds, path, out).is_err() {
         let _ = write_all(note, b"write fault\n");
         return Status::WriteFault;
     }

@@ -24,7 +24,7 @@ pub fn translate<H: Shelf, O: Sink, N: Sink>(
 {
     match translation_of(alloc, files, shelf) {
         Ok(translation) => {
-            let status = deliver_translation(&translation, b"", out, note);
+            let status = deliver_translation(alloc, &translation, b"", out, note);
             drop(translation);
             status
         }

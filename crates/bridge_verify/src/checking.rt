@@ -3,7 +3,7 @@ ghost use Rattle.std.specs.Prelude.{◌≡◌, ◌<◌, ◌++◌, [], ℕ, List,
 ghost use Rattle.dk_read.specs.declared.faults.DkKind.{DkKind as AKind};
 ghost use Rattle.dk_read.specs.Readers.{Feeds, IsFed};
 ghost use Rattle.dk_write.specs.Lines.{line_at, text_before};
-ghost use Rattle.dk_write.specs.Shallow.{AreShallow};
+ghost use Rattle.dk_write.specs.Shallow.{AreWithin};
 ghost use Rattle.hol_spec.specs.Proofs.{Accepted};
 ghost use Rattle.lp_kernel.specs.Checks.{IsJudged};
 ghost use Rattle.lp_kernel.specs.declared.checks.Verdict.TheVariants as verdict;
@@ -19,7 +19,7 @@ use bridge_answer::Answer;
 use bridge_base::{MemSink, Memory};
 use bridge_translate::Translation;
 use dk_read::{DkFault, Limit, Reader};
-use dk_write::{write_decl, write_prelude};
+use dk_write::{Path, write_decl, write_prelude};
 use holide_sig::Module;
 use lp_kernel::{Verdict, check_module};
 use std::alloc::Global;
@@ -59,16 +59,19 @@ fn check_read(alloc: Global, translation: &Translation, back: &mut Module) -> Re
 fn read_back(alloc: Global, translation: &Translation) -> Result<Module, Answer>
     requires held { IsHeld translation.now.module }
     requires bounds { length translation.now.bounds.items ≡ length translation.now.module.decls }
-    requires shallow { AreShallow translation.now.module.table translation.now.module.decls }
     requires reads { (m : List Declaration) × Reads (written (declarations_of translation.now.module) translation.now.bounds.items) m }
     ensures read { IfOk result (λ back. (m : List Declaration) → Reads (written (declarations_of translation.now.module) translation.now.bounds.items) m → declarations_of back ≡ m) }
     ensures held { IfOk result IsHeld }
     ensures is_module { IfOk result (λ back. IsModule (declarations_of back)) }
     ensures memory { IfErr result (λ answer. answer ≡ Answer.Memory) }
 {
+    let Ok(mut path) = Path::new(alloc, &translation.module) else {
+        return Err(Answer::Memory);
+    };
     let mut reader = Reader::new(alloc, Limit::Free);
     let mut text = MemSink::new(Vec::new(alloc), Vec::new(alloc));
-    let handed = hand_all(translation, &mut text, &mut reader);
+    let handed = hand_all(translation, &mut path, &mut text, &mut reader);
+    drop(path);
     drop(text);
     match handed {
         Ok(()) => ended(reader),
@@ -83,12 +86,13 @@ fn read_back(alloc: Global, translation: &Translation) -> Result<Module, Answer>
 // is answered.
 fn hand_all(
     translation: &Translation,
+    path: &mut Path,
     text: &mut MemSink,
     reader: &mut Reader,
 ) -> Result<(), Answer>
     requires held { IsHeld translation.now.module }
     requires bounds { length translation.now.bounds.items ≡ length translation.now.module.decls }
-    requires shallow { AreShallow translation.now.module.table translation.now.module.decls }
+    requires room { AreWithin path.old.room translation.now.module.table translation.now.module.decls }
     requires reads { (m : List Declaration) × Reads (written (declarations_of translation.now.module) translation.now.bounds.items) m }
     requires fed { IsFed reader.old [] }
     requires free { reader.old.limit ≡ None }
@@ -100,7 +104,7 @@ fn hand_all(
     prelude_into(text)?;
     hand(text, reader)?;
     for i in 0..translation.bounds.len() {
-        line_into(translation, i, text)?;
+        line_into(translation, i, path, text)?;
         hand(text, reader)?;
     }
     Ok(())
@@ -119,16 +123,22 @@ fn prelude_into(text: &mut MemSink) -> Result<(), Answer>
 }
 
 // Gathers what a declaration adds to the text of a translation.
-fn line_into(translation: &Translation, i: usize, text: &mut MemSink) -> Result<(), Answer>
+fn line_into(
+    translation: &Translation,
+    i: usize,
+    path: &mut Path,
+    text: &mut MemSink,
+) -> Result<(), Answer>
     requires held { IsHeld translation.now.module }
     requires bounds { length translation.now.bounds.items ≡ length translation.now.module.decls }
-    requires shallow { AreShallow translation.now.module.table translation.now.module.decls }
+    requires room { AreWithin path.old.room translation.now.module.table translation.now.module.decls }
     requires declared { i < length translation.now.bounds.items }
     requires empty { text.old.contents ≡ [] }
+    ensures room { path.new.room ≡ path.old.room }
     ensures text { OnOk result (text.new.contents ≡ line_at (declarations_of translation.now.module) translation.now.bounds.items i) }
     ensures memory { IfErr result (λ answer. answer ≡ Answer.Memory) }
 {
-    match write_decl(&translation.module, &translation.bounds, i, text) {
+    match write_decl(&translation.module, &translation.bounds, i, path, text) {
         Ok(()) => Ok(()),
         Err(_) => Err(Answer::Memory),
     }

@@ -1,10 +1,10 @@
 //! The part of the program for the words `verify FILE..`.
-ghost use Rattle.std.specs.Prelude.{◌≡◌, ◌≤◌, ◌++◌, Some, codes, length};
-ghost use Rattle.dk_write.specs.Shallow.{AreShallow};
+ghost use Rattle.std.specs.Prelude.{◌≡◌, ◌⊎◌, ◌≤◌, ◌++◌, Some, codes, length};
 ghost use Rattle.holide_sig.specs.Modules.{declarations_of, IsHeld};
 ghost use Rattle.lp_kernel.specs.Checks.{IsJudged};
 ghost use Rattle.lp_kernel.specs.declared.checks.Verdict.TheVariants as verdict;
 ghost use Rattle.lp_spec.specs.Text.{written};
+ghost use Rattle.bridge_answer.specs.AnswerTexts.{note_of, status_of, text_of};
 ghost use Rattle.bridge_spec.specs.Forms.{verify};
 ghost use Rattle.bridge_spec.specs.Calls.{call, shelved, sunk, names_in};
 ghost use Rattle.bridge_spec.specs.Outputs.{Delivers};
@@ -14,7 +14,7 @@ ghost use Rattle.bridge_spec.specs.declared.status.Status.TheVariants.{Done};
 ghost use Rattle.bridge_translate.specs.Translations.{counts_in};
 
 use crate::checking::check_back;
-use bridge_answer::deliver;
+use bridge_answer::{Answer, deliver};
 use bridge_base::{Shelf, Sink};
 use bridge_spec::Status;
 use bridge_translate::{Translation, deliver_translation, translation_of};
@@ -33,15 +33,17 @@ pub fn verify<H: Shelf, O: Sink, N: Sink>(
 {
     match translation_of(alloc, files, shelf) {
         Ok(translation) => match check_back(alloc, &translation) {
-            Ok(()) => deliver_verified(&translation, out, note),
+            Ok(()) => deliver_verified(alloc, &translation, out, note),
             Err(answer) => deliver(answer, out, note),
         },
         Err(stop) => deliver(stop.into_answer(), out, note),
     }
 }
 
-// Writes a module that the check accepted, and then its counts and the line that says so.
+// Writes a module that the check accepted, and then its counts and the line that says so. Want of memory is answered before anything is
+// written.
 fn deliver_verified<O: Sink, N: Sink>(
+    alloc: Global,
     translation: &Translation,
     out: &mut O,
     note: &mut N,
@@ -49,10 +51,10 @@ fn deliver_verified<O: Sink, N: Sink>(
     requires accepted { IsJudged (declarations_of translation.now.module) translation.now.bounds.items verdict.Accepted }
     requires held { IsHeld translation.now.module }
     requires bounds { length translation.now.bounds.items ≡ length translation.now.module.decls }
-    requires shallow { AreShallow translation.now.module.table translation.now.module.decls }
-    ensures delivered { Delivers Done (written (declarations_of translation.now.module) translation.now.bounds.items) (five_lines (counts_in translation.now.counts) ++ codes "verified\n") (sunk O.got O.faults out.old out.new) (sunk N.got N.faults note.old note.new) result }
+    ensures delivered { Delivers Done (written (declarations_of translation.now.module) translation.now.bounds.items) (five_lines (counts_in translation.now.counts) ++ codes "verified\n") (sunk O.got O.faults out.old out.new) (sunk N.got N.faults note.old note.new) result
+        ⊎ Delivers (status_of Answer.Memory) (text_of Answer.Memory) (note_of Answer.Memory) (sunk O.got O.faults out.old out.new) (sunk N.got N.faults note.old note.new) result }
     ensures out_count { O.faults out.old ≤ O.faults out.new }
     ensures note_count { N.faults note.old ≤ N.faults note.new }
 {
-    deliver_translation(translation, b"verified\n", out, note)
+    deliver_translation(alloc, translation, b"verified\n", out, note)
 }

@@ -22,7 +22,7 @@ use holide_sig::{Decl, Form, Ident, Module, SIGNATURE};
 use lp_term::{LpId, LpNode};
 use std::alloc::Global;
 
-const MAX_DEPTH: u64 = 16384;
+const MAX_DEPTH: u64 = 262_144;
 
 /// A reading of tokens: the module so far with the names that it has met, and what is open in a term, the innermost
 /// last, with how many of it are binders.

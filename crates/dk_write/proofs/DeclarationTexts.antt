@@ -1,5 +1,5 @@
 -- The parts of a declaration's text, and of a module's.
-use Rattle.std.proofs.Common.{◌≡◌, ℕ, suc, ◌<◌, sym, ap, subst, ◌∙◌, List, [], ◌∷◌, ◌++◌, Option, Some, append_assoc, codes, length, map, get_or, zero}
+use Rattle.std.proofs.Common.{◌≡◌, ℕ, suc, ◌<◌, sym, ap, ◌∙◌, List, [], ◌∷◌, ◌++◌, Option, Some, append_assoc, codes, length, map, get_or, zero}
 use Rattle.std.specs.Prelude.{option_map, slice_get}
 use Rattle.std.proofs.lemmas.List.{append-nil}
 use Rattle.std.proofs.lemmas.Option.{same_Some, slice_get-get_or}
@@ -11,7 +11,6 @@ use Rattle.lp_term.specs.Tables.{tree_at}
 use Rattle.holide_sig.specs.declared.decls.Decl.{Decl}
 use Rattle.holide_sig.specs.Modules.{declaration_in}
 use Rattle.dk_write.specs.Lines.{line_of, line_at}
-use Rattle.dk_write.specs.Shallow.{IsShallow, AreShallow}
 
 apart_declaration : (o n k t b e : List ℕ) → ((((o ++ n) ++ k) ++ t) ++ b) ++ e ≡ o ++ ((n ++ (k ++ [])) ++ (t ++ (b ++ (e ++ []))))
 apart_declaration o n k t b e = simp append_assoc (ap (λ l. o ++ (n ++ (k ++ (t ++ (b ++ l))))) (sym (append-nil e)))
@@ -30,11 +29,6 @@ pub slice_get-map : {X Y : Type 0} (f : X → Y) (xs : List X) (i : ℕ) (x : X)
 slice_get-map f [] i x e = absurd (cc)
 slice_get-map f (y ∷ ys) zero x e = ap Some (ap f (same_Some _ _ e))
 slice_get-map f (y ∷ ys) (suc i) x e = slice_get-map f ys i x e
-
-pub AreShallow-slice_get : (ts : List Tree) (ds : List Decl) (i : ℕ) (d : Decl) → AreShallow ts ds → slice_get ds i ≡ Some d → IsShallow ts d
-AreShallow-slice_get ts [] i d h e = absurd (cc)
-AreShallow-slice_get ts (x ∷ xs) zero d h e = subst (IsShallow ts) (same_Some _ _ e) h.0
-AreShallow-slice_get ts (x ∷ xs) (suc i) d h e = AreShallow-slice_get ts xs i d h.1 e
 
 -- the line of the declaration at a place, with its bound
 pub line_at-is : (m : List Declaration) (bounds : List ℕ) (i b : ℕ) (d : Declaration) → slice_get m i ≡ Some d → slice_get bounds i ≡ Some b → line_at m bounds i ≡ declaration_text m d b

@@ -1,3 +1,4 @@
 pub mod GainedLaws
 pub mod FrameTexts
 pub mod DeclarationTexts
+mod Told

@@ -3,3 +3,4 @@ pub mod LineLaws
 pub mod Paths
 pub mod Shallow
 pub mod Writing
+pub mod Open

@@ -15,7 +15,7 @@ use Rattle.dk_write.specs.declared.tree.Turn.TheVariants.{Write, Leave}
 pub record IsPlace (most : ℕ) (trees : List Tree) (open_frames : ℕ) (p : Place) : Type 0 where
   pub known : p.id.0 < length trees
   pub room : open_frames + depth (tree_at trees p.id.0) ≤ most
-  pub binders : p.depth + depth (tree_at trees p.id.0) ≤ 16384
+  pub binders : p.depth + depth (tree_at trees p.id.0) ≤ most
 
 abbrev pub IsFrame : ℕ → List Tree → ℕ → Frame → Type 0
 IsFrame most trees open_frames Close = Unit {0}

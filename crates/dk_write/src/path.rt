@@ -1,7 +1,12 @@
 //! What follows the part of a tree that is being written.
-ghost use Rattle.std.specs.Prelude.{◌≡◌, ◌<◌, [], ◌∷◌, length, MatchOption, IfNone, IfSome};
+ghost use Rattle.std.specs.Prelude.{◌≡◌, ◌<◌, ◌≤◌, ◌^◌, [], ◌∷◌, length, MatchOption, IfNone, IfOk, IfSome};
+ghost use Rattle.holide_sig.specs.Modules.{IsHeld, IsKnown};
+ghost use Rattle.dk_write.specs.Shallow.{AreTold, AreWithin, IsTold};
 
+use bridge_base::Memory;
+use holide_sig::{Decl, Module};
 use lp_term::LpId;
+use std::alloc::Global;
 use std::marker::Model;
 
 /// A tree under so many binders.
@@ -24,51 +29,89 @@ pub(crate) enum Frame {
     Produced(Place, bool),
 }
 
-/// What follows the part of a tree that is being written, the next on top: at most so many frames.
+/// What follows the part of a tree that is being written, the next on top. It has room for as many frames as a module's trees are deep.
 #[derive(Drop)]
-pub(crate) struct Path<const MOST: usize> {
-    frames: [Frame; MOST],
+pub struct Path {
+    frames: Vec<Frame>,
     len: usize,
 }
 
-impl<const MOST: usize> Model for Path<MOST> {
-    ghost use Rattle.std.specs.Prelude.{List, reverse, take, ◌≤◌};
-    ghost use Rattle.dk_write.specs.declared.path.Frame.{Frame as AFrame};
+impl Model for Path {
+    ghost use Rattle.std.specs.Prelude.{length, reverse, take, ◌≤◌};
+    ghost use Rattle.dk_write.specs.Open.{Open};
 
-    ghost Value = { List AFrame };
+    ghost Value = { Open };
 
-    ghost view = { λ p. reverse (take p.len p.frames) };
+    ghost view = { λ p. record { room = length p.frames.items; frames = reverse (take p.len p.frames.items) } };
 
-    ghost invariant = { λ p. p.len ≤ MOST };
+    ghost invariant = { λ p. p.len ≤ length p.frames.items };
 }
 
-impl<const MOST: usize> Path<MOST> {
-    pub(crate) fn new() -> Self
-        ensures { result ≡ [] }
+impl Path {
+    /// A path with room for every tree of a module.
+    pub fn new(alloc: Global, source: &Module) -> Result<Path, Memory>
+        requires held { IsHeld source.now }
+        ensures room { IfOk result (λ path. AreWithin path.room source.now.table source.now.decls) }
     {
-        Path {
-            frames: [Frame::Close; MOST],
-            len: 0,
-        }
+        let room = greatest_depth(source) as usize;
+        let frames = vec![in alloc; Frame::Close; room]?;
+        Ok(Path { frames, len: 0 })
+    }
+
+    // Leaves nothing open.
+    pub(crate) fn clear(&mut self)
+        ensures frames { self.new.frames ≡ [] }
+        ensures room { self.new.room ≡ self.old.room }
+        ensures small { self.new.room < 2 ^ 64 }
+    {
+        let _room = self.frames.len();
+        self.len = 0;
     }
 
     pub(crate) fn push(&mut self, frame: Frame)
-        requires { length self.old < MOST }
-        ensures { self.new ≡ frame ∷ self.old }
+        requires { length self.old.frames < self.old.room }
+        ensures frames { self.new.frames ≡ frame ∷ self.old.frames }
+        ensures room { self.new.room ≡ self.old.room }
     {
         self.frames[self.len] = frame;
         self.len += 1;
     }
 
     pub(crate) fn pop(&mut self) -> Option<Frame>
-        ensures popped { MatchOption result (self.old ≡ []) (λ frame. self.old ≡ frame ∷ self.new) }
-        ensures still_empty { IfNone result (self.new ≡ []) }
-        ensures room { IfSome result (λ _. length self.new < MOST) }
+        ensures popped { MatchOption result (self.old.frames ≡ []) (λ frame. self.old.frames ≡ frame ∷ self.new.frames) }
+        ensures still_empty { IfNone result (self.new.frames ≡ []) }
+        ensures room { self.new.room ≡ self.old.room }
+        ensures left { IfSome result (λ _. length self.new.frames < self.new.room) }
     {
         if self.len == 0 {
             return None;
         }
         self.len -= 1;
         Some(self.frames[self.len])
+    }
+}
+
+// The depth of the deepest tree of a module, as its table tells it.
+fn greatest_depth(source: &Module) -> u64
+    requires held { IsHeld source.now }
+    ensures { AreTold result source.now.table source.now.decls }
+{
+    let mut greatest = 0;
+    for i in 0..source.decls.len() {
+        greatest = deeper(source, source.decls.get(i), greatest);
+    }
+    greatest
+}
+
+// The greatest of this depth and those of a declaration's trees.
+fn deeper(source: &Module, decl: &Decl, greatest: u64) -> u64
+    requires known { IsKnown source.now.table decl.now }
+    ensures own { IsTold result source.now.table decl.now }
+    ensures more { greatest ≤ result }
+{
+    let ty = greatest.max(source.table.depth(decl.ty));
+    match decl.body {
+        Some(id) => ty.max(source.table.depth(id)),
+        None => ty,
     }
 }

@@ -1,5 +1,5 @@
 //! Writing a tree, with a path in the place of a recursion.
-ghost use Rattle.std.specs.Prelude.{◌≡◌, ◌+◌, ◌-◌, ◌<◌, ◌≤◌, [], ◌∷◌, ◌++◌, suc, length, codes, IfOk, OnOk, OnErr, if◌then◌else◌};
+ghost use Rattle.std.specs.Prelude.{◌≡◌, ◌+◌, ◌-◌, ◌<◌, ◌≤◌, ◌^◌, [], ◌∷◌, ◌++◌, suc, length, codes, IfOk, OnOk, OnErr, if◌then◌else◌};
 ghost use Rattle.bridge_base.specs.Outside.{GainsFront, HasCause};
 ghost use Rattle.lp_spec.specs.Trees.{depth as depth_of};
 ghost use Rattle.lp_spec.specs.Text.{binder_name, is_binder as is_binder_tree, is_word as is_word_tree, tree_text};
@@ -26,18 +26,19 @@ pub(crate) enum Turn {
 }
 
 // Writes a tree that stands under no binder. Nothing follows it, before and after.
-pub(crate) fn write_tree<S: Sink, const MOST: usize>(
+pub(crate) fn write_tree<S: Sink>(
     source: &Module,
     id: LpId,
-    path: &mut Path<MOST>,
+    path: &mut Path,
     gathered: &mut Gathered,
     sink: &mut S,
 ) -> Result<(), Failed>
     requires known { id.0 < length source.now.table }
-    requires shallow { depth_of (tree_at source.now.table id.0) ≤ 16384 }
-    requires room { depth_of (tree_at source.now.table id.0) ≤ MOST }
-    requires empty { path.old ≡ [] }
-    ensures empty { OnOk result (path.new ≡ []) }
+    requires room { depth_of (tree_at source.now.table id.0) ≤ path.old.room }
+    requires small { path.old.room < 2 ^ 64 }
+    requires empty { path.old.frames ≡ [] }
+    ensures empty { OnOk result (path.new.frames ≡ []) }
+    ensures room { path.new.room ≡ path.old.room }
     ensures writes { Writes (S.got sink.old) gathered.old (S.faults sink.old)
         (tree_text (declarations_of source.now) 0 (tree_at source.now.table id.0)) (S.got sink.new) gathered.new (S.faults sink.new) result }
 {
@@ -54,20 +55,22 @@ pub(crate) fn write_tree<S: Sink, const MOST: usize>(
 }
 
 // Writes the front of a tree, as far as its first part, or all of it where it has none.
-fn write_place<S: Sink, const MOST: usize>(
+fn write_place<S: Sink>(
     source: &Module,
     place: Place,
-    path: &mut Path<MOST>,
+    path: &mut Path,
     gathered: &mut Gathered,
     sink: &mut S,
 ) -> Result<Turn, Failed>
-    requires place { IsPlace MOST source.now.table (length path.old) place }
-    requires frames { AreFrames MOST source.now.table path.old }
-    ensures turn { IfOk result (IsTurn MOST source.now.table path.new) }
-    ensures frames { IfOk result (λ _. AreFrames MOST source.now.table path.new) }
-    ensures less { IfOk result (λ turn. work source.now.table turn path.new < work source.now.table (Turn.Write place) path.old) }
-    ensures ok { IfOk result (λ turn. Gained (S.got sink.old) (gathered.old ++ left_text source.now (Turn.Write place) path.old) (gathered.new ++ left_text source.now turn path.new) (S.got sink.new)) }
-    ensures err { OnErr result (GainsFront (S.got sink.old) (gathered.old ++ left_text source.now (Turn.Write place) path.old) (S.got sink.new)) }
+    requires place { IsPlace path.old.room source.now.table (length path.old.frames) place }
+    requires frames { AreFrames path.old.room source.now.table path.old.frames }
+    requires small { path.old.room < 2 ^ 64 }
+    ensures turn { IfOk result (IsTurn path.new.room source.now.table path.new.frames) }
+    ensures frames { IfOk result (λ _. AreFrames path.new.room source.now.table path.new.frames) }
+    ensures room { path.new.room ≡ path.old.room }
+    ensures less { IfOk result (λ turn. work source.now.table turn path.new.frames < work source.now.table (Turn.Write place) path.old.frames) }
+    ensures ok { IfOk result (λ turn. Gained (S.got sink.old) (gathered.old ++ left_text source.now (Turn.Write place) path.old.frames) (gathered.new ++ left_text source.now turn path.new.frames) (S.got sink.new)) }
+    ensures err { OnErr result (GainsFront (S.got sink.old) (gathered.old ++ left_text source.now (Turn.Write place) path.old.frames) (S.got sink.new)) }
     ensures cause { HasCause (S.faults sink.old) (S.faults sink.new) result }
 {
     let depth = place.depth;
@@ -155,21 +158,23 @@ fn write_binder<S: Sink>(
 }
 
 // Writes what stands between a part of a tree and the next.
-fn write_frame<S: Sink, const MOST: usize>(
+fn write_frame<S: Sink>(
     source: &Module,
     frame: Frame,
-    path: &mut Path<MOST>,
+    path: &mut Path,
     gathered: &mut Gathered,
     sink: &mut S,
 ) -> Result<Turn, Failed>
-    requires frame { IsFrame MOST source.now.table (length path.old) frame }
-    requires frames { AreFrames MOST source.now.table path.old }
-    requires room { length path.old < MOST }
-    ensures turn { IfOk result (IsTurn MOST source.now.table path.new) }
-    ensures frames { IfOk result (λ _. AreFrames MOST source.now.table path.new) }
-    ensures less { IfOk result (λ turn. work source.now.table turn path.new < work source.now.table Turn.Leave (frame ∷ path.old)) }
-    ensures ok { IfOk result (λ turn. Gained (S.got sink.old) (gathered.old ++ left_text source.now Turn.Leave (frame ∷ path.old)) (gathered.new ++ left_text source.now turn path.new) (S.got sink.new)) }
-    ensures err { OnErr result (GainsFront (S.got sink.old) (gathered.old ++ left_text source.now Turn.Leave (frame ∷ path.old)) (S.got sink.new)) }
+    requires frame { IsFrame path.old.room source.now.table (length path.old.frames) frame }
+    requires frames { AreFrames path.old.room source.now.table path.old.frames }
+    requires small { path.old.room < 2 ^ 64 }
+    requires room { length path.old.frames < path.old.room }
+    ensures turn { IfOk result (IsTurn path.new.room source.now.table path.new.frames) }
+    ensures frames { IfOk result (λ _. AreFrames path.new.room source.now.table path.new.frames) }
+    ensures room { path.new.room ≡ path.old.room }
+    ensures less { IfOk result (λ turn. work source.now.table turn path.new.frames < work source.now.table Turn.Leave (frame ∷ path.old.frames)) }
+    ensures ok { IfOk result (λ turn. Gained (S.got sink.old) (gathered.old ++ left_text source.now Turn.Leave (frame ∷ path.old.frames)) (gathered.new ++ left_text source.now turn path.new.frames) (S.got sink.new)) }
+    ensures err { OnErr result (GainsFront (S.got sink.old) (gathered.old ++ left_text source.now Turn.Leave (frame ∷ path.old.frames)) (S.got sink.new)) }
     ensures cause { HasCause (S.faults sink.old) (S.faults sink.new) result }
 {
     match frame {

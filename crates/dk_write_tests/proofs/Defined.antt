@@ -1,17 +1,14 @@
 -- What a test's definitions and theorems ask of a module.
-use Rattle.std.proofs.Common.{◌≡◌, ℕ, ◌≤◌, ◌-◌, ◌^◌, min, refl, sym, subst, arith, List, [], ◌∷◌, ◌++◌, length, Option, None, Some}
+use Rattle.std.proofs.Common.{◌≡◌, ℕ, ◌≤◌, ◌-◌, refl, sym, subst, arith, List, [], ◌∷◌, length, Option, None, Some}
 use Rattle.std.specs.Prelude.{false, IsFalse}
 use Rattle.std.specs.Option.{is_some}
 use Rattle.lp_spec.specs.declared.form.Form.TheVariants.{Def, Thm}
-use Rattle.lp_spec.specs.Trees.{Tree, depth}
+use Rattle.lp_spec.specs.Trees.{Tree}
 use Rattle.lp_spec.specs.Modules.{Declaration, signature, types}
 use Rattle.lp_spec.specs.ModuleOrder.{IsOver, MayFollow, is_declared}
 use Rattle.lp_term.specs.declared.LpId.{LpId}
 use Rattle.lp_term.specs.Tables.{tree_at, AreKnown, Keeps}
-use Rattle.lp_term.specs.TableLaws.{tree_at-Stays}
-use Rattle.holide_sig.specs.declared.decls.Decl.{Decl}
-use Rattle.holide_sig.specs.Modules.{declaration_in, IsBodyKnown, AreDeclsKnown}
-use Rattle.dk_write.specs.Shallow.{IsBodyShallow, IsShallow, AreShallow}
+use Rattle.holide_sig.specs.Modules.{declaration_in}
 
 -- a tree over the signature is one over more declarations
 over_more : (count : ℕ) (t : Tree) → length signature ≤ count → IsOver (length signature) t → IsOver count t
@@ -44,29 +41,3 @@ no_some (Some x) h = absurd (cc)
 pub AreKnown-Keeps : {old new : List Tree} → Keeps old new → (ids : List LpId) → AreKnown old ids → AreKnown new ids
 AreKnown-Keeps k [] h = tt
 AreKnown-Keeps k (id ∷ ids) h = (omega (arith, k.longer, h.0), AreKnown-Keeps k ids h.1)
-
-shallow_body-Keeps : {old new : List Tree} → Keeps old new → (body : Option LpId) → IsBodyKnown old body → IsBodyShallow old body → IsBodyShallow new body
-shallow_body-Keeps k None h s = tt
-shallow_body-Keeps k (Some id) h s = subst (λ t. depth t ≤ 16384) (tree_at-Stays k.stays id.0 h) s
-
--- declarations stay shallow when the table grows
-pub AreShallow-Keeps : {old new : List Tree} → Keeps old new → (ds : List Decl) → AreDeclsKnown old ds → AreShallow old ds → AreShallow new ds
-AreShallow-Keeps k [] h s = tt
-AreShallow-Keeps k (d ∷ ds) h s = (
-  record { ty = subst (λ t. depth t ≤ 16384) (tree_at-Stays k.stays d.ty.0 h.0.ty) s.0.ty; body = shallow_body-Keeps k d.body h.0.body s.0.body },
-  AreShallow-Keeps k ds h.1 s.1,
-)
-
--- one more shallow declaration
-pub AreShallow-push : (ts : List Tree) (ds : List Decl) (d : Decl) → AreShallow ts ds → IsShallow ts d → AreShallow ts (ds ++ d ∷ [])
-AreShallow-push ts [] d h s = (s, tt)
-AreShallow-push ts (x ∷ xs) d h s = (h.0, AreShallow-push ts xs d h.1 s)
-
-pub pushed_shallow : (ts us : List Tree) (ds es : List Decl) (d : Decl) → us ≡ ts → AreShallow ts ds → IsShallow ts d → es ≡ ds ++ d ∷ [] → AreShallow us es
-pushed_shallow ts us ds es d e h s f = subst (λ l. AreShallow l es) (sym e) (subst (AreShallow ts) (sym f) (AreShallow-push ts ds d h s))
-
-pub shallow_type : (t : Tree) → t ≡ types → depth t ≤ 16384
-shallow_type t e = subst (λ u. depth u ≤ 16384) (sym e) (omega arith)
-
-pub shallow_by : (t : Tree) (n : ℕ) → n ≡ min (depth t) (2 ^ 64 - 1) → n ≤ 16384 → depth t ≤ 16384
-shallow_by t n e h = omega (arith, e, h)

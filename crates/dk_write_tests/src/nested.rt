@@ -4,15 +4,17 @@ ghost use Rattle.lp_spec.specs.Modules.{signature};
 ghost use Rattle.lp_spec.specs.ModuleOrder.{is_declared, IsOver};
 ghost use Rattle.lp_term.specs.Tables.{tree_at, Keeps};
 ghost use Rattle.holide_sig.specs.Modules.{declarations_of, IsHeld};
-ghost use Rattle.dk_write.specs.Shallow.{AreShallow};
 
 use crate::sinks::{held_at_fault, is_written};
 use bridge_base::{Failed, Memory, Sink};
-use dk_write::{DEPTH, write};
+use dk_write::{Path, write};
 use holide_sig::{Decl, Form, Ident, Module, PRELUDE};
 use lp_term::{LpId, LpNode, LpTable};
 use std::alloc::{AllocError, Global};
 use std::test::Fail;
+
+// How many nodes a tree of a text has at most on a path.
+const DEPTH: usize = 262_144;
 
 // The tree applied to `bool`, or `arr bool` applied to the tree.
 fn deeper(table: &mut LpTable, tree: LpId, on_the_left: bool) -> Result<LpId, Memory>
@@ -44,7 +46,7 @@ fn nest(table: &mut LpTable, count: usize, on_the_left: bool) -> Result<LpId, Me
     Ok(tree)
 }
 
-// Defines `q` as such a tree, if it isn't too deep to be written.
+// Defines `q` as such a tree.
 fn push_nest(
     alloc: Global,
     into: &mut Module,
@@ -52,17 +54,12 @@ fn push_nest(
     on_the_left: bool,
 ) -> Result<(), Memory>
     requires held { IsHeld into.old }
-    requires shallow { AreShallow into.old.table into.old.decls }
     requires new_name { IsFalse (is_declared (signature ++ declarations_of into.old) (113 ∷ [])) }
     ensures held { OnOk result (IsHeld into.new) }
-    ensures shallow { OnOk result (AreShallow into.new.table into.new.decls) }
     ensures count { OnOk result (length into.new.decls ≡ length into.old.decls + 1) }
 {
     let ty = into.table.node(LpNode::Sym(0))?;
     let body = nest(&mut into.table, count, on_the_left)?;
-    if into.table.depth(body) > 16_384 {
-        return Err(Memory);
-    }
     let name = Ident::new(Vec::from_slice(alloc, b"q")?);
     let decl = Decl {
         name,
@@ -97,7 +94,6 @@ fn text_of(
 // The module that defines `q` so.
 fn nested(alloc: Global, count: usize, on_the_left: bool) -> Result<Module, Memory>
     ensures held { IfOk result IsHeld }
-    ensures shallow { IfOk result (λ m. AreShallow m.table m.decls) }
     ensures count { IfOk result (λ m. length m.decls ≡ 1) }
 {
     let mut module = Module::new(alloc)?;
@@ -139,19 +135,19 @@ impl Sink for Measured {
 }
 
 // How the text of a module comes to a sink that takes whole pieces.
-fn measure(source: &Module, bounds: &[u128]) -> Option<Measured>
+fn measure(alloc: Global, source: &Module, bounds: &[u128]) -> Result<Option<Measured>, Memory>
     requires held { IsHeld source.now }
     requires bounds { length bounds.now ≡ length source.now.decls }
-    requires shallow { AreShallow source.now.table source.now.decls }
 {
+    let mut path = Path::new(alloc, source)?;
     let mut measured = Measured {
         pieces: 0,
         longest: 0,
     };
-    if write(source, bounds, &mut measured).is_ok() {
-        Some(measured)
+    if write(source, bounds, &mut path, &mut measured).is_ok() {
+        Ok(Some(measured))
     } else {
-        None
+        Ok(None)
     }
 }
 
@@ -179,7 +175,7 @@ fn many_words_are_written_at_once(rt: HostRuntime) -> Result<(), Fail> {
     let module = nested(alloc, 3_000, true)?;
     let text = text_of(alloc, b"", b"bool", b" bool", 3_000)?;
     let line = text.len().saturating_sub(PRELUDE.len());
-    assert!(rt; are_few(measure(&module, &[0]), line));
+    assert!(rt; are_few(measure(alloc, &module, &[0])?, line));
     assert!(rt; is_front(held_at_fault(alloc, &module, &[0], 3)?, text.as_slice()));
     Ok(())
 }

@@ -1,16 +1,15 @@
 //! The two lemmas with which each translation begins, stated by trees that are made from letters.
 ghost use Rattle.std.specs.Prelude.{◌≡◌, ◌<◌, ◌≤◌, ◌+◌, length, IsFalse, IfOk, IfSome, OnOk};
 ghost use Rattle.std.specs.Bool.{OnTrue};
-ghost use Rattle.lp_spec.specs.Trees.{depth as depth_of, loose};
+ghost use Rattle.lp_spec.specs.Trees.{loose};
 ghost use Rattle.lp_spec.specs.Modules.{signature};
 ghost use Rattle.lp_spec.specs.ModuleOrder.{has_kind, symbols, IsOver};
 ghost use Rattle.lp_term.specs.Tables.{tree_at, AreKnown, Keeps, PartsBelow};
 ghost use Rattle.holide_sig.specs.Modules.{IsHeld};
-ghost use Rattle.dk_write.specs.Shallow.{AreShallow};
 
 use crate::sinks::{is_written, whole};
 use bridge_base::{Memory, Stack};
-use dk_write::{write_decl, write_prelude};
+use dk_write::{Path, write_decl, write_prelude};
 use holide_sig::{Decl, Form, Ident, Module, PRELUDE, SIGNATURE};
 use lp_term::{LpId, LpNode, LpTable};
 use std::alloc::{AllocError, Global};
@@ -96,9 +95,8 @@ fn is_over(table: &LpTable, id: LpId, binders: u128) -> bool
 fn may_stand(table: &LpTable, id: LpId) -> bool
     requires { id.0 < length table.now }
     ensures over { OnTrue result (IsOver (length signature) (tree_at table.now id.0)) }
-    ensures shallow { OnTrue result (depth_of (tree_at table.now id.0) ≤ 16384) }
 {
-    is_over(table, id, 0) && table.depth(id) <= 16_384
+    is_over(table, id, 0)
 }
 
 // States a theorem under a new name, where its trees may stand.
@@ -110,9 +108,7 @@ fn push_theorem(
     body: &[u8],
 ) -> Result<(), Memory>
     requires held { IsHeld into.old }
-    requires shallow { AreShallow into.old.table into.old.decls }
     ensures held { OnOk result (IsHeld into.new) }
-    ensures shallow { OnOk result (AreShallow into.new.table into.new.decls) }
     ensures count { OnOk result (length into.new.decls ≡ length into.old.decls + 1) }
 {
     let ty = tree_of(alloc, &mut into.table, ty)?;
@@ -153,7 +149,6 @@ thm trans : v0 : type -> v1 : term v0 -> v2 : term v0 -> v3 : term v0 -> v4 : pr
 // The module of the two lemmas.
 fn lemmas(alloc: Global) -> Result<Module, Memory>
     ensures held { IfOk result IsHeld }
-    ensures shallow { IfOk result (λ m. AreShallow m.table m.decls) }
     ensures count { IfOk result (λ m. length m.decls ≡ 2) }
 {
     let mut module = Module::new(alloc)?;
@@ -170,21 +165,23 @@ fn text_of(alloc: Global, lines: &[u8]) -> Result<Vec<u8>, AllocError> {
 }
 
 // Whether the second of two declarations adds the end of the text, from its bound on, to a sink that was cleared of the prelude.
-fn adds_the_end(alloc: Global, source: &Module, text: &[u8]) -> bool
+fn adds_the_end(alloc: Global, source: &Module, text: &[u8]) -> Result<bool, Memory>
     requires held { IsHeld source.now }
     requires count { length source.now.decls ≡ 2 }
-    requires shallow { AreShallow source.now.table source.now.decls }
 {
+    let mut path = Path::new(alloc, source)?;
     let mut sink = whole(alloc);
     if write_prelude(&mut sink).is_err() || sink.contents() != PRELUDE {
-        return false;
+        return Ok(false);
     }
     sink.clear();
-    write_decl(source, &BOUNDS, 1, &mut sink) == Ok(())
-        && sink
-            .contents()
-            .starts_with(b"(; bound 5451776000 ;)\nthm trans : v0")
-        && text.ends_with(sink.contents())
+    Ok(
+        write_decl(source, &BOUNDS, 1, &mut path, &mut sink) == Ok(())
+            && sink
+                .contents()
+                .starts_with(b"(; bound 5451776000 ;)\nthm trans : v0")
+            && text.ends_with(sink.contents()),
+    )
 }
 
 #[test]
@@ -193,6 +190,6 @@ fn lemmas_are_written(rt: HostRuntime) -> Result<(), Fail> {
     let module = lemmas(alloc)?;
     let text = text_of(alloc, LINES)?;
     assert!(rt; is_written(alloc, &module, &BOUNDS, text.as_slice()));
-    assert!(rt; adds_the_end(alloc, &module, text.as_slice()));
+    assert!(rt; adds_the_end(alloc, &module, text.as_slice())?);
     Ok(())
 }

@@ -1,11 +1,9 @@
-use Rattle.std.proofs.Common.{◌∙◌, ◌++◌, sym, arith, Some, length-append}
-use Rattle.std.proofs.lemmas.Result.{on_ok_weaker}
-use Rattle.lp_spec.specs.declared.form.Form.TheVariants.{Def}
+use Rattle.std.proofs.Common.{◌∙◌, ◌++◌, sym, arith, length-append}
 use Rattle.lp_spec.specs.Modules.{signature}
 use Rattle.lp_term.specs.TableLaws.{Holds-tree_at, Keeps-trans}
 use Rattle.holide_sig.specs.Modules.{declarations_of}
 use Rattle.holide_sig.specs.ModuleLaws.{IsHeld-Keeps, symbol_number-None}
-use Rattle.bench.proofs.Defined.{may_define, no_some, AreShallow-Keeps, pushed_shallow, shallow_type, shallow_by}
+use Rattle.bench.proofs.Defined.{may_define, no_some}
 use Rattle.bench.proofs.writing.push_nest.Goals as goal
 
 pub push-requires-clause-held : goal.push-requires-clause-held
@@ -18,13 +16,3 @@ push-requires-clause-follows c =
     may_define (signature ++ ds) c.nest.new.table c.new-name.result c.deref.result.now c.in_ok-ty.ty c.in_ok-body.body
     (omega (arith, length-append signature ds)) (symbol_number-None ds c.deref.result.now (sym c.find.ensures ∙ no_some c.find.result c.if-is_some.ensures))
     (c.new-name.ensures ∙ sym c.deref.ensures.value) ty c.in_ok-body.ensures.over
-
-pub returns-clause-shallow : goal.returns-clause-shallow
-returns-clause-shallow c =
-    let kept = AreShallow-Keeps (Keeps-trans c.node.ensures.keeps c.nest.ensures.keeps) c.args.into.now.decls c.requires.held.decls c.requires.shallow in
-    let ty = Holds-tree_at c.nest.new.table c.in_ok-ty.ty.0 _ (c.nest.ensures.keeps.stays.each c.in_ok-ty.ty.0 _ c.in_ok-ty.ensures.made) in
-    on_ok_weaker c.push.result
-    (pushed_shallow c.nest.new.table c.push.new.self.table c.args.into.now.decls c.push.new.self.decls
-    (record { name = c.new-name.result; form = Def; ty = c.in_ok-ty.ty; body = Some c.in_ok-body.body }) c.push.ensures.table kept
-    (record { ty = shallow_type _ ty; body = shallow_by _ c.depth.result c.depth.ensures c.if-depth-gt16384.false }))
-    c.push.ensures.ok

@@ -1,4 +1,4 @@
-use Rattle.std.proofs.Common.{◌∙◌, ◌++◌, [], length, Some, sym, ap, subst}
+use Rattle.std.proofs.Common.{◌∙◌, ◌++◌, [], length, Some, refl, sym, ap, subst, ⊎_elim}
 use Rattle.std.proofs.lemmas.List.{append-nil}
 use Rattle.lp_spec.specs.Text.{written}
 use Rattle.holide_sig.specs.Modules.{declarations_of}
@@ -8,6 +8,8 @@ use Rattle.bridge_spec.specs.Forms.{translate}
 use Rattle.bridge_spec.specs.Calls.{call, shelved, sunk, names_in}
 use Rattle.bridge_spec.specs.Texts.{five_lines}
 use Rattle.bridge_spec.specs.declared.status.Status.TheVariants.{Done}
+use Rattle.bridge_spec.specs.Outputs.{Outputs}
+use Rattle.bridge_answer.specs.declared.answer.Answer.TheVariants.{Memory}
 use Rattle.bridge_answer.specs.AnswerTexts.{status_of, text_of, note_of}
 use Rattle.bridge_answer.specs.Promised.{outputs-Promise}
 use Rattle.bridge_reading.specs.StopAnswers.{stop-AnswersTranslate, stop-BeginsFiles}
@@ -25,18 +27,26 @@ returns-in-Ok g c =
     let t = c.in-Ok.ensures.translated in
     let names = names_in c.args.files.now in
     let made = c.in-Ok.translation in
-    outputs-Promise
-    (call (Some (translate names)) (shelved g.H.Shelf.told g.H.Shelf.faults g.H.Shelf.begun c.args.shelf.now c.translation_of.new.shelf) (sunk g.O.Sink.got g.O.Sink.faults c.args.out.now c.deliver_translation-status.new.out) (sunk g.N.Sink.got g.N.Sink.faults c.args.note.now c.deliver_translation-status.new.note))
-    c.deliver_translation-status.result
-    (record {
+    let own = call (Some (translate names)) (shelved g.H.Shelf.told g.H.Shelf.faults g.H.Shelf.begun c.args.shelf.now c.translation_of.new.shelf) (sunk g.O.Sink.got g.O.Sink.faults c.args.out.now c.deliver_translation-status.new.out) (sunk g.N.Sink.got g.N.Sink.faults c.args.note.now c.deliver_translation-status.new.note) in
+    let outputs : Outputs own c.deliver_translation-status.result = ⊎_elim
+    (λ done. record {
       answer = Done;
       out_text = written (declarations_of made.module) made.bounds.items;
       note_text = five_lines (counts_in made.counts) ++ [];
       answers = (t.0, t.1, written-module_text (length names) t.0 made t.2, append-nil (five_lines (counts_in made.counts)) ∙ ap five_lines t.2.counts);
       begins = c.in-Ok.ensures.all_begun;
-      delivered = c.deliver_translation-status.ensures.delivered;
+      delivered = done;
     })
-    c.in-Ok.ensures.told_kept c.in-Ok.ensures.count c.deliver_translation-status.ensures.out_count c.deliver_translation-status.ensures.note_count
+    (λ wanting. record {
+      answer = status_of Memory;
+      out_text = text_of Memory;
+      note_text = note_of Memory;
+      answers = (refl, refl);
+      begins = c.translation_of.ensures.front_begun;
+      delivered = wanting;
+    })
+    c.deliver_translation-status.ensures.delivered in
+    outputs-Promise own c.deliver_translation-status.result outputs c.in-Ok.ensures.told_kept c.in-Ok.ensures.count c.deliver_translation-status.ensures.out_count c.deliver_translation-status.ensures.note_count
 
 pub returns-in-Err : goal.returns-in-Err
 returns-in-Err g c =

@@ -10,7 +10,7 @@ use Rattle.module_spec.specs.Image.{image}
 use Rattle.run_laws.specs.Named.{HasNames}
 use Rattle.bridge_spec.specs.Texts.{module_bounds, written_bounds}
 use Rattle.translate_rule.specs.ItemViews.{run_of}
-use Rattle.bridge_translate.proofs.Runs.{run-sound, run-named, module-shallow}
+use Rattle.bridge_translate.proofs.Runs.{run-sound, run-named}
 use Rattle.bridge_translate.proofs.translation.translated.Goals as goal
 
 pub module-requires-clause-sound : goal.module-requires-clause-sound
@@ -36,7 +36,6 @@ returns-in-Ok c =
       held = c.in_ok-made.ensures.held;
       declared = declared;
       bounds = bounds;
-      shallow = module-shallow c.requires.0 _ run c.requires.1 c.in_ok-made.made declared;
       counts = λ i. record {
         articles = sym (length-map c.args.files.now string_bytes) i;
         assumptions = length (c.assumptions-assumptions.ensures.numbers i);

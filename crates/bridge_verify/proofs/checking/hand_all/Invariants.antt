@@ -9,5 +9,6 @@ abbrev pub invariant-loop-i : goal.invariant-loop-i
 invariant-loop-i l = record {
   fed : IsFed l.reader (text_before (declarations_of l.fn.translation.module) l.fn.translation.bounds.items l.i);
   free : l.reader.limit ≡ None;
+  room : l.path.room ≡ l.fn.path.room;
   empty : l.text.contents ≡ [];
 }

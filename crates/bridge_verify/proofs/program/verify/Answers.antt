@@ -1,4 +1,4 @@
-use Rattle.std.proofs.Common.{◌++◌, codes, length, Some, sym, ap, subst, refl}
+use Rattle.std.proofs.Common.{◌++◌, codes, length, Some, sym, ap, subst, refl, ⊎_elim}
 use Rattle.lp_spec.specs.Text.{written}
 use Rattle.holide_sig.specs.Modules.{declarations_of}
 use Rattle.headline_laws.specs.Headlines.{each_run_carries}
@@ -8,6 +8,8 @@ use Rattle.bridge_spec.specs.Forms.{verify}
 use Rattle.bridge_spec.specs.Calls.{call, shelved, sunk, names_in}
 use Rattle.bridge_spec.specs.Texts.{five_lines}
 use Rattle.bridge_spec.specs.declared.status.Status.TheVariants.{Done}
+use Rattle.bridge_spec.specs.Outputs.{Outputs}
+use Rattle.bridge_answer.specs.declared.answer.Answer.TheVariants.{Memory}
 use Rattle.bridge_answer.specs.AnswerTexts.{status_of, text_of, note_of}
 use Rattle.bridge_answer.specs.Promised.{outputs-Promise}
 use Rattle.bridge_reading.specs.StopAnswers.{stop-AnswersVerify, stop-BeginsFiles}
@@ -30,18 +32,26 @@ returns-in-Ok-check_back g c =
     let t = c.in-Ok.ensures.translated in
     let names = names_in c.args.files.now in
     let made = c.in-Ok.translation in
-    outputs-Promise
-    (call (Some (verify names)) (shelved g.H.Shelf.told g.H.Shelf.faults g.H.Shelf.begun c.args.shelf.now c.translation_of.new.shelf) (sunk g.O.Sink.got g.O.Sink.faults c.args.out.now c.deliver_verified.new.out) (sunk g.N.Sink.got g.N.Sink.faults c.args.note.now c.deliver_verified.new.note))
-    c.deliver_verified.result
-    (record {
+    let own = call (Some (verify names)) (shelved g.H.Shelf.told g.H.Shelf.faults g.H.Shelf.begun c.args.shelf.now c.translation_of.new.shelf) (sunk g.O.Sink.got g.O.Sink.faults c.args.out.now c.deliver_verified.new.out) (sunk g.N.Sink.got g.N.Sink.faults c.args.note.now c.deliver_verified.new.note) in
+    let outputs : Outputs own c.deliver_verified.result = ⊎_elim
+    (λ done. record {
       answer = Done;
       out_text = written (declarations_of made.module) made.bounds.items;
       note_text = five_lines (counts_in made.counts) ++ codes "verified\n";
       answers = (t.0, t.1, written-module_text (length names) t.0 made t.2, ap (λ counts. five_lines counts ++ codes "verified\n") t.2.counts);
       begins = c.in-Ok.ensures.all_begun;
-      delivered = c.deliver_verified.ensures.delivered;
+      delivered = done;
     })
-    c.in-Ok.ensures.told_kept c.in-Ok.ensures.count c.deliver_verified.ensures.out_count c.deliver_verified.ensures.note_count
+    (λ wanting. record {
+      answer = status_of Memory;
+      out_text = text_of Memory;
+      note_text = note_of Memory;
+      answers = (refl, refl);
+      begins = c.translation_of.ensures.front_begun;
+      delivered = wanting;
+    })
+    c.deliver_verified.ensures.delivered in
+    outputs-Promise own c.deliver_verified.result outputs c.in-Ok.ensures.told_kept c.in-Ok.ensures.count c.deliver_verified.ensures.out_count c.deliver_verified.ensures.note_count
 
 pub returns-in-Ok : goal.returns-in-Ok
 returns-in-Ok g c =

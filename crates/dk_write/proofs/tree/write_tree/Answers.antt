@@ -1,4 +1,4 @@
-use Rattle.std.proofs.Common.{arith}
+use Rattle.std.proofs.Common.{arith, ◌∙◌}
 use Rattle.dk_write.proofs.GainedLaws.{gained_both, writes_failed}
 use Rattle.dk_write.proofs.tree.write_tree.Goals as goal
 
@@ -22,6 +22,7 @@ loop-turn-preserved-in_ok-turn-in-Write g c =
     record {
       turn = c.in_ok-turn-in-Write.ensures.turn;
       frames = c.in_ok-turn-in-Write.ensures.frames;
+      room = c.write_place.ensures.room ∙ c.loop-turn.invariant.room;
       text = gained_both _ _ _ _ _ _ before c.in_ok-turn-in-Write.ensures.ok;
       later = omega (arith, c.loop-turn.invariant.later, c.in_ok-turn-in-Write.ensures.cause.later);
     }
@@ -34,6 +35,7 @@ loop-turn-preserved g c =
     record {
       turn = c.in_ok-turn-in-Some.ensures.turn;
       frames = c.in_ok-turn-in-Some.ensures.frames;
+      room = c.write_frame.ensures.room ∙ c.pop.ensures.room ∙ c.loop-turn.invariant.room;
       text = gained_both _ _ _ _ _ _ before c.in_ok-turn-in-Some.ensures.ok;
       later = omega (arith, c.loop-turn.invariant.later, c.in_ok-turn-in-Some.ensures.cause.later);
     }

@@ -1,4 +1,4 @@
-use Rattle.std.proofs.Common.{◌≤◌, ◌++◌}
+use Rattle.std.proofs.Common.{◌≡◌, ◌≤◌, ◌++◌}
 use Rattle.lp_spec.specs.Text.{tree_text}
 use Rattle.lp_term.specs.Tables.{tree_at}
 use Rattle.holide_sig.specs.Modules.{declarations_of}
@@ -9,11 +9,12 @@ use Rattle.dk_write.proofs.tree.write_tree.Given as goal
 -- what is left are the bytes gathered and what the turn and the path write
 abbrev pub invariant-loop-turn : goal.invariant-loop-turn
 invariant-loop-turn g l = record {
-  turn : IsTurn g.row.MOST l.source.table l.path l.turn;
-  frames : AreFrames g.row.MOST l.source.table l.path;
-  text : Gained (g.S.Sink.got l.fn.sink) (l.fn.gathered ++ tree_text (declarations_of l.fn.source) 0 (tree_at l.fn.source.table l.fn.id.0)) (l.gathered ++ left_text l.source l.turn l.path) (g.S.Sink.got l.sink);
+  turn : IsTurn l.path.room l.source.table l.path.frames l.turn;
+  frames : AreFrames l.path.room l.source.table l.path.frames;
+  text : Gained (g.S.Sink.got l.fn.sink) (l.fn.gathered ++ tree_text (declarations_of l.fn.source) 0 (tree_at l.fn.source.table l.fn.id.0)) (l.gathered ++ left_text l.source l.turn l.path.frames) (g.S.Sink.got l.sink);
+  room : l.path.room ≡ l.fn.path.room;
   later : g.S.Sink.faults l.fn.sink ≤ g.S.Sink.faults l.sink;
 }
 
 abbrev pub decreases-loop-turn : goal.decreases-loop-turn
-decreases-loop-turn g l = work l.source.table l.turn l.path
+decreases-loop-turn g l = work l.source.table l.turn l.path.frames

@@ -1,11 +1,9 @@
-use Rattle.std.proofs.Common.{◌∙◌, ◌++◌, sym, arith, Some, length-append}
-use Rattle.std.proofs.lemmas.Result.{on_ok_weaker}
-use Rattle.lp_spec.specs.declared.form.Form.TheVariants.{Thm}
+use Rattle.std.proofs.Common.{◌∙◌, ◌++◌, sym, arith, length-append}
 use Rattle.lp_spec.specs.Modules.{signature}
 use Rattle.lp_term.specs.TableLaws.{Keeps-trans}
 use Rattle.holide_sig.specs.Modules.{declarations_of}
 use Rattle.holide_sig.specs.ModuleLaws.{IsHeld-Keeps, symbol_number-None}
-use Rattle.dk_write_tests.proofs.Defined.{may_state, no_some, AreShallow-Keeps, pushed_shallow}
+use Rattle.dk_write_tests.proofs.Defined.{may_state, no_some}
 use Rattle.dk_write_tests.proofs.stated.push_theorem.Goals as goal
 
 pub push-requires-clause-held : goal.push-requires-clause-held
@@ -17,12 +15,3 @@ push-requires-clause-follows c =
     may_state (signature ++ ds) c.tree_of-2.new.table c.new-name.result c.args.name.now c.in_ok-ty.ty c.in_ok-body.body
     (omega (arith, length-append signature ds)) (symbol_number-None ds c.args.name.now (sym c.find.ensures ∙ no_some c.find.result c.if-is_some.ensures))
     (c.new-name.ensures ∙ c.in_ok-from_slice.ensures.items) c.if-not-may_stand.ensures.over c.if-not-may_stand-2.ensures.over
-
-pub returns-clause-shallow : goal.returns-clause-shallow
-returns-clause-shallow c =
-    let old = AreShallow-Keeps (Keeps-trans c.tree_of.ensures.keeps c.tree_of-2.ensures.keeps) c.args.into.now.decls c.requires.held.decls c.requires.shallow in
-    on_ok_weaker c.push.result
-    (pushed_shallow c.tree_of-2.new.table c.push.new.self.table c.args.into.now.decls c.push.new.self.decls
-    (record { name = c.new-name.result; form = Thm; ty = c.in_ok-ty.ty; body = Some c.in_ok-body.body }) c.push.ensures.table old
-    (record { ty = c.if-not-may_stand.ensures.shallow; body = c.if-not-may_stand-2.ensures.shallow }))
-    c.push.ensures.ok

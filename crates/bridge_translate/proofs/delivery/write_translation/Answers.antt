@@ -6,7 +6,7 @@ use Rattle.bridge_spec.specs.Texts.{five_lines}
 use Rattle.bridge_spec.specs.declared.status.Status.TheVariants.{Done}
 use Rattle.bridge_answer.specs.Delivered.{of_err, of_ok, told_of_fault, output_stopped, note_stopped, both_written}
 use Rattle.bridge_translate.specs.Translations.{counts_in}
-use Rattle.bridge_translate.proofs.delivery.deliver_translation.Goals as goal
+use Rattle.bridge_translate.proofs.delivery.write_translation.Goals as goal
 
 pub returns-then-is_err-clause-delivered : goal.returns-then-is_err-clause-delivered
 returns-then-is_err-clause-delivered g c =
