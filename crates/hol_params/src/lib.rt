@@ -2,8 +2,8 @@
 //!
 //! A memo notes of each type and each term of a table which type variables and which free variables it has. A call notes what has come into the
 //! table since the call before, from the lowest number up, so that the parts of a term are noted before it, and then reads what is asked.
-//! Lists of variables are kept by number and shared: a term has the list of its function where its argument adds nothing. A list of more than
-//! 1,024 variables isn't kept: what has so many is walked anew, each time that it is asked for.
+//! Lists of variables are kept by number and shared: a term has the list of its function where its argument adds nothing. A long
+//! list, of more than 1,024 variables, isn't kept: what has so many is walked anew, each time that it is asked for.
 //!
 //! So all calls over one table together look at each of its types and terms once, which costs the look-up of each variable of the argument among
 //! those of the function; a call that comes upon nothing new takes the time of the lists that it reads. The table may grow between calls, and is to

@@ -6,9 +6,12 @@ ghost use Rattle.hol_params.specs.Lists.{list_in, HasUnion, IsThere, KeepsLists}
 
 use crate::numbers::Numbers;
 use bridge_base::Memory;
-use hol_spec::GREATEST_PARAMETER_COUNT;
 use std::alloc::Global;
 use std::marker::Model;
+
+// How many numbers a list has at most that is kept. Each term has one, so lists that may be longer, up to the number of parameters that a
+// sequent may have, would take more memory than all else.
+const LONGEST: usize = 1_024;
 
 /// The number of a list. The empty list has 0.
 #[derive(Clone, Copy, PartialEq, Eq)]
@@ -110,7 +113,7 @@ impl Lists {
             return Ok(Some(second));
         }
         let whole = self.whole(first, second)?;
-        if whole.numbers().len() > GREATEST_PARAMETER_COUNT {
+        if whole.numbers().len() > LONGEST {
             return Ok(None);
         }
         Ok(Some(self.push(whole)?))
