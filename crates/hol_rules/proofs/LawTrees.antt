@@ -7,6 +7,11 @@ use Rattle.hol_spec.specs.Types.{HolType, variable}
 use Rattle.hol_spec.specs.Primitives.{bool, function}
 use Rattle.hol_spec.specs.Rules.{abstraction, derived}
 use Rattle.hol_spec.specs.TermBinding.{close}
+use Rattle.hol_spec.specs.Definitions.{TypeNames}
+use Rattle.hol_spec.specs.NewTypes.{new_type, abstraction_type, representation_type}
+use Rattle.hol_spec.specs.TypeDefinitions.{first_law_of, second_law_of}
+use Rattle.hol_spec.specs.declared.Version.{Version}
+use Rattle.hol_spec.specs.declared.Version.TheVariants.{Five, Six}
 use Rattle.hol_spec.specs.Terms.{Term, Variable as AVariable, free, bound, constant, app, equation, variable_eq}
 use Rattle.hol_laws.specs.TermLaws.{variable_eq-Decides}
 use Rattle.hol_type.specs.declared.table.TypeId.{TypeId}
@@ -16,7 +21,7 @@ use Rattle.hol_term.specs.declared.TermId.{TermId}
 use Rattle.hol_term.specs.declared.Variable.{Variable}
 use Rattle.hol_term.specs.Tables.{Trees, term_at, terms_at, type_at, AreKnown, Holds, Keeps}
 use Rattle.hol_term.specs.TableLaws.{Keeps-refl, Keeps-trans, term_in-Stays, Some-term_in}
-use Rattle.hol_rules.specs.Laws.{first_tree, second_tree, IsTypeOf, IsWithoutVariables}
+use Rattle.hol_rules.specs.Laws.{first_tree, first_tree_of, second_tree, second_tree_of, IsTypeOf, IsWithoutVariables}
 use Rattle.hol_rules.specs.Premises.{IsNumberOf, IsStated}
 use Rattle.hol_rules.specs.Views.{variable_view}
 use Rattle.hol_rules.proofs.ClosedTerms.{close_at-closed}
@@ -106,3 +111,14 @@ IfOk-abstracted a b v w f x (Err u) ty T F X e s m n t q h = tt
 -- a law without hypotheses
 pub law-stated : (trees : Trees) (hyps : List TermId) (concl : TermId) (t : Term) → hyps ≡ [] → IsNumberOf trees concl t → IsStated trees (record { hyps = hyps; concl = concl }) (derived [] t)
 law-stated trees hyps concl t e n = record { known = (subst (AreKnown trees) (sym e) (tt {0}), n.known); is = λ i. record { hypotheses = terms_at trees (e i); conclusion = n.is i } }
+
+-- the laws in an article of a version, by their trees
+pub first_tree_of-law : (version : Version) (names : TypeNames) (c : HolType)
+    → derived [] (first_tree_of version names.abstraction names.representation (new_type names) (abstraction_type names c) (representation_type names c)) ≡ first_law_of version names c
+first_tree_of-law Five names c = refl
+first_tree_of-law Six names c = refl
+
+pub second_tree_of-law : (version : Version) (names : TypeNames) (c : HolType) (f : Term)
+    → derived [] (second_tree_of version names.abstraction names.representation c (abstraction_type names c) (representation_type names c) f) ≡ second_law_of version names c f
+second_tree_of-law Five names c f = refl
+second_tree_of-law Six names c f = refl

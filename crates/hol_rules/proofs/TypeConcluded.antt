@@ -10,8 +10,9 @@ use Rattle.hol_spec.specs.Definitions.{TypeNames}
 use Rattle.hol_spec.specs.Limits.{greatest_parameter_count}
 use Rattle.hol_spec.specs.Sequents.{parameter_count}
 use Rattle.hol_spec.specs.Terms.{Term}
-use Rattle.hol_spec.specs.TypeDefinitions.{first_law, second_law}
+use Rattle.hol_spec.specs.TypeDefinitions.{first_law_of, second_law_of}
 use Rattle.hol_spec.specs.Types.{HolType}
+use Rattle.hol_spec.specs.declared.Version.{Version}
 use Rattle.article_spec.specs.Conditions.{demand, in_limits}
 use Rattle.article_spec.specs.Results.{◌>>◌, Fails}
 use Rattle.hol_term.specs.Tables.{term_at, type_at, Keeps}
@@ -41,53 +42,53 @@ refused-type g rule (Err e) fault h f = refuses-type g rule e (subst (λ w. Fail
 pub Grows-made : {a b c : Kept} → Grows a b → Keeps b.trees c.trees → c.made ≡ b.made → Grows a c
 Grows-made g k e = record { trees = Keeps-trans g.trees k; made = e ∙ g.made }
 
-pub laws-grown : {k mid : Kept} (g : Grows k mid) (names : TypeNames) (i : ℕ) (parts : TypeParts) (h : AreTypeParts k names i parts) (laws : Laws) → AreLaws mid.trees names (type_at k.trees parts.whole.0) (term_at k.trees parts.predicate.0) laws
-    → AreLaws mid.trees names (type_at mid.trees parts.whole.0) (term_at mid.trees parts.predicate.0) laws
-laws-grown {mid = mid} g names i parts h laws l = subst (λ (p : HolType × Term). AreLaws mid.trees names p.0 p.1 laws) (λ t. (sym (whole-grown g names i parts h) t, sym (predicate-grown g names i parts h) t)) l
+pub laws-grown : {k mid : Kept} (g : Grows k mid) (names : TypeNames) (i : ℕ) (parts : TypeParts) (h : AreTypeParts k names i parts) (version : Version) (laws : Laws) → AreLaws version mid.trees names (type_at k.trees parts.whole.0) (term_at k.trees parts.predicate.0) laws
+    → AreLaws version mid.trees names (type_at mid.trees parts.whole.0) (term_at mid.trees parts.predicate.0) laws
+laws-grown {mid = mid} g names i parts h version laws l = subst (λ (p : HolType × Term). AreLaws version mid.trees names p.0 p.1 laws) (λ t. (sym (whole-grown g names i parts h) t, sym (predicate-grown g names i parts h) t)) l
 
-module _ (k : Kept) (names : TypeNames) (i : ℕ) (parts : TypeParts) (h : AreTypeParts k names i parts) where
+module _ (version : Version) (k : Kept) (names : TypeNames) (i : ℕ) (parts : TypeParts) (h : AreTypeParts k names i parts) where
   abbrev c : HolType
   c = type_at k.trees parts.whole.0
 
   abbrev f : Term
   f = term_at k.trees parts.predicate.0
 
-  limits : type_laws k.made names i ≡ (in_limits (type_measures names c f) >> Ok (made_of_type names i c f))
-  limits = type-limits k names i parts h
+  limits : type_laws version k.made names i ≡ (in_limits (type_measures version names c f) >> Ok (made_of_type version names i c f))
+  limits = type-limits version k names i parts h
 
   -- a limit is passed
-  pub limit-fails : (fault : Fault) → Fails fault (in_limits (type_measures names c f)) → Fails fault (type_laws k.made names i)
+  pub limit-fails : (fault : Fault) → Fails fault (in_limits (type_measures version names c f)) → Fails fault (type_laws version k.made names i)
   limit-fails Memory e = tt
-  limit-fails (Refused kind) e = limits ∙ ap (λ r. r >> Ok (made_of_type names i c f)) e
+  limit-fails (Refused kind) e = limits ∙ ap (λ r. r >> Ok (made_of_type version names i c f)) e
 
-  module _ (small : AreSmall (type_measures names c f)) (mid : Kept) (g : Grows k mid) (laws : Laws) (l : AreLaws mid.trees names c f laws) where
+  module _ (small : AreSmall (type_measures version names c f)) (mid : Kept) (g : Grows k mid) (laws : Laws) (l : AreLaws version mid.trees names c f laws) where
     counts : (nat_le (parameter_count (sequent_at mid.trees laws.first)) greatest_parameter_count && nat_le (parameter_count (sequent_at mid.trees laws.second)) greatest_parameter_count)
-        ≡ (nat_le (parameter_count (first_law names c)) greatest_parameter_count && nat_le (parameter_count (second_law names c f)) greatest_parameter_count)
+        ≡ (nat_le (parameter_count (first_law_of version names c)) greatest_parameter_count && nat_le (parameter_count (second_law_of version names c f)) greatest_parameter_count)
     counts = ap₂ (λ s t. nat_le (parameter_count s) greatest_parameter_count && nat_le (parameter_count t) greatest_parameter_count) l.first.is l.second.is
 
     abbrev are_few : Bool
     are_few = nat_le (parameter_count (sequent_at mid.trees laws.first)) greatest_parameter_count && nat_le (parameter_count (sequent_at mid.trees laws.second)) greatest_parameter_count
 
-    counted : in_limits (type_measures names c f) ≡ demand are_few TooManyParams
-    counted = measures-counted names c f small ∙ ap (λ d. demand d TooManyParams) (sym counts)
+    counted : in_limits (type_measures version names c f) ≡ demand are_few TooManyParams
+    counted = measures-counted names c f version small ∙ ap (λ d. demand d TooManyParams) (sym counts)
 
     -- the number of parameters is judged last
-    pub type-many : (fault : Fault) → Fails fault (demand are_few TooManyParams) → Fails fault (type_laws k.made names i)
+    pub type-many : (fault : Fault) → Fails fault (demand are_few TooManyParams) → Fails fault (type_laws version k.made names i)
     type-many fault e = limit-fails fault (subst (Fails fault) (sym counted) e)
 
     -- within the limits
-    pub type-is : are_few ≡ true → type_laws k.made names i ≡ Ok (made_of_type names i c f)
-    type-is e = limits ∙ ap (λ r. r >> Ok (made_of_type names i c f)) (counted ∙ ap (λ d. demand d TooManyParams) e)
+    pub type-is : are_few ≡ true → type_laws version k.made names i ≡ Ok (made_of_type version names i c f)
+    type-is e = limits ∙ ap (λ r. r >> Ok (made_of_type version names i c f)) (counted ∙ ap (λ d. demand d TooManyParams) e)
 
     -- what is concluded there
-    pub type-ended : (new : Kept) (ids : ℕ × ℕ) → (ids.0 ≡ step_count mid) × (ids.1 ≡ step_count mid + 1) → new.made ≡ with_type mid.made (made_of_type names i (type_at mid.trees parts.whole.0) (term_at mid.trees parts.predicate.0)) → Keeps mid.trees new.trees
-        → type_laws k.made names i ≡ Ok (made_of_type names i c f) → DefinesType k (type_laws k.made names i) new (Ok ids)
+    pub type-ended : (new : Kept) (ids : ℕ × ℕ) → (ids.0 ≡ step_count mid) × (ids.1 ≡ step_count mid + 1) → new.made ≡ with_type mid.made (made_of_type version names i (type_at mid.trees parts.whole.0) (term_at mid.trees parts.predicate.0)) → Keeps mid.trees new.trees
+        → type_laws version k.made names i ≡ Ok (made_of_type version names i c f) → DefinesType k (type_laws version k.made names i) new (Ok ids)
     type-ended new ids n made keeps is = record {
-      concluded = (n.0 ∙ ap (λ m. step_count (record { trees = k.trees; made = m })) g.made, (n.1 ∙ ap (λ m. step_count (record { trees = k.trees; made = m }) + 1) g.made, (made_of_type names i c f, is, made ∙ same)));
+      concluded = (n.0 ∙ ap (λ m. step_count (record { trees = k.trees; made = m })) g.made, (n.1 ∙ ap (λ m. step_count (record { trees = k.trees; made = m }) + 1) g.made, (made_of_type version names i c f, is, made ∙ same)));
       refused = tt;
       unchanged = tt;
       keeps = Keeps-trans g.trees keeps;
     }
       where
-        same : with_type mid.made (made_of_type names i (type_at mid.trees parts.whole.0) (term_at mid.trees parts.predicate.0)) ≡ with_type k.made (made_of_type names i c f)
-        same = λ t. with_type (g.made t) (made_of_type names i (whole-grown g names i parts h t) (predicate-grown g names i parts h t))
+        same : with_type mid.made (made_of_type version names i (type_at mid.trees parts.whole.0) (term_at mid.trees parts.predicate.0)) ≡ with_type k.made (made_of_type version names i c f)
+        same = λ t. with_type (g.made t) (made_of_type version names i (whole-grown g names i parts h t) (predicate-grown g names i parts h t))

@@ -16,6 +16,7 @@ use Rattle.hol_spec.specs.TypeDefinitions.{are_type_variables_of}
 use Rattle.hol_spec.specs.Sequents.{Sequent as ASequent}
 use Rattle.hol_spec.specs.Symbols.{Symbol}
 use Rattle.hol_spec.specs.Taking.{AreNew}
+use Rattle.hol_spec.specs.declared.Version.{Version}
 use Rattle.hol_spec.specs.Proofs.{Made, symbols_of, sequent_at}
 use Rattle.article_spec.specs.Results.{◌>>◌, Fails}
 use Rattle.article_spec.specs.Conditions.{demand, in_limits}
@@ -66,21 +67,21 @@ module _ (made : List Made) (names : TypeNames) (i : ℕ) where
   concl = (sequent_at made i).conclusion
 
   -- where the conclusion is no application
-  pub without_application : application_parts concl ≡ None → type_laws made names i ≡ Err (if are_new (symbols_of made) names then NotTheSequent else NameTaken)
-  without_application e = rw e (go (are_new (symbols_of made) names) (nat_eq (length (sequent_at made i).hypotheses) 0))
+  pub without_application : (version : Version) → application_parts concl ≡ None → type_laws version made names i ≡ Err (if are_new (symbols_of made) names then NotTheSequent else NameTaken)
+  without_application version e = rw e (go (are_new (symbols_of made) names) (nat_eq (length (sequent_at made i).hypotheses) 0))
     where
       go : (b h : Bool) → ◌≡◌ {A = Result NewType Kind} (demand b NameTaken >> (Ok (tt {0}) >> (demand h NotTheSequent >> Err NotTheSequent))) (Err (if b then NotTheSequent else NameTaken))
       go false h = refl
       go true true = refl
       go true false = refl
 
-  pub default-fails : (fault : Fault) → fault ≡ Refused (if are_new (symbols_of made) names then NotTheSequent else NameTaken) → application_parts concl ≡ None → Fails fault (type_laws made names i)
-  default-fails fault e none = subst (λ g. Fails g (type_laws made names i)) (sym e) (without_application none)
+  pub default-fails : (version : Version) (fault : Fault) → fault ≡ Refused (if are_new (symbols_of made) names then NotTheSequent else NameTaken) → application_parts concl ≡ None → Fails fault (type_laws version made names i)
+  default-fails version fault e none = subst (λ g. Fails g (type_laws version made names i)) (sym e) (without_application version none)
 
   module _ (f t : Term) (is : concl ≡ app f t) where
-    pub type-fails : (fault : Fault) → Refuses fault (operator_fault (symbols_of made) names f) → Fails fault (type_laws made names i)
-    type-fails Memory h = tt
-    type-fails (Refused k) h = rw is (three-refused (are_new (symbols_of made) names) (is_closed f) (are_type_variables_of names.variables f) _ k h)
+    pub type-fails : (version : Version) (fault : Fault) → Refuses fault (operator_fault (symbols_of made) names f) → Fails fault (type_laws version made names i)
+    type-fails version Memory h = tt
+    type-fails version (Refused k) h = rw is (three-refused (are_new (symbols_of made) names) (is_closed f) (are_type_variables_of names.variables f) _ k h)
 
     module _ (none : operator_fault (symbols_of made) names f ≡ None) where
       holds : (are_new (symbols_of made) names ≡ true) × ((is_closed f ≡ true) × (are_type_variables_of names.variables f ≡ true))
@@ -95,8 +96,8 @@ module _ (made : List Made) (names : TypeNames) (i : ℕ) where
       pub type-variables : are_type_variables_of names.variables f ≡ true
       type-variables = holds.1.1
 
-      pub type-hypotheses : nat_eq (length (sequent_at made i).hypotheses) 0 ≡ false → type_laws made names i ≡ Err NotTheSequent
-      type-hypotheses e = rw (is, holds.0, holds.1.0, holds.1.1, e) refl
+      pub type-hypotheses : (version : Version) → nat_eq (length (sequent_at made i).hypotheses) 0 ≡ false → type_laws version made names i ≡ Err NotTheSequent
+      type-hypotheses version e = rw (is, holds.0, holds.1.0, holds.1.1, e) refl
 
 -- the parts of a view that is no application
 pub no-application : (trees : Trees) (v : TermView) → ((f x : TermId) → v ≡ view.App f x → ⊥) → application_parts (tree_of_view trees v) ≡ None
@@ -129,6 +130,6 @@ module _ (k : Kept) (i : ℕ) (s : Sequent) (ids : List TermId) (e : numbers.seq
       none (t ∷ ts) h = absurd (omega (arith, h))
 
 -- what is left to be judged are the limits
-pub type-limits : (k : Kept) (names : TypeNames) (i : ℕ) (parts : TypeParts) → AreTypeParts k names i parts
-    → type_laws k.made names i ≡ (in_limits (type_measures names (type_at k.trees parts.whole.0) (term_at k.trees parts.predicate.0)) >> Ok (made_of_type names i (type_at k.trees parts.whole.0) (term_at k.trees parts.predicate.0)))
-type-limits k names i parts h = rw (h.holds, h.no_hypotheses, h.typed, h.new.operator, h.new.abstraction, h.new.representation, h.new.apart, h.closed, h.variables) refl
+pub type-limits : (version : Version) (k : Kept) (names : TypeNames) (i : ℕ) (parts : TypeParts) → AreTypeParts k names i parts
+    → type_laws version k.made names i ≡ (in_limits (type_measures version names (type_at k.trees parts.whole.0) (term_at k.trees parts.predicate.0)) >> Ok (made_of_type version names i (type_at k.trees parts.whole.0) (term_at k.trees parts.predicate.0)))
+type-limits version k names i parts h = rw (h.holds, h.no_hypotheses, h.typed, h.new.operator, h.new.abstraction, h.new.representation, h.new.apart, h.closed, h.variables) refl

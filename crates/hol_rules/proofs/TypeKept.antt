@@ -12,7 +12,9 @@ use Rattle.hol_spec.specs.Definitions.{Definition, TypeNames}
 use Rattle.hol_spec.specs.Defining.{is_closed}
 use Rattle.hol_spec.specs.Derivations.{type_definition_in}
 use Rattle.hol_spec.specs.Primitives.{bool, function}
-use Rattle.hol_spec.specs.TypeDefinitions.{are_type_variables_of, first_law, second_law, IsTypeDefinition}
+use Rattle.hol_spec.specs.TypeDefinitions.{are_type_variables_of, first_law_of, second_law_of, IsTypeDefinition}
+use Rattle.hol_spec.specs.declared.Version.{Version}
+use Rattle.hol_spec.specs.declared.Version.TheVariants.{Five, Six}
 use Rattle.hol_spec.specs.Symbols.{Symbol}
 use Rattle.hol_spec.specs.Taking.{AreNew}
 use Rattle.hol_spec.specs.Taking as taking
@@ -62,6 +64,15 @@ used : (m : List Made) (names : TypeNames) (c : HolType) (f u p : Term) → p �
 used m names c f u p is h k =
     subst (λ q. AllByRecursion (IsAmong (definitions_of m)) (type_definition_in names q)) (sym is)
     (subst (λ o. AllByRecursion (IsAmong (definitions_of m)) (option_to_list (option_map (λ c. Definition.type_operator names c f) o))) (sym h) (k, tt {0}))
+
+-- a law in an article of a version follows by its rule
+first_rule : (version : Version) (names : TypeNames) (c : HolType) (f : Term) (one : Sequent) → IsTypeDefinition names c f one → rule.Rule FirstLaw (one ∷ []) (rule.Parameters.type_operator names version) (first_law_of version names c)
+first_rule Five names c f one d = rule.Rule.first_law_free d refl
+first_rule Six names c f one d = rule.Rule.first_law d refl
+
+second_rule : (version : Version) (names : TypeNames) (c : HolType) (f : Term) (one : Sequent) → IsTypeDefinition names c f one → rule.Rule SecondLaw (one ∷ []) (rule.Parameters.type_operator names version) (second_law_of version names c f)
+second_rule Five names c f one d = rule.Rule.second_law_free d refl
+second_rule Six names c f one d = rule.Rule.second_law d refl
 
 -- the parts stay where types and terms come
 module _ {a b : Kept} (g : Grows a b) (names : TypeNames) (i : ℕ) (parts : TypeParts) (h : AreTypeParts a names i parts) where
@@ -132,31 +143,31 @@ module _ (k : Kept) (proof : IsProof k.made) (names : TypeNames) (i : ℕ) (l : 
   premise : slice_get (sequents_of taken) i ≡ Some one_sequent
   premise = premise-more k.made (made ∷ []) i one_sequent (at_step k.made i l)
 
-  pub first-follows : IsStep taken (made_of_type names i c f).first
-  first-follows = record {
+  pub first-follows : (version : Version) → IsStep taken (made_of_type version names i c f).first
+  first-follows version = record {
     premises = one_sequent ∷ [];
     earlier = (premise, tt {0});
-    follows = record { rule = rule.Rule.first_law definition refl; defined = used taken names c f h.witness one_sequent.conclusion h.holds h.typed among };
+    follows = record { rule = first_rule version names c f one_sequent definition; defined = used taken names c f h.witness one_sequent.conclusion h.holds h.typed among };
     law = record { c = c; f = f; number = i; among = among-last k.made made; is = refl };
   }
 
-  abbrev more : List Made
-  more = taken ++ Made.step (made_of_type names i c f).first ∷ []
+  abbrev more : Version → List Made
+  more version = taken ++ Made.step (made_of_type version names i c f).first ∷ []
 
-  pub second-follows : IsStep more (made_of_type names i c f).second
-  second-follows = record {
+  pub second-follows : (version : Version) → IsStep (more version) (made_of_type version names i c f).second
+  second-follows version = record {
     premises = one_sequent ∷ [];
-    earlier = (premise-more taken (Made.step (made_of_type names i c f).first ∷ []) i one_sequent premise, tt {0});
+    earlier = (premise-more taken (Made.step (made_of_type version names i c f).first ∷ []) i one_sequent premise, tt {0});
     follows = record {
-      rule = rule.Rule.second_law definition refl;
-      defined = used more names c f h.witness one_sequent.conclusion h.holds h.typed (subst (λ es. IsAmong es d) (sym (definitions_of-append taken (Made.step (made_of_type names i c f).first ∷ []))) (among-front (definitions_of taken) [] d among));
+      rule = second_rule version names c f one_sequent definition;
+      defined = used (more version) names c f h.witness one_sequent.conclusion h.holds h.typed (subst (λ es. IsAmong es d) (sym (definitions_of-append taken (Made.step (made_of_type version names i c f).first ∷ []))) (among-front (definitions_of taken) [] d among));
     };
-    law = record { c = c; f = f; number = i; among = among-front taken (Made.step (made_of_type names i c f).first ∷ []) made (among-last k.made made); is = refl };
+    law = record { c = c; f = f; number = i; among = among-front taken (Made.step (made_of_type version names i c f).first ∷ []) made (among-last k.made made); is = refl };
   }
 
 -- the step of a law, of what its numbers stand for
-module _ (trees : Trees) (kind : StepKind) (i : ℕ) (names : TypeNames) (s : OneSequent) (t : Sequent) (x : OneStep) (law : IsLawStep kind names i s x) (n : IsStated trees s t) where
-  law_step-is : step_view trees x ≡ step_by kind (i ∷ []) (rule.Parameters.type_operator names) t
+module _ (version : Version) (trees : Trees) (kind : StepKind) (i : ℕ) (names : TypeNames) (s : OneSequent) (t : Sequent) (x : OneStep) (law : IsLawStep version kind names i s x) (n : IsStated trees s t) where
+  law_step-is : step_view trees x ≡ step_by kind (i ∷ []) (rule.Parameters.type_operator names version) t
   law_step-is = λ j. record { kind = law.by_rule j; premises = law.premise j; parameters = law.given trees j; sequent = (ap (numbers.sequent_at trees) law.says ∙ n.is) j }
 
   law_step-known : IsStepKnown trees x
@@ -167,8 +178,8 @@ pub take-two : {A : Type 0} (xs : List A) (x y : A) → take (length xs) ((xs ++
 take-two [] x y = refl
 take-two (z ∷ xs) x y = ap (λ l. z ∷ l) (take-two xs x y)
 
-module _ (a b : Trees) (k : Keeps a b) (symbols after : List Taken) (xs : List OneStep) (ms : List OneMade) {memo : ParamMemo} (h : IsKept a symbols xs ms memo) (names : TypeNames) (i : ℕ) (l : i < length (steps_of (made_view a symbols xs ms))) (parts : TypeParts)
-    (p : AreTypeParts (record { trees = a; made = made_view a symbols xs ms }) names i parts) (laws : Laws) (s : AreLaws a names (type_at a parts.whole.0) (term_at a parts.predicate.0) laws) (ys : List OneStep) (q : AreLawSteps names i laws xs ys)
+module _ (version : Version) (a b : Trees) (k : Keeps a b) (symbols after : List Taken) (xs : List OneStep) (ms : List OneMade) {memo : ParamMemo} (h : IsKept a symbols xs ms memo) (names : TypeNames) (i : ℕ) (l : i < length (steps_of (made_view a symbols xs ms))) (parts : TypeParts)
+    (p : AreTypeParts (record { trees = a; made = made_view a symbols xs ms }) names i parts) (laws : Laws) (s : AreLaws version a names (type_at a parts.whole.0) (term_at a parts.predicate.0) laws) (ys : List OneStep) (q : AreLawSteps version names i laws xs ys)
     (is : (f t : Term) (c : HolType) → term_at a parts.concl.0 ≡ app f t → HasType t c → symbols_at b after ≡ symbols_at a symbols ++ Symbol.defined (Definition.type_operator names c f) ∷ []) (known : AreKnownSymbols b after) where
   abbrev now : Kept
   now = record { trees = a; made = made_view a symbols xs ms }
@@ -214,45 +225,45 @@ module _ (a b : Trees) (k : Keeps a b) (symbols after : List Taken) (xs : List O
       IsKept-things b symbols xs ms kept after (new ∷ []) newly (one.TypeOp names.operator i ∷ []) (defined ∷ []) refl known (tt {0}, tt {0}) refl refl refl
       (subst (λ m. IsDefinedBy m names whole predicate i) stays (type-defined now h.proof names i l parts p), tt {0})
 
-  first-is : step_view a q.first ≡ (made_of_type names i whole predicate).first
-  first-is = law_step-is a FirstLaw i names laws.first (first_law names whole) q.first q.first_law s.first
+  first-is : step_view a q.first ≡ (made_of_type version names i whole predicate).first
+  first-is = law_step-is version a FirstLaw i names laws.first (first_law_of version names whole) q.first q.first_law s.first
 
-  second-is : step_view a q.second ≡ (made_of_type names i whole predicate).second
-  second-is = law_step-is a SecondLaw i names laws.second (second_law names whole predicate) q.second q.second_law s.second
+  second-is : step_view a q.second ≡ (made_of_type version names i whole predicate).second
+  second-is = law_step-is version a SecondLaw i names laws.second (second_law_of version names whole predicate) q.second q.second_law s.second
 
   first-known : IsStepKnown a q.first
-  first-known = law_step-known a FirstLaw i names laws.first (first_law names whole) q.first q.first_law s.first
+  first-known = law_step-known version a FirstLaw i names laws.first (first_law_of version names whole) q.first q.first_law s.first
 
   second-known : IsStepKnown a q.second
-  second-known = law_step-known a SecondLaw i names laws.second (second_law names whole predicate) q.second q.second_law s.second
+  second-known = law_step-known version a SecondLaw i names laws.second (second_law_of version names whole predicate) q.second q.second_law s.second
 
-  first-stays : step_view b q.first ≡ (made_of_type names i whole predicate).first
+  first-stays : step_view b q.first ≡ (made_of_type version names i whole predicate).first
   first-stays = sym (step_view-Keeps k q.first first-known) ∙ first-is
 
-  second-stays : step_view b q.second ≡ (made_of_type names i whole predicate).second
+  second-stays : step_view b q.second ≡ (made_of_type version names i whole predicate).second
   second-stays = sym (step_view-Keeps k q.second second-known) ∙ second-is
 
-  first-view : made_view b after (xs ++ q.first ∷ []) noted ≡ (old ++ defined ∷ []) ++ Made.step (made_of_type names i whole predicate).first ∷ []
+  first-view : made_view b after (xs ++ q.first ∷ []) noted ≡ (old ++ defined ∷ []) ++ Made.step (made_of_type version names i whole predicate).first ∷ []
   first-view = made_view-pushed b after xs (ms ++ one.TypeOp names.operator i ∷ []) defined-kept q.first ∙ (λ j. defined-view j ++ Made.step (first-stays j) ∷ [])
 
   first-kept : IsKept b after (xs ++ q.first ∷ []) noted memo
   first-kept =
       IsKept-pushed b after xs (ms ++ one.TypeOp names.operator i ∷ []) defined-kept q.first (IsStepKnown-Keeps k q.first first-known)
-      (subst (λ m. IsStep m (step_view b q.first)) (sym defined-view) (subst (IsStep (old ++ defined ∷ [])) (sym first-stays) (first-follows now h.proof names i l parts p)))
+      (subst (λ m. IsStep m (step_view b q.first)) (sym defined-view) (subst (IsStep (old ++ defined ∷ [])) (sym first-stays) (first-follows now h.proof names i l parts p version)))
 
-  both-view : made_view b after both (noted ++ one.Step (length (xs ++ q.first ∷ [])) ∷ []) ≡ with_type old (made_of_type names i whole predicate)
+  both-view : made_view b after both (noted ++ one.Step (length (xs ++ q.first ∷ [])) ∷ []) ≡ with_type old (made_of_type version names i whole predicate)
   both-view = made_view-pushed b after (xs ++ q.first ∷ []) noted first-kept q.second ∙ (λ j. first-view j ++ Made.step (second-stays j) ∷ [])
 
   both-kept : IsKept b after both (noted ++ one.Step (length (xs ++ q.first ∷ [])) ∷ []) memo
   both-kept =
       IsKept-pushed b after (xs ++ q.first ∷ []) noted first-kept q.second (IsStepKnown-Keeps k q.second second-known)
-      (subst (λ m. IsStep m (step_view b q.second)) (sym first-view) (subst (IsStep ((old ++ defined ∷ []) ++ Made.step (made_of_type names i whole predicate).first ∷ [])) (sym second-stays) (second-follows now h.proof names i l parts p)))
+      (subst (λ m. IsStep m (step_view b q.second)) (sym first-view) (subst (IsStep ((old ++ defined ∷ []) ++ Made.step (made_of_type version names i whole predicate).first ∷ [])) (sym second-stays) (second-follows now h.proof names i l parts p version)))
 
   next : length (xs ++ q.first ∷ []) ≡ length xs + 1
   next = length-append xs (q.first ∷ [])
 
   -- the operator is made, and then the steps
-  pub made_view-type : made_view b after ys (noted ++ one.Step (length xs + 1) ∷ []) ≡ with_type old (made_of_type names i whole predicate)
+  pub made_view-type : made_view b after ys (noted ++ one.Step (length xs + 1) ∷ []) ≡ with_type old (made_of_type version names i whole predicate)
   made_view-type = ap₂ (λ zs n. made_view b after zs (noted ++ one.Step n ∷ [])) q.are (sym next) ∙ both-view
 
   pub IsKept-type : IsKept b after ys (noted ++ one.Step (length xs + 1) ∷ []) memo

@@ -19,10 +19,11 @@ use Rattle.hol_spec.specs.Substitution.{TypePairs}
 use Rattle.hol_spec.specs.Symbols.{is_taken_constant}
 use Rattle.hol_spec.specs.Terms.{Term, Variable, app, term_eq, equation, application_type}
 use Rattle.hol_spec.specs.TermSubstitution.{TermPairs, sub}
-use Rattle.hol_spec.specs.TypeDefinitions.{first_law, second_law}
+use Rattle.hol_spec.specs.TypeDefinitions.{first_law_of, second_law_of}
 use Rattle.hol_spec.specs.Rules.{Parameters, nothing, derived, joined, removed, abstraction, is_free_in}
 use Rattle.hol_spec.specs.Proofs.{Made, Step, symbols_of, sequent_at}
 use Rattle.hol_spec.specs.declared.StepKind.TheVariants as by_rule
+use Rattle.hol_spec.specs.declared.Version.{Version}
 use Rattle.article_spec.specs.Results.{◌>>=◌, ◌>>◌}
 use Rattle.article_spec.specs.Conditions.{demand, in_limits, typed, is_of_type, equation_of, all_bool, follows}
 use Rattle.article_spec.specs.DefiningWords.{application_parts, predicate_fits, are_new_names}
@@ -157,28 +158,29 @@ pub record NewType : Type 0 where
   pub first : Step
   pub second : Step
 
--- the measures of all that it makes
-abbrev pub type_measures : TypeNames → HolType → Term → List Measure
-type_measures names c f =
-    type_measure (new_type names) ∷ type_measure (abstraction_type names c) ∷ type_measure (representation_type names c) ∷ sequent_measure (first_law names c) ∷ sequent_measure (second_law names c f) ∷ []
+-- the measures of all that it makes, in an article of a version
+abbrev pub type_measures : Version → TypeNames → HolType → Term → List Measure
+type_measures version names c f =
+    type_measure (new_type names) ∷ type_measure (abstraction_type names c) ∷ type_measure (representation_type names c) ∷ sequent_measure (first_law_of version names c) ∷ sequent_measure (second_law_of version names c f) ∷ []
 
 -- what is made where the predicate f says which part of the type c the new one is
-abbrev pub made_of_type : TypeNames → ℕ → HolType → Term → NewType
-made_of_type names i c f = record {
+abbrev pub made_of_type : Version → TypeNames → ℕ → HolType → Term → NewType
+made_of_type version names i c f = record {
   definition = Made.type_definition names c f i;
-  first = step_by by_rule.FirstLaw (i ∷ []) (Parameters.type_operator names) (first_law names c);
-  second = step_by by_rule.SecondLaw (i ∷ []) (Parameters.type_operator names) (second_law names c f);
+  first = step_by by_rule.FirstLaw (i ∷ []) (Parameters.type_operator names version) (first_law_of version names c);
+  second = step_by by_rule.SecondLaw (i ∷ []) (Parameters.type_operator names version) (second_law_of version names c f);
 }
 
--- from |- f t, for a new operator N and new constants abs and rep: |- (\a. abs (rep a)) = (\a. a) and |- (\r. rep (abs r) = r) = (\r. f r).
+-- from |- f t, for a new operator N and new constants abs and rep: |- (\a. abs (rep a)) = (\a. a) and |- (\r. rep (abs r) = r) = (\r. f r),
+-- or, in an article of version 5, |- abs (rep a) = a and |- f r = (rep (abs r) = r).
 -- The limits on all that is made come last, every size before any depth.
-abbrev pub type_laws : List Made → TypeNames → ℕ → Result NewType Kind
-type_laws made names i = do
+abbrev pub type_laws : Version → List Made → TypeNames → ℕ → Result NewType Kind
+type_laws version made names i = do
   let one = sequent_at made i
   are_new_names (symbols_of made) names
   predicate_fits names.variables (application_parts one.conclusion)
   demand (nat_eq (length one.hypotheses) 0) NotTheSequent
   (f, t) ← ok_or (application_parts one.conclusion) NotTheSequent
   c ← typed t
-  in_limits (type_measures names c f)
-  Ok (made_of_type names i c f)
+  in_limits (type_measures version names c f)
+  Ok (made_of_type version names i c f)

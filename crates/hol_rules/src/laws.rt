@@ -6,13 +6,14 @@ ghost use Rattle.hol_spec.specs.Terms.{app, constant as constant_tree, equation 
 ghost use Rattle.hol_spec.specs.Types.{operator, types_of, variable as type_variable};
 ghost use Rattle.hol_type.specs.Tables as type;
 ghost use Rattle.hol_term.specs.Tables.{term_at, type_at, Keeps};
-ghost use Rattle.hol_rules.specs.Laws.{first_tree, second_tree, AreKnownTypes, AreNewTypes, IsTypeOf, IsWithoutVariables};
+ghost use Rattle.hol_rules.specs.Laws.{first_tree, first_tree_free, first_tree_of, second_tree, second_tree_free, second_tree_of, AreKnownTypes, AreNewTypes, IsTypeOf, IsWithoutVariables};
 ghost use Rattle.hol_rules.specs.Premises.{IsNumberOf};
 ghost use Rattle.hol_rules.specs.Views.{variable_view};
 
 use crate::definitions::constant_of;
 use bridge_base::Memory;
 use hol_name::Name;
+use hol_spec::Version;
 use hol_term::{TermId, TermTable, Variable};
 use hol_type::TypeId;
 use std::alloc::Global;
@@ -157,16 +158,17 @@ fn abstractions(
     terms.equation(ty, left, right)
 }
 
-// The conclusion of the first law, `(\a. abs (rep a)) = (\a. a)`.
+// The conclusion of the first law in an article of a version, over the variable `a`.
 pub(crate) fn first_law(
     alloc: Global,
     terms: &mut TermTable,
     abs: &Name,
     rep: &Name,
     types: NewTypes,
+    version: Version,
 ) -> Result<TermId, Memory>
     requires { AreKnownTypes terms.old types }
-    ensures made { IfOk result (λ id. IsNumberOf terms.new id (first_tree abs.now rep.now (type_at terms.old types.part.0) (type_at terms.old types.abs.0) (type_at terms.old types.rep.0))) }
+    ensures made { IfOk result (λ id. IsNumberOf terms.new id (first_tree_of version abs.now rep.now (type_at terms.old types.part.0) (type_at terms.old types.abs.0) (type_at terms.old types.rep.0))) }
     ensures keeps { Keeps terms.old terms.new }
 {
     let Ok(name) = Name::single(alloc, b"a") else {
@@ -176,13 +178,37 @@ pub(crate) fn first_law(
         name,
         ty: types.part,
     };
-    let made = first_law_over(alloc, terms, abs, rep, types, &variable);
+    let made = match version {
+        Version::Five => first_law_free(alloc, terms, abs, rep, types, &variable),
+        Version::Six => first_law_closed(alloc, terms, abs, rep, types, &variable),
+    };
     drop(variable);
     made
 }
 
-// The conclusion of the first law, over this variable.
-fn first_law_over(
+// The first law over this variable, `abs (rep a) = a`.
+fn first_law_free(
+    alloc: Global,
+    terms: &mut TermTable,
+    abs: &Name,
+    rep: &Name,
+    types: NewTypes,
+    variable: &Variable,
+) -> Result<TermId, Memory>
+    requires types { AreKnownTypes terms.old types }
+    requires variable { variable.now.ty.0 < length terms.old.types }
+    ensures made { IfOk result (λ id. IsNumberOf terms.new id (first_tree_free abs.now rep.now (variable_view terms.old variable.now) (type_at terms.old types.abs.0) (type_at terms.old types.rep.0))) }
+    ensures keeps { Keeps terms.old terms.new }
+{
+    let Ok(own) = terms.free(&variable.name, variable.ty) else {
+        return Err(Memory);
+    };
+    let both = composed(alloc, terms, abs, types.abs, rep, types.rep, own)?;
+    terms.equation(variable.ty, both, own)
+}
+
+// The first law over abstractions of this variable, `(\a. abs (rep a)) = (\a. a)`.
+fn first_law_closed(
     alloc: Global,
     terms: &mut TermTable,
     abs: &Name,
@@ -203,7 +229,7 @@ fn first_law_over(
     abstractions(terms, variable, both, own, ty)
 }
 
-// The conclusion of the second law, `(\r. rep (abs r) = r) = (\r. f r)`, where f has no free variable.
+// The conclusion of the second law in an article of a version, over the variable `r`, where f has no free variable.
 pub(crate) fn second_law(
     alloc: Global,
     terms: &mut TermTable,
@@ -212,25 +238,55 @@ pub(crate) fn second_law(
     types: NewTypes,
     whole: TypeId,
     predicate: TermId,
+    version: Version,
 ) -> Result<TermId, Memory>
     requires types { AreKnownTypes terms.old types }
     requires whole { whole.0 < length terms.old.types }
     requires predicate { predicate.0 < length terms.old.terms }
     requires closed { IsWithoutVariables (term_at terms.old predicate.0) }
-    ensures made { IfOk result (λ id. IsNumberOf terms.new id (second_tree abs.now rep.now (type_at terms.old whole.0) (type_at terms.old types.abs.0) (type_at terms.old types.rep.0) (term_at terms.old predicate.0))) }
+    ensures made { IfOk result (λ id. IsNumberOf terms.new id (second_tree_of version abs.now rep.now (type_at terms.old whole.0) (type_at terms.old types.abs.0) (type_at terms.old types.rep.0) (term_at terms.old predicate.0))) }
     ensures keeps { Keeps terms.old terms.new }
 {
     let Ok(name) = Name::single(alloc, b"r") else {
         return Err(Memory);
     };
     let variable = Variable { name, ty: whole };
-    let made = second_law_over(alloc, terms, abs, rep, types, &variable, predicate);
+    let made = match version {
+        Version::Five => second_law_free(alloc, terms, abs, rep, types, &variable, predicate),
+        Version::Six => second_law_closed(alloc, terms, abs, rep, types, &variable, predicate),
+    };
     drop(variable);
     made
 }
 
-// The conclusion of the second law, over this variable.
-fn second_law_over(
+// The second law over this variable, `f r = (rep (abs r) = r)`.
+fn second_law_free(
+    alloc: Global,
+    terms: &mut TermTable,
+    abs: &Name,
+    rep: &Name,
+    types: NewTypes,
+    variable: &Variable,
+    predicate: TermId,
+) -> Result<TermId, Memory>
+    requires types { AreKnownTypes terms.old types }
+    requires variable { variable.now.ty.0 < length terms.old.types }
+    requires predicate { predicate.0 < length terms.old.terms }
+    ensures made { IfOk result (λ id. IsNumberOf terms.new id (second_tree_free abs.now rep.now (variable_view terms.old variable.now) (type_at terms.old types.abs.0) (type_at terms.old types.rep.0) (term_at terms.old predicate.0))) }
+    ensures keeps { Keeps terms.old terms.new }
+{
+    let Ok(own) = terms.free(&variable.name, variable.ty) else {
+        return Err(Memory);
+    };
+    let both = composed(alloc, terms, rep, types.rep, abs, types.abs, own)?;
+    let back = terms.equation(variable.ty, both, own)?;
+    let holds = terms.application(predicate, own)?;
+    let truth = truth_type(alloc, terms)?;
+    terms.equation(truth, holds, back)
+}
+
+// The second law over abstractions of this variable, `(\r. rep (abs r) = r) = (\r. f r)`.
+fn second_law_closed(
     alloc: Global,
     terms: &mut TermTable,
     abs: &Name,

@@ -6,7 +6,8 @@
 //! step that it made, or with the first condition that fails, where the limits of size, of depth and of the number of
 //! parameters come last and in this order. After a refusal or want of memory nothing is made, and what had a number keeps
 //! it. A definition, of a constant, of a list of constants or of a type operator, takes its symbols and makes its steps, or
-//! does neither.
+//! does neither. The two laws of a type operator are stated by the version of its article: by equations of abstractions in
+//! version 6, over free variables in version 5.
 //!
 //! What a rule costs, beside the trees that it makes and the step that it keeps (its premises, its sequent and what it was
 //! given): terms are compared by their numbers, whatever their size, and a walk comes once to each part of a term, with a

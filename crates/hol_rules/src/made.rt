@@ -1,6 +1,6 @@
 //! What a proof made, as numbers of its table.
 use hol_name::Name;
-use hol_spec::StepKind;
+use hol_spec::{StepKind, Version};
 use hol_term::{TermId, Variable};
 use hol_type::TypeId;
 use sequent::Sequent;
@@ -44,6 +44,8 @@ pub enum Parameters {
         rep: Name,
         /// The operator's type variables, in their order.
         names: Vec<Name>,
+        /// The version of the article, by which the laws are stated.
+        version: Version,
     },
 }
 

@@ -15,13 +15,14 @@ ghost use Rattle.hol_spec.specs.Sequents.{parameter_count};
 ghost use Rattle.hol_spec.specs.Symbols.{Symbol};
 ghost use Rattle.hol_spec.specs.Terms.{Term, app, HasType};
 ghost use Rattle.hol_spec.specs.Types.{HolType};
+ghost use Rattle.hol_spec.specs.declared.Version.{Version as AVersion};
 ghost use Rattle.hol_params.specs.Noted.{AreNoted};
 ghost use Rattle.hol_term.specs.Tables.{term_at, type_at, IsTermAt, Keeps, Trees};
 ghost use Rattle.sequent.specs.Sequents.{sequent_at, IsKnown};
 ghost use Rattle.hol_rules.specs.declared.made.Made.TheVariants as one_made;
 ghost use Rattle.hol_rules.specs.Conclusions.{with_type, DefinesType};
 ghost use Rattle.hol_rules.specs.Kept.{step_count, Grows};
-ghost use Rattle.hol_rules.specs.Laws.{larger_law_size, second_law_depth, AreLaws, AreLawSteps, AreSmall, AreTypeParts, IsLawPushed, IsLawStep, IsWithoutVariables};
+ghost use Rattle.hol_rules.specs.Laws.{first_law_size, height_above_types, larger_law_size, second_law_depth, second_law_size, AreLaws, AreLawSteps, AreSmall, AreTypeParts, IsLawPushed, IsLawStep, IsWithoutVariables};
 ghost use Rattle.hol_rules.specs.Steps.{made_of_type, type_laws, type_measures};
 ghost use Rattle.hol_rules.specs.Views.{parameters_view, AreParametersKnown};
 
@@ -32,7 +33,7 @@ use bridge_base::{Fault, Kind, Memory};
 use hol_defs::Symbols;
 use hol_name::Name;
 use hol_params::ParamMemo;
-use hol_spec::{GREATEST_DEPTH, GREATEST_PARAMETER_COUNT, GREATEST_SIZE, StepKind};
+use hol_spec::{GREATEST_DEPTH, GREATEST_PARAMETER_COUNT, GREATEST_SIZE, StepKind, Version};
 use hol_term::{TermId, TermTable, TermView};
 use hol_type::TypeId;
 use sequent::{Hyps, Sequent};
@@ -60,8 +61,10 @@ impl Proof {
     /// or `abs` and `rep` are one name; else with `NotClosed` where `f` has a free variable; else with `BadTypeVars` where
     /// the names repeat or aren't the type variables of `f`; else with `NotTheSequent` where there is a hypothesis or the
     /// conclusion is no application; and else for the limits, every size judged before any depth and every depth before
-    /// any number of parameters. (Source: HOL Light's kernel, new_basic_type_definition; the OpenTheory article format,
-    /// version 6, `defineTypeOp`.)
+    /// any number of parameters. In an article of version 6 the laws are `(\a. abs (rep a)) = (\a. a)` and
+    /// `(\r. rep (abs r) = r) = (\r. f r)`; in one of version 5 they are `abs (rep a) = a` and `f r = (rep (abs r) = r)`,
+    /// over free variables `a` of the new type and `r` of the type of `t`. (Source: HOL Light's kernel,
+    /// new_basic_type_definition; the OpenTheory article format, versions 5 and 6, `defineTypeOp`.)
     pub fn define_type_op(
         &mut self,
         op: &Name,
@@ -69,16 +72,17 @@ impl Proof {
         rep: &Name,
         names: &[Name],
         one: StepId,
+        version: Version,
     ) -> Result<(StepId, StepId), Fault>
         requires { one < step_count self.old }
-        ensures { DefinesType self.old (type_laws self.old.made (named op.now abs.now rep.now names.now) one) self.new result }
+        ensures { DefinesType self.old (type_laws version self.old.made (named op.now abs.now rep.now names.now) one) self.new result }
     {
         let parts = self.type_parts(op, abs, rep, names, one)?;
-        judge_measures(self.terms(), names.len(), parts)?;
+        judge_measures(self.terms(), names.len(), parts, version)?;
         self.is_proof();
-        let laws = self.laws(op, abs, rep, names, parts)?;
+        let laws = self.laws(op, abs, rep, names, parts, version)?;
         self.judge_laws(&laws)?;
-        let ids = self.keep_type(op, abs, rep, names, one, parts, laws)?;
+        let ids = self.keep_type(op, abs, rep, names, one, parts, laws, version)?;
         Ok(ids)
     }
 
@@ -93,7 +97,7 @@ impl Proof {
     ) -> Result<TypeParts, Fault>
         requires { one < step_count self.now }
         ensures parts { IfOk result (λ parts. AreTypeParts self.now (named op.now abs.now rep.now names.now) one parts) }
-        ensures refused { IfErr result (λ fault. Fails fault (type_laws self.now.made (named op.now abs.now rep.now names.now) one)) }
+        ensures refused { IfErr result (λ fault. (version : AVersion) → Fails fault (type_laws version self.now.made (named op.now abs.now rep.now names.now) one)) }
     {
         let terms = self.terms();
         let concl = self.concl(one);
@@ -151,14 +155,24 @@ impl Proof {
         rep: &Name,
         names: &[Name],
         parts: TypeParts,
+        version: Version,
     ) -> Result<Laws, Memory>
         requires whole { parts.whole.0 < length self.old.trees.types }
         requires predicate { parts.predicate.0 < length self.old.trees.terms }
         requires closed { IsWithoutVariables (term_at self.old.trees parts.predicate.0) }
-        ensures made { IfOk result (λ laws. AreLaws self.new.trees (named op.now abs.now rep.now names.now) (type_at self.old.trees parts.whole.0) (term_at self.old.trees parts.predicate.0) laws) }
+        ensures made { IfOk result (λ laws. AreLaws version self.new.trees (named op.now abs.now rep.now names.now) (type_at self.old.trees parts.whole.0) (term_at self.old.trees parts.predicate.0) laws) }
         ensures grows { Grows self.old self.new }
     {
-        laws_of(self.alloc, &mut self.terms, op, abs, rep, names, parts)
+        laws_of(
+            self.alloc,
+            &mut self.terms,
+            op,
+            abs,
+            rep,
+            names,
+            parts,
+            version,
+        )
     }
 
     // Refuses laws of which one has too many parameters.
@@ -195,12 +209,13 @@ impl Proof {
         one: StepId,
         parts: TypeParts,
         laws: Laws,
+        version: Version,
     ) -> Result<(StepId, StepId), Memory>
         requires one { one < step_count self.old }
         requires parts { AreTypeParts self.old (named op.now abs.now rep.now names.now) one parts }
-        requires laws { AreLaws self.old.trees (named op.now abs.now rep.now names.now) (type_at self.old.trees parts.whole.0) (term_at self.old.trees parts.predicate.0) laws }
+        requires laws { AreLaws version self.old.trees (named op.now abs.now rep.now names.now) (type_at self.old.trees parts.whole.0) (term_at self.old.trees parts.predicate.0) laws }
         ensures numbers { IfOk result (λ ids. (ids.0 ≡ step_count self.old) × (ids.1 ≡ step_count self.old + 1)) }
-        ensures kept { IfOk result (λ ids. self.new.made ≡ with_type self.old.made (made_of_type (named op.now abs.now rep.now names.now) one (type_at self.old.trees parts.whole.0) (term_at self.old.trees parts.predicate.0))) }
+        ensures kept { IfOk result (λ ids. self.new.made ≡ with_type self.old.made (made_of_type version (named op.now abs.now rep.now names.now) one (type_at self.old.trees parts.whole.0) (term_at self.old.trees parts.predicate.0))) }
         ensures unchanged { OnErr result (self.new.made ≡ self.old.made) }
         ensures keeps { Keeps self.old.trees self.new.trees }
     {
@@ -217,6 +232,7 @@ impl Proof {
             one,
             parts.concl,
             laws,
+            version,
         )
     }
 }
@@ -251,6 +267,7 @@ fn keep_laws(
     one: StepId,
     concl: TermId,
     laws: Laws,
+    version: Version,
 ) -> Result<(StepId, StepId), Memory>
     requires known { AreKnownSymbols terms.old symbols.old }
     requires term { IsTermAt terms.old concl.0 }
@@ -258,14 +275,14 @@ fn keep_laws(
     ensures numbers { IfOk result (λ ids. (ids.0 ≡ length steps.old.items) × (ids.1 ≡ length steps.old.items + 1)) }
     ensures takes { OnOk result ((f t : Term) (c : HolType) → term_at terms.old concl.0 ≡ app f t → HasType t c → symbols_at terms.new symbols.new ≡ symbols_at terms.old symbols.old ++ Symbol.defined (Definition.type_operator (named op.now abs.now rep.now names.now) c f) ∷ []) }
     ensures noted { OnOk result (made.new.items ≡ ((made.old.items ++ one_made.TypeOp op.now one ∷ []) ++ one_made.Step (length steps.old.items) ∷ []) ++ one_made.Step (length steps.old.items + 1) ∷ []) }
-    ensures kept { OnOk result (AreLawSteps (named op.now abs.now rep.now names.now) one laws steps.old.items steps.new.items) }
+    ensures kept { OnOk result (AreLawSteps version (named op.now abs.now rep.now names.now) one laws steps.old.items steps.new.items) }
     ensures untaken { OnErr result (symbols.new ≡ symbols.old) }
     ensures unnoted { OnErr result (made.new.items ≡ made.old.items) }
     ensures unkept { OnErr result (steps.new.items ≡ steps.old.items) }
     ensures known { AreKnownSymbols terms.new symbols.new }
     ensures keeps { Keeps terms.old terms.new }
 {
-    let (first, second) = push_laws(alloc, steps, op, abs, rep, names, one, laws)?;
+    let (first, second) = push_laws(alloc, steps, op, abs, rep, names, one, laws, version)?;
     match take_type(
         symbols, terms, made, op, abs, rep, names, one, concl, first, second,
     ) {
@@ -325,9 +342,10 @@ fn push_laws(
     names: &[Name],
     one: StepId,
     laws: Laws,
+    version: Version,
 ) -> Result<(StepId, StepId), Memory>
     ensures numbers { IfOk result (λ ids. (ids.0 ≡ length steps.old.items) × (ids.1 ≡ length steps.old.items + 1)) }
-    ensures pushed { OnOk result (AreLawSteps (named op.now abs.now rep.now names.now) one laws steps.old.items steps.new.items) }
+    ensures pushed { OnOk result (AreLawSteps version (named op.now abs.now rep.now names.now) one laws steps.old.items steps.new.items) }
     ensures unchanged { OnErr result (steps.new.items ≡ steps.old.items) }
 {
     let first = push_law(
@@ -340,6 +358,7 @@ fn push_laws(
         names,
         one,
         laws.first,
+        version,
     )?;
     match push_law(
         alloc,
@@ -351,6 +370,7 @@ fn push_laws(
         names,
         one,
         laws.second,
+        version,
     ) {
         Ok(second) => Ok((first, second)),
         Err(_) => {
@@ -371,14 +391,15 @@ fn push_law(
     names: &[Name],
     one: StepId,
     sequent: Sequent,
+    version: Version,
 ) -> Result<StepId, Memory>
     ensures number { IfOk result (λ id. id ≡ length steps.old.items) }
-    ensures pushed { OnOk result (IsLawPushed kind (named op.now abs.now rep.now names.now) one sequent steps.old.items steps.new.items) }
+    ensures pushed { OnOk result (IsLawPushed version kind (named op.now abs.now rep.now names.now) one sequent steps.old.items steps.new.items) }
     ensures unchanged { OnErr result (steps.new.items ≡ steps.old.items) }
 {
     let id = steps.len();
     steps.reserve(1)?;
-    let step = law_step(alloc, kind, op, abs, rep, names, one, sequent)?;
+    let step = law_step(alloc, kind, op, abs, rep, names, one, sequent, version)?;
     steps.push_reserved(step);
     Ok(id)
 }
@@ -393,11 +414,12 @@ fn law_step(
     names: &[Name],
     one: StepId,
     sequent: Sequent,
+    version: Version,
 ) -> Result<Step, Memory>
-    ensures { IfOk result (λ step. IsLawStep kind (named op.now abs.now rep.now names.now) one sequent step) }
+    ensures { IfOk result (λ step. IsLawStep version kind (named op.now abs.now rep.now names.now) one sequent step) }
 {
     let premises = Vec::from_slice(alloc, &[one])?;
-    let parameters = law_parameters(alloc, op, abs, rep, names)?;
+    let parameters = law_parameters(alloc, op, abs, rep, names, version)?;
     Ok(Step {
         kind,
         premises,
@@ -406,15 +428,16 @@ fn law_step(
     })
 }
 
-// What the rule of a law was given: the names, each copied.
+// What the rule of a law was given: the names, each copied, and the version.
 fn law_parameters(
     alloc: Global,
     op: &Name,
     abs: &Name,
     rep: &Name,
     names: &[Name],
+    version: Version,
 ) -> Result<Parameters, Memory>
-    ensures given { IfOk result (λ p. (trees : Trees) → parameters_view trees p ≡ RuleParameters.type_operator (named op.now abs.now rep.now names.now)) }
+    ensures given { IfOk result (λ p. (trees : Trees) → parameters_view trees p ≡ RuleParameters.type_operator (named op.now abs.now rep.now names.now) version) }
     ensures known { IfOk result (λ p. (trees : Trees) → AreParametersKnown trees p) }
 {
     let names = copied(alloc, names)?;
@@ -426,6 +449,7 @@ fn law_parameters(
         abs,
         rep,
         names,
+        version,
     })
 }
 
@@ -438,16 +462,26 @@ fn laws_of(
     rep: &Name,
     names: &[Name],
     parts: TypeParts,
+    version: Version,
 ) -> Result<Laws, Memory>
     requires whole { parts.whole.0 < length terms.old.types }
     requires predicate { parts.predicate.0 < length terms.old.terms }
     requires closed { IsWithoutVariables (term_at terms.old parts.predicate.0) }
-    ensures made { IfOk result (λ laws. AreLaws terms.new (named op.now abs.now rep.now names.now) (type_at terms.old parts.whole.0) (term_at terms.old parts.predicate.0) laws) }
+    ensures made { IfOk result (λ laws. AreLaws version terms.new (named op.now abs.now rep.now names.now) (type_at terms.old parts.whole.0) (term_at terms.old parts.predicate.0) laws) }
     ensures keeps { Keeps terms.old terms.new }
 {
     let types = new_types(alloc, terms, op, names, parts.whole)?;
-    let first = first_law(alloc, terms, abs, rep, types)?;
-    let second = second_law(alloc, terms, abs, rep, types, parts.whole, parts.predicate)?;
+    let first = first_law(alloc, terms, abs, rep, types, version)?;
+    let second = second_law(
+        alloc,
+        terms,
+        abs,
+        rep,
+        types,
+        parts.whole,
+        parts.predicate,
+        version,
+    )?;
     Ok(Laws {
         first: Sequent {
             hyps: Hyps::new(alloc),
@@ -474,49 +508,95 @@ fn copied(alloc: Global, names: &[Name]) -> Result<Vec<Name>, Memory>
 
 // Judges every size and then every depth of what a definition makes over so many type variables. One of the laws is the
 // largest, and the second is the deepest.
-fn judge_measures(terms: &TermTable, count: usize, parts: TypeParts) -> Result<(), Fault>
+fn judge_measures(
+    terms: &TermTable,
+    count: usize,
+    parts: TypeParts,
+    version: Version,
+) -> Result<(), Fault>
     requires whole { parts.whole.0 < length terms.now.types }
     requires predicate { parts.predicate.0 < length terms.now.terms }
-    ensures within { OnOk result ((names : TypeNames) → length names.variables ≡ count → AreSmall (type_measures names (type_at terms.now parts.whole.0) (term_at terms.now parts.predicate.0))) }
-    ensures refused { IfErr result (λ fault. (names : TypeNames) → length names.variables ≡ count → Fails fault (in_limits (type_measures names (type_at terms.now parts.whole.0) (term_at terms.now parts.predicate.0)))) }
+    ensures within { OnOk result ((names : TypeNames) → length names.variables ≡ count → AreSmall (type_measures version names (type_at terms.now parts.whole.0) (term_at terms.now parts.predicate.0))) }
+    ensures refused { IfErr result (λ fault. (names : TypeNames) → length names.variables ≡ count → Fails fault (in_limits (type_measures version names (type_at terms.now parts.whole.0) (term_at terms.now parts.predicate.0)))) }
 {
     let count = count as u64;
-    if law_size(terms, count, parts) > GREATEST_SIZE {
+    if law_size(terms, count, parts, version) > GREATEST_SIZE {
         return Err(Fault::Refused(Kind::TooLarge));
     }
-    if law_depth(terms, count, parts) > GREATEST_DEPTH {
+    if law_depth(terms, count, parts, version) > GREATEST_DEPTH {
         return Err(Fault::Refused(Kind::TooDeep));
     }
     Ok(())
 }
 
-// The size of the larger law, or the greatest number of the type if it is more.
-fn law_size(terms: &TermTable, count: u64, parts: TypeParts) -> u64
+// The size of the larger law in an article of a version, or the greatest number of the type if it is more.
+fn law_size(terms: &TermTable, count: u64, parts: TypeParts, version: Version) -> u64
     requires whole { parts.whole.0 < length terms.now.types }
     requires predicate { parts.predicate.0 < length terms.now.terms }
-    ensures { result ≡ min (larger_law_size (type_at terms.now parts.whole.0) count (term_at terms.now parts.predicate.0)) (2 ^ 64 - 1) }
+    ensures { result ≡ min (larger_law_size version (type_at terms.now parts.whole.0) count (term_at terms.now parts.predicate.0)) (2 ^ 64 - 1) }
 {
-    let whole = terms.types().size(parts.whole);
-    let first = whole
-        .saturating_mul(2)
-        .saturating_add(count.saturating_mul(8))
-        .saturating_add(26);
-    let second = whole
-        .saturating_mul(8)
-        .saturating_add(count.saturating_mul(2))
-        .saturating_add(terms.size(parts.predicate))
-        .saturating_add(30);
+    let first = first_size(terms, count, parts.whole, version);
+    let second = second_size(terms, count, parts, version);
     first.max(second)
 }
 
-// The depth of the second law, or the greatest number of the type if it is more.
-fn law_depth(terms: &TermTable, count: u64, parts: TypeParts) -> u64
+// The size of the first law of a part of this type, likewise.
+fn first_size(terms: &TermTable, count: u64, whole: TypeId, version: Version) -> u64
+    requires { whole.0 < length terms.now.types }
+    ensures { result ≡ min (first_law_size version (type_at terms.now whole.0) count) (2 ^ 64 - 1) }
+{
+    let types = terms.types().size(whole).saturating_mul(2);
+    match version {
+        Version::Five => types
+            .saturating_add(count.saturating_mul(6))
+            .saturating_add(20),
+        Version::Six => types
+            .saturating_add(count.saturating_mul(8))
+            .saturating_add(26),
+    }
+}
+
+// The size of the second law, likewise.
+fn second_size(terms: &TermTable, count: u64, parts: TypeParts, version: Version) -> u64
     requires whole { parts.whole.0 < length terms.now.types }
     requires predicate { parts.predicate.0 < length terms.now.terms }
-    ensures { result ≡ min (second_law_depth (type_at terms.now parts.whole.0) count (term_at terms.now parts.predicate.0)) (2 ^ 64 - 1) }
+    ensures { result ≡ min (second_law_size version (type_at terms.now parts.whole.0) count (term_at terms.now parts.predicate.0)) (2 ^ 64 - 1) }
+{
+    let whole = terms.types().size(parts.whole);
+    let rest = count
+        .saturating_mul(2)
+        .saturating_add(terms.size(parts.predicate));
+    match version {
+        Version::Five => whole
+            .saturating_mul(7)
+            .saturating_add(rest)
+            .saturating_add(26),
+        Version::Six => whole
+            .saturating_mul(8)
+            .saturating_add(rest)
+            .saturating_add(30),
+    }
+}
+
+// The depth of the second law in an article of a version, or the greatest number of the type if it is more.
+fn law_depth(terms: &TermTable, count: u64, parts: TypeParts, version: Version) -> u64
+    requires whole { parts.whole.0 < length terms.now.types }
+    requires predicate { parts.predicate.0 < length terms.now.terms }
+    ensures { result ≡ min (second_law_depth version (type_at terms.now parts.whole.0) count (term_at terms.now parts.predicate.0)) (2 ^ 64 - 1) }
 {
     let own = count.max(1).saturating_add(count.min(1));
-    let constants = terms.types().depth(parts.whole).max(own).saturating_add(10);
+    let types = terms.types().depth(parts.whole).max(own);
+    let constants = types.saturating_add(height(version));
     let predicate = terms.depth(parts.predicate).saturating_add(3);
     constants.max(predicate)
+}
+
+// How far the second law lies above the types of its constants.
+fn height(version: Version) -> u64
+    ensures { result ≡ height_above_types version }
+{
+    match version {
+        Version::Five => 8,
+        Version::Six => 10,
+    }
 }

@@ -7,7 +7,7 @@ use bridge_base::{Fault, Kind, Memory};
 use hol_defs::SymbolKind;
 use hol_name::Name;
 use hol_rules::{Made, Parameters, Proof, StepId};
-use hol_spec::StepKind;
+use hol_spec::{StepKind, Version};
 use hol_term::{TermId, Variable};
 use hol_type::TypeId;
 use std::alloc::Global;
@@ -161,21 +161,32 @@ impl Bench {
     }
 
     // The equation of 32 variables, from this number on.
-    fn row(&mut self, first: u32) -> Result<TermId, Fault> {
+    fn row(&mut self, equality: TermId, first: u32) -> Result<TermId, Fault> {
         let mut term = self.numbered(first)?;
         for more in 1..32u32 {
             let variable = self.numbered(first.saturating_add(more))?;
-            term = self.equation(variable, term)?;
+            term = self.equated(equality, variable, term)?;
         }
         Ok(term)
     }
 
-    /// The equation of so many rows of 32 variables, from this row on.
-    pub(crate) fn rows(&mut self, first: u32, count: u32) -> Result<TermId, Fault> {
-        let mut term = self.row(first.saturating_mul(32))?;
+    // The equation of 32 rows, from this row on.
+    fn block(&mut self, equality: TermId, first: u32) -> Result<TermId, Fault> {
+        let mut term = self.row(equality, first.saturating_mul(32))?;
+        for more in 1..32u32 {
+            let row = self.row(equality, first.saturating_add(more).saturating_mul(32))?;
+            term = self.equated(equality, row, term)?;
+        }
+        Ok(term)
+    }
+
+    /// The equation of so many blocks of 1,024 variables, from this block on.
+    pub(crate) fn blocks(&mut self, first: u32, count: u32) -> Result<TermId, Fault> {
+        let equality = self.equality()?;
+        let mut term = self.block(equality, first.saturating_mul(32))?;
         for more in 1..count {
-            let row = self.row(first.saturating_add(more).saturating_mul(32))?;
-            term = self.equation(row, term)?;
+            let block = self.block(equality, first.saturating_add(more).saturating_mul(32))?;
+            term = self.equated(equality, block, term)?;
         }
         Ok(term)
     }
@@ -246,6 +257,11 @@ impl Bench {
     /// The equation of two truth values.
     pub(crate) fn equation(&mut self, left: TermId, right: TermId) -> Result<TermId, Fault> {
         let equality = self.equality()?;
+        self.equated(equality, left, right)
+    }
+
+    // The same by equality of truth values.
+    fn equated(&mut self, equality: TermId, left: TermId, right: TermId) -> Result<TermId, Fault> {
         let half = self.app(equality, left)?;
         self.app(half, right)
     }
@@ -582,6 +598,48 @@ impl Bench {
         Ok(matches!(made, Some(Made::TypeOp(own, one)) if *own == name && *one == id))
     }
 
+    /// The variable of this letter, of the type that an operator of no arguments makes.
+    pub(crate) fn of_operator(&mut self, letter: u8, operator: &[u8]) -> Result<TermId, Fault> {
+        let op = self.name(operator)?;
+        let ty = self.proof.ty_op(&op, &[])?;
+        let name = self.name(&[letter])?;
+        self.proof.free(&name, ty)
+    }
+
+    /// The variable of this letter, of the type of a term.
+    pub(crate) fn variable_like(&mut self, letter: u8, t: TermId) -> Result<TermId, Fault> {
+        let name = self.name(&[letter])?;
+        if !self.is_term(t) {
+            return Err(UNKNOWN);
+        }
+        let ty = self.proof.terms().type_of(t);
+        self.proof.free(&name, ty)
+    }
+
+    /// The constant of a name, a function to the type of another term, of a term.
+    pub(crate) fn mapped(&mut self, text: &[u8], x: TermId, like: TermId) -> Result<TermId, Fault> {
+        let name = self.name(text)?;
+        if !self.is_term(x) || !self.is_term(like) {
+            return Err(UNKNOWN);
+        }
+        let from = self.proof.terms().type_of(x);
+        let to = self.proof.terms().type_of(like);
+        let ty = self.function(from, to)?;
+        let constant = self.proof.constant(&name, ty)?;
+        self.app(constant, x)
+    }
+
+    /// Whether its rule was given an operator in an article of this version.
+    pub(crate) fn has_version(&self, id: StepId, version: Version) -> bool {
+        if !self.is_step(id) {
+            return false;
+        }
+        match self.proof.params(id) {
+            Parameters::TypeOp { version: own, .. } => *own == version,
+            _ => false,
+        }
+    }
+
     /// The laws of an operator of no arguments, from a step.
     pub(crate) fn define_type_op(
         &mut self,
@@ -589,12 +647,14 @@ impl Bench {
         abs: &[u8],
         rep: &[u8],
         one: StepId,
+        version: Version,
     ) -> Result<(StepId, StepId), Fault> {
         let op = self.name(operator)?;
         let abs = self.name(abs)?;
         let rep = self.name(rep)?;
         if self.is_step(one) {
-            self.proof.define_type_op(&op, &abs, &rep, &[], one)
+            self.proof
+                .define_type_op(&op, &abs, &rep, &[], one, version)
         } else {
             Err(UNKNOWN)
         }

@@ -1,7 +1,7 @@
 //! Definitions of constants and of type operators.
 use crate::bench::{Bench, is_refused};
 use bridge_base::{Fault, Kind};
-use hol_spec::StepKind;
+use hol_spec::{StepKind, Version};
 
 /// c for \x. x, and then d for c.
 pub(crate) fn newer_constant(bench: &mut Bench) -> Result<bool, Fault> {
@@ -43,10 +43,33 @@ pub(crate) fn type_operator(bench: &mut Bench) -> Result<bool, Fault> {
     bench.refl(x)?;
     let identity = bench.abs(b'x', x)?;
     let one = bench.refl(identity)?;
-    let (first, second) = bench.define_type_op(b"n", b"abs", b"rep", one)?;
+    let (first, second) = bench.define_type_op(b"n", b"abs", b"rep", one, Version::Six)?;
     let noted = one == 1 && bench.is_defined_from(2, b"n", one)?;
     let steps = bench.is_step_at(3, first) && bench.is_step_at(4, second);
     let by = bench.is_by(first, StepKind::FirstLaw, &[one])
         && bench.is_by(second, StepKind::SecondLaw, &[one]);
-    Ok(noted && steps && by && bench.proof.made().len() == 5)
+    let six = bench.has_version(first, Version::Six) && bench.has_version(second, Version::Six);
+    Ok(noted && steps && by && six && bench.proof.made().len() == 5)
+}
+
+/// The same in an article of version 5: the laws are `abs (rep a) = a` and `(\x. x) = r = (rep (abs r) = r)`, over free
+/// variables.
+pub(crate) fn free_type_operator(bench: &mut Bench) -> Result<bool, Fault> {
+    let x = bench.truth(b'x')?;
+    let identity = bench.abs(b'x', x)?;
+    let one = bench.refl(identity)?;
+    let (first, second) = bench.define_type_op(b"n", b"abs", b"rep", one, Version::Five)?;
+    let five = bench.has_version(first, Version::Five) && bench.has_version(second, Version::Five);
+    let by = bench.is_by(first, StepKind::FirstLaw, &[one])
+        && bench.is_by(second, StepKind::SecondLaw, &[one]);
+    let a = bench.of_operator(b'a', b"n")?;
+    let r = bench.variable_like(b'r', identity)?;
+    let rep_a = bench.mapped(b"rep", a, r)?;
+    let abs_rep_a = bench.mapped(b"abs", rep_a, a)?;
+    let abs_r = bench.mapped(b"abs", r, a)?;
+    let rep_abs_r = bench.mapped(b"rep", abs_r, r)?;
+    let holds = bench.equal(identity, r)?;
+    let back = bench.equal(rep_abs_r, r)?;
+    let laws = bench.equates(first, &[], abs_rep_a, a) && bench.equates(second, &[], holds, back);
+    Ok(five && by && laws && bench.proof.made().len() == 4)
 }

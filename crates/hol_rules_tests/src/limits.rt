@@ -1,4 +1,4 @@
-//! The limits on what rules conclude: 1,048,576 of size, 1,024 of depth, and 1,024 parameters.
+//! The limits on what rules conclude: 1,048,576 of size, 16,384 of depth, and 16,384 parameters.
 //!
 //! A variable of truth values has size 2 and depth 2, an equation of two 8 more than their sizes; f adds 5 to the size and
 //! 1 to the depth.
@@ -18,20 +18,24 @@ fn deep(bench: &mut Bench, letter: u8, depth: u32) -> Result<TermId, Fault> {
     bench.iterated(depth.saturating_sub(4), variable)
 }
 
-// Of 1,024 variables, equated with themselves so many times, under so many f: 10,240 times the power of two in size, 8
-// less, and 70 deep, 2 for each time.
-fn end(bench: &mut Bench, doublings: u32, iterations: u32) -> Result<TermId, Fault> {
-    let start = bench.rows(0, 32)?;
+// Of 16,384 variables: of size 163,832, and 86 deep.
+fn many(bench: &mut Bench) -> Result<TermId, Fault> {
+    bench.blocks(0, 16)
+}
+
+// These equated with themselves so many times, under so many f: 163,840 times the power of two in size, 8 less, and 2 deeper
+// for each time.
+fn end(bench: &mut Bench, start: TermId, doublings: u32, iterations: u32) -> Result<TermId, Fault> {
     let twice = bench.doubled(doublings, start)?;
     bench.iterated(iterations, twice)
 }
 
 /// As many variables as there may be; with f one more, once as deep as an equation's sides may be, and once large too.
 pub(crate) fn refl_many(bench: &mut Bench) -> Result<bool, Fault> {
-    let fits = end(bench, 0, 0)?;
-    let more = end(bench, 0, 1)?;
-    let deep = end(bench, 0, 952)?;
-    let large = end(bench, 5, 942)?;
+    let fits = many(bench)?;
+    let more = end(bench, fits, 0, 1)?;
+    let deep = end(bench, fits, 0, 16296)?;
+    let large = end(bench, fits, 1, 16294)?;
     let step = bench.refl(fits)?;
     let more = is_refused(bench.refl(more), Kind::TooManyParams);
     let deep = is_refused(bench.refl(deep), Kind::TooManyParams);
@@ -41,8 +45,9 @@ pub(crate) fn refl_many(bench: &mut Bench) -> Result<bool, Fault> {
 
 /// One deeper than these: depth is judged before the number of parameters.
 pub(crate) fn refl_deep(bench: &mut Bench) -> Result<bool, Fault> {
-    let deep = end(bench, 0, 953)?;
-    let large = end(bench, 5, 943)?;
+    let start = many(bench)?;
+    let deep = end(bench, start, 0, 16297)?;
+    let large = end(bench, start, 1, 16295)?;
     let deep = is_refused(bench.refl(deep), Kind::TooDeep);
     let large = is_refused(bench.refl(large), Kind::TooDeep);
     Ok(deep && large && bench.proof.len() == 0)
@@ -50,8 +55,9 @@ pub(crate) fn refl_deep(bench: &mut Bench) -> Result<bool, Fault> {
 
 /// Too large; and with that too deep, and of too many variables: size is judged first.
 pub(crate) fn refl_large(bench: &mut Bench) -> Result<bool, Fault> {
-    let large = end(bench, 6, 0)?;
-    let all = end(bench, 6, 942)?;
+    let start = many(bench)?;
+    let large = end(bench, start, 2, 0)?;
+    let all = end(bench, start, 2, 16294)?;
     let large = is_refused(bench.refl(large), Kind::TooLarge);
     let all = is_refused(bench.refl(all), Kind::TooLarge);
     Ok(large && all && bench.proof.len() == 0)
@@ -124,15 +130,15 @@ pub(crate) fn restate_large(bench: &mut Bench) -> Result<bool, Fault> {
 /// The left side of an equation lies one deeper than the right one.
 pub(crate) fn sym_deep(bench: &mut Bench) -> Result<bool, Fault> {
     let p = bench.truth(b'p')?;
-    let q = deep(bench, b'q', 1023)?;
+    let q = deep(bench, b'q', 16383)?;
     let one = bench.given_equation(p, q)?;
     let depth = is_refused(bench.sym(one), Kind::TooDeep);
     Ok(depth && bench.proof.len() == 1)
 }
 
-/// Sides of depth 1,023, once where the function takes no argument.
+/// Sides of depth 16,383, once where the function takes no argument.
 pub(crate) fn app_thm_deep(bench: &mut Bench) -> Result<bool, Fault> {
-    let p = deep(bench, b'p', 1022)?;
+    let p = deep(bench, b'p', 16382)?;
     let q = bench.truth(b'q')?;
     let f = bench.f()?;
     let one = bench.refl(f)?;
@@ -143,10 +149,10 @@ pub(crate) fn app_thm_deep(bench: &mut Bench) -> Result<bool, Fault> {
     Ok(depth && mismatch && bench.proof.len() == 3)
 }
 
-/// Sides of depth 1,023, once over a variable of the hypotheses.
+/// Sides of depth 16,383, once over a variable of the hypotheses.
 pub(crate) fn abs_thm_deep(bench: &mut Bench) -> Result<bool, Fault> {
     let q = bench.truth(b'q')?;
-    let p = deep(bench, b'p', 1022)?;
+    let p = deep(bench, b'p', 16382)?;
     let same = bench.equation(p, p)?;
     let one = bench.axiom(q, q, same)?;
     let depth = is_refused(bench.abs_thm(b'p', one), Kind::TooDeep);
@@ -154,10 +160,10 @@ pub(crate) fn abs_thm_deep(bench: &mut Bench) -> Result<bool, Fault> {
     Ok(depth && in_hyps && bench.proof.len() == 1)
 }
 
-/// Hypotheses of 512 variables each, with p and q, once where the second says q and not p.
+/// Hypotheses of 8,192 variables each, with p and q, once where the second says q and not p.
 pub(crate) fn eq_mp_many(bench: &mut Bench) -> Result<bool, Fault> {
-    let first = bench.rows(0, 16)?;
-    let second = bench.rows(16, 16)?;
+    let first = bench.blocks(0, 8)?;
+    let second = bench.blocks(8, 8)?;
     let p = bench.truth(b'p')?;
     let q = bench.truth(b'q')?;
     let equation = bench.equation(p, q)?;
@@ -169,10 +175,10 @@ pub(crate) fn eq_mp_many(bench: &mut Bench) -> Result<bool, Fault> {
     Ok(count && not_alike && bench.proof.len() == 3)
 }
 
-/// 1,024 variables, which fit, with the hypotheses of both.
+/// 16,384 variables, which fit, with the hypotheses of both.
 pub(crate) fn prove_hyp_many(bench: &mut Bench) -> Result<bool, Fault> {
-    let first = bench.rows(0, 16)?;
-    let second = bench.rows(16, 16)?;
+    let first = bench.blocks(0, 8)?;
+    let second = bench.blocks(8, 8)?;
     let p = bench.truth(b'p')?;
     let one = bench.axiom(first, first, p)?;
     let two = bench.axiom(second, p, p)?;

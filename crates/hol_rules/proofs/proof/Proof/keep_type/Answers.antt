@@ -32,7 +32,7 @@ invariant_of-self c =
     let e = c.keep_laws.ensures in
     let names = named c.args.op.now c.args.abs.now c.args.rep.now c.args.names.now in
     OnOk-OnErr r (OnOk-both _ _ r (OnOk-both _ _ r e.takes e.noted) e.kept) (OnErr-both _ _ r e.untaken (OnErr-both _ _ r e.unnoted e.unkept))
-    (λ p. rw p.0.1 (IsKept-type s.terms c.keep_laws.new.terms e.keeps s.symbols c.keep_laws.new.symbols s.steps.items s.made.items c.self.invariant names c.args.one one c.args.parts parts c.args.laws laws c.keep_laws.new.steps.items p.1 p.0.0 e.known))
+    (λ p. rw p.0.1 (IsKept-type c.args.version s.terms c.keep_laws.new.terms e.keeps s.symbols c.keep_laws.new.symbols s.steps.items s.made.items c.self.invariant names c.args.one one c.args.parts parts c.args.laws laws c.keep_laws.new.steps.items p.1 p.0.0 e.known))
     (λ q. rw (q.0, q.1.0, q.1.1) (IsKept-Keeps e.keeps s.symbols s.steps.items s.made.items c.self.invariant))
 
 pub returns-clause-numbers : goal.returns-clause-numbers
@@ -50,7 +50,7 @@ returns-clause-kept c =
     let r = c.keep_laws.result in
     let e = c.keep_laws.ensures in
     let names = named c.args.op.now c.args.abs.now c.args.rep.now c.args.names.now in
-    OnOk-IfOk r (OnOk-both _ _ r (OnOk-both _ _ r e.takes e.noted) e.kept) (λ p ids. rw (← c.self.view_is, p.0.1) (made_view-type s.terms c.keep_laws.new.terms e.keeps s.symbols c.keep_laws.new.symbols s.steps.items s.made.items c.self.invariant names c.args.one one c.args.parts parts c.args.laws laws c.keep_laws.new.steps.items p.1 p.0.0 e.known))
+    OnOk-IfOk r (OnOk-both _ _ r (OnOk-both _ _ r e.takes e.noted) e.kept) (λ p ids. rw (← c.self.view_is, p.0.1) (made_view-type c.args.version s.terms c.keep_laws.new.terms e.keeps s.symbols c.keep_laws.new.symbols s.steps.items s.made.items c.self.invariant names c.args.one one c.args.parts parts c.args.laws laws c.keep_laws.new.steps.items p.1 p.0.0 e.known))
 
 pub returns-clause-unchanged : goal.returns-clause-unchanged
 returns-clause-unchanged c =

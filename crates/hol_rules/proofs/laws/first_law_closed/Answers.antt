@@ -7,7 +7,7 @@ use Rattle.hol_rules.specs.Laws.{IsTypeOf}
 use Rattle.hol_rules.specs.Premises.{IsNumberOf}
 use Rattle.hol_rules.proofs.ConstantImage.{held}
 use Rattle.hol_rules.proofs.LawTrees.{IfOk-abstracted, first-closed, own-type, number-kept, type-kept}
-use Rattle.hol_rules.proofs.laws.first_law_over.Goals as goal
+use Rattle.hol_rules.proofs.laws.first_law_closed.Goals as goal
 
 pub composed-requires-clause-outer : goal.composed-requires-clause-outer
 composed-requires-clause-outer c = (type-kept c.free.ensures.keeps (own-type c.args.terms.now c.args.types.abs c.requires.types.abs)).known

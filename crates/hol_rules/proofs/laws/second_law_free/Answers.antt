@@ -1,13 +1,11 @@
-use Rattle.std.proofs.Common.{subst, ap, arith}
-use Rattle.hol_spec.specs.Primitives.{function}
+use Rattle.std.proofs.Common.{subst, arith}
 use Rattle.hol_spec.specs.Terms.{app, constant, free}
 use Rattle.hol_term.specs.Tables.{term_at, type_at}
 use Rattle.hol_term.specs.TableLaws.{Keeps-trans}
-use Rattle.hol_rules.specs.Laws.{IsTypeOf}
 use Rattle.hol_rules.specs.Premises.{IsNumberOf}
 use Rattle.hol_rules.proofs.ConstantImage.{held}
-use Rattle.hol_rules.proofs.LawTrees.{IfOk-abstracted, applied, equated, second-closed, own-number, own-type, number-kept, type-kept}
-use Rattle.hol_rules.proofs.laws.second_law_over.Goals as goal
+use Rattle.hol_rules.proofs.LawTrees.{IfOk-equated, applied, equated, own-number, own-type, number-kept, type-kept}
+use Rattle.hol_rules.proofs.laws.second_law_free.Goals as goal
 
 pub composed-requires-clause-outer : goal.composed-requires-clause-outer
 composed-requires-clause-outer c = (type-kept c.free.ensures.keeps (own-type c.args.terms.now c.args.types.rep c.requires.types.rep)).known
@@ -33,23 +31,14 @@ application-requires-clause-function c = (number-kept (Keeps-trans (Keeps-trans 
 pub application-requires-clause-argument : goal.application-requires-clause-argument
 application-requires-clause-argument c = omega (arith, c.in-Ok.ensures.known, c.composed.ensures.keeps.longer, c.equation.ensures.keeps.longer)
 
-pub function_type-requires-clause-domain : goal.function_type-requires-clause-domain
-function_type-requires-clause-domain c = (type-kept (Keeps-trans (Keeps-trans (Keeps-trans (Keeps-trans c.free.ensures.keeps c.composed.ensures.keeps) c.equation.ensures.keeps) c.application.ensures.keeps) c.truth_type.ensures.keeps) (own-type c.args.terms.now c.args.variable.now.ty c.requires.variable)).known
+pub equation-requires-2-clause-ty : goal.equation-requires-2-clause-ty
+equation-requires-2-clause-ty c = c.in_ok-truth.ensures.made.known
 
-pub function_type-requires-clause-codomain : goal.function_type-requires-clause-codomain
-function_type-requires-clause-codomain c = c.in_ok-truth.ensures.made.known
+pub equation-requires-2-clause-left : goal.equation-requires-2-clause-left
+equation-requires-2-clause-left c = omega (arith, c.in_ok-holds.ensures.known, c.truth_type.ensures.keeps.longer)
 
-pub abstractions-requires-clause-variable : goal.abstractions-requires-clause-variable
-abstractions-requires-clause-variable c = (type-kept (Keeps-trans (Keeps-trans (Keeps-trans (Keeps-trans (Keeps-trans c.free.ensures.keeps c.composed.ensures.keeps) c.equation.ensures.keeps) c.application.ensures.keeps) c.truth_type.ensures.keeps) c.function_type.ensures.keeps) (own-type c.args.terms.now c.args.variable.now.ty c.requires.variable)).known
-
-pub abstractions-requires-clause-left : goal.abstractions-requires-clause-left
-abstractions-requires-clause-left c = omega (arith, c.in_ok-back.ensures.known, c.application.ensures.keeps.longer, c.truth_type.ensures.keeps.longer, c.function_type.ensures.keeps.longer)
-
-pub abstractions-requires-clause-right : goal.abstractions-requires-clause-right
-abstractions-requires-clause-right c = omega (arith, c.in_ok-holds.ensures.known, c.truth_type.ensures.keeps.longer, c.function_type.ensures.keeps.longer)
-
-pub abstractions-requires-clause-ty : goal.abstractions-requires-clause-ty
-abstractions-requires-clause-ty c = c.in_ok-ty.ensures.made.known
+pub equation-requires-2-clause-right : goal.equation-requires-2-clause-right
+equation-requires-2-clause-right c = omega (arith, c.in_ok-back.ensures.known, c.application.ensures.keeps.longer, c.truth_type.ensures.keeps.longer)
 
 pub returns-in_err-both-clause-keeps : goal.returns-in_err-both-clause-keeps
 returns-in_err-both-clause-keeps c = Keeps-trans c.free.ensures.keeps c.composed.ensures.keeps
@@ -63,11 +52,8 @@ returns-in_err-holds-clause-keeps c = Keeps-trans (Keeps-trans (Keeps-trans c.fr
 pub returns-in_err-truth-clause-keeps : goal.returns-in_err-truth-clause-keeps
 returns-in_err-truth-clause-keeps c = Keeps-trans (Keeps-trans (Keeps-trans (Keeps-trans c.free.ensures.keeps c.composed.ensures.keeps) c.equation.ensures.keeps) c.application.ensures.keeps) c.truth_type.ensures.keeps
 
-pub returns-in_err-ty-clause-keeps : goal.returns-in_err-ty-clause-keeps
-returns-in_err-ty-clause-keeps c = Keeps-trans (Keeps-trans (Keeps-trans (Keeps-trans (Keeps-trans c.free.ensures.keeps c.composed.ensures.keeps) c.equation.ensures.keeps) c.application.ensures.keeps) c.truth_type.ensures.keeps) c.function_type.ensures.keeps
-
 pub returns-clause-keeps : goal.returns-clause-keeps
-returns-clause-keeps c = Keeps-trans (Keeps-trans (Keeps-trans (Keeps-trans (Keeps-trans (Keeps-trans c.free.ensures.keeps c.composed.ensures.keeps) c.equation.ensures.keeps) c.application.ensures.keeps) c.truth_type.ensures.keeps) c.function_type.ensures.keeps) c.abstractions.ensures.keeps
+returns-clause-keeps c = Keeps-trans (Keeps-trans (Keeps-trans (Keeps-trans (Keeps-trans c.free.ensures.keeps c.composed.ensures.keeps) c.equation.ensures.keeps) c.application.ensures.keeps) c.truth_type.ensures.keeps) c.equation-2.ensures.keeps
 
 pub returns-clause-made : goal.returns-clause-made
 returns-clause-made c =
@@ -76,26 +62,17 @@ returns-clause-made c =
     let k2 = c.composed.new.terms in
     let k3 = c.equation.new.self in
     let k4 = c.application.new.self in
-    let k6 = c.function_type.new.terms in
+    let k5 = c.truth_type.new.terms in
     let types = c.args.types in
     let v = c.args.variable.now in
-    let whole = type_at k0 v.ty.0 in
-    let f = term_at k0 c.args.predicate.0 in
-    let own = held k1 c.in-Ok.own (free v.name whole) c.in-Ok.ensures.known c.in-Ok.ensures.made in
+    let own = held k1 c.in-Ok.own (free v.name (type_at k0 v.ty.0)) c.in-Ok.ensures.known c.in-Ok.ensures.made in
     let to = (type-kept c.free.ensures.keeps (own-type k0 types.abs c.requires.types.abs)).is in
     let from = (type-kept c.free.ensures.keeps (own-type k0 types.rep c.requires.types.rep)).is in
     let both = subst (IsNumberOf k2 c.in_ok-both.both) (λ i. app (constant c.args.rep.now (from i)) (app (constant c.args.abs.now (to i)) (own.is i))) c.in_ok-both.ensures.made in
     let at2 = Keeps-trans c.free.ensures.keeps c.composed.ensures.keeps in
     let at3 = Keeps-trans at2 c.equation.ensures.keeps in
-    let at5 = Keeps-trans (Keeps-trans at3 c.application.ensures.keeps) c.truth_type.ensures.keeps in
-    let from4 = Keeps-trans c.truth_type.ensures.keeps c.function_type.ensures.keeps in
-    let part = own-type k0 v.ty c.requires.variable in
     let own2 = number-kept c.composed.ensures.keeps own in
-    let back = equated k2 k3 v.ty c.in_ok-both.both c.in-Ok.own c.in_ok-back.back _ _ _ (type-kept at2 part) both own2 c.in_ok-back.ensures.known c.in_ok-back.ensures.made in
+    let back = equated k2 k3 v.ty c.in_ok-both.both c.in-Ok.own c.in_ok-back.back _ _ _ (type-kept at2 (own-type k0 v.ty c.requires.variable)) both own2 c.in_ok-back.ensures.known c.in_ok-back.ensures.made in
     let holds = applied k3 k4 c.args.predicate c.in-Ok.own c.in_ok-holds.holds _ _ (number-kept at3 (own-number k0 c.args.predicate c.requires.predicate)) (number-kept c.equation.ensures.keeps own2) c.in_ok-holds.ensures.known c.in_ok-holds.ensures.made in
-    let at5whole = (type-kept at5 part).is in
-    let truth = c.in_ok-truth.ensures.made.is in
-    let ty = subst (IsTypeOf k6 c.in_ok-ty.ty) (λ i. function (at5whole i) (truth i)) c.in_ok-ty.ensures.made in
-    let same = ap (λ t. (v.name, t)) (type-kept c.function_type.ensures.keeps (type-kept at5 part)).is in
-    IfOk-abstracted k6 c.abstractions.new.terms v (v.name, whole) c.in_ok-back.back c.in_ok-holds.holds c.abstractions.result c.in_ok-ty.ty _ _ _ same ty (number-kept (Keeps-trans c.application.ensures.keeps from4) back) (number-kept from4 holds) _
-    (second-closed (v.name, whole) c.args.abs.now c.args.rep.now (type_at k0 types.abs.0) (type_at k0 types.rep.0) f c.requires.closed) c.abstractions.ensures.made
+    let later = Keeps-trans c.application.ensures.keeps c.truth_type.ensures.keeps in
+    IfOk-equated k5 c.equation-2.new.self c.in_ok-truth.truth c.in_ok-holds.holds c.in_ok-back.back c.equation-2.result _ _ _ c.in_ok-truth.ensures.made (number-kept c.truth_type.ensures.keeps holds) (number-kept later back) c.equation-2.ensures.known c.equation-2.ensures.made
