@@ -1,7 +1,6 @@
 -- Commands that are obeyed while a text is read.
 use Rattle.std.proofs.Common.{◌≡◌, ℕ, List, [], ◌∷◌, ◌++◌, Option, None, Some, Result, Ok, Err, IfSome, refl, sym, ap, subst, ◌∙◌, append_assoc, ◌<◌, arith}
 use Rattle.bridge_base.specs.declared.faults.Kind.{Kind}
-use Rattle.bridge_base.specs.declared.faults.Fault.{Fault}
 use Rattle.bridge_base.specs.declared.faults.Fault.TheVariants as fault
 use Rattle.bridge_base.specs.Outside.{Gives}
 use Rattle.bridge_base.specs.Gaining.{gives_none, gives_both, given_whole}
@@ -14,11 +13,11 @@ use Rattle.article_spec.specs.Lines.{Opens, open_line, Stops, stops, End, ended,
 use Rattle.article_laws.specs.ReadingLaws.{one_reading, opens_front}
 use Rattle.hol_spec.specs.Mangling.{AreBytes}
 use Rattle.hol_laws.specs.Members.{All-append}
-use Rattle.article_spec.specs.Results.{Fails, ◌>>=◌}
+use Rattle.article_spec.specs.Results.{◌>>=◌}
 use Rattle.article_spec.specs.State.{State}
 use Rattle.article_spec.specs.Step.{finish}
 use Rattle.article_spec.specs.Run.{machine, at_line, obey_all}
-use Rattle.bridge_reading.specs.Halts.{Halts, ReadsTo, Passes, IsRefused, IsTold, OfText, HaltsText, halt_of_fault, halt_of_line}
+use Rattle.bridge_reading.specs.Halts.{Halts, ReadsTo, Passes, IsRefused, IsTold, OfText, HaltsText, halt_of_line}
 use Rattle.bridge_reading.specs.declared.reading.Halt.{Halt}
 use Rattle.bridge_reading.specs.declared.reading.Halt.TheVariants as halt
 
@@ -140,11 +139,12 @@ piece_faulty start new before now after lines commands line_fault.Memory p e q =
 
 -- The text ends, and its last commands are obeyed.
 pub last_obeyed : (start left : Option (List ℕ)) (before now after : State) (lines : Reading) (commands : List Command) (line : ℕ)
-    → IsRead start left before now lines → IfSome left (λ rest. rest ≡ []) → EndsWith lines [] commands (Ok line) → obey_all machine now commands ≡ Ok after → OfText start (λ text. ReadsTo text before line after)
+    → IsRead start left before now lines → IfSome left (λ rest. rest ≡ []) → EndsWith lines [] commands (Ok line) → obey_all machine now commands ≡ Ok after → OfText start (λ text. ReadsTo text before after)
 last_obeyed start left before now after lines commands line r h f e =
-    text_to_end start left r.fed (λ text. ReadsTo text before line after) r.bytes r.gave h (record {
+    text_to_end start left r.fed (λ text. ReadsTo text before after) r.bytes r.gave h (record {
       bytes = r.bytes;
       commands = r.given ++ commands;
+      line = line;
       lines = subst (λ cs. Lines r.fed (r.given ++ cs) (ended line)) (sym f.is) (f.lines r.fed r.given r.read);
       obeyed = obeyed_more r.given commands before now after r.obeyed e;
     })
@@ -179,11 +179,6 @@ last_faulty start left before now after lines commands (line_fault.Refused line 
     })
 last_faulty start left before now after lines commands line_fault.Memory r h f e = tt
 
--- A text that is read to its end passes, where the article is ended there; or it is refused.
-pub text-passes : (text : List ℕ) (line : ℕ) (before s next : State) → ReadsTo text before line s → finish s ≡ Ok next → Passes text before next
-text-passes text line before s next r e = record { bytes = r.bytes; commands = r.commands; end = ended line; lines = r.lines; passed = rw (r.obeyed, e) refl }
-
-pub text-unfinished : (told : Option (List ℕ)) (line : ℕ) (before s : State) (why : Fault) → OfText told (λ text. ReadsTo text before line s) → Fails why (finish s) → HaltsText (halt_of_fault line why) told before
-text-unfinished told line before s (fault.Refused kind) r e =
-    of_text-follows told _ _ r (λ text read. record { commands = read.commands; end = ended line; lines = read.lines; refused = rw (read.obeyed, e) refl })
-text-unfinished told line before s fault.Memory r e = tt
+-- A text that is read to its end passes, where the article is ended there.
+pub text-passes : (text : List ℕ) (before s next : State) → ReadsTo text before s → finish s ≡ Ok next → Passes text before next
+text-passes text before s next r e = record { bytes = r.bytes; commands = r.commands; end = ended r.line; lines = r.lines; passed = rw r.obeyed (ap (at_line r.line) e) }

@@ -30,10 +30,11 @@ abbrev pub halt_of_line : LineFault → Halt
 halt_of_line (line_fault.Refused line kind) = Refused line kind
 halt_of_line line_fault.Memory = Memory
 
--- From one state, the commands of a text end at this line in the other.
-pub record ReadsTo (text : List ℕ) (before : State) (line : ℕ) (after : State) : Type 0 where
+-- From one state, the commands of a text end in the other.
+pub record ReadsTo (text : List ℕ) (before after : State) : Type 0 where
   pub bytes : AreBytes text
   pub commands : List Command
+  pub line : ℕ
   pub lines : Lines text commands (ended line)
   pub obeyed : obey_all machine before commands ≡ Ok after
 

@@ -51,16 +51,14 @@ fn run_article<H: Shelf>(alloc: Global, shelf: &mut H, machine: &mut Machine) ->
     ensures told_kept { H.told shelf.new ≡ H.told shelf.old }
     ensures count { H.faults shelf.old ≤ H.faults shelf.new }
 {
-    let end = read_commands(alloc, shelf, machine)?;
-    match machine.finish() {
-        Ok(()) => Ok(()),
-        Err(fault) => Err(halt_at(end, fault)),
-    }
+    read_commands(alloc, shelf, machine)?;
+    machine.finish();
+    Ok(())
 }
 
-// Gives the machine each command of the file begun, and gives the line of its end.
-fn read_commands<H: Shelf>(alloc: Global, shelf: &mut H, machine: &mut Machine) -> Result<u64, Halt>
-    ensures read { IfOk result (λ line. OfText (H.left shelf.old) (λ text. ReadsTo text machine.old line machine.new)) }
+// Gives the machine each command of the file begun.
+fn read_commands<H: Shelf>(alloc: Global, shelf: &mut H, machine: &mut Machine) -> Result<(), Halt>
+    ensures read { OnOk result (OfText (H.left shelf.old) (λ text. ReadsTo text machine.old machine.new)) }
     ensures refused { IfErr result (λ halt. HaltsText halt (H.left shelf.old) machine.old) }
     ensures begun { H.begun shelf.new ≡ H.begun shelf.old }
     ensures read_fault { IfErr result (λ halt. halt ≡ Halt.ReadFault → Rose (H.faults shelf.old) (H.faults shelf.new)) }
@@ -81,9 +79,9 @@ fn read_lines<H: Shelf>(
     machine: &mut Machine,
     lines: &mut Lines,
     commands: &mut Vec<Command>,
-) -> Result<u64, Halt>
+) -> Result<(), Halt>
     requires { lines.old ≡ fresh }
-    ensures read { IfOk result (λ line. OfText (H.left shelf.old) (λ text. ReadsTo text machine.old line machine.new)) }
+    ensures read { OnOk result (OfText (H.left shelf.old) (λ text. ReadsTo text machine.old machine.new)) }
     ensures refused { IfErr result (λ halt. HaltsText halt (H.left shelf.old) machine.old) }
     ensures begun { H.begun shelf.new ≡ H.begun shelf.old }
     ensures read_fault { IfErr result (λ halt. halt ≡ Halt.ReadFault → Rose (H.faults shelf.old) (H.faults shelf.new)) }
@@ -112,7 +110,7 @@ fn read_lines<H: Shelf>(
     let ended = lines.finish(commands);
     run_all(machine, commands)?;
     match ended {
-        Ok(line) => Ok(line),
+        Ok(_) => Ok(()),
         Err(fault) => Err(halt_of(fault)),
     }
 }

@@ -9,7 +9,8 @@ use Rattle.bridge_base.specs.declared.faults.Fault.{Fault}
 use Rattle.bridge_base.specs.declared.faults.Fault.TheVariants.{Memory, Refused}
 use Rattle.bridge_base.specs.declared.faults.Kind.{Kind}
 use Rattle.article_spec.specs.declared.commands.Word.{Word}
-use Rattle.article_spec.specs.State.{State}
+use Rattle.hol_spec.specs.declared.Version.{Version}
+use Rattle.article_spec.specs.State.{State, version_at}
 use Rattle.article_spec.specs.State as state
 use Rattle.article_spec.specs.Results.{◌>>=◌, Fails}
 use Rattle.article_spec.specs.Changes.{with_theorem}
@@ -29,12 +30,13 @@ use Rattle.stack_machine.specs.Making.{run_view}
 use Rattle.stack_machine.specs.MakingLaws.{count-step, count-symbols}
 use Rattle.stack_machine.specs.declared.object.NameId.{NameId}
 use Rattle.stack_machine.specs.Stored.{Stored, IsFront, IsName, IsStore, Grows, name_at, objects_view, store_view, AreKnown}
-use Rattle.stack_machine.specs.StoredLaws.{Grows-trans, IsKnown-Grows, name_at-Grows}
+use Rattle.stack_machine.specs.StoredLaws.{AreKnown-Grows, Grows-trans, IsKnown-Grows, name_at-Grows}
 use Rattle.stack_machine.specs.Shown.{in_state, shown}
-use Rattle.stack_machine.specs.Obeying.{Obeys}
+use Rattle.stack_machine.specs.Obeying.{Obeys, ObeysIn}
 use Rattle.stack_machine.specs.Inferring.{Infers, InfersTwo, defining, defining_type, with_type}
 use Rattle.stack_machine.proofs.Passing.{IfOk-map, IfErr-map, OnErr-map}
 use Rattle.stack_machine.proofs.Obeyed.{failed, placed}
+use Rattle.stack_machine.proofs.Placed.{placed-view, placed-known}
 use Rattle.stack_machine.proofs.Inferred.{limited-Ok, limited-fails}
 use Rattle.stack_machine.proofs.DefiningRules.{DefinesNoStep}
 use Rattle.stack_machine.proofs.Stores.{IsFront-same, IsMore, IsStore-more, Grows-more}
@@ -165,13 +167,30 @@ module _ {word : Word} {a b : Stored} {stack : List Object} {f : State → Resul
   defining-obeys {i = i} ys h put known view = placed n (object.Theorem i ∷ ys) (state.Object.theorem i ∷ vs) b.run k h.grows put (h.made, known) (ap (λ xs. state.Object.theorem i ∷ xs) view) refl
       (λ s. e s ∙ h.taken s (vs ++ objects_view a (drop n stack)))
 
-  pub defining_type-fails : (r : Result (Unit {0}) Fault) (x : Fault) → IsErrAnd r (λ y. y ≡ x) → InfersTwo a f b (Err x) → Obeys word a stack b stack r
-  defining_type-fails r x h i = failed r x h k i.grows i.run (λ s. subst (Fails x) (sym (e s)) (i.refused s (vs ++ objects_view a (drop n stack))))
+-- the same of two theorems, in an article of a version
+module _ {version : Version} {word : Word} {a b : Stored} {stack : List Object} {f : State → Result State Kind} (n : ℕ) (vs : List state.Object)
+    (e : (s : State) → version_at s.place ≡ version → obey (shown a stack s) word ≡ f (in_state s (vs ++ objects_view a (drop n stack)) a.run)) (k : AreKnown a stack) where
+  pub defining_type-fails : (r : Result (Unit {0}) Fault) (x : Fault) → IsErrAnd r (λ y. y ≡ x) → InfersTwo a f b (Err x) → ObeysIn version word a stack b stack r
+  defining_type-fails (Ok y) x h i = absurd h
+  defining_type-fails (Err z) x h i = record {
+    taken = tt;
+    refused = subst (λ w. (s : State) → version_at s.place ≡ version → Fails w (obey (shown a stack s) word)) (sym h) (λ s v. subst (Fails x) (sym (e s v)) (i.refused s (vs ++ objects_view a (drop n stack))));
+    known = AreKnown-Grows i.grows stack k;
+    grows = i.grows;
+    same = refl;
+    run = i.run;
+  }
 
-  pub defining_type-obeys : {new : List Object} {i j : ℕ} (ys : List Object) → InfersTwo a f b (Ok (i, j)) → new ≡ (object.Theorem j ∷ object.Theorem i ∷ ys) ++ drop n stack → AreKnown b ys → objects_view b ys ≡ vs → Obeys word a stack b new (Ok tt)
-  defining_type-obeys {i = i} {j = j} ys h put known view =
-      placed n (object.Theorem j ∷ object.Theorem i ∷ ys) (state.Object.theorem j ∷ state.Object.theorem i ∷ vs) b.run k h.grows put (h.made.1, (h.made.0, known))
-      (ap (λ xs. state.Object.theorem j ∷ state.Object.theorem i ∷ xs) view) refl (λ s. e s ∙ h.taken s (vs ++ objects_view a (drop n stack)))
+  pub defining_type-obeys : {new : List Object} {i j : ℕ} (ys : List Object) → InfersTwo a f b (Ok (i, j)) → new ≡ (object.Theorem j ∷ object.Theorem i ∷ ys) ++ drop n stack → AreKnown b ys → objects_view b ys ≡ vs → ObeysIn version word a stack b new (Ok tt)
+  defining_type-obeys {new = new} {i = i} {j = j} ys h put known view = record {
+    taken = λ s v. e s v ∙ h.taken s (vs ++ objects_view a (drop n stack))
+        ∙ ap (λ xs. Ok (in_state s xs b.run)) (sym (placed-view h.grows stack new (object.Theorem j ∷ object.Theorem i ∷ ys) n k put (state.Object.theorem j ∷ state.Object.theorem i ∷ vs) (ap (λ xs. state.Object.theorem j ∷ state.Object.theorem i ∷ xs) view)));
+    refused = tt;
+    known = placed-known h.grows stack new (object.Theorem j ∷ object.Theorem i ∷ ys) n k put (h.made.1, (h.made.0, known));
+    grows = h.grows;
+    same = tt;
+    run = tt;
+  }
 
 -- a name stays
 pub name-Grows : {a b : Stored} → Grows a b → (n : NameId) → IsName a n.0 → IsName b n.0 × (name_at b n.0 ≡ name_at a n.0)

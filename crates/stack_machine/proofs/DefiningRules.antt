@@ -1,5 +1,5 @@
 -- What each word that defines does once its operands are off the stack.
-use Rattle.std.proofs.Common.{◌≡◌, ℕ, refl, subst, List, [], ◌∷◌, map, Ok, Err, Result}
+use Rattle.std.proofs.Common.{◌≡◌, ℕ, refl, subst, ap, ◌∙◌, List, [], ◌∷◌, map, Ok, Err, Result}
 use Rattle.std.specs.Prelude.{not, nat_eq, length}
 use Rattle.std.specs.List.{list_all, list_any}
 use Rattle.std.specs.Option.{ok_or}
@@ -13,9 +13,10 @@ use Rattle.hol_spec.specs.Definitions.{Definition, TypeNames}
 use Rattle.hol_spec.specs.DefinitionLists.{ConstantPairs, names_of, defining_equations, definitions_in, is_definition_list}
 use Rattle.hol_spec.specs.Symbols.{Symbol, is_taken_constant}
 use Rattle.hol_spec.specs.Proofs.{Made, Step, steps_of, symbols_of, sequent_at}
+use Rattle.hol_spec.specs.declared.Version.{Version}
 use Rattle.hol_defs.specs.Symbols.{named}
 use Rattle.article_spec.specs.declared.commands.Word.TheVariants as word
-use Rattle.article_spec.specs.State.{State}
+use Rattle.article_spec.specs.State.{State, version_at}
 use Rattle.article_spec.specs.State as state
 use Rattle.article_spec.specs.DefiningWords.{constant_objects, are_new_names, application_parts, predicate_fits}
 use Rattle.article_spec.specs.Operands.{pop, as_constant_pairs, as_name, as_names, as_term, as_theorem}
@@ -48,8 +49,8 @@ then-type (Err k) q p s h = refl
 pub record DefinesNoStep (rule : Result NewType Kind) : Type 0 where
   pub none : (x : NewType) → rule ≡ Ok x → steps_of (x.definition ∷ []) ≡ []
 
-made_of_type-no_step : (names : TypeNames) (i : ℕ) (c : HolType) (f : Term) → DefinesNoStep (Ok (made_of_type names i c f))
-made_of_type-no_step names i c f = record { none = λ x e. let same : made_of_type names i c f ≡ x = cc in subst (λ (y : NewType). steps_of (y.definition ∷ []) ≡ []) same refl }
+made_of_type-no_step : (version : Version) (names : TypeNames) (i : ℕ) (c : HolType) (f : Term) → DefinesNoStep (Ok (made_of_type version names i c f))
+made_of_type-no_step version names i c f = record { none = λ x e. let same : made_of_type version names i c f ≡ x = cc in subst (λ (y : NewType). steps_of (y.definition ∷ []) ≡ []) same refl }
 
 then-no_step : (r : Result (Unit {0}) Kind) (q : Result NewType Kind) → DefinesNoStep q → DefinesNoStep (r >> q)
 then-no_step (Ok x) q h = h
@@ -59,15 +60,15 @@ bind-no_step : {A : Type 0} (r : Result A Kind) (g : A → Result NewType Kind) 
 bind-no_step (Ok x) g h = h x
 bind-no_step (Err k) g h = record { none = λ x e. absurd (cc) }
 
-pub type_laws-no_step : (made : List Made) (names : TypeNames) (i : ℕ) → DefinesNoStep (type_laws made names i)
-type_laws-no_step made names i =
+pub type_laws-no_step : (version : Version) (made : List Made) (names : TypeNames) (i : ℕ) → DefinesNoStep (type_laws version made names i)
+type_laws-no_step version made names i =
     let conclusion = (sequent_at made i).conclusion in
     then-no_step (are_new_names (symbols_of made) names) _
     (then-no_step (predicate_fits names.variables (application_parts conclusion)) _
     (then-no_step (demand (nat_eq (length (sequent_at made i).hypotheses) 0) NotTheSequent) _
     (bind-no_step (ok_or (application_parts conclusion) NotTheSequent) _ (λ parts.
     bind-no_step (typed parts.1) _ (λ c.
-    then-no_step (in_limits (type_measures names c parts.0)) _ (made_of_type-no_step names i c parts.0))))))
+    then-no_step (in_limits (type_measures version names c parts.0)) _ (made_of_type-no_step version names i c parts.0))))))
 
 module _ (s : State) (t : Term) (n : Name) (below rest : List state.Object) (e : pop as_term s.stack ≡ Ok (t, below)) (f : pop as_name below ≡ Ok (n, rest)) where
   pub obey-DefineConst : obey s word.DefineConst ≡ defining (Symbol.defined (Definition.constant n t) ∷ []) (define_const_step s.made n t) (with_stack s (state.Object.constant n ∷ rest))
@@ -96,9 +97,10 @@ module _ (s : State) (i : ℕ) (pairs : ConstantPairs) (below rest : List state.
 
 module _ (s : State) (i : ℕ) (op abs rep : Name) (names : List Name) (one two three four rest : List state.Object)
     (e : pop as_theorem s.stack ≡ Ok (i, one)) (f : pop as_names one ≡ Ok (names, two)) (g : pop as_name two ≡ Ok (rep, three)) (h : pop as_name three ≡ Ok (abs, four)) (j : pop as_name four ≡ Ok (op, rest)) where
-  pub obey-DefineTypeOp : obey s word.DefineTypeOp
-      ≡ defining_type (type_laws s.made (named op abs rep names) i) (with_stack s (state.Object.constant rep ∷ state.Object.constant abs ∷ state.Object.type_operator op ∷ rest))
-  obey-DefineTypeOp =
+  pub obey-DefineTypeOp : (version : Version) → version_at s.place ≡ version → obey s word.DefineTypeOp
+      ≡ defining_type (type_laws version s.made (named op abs rep names) i) (with_stack s (state.Object.constant rep ∷ state.Object.constant abs ∷ state.Object.type_operator op ∷ rest))
+  obey-DefineTypeOp version v =
+      let edition = version_at s.place in
       let all = named op abs rep names in
       let conclusion = (sequent_at s.made i).conclusion in
       let after = with_stack s (state.Object.constant rep ∷ state.Object.constant abs ∷ state.Object.type_operator op ∷ rest) in
@@ -108,4 +110,5 @@ module _ (s : State) (i : ℕ) (op abs rep : Name) (names : List Name) (one two 
       (then-type (demand (nat_eq (length (sequent_at s.made i).hypotheses) 0) NotTheSequent) _ _ after
       (bind-type (ok_or (application_parts conclusion) NotTheSequent) _ _ after (λ parts.
       bind-type (typed parts.1) _ _ after (λ c.
-      then-type (in_limits (type_measures all c parts.0)) _ _ after refl))))))))))
+      then-type (in_limits (type_measures edition all c parts.0)) _ _ after refl))))))))))
+      ∙ ap (λ w. defining_type (type_laws w s.made all i) after) v

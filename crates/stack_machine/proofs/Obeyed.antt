@@ -25,7 +25,8 @@ use Rattle.stack_machine.specs.Refusals.{application_fits, constant_fits, operat
 use Rattle.stack_machine.specs.Stored.{Stored, objects_view, AreKnown, Grows}
 use Rattle.stack_machine.specs.StoredLaws.{Grows-refl, AreKnown-Grows}
 use Rattle.stack_machine.specs.Shown.{in_state, shown}
-use Rattle.stack_machine.specs.Obeying.{Obeys}
+use Rattle.stack_machine.specs.Obeying.{Obeys, ObeysIn}
+use Rattle.hol_spec.specs.declared.Version.{Version}
 use Rattle.stack_machine.proofs.Placed.{placed-view, placed-known}
 
 -- the first fault in a row is the fault of all
@@ -118,3 +119,8 @@ module _ {word : Word} {a b : Stored} {stack : List Object} where
 -- a fault, where nothing changes
 pub stopped : {word : Word} {a : Stored} {stack : List Object} (r : Result (Unit {0}) Fault) (x : Fault) → IsErrAnd r (λ e. e ≡ x) → AreKnown a stack → ((s : State) → Fails x (obey (shown a stack s) word)) → Obeys word a stack a stack r
 stopped {a = a} r x h k f = failed r x h k (Grows-refl a) refl f
+
+-- a word that is obeyed in each article is obeyed in one of a version
+pub Obeys-In : (version : Version) {word : Word} {a b : Stored} {stack new : List Object} (r : Result (Unit {0}) Fault) → Obeys word a stack b new r → ObeysIn version word a stack b new r
+Obeys-In version (Ok x) h = record { taken = λ s v. h.taken s; refused = tt; known = h.known; grows = h.grows; same = tt; run = tt }
+Obeys-In version (Err x) h = record { taken = tt; refused = λ s v. h.refused s; known = h.known; grows = h.grows; same = h.same; run = h.run }

@@ -73,7 +73,7 @@ AreEntriesKnown m entries = AllByRecursion (λ e. IsKnown m e.1) entries
 abbrev pub place_view : Progress → state.Place
 place_view Begun = state.Place.start
 place_view Numbered = state.Place.version
-place_view Running = state.Place.body
+place_view (Running version) = state.Place.body version
 
 -- the state without its stack and its run
 abbrev pub article_state : Stored → List (ℤ × Object) → Progress → State

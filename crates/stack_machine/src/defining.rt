@@ -20,6 +20,7 @@ use crate::store::Store;
 use bridge_base::{Fault, Memory};
 use hol_name::Name;
 use hol_rules::StepId;
+use hol_spec::Version;
 use hol_term::{TermId, Variable};
 use std::alloc::Global;
 
@@ -89,7 +90,7 @@ impl Store {
         self.proof.define_const_list(pairs, one)
     }
 
-    // The two laws of a new type operator, which a theorem shows to have an element.
+    // The two laws of a new type operator, which a theorem shows to have an element, in an article of a version.
     pub(crate) fn define_type_op(
         &mut self,
         op: NameId,
@@ -97,17 +98,18 @@ impl Store {
         rep: NameId,
         names: &[Name],
         one: StepId,
+        version: Version,
     ) -> Result<(StepId, StepId), Fault>
         requires op { IsName self.old op.0 }
         requires abs { IsName self.old abs.0 }
         requires rep { IsName self.old rep.0 }
         requires one { IsStep self.old one }
-        ensures { InfersTwo self.old (defining_type (type_laws self.old.run.made (named (name_at self.old op.0) (name_at self.old abs.0) (name_at self.old rep.0) names.now) one)) self.new result }
+        ensures { InfersTwo self.old (defining_type (type_laws version self.old.run.made (named (name_at self.old op.0) (name_at self.old abs.0) (name_at self.old rep.0) names.now) one)) self.new result }
     {
         let op = self.name(op)?;
         let abs = self.name(abs)?;
         let rep = self.name(rep)?;
-        self.define_type_op_as(&op, &abs, &rep, names, one)
+        self.define_type_op_as(&op, &abs, &rep, names, one, version)
     }
 
     // The same by names.
@@ -118,10 +120,11 @@ impl Store {
         rep: &Name,
         names: &[Name],
         one: StepId,
+        version: Version,
     ) -> Result<(StepId, StepId), Fault>
         requires { IsStep self.old one }
-        ensures { InfersTwo self.old (defining_type (type_laws self.old.run.made (named op.now abs.now rep.now names.now) one)) self.new result }
+        ensures { InfersTwo self.old (defining_type (type_laws version self.old.run.made (named op.now abs.now rep.now names.now) one)) self.new result }
     {
-        self.proof.define_type_op(op, abs, rep, names, one)
+        self.proof.define_type_op(op, abs, rep, names, one, version)
     }
 }

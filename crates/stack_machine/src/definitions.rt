@@ -1,9 +1,9 @@
 //! The words that define constants and type operators: each takes what its definition is given from the stack, and puts there
-//! what it made, its theorems on top.
+//! what it made, its theorems on top. The theorems of a type operator are stated by the version of the article.
 ghost use Rattle.article_spec.specs.declared.commands.Word.TheVariants as word;
 ghost use Rattle.article_spec.specs.Operands.{as_constant_pairs, as_names};
 ghost use Rattle.hol_defs.specs.Lists.{pairs_at as constant_pairs_at, ArePairsKnown as AreConstantPairsKnown};
-ghost use Rattle.stack_machine.specs.Obeying.{Obeys};
+ghost use Rattle.stack_machine.specs.Obeying.{Obeys, ObeysIn};
 ghost use Rattle.stack_machine.specs.Reading.{Operand};
 ghost use Rattle.stack_machine.specs.Shown.{IsDefinition};
 ghost use Rattle.stack_machine.specs.Stored.{AreKnown};
@@ -15,6 +15,7 @@ use crate::store::Store;
 use article_spec::Word;
 use bridge_base::Fault;
 use hol_name::Name;
+use hol_spec::Version;
 use hol_term::Variable;
 use std::alloc::Global;
 
@@ -67,16 +68,21 @@ fn define_const_list(alloc: Global, store: &mut Store, stack: &mut Stack) -> Res
 }
 
 /// A type operator by the predicate and the witness of a theorem.
-fn define_type_op(alloc: Global, store: &mut Store, stack: &mut Stack) -> Result<(), Fault>
+fn define_type_op(
+    alloc: Global,
+    store: &mut Store,
+    stack: &mut Stack,
+    version: Version,
+) -> Result<(), Fault>
     requires { AreKnown store.old stack.old }
-    ensures { Obeys word.DefineTypeOp store.old stack.old store.new stack.new result }
+    ensures { ObeysIn version word.DefineTypeOp store.old stack.old store.new stack.new result }
 {
     let one = theorem_on(stack, 0)?;
     let names = names_on(alloc, store, stack, 1)?;
     let rep = name_on(stack, 2)?;
     let abs = name_on(stack, 3)?;
     let op = name_on(stack, 4)?;
-    let (first, second) = store.define_type_op(op, abs, rep, &names, one)?;
+    let (first, second) = store.define_type_op(op, abs, rep, &names, one, version)?;
     stack.put_five(
         Object::TypeOperator(op),
         Object::Constant(abs),
@@ -87,21 +93,22 @@ fn define_type_op(alloc: Global, store: &mut Store, stack: &mut Stack) -> Result
     Ok(())
 }
 
-/// A word that defines.
+/// A word that defines, in an article of a version.
 pub(crate) fn obey_by_definition(
     alloc: Global,
     store: &mut Store,
     stack: &mut Stack,
     word: Word,
+    version: Version,
 ) -> Result<(), Fault>
     requires word { IsDefinition word }
     requires stack { AreKnown store.old stack.old }
-    ensures { Obeys word store.old stack.old store.new stack.new result }
+    ensures { ObeysIn version word store.old stack.old store.new stack.new result }
 {
     match word {
         Word::DefineConst => define_const(store, stack),
         Word::DefineConstList => define_const_list(alloc, store, stack),
-        Word::DefineTypeOp => define_type_op(alloc, store, stack),
+        Word::DefineTypeOp => define_type_op(alloc, store, stack, version),
         _ => unreachable!(),
     }
 }

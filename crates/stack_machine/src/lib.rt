@@ -1,4 +1,4 @@
-//! The stack machine of articles (OpenTheory article format, version 6).
+//! The stack machine of articles (OpenTheory article format, versions 5 and 6).
 //!
 //! [`Machine`] obeys the commands of one article after another. Contracts see its state, the `State` of `article_spec`:
 //! the objects on the stack from the top, the dictionary as a finite map from numbers to objects, how far the article
@@ -7,6 +7,10 @@
 //! definition. After a refusal or want of memory the state is as before. Constants and operators that are neither
 //! primitive nor defined become inputs where they are first used. A word that defines takes its symbols with its
 //! theorems, or does nothing. What an article assumes is met by what an earlier one exports, or by an earlier assumption.
+//!
+//! An article whose first two commands are the number 6 and `version` is of version 6, and any other of version 5. They
+//! differ in the two laws that `defineTypeOp` makes: by equations of abstractions in version 6, over free variables in
+//! version 5. The word `version` at any other place is refused.
 //!
 //! The machine owns a `Proof` of `hol_rules`, which has the types and terms, the symbols and the steps. What stands on
 //! the stack are numbers of what the machine keeps once: types, terms and steps of the proof, names, and lists by their
@@ -17,7 +21,7 @@
 //! let mut machine = Machine::new(alloc)?;
 //! machine.step(&Command { line: 1, item: Item::Number(6) })?;
 //! machine.step(&Command { line: 2, item: Item::Word(Word::Version) })?;
-//! machine.finish()?;
+//! machine.finish();
 //! let theorems = machine.exports();
 //! ```
 #![tactic(auto)]

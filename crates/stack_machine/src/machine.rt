@@ -3,18 +3,17 @@ ghost use Rattle.std.specs.Prelude.{◌≡◌, ℕ, List, Ok, OnOk, OnErr, IfOk,
 ghost use Rattle.std.specs.List.{AllByRecursion};
 ghost use Rattle.hol_spec.specs.Derivations.{Derives};
 ghost use Rattle.hol_spec.specs.Proofs.{assumptions_of, definitions_of, sequents_of, symbols_of};
-ghost use Rattle.bridge_base.specs.declared.faults.Fault.TheVariants as the_fault;
-ghost use Rattle.bridge_base.specs.declared.faults.Kind.TheVariants as the_kind;
+ghost use Rattle.hol_spec.specs.declared.Version.TheVariants.{Five};
 ghost use Rattle.article_spec.specs.declared.commands.Word.TheVariants as word;
 ghost use Rattle.article_spec.specs.Results.{Fails};
 ghost use Rattle.article_spec.specs.Run.{accepted, accepted_state, Run};
 ghost use Rattle.article_spec.specs.SoundRuns.{IsSoundRun};
-ghost use Rattle.article_spec.specs.State.{Place, initial};
-ghost use Rattle.article_spec.specs.Step.{finish, obey, step, step_at};
+ghost use Rattle.article_spec.specs.State.{Place, initial, version_at};
+ghost use Rattle.article_spec.specs.Step.{finish, in_body, obey, obey_item, step, step_at};
 ghost use Rattle.hol_term.specs.Tables.{Trees};
 ghost use Rattle.hol_defs.specs.Symbols.{symbols_at, AreKnownSymbols};
 ghost use Rattle.stack_machine.specs.Making.{AreSteps};
-ghost use Rattle.stack_machine.specs.Shown.{IsDefinition, IsInference, IsOnStack};
+ghost use Rattle.stack_machine.specs.Shown.{place_view, IsDefinition, IsInference, IsOnStack};
 
 use crate::commands::obey_on_stack;
 use crate::definitions::obey_by_definition;
@@ -27,6 +26,7 @@ use article_spec::{Command, Item, Word};
 use bridge_base::{Fault, Kind, Memory};
 use hol_defs::Symbols;
 use hol_rules::{Proof, StepId};
+use hol_spec::Version;
 use std::alloc::Global;
 use std::collections::BTreeMap;
 use std::marker::Model;
@@ -36,10 +36,22 @@ use std::marker::Model;
 pub(crate) enum Progress {
     /// No command yet.
     Begun,
-    /// The number of the version alone.
+    /// The number 6 alone, which `version` may follow.
     Numbered,
-    /// Both first commands.
-    Running,
+    /// In its body, in an article of this version.
+    Running(Version),
+}
+
+impl Progress {
+    // The version of the article so far.
+    fn version(self) -> Version
+        ensures { result ≡ version_at (place_view self) }
+    {
+        match self {
+            Progress::Begun | Progress::Numbered => Version::Five,
+            Progress::Running(version) => version,
+        }
+    }
 }
 
 /// The stack machine. Contracts see its state: the stack as a list of objects from the top, the dictionary as a
@@ -85,8 +97,9 @@ impl Machine {
         })
     }
 
-    /// Obeys a command (OpenTheory article format, version 6, "Commands"). It is refused for the first condition that
-    /// fails: the place of `version`; the stack, each operand from the top first there and then of its kind; the
+    /// Obeys a command (OpenTheory article format, versions 5 and 6, "Commands"). An article is of version 6 where its
+    /// first two commands are the number 6 and `version`; another is of version 5, and its first command is one of its
+    /// body. A command is refused for the first condition that fails: the place of `version`; the stack, each operand from the top first there and then of its kind; the
     /// dictionary; the command's own conditions; the limits of size, of depth and of the number of parameters. After a
     /// refusal or want of memory the machine is as before.
     pub fn step(&mut self, command: &Command) -> Result<(), Fault>
@@ -96,30 +109,21 @@ impl Machine {
     {
         match self.progress {
             Progress::Begun => self.begin(&command.item),
-            Progress::Numbered => self.version(&command.item),
-            Progress::Running => self.body(&command.item),
+            Progress::Numbered => self.second(&command.item),
+            Progress::Running(_) => self.body(&command.item),
         }
     }
 
-    /// Ends an article, and begins the next with an empty stack and an empty dictionary. It is refused exactly where
-    /// the article lacks its first two commands, and then nothing changes. It takes no memory.
-    pub fn finish(&mut self) -> Result<(), Fault>
-        ensures ended { OnOk result (finish self.old ≡ Ok self.new) }
-        ensures refused { IfErr result (λ fault. Fails fault (finish self.old)) }
-        ensures place { IfErr result (λ fault. fault ≡ the_fault.Refused the_kind.VersionPlace) }
-        ensures unchanged { OnErr result (self.new ≡ self.old) }
+    /// Ends an article, and begins the next with an empty stack and an empty dictionary, before its first command. It
+    /// takes no memory, and never fails.
+    pub fn finish(&mut self)
+        ensures { finish self.old ≡ Ok self.new }
     {
-        match self.progress {
-            Progress::Running => {
-                self.stack.clear();
-                self.dictionary.clear();
-                self.store.end_article();
-                self.left = 0;
-                self.progress = Progress::Begun;
-                Ok(())
-            }
-            Progress::Begun | Progress::Numbered => Err(Fault::Refused(Kind::VersionPlace)),
-        }
+        self.stack.clear();
+        self.dictionary.clear();
+        self.store.end_article();
+        self.left = 0;
+        self.progress = Progress::Begun;
     }
 
     /// The proof that the articles made: its table, its symbols and its steps.
@@ -167,7 +171,7 @@ impl Machine {
         ensures { (articles : List (List ℕ)) → Run articles (accepted (accepted_state self.now)) → IsSoundRun (accepted_state self.now) }
     {}
 
-    // The first command is the number 6.
+    // The first command: the number 6 is put on the stack, and may be that of the version.
     fn begin(&mut self, item: &Item) -> Result<(), Fault>
         ensures taken { OnOk result (step_at Place.start self.old item.now ≡ Ok self.new) }
         ensures refused { IfErr result (λ fault. Fails fault (step_at Place.start self.old item.now)) }
@@ -176,18 +180,18 @@ impl Machine {
         match item {
             Item::Number(number) => {
                 if *number != 6 {
-                    return Err(Fault::Refused(Kind::VersionPlace));
+                    return self.begin_body(item);
                 }
                 self.stack.push(Object::Number(*number))?;
                 self.progress = Progress::Numbered;
                 Ok(())
             }
-            Item::Name(_) | Item::Word(_) => Err(Fault::Refused(Kind::VersionPlace)),
+            Item::Name(_) | Item::Word(_) => self.begin_body(item),
         }
     }
 
-    // The second command is `version`, which takes the number off.
-    fn version(&mut self, item: &Item) -> Result<(), Fault>
+    // The command after the number 6: `version` takes the number off.
+    fn second(&mut self, item: &Item) -> Result<(), Fault>
         ensures taken { OnOk result (step_at Place.version self.old item.now ≡ Ok self.new) }
         ensures refused { IfErr result (λ fault. Fails fault (step_at Place.version self.old item.now)) }
         ensures unchanged { OnErr result (self.new ≡ self.old) }
@@ -195,19 +199,34 @@ impl Machine {
         match item {
             Item::Word(Word::Version) => {
                 self.stack.drop_top(1);
-                self.progress = Progress::Running;
+                self.progress = Progress::Running(Version::Six);
                 Ok(())
             }
-            Item::Number(_) | Item::Name(_) | Item::Word(_) => {
-                Err(Fault::Refused(Kind::VersionPlace))
+            Item::Number(_) | Item::Name(_) | Item::Word(_) => self.begin_body(item),
+        }
+    }
+
+    // The command is the first of the body of an article of version 5, whose place is as before where it is refused.
+    fn begin_body(&mut self, item: &Item) -> Result<(), Fault>
+        ensures taken { OnOk result (obey_item (in_body Five self.old) item.now ≡ Ok self.new) }
+        ensures refused { IfErr result (λ fault. Fails fault (obey_item (in_body Five self.old) item.now)) }
+        ensures unchanged { OnErr result (self.new ≡ self.old) }
+    {
+        let before = self.progress;
+        self.progress = Progress::Running(Version::Five);
+        match self.body(item) {
+            Ok(()) => Ok(()),
+            Err(fault) => {
+                self.progress = before;
+                Err(fault)
             }
         }
     }
 
     // A command of the body, once there is room.
     fn body(&mut self, item: &Item) -> Result<(), Fault>
-        ensures taken { OnOk result (step_at Place.body self.old item.now ≡ Ok self.new) }
-        ensures refused { IfErr result (λ fault. Fails fault (step_at Place.body self.old item.now)) }
+        ensures taken { OnOk result (obey_item self.old item.now ≡ Ok self.new) }
+        ensures refused { IfErr result (λ fault. Fails fault (obey_item self.old item.now)) }
         ensures unchanged { OnErr result (self.new ≡ self.old) }
     {
         self.make_room();
@@ -239,8 +258,8 @@ impl Machine {
 
     // A command of the body.
     fn run(&mut self, item: &Item) -> Result<(), Fault>
-        ensures taken { OnOk result (step_at Place.body self.old item.now ≡ Ok self.new) }
-        ensures refused { IfErr result (λ fault. Fails fault (step_at Place.body self.old item.now)) }
+        ensures taken { OnOk result (obey_item self.old item.now ≡ Ok self.new) }
+        ensures refused { IfErr result (λ fault. Fails fault (obey_item self.old item.now)) }
         ensures unchanged { OnErr result (self.new ≡ self.old) }
     {
         match item {
@@ -328,7 +347,13 @@ impl Machine {
         ensures refused { IfErr result (λ fault. Fails fault (obey self.old word)) }
         ensures unchanged { OnErr result (self.new ≡ self.old) }
     {
-        obey_by_definition(self.alloc, &mut self.store, &mut self.stack, word)
+        obey_by_definition(
+            self.alloc,
+            &mut self.store,
+            &mut self.stack,
+            word,
+            self.progress.version(),
+        )
     }
 
     // Keeps an object under a number.

@@ -16,3 +16,19 @@ fn every_command_is_obeyed(rt: HostRuntime) -> Result<(), Fail> {
     }
     Ok(())
 }
+
+// An article whose first command is the number 6, which a list takes; and one that begins with a name.
+const SIX_LISTED: &[u8] = b"6\nnil\ncons\nhdTl\npop\npop\n";
+
+const NAME_FIRST: &[u8] = b"\"bool\"\ntypeOp\nnil\nopType\n0\ndef\npop\n";
+
+// Each is obeyed twice, so the second begins where the first did.
+#[test]
+fn an_article_of_version_5_needs_no_version(rt: HostRuntime) -> Result<(), Fail> {
+    let alloc = rt.alloc();
+    assert!(rt; comes_out(alloc, Trial::Twice(b"", 1))?);
+    assert!(rt; comes_out(alloc, Trial::Twice(b"6\n", 1))?);
+    assert!(rt; comes_out(alloc, Trial::Twice(SIX_LISTED, 1))?);
+    assert!(rt; comes_out(alloc, Trial::Twice(NAME_FIRST, 1))?);
+    Ok(())
+}

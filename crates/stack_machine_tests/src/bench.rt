@@ -13,7 +13,7 @@ use std::alloc::Global;
 // 3, p as a variable under 4, equality of predicates under 5, the type of predicates under 6, the terms p = q and
 // p = p under 7 and 8, and the identity, p => p, under 9. Blanks stand for the ends of lines.
 const TYPES: &[u8] =
-    b"6 version \"bool\" typeOp nil opType 0 def pop \"->\" typeOp 0 ref 0 ref nil cons cons opType 6 def pop \"p\" 0 ref var 4 def varTerm 1 def pop \"q\" 0 ref var varTerm 2 def pop";
+    b"\"bool\" typeOp nil opType 0 def pop \"->\" typeOp 0 ref 0 ref nil cons cons opType 6 def pop \"p\" 0 ref var 4 def varTerm 1 def pop \"q\" 0 ref var varTerm 2 def pop";
 
 const EQUALITIES: &[u8] =
     b"\"=\" const \"->\" typeOp 0 ref 6 ref nil cons cons opType constTerm 3 def pop \"=\" const \"->\" typeOp 6 ref \"->\" typeOp 6 ref 0 ref nil cons cons opType nil cons cons opType constTerm 5 def pop";
@@ -76,8 +76,14 @@ impl Bench {
         }
     }
 
-    /// Obeys the beginning of an article.
+    /// Obeys the beginning of an article of version 6.
     pub(crate) fn begin(&mut self) -> Result<(), LineFault> {
+        self.obey(b"6 version")?;
+        self.begin_body()
+    }
+
+    /// Obeys the beginning of a body.
+    pub(crate) fn begin_body(&mut self) -> Result<(), LineFault> {
         self.obey(TYPES)?;
         self.obey(EQUALITIES)?;
         self.obey(TERMS)
@@ -92,8 +98,9 @@ impl Bench {
     /// Ends the article.
     pub(crate) fn end(&mut self) -> Result<(), LineFault> {
         self.commands.clear();
-        let line = self.lines.finish(&mut self.commands)?;
-        end_at(&mut self.machine, line)
+        self.lines.finish(&mut self.commands)?;
+        self.machine.finish();
+        Ok(())
     }
 
     /// Whether the commands but the last are obeyed, and the last is refused for this reason, at its line.
@@ -200,14 +207,6 @@ fn obey_all(machine: &mut Machine, commands: &[Command]) -> Result<(), LineFault
     Ok(())
 }
 
-// Ends an article that has so many lines.
-fn end_at(machine: &mut Machine, line: u64) -> Result<(), LineFault> {
-    match machine.finish() {
-        Ok(()) => Ok(()),
-        Err(fault) => Err(told(line, fault)),
-    }
-}
-
 // Whether the commands but the last are obeyed, and the last is refused for this reason, at its line.
 fn is_last_refused(
     machine: &mut Machine,
@@ -250,7 +249,9 @@ fn finish(
     commands.clear();
     let ended = lines.finish(commands);
     obey_all(machine, commands)?;
-    end_at(machine, ended?)
+    ended?;
+    machine.finish();
+    Ok(())
 }
 
 // Runs an article that comes in pieces of this size.

@@ -119,6 +119,33 @@ pub(crate) fn new_type(bench: &mut Bench) -> Result<bool, LineFault> {
     Ok(bench.has_made(&[0], &[], 3) && first && second && taken && constants)
 }
 
+// After the definition of a new type of truth values: the type under 20, its constants under 21 and 22, a truth value r under
+// 23, the predicate under 24, equality of the new type under 25, and a variable a of it under 26.
+const OF_THE_NEW_TYPE: &[u8] =
+    b"\"two\" typeOp nil opType 20 def pop \"mk\" const \"->\" typeOp 0 ref 20 ref nil cons cons opType constTerm 21 def pop \"dest\" const \"->\" typeOp 20 ref 0 ref nil cons cons opType constTerm 22 def pop \"r\" 0 ref var varTerm 23 def pop 4 ref 8 ref absTerm 24 def pop \"=\" const \"->\" typeOp 20 ref \"->\" typeOp 20 ref 0 ref nil cons cons opType nil cons cons opType constTerm 25 def pop \"a\" 20 ref var varTerm 26 def pop";
+
+// The laws over free variables, the second first: it is on top of the stack.
+const SECOND_OVER_R: &[u8] =
+    b"nil 3 ref 24 ref 23 ref appTerm appTerm 3 ref 22 ref 21 ref 23 ref appTerm appTerm appTerm 23 ref appTerm appTerm thm";
+
+const FIRST_OVER_A: &[u8] =
+    b"nil 25 ref 21 ref 22 ref 26 ref appTerm appTerm appTerm 26 ref appTerm thm";
+
+/// The same type in a further article, of version 5, which states its laws over free variables.
+pub(crate) fn new_type_in_version_5(bench: &mut Bench) -> Result<bool, LineFault> {
+    bench.end()?;
+    bench.begin_body()?;
+    bench.obey(b"\"two\" \"mk\" \"dest\" nil nil 4 ref 8 ref absTerm 1 ref appTerm axiom")?;
+    bench.obey(b"defineTypeOp")?;
+    bench.obey(OF_THE_NEW_TYPE)?;
+    bench.obey(SECOND_OVER_R)?;
+    bench.obey(FIRST_OVER_A)?;
+    bench.end()?;
+    let first = bench.is_by(1, StepKind::FirstLaw, &[0], 0);
+    let second = bench.is_by(2, StepKind::SecondLaw, &[0], 0);
+    Ok(bench.has_made(&[0], &[3, 4], 5) && first && second)
+}
+
 /// A type variable that the predicate lacks.
 pub(crate) fn new_type_with_a_type_variable(bench: &mut Bench) -> Result<bool, LineFault> {
     bench.obey(b"\"two\" \"mk\" \"dest\" \"a\" nil cons")?;

@@ -1,4 +1,4 @@
-//! Types and terms have at most 1,048,576 nodes and a depth of at most 1,024, whatever command makes them.
+//! Types and terms have at most 1,048,576 nodes and a depth of at most 16,384, whatever command makes them.
 use crate::bench::Part;
 use crate::trials::{Trial, comes_out};
 use article_read::LineFault;
@@ -24,9 +24,9 @@ const OPEN: Part = (1, b"\"list\"\ntypeOp\n");
 
 const CLOSE: Part = (1, b"nil\ncons\nopType\n");
 
-const OPEN_ALL: Part = (1023, b"\"list\"\ntypeOp\n");
+const OPEN_ALL: Part = (16383, b"\"list\"\ntypeOp\n");
 
-const CLOSE_ALL: Part = (1023, b"nil\ncons\nopType\n");
+const CLOSE_ALL: Part = (16383, b"nil\ncons\nopType\n");
 
 const NAME: Part = (1, b"\"x\"\n");
 
@@ -80,8 +80,8 @@ fn deepest_type(alloc: Global) -> Result<bool, LineFault> {
 }
 
 fn deepest_term(alloc: Global) -> Result<bool, LineFault> {
-    let functions: Part = (1020, b"1\nref\n");
-    let applications: Part = (1020, b"appTerm\n");
+    let functions: Part = (16380, b"1\nref\n");
+    let applications: Part = (16380, b"appTerm\n");
     let parts = [
         BEGIN,
         BOOL,
@@ -147,8 +147,8 @@ fn large_application(alloc: Global) -> Result<bool, LineFault> {
 }
 
 fn deep_application(alloc: Global) -> Result<bool, LineFault> {
-    let functions: Part = (1021, b"1\nref\n");
-    let applications: Part = (1021, b"appTerm\n");
+    let functions: Part = (16381, b"1\nref\n");
+    let applications: Part = (16381, b"appTerm\n");
     let parts = [
         BEGIN,
         BOOL,

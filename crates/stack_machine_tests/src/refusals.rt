@@ -10,14 +10,14 @@ fn stops(alloc: Global, text: &[u8], line: u64, kind: Kind) -> Result<bool, Line
     comes_out(alloc, Trial::Stops(text, line, kind))
 }
 
-// The first two commands.
+// `version` elsewhere than after the number 6 as the first command.
 fn beginnings(alloc: Global) -> Result<bool, LineFault> {
     let kind = Kind::VersionPlace;
-    let nothing = stops(alloc, b"", 1, kind)?;
-    let number_alone = stops(alloc, b"6\n", 2, kind)?;
-    let other_number = stops(alloc, b"5\nversion\n", 1, kind)?;
+    let first = stops(alloc, b"version\n", 1, kind)?;
+    let other_number = stops(alloc, b"5\nversion\n", 2, kind)?;
+    let third = stops(alloc, b"6\n6\nversion\n", 3, kind)?;
     let again = stops(alloc, b"6\nversion\nversion\n", 3, kind)?;
-    Ok(nothing && number_alone && other_number && again)
+    Ok(first && other_number && third && again)
 }
 
 // What is read.

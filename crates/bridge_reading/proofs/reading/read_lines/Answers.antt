@@ -51,9 +51,9 @@ returns-in_err-run_all-2-clause-refused g c =
 
 pub returns-in-Ok-ended-clause-read : goal.returns-in-Ok-ended-clause-read
 returns-in-Ok-ended-clause-read g c =
-    last_obeyed _ (g.H.Shelf.left c.loop-count.shelf) c.args.machine.now c.loop-count.machine c.run_all-2.new.machine c.loop-count.lines c.finish-ended.new.out.items c.in-Ok-ended.line c.loop-count.invariant.read
+    last_obeyed _ (g.H.Shelf.left c.loop-count.shelf) c.args.machine.now c.loop-count.machine c.run_all-2.new.machine c.loop-count.lines c.finish-ended.new.out.items c.in-Ok-ended.field-0 c.loop-count.invariant.read
     (let z : c.in-Ok.count ≡ 0 = grind (arith, common_steps) in c.in-Ok.ensures.end (ap Ok z) (grind (arith, common_steps)))
-    (subst (λ cleared. EndsWith c.loop-count.lines cleared c.finish-ended.new.out.items (Ok c.in-Ok-ended.line)) c.clear-2.ensures.items c.in-Ok-ended.ensures.ends)
+    (subst (λ cleared. EndsWith c.loop-count.lines cleared c.finish-ended.new.out.items (Ok c.in-Ok-ended.field-0)) c.clear-2.ensures.items c.in-Ok-ended.ensures.ends)
     (subst (λ commands. obey_all machine c.loop-count.machine commands ≡ Ok c.run_all-2.new.machine) c.deref-2.ensures.value c.in_ok-run_all-2.ensures.obeyed)
 
 pub returns-in-Err-ended-clause-refused : goal.returns-in-Err-ended-clause-refused

@@ -1,4 +1,4 @@
-use Rattle.std.proofs.Common.{ap, ◌∙◌, Ok}
+use Rattle.std.proofs.Common.{ap, sym, ◌∙◌, Ok}
 use Rattle.stack_machine.specs.Shown.{shown, article_state}
 use Rattle.stack_machine.proofs.Passing.{OnOk-map, IfErr-map, OnErr-map2}
 use Rattle.stack_machine.proofs.Dictionaries.{entries-Grow}
@@ -10,10 +10,10 @@ invariant_of-self c = (c.obey_by_definition.ensures.known, entries-Grow c.obey_b
 
 pub returns-clause-taken : goal.returns-clause-taken
 returns-clause-taken c = OnOk-map c.obey_by_definition.result _ _ c.obey_by_definition.ensures.taken
-    (λ f. rw (← c.self.view_is) (f (article_state c.self.inside.store c.self.inside.dictionary.entries c.self.inside.progress) ∙ ap (λ s. Ok (shown c.obey_by_definition.new.store c.obey_by_definition.new.stack s)) (article-Grows c.obey_by_definition.ensures.grows c.self.inside.dictionary.entries c.self.inside.progress c.self.invariant.1)))
+    (λ f. rw (← c.self.view_is) (f (article_state c.self.inside.store c.self.inside.dictionary.entries c.self.inside.progress) (sym c.version.ensures) ∙ ap (λ s. Ok (shown c.obey_by_definition.new.store c.obey_by_definition.new.stack s)) (article-Grows c.obey_by_definition.ensures.grows c.self.inside.dictionary.entries c.self.inside.progress c.self.invariant.1)))
 
 pub returns-clause-refused : goal.returns-clause-refused
-returns-clause-refused c = IfErr-map c.obey_by_definition.result _ _ c.obey_by_definition.ensures.refused (λ fault f. rw (← c.self.view_is) (f (article_state c.self.inside.store c.self.inside.dictionary.entries c.self.inside.progress)))
+returns-clause-refused c = IfErr-map c.obey_by_definition.result _ _ c.obey_by_definition.ensures.refused (λ fault f. rw (← c.self.view_is) (f (article_state c.self.inside.store c.self.inside.dictionary.entries c.self.inside.progress) (sym c.version.ensures)))
 
 pub returns-clause-unchanged : goal.returns-clause-unchanged
 returns-clause-unchanged c = OnErr-map2 c.obey_by_definition.result _ _ _ c.obey_by_definition.ensures.same c.obey_by_definition.ensures.run

@@ -1,6 +1,6 @@
 use Rattle.std.proofs.Common.{◌≡◌, ap, sym, subst, ◌∙◌, [], ◌∷◌, Ok}
 use Rattle.article_spec.specs.State as state
-use Rattle.article_spec.specs.Step.{step_at}
+use Rattle.article_spec.specs.Step.{obey_item}
 use Rattle.stack_machine.specs.declared.object.Object.TheVariants as object
 use Rattle.stack_machine.specs.Stored.{AreKnown}
 use Rattle.stack_machine.specs.StoredLaws.{AreKnown-Grows}
@@ -30,5 +30,5 @@ invariant_of-self-in-Name c = (placed-known c.keep_name.ensures.grows c.self-in-
 pub returns-in_ok-push-in-Name-clause-taken : goal.returns-in_ok-push-in-Name-clause-taken
 returns-in_ok-push-in-Name-clause-taken c =
     let e = placed-view c.keep_name.ensures.grows c.self-in-Name.inside.stack c.push-in-Name.new.self (object.Name c.in_ok-name-in-Name.name ∷ []) 0 c.self-in-Name.invariant.0 c.in_ok-push-in-Name.ensures.pushed (state.Object.name _ ∷ []) (ap (λ n. state.Object.name n ∷ []) c.in_ok-name-in-Name.ensures.kept) in
-    subst (λ i. step_at state.Place.body c.args.self.now i ≡ Ok (shown c.keep_name.new.self c.push-in-Name.new.self (article_state c.keep_name.new.self c.self-in-Name.inside.dictionary.entries c.self-in-Name.inside.progress))) (sym c.in-Name.is)
+    subst (λ i. obey_item c.args.self.now i ≡ Ok (shown c.keep_name.new.self c.push-in-Name.new.self (article_state c.keep_name.new.self c.self-in-Name.inside.dictionary.entries c.self-in-Name.inside.progress))) (sym c.in-Name.is)
     (rw (← c.self-in-Name.view_is) (ap Ok (placed-shown c.keep_name.ensures.grows c.self-in-Name.inside.stack c.push-in-Name.new.self _ c.self-in-Name.inside.dictionary.entries c.self-in-Name.inside.progress c.self-in-Name.invariant.1 e c.keep_name.ensures.run)))
