@@ -195,6 +195,7 @@ impl Walk {
                 abs,
                 rep,
                 names,
+                ..
             } => {
                 let item = items.index.operator(op, names.len())?;
                 mark(&mut self.marks, item);

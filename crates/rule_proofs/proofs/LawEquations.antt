@@ -1,12 +1,14 @@
--- The laws of a type operator as equations of two functions, by the theorem that defines it.
+-- The laws of a type operator as equations, by the theorem that defines it: of two functions, and in version 5 about a free variable.
 use Rattle.std.proofs.Common.{◌≡◌, ℕ, sym, ap, subst, ◌∙◌, unwrap_or}
 use Rattle.hol_spec.specs.Definitions.{TypeNames}
 use Rattle.hol_spec.specs.Primitives.{bool}
 use Rattle.hol_spec.specs.Proofs.{sequent_at}
 use Rattle.hol_spec.specs.Sequents.{Sequent}
 use Rattle.hol_spec.specs.Terms.{Term}
-use Rattle.hol_spec.specs.TypeDefinitions.{IsTypeDefinition, first_law, second_law}
+use Rattle.hol_spec.specs.TypeDefinitions.{IsTypeDefinition, first_law_of, second_law_of}
 use Rattle.hol_spec.specs.Types.{HolType}
+use Rattle.hol_spec.specs.declared.Version.{Version}
+use Rattle.hol_spec.specs.declared.Version.TheVariants.{Five, Six}
 use Rattle.hol_rules.specs.Kept.{Kept}
 use Rattle.module_spec.specs.ProofTrees.{predicate, witness}
 use Rattle.module_spec.specs.Rows.{type_or}
@@ -23,24 +25,30 @@ module _ (k : Kept) (id one : ℕ) (names : TypeNames) where
   same-predicate : (c : HolType) (f : Term) → IsTypeDefinition names c f (sequent_at k.made one) → f ≡ predicate (sequent_at k.made one).conclusion
   same-predicate c f d = sym (ap predicate d.holds)
 
-  module _ (h : IsFirstLaw k id one names) where
-    pub first-defining : IsDefiningStep k one
-    first-defining = record { names = names; ty = h.ty; predicate = h.predicate; defines = h.defines }
+  pub first-defining : {version : Version} → IsFirstLaw version k id one names → IsDefiningStep k one
+  first-defining h = record { names = names; ty = h.ty; predicate = h.predicate; defines = h.defines }
 
-    pub first-equation : (sequent_at k.made id).conclusion ≡ (first_law names (whole_type k one)).conclusion
-    first-equation = ap (λ (s : Sequent). s.conclusion) h.is ∙ ap (λ c. (first_law names c).conclusion) (same-type h.ty h.predicate h.defines)
+  pub first-equation : {version : Version} → IsFirstLaw version k id one names → (sequent_at k.made id).conclusion ≡ (first_law_of version names (whole_type k one)).conclusion
+  first-equation {version = version} h = ap (λ (s : Sequent). s.conclusion) h.is ∙ ap (λ c. (first_law_of version names c).conclusion) (same-type h.ty h.predicate h.defines)
 
-    pub first-told : (given : Given) → TellsStep given k id → TellsWhole given k one
-    first-told given told = (subst (TellsTerm given.declarations given.symbols) first-equation told.conclusion).0.1.1.0.ty.1.0
+  pub second-defining : {version : Version} → IsSecondLaw version k id one names → IsDefiningStep k one
+  second-defining h = record { names = names; ty = h.ty; predicate = h.predicate; defines = h.defines }
 
-  module _ (h : IsSecondLaw k id one names) where
-    pub second-defining : IsDefiningStep k one
-    second-defining = record { names = names; ty = h.ty; predicate = h.predicate; defines = h.defines }
+  pub second-equation : {version : Version} → IsSecondLaw version k id one names → (sequent_at k.made id).conclusion ≡ (second_law_of version names (whole_type k one) (predicate (sequent_at k.made one).conclusion)).conclusion
+  second-equation {version = version} h =
+      ap (λ (s : Sequent). s.conclusion) h.is
+      ∙ (λ i. (second_law_of version names (same-type h.ty h.predicate h.defines i) (same-predicate h.ty h.predicate h.defines i)).conclusion)
 
-    pub second-equation : (sequent_at k.made id).conclusion ≡ (second_law names (whole_type k one) (predicate (sequent_at k.made one).conclusion)).conclusion
-    second-equation =
-        ap (λ (s : Sequent). s.conclusion) h.is
-        ∙ (λ i. (second_law names (same-type h.ty h.predicate h.defines i) (same-predicate h.ty h.predicate h.defines i)).conclusion)
+  -- the module tells the old type
+  module _ (given : Given) (told : TellsStep given k id) where
+    pub first-told : IsFirstLaw Six k id one names → TellsWhole given k one
+    first-told h = (subst (TellsTerm given.declarations given.symbols) (first-equation h) told.conclusion).0.1.1.0.ty.1.0
 
-    pub second-told : (given : Given) → TellsStep given k id → TellsWhole given k one
-    second-told given told = (subst (TellsTerm given.declarations given.symbols) second-equation told.conclusion).0.1.0
+    pub second-told : IsSecondLaw Six k id one names → TellsWhole given k one
+    second-told h = (subst (TellsTerm given.declarations given.symbols) (second-equation h) told.conclusion).0.1.0
+
+    pub first_free-told : IsFirstLaw Five k id one names → TellsWhole given k one
+    first_free-told h = (subst (TellsTerm given.declarations given.symbols) (first-equation h) told.conclusion).0.1.0.ty.1.0
+
+    pub second_free-told : IsSecondLaw Five k id one names → TellsWhole given k one
+    second_free-told h = (subst (TellsTerm given.declarations given.symbols) (second-equation h) told.conclusion).0.1.1

@@ -17,6 +17,7 @@ mod SetLaws
 mod BinderRows
 mod PartLaws
 mod LawEquations
+mod FreeLaws
 mod MatchLaws
 mod ImageLaws
 mod ConstantLaws

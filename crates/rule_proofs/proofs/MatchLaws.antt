@@ -1,14 +1,13 @@
 -- Whether a substitution makes one type or term of another, by numbers.
-use Rattle.std.proofs.Common.{◌≡◌, ℕ, zero, suc, ◌-◌, ◌<◌, ◌≤◌, arith, Bool, true, false, cond, refl, sym, ap, ◌∙◌, subst, inl, inr, List, [], ◌∷◌, length, Option, Some, None, unwrap_or}
-use Rattle.std.specs.Prelude.{drop, take, nat_eq}
+use Rattle.std.proofs.Common.{◌≡◌, ℕ, zero, suc, ◌<◌, arith, Bool, true, false, cond, refl, sym, ap, ◌∙◌, subst, inl, inr, List, [], ◌∷◌, length, Option, Some, None, unwrap_or}
+use Rattle.std.specs.Prelude.{drop, nat_eq}
 use Rattle.std.specs.Bool.{Decides}
 use Rattle.std.specs.Cmp.{unsigned_Decides}
 use Rattle.std.specs.Map.{lookup}
 use Rattle.hol_spec.specs.Lists.{IsIn}
 use Rattle.hol_spec.specs.Names.{Name}
 use Rattle.hol_spec.specs.NameEquality.{name_eq}
-use Rattle.hol_spec.specs.Types.{HolType, variable, operator, types_of, type_eq, types_eq}
-use Rattle.hol_spec.specs.Limits.{type_size, types_size}
+use Rattle.hol_spec.specs.Types.{HolType, variable, types_of, type_eq, types_eq}
 use Rattle.hol_laws.specs.TypeLaws.{type_eq-Decides}
 use Rattle.hol_spec.specs.Substitution.{TypePairs, image, substitute_all}
 use Rattle.hol_spec.specs.Terms.{Variable, variable_eq}
@@ -107,25 +106,3 @@ pub no-types : (types : List HolType) (ps : TypePairs) (general ids : List TypeI
 no-types types ps [] [] l = refl
 no-types types ps [] (id ∷ ids) l = let e : nat_eq (length (id ∷ ids)) 0 ≡ false = grind arith in e
 no-types types ps (g ∷ gs) ids l = absurd (omega (arith, l))
-
--- what is left of a list without its first
-take-all : {X : Type 0} (xs : List X) → take (length xs) xs ≡ xs
-take-all [] = refl
-take-all (x ∷ xs) = ap (λ l. x ∷ l) (take-all xs)
-
-rest-is : {X : Type 0} (x : X) (xs : List X) → take (length (x ∷ xs) - 1) (drop 1 (x ∷ xs)) ≡ xs
-rest-is x xs = ap (λ n. take n xs) (let e : length (x ∷ xs) - 1 ≡ length xs = omega arith in e) ∙ take-all xs
-
-pub rest-known : (types : List HolType) (ids : List TypeId) → type.AreKnown types ids → type.AreKnown types (take (length ids - 1) (drop 1 ids))
-rest-known types [] h = tt
-rest-known types (id ∷ ids) h = subst (type.AreKnown types) (sym (rest-is id ids)) h.1
-
-positive-size : (t : HolType) → 1 ≤ type_size t
-positive-size (variable n) = omega arith
-positive-size (operator n ts) = omega arith
-
-pub rest-smaller : (types : List HolType) (ids : List TypeId) → 1 ≤ length ids → types_size (types_of (type.types_at types (take (length ids - 1) (drop 1 ids)))) < types_size (types_of (type.types_at types ids))
-rest-smaller types [] l = absurd (omega (arith, l))
-rest-smaller types (id ∷ ids) l =
-    let e : types_size (types_of (type.types_at types (take (length (id ∷ ids) - 1) (drop 1 (id ∷ ids))))) ≡ types_size (types_of (type.types_at types ids)) = ap (λ r. types_size (types_of (type.types_at types r))) (rest-is id ids) in
-    omega (arith, e, positive-size (type.tree_at types id.0))

@@ -13,7 +13,7 @@ use Rattle.hol_type.specs.Tables.{two_at}
 use Rattle.hol_term.specs.declared.TermId.{TermId}
 use Rattle.hol_term.specs.declared.TermView.{TermView}
 use Rattle.hol_term.specs.declared.TermView.TheVariants as view
-use Rattle.hol_term.specs.Tables.{term_at, type_at, Holds}
+use Rattle.hol_term.specs.Tables.{Trees, term_at, type_at, Holds}
 use Rattle.hol_term.specs.TableLaws.{Some-term_in}
 use Rattle.hol_term.specs.Views.{tree_of_view, ViewBelow}
 use Rattle.hol_rules.specs.Kept.{Kept, step_count}
@@ -36,6 +36,27 @@ use Rattle.rule_proofs.specs.Told.{TellsStep}
 use Rattle.rule_proofs.proofs.ConclusionLaws.{conclusion-same}
 use Rattle.rule_proofs.proofs.SequentLaws.{typed-closed, equated-type, equated-left, equated-right, type-told}
 
+-- AN APPLICATION is no other kind of term, and its argument is seen
+module _ (trees : Trees) (id : ℕ) (p t : Term) (is : term_at trees id ≡ app p t) where
+  pub application-view : (v : TermView) → Holds trees id (tree_of_view trees v) → ((f x : TermId) → v ≡ view.App f x → ⊥) → ⊥
+  application-view (view.Free n t) h other = absurd (let e = Some-term_in trees.terms id _ h in cc)
+  application-view (view.Bound n) h other = absurd (let e = Some-term_in trees.terms id _ h in cc)
+  application-view (view.Const n t) h other = absurd (let e = Some-term_in trees.terms id _ h in cc)
+  application-view (view.App f x) h other = other f x refl
+  application-view (view.Lam t b) h other = absurd (let e = Some-term_in trees.terms id _ h in cc)
+
+pub argument-seen : (trees : Trees) (id : ℕ) (f x : TermId) (v : TermView) → v ≡ view.App f x → Holds trees id (tree_of_view trees v) → term_at trees x.0 ≡ witness (term_at trees id)
+argument-seen trees id f x v e h = sym (ap witness (Some-term_in trees.terms id _ (subst (λ v. Holds trees id (tree_of_view trees v)) e h)))
+
+pub argument-below : (trees : Trees) (id : ℕ) (f x : TermId) (v : TermView) → v ≡ view.App f x → ViewBelow trees id v → x.0 < id
+argument-below trees id f x v e h = (subst (ViewBelow trees id) e h).1
+
+-- what is told of an application is told of its argument
+pub argument-told : (given : Given) (f x t : Term) → t ≡ app f x → IsTold given t → IsTold given x
+argument-told given f x t e h =
+    let closed : max (loose f) (loose x) ≤ 0 = subst (λ t. loose t ≤ 0) e h.closed in
+    record { told = (subst (TellsTerm given.declarations given.symbols) e h.told).1; closed = omega (arith, closed) }
+
 -- WHAT A STEP SAYS IS THAT A PREDICATE HOLDS IN A TERM
 module _ (k : Kept) (id : ℕ) (l : id < step_count k) (p : IsProof k.made) (s : NumberSequent) (is : numbers.sequent_at k.trees s ≡ sequent_at k.made id) (known : numbers.IsKnown k.trees s) (d : IsDefiningStep k id) where
   conclusion-holds : term_at k.trees s.concl.0 ≡ app d.predicate d.defines.witness
@@ -43,11 +64,7 @@ module _ (k : Kept) (id : ℕ) (l : id < step_count k) (p : IsProof k.made) (s :
 
   -- so its conclusion is no other kind of term
   pub view-app : (v : TermView) → Holds k.trees s.concl.0 (tree_of_view k.trees v) → ((f x : TermId) → v ≡ view.App f x → ⊥) → ⊥
-  view-app (view.Free n t) h other = absurd (let e = Some-term_in k.trees.terms s.concl.0 _ h in let f = conclusion-holds in cc)
-  view-app (view.Bound n) h other = absurd (let e = Some-term_in k.trees.terms s.concl.0 _ h in let f = conclusion-holds in cc)
-  view-app (view.Const n t) h other = absurd (let e = Some-term_in k.trees.terms s.concl.0 _ h in let f = conclusion-holds in cc)
-  view-app (view.App f x) h other = other f x refl
-  view-app (view.Lam t b) h other = absurd (let e = Some-term_in k.trees.terms s.concl.0 _ h in let f = conclusion-holds in cc)
+  view-app = application-view k.trees s.concl.0 d.predicate d.defines.witness conclusion-holds
 
   module _ (f x : TermId) (v : TermView) (e : v ≡ view.App f x) (h : Holds k.trees s.concl.0 (tree_of_view k.trees v)) where
     parts : term_at k.trees s.concl.0 ≡ app (term_at k.trees f.0) (term_at k.trees x.0)

@@ -72,10 +72,10 @@ module _ (given : Given) (trees : Trees) (m one two three : Module) (none first 
       }
 
 -- binders placed for type variables alone
-pub stands-placed_types : (given : Given) (trees : Trees) (m one : Module) (none first : Environment) (names : List Name) → IsPlaced given m trees names [] [] 0
-    → none.types.entries ≡ [] → none.terms.entries ≡ [] → none.proofs.entries ≡ [] → none.scope.types ≡ [] → none.scope.terms ≡ [] → (depth : ℕ) → depth ≡ length names
+pub stands-placed_types : (given : Given) (trees : Trees) (m one : Module) (none first : Environment) (names : List Name) (inside : ℕ) → IsPlaced given m trees names [] [] inside
+    → none.types.entries ≡ [] → none.terms.entries ≡ [] → none.proofs.entries ≡ [] → none.scope.types ≡ [] → none.scope.terms ≡ [] → (depth : ℕ) → depth ≡ inside + length names
     → ((scope : TypeScope) → TellTypes m.table none.types.entries scope → TellTypes one.table first.types.entries (placed name_eq depth names scope)) → TypesAlone none first → Grows m one → Stands given one trees first
-stands-placed_types given trees m one none first names is a b c d e depth long types alone g =
-    let count : depth ≡ 0 + 0 + 0 + length names = long ∙ (let f : length names ≡ 0 + 0 + 0 + length names = omega arith in f) in
-    stands-placed given trees m one one one none first first first names [] [] 0 is a b c d e (λ scope h. subst (λ n. TellTypes one.table first.types.entries (placed name_eq n names scope)) count (types scope h)) alone g
+stands-placed_types given trees m one none first names inside is a b c d e depth long types alone g =
+    let count : depth ≡ inside + 0 + 0 + length names = long ∙ (let f : inside + length names ≡ inside + 0 + 0 + length names = omega arith in f) in
+    stands-placed given trees m one one one none first first first names [] [] inside is a b c d e (λ scope h. subst (λ n. TellTypes one.table first.types.entries (placed name_eq n names scope)) count (types scope h)) alone g
     (λ scope h. h) (TermsAlone-refl first) (Grows-refl one) (λ scope h. h) (ProofsAlone-refl first) (Grows-refl one)

@@ -7,6 +7,7 @@ pub mod Numbers
 pub mod Parameters
 pub mod Rescoped
 pub mod Images
+pub mod Matching
 pub mod Constants
 pub mod Parts
 pub mod PlacedLaws

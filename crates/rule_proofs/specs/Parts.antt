@@ -5,12 +5,13 @@ use Rattle.hol_spec.specs.Primitives.{function}
 use Rattle.hol_spec.specs.Proofs.{sequent_at}
 use Rattle.hol_spec.specs.TermBinding.{loose}
 use Rattle.hol_spec.specs.Terms.{Term, app}
-use Rattle.hol_spec.specs.TypeDefinitions.{IsTypeDefinition, first_law, second_law}
+use Rattle.hol_spec.specs.TypeDefinitions.{IsTypeDefinition, first_law_of, second_law_of}
 use Rattle.hol_spec.specs.Types.{HolType}
+use Rattle.hol_spec.specs.declared.Version.{Version}
 use Rattle.hol_term.specs.Tables.{term_at, type_at}
 use Rattle.hol_rules.specs.Kept.{Kept}
 use Rattle.lp_spec.specs.Modules.{sub_symbol, sub_abs_symbol, sub_rep_symbol}
-use Rattle.module_spec.specs.ProofTrees.{predicate, witness}
+use Rattle.module_spec.specs.ProofTrees.{witness}
 use Rattle.module_spec.specs.Rows.{type_or}
 use Rattle.translate_term.specs.Told.{TellsType}
 use Rattle.rule_proofs.specs.declared.parts.Functions.{Functions}
@@ -56,16 +57,16 @@ pub record AreFunctions (k : Kept) (id : ℕ) (f : Functions) : Type 0 where
   pub to : f.to.0 < length k.trees.types
   pub is : type_at k.trees f.sides.ty.0 ≡ function (type_at k.trees f.from.0) (type_at k.trees f.to.0)
 
--- a step is the first law of the type operator with these names, by what another says
-pub record IsFirstLaw (k : Kept) (id one : ℕ) (names : TypeNames) : Type 0 where
+-- a step is the first law of the type operator with these names, as it is in a version, by what another says
+pub record IsFirstLaw (version : Version) (k : Kept) (id one : ℕ) (names : TypeNames) : Type 0 where
   pub ty : HolType
   pub predicate : Term
   pub defines : IsTypeDefinition names ty predicate (sequent_at k.made one)
-  pub is : sequent_at k.made id ≡ first_law names ty
+  pub is : sequent_at k.made id ≡ first_law_of version names ty
 
 -- it is the second
-pub record IsSecondLaw (k : Kept) (id one : ℕ) (names : TypeNames) : Type 0 where
+pub record IsSecondLaw (version : Version) (k : Kept) (id one : ℕ) (names : TypeNames) : Type 0 where
   pub ty : HolType
   pub predicate : Term
   pub defines : IsTypeDefinition names ty predicate (sequent_at k.made one)
-  pub is : sequent_at k.made id ≡ second_law names ty predicate
+  pub is : sequent_at k.made id ≡ second_law_of version names ty predicate

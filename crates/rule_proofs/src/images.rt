@@ -35,6 +35,7 @@ use hol_term::{TermId, TermTable, Variable};
 use holide_sig::Module;
 use lp_term::LpId;
 use sequent::Params;
+use std::alloc::Global;
 
 /// From a theorem: what a substitution makes of it, which is the step itself.
 pub fn subst(
@@ -218,10 +219,10 @@ impl Environment {
         ensures ready { OnOk result ((given : Given) (made : List Tree) → Ready given target.old proof.now.trees self.now args.old.items made → IsTold given (variable_image proof.now.trees put.now (variable_view proof.now.trees variable.now)) → Ready given target.new proof.now.trees self.now args.new.items (made ++ (images given.symbols (type_pairs proof.now.trees put.now) (term_pairs proof.now.trees put.now) given.scope).terms (variable_view proof.now.trees variable.now) ∷ [])) }
         ensures grows { Grows target.old target.new }
     {
-        match put_term(proof.terms(), put, &variable.name, variable.ty) {
+        match put_term(self.alloc, proof.terms(), put, &variable.name, variable.ty)? {
             Some(id) => self.add_term(target, proof, id, args),
             None => {
-                let made = own_variable(proof.terms(), put, own, variable);
+                let made = own_variable(self.alloc, proof.terms(), put, own, variable)?;
                 self.add_free_variable(target, proof, made, args)
             }
         }
@@ -245,7 +246,7 @@ impl Environment {
         ensures grows { Grows target.old target.new }
     {
         for hyp in hyps {
-            let made = own_hypothesis(proof.terms(), put, own, *hyp);
+            let made = own_hypothesis(self.alloc, proof.terms(), put, own, *hyp)?;
             self.add_hypothesis(target, made, args)?;
         }
         Ok(())
@@ -254,38 +255,45 @@ impl Environment {
 
 // The first of the step's own variables that a variable becomes.
 fn own_variable<'a>(
+    alloc: Global,
     table: &TermTable,
     put: &Substitution,
     own: &'a [Variable],
     variable: &Variable,
-) -> &'a Variable
+) -> Result<&'a Variable, Memory>
     requires put { AreKnownPairs table.now put.now.types.items put.now.terms.items }
     requires own { HaveTypes table.now own.now }
     requires variable { variable.now.ty.0 < length table.now.types }
     requires there { IsIn (variables_of table.now own.now) (retyped table.now put.now variable.now.name variable.now.ty) }
-    ensures is { variable_view table.now result.now ≡ retyped table.now put.now variable.now.name variable.now.ty }
-    ensures known { result.now.ty.0 < length table.now.types }
+    ensures is { IfOk result (λ found. variable_view table.now found.now ≡ retyped table.now put.now variable.now.name variable.now.ty) }
+    ensures known { IfOk result (λ found. found.now.ty.0 < length table.now.types) }
 {
     for one in own {
-        if becomes(table, put, &variable.name, variable.ty, one) {
-            return one;
+        if becomes(alloc, table, put, &variable.name, variable.ty, one)? {
+            return Ok(one);
         }
     }
     unreachable!()
 }
 
 // The first of the step's own hypotheses that a hypothesis becomes.
-fn own_hypothesis(table: &TermTable, put: &Substitution, own: &[TermId], hyp: TermId) -> TermId
+fn own_hypothesis(
+    alloc: Global,
+    table: &TermTable,
+    put: &Substitution,
+    own: &[TermId],
+    hyp: TermId,
+) -> Result<TermId, Memory>
     requires put { AreKnownPairs table.now put.now.types.items put.now.terms.items }
     requires own { AreKnown table.now own.now }
     requires hyp { hyp.0 < length table.now.terms }
     requires there { IsIn (terms_at table.now own.now) (made_term table.now put.now hyp) }
-    ensures is { term_at table.now result.0 ≡ made_term table.now put.now hyp }
-    ensures known { result.0 < length table.now.terms }
+    ensures is { IfOk result (λ found. term_at table.now found.0 ≡ made_term table.now put.now hyp) }
+    ensures known { IfOk result (λ found. found.0 < length table.now.terms) }
 {
     for one in own {
-        if makes_term(table, put, hyp, *one) {
-            return *one;
+        if makes_term(alloc, table, put, hyp, *one)? {
+            return Ok(*one);
         }
     }
     unreachable!()

@@ -22,7 +22,7 @@
 //! | `subst` | `subst`, with what the step's parameters put |
 //! | `restate` | `Environment::theorem` |
 //! | `defineConstList` | `constant_list`, with the pairs of the step's parameters |
-//! | the laws of `defineTypeOp` | `first_law` and `second_law`, with the environment of `Environment::of` under one binder more |
+//! | the laws of `defineTypeOp` | `first_law` and `second_law`, with the environment of `Environment::of` under one binder more; in version 5 `first_law_free` and `second_law_free`, with that of `Environment::of_types` |
 //!
 //! Under a substitution the images of the premise's own parameters stand for them. Which of the step's variables and hypotheses they are is
 //! told by comparing trees part by part: nothing is made in the proof's table.
@@ -44,7 +44,7 @@ mod trees;
 pub use constants::constant_list;
 pub use images::subst;
 pub use names::step_name;
-pub use parts::{Part, first_law, second_law, type_part};
+pub use parts::{Part, first_law, first_law_free, second_law, second_law_free, type_part};
 pub use premise::Premise;
 pub use rows::{abs_thm, app_thm, deduct_antisym, eq_mp, prove_hyp, refl, sym, trans};
 pub use scope::Environment;

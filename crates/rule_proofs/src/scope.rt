@@ -57,17 +57,19 @@ impl Environment {
         Ok(made)
     }
 
-    /// What stands for type variables under a binder for each, where nothing else is told.
+    /// What stands for type variables under a binder for each, where so many binders more are inside theirs and nothing else is told.
     pub fn of_types(
         alloc: Global,
         target: &mut Module,
         names: &[Name],
+        inside: u128,
     ) -> Result<Environment, Memory>
-        ensures made { IfOk result (λ env. (given : Given) (trees : Trees) → IsPlaced given target.old trees names.now [] [] 0 → Stands given target.new trees env) }
+        requires { inside < 2 ^ 65 }
+        ensures made { IfOk result (λ env. (given : Given) (trees : Trees) → IsPlaced given target.old trees names.now [] [] inside → Stands given target.new trees env) }
         ensures grows { Grows target.old target.new }
     {
         let mut made = Environment::new(alloc);
-        made.place_types(target, names, names.len() as u128)?;
+        made.place_types(target, names, inside + names.len() as u128)?;
         Ok(made)
     }
 

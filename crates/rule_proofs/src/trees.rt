@@ -5,6 +5,7 @@ ghost use Rattle.lp_spec.specs.Trees.{Tree, App, Lam, Sym, Var};
 ghost use Rattle.lp_term.specs.Tables.{tree_at, trees_at, AreKnown, Holds, Keeps};
 
 use bridge_base::Memory;
+use holide_sig::SIGNATURE;
 use lp_term::{LpId, LpNode, LpTable};
 use std::alloc::Global;
 
@@ -33,9 +34,9 @@ pub(crate) const SUB_ABS_REP: usize = 16;
 
 pub(crate) const SUB_REP_ABS: usize = 17;
 
-pub(crate) const SYM: usize = 18;
+pub(crate) const SYM: usize = SIGNATURE;
 
-pub(crate) const TRANS: usize = 19;
+pub(crate) const TRANS: usize = SIGNATURE + 1;
 
 // A tree applied to arguments, the first innermost.
 fn apply(table: &mut LpTable, head: LpId, args: &[LpId]) -> Result<LpId, Memory>

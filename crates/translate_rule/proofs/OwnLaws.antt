@@ -1,5 +1,5 @@
 -- The binders of a step's own sequent are placed for its parameters, in its scope and under more binders.
-use Rattle.std.proofs.Common.{◌≡◌, ℕ, suc, ◌+◌, refl, sym, ap, ◌∙◌, List, [], ◌∷◌, length}
+use Rattle.std.proofs.Common.{◌≡◌, ℕ, suc, ◌+◌, refl, sym, ap, ◌∙◌, arith, List, [], ◌∷◌, length}
 use Rattle.hol_spec.specs.Names.{Name}
 use Rattle.hol_spec.specs.NameEquality.{name_eq}
 use Rattle.hol_spec.specs.Proofs.{sequent_at}
@@ -20,7 +20,7 @@ use Rattle.module_spec.specs.Scopes.{Symbols, Scope, scope_of, lifted}
 use Rattle.rule_proofs.specs.Environments.{filled_terms, unproved}
 use Rattle.rule_proofs.specs.Placed.{placed}
 use Rattle.rule_proofs.specs.Placing.{IsPlaced}
-use Rattle.rule_proofs.specs.Rescoped.{with_scope}
+use Rattle.rule_proofs.specs.Rescoped.{over_types, with_scope}
 use Rattle.translate_rule.specs.Steps.{given_at, given_over, AreParams}
 use Rattle.rule_proofs.specs.PlacedLaws.{placed-under_types, types-placed, terms-placed, proofs-placed}
 
@@ -59,6 +59,24 @@ module _ (k : Kept) (id : ℕ) (d : List Declaration) (symbols : Symbols) (m : M
 
   pub placed-under : IsPlaced (with_scope (given_at d symbols s) (lifted (scope_of symbols s))) m k.trees names variables hyps 1
   placed-under = placed-in 1 (lifted (scope_of symbols s)) (λ n. refl) (λ v. refl) (λ h. refl)
+
+  -- the binders of its type variables alone, under all the others
+  pub placed-outer : (inside : ℕ) → inside ≡ length hyps + length variables → IsPlaced (over_types (given_at d symbols s)) m k.trees names [] [] inside
+  placed-outer inside e =
+      let a : length hyps ≡ length s.hypotheses = sym (terms-count k.trees hyps) ∙ ap length are in
+      let b : length variables ≡ length (free_variables_of s) = sym (variables-count k.trees variables) ∙ ap length params.free_vars in
+      let count : inside + 0 + 0 ≡ 0 + length s.hypotheses + length (free_variables_of s) = omega (arith, e, a, b) in
+      record {
+        held = held;
+        declared = declared;
+        one_type = params.one_type;
+        one_term = params.one_term;
+        variables_known = tt;
+        hyps_known = tt;
+        types = λ n. (λ i. placed name_eq (count i + length (params.type_vars i)) (params.type_vars i) (λ w. bools) n) ∙ sym (types-placed symbols s 0 n) ∙ lift_zero ((scope_of symbols s).types n);
+        terms = λ v. refl;
+        proofs = λ h. refl;
+      }
 
 -- the binders of type variables alone
 pub placed-over : (trees : Trees) (d : List Declaration) (symbols : Symbols) (m : Module) → IsHeld m → declarations_of m ≡ d → type.IsDistinct trees.types → IsDistinct trees.terms → (names : List Name) → IsPlaced (given_over d symbols names) m trees names [] [] 0

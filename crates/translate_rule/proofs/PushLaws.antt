@@ -49,7 +49,7 @@ module _ (ds : List Declaration) (symbols : Symbols) where
   told-given (Parameters.sequent s) h = tt
   told-given (Parameters.constant n t) h = tt
   told-given (Parameters.constants pairs) h = told-pairs pairs h
-  told-given (Parameters.type_operator names) h = tt
+  told-given (Parameters.type_operator names version) h = tt
 
   pub told-content : (c : Content) → TellsContent ds symbols c → steps.TellsContent ds symbols c
   told-content (operator n k) h = tt

@@ -60,6 +60,8 @@ rule-count kind ss g s (rule.define_const h e) = refl
 rule-count kind ss g s (rule.define_const_list d l e) = refl
 rule-count kind ss g s (rule.first_law d e) = refl
 rule-count kind ss g s (rule.second_law d e) = refl
+rule-count kind ss g s (rule.first_law_free d e) = refl
+rule-count kind ss g s (rule.second_law_free d e) = refl
 
 -- where a rule isn't `proveHyp`, all premises are needed
 pub nothing-other : (kind : StepKind) (ss : List Sequent) → (kind ≡ kinds.ProveHyp → ⊥) → proves_nothing kind ss ≡ false

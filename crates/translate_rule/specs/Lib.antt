@@ -4,3 +4,4 @@ pub mod Parts
 pub mod LemmaNodes
 pub mod Making
 pub mod TypeScopes
+pub mod LawSteps

@@ -9,7 +9,7 @@ ghost use Rattle.lp_spec.specs.Modules.{Declaration};
 ghost use Rattle.module_spec.specs.Scopes.{Symbols, lifted, scope_of, under_proof as proof_under, under_term};
 ghost use Rattle.translate_term.specs.Walks.{Grows};
 ghost use Rattle.rule_proofs.specs.Environments.{Stands};
-ghost use Rattle.rule_proofs.specs.Rescoped.{with_scope};
+ghost use Rattle.rule_proofs.specs.Rescoped.{over_types, with_scope};
 ghost use Rattle.translate_rule.specs.Steps.{given_at, given_over, AreParams};
 
 use bridge_base::Memory;
@@ -67,7 +67,27 @@ pub(crate) fn type_environment(
     // No term of the table has two numbers, and no type has.
     let _conclusion = table.view(concl);
     let _ty = table.ty(concl);
-    Environment::of_types(alloc, target, names)
+    Environment::of_types(alloc, target, names, 0)
+}
+
+// What stands for its type variables under all its binders, where nothing else is told.
+pub(crate) fn outer_environment(
+    alloc: Global,
+    target: &mut Module,
+    proof: &Proof,
+    params: &Params,
+    id: StepId,
+) -> Result<Environment, Memory>
+    requires id { id < step_count proof.now }
+    requires params { AreParams proof.now id params.now.type_vars params.now.free_vars }
+    requires held { IsHeld target.old }
+    ensures made { IfOk result (λ env. (declarations : List Declaration) (symbols : Symbols) → declarations_of target.old ≡ declarations → Stands (over_types (given_at declarations symbols (sequent_at proof.now.made id))) target.new proof.now.trees env) }
+    ensures grows { Grows target.old target.new }
+{
+    let variables = params.free_vars.variables().len();
+    let hyps = proof.sequent(id).hyps.ids().len();
+    let inside = hyps as u128 + variables as u128;
+    Environment::of_types(alloc, target, params.type_vars.names(), inside)
 }
 
 // That under one binder more, which stands for nothing.

@@ -2,6 +2,8 @@
 ghost use Rattle.std.specs.Prelude.{true, ◌≡◌, ◌<◌, ◌≤◌, ◌∷◌, List, [], length, IfOk};
 ghost use Rattle.hol_spec.specs.Proofs.{sequent_at};
 ghost use Rattle.hol_spec.specs.declared.StepKind.TheVariants.{AbsThm, DefineConstList, FirstLaw, SecondLaw, Subst};
+ghost use Rattle.hol_spec.specs.declared.Version.{Version as AVersion};
+ghost use Rattle.hol_spec.specs.declared.Version.TheVariants.{Five, Six};
 ghost use Rattle.hol_rules.specs.Kept.{step_count};
 ghost use Rattle.hol_rules.specs.Views.{step_at};
 ghost use Rattle.lp_spec.specs.Modules.{Declaration};
@@ -12,18 +14,19 @@ ghost use Rattle.module_spec.specs.Scopes.{Symbols, scope_of};
 ghost use Rattle.translate_term.specs.Walks.{Grows};
 ghost use Rattle.rule_proofs.specs.Environments.{Stands};
 ghost use Rattle.rule_proofs.specs.Told.{TellsSequent};
+ghost use Rattle.translate_rule.specs.LawSteps.{IsFirstLawStep, IsOperatorStep, IsSecondLawStep};
 ghost use Rattle.translate_rule.specs.Steps.{given_at, needed_at, row_of, AreParams, TellsGiven, TellsRow};
 
-use crate::own::{under_binder, under_proof, under_variable};
+use crate::own::{outer_environment, under_binder, under_proof, under_variable};
 use crate::premises::{one_premise, proves_nothing, two_premises};
 use bridge_base::Memory;
 use hol_rules::{Parameters, Proof, StepId};
-use hol_spec::StepKind;
+use hol_spec::{StepKind, Version};
 use holide_sig::Module;
 use lp_term::LpId;
 use rule_proofs::{
     Environment, Premise, abs_thm, app_thm, constant_list, deduct_antisym, eq_mp, first_law,
-    prove_hyp, refl, second_law, subst, sym, trans,
+    first_law_free, prove_hyp, refl, second_law, second_law_free, subst, sym, trans,
 };
 use sequent::Params;
 use std::alloc::Global;
@@ -273,7 +276,19 @@ fn list_row(
     constant_list(target, proof, env, pairs, one)
 }
 
-// The row of the first law of a type definition, with the environment under a binder.
+// The version of the article in which a step was given a type operator.
+fn law_version(proof: &Proof, id: StepId) -> Version
+    requires id { id < step_count proof.now }
+    requires operator { (version : AVersion) × IsOperatorStep version proof.now id }
+    ensures { IsOperatorStep result proof.now id }
+{
+    let Parameters::TypeOp { version, .. } = proof.params(id) else {
+        unreachable!()
+    };
+    *version
+}
+
+// The row of the first law of a type definition, as the law is in the version of its article.
 fn first_law_row(
     alloc: Global,
     target: &mut Module,
@@ -293,11 +308,57 @@ fn first_law_row(
     ensures grows { Grows target.old target.new }
 {
     proof.is_proof();
+    match law_version(proof, id) {
+        Version::Five => first_law_free_row(alloc, target, proof, params, id, env, one),
+        Version::Six => first_law_bound_row(alloc, target, proof, params, id, env, one),
+    }
+}
+
+// In version 5, with the environment of the sequent's type variables alone.
+fn first_law_free_row(
+    alloc: Global,
+    target: &mut Module,
+    proof: &Proof,
+    params: &Params,
+    id: StepId,
+    env: &Environment,
+    one: Premise,
+) -> Result<LpId, Memory>
+    requires id { id < step_count proof.now }
+    requires one { one.id < step_count proof.now }
+    requires law { IsFirstLawStep Five proof.now id one.id }
+    requires params { AreParams proof.now id params.now.type_vars params.now.free_vars }
+    requires told { (declarations : List Declaration) × (tables : Symbols) × Stands (given_at declarations tables (sequent_at proof.now.made id)) target.old proof.now.trees env.now × TellsSequent declarations tables (sequent_at proof.now.made id) × TellsSequent declarations tables (sequent_at proof.now.made one.id) }
+    ensures made { IfOk result (λ r. (declarations : List Declaration) (tables : Symbols) → Stands (given_at declarations tables (sequent_at proof.now.made id)) target.old proof.now.trees env.now → TellsSequent declarations tables (sequent_at proof.now.made id) → TellsSequent declarations tables (sequent_at proof.now.made one.id) → Holds target.new.table r.0 (proof_tree tables (scope_of tables (sequent_at proof.now.made id)) FirstLaw (one.symbol ∷ []) (sequent_at proof.now.made one.id ∷ []) (step_at proof.now.made id).parameters)) }
+    ensures grows { Grows target.old target.new }
+{
+    let outer = outer_environment(alloc, target, proof, params, id)?;
+    first_law_free(target, proof, env, &outer, id, one)
+}
+
+// In version 6, with the environment under a binder.
+fn first_law_bound_row(
+    alloc: Global,
+    target: &mut Module,
+    proof: &Proof,
+    params: &Params,
+    id: StepId,
+    env: &Environment,
+    one: Premise,
+) -> Result<LpId, Memory>
+    requires id { id < step_count proof.now }
+    requires one { one.id < step_count proof.now }
+    requires law { IsFirstLawStep Six proof.now id one.id }
+    requires params { AreParams proof.now id params.now.type_vars params.now.free_vars }
+    requires told { (declarations : List Declaration) × (tables : Symbols) × Stands (given_at declarations tables (sequent_at proof.now.made id)) target.old proof.now.trees env.now × TellsSequent declarations tables (sequent_at proof.now.made id) × TellsSequent declarations tables (sequent_at proof.now.made one.id) }
+    ensures made { IfOk result (λ r. (declarations : List Declaration) (tables : Symbols) → Stands (given_at declarations tables (sequent_at proof.now.made id)) target.old proof.now.trees env.now → TellsSequent declarations tables (sequent_at proof.now.made id) → TellsSequent declarations tables (sequent_at proof.now.made one.id) → Holds target.new.table r.0 (proof_tree tables (scope_of tables (sequent_at proof.now.made id)) FirstLaw (one.symbol ∷ []) (sequent_at proof.now.made one.id ∷ []) (step_at proof.now.made id).parameters)) }
+    ensures grows { Grows target.old target.new }
+{
     let inner = under_binder(alloc, target, proof, params, id)?;
     first_law(target, proof, env, &inner, id, one)
 }
 
-// The row of the second law of a type definition, with the environment under a binder.
+// The row of the second law of a type definition, as the law is in the version of its article.
 fn second_law_row(
     alloc: Global,
     target: &mut Module,
@@ -317,6 +378,52 @@ fn second_law_row(
     ensures grows { Grows target.old target.new }
 {
     proof.is_proof();
+    match law_version(proof, id) {
+        Version::Five => second_law_free_row(alloc, target, proof, params, id, env, one),
+        Version::Six => second_law_bound_row(alloc, target, proof, params, id, env, one),
+    }
+}
+
+// In version 5, with the environment of the sequent's type variables alone.
+fn second_law_free_row(
+    alloc: Global,
+    target: &mut Module,
+    proof: &Proof,
+    params: &Params,
+    id: StepId,
+    env: &Environment,
+    one: Premise,
+) -> Result<LpId, Memory>
+    requires id { id < step_count proof.now }
+    requires one { one.id < step_count proof.now }
+    requires law { IsSecondLawStep Five proof.now id one.id }
+    requires params { AreParams proof.now id params.now.type_vars params.now.free_vars }
+    requires told { (declarations : List Declaration) × (tables : Symbols) × Stands (given_at declarations tables (sequent_at proof.now.made id)) target.old proof.now.trees env.now × TellsSequent declarations tables (sequent_at proof.now.made id) × TellsSequent declarations tables (sequent_at proof.now.made one.id) }
+    ensures made { IfOk result (λ r. (declarations : List Declaration) (tables : Symbols) → Stands (given_at declarations tables (sequent_at proof.now.made id)) target.old proof.now.trees env.now → TellsSequent declarations tables (sequent_at proof.now.made id) → TellsSequent declarations tables (sequent_at proof.now.made one.id) → Holds target.new.table r.0 (proof_tree tables (scope_of tables (sequent_at proof.now.made id)) SecondLaw (one.symbol ∷ []) (sequent_at proof.now.made one.id ∷ []) (step_at proof.now.made id).parameters)) }
+    ensures grows { Grows target.old target.new }
+{
+    let outer = outer_environment(alloc, target, proof, params, id)?;
+    second_law_free(target, proof, env, &outer, id, one)
+}
+
+// In version 6, with the environment under a binder.
+fn second_law_bound_row(
+    alloc: Global,
+    target: &mut Module,
+    proof: &Proof,
+    params: &Params,
+    id: StepId,
+    env: &Environment,
+    one: Premise,
+) -> Result<LpId, Memory>
+    requires id { id < step_count proof.now }
+    requires one { one.id < step_count proof.now }
+    requires law { IsSecondLawStep Six proof.now id one.id }
+    requires params { AreParams proof.now id params.now.type_vars params.now.free_vars }
+    requires told { (declarations : List Declaration) × (tables : Symbols) × Stands (given_at declarations tables (sequent_at proof.now.made id)) target.old proof.now.trees env.now × TellsSequent declarations tables (sequent_at proof.now.made id) × TellsSequent declarations tables (sequent_at proof.now.made one.id) }
+    ensures made { IfOk result (λ r. (declarations : List Declaration) (tables : Symbols) → Stands (given_at declarations tables (sequent_at proof.now.made id)) target.old proof.now.trees env.now → TellsSequent declarations tables (sequent_at proof.now.made id) → TellsSequent declarations tables (sequent_at proof.now.made one.id) → Holds target.new.table r.0 (proof_tree tables (scope_of tables (sequent_at proof.now.made id)) SecondLaw (one.symbol ∷ []) (sequent_at proof.now.made one.id ∷ []) (step_at proof.now.made id).parameters)) }
+    ensures grows { Grows target.old target.new }
+{
     let inner = under_binder(alloc, target, proof, params, id)?;
     second_law(target, proof, env, &inner, id, one)
 }

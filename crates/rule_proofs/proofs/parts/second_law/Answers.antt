@@ -11,12 +11,12 @@ law-requires-clause-defines c = second-defining c.args.proof.now c.args.id c.arg
 pub law-requires-clause-told : goal.law-requires-clause-told
 law-requires-clause-told c =
     let q = c.requires.told in
-    (q.0, q.1, q.2, q.3, second-told c.args.proof.now c.args.id c.args.one.id c.requires.law.0 c.requires.law.1 q.0 q.3, q.4)
+    (q.0, q.1, q.2, q.3, second-told c.args.proof.now c.args.id c.args.one.id c.requires.law.0 q.0 q.3 c.requires.law.1, q.4)
 
 pub returns-clause-made : goal.returns-clause-made
 returns-clause-made c =
     let k = c.args.proof.now in
     IfOk-weaker c.law.result _ _
     (λ r h given names is stands inside own one.
-    h given _ _ _ _ (second-equation k c.args.id c.args.one.id names is) stands inside own (second-told k c.args.id c.args.one.id names is given own) one)
+    h given _ _ _ _ (second-equation k c.args.id c.args.one.id names is) stands inside own (second-told k c.args.id c.args.one.id names given own is) one)
     c.law.ensures.made

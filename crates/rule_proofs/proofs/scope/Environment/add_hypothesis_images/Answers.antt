@@ -14,13 +14,13 @@ use Rattle.rule_proofs.proofs.ListSteps.{drop-all, terms-drop}
 use Rattle.rule_proofs.proofs.PlaceLaws.{AreKnown-drop}
 use Rattle.rule_proofs.proofs.scope.Environment.add_hypothesis_images.Goals as goal
 
-pub own_hypothesis-made-requires-clause-hyp : goal.own_hypothesis-made-requires-clause-hyp
-own_hypothesis-made-requires-clause-hyp c =
+pub own_hypothesis-requires-clause-hyp : goal.own_hypothesis-requires-clause-hyp
+own_hypothesis-requires-clause-hyp c =
     let split = drop_more c.args.hyps.now c.loop-hyp.hyp-index (record { 0 = 0 }) c.loop-hyp-test.true in
     rw c.terms.ensures ((subst (AreKnown c.args.proof.now.trees) split (AreKnown-drop c.args.proof.now.trees c.loop-hyp.hyp-index c.args.hyps.now c.requires.hyps)).0)
 
-pub own_hypothesis-made-requires-clause-there : goal.own_hypothesis-made-requires-clause-there
-own_hypothesis-made-requires-clause-there c =
+pub own_hypothesis-requires-clause-there : goal.own_hypothesis-requires-clause-there
+own_hypothesis-requires-clause-there c =
     let trees = c.args.proof.now.trees in
     let split = drop_more c.args.hyps.now c.loop-hyp.hyp-index (record { 0 = 0 }) c.loop-hyp-test.true in
     let P = λ (h : Term). IsIn (terms_at trees c.args.own.now) (sub (type_pairs trees c.args.put.now) (term_pairs trees c.args.put.now) h) in
@@ -33,8 +33,8 @@ pub loop-hyp-preserved : goal.loop-hyp-preserved
 loop-hyp-preserved c =
     let trees = c.args.proof.now.trees in
     let split = drop_more c.args.hyps.now c.loop-hyp.hyp-index (record { 0 = 0 }) c.loop-hyp-test.true in
-    let known = rw c.terms.ensures at c.own_hypothesis-made.ensures.known in
-    let is = rw c.terms.ensures at c.own_hypothesis-made.ensures.is in
+    let known = rw c.terms.ensures at c.in_ok-made.ensures.known in
+    let is = rw c.terms.ensures at c.in_ok-made.ensures.is in
     record {
       grows = Grows-trans c.loop-hyp.invariant.grows c.add_hypothesis.ensures.grows;
       adds = λ given.

@@ -1,5 +1,6 @@
-use Rattle.std.proofs.Common.{◌∙◌, ◌++◌, ◌∷◌, [], ap, arith, refl, ◌+◌}
+use Rattle.std.proofs.Common.{◌∙◌, ◌++◌, ◌∷◌, [], length, ap, arith, refl, ◌+◌}
 use Rattle.hol_spec.specs.Proofs.{Made}
+use Rattle.lp_spec.specs.Modules.{signature}
 use Rattle.telling_laws.specs.Making.{items_made}
 use Rattle.translate_rule.specs.ItemViews.{run_of}
 use Rattle.translate_rule.proofs.TurnLaws.{step-next, step-made, counted-with}
@@ -20,5 +21,5 @@ returns c = λ earlier later x whole h.
     let run = run_of c.args.proof.now c.args.assumptions.now c.args.exports.now in
     let next = step-next c.args.proof.now c.args.assumptions.now c.args.exports.now c.requires.run.sound earlier later x whole c.args.self.now h c.len-id.result (omega (arith, c.len-id.ensures, c.args.self.now.numbers.ok)) in
     let counted = c.in_ok-add.ensures.counted (items_made run earlier) (items_made run (earlier ++ Made.step x ∷ [])) h.counted next in
-    step-made c.args.proof.now c.args.assumptions.now c.args.exports.now c.requires.run.sound earlier later x whole c.args.self.now _ (18 + c.len-number.result) h (counted-with run (items_made run (earlier ++ Made.step x ∷ [])) c.add.new.self _ counted refl refl)
-    (ap (λ n. 18 + n) c.len-number.ensures.count) (c.in_ok-push.ensures.items ∙ ap (λ v. v.items ++ (18 + c.len-number.result) ∷ []) c.in_ok-add.ensures.numbers) c.in_ok-add.ensures.symbol
+    step-made c.args.proof.now c.args.assumptions.now c.args.exports.now c.requires.run.sound earlier later x whole c.args.self.now _ (length signature + c.len-number.result) h (counted-with run (items_made run (earlier ++ Made.step x ∷ [])) c.add.new.self _ counted refl refl)
+    (ap (λ n. length signature + n) c.len-number.ensures.count) (c.in_ok-push.ensures.items ∙ ap (λ v. v.items ++ (length signature + c.len-number.result) ∷ []) c.in_ok-add.ensures.numbers) c.in_ok-add.ensures.symbol
