@@ -54,8 +54,9 @@ thm T0 : v0 : term bool -> proof (eq bool v0 v0) := v0 : term bool => refl bool 
 thm E0 : v0 : term bool -> proof (eq bool v0 v0) := v0 : term bool => T0 v0.
 '''
 
-# The article that proves and exports `p = p`.
+# The article that proves and exports `p = p`, and the same of version 5.
 reflexivity = '6 version "p" "bool" typeOp nil opType 0 def var varTerm 1 def refl nil "=" const "->" typeOp 0 ref "->" typeOp 0 ref 0 ref nil cons cons opType nil cons cons opType constTerm 1 ref appTerm 1 ref appTerm thm'
+reflexivity_5 = '"p" "bool" typeOp nil opType 0 def var varTerm 1 def refl nil "=" const "->" typeOp 0 ref "->" typeOp 0 ref 0 ref nil cons cons opType nil cons cons opType constTerm 1 ref appTerm 1 ref appTerm thm'
 
 # Pieces of articles: the first two commands, variables of type `bool`, terms that are one, the types `bool`, `bool -> bool` and
 # `bool -> bool -> bool`, equality of truth values and at the type under 0, and the identity of truth values.

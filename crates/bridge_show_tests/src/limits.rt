@@ -32,16 +32,16 @@ name = "deep_terms_are_built_up_to_the_limit"
 [[test.case]]
 article.a = [
     "$version", '"f" const', "$unary_type", "constTerm 0 def pop",
-    { times = 1020, part = "0 ref" }, "$p", { times = 1020, part = "appTerm" },
+    { times = 16380, part = "0 ref" }, "$p", { times = 16380, part = "appTerm" },
 ]
 
 [[test.case]]
 article.a = [
     "$version", '"f" const', "$unary_type", "constTerm 0 def pop",
-    { times = 1021, part = "0 ref" }, "$p", { times = 1021, part = "appTerm" },
+    { times = 16381, part = "0 ref" }, "$p", { times = 16381, part = "appTerm" },
 ]
 number = 1
-note = "article 1 line 3092: TooDeep (24)\n"
+note = "article 1 line 49172: TooDeep (24)\n"
 
 [[test]]
 name = "a_line_is_read_up_to_the_limit"
@@ -57,7 +57,8 @@ fn limits(rt: HostRuntime) {
     assert!(rt; all_hold(&rt, TESTS));
 }
 
-// Articles that assume a sequent with as many hypotheses as it may have, and with one more.
+// Articles that assume a sequent with as many hypotheses as it may have, and with one more; and one with 2,048 parameters, which is
+// assumed, exported and verified.
 const HYPOTHESES: &str = r#"
 [usual]
 words = ["bridge", "show", "a"]
@@ -67,42 +68,68 @@ pieces = [4096]
 name = "hypotheses_are_taken_up_to_the_limit"
 
 [[test.case]]
-article.a = ["$most", "nil", { times = 511, part = "cons" }, "$p", "axiom"]
+article.a = ["$version", "$most", "nil", { times = 8192, part = "cons" }, "$first", "axiom"]
 unsaid = "out"
 
 [[test.case]]
-article.a = ["$more", "nil", { times = 512, part = "cons" }, "$p", "axiom"]
+article.a = ["$version", "$more", "nil", { times = 8193, part = "cons" }, "$first", "axiom"]
 number = 1
-note = "article 1 line 4107: TooManyParams (25)\n"
+note = "article 1 line 65555: TooManyParams (25)\n"
+
+[[test]]
+name = "a_sequent_of_many_parameters_is_verified"
+
+[[test.case]]
+words = ["bridge", "verify", "a"]
+article.a = [
+    "$version", "$some", "nil", { times = 1024, part = "cons" }, "$first", "axiom", "$some", "nil", { times = 1024, part = "cons" },
+    "$first", "thm",
+]
+unsaid = "out"
+note = '''
+articles 1
+assumptions 1
+exports 1
+declarations 4
+bounds 4401607027150016
+verified
+'''
 
 [usual.texts]
+first = '"xyyyyyyyyyyyyy" "bool" typeOp nil opType var varTerm'
 "#;
 
 // The file with these, whose variables are made here: each has a name of its own.
 fn hypotheses(alloc: Global) -> Result<String, AllocError> {
     let mut file = String::from_str(alloc, HYPOTHESES)?;
-    add_variables(&mut file, "most", 511)?;
-    add_variables(&mut file, "more", 512)?;
+    add_variables(&mut file, "some", 1_024)?;
+    add_variables(&mut file, "most", 8_192)?;
+    add_variables(&mut file, "more", 8_193)?;
     Ok(file)
 }
 
-// Adds the text of that name, in which so many variables stand behind the first two commands.
+// Adds the text of that name: so many variables.
 fn add_variables(file: &mut String, name: &str, count: usize) -> Result<(), AllocError> {
     file.push_str(name)?;
-    file.push_str(" = '6 version")?;
-    for length in 1..=count {
-        file.push_str(" \"")?;
-        add_name(file, length)?;
+    file.push_str(" = '")?;
+    for number in 1..=count {
+        if number > 1 {
+            file.push(' ')?;
+        }
+        file.push('"')?;
+        add_name(file, number)?;
         file.push_str("\" \"bool\" typeOp nil opType var varTerm")?;
     }
     file.push_str("'\n")?;
     Ok(())
 }
 
-// Adds a name of so many letters.
-fn add_name(file: &mut String, length: usize) -> Result<(), AllocError> {
-    for _ in 0..length {
-        file.push('x')?;
+// Adds the name of a number below 2^14: a letter for each of its binary digits, the lowest first.
+fn add_name(file: &mut String, number: usize) -> Result<(), AllocError> {
+    let mut rest = number;
+    for _ in 0..14 {
+        file.push(if rest % 2 == 1 { 'x' } else { 'y' })?;
+        rest /= 2;
     }
     Ok(())
 }

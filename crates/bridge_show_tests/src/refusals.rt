@@ -7,22 +7,27 @@ const TESTS: &str = r#"
 words = ["bridge", "show", "a"]
 
 [[test]]
-name = "tells_where_the_version_lacks"
+name = "tells_where_version_may_not_stand"
 
 [[test.case]]
-text.a = ""
+text.a = "version\n"
 number = 1
 note = "article 1 line 1: VersionPlace (5)\n"
-
-[[test.case]]
-text.a = "6\n"
-number = 1
-note = "article 1 line 2: VersionPlace (5)\n"
 
 [[test.case]]
 text.a = "5\nversion\n"
 number = 1
-note = "article 1 line 1: VersionPlace (5)\n"
+note = "article 1 line 2: VersionPlace (5)\n"
+
+[[test.case]]
+text.a = "6\nnil\nversion\n"
+number = 1
+note = "article 1 line 3: VersionPlace (5)\n"
+
+[[test.case]]
+text.a = "6\nversion\n6\nversion\n"
+number = 1
+note = "article 1 line 4: VersionPlace (5)\n"
 
 [[test]]
 name = "tells_each_kind_of_a_line"

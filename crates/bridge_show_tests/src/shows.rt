@@ -23,6 +23,14 @@ article.a = ["$version"]
 out = ""
 
 [[test.case]]
+text.a = ""
+out = ""
+
+[[test.case]]
+text.a = "6\n"
+out = ""
+
+[[test.case]]
 article.a = ["$version", "9223372036854775807"]
 out = ""
 

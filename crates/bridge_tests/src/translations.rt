@@ -73,16 +73,8 @@ article = {}
 number = 1
 
 [[test.case]]
-text.a = ""
-note = "article 1 line 1: VersionPlace (5)\n"
-
-[[test.case]]
-text.a = "6\n"
-note = "article 1 line 2: VersionPlace (5)\n"
-
-[[test.case]]
 text.a = "5\nversion\n"
-note = "article 1 line 1: VersionPlace (5)\n"
+note = "article 1 line 2: VersionPlace (5)\n"
 
 [[test.case]]
 text.a = "6\nvers"

@@ -150,6 +150,96 @@ exports 1
 declarations 8
 bounds 78912963008
 '''
+
+# An article of version 5: the first law of the definition of a type operator is about a variable.
+[[test]]
+name = "first_law_in_version_5"
+article.a = [
+    '"->" typeOp "a" varType "b" varType nil cons cons opType 0 def pop',
+    '"two" "mk" "dest" "b" "a" nil cons cons nil "r" 0 ref var', "$equality", "$witness",
+    'pop 0 ref 1 def pop "two" typeOp "b" varType "a" varType nil cons cons opType 2 def 0 def pop nil', "$equality",
+    '"mk" const "->" typeOp 1 ref 2 ref nil cons cons opType constTerm',
+    '"dest" const "->" typeOp 2 ref 1 ref nil cons cons opType constTerm "a" 2 ref var varTerm appTerm appTerm appTerm',
+    '"a" 2 ref var varTerm appTerm thm',
+]
+texts.lines = '''
+A0 : v0 : type -> v1 : type -> v2 : term (arr v0 v1) -> proof ((v3 : term (arr v0 v1) => eq (arr v0 v1) v3 v3) v2).
+def o_two : v0 : type -> v1 : type -> type := v0 : type => v1 : type => sub (arr v1 v0) (v2 : term (arr v1 v0) => eq (arr v1 v0) v2 v2) (select (arr v1 v0) (v2 : term (arr v1 v0) => eq (arr v1 v0) v2 v2)) (A0 v1 v0 (select (arr v1 v0) (v2 : term (arr v1 v0) => eq (arr v1 v0) v2 v2))).
+def c_mk : v0 : type -> v1 : type -> term (arr (arr v0 v1) (o_two v1 v0)) := v0 : type => v1 : type => sub_abs (arr v0 v1) (v2 : term (arr v0 v1) => eq (arr v0 v1) v2 v2) (select (arr v0 v1) (v2 : term (arr v0 v1) => eq (arr v0 v1) v2 v2)) (A0 v0 v1 (select (arr v0 v1) (v2 : term (arr v0 v1) => eq (arr v0 v1) v2 v2))).
+def c_dest : v0 : type -> v1 : type -> term (arr (o_two v0 v1) (arr v1 v0)) := v0 : type => v1 : type => sub_rep (arr v1 v0) (v2 : term (arr v1 v0) => eq (arr v1 v0) v2 v2) (select (arr v1 v0) (v2 : term (arr v1 v0) => eq (arr v1 v0) v2 v2)) (A0 v1 v0 (select (arr v1 v0) (v2 : term (arr v1 v0) => eq (arr v1 v0) v2 v2))).
+(; bound 38204652032 ;)
+thm L1 : v0 : type -> v1 : type -> v2 : term (o_two v0 v1) -> proof (eq (o_two v0 v1) (c_mk v1 v0 (c_dest v0 v1 v2)) v2) := v0 : type => v1 : type => v2 : term (o_two v0 v1) => sub_abs_rep (arr v1 v0) (v3 : term (arr v1 v0) => eq (arr v1 v0) v3 v3) (select (arr v1 v0) (v3 : term (arr v1 v0) => eq (arr v1 v0) v3 v3)) (A0 v1 v0 (select (arr v1 v0) (v3 : term (arr v1 v0) => eq (arr v1 v0) v3 v3))) v2.
+(; bound 287496000 ;)
+thm E0 : v0 : type -> v1 : type -> v2 : term (o_two v0 v1) -> proof (eq (o_two v0 v1) (c_mk v1 v0 (c_dest v0 v1 v2)) v2) := v0 : type => v1 : type => v2 : term (o_two v0 v1) => L1 v0 v1 v2.
+'''
+texts.counts = '''
+articles 1
+assumptions 1
+exports 1
+declarations 8
+bounds 54708506944
+'''
+
+# The second law of the same definition.
+[[test]]
+name = "second_law_in_version_5"
+article.a = [
+    '"->" typeOp "a" varType "b" varType nil cons cons opType 0 def pop',
+    '"two" "mk" "dest" "b" "a" nil cons cons nil "r" 0 ref var', "$equality", "$witness",
+    '"two" typeOp "b" varType "a" varType nil cons cons opType 1 def pop nil', "$equals", '"r" 0 ref var', "$equality",
+    '"r" 0 ref var varTerm appTerm "r" 0 ref var varTerm appTerm absTerm "r" 0 ref var varTerm appTerm appTerm', "$equality",
+    '"dest" const "->" typeOp 1 ref 0 ref nil cons cons opType constTerm',
+    '"mk" const "->" typeOp 0 ref 1 ref nil cons cons opType constTerm "r" 0 ref var varTerm appTerm appTerm appTerm',
+    '"r" 0 ref var varTerm appTerm appTerm thm',
+]
+texts.lines = '''
+A0 : v0 : type -> v1 : type -> v2 : term (arr v0 v1) -> proof ((v3 : term (arr v0 v1) => eq (arr v0 v1) v3 v3) v2).
+def o_two : v0 : type -> v1 : type -> type := v0 : type => v1 : type => sub (arr v1 v0) (v2 : term (arr v1 v0) => eq (arr v1 v0) v2 v2) (select (arr v1 v0) (v2 : term (arr v1 v0) => eq (arr v1 v0) v2 v2)) (A0 v1 v0 (select (arr v1 v0) (v2 : term (arr v1 v0) => eq (arr v1 v0) v2 v2))).
+def c_mk : v0 : type -> v1 : type -> term (arr (arr v0 v1) (o_two v1 v0)) := v0 : type => v1 : type => sub_abs (arr v0 v1) (v2 : term (arr v0 v1) => eq (arr v0 v1) v2 v2) (select (arr v0 v1) (v2 : term (arr v0 v1) => eq (arr v0 v1) v2 v2)) (A0 v0 v1 (select (arr v0 v1) (v2 : term (arr v0 v1) => eq (arr v0 v1) v2 v2))).
+def c_dest : v0 : type -> v1 : type -> term (arr (o_two v0 v1) (arr v1 v0)) := v0 : type => v1 : type => sub_rep (arr v1 v0) (v2 : term (arr v1 v0) => eq (arr v1 v0) v2 v2) (select (arr v1 v0) (v2 : term (arr v1 v0) => eq (arr v1 v0) v2 v2)) (A0 v1 v0 (select (arr v1 v0) (v2 : term (arr v1 v0) => eq (arr v1 v0) v2 v2))).
+(; bound 66331758592 ;)
+thm L2 : v0 : type -> v1 : type -> v2 : term (arr v0 v1) -> proof (eq bool ((v3 : term (arr v0 v1) => eq (arr v0 v1) v3 v3) v2) (eq (arr v0 v1) (c_dest v1 v0 (c_mk v0 v1 v2)) v2)) := v0 : type => v1 : type => v2 : term (arr v0 v1) => sym bool (eq (arr v0 v1) (c_dest v1 v0 (c_mk v0 v1 v2)) v2) ((v3 : term (arr v0 v1) => eq (arr v0 v1) v3 v3) v2) (sub_rep_abs (arr v0 v1) (v3 : term (arr v0 v1) => eq (arr v0 v1) v3 v3) (select (arr v0 v1) (v3 : term (arr v0 v1) => eq (arr v0 v1) v3 v3)) (A0 v0 v1 (select (arr v0 v1) (v3 : term (arr v0 v1) => eq (arr v0 v1) v3 v3))) v2).
+(; bound 1099104768 ;)
+thm E0 : v0 : type -> v1 : type -> v2 : term (arr v0 v1) -> proof (eq bool ((v3 : term (arr v0 v1) => eq (arr v0 v1) v3 v3) v2) (eq (arr v0 v1) (c_dest v1 v0 (c_mk v0 v1 v2)) v2)) := v0 : type => v1 : type => v2 : term (arr v0 v1) => L2 v0 v1 v2.
+'''
+texts.counts = '''
+articles 1
+assumptions 1
+exports 1
+declarations 8
+bounds 83647222272
+'''
+
+# The theorem of the definition is about a variable of the name and the type of that of the second law: in the arguments of its proof
+# it is filled, and not put.
+[[test]]
+name = "second_law_beside_the_variable_of_its_theorem"
+article.a = [
+    '"a" varType 0 def pop "one" "mk" "dest" "a" nil cons nil "r" 0 ref var', "$equality",
+    '"r" 0 ref var varTerm appTerm "r" 0 ref var varTerm appTerm absTerm "r" 0 ref var varTerm appTerm axiom defineTypeOp',
+    '"one" typeOp "a" varType nil cons opType 1 def pop nil', "$equals", '"r" 0 ref var', "$equality",
+    '"r" 0 ref var varTerm appTerm "r" 0 ref var varTerm appTerm absTerm "r" 0 ref var varTerm appTerm appTerm', "$equality",
+    '"dest" const "->" typeOp 1 ref 0 ref nil cons cons opType constTerm',
+    '"mk" const "->" typeOp 0 ref 1 ref nil cons cons opType constTerm "r" 0 ref var varTerm appTerm appTerm appTerm',
+    '"r" 0 ref var varTerm appTerm appTerm thm',
+]
+texts.lines = '''
+A0 : v0 : type -> v1 : term v0 -> proof ((v2 : term v0 => eq v0 v2 v2) v1).
+def o_one : v0 : type -> type := v0 : type => sub v0 (v1 : term v0 => eq v0 v1 v1) (select v0 (v1 : term v0 => eq v0 v1 v1)) (A0 v0 (select v0 (v1 : term v0 => eq v0 v1 v1))).
+def c_mk : v0 : type -> term (arr v0 (o_one v0)) := v0 : type => sub_abs v0 (v1 : term v0 => eq v0 v1 v1) (select v0 (v1 : term v0 => eq v0 v1 v1)) (A0 v0 (select v0 (v1 : term v0 => eq v0 v1 v1))).
+def c_dest : v0 : type -> term (arr (o_one v0) v0) := v0 : type => sub_rep v0 (v1 : term v0 => eq v0 v1 v1) (select v0 (v1 : term v0 => eq v0 v1 v1)) (A0 v0 (select v0 (v1 : term v0 => eq v0 v1 v1))).
+(; bound 13824000000 ;)
+thm L2 : v0 : type -> v1 : term v0 -> proof (eq bool ((v2 : term v0 => eq v0 v2 v2) v1) (eq v0 (c_dest v0 (c_mk v0 v1)) v1)) := v0 : type => v1 : term v0 => sym bool (eq v0 (c_dest v0 (c_mk v0 v1)) v1) ((v2 : term v0 => eq v0 v2 v2) v1) (sub_rep_abs v0 (v2 : term v0 => eq v0 v2 v2) (select v0 (v2 : term v0 => eq v0 v2 v2)) (A0 v0 (select v0 (v2 : term v0 => eq v0 v2 v2))) v1).
+(; bound 262144000 ;)
+thm E0 : v0 : type -> v1 : term v0 -> proof (eq bool ((v2 : term v0 => eq v0 v2 v2) v1) (eq v0 (c_dest v0 (c_mk v0 v1)) v1)) := v0 : type => v1 : term v0 => L2 v0 v1.
+'''
+texts.counts = '''
+articles 1
+assumptions 1
+exports 1
+declarations 8
+bounds 30302502912
+'''
 "#;
 
 #[test]

@@ -32,6 +32,23 @@ bounds 16240151168
 '''
 
 [[test]]
+name = "reflexivity_in_version_5"
+article.a = ["$reflexivity_5"]
+texts.lines = '''
+(; bound 13144256 ;)
+thm T0 : v0 : term bool -> proof (eq bool v0 v0) := v0 : term bool => refl bool v0.
+(; bound 10648000 ;)
+thm E0 : v0 : term bool -> proof (eq bool v0 v0) := v0 : term bool => T0 v0.
+'''
+texts.counts = '''
+articles 1
+assumptions 0
+exports 1
+declarations 4
+bounds 16240151168
+'''
+
+[[test]]
 name = "vanished_variable"
 article.a = [
     "$version", "nil", "$equals", "$p", "appTerm", "$n_of_z", "appTerm axiom nil", "$equals", "$n_of_z", "appTerm", "$r",

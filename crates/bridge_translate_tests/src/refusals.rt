@@ -10,19 +10,19 @@ begun = ["a"]
 texts.witness = '"r" 0 ref var varTerm appTerm "r" 0 ref var varTerm appTerm absTerm "g" 0 ref var varTerm appTerm axiom defineTypeOp'
 
 [[test]]
-name = "version_lacks"
+name = "version_stands_elsewhere"
 
 [[test.case]]
-article.a = []
+article.a = ["version"]
 note = "article 1 line 1: VersionPlace (5)\n"
-
-[[test.case]]
-article.a = ["6"]
-note = "article 1 line 2: VersionPlace (5)\n"
 
 [[test.case]]
 article.a = ["5 version"]
-note = "article 1 line 1: VersionPlace (5)\n"
+note = "article 1 line 2: VersionPlace (5)\n"
+
+[[test.case]]
+article.a = ["6 nil version"]
+note = "article 1 line 3: VersionPlace (5)\n"
 
 [[test]]
 name = "line_is_told"

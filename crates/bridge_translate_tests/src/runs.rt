@@ -106,6 +106,46 @@ case = [
     { words = ["bridge", "translate", "a", "a"], note = "$counts" },
     { words = ["bridge", "verify", "a", "a"], note = ["$counts", "verified\n"] },
 ]
+
+# An article of version 6, and one of version 5 that defines a type operator and exports its second law.
+[[test]]
+name = "version_5_behind_version_6"
+begun = ["a", "b"]
+article.a = ["$reflexivity"]
+article.b = [
+    '"a" varType 0 def pop "one" "mk" "dest" "a" nil cons nil "r" 0 ref var', "$equality",
+    '"r" 0 ref var varTerm appTerm "r" 0 ref var varTerm appTerm absTerm "r" 0 ref var varTerm appTerm axiom defineTypeOp',
+    '"one" typeOp "a" varType nil cons opType 1 def pop nil', "$equals", '"r" 0 ref var', "$equality",
+    '"r" 0 ref var varTerm appTerm "r" 0 ref var varTerm appTerm absTerm "r" 0 ref var varTerm appTerm appTerm', "$equality",
+    '"dest" const "->" typeOp 1 ref 0 ref nil cons cons opType constTerm',
+    '"mk" const "->" typeOp 0 ref 1 ref nil cons cons opType constTerm "r" 0 ref var varTerm appTerm appTerm appTerm',
+    '"r" 0 ref var varTerm appTerm appTerm thm',
+]
+texts.lines = '''
+(; bound 13144256 ;)
+thm T0 : v0 : term bool -> proof (eq bool v0 v0) := v0 : term bool => refl bool v0.
+(; bound 10648000 ;)
+thm E0 : v0 : term bool -> proof (eq bool v0 v0) := v0 : term bool => T0 v0.
+A0 : v0 : type -> v1 : term v0 -> proof ((v2 : term v0 => eq v0 v2 v2) v1).
+def o_one : v0 : type -> type := v0 : type => sub v0 (v1 : term v0 => eq v0 v1 v1) (select v0 (v1 : term v0 => eq v0 v1 v1)) (A0 v0 (select v0 (v1 : term v0 => eq v0 v1 v1))).
+def c_mk : v0 : type -> term (arr v0 (o_one v0)) := v0 : type => sub_abs v0 (v1 : term v0 => eq v0 v1 v1) (select v0 (v1 : term v0 => eq v0 v1 v1)) (A0 v0 (select v0 (v1 : term v0 => eq v0 v1 v1))).
+def c_dest : v0 : type -> term (arr (o_one v0) v0) := v0 : type => sub_rep v0 (v1 : term v0 => eq v0 v1 v1) (select v0 (v1 : term v0 => eq v0 v1 v1)) (A0 v0 (select v0 (v1 : term v0 => eq v0 v1 v1))).
+(; bound 13824000000 ;)
+thm L4 : v0 : type -> v1 : term v0 -> proof (eq bool ((v2 : term v0 => eq v0 v2 v2) v1) (eq v0 (c_dest v0 (c_mk v0 v1)) v1)) := v0 : type => v1 : term v0 => sym bool (eq v0 (c_dest v0 (c_mk v0 v1)) v1) ((v2 : term v0 => eq v0 v2 v2) v1) (sub_rep_abs v0 (v2 : term v0 => eq v0 v2 v2) (select v0 (v2 : term v0 => eq v0 v2 v2)) (A0 v0 (select v0 (v2 : term v0 => eq v0 v2 v2))) v1).
+(; bound 262144000 ;)
+thm E1 : v0 : type -> v1 : term v0 -> proof (eq bool ((v2 : term v0 => eq v0 v2 v2) v1) (eq v0 (c_dest v0 (c_mk v0 v1)) v1)) := v0 : type => v1 : term v0 => L4 v0 v1.
+'''
+texts.counts = '''
+articles 2
+assumptions 1
+exports 2
+declarations 10
+bounds 30326295168
+'''
+case = [
+    { words = ["bridge", "translate", "a", "b"], note = "$counts" },
+    { words = ["bridge", "verify", "a", "b"], note = ["$counts", "verified\n"] },
+]
 "#;
 
 #[test]

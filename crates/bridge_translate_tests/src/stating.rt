@@ -34,6 +34,17 @@ words = ["bridge", "verify", "a"]
 article.a = ["$version"]
 note = ["$counts", "verified\n"]
 
+# An empty file, and the number 6 alone.
+[[test.case]]
+words = ["bridge", "translate", "a"]
+text.a = ""
+note = "$counts"
+
+[[test.case]]
+words = ["bridge", "verify", "a"]
+text.a = "6\n"
+note = ["$counts", "verified\n"]
+
 [[test.case]]
 words = ["bridge", "translate", "a"]
 article.a = ["$version", "9223372036854775807"]

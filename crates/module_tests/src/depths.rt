@@ -9,74 +9,82 @@ by = "read"
 name = "the_greatest_depth_of_a_type_or_a_body_is_read_and_no_greater_one"
 
 [[test.case]]
-text = ["$prelude", "q :", " bool", { times = 16383, part = " bool" }, "."]
+text = ["$prelude", "q :", " bool", { times = 262143, part = " bool" }, "."]
 comes = "symbol q"
 
 [[test.case]]
-text = ["$prelude", "q :", " bool", { times = 16384, part = " bool" }, "."]
-comes = "DkTooDeep at 81928"
+text = ["$prelude", "q :", " bool", { times = 262144, part = " bool" }, "."]
+comes = "DkTooDeep at 1310728"
 
 [[test.case]]
-text = ["$prelude", "def q :", " bool", { times = 16383, part = " bool" }, ":= bool."]
+text = ["$prelude", "def q :", " bool", { times = 262143, part = " bool" }, ":= bool."]
 comes = "def q"
 
 [[test.case]]
-text = ["$prelude", "def q :", " bool", { times = 16384, part = " bool" }, ":= bool."]
-comes = "DkTooDeep at 81932"
+text = ["$prelude", "def q :", " bool", { times = 262144, part = " bool" }, ":= bool."]
+comes = "DkTooDeep at 1310732"
 
 [[test.case]]
-text = ["$prelude", "thm q :", " bool", { times = 16383, part = " bool" }, ":= bool."]
+text = ["$prelude", "thm q :", " bool", { times = 262143, part = " bool" }, ":= bool."]
 comes = "thm q"
 
 [[test.case]]
-text = ["$prelude", "thm q :", " bool", { times = 16384, part = " bool" }, ":= bool."]
-comes = "DkTooDeep at 81932"
+text = ["$prelude", "thm q :", " bool", { times = 262144, part = " bool" }, ":= bool."]
+comes = "DkTooDeep at 1310732"
 
 [[test.case]]
-text = ["$prelude", "def q : type :=", " bool", { times = 16383, part = " bool" }, "."]
+text = ["$prelude", "def q : type :=", " bool", { times = 262143, part = " bool" }, "."]
 comes = "def q"
 
 [[test.case]]
-text = ["$prelude", "def q : type :=", " bool", { times = 16384, part = " bool" }, "."]
-comes = "DkTooDeep at 81940"
+text = ["$prelude", "def q : type :=", " bool", { times = 262144, part = " bool" }, "."]
+comes = "DkTooDeep at 1310740"
 
 [[test.case]]
-text = ["$prelude", "thm q : type :=", " bool", { times = 16383, part = " bool" }, "."]
+text = ["$prelude", "thm q : type :=", " bool", { times = 262143, part = " bool" }, "."]
 comes = "thm q"
 
 [[test.case]]
-text = ["$prelude", "thm q : type :=", " bool", { times = 16384, part = " bool" }, "."]
-comes = "DkTooDeep at 81940"
+text = ["$prelude", "thm q : type :=", " bool", { times = 262144, part = " bool" }, "."]
+comes = "DkTooDeep at 1310740"
 
 [[test]]
 name = "the_greatest_depth_in_parentheses_is_read_and_no_greater_one"
 
 [[test.case]]
-text = ["$prelude", "def q : type :=", { times = 16383, part = " bool (" }, " bool", { times = 16383, part = ")" }, "."]
+text = ["$prelude", "def q : type :=", { times = 262143, part = " bool (" }, " bool", { times = 262143, part = ")" }, "."]
 comes = "def q"
 
 [[test.case]]
-text = ["$prelude", "def q : type :=", { times = 16384, part = " bool (" }, " bool", { times = 16384, part = ")" }, "."]
-comes = "DkTooDeep at 131092"
+text = ["$prelude", "def q : type :=", { times = 262144, part = " bool (" }, " bool", { times = 262144, part = ")" }, "."]
+comes = "DkTooDeep at 2097172"
+
+[[test.case]]
+text = ["$prelude", "def q : type :=", { times = 262142, part = " arr bool (" }, " bool", { times = 262142, part = ")" }, "."]
+comes = "def q"
+
+[[test.case]]
+text = ["$prelude", "def q : type :=", { times = 262143, part = " arr bool (" }, " bool", { times = 262143, part = ")" }, "."]
+comes = "DkTooDeep at 3145736"
 
 [[test]]
 name = "feed_answers_that_a_type_or_a_body_is_too_deep"
 by = "feed"
 
 [[test.case]]
-text = ["$prelude", "q :", " bool", { times = 16384, part = " bool" }, ". more"]
-limits = [{ behind = 81929 }]
-comes = "DkTooDeep at 81928, DkTooDeep at 81928, DkTooDeep at 81928"
+text = ["$prelude", "q :", " bool", { times = 262144, part = " bool" }, ". more"]
+limits = [{ behind = 1310729 }]
+comes = "DkTooDeep at 1310728, DkTooDeep at 1310728, DkTooDeep at 1310728"
 
 [[test.case]]
-text = ["$prelude", "def q :", " bool", { times = 16384, part = " bool" }, ":= bool."]
-limits = [{ behind = 81934 }]
-comes = "DkTooDeep at 81932, DkTooDeep at 81932, DkTooDeep at 81932"
+text = ["$prelude", "def q :", " bool", { times = 262144, part = " bool" }, ":= bool."]
+limits = [{ behind = 1310734 }]
+comes = "DkTooDeep at 1310732, DkTooDeep at 1310732, DkTooDeep at 1310732"
 
 [[test.case]]
-text = ["$prelude", "thm q : type :=", " bool", { times = 16384, part = " bool" }, ". more"]
-limits = [{ behind = 81941 }]
-comes = "DkTooDeep at 81940, DkTooDeep at 81940, DkTooDeep at 81940"
+text = ["$prelude", "thm q : type :=", " bool", { times = 262144, part = " bool" }, ". more"]
+limits = [{ behind = 1310741 }]
+comes = "DkTooDeep at 1310740, DkTooDeep at 1310740, DkTooDeep at 1310740"
 "#;
 
 #[test]

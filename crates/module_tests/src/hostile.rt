@@ -21,8 +21,19 @@ comes = [
 
 [[test.case]]
 text = [
-    "$prelude", "E0 : v0 : term ", "(", { times = 16000, part = "arr bool (" }, "bool", { times = 16000, part = ")" }, ")",
-    " -> proof (eq ", "(", { times = 16000, part = "arr bool (" }, "bool", { times = 16000, part = ")" }, ")", " v0 v0).",
+    "$prelude", "E0 : v0 : term ", "(", { times = 8188, part = "arr bool (" }, "bool", { times = 8188, part = ")" }, ")",
+    " -> proof (eq ", "(", { times = 8188, part = "arr bool (" }, "bool", { times = 8188, part = ")" }, ")", " v0 v0).",
+]
+comes = [
+    "[] [x0:", { times = 8188, part = "(bool -> " }, "bool", { times = 8188, part = ")" }, "] {} |- ", "(((=:(",
+    { times = 8188, part = "(bool -> " }, "bool", { times = 8188, part = ")" }, " -> (", { times = 8188, part = "(bool -> " },
+    "bool", { times = 8188, part = ")" }, " -> bool))) ", "x0) x0)",
+]
+
+[[test.case]]
+text = [
+    "$prelude", "E0 : v0 : term ", "(", { times = 8189, part = "arr bool (" }, "bool", { times = 8189, part = ")" }, ")",
+    " -> proof (eq ", "(", { times = 8189, part = "arr bool (" }, "bool", { times = 8189, part = ")" }, ")", " v0 v0).",
 ]
 comes = "none"
 
@@ -44,9 +55,9 @@ comes = [
 
 [[test.case]]
 text = [
-    "$prelude", "c_k :", { count = 5000, part = " v# : type ->" }, " term (", { count = 5000, part = "arr v# (" }, "bool",
-    { times = 5000, part = ")" }, "). E0 : proof (eq ", "(", { times = 5000, part = "arr bool (" }, "bool",
-    { times = 5000, part = ")" }, ")", " (c_k", { times = 5000, part = " bool" }, ") (c_k", { times = 5000, part = " bool" },
+    "$prelude", "c_k :", { count = 8189, part = " v# : type ->" }, " term (", { count = 8189, part = "arr v# (" }, "bool",
+    { times = 8189, part = ")" }, "). E0 : proof (eq ", "(", { times = 8189, part = "arr bool (" }, "bool",
+    { times = 8189, part = ")" }, ")", " (c_k", { times = 8189, part = " bool" }, ") (c_k", { times = 8189, part = " bool" },
     ")).",
 ]
 comes = "none"
