@@ -1,6 +1,6 @@
 #!/bin/sh
-# The native stack that the program needs on terms, types, lists of objects and trees of a module that are as deep as the limits let them
-# be, or deeper for what has no limit: for each call the least of 64, 128, 256, 512 and 1024 KiB with which it ends as it should. All are to
+# The native stack that the program needs on terms, types, lists of objects and trees of a module that are at or near the limits of depth,
+# or deep where there is no limit: for each call the least of 64, 128, 256, 512 and 1024 KiB with which it ends as it should. All are to
 # end under 1024; each of them ended with 64. Run `./bridge show` on any article first.
 . "$(dirname "$0")/chain.sh"
 bool='"bool" typeOp nil opType'
