@@ -10,13 +10,13 @@ often() { awk -v count="$1" -v part="$2" 'BEGIN { for (i = 0; i < count; i++) pr
 terms() {
     echo "6 version $bool 0 def pop \"f\" const \"->\" typeOp 0 ref 0 ref nil cons cons opType constTerm 1 def pop nil$(often 16380 '1 ref') \"p\" 0 ref var varTerm$(often 16380 appTerm) 2 def axiom nil 2 ref thm" | lines
 }
-# x = x at a type of depth 16,370.
+# x = x at the deepest type at which it is within the limits, of depth 16,377.
 types() {
-    echo "6 version nil$(often 16370 '"list" typeOp') \"a\" varType$(often 16370 'nil cons opType') 0 def pop \"=\" const \"->\" typeOp 0 ref \"->\" typeOp 0 ref $bool nil cons cons opType nil cons cons opType constTerm \"x\" 0 ref var varTerm appTerm \"x\" 0 ref var varTerm appTerm 1 def axiom nil 1 ref thm" | lines
+    echo "6 version nil$(often 16376 '"list" typeOp') \"a\" varType$(often 16376 'nil cons opType') 0 def pop \"=\" const \"->\" typeOp 0 ref \"->\" typeOp 0 ref $bool nil cons cons opType nil cons cons opType constTerm \"x\" 0 ref var varTerm appTerm \"x\" 0 ref var varTerm appTerm 1 def axiom nil 1 ref thm" | lines
 }
-# g of an abstraction under 8,000 others.
+# g of as many abstractions, one in another, as are within the limits, 8,189.
 binders() {
-    echo "6 version $bool 0 def 1 def pop$(often 8000 '"->" typeOp 0 ref 1 ref nil cons cons opType 1 def pop') nil \"g\" const \"->\" typeOp 1 ref 0 ref nil cons cons opType constTerm \"p\" 0 ref var varTerm 2 def pop$(awk 'BEGIN { for (i = 0; i < 8000; i++) printf " \"x%d\" 0 ref var", i }') 2 ref$(often 8000 absTerm) appTerm 3 def axiom nil 3 ref thm" | lines
+    echo "6 version $bool 0 def 1 def pop$(often 8189 '"->" typeOp 0 ref 1 ref nil cons cons opType 1 def pop') nil \"g\" const \"->\" typeOp 1 ref 0 ref nil cons cons opType constTerm \"p\" 0 ref var varTerm 2 def pop$(awk 'BEGIN { for (i = 0; i < 8189; i++) printf " \"x%d\" 0 ref var", i }') 2 ref$(often 8189 absTerm) appTerm 3 def axiom nil 3 ref thm" | lines
 }
 # The first of so many variables assumed under all of them.
 parameters() {
