@@ -10,7 +10,7 @@ use Rattle.hol_spec.specs.Primitives.{arrow_name, bool_name, ind_name, primitive
 use Rattle.lp_spec.specs.Trees.{Tree, tree_eq}
 use Rattle.lp_binding.specs.TreeEquality.{tree_eq-refl, tree_eq-true}
 use Rattle.lp_spec.specs.Modules.{Declaration, arr_symbol, bool_symbol, ind_symbol, symbol_name, symbol_type, products, types}
-use Rattle.module_spec.specs.Numerals.{numeral}
+use Rattle.lp_spec.specs.Numerals.{numeral}
 use Rattle.module_spec.specs.OperatorMeaning.{NamesOperator, MeansOperator}
 use Rattle.module_spec.specs.OperatorMeaning as operators
 use Rattle.decode_spec.specs.Options.{bind, provided}

@@ -210,7 +210,7 @@ module _ (symbols : Symbols) where
 lemmas-weight : (m : List Declaration) → (weight m sym_lemma ≤ greatest_weight) × (weight m trans_lemma ≤ greatest_weight)
 lemmas-weight m = (omega arith, omega arith)
 
-run-weights : (articles : List (List ℕ)) (run : Accepted) → Run articles (accepted run) → AllByRecursion (λ d. weight (image run) d ≤ greatest_weight) (image run)
+pub run-weights : (articles : List (List ℕ)) (run : Accepted) → Run articles (accepted run) → AllByRecursion (λ d. weight (image run) d ≤ greatest_weight) (image run)
 run-weights articles run r =
     let items = kept_items run in
     let symbols = symbols_of items in

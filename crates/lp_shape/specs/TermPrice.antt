@@ -58,7 +58,7 @@ module _ (m : List Declaration) where
   constant-solid (at_type {a = a} {A = A} f h e) = subst Solid e (solid-put 0 a A (constant-solid f))
 
   -- the spread of a function's type at a type and further arguments
-  spread-type : {G : List Tree} {f A B : Tree} (a : Tree) (args : List Tree) → IsConstant m G f (Pi types A) → put a A ≡ B → spread (a ∷ args) (Pi types A) ≡ 1 + spread args B
+  pub spread-type : {G : List Tree} {f A B : Tree} (a : Tree) (args : List Tree) → IsConstant m G f (Pi types A) → put a A ≡ B → spread (a ∷ args) (Pi types A) ≡ 1 + spread args B
   spread-type {A = A} a args hf e = spread-product a args types A (constant-solid hf) ∙ ap (λ t. 1 + spread args t) e
 
   -- what remains of a constant's type is in the constant's weight
@@ -72,7 +72,7 @@ module _ (m : List Declaration) where
   constant-weight args (at_type {a = a} hf ha e) = omega (arith, constant-weight (a ∷ args) hf, spread-type a args hf e)
 
   -- further arguments spread a constant as they spread what remains of its type
-  constant-spreads : {G : List Tree} {t A : Tree} (args : List Tree) → IsConstant m G t A → spreads m args t + spread [] A ≡ spreads m [] t + spread args A
+  pub constant-spreads : {G : List Tree} {t A : Tree} (args : List Tree) → IsConstant m G t A → spreads m args t + spread [] A ≡ spreads m [] t + spread args A
   constant-spreads args (type_variable e) = lone args
     where
       lone : (args : List Tree) → 0 + spread [] types ≡ 0 + spread args types

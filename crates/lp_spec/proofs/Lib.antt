@@ -1,3 +1,4 @@
 mod Examples
 mod ReadingExamples
 mod TypingExamples
+mod ShortExamples

@@ -1,37 +1,37 @@
 -- The faults of a text, each by its own rule, whatever else is wrong with the text. The grammar is taken bare here: an identifier may name
--- anything, a name may be declared twice, and a tree may be of any depth, so that one text can show many faults. A text is refused for the
--- fault at the least place.
+-- anything, and a name may be declared twice, so that one text can show many faults. Only how deep a tree is depends on what its short
+-- names are short for, so that fault is told of what is read. A text is refused for the fault at the least place.
 -- Source: the Dedukti user manual, "Syntax"; the faults are this reader's own.
-use Rattle.std.specs.Prelude.{◌≡◌, ℕ, ◌+◌, ◌<◌, ◌≤◌, ◌⊎◌, max, Bool, true, false, IsTrue, IsFalse, List, [], ◌∷◌, ◌++◌, map, length, take, Option, None, Some, bytes_eq}
+use Rattle.std.specs.Prelude.{◌≡◌, ℕ, ◌<◌, ◌≤◌, ◌⊎◌, Bool, true, false, IsTrue, IsFalse, List, [], ◌∷◌, ◌++◌, map, length, take, Option, None, Some, bytes_eq}
 use Rattle.std.specs.List.{list_any}
 use Rattle.lp_spec.specs.declared.form.Form.{Form}
 use Rattle.lp_spec.specs.declared.form.Form.TheVariants.{Symbol, Def, Thm}
-use Rattle.lp_spec.specs.Modules.{signature}
+use Rattle.lp_spec.specs.Modules.{Declaration, signature}
 use Rattle.lp_spec.specs.Text.{prelude}
 use Rattle.lp_spec.specs.Tokens.{Token, Name, TypeWord, DefWord, ThmWord, Colon, Assign, Arrow, FatArrow, Dot, LeftParen, RightParen, Placed, at, ended, stuck, Scanned, tokens_from}
-use Rattle.lp_spec.specs.Reading.{Scope, variable_of, max_depth}
+use Rattle.lp_spec.specs.Trees.{Tree, depth}
+use Rattle.lp_spec.specs.Reading.{Scope, variable_of, max_depth, Term, IsNew, IsWhole, Declares}
 use Rattle.lp_spec.specs.ReadingFaults.{Refusal, refusal, NoPrelude, BadText, UnknownName, NameTwice, DkTooDeep, DkTooLong}
 
--- Between the first tokens and the second ones stands, by the bare grammar, a tree of this depth: an atom, the arguments of a tree of the first
--- depth, an application, or a term.
+-- Between the first tokens and the second ones stands, by the bare grammar, an atom, arguments, an application, or a term.
 mutual
-  pub data BareAtom : List Placed → List Placed → ℕ → Type 0 where
-    identifier : {rest : List Placed} {p : ℕ} {name : List ℕ} → BareAtom (at p (Name name) ∷ rest) rest 1
-    sort : {rest : List Placed} {p : ℕ} → BareAtom (at p TypeWord ∷ rest) rest 1
-    enclosed : {tokens rest : List Placed} {p q d : ℕ} → BareTerm tokens (at q RightParen ∷ rest) d → BareAtom (at p LeftParen ∷ tokens) rest d
+  pub data BareAtom : List Placed → List Placed → Type 0 where
+    identifier : {rest : List Placed} {p : ℕ} {name : List ℕ} → BareAtom (at p (Name name) ∷ rest) rest
+    sort : {rest : List Placed} {p : ℕ} → BareAtom (at p TypeWord ∷ rest) rest
+    enclosed : {tokens rest : List Placed} {p q : ℕ} → BareTerm tokens (at q RightParen ∷ rest) → BareAtom (at p LeftParen ∷ tokens) rest
 
-  pub data BareArguments : ℕ → List Placed → List Placed → ℕ → Type 0 where
-    none : {tokens : List Placed} {d : ℕ} → BareArguments d tokens tokens d
-    argument : {tokens more rest : List Placed} {d e n : ℕ} → BareAtom tokens more e → BareArguments (1 + max d e) more rest n → BareArguments d tokens rest n
+  pub data BareArguments : List Placed → List Placed → Type 0 where
+    none : {tokens : List Placed} → BareArguments tokens tokens
+    argument : {tokens more rest : List Placed} → BareAtom tokens more → BareArguments more rest → BareArguments tokens rest
 
-  pub data BareApplication : List Placed → List Placed → ℕ → Type 0 where
-    application : {tokens more rest : List Placed} {d n : ℕ} → BareAtom tokens more d → BareArguments d more rest n → BareApplication tokens rest n
+  pub data BareApplication : List Placed → List Placed → Type 0 where
+    application : {tokens more rest : List Placed} → BareAtom tokens more → BareArguments more rest → BareApplication tokens rest
 
-  pub data BareTerm : List Placed → List Placed → ℕ → Type 0 where
-    product : {tokens more rest : List Placed} {p q r d e : ℕ} {name : List ℕ} → BareApplication tokens (at r Arrow ∷ more) d → BareTerm more rest e → BareTerm (at p (Name name) ∷ at q Colon ∷ tokens) rest (1 + max d e)
-    abstraction : {tokens more rest : List Placed} {p q r d e : ℕ} {name : List ℕ} → BareApplication tokens (at r FatArrow ∷ more) d → BareTerm more rest e → BareTerm (at p (Name name) ∷ at q Colon ∷ tokens) rest (1 + max d e)
-    nameless : {tokens more rest : List Placed} {r d e : ℕ} → BareApplication tokens (at r Arrow ∷ more) d → BareTerm more rest e → BareTerm tokens rest (1 + max d e)
-    plain : {tokens rest : List Placed} {d : ℕ} → BareApplication tokens rest d → BareTerm tokens rest d
+  pub data BareTerm : List Placed → List Placed → Type 0 where
+    product : {tokens more rest : List Placed} {p q r : ℕ} {name : List ℕ} → BareApplication tokens (at r Arrow ∷ more) → BareTerm more rest → BareTerm (at p (Name name) ∷ at q Colon ∷ tokens) rest
+    abstraction : {tokens more rest : List Placed} {p q r : ℕ} {name : List ℕ} → BareApplication tokens (at r FatArrow ∷ more) → BareTerm more rest → BareTerm (at p (Name name) ∷ at q Colon ∷ tokens) rest
+    nameless : {tokens more rest : List Placed} {r : ℕ} → BareApplication tokens (at r Arrow ∷ more) → BareTerm more rest → BareTerm tokens rest
+    plain : {tokens rest : List Placed} → BareApplication tokens rest → BareTerm tokens rest
 
 -- a declaration of this form has a body
 abbrev pub HasBody : Form → Type 0
@@ -44,7 +44,7 @@ HasBody Thm = Unit {0}
 mutual
   pub data DeclarationBegins (all : List Placed) : List (List ℕ) → List Placed → Type 0 where
     first : DeclarationBegins all [] all
-    next : {names : List (List ℕ)} {name : List ℕ} {tokens rest : List Placed} {p d : ℕ} → WholeBegins all names name Dot tokens → BareTerm tokens (at p Dot ∷ rest) d → DeclarationBegins all (names ++ name ∷ []) rest
+    next : {names : List (List ℕ)} {name : List ℕ} {tokens rest : List Placed} {p : ℕ} → WholeBegins all names name Dot tokens → BareTerm tokens (at p Dot ∷ rest) → DeclarationBegins all (names ++ name ∷ []) rest
 
   pub data NameStands (all : List Placed) : List (List ℕ) → Form → List Placed → Type 0 where
     of_symbol : {names : List (List ℕ)} {tokens : List Placed} → DeclarationBegins all names tokens → NameStands all names Symbol tokens
@@ -54,15 +54,31 @@ mutual
   pub data WholeBegins (all : List Placed) : List (List ℕ) → List ℕ → Token → List Placed → Type 0 where
     only_type : {names : List (List ℕ)} {name : List ℕ} {tokens : List Placed} {p q : ℕ} → NameStands all names Symbol (at p (Name name) ∷ at q Colon ∷ tokens) → WholeBegins all names name Dot tokens
     type_before_body : {names : List (List ℕ)} {name : List ℕ} {form : Form} {tokens : List Placed} {p q : ℕ} → HasBody form → NameStands all names form (at p (Name name) ∷ at q Colon ∷ tokens) → WholeBegins all names name Assign tokens
-    body : {names : List (List ℕ)} {name : List ℕ} {tokens rest : List Placed} {p d : ℕ} → WholeBegins all names name Assign tokens → BareTerm tokens (at p Assign ∷ rest) d → WholeBegins all names name Dot rest
+    body : {names : List (List ℕ)} {name : List ℕ} {tokens rest : List Placed} {p : ℕ} → WholeBegins all names name Assign tokens → BareTerm tokens (at p Assign ∷ rest) → WholeBegins all names name Dot rest
+
+-- What has been read before these tokens: these declarations; the name of one more, of this form and with a new name; or all of its declaration
+-- before the type or the body that that token ends.
+pub data Declared (all : List Placed) : List Declaration → List Placed → Type 0 where
+  none_yet : Declared all [] all
+  one_more : {m : List Declaration} {tokens rest : List Placed} {d : Declaration} → Declared all m tokens → Declares m tokens rest d → Declared all (m ++ d ∷ []) rest
+
+pub data NameReads (all : List Placed) (m : List Declaration) : Form → List ℕ → List Placed → Type 0 where
+  symbol_name : {name : List ℕ} {tokens : List Placed} {p q : ℕ} → Declared all m (at p (Name name) ∷ at q Colon ∷ tokens) → IsNew m name → NameReads all m Symbol name tokens
+  definition_name : {name : List ℕ} {tokens : List Placed} {o p q : ℕ} → Declared all m (at o DefWord ∷ at p (Name name) ∷ at q Colon ∷ tokens) → IsNew m name → NameReads all m Def name tokens
+  theorem_name : {name : List ℕ} {tokens : List Placed} {o p q : ℕ} → Declared all m (at o ThmWord ∷ at p (Name name) ∷ at q Colon ∷ tokens) → IsNew m name → NameReads all m Thm name tokens
+
+pub data WholeReads (all : List Placed) (m : List Declaration) : Token → List Placed → Type 0 where
+  symbol_type : {name : List ℕ} {tokens : List Placed} → NameReads all m Symbol name tokens → WholeReads all m Dot tokens
+  bodied_type : {name : List ℕ} {form : Form} {tokens : List Placed} → HasBody form → NameReads all m form name tokens → WholeReads all m Assign tokens
+  body_after : {name : List ℕ} {form : Form} {tokens rest : List Placed} {p : ℕ} {t : Tree} → HasBody form → NameReads all m form name tokens → IsWhole m tokens (at p Assign ∷ rest) t → WholeReads all m Dot rest
 
 -- And in this scope: a term; an application, or an atom, where a binder may or may not be introduced in its place.
 mutual
   pub data TermBegins (all : List Placed) (names : List (List ℕ)) : Scope → List Placed → Type 0 where
     of_whole : {name : List ℕ} {end : Token} {tokens : List Placed} → WholeBegins all names name end tokens → TermBegins all names [] tokens
-    after_product : {scope : Scope} {name : List ℕ} {tokens rest : List Placed} {p q r d : ℕ} → TermBegins all names scope (at p (Name name) ∷ at q Colon ∷ tokens) → BareApplication tokens (at r Arrow ∷ rest) d → TermBegins all names (name ∷ scope) rest
-    after_abstraction : {scope : Scope} {name : List ℕ} {tokens rest : List Placed} {p q r d : ℕ} → TermBegins all names scope (at p (Name name) ∷ at q Colon ∷ tokens) → BareApplication tokens (at r FatArrow ∷ rest) d → TermBegins all names (name ∷ scope) rest
-    after_nameless : {scope : Scope} {tokens rest : List Placed} {r d : ℕ} → TermBegins all names scope tokens → BareApplication tokens (at r Arrow ∷ rest) d → TermBegins all names ([] ∷ scope) rest
+    after_product : {scope : Scope} {name : List ℕ} {tokens rest : List Placed} {p q r : ℕ} → TermBegins all names scope (at p (Name name) ∷ at q Colon ∷ tokens) → BareApplication tokens (at r Arrow ∷ rest) → TermBegins all names (name ∷ scope) rest
+    after_abstraction : {scope : Scope} {name : List ℕ} {tokens rest : List Placed} {p q r : ℕ} → TermBegins all names scope (at p (Name name) ∷ at q Colon ∷ tokens) → BareApplication tokens (at r FatArrow ∷ rest) → TermBegins all names (name ∷ scope) rest
+    after_nameless : {scope : Scope} {tokens rest : List Placed} {r : ℕ} → TermBegins all names scope tokens → BareApplication tokens (at r Arrow ∷ rest) → TermBegins all names ([] ∷ scope) rest
     enclosed_term : {scope : Scope} {binder : Bool} {tokens : List Placed} {p : ℕ} → AtomStands all names scope binder (at p LeftParen ∷ tokens) → TermBegins all names scope tokens
 
   pub data ApplicationBegins (all : List Placed) (names : List (List ℕ)) : Scope → Bool → List Placed → Type 0 where
@@ -71,7 +87,7 @@ mutual
 
   pub data AtomStands (all : List Placed) (names : List (List ℕ)) : Scope → Bool → List Placed → Type 0 where
     of_application : {scope : Scope} {binder : Bool} {tokens : List Placed} → ApplicationBegins all names scope binder tokens → AtomStands all names scope binder tokens
-    further : {scope : Scope} {binder : Bool} {tokens rest : List Placed} {d : ℕ} → ApplicationBegins all names scope binder tokens → BareApplication tokens rest d → AtomStands all names scope false rest
+    further : {scope : Scope} {binder : Bool} {tokens rest : List Placed} → ApplicationBegins all names scope binder tokens → BareApplication tokens rest → AtomStands all names scope false rest
 
 -- tokens that are declarations to their end
 abbrev pub IsText : List Placed → Type 0
@@ -104,8 +120,8 @@ pub data TokensShow (all : List Placed) : Refusal → Type 0 where
   unknown_name : {names : List (List ℕ)} {scope : Scope} {binder : Bool} {name : List ℕ} {rest : List Placed} {p : ℕ} → AtomStands all names scope binder (at p (Name name) ∷ rest) → variable_of scope name ≡ None → IsFalse (is_symbol names name) → IsNoBinder binder rest → TokensShow all (refusal p (UnknownName name))
   -- the identifier in a declaration's name place is a symbol already
   name_twice : {names : List (List ℕ)} {form : Form} {name : List ℕ} {rest : List Placed} {p : ℕ} → NameStands all names form (at p (Name name) ∷ rest) → IsTrue (is_symbol names name) → TokensShow all (refusal p (NameTwice name))
-  -- a type or a body is too deep: at the token that ends it
-  too_deep : {names : List (List ℕ)} {name : List ℕ} {end : Token} {tokens rest : List Placed} {p d : ℕ} → WholeBegins all names name end tokens → BareTerm tokens (at p end ∷ rest) d → max_depth < d → TokensShow all (refusal p DkTooDeep)
+  -- a type or a body is too deep, as it is read: at the token that ends it
+  too_deep : {m : List Declaration} {end : Token} {tokens rest : List Placed} {p : ℕ} {t : Tree} → WholeReads all m end tokens → Term m [] tokens (at p end ∷ rest) t → max_depth < depth t → TokensShow all (refusal p DkTooDeep)
 
 -- a text of any length shows this fault
 pub data Shows (bytes : List ℕ) : Refusal → Type 0 where

@@ -4,8 +4,10 @@ pub mod Faults
 pub mod Lemmas
 pub mod ModuleOrder
 pub mod Modules
+pub mod Numerals
 pub mod Reading
 pub mod ReadingFaults
+pub mod ShortNames
 pub mod Substitution
 pub mod Text
 pub mod TextLaws

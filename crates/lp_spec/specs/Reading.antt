@@ -3,9 +3,10 @@
 use Rattle.std.specs.Prelude.{◌≡◌, ℕ, ◌≤◌, IsFalse, List, [], ◌∷◌, ◌++◌, length, Option, None, Some, position}
 use Rattle.std.specs.Str.{bytes_eq}
 use Rattle.lp_spec.specs.declared.form.Form.TheVariants.{Symbol, Def, Thm}
-use Rattle.lp_spec.specs.Trees.{Tree, SortType, Var, Sym, App, Lam, Pi, depth}
+use Rattle.lp_spec.specs.Trees.{Tree, SortType, Var, App, Lam, Pi, depth}
 use Rattle.lp_spec.specs.Modules.{Declaration, signature}
 use Rattle.lp_spec.specs.ModuleOrder.{is_declared}
+use Rattle.lp_spec.specs.ShortNames.{named_tree}
 use Rattle.lp_spec.specs.Text.{prelude}
 use Rattle.lp_spec.specs.Tokens.{Name, TypeWord, DefWord, ThmWord, Colon, Assign, Arrow, FatArrow, Dot, LeftParen, RightParen, Placed, at, ended, tokens_from}
 
@@ -26,11 +27,11 @@ abbrev pub max_depth : ℕ
 max_depth = 262144
 
 -- Between the first tokens and the second ones stands this tree, where these declarations come before and the scope is this:
--- an atom, an atom and its arguments, or a term.
+-- an atom, an atom and its arguments, or a term. A short name is read as the tree for which it is short.
 mutual
   pub data Atom (m : List Declaration) : Scope → List Placed → List Placed → Tree → Type 0 where
     variable : {scope : Scope} {rest : List Placed} {p n : ℕ} {name : List ℕ} → variable_of scope name ≡ Some n → Atom m scope (at p (Name name) ∷ rest) rest (Var n)
-    symbol : {scope : Scope} {rest : List Placed} {p s : ℕ} {name : List ℕ} → variable_of scope name ≡ None → symbol_of m name ≡ Some s → Atom m scope (at p (Name name) ∷ rest) rest (Sym s)
+    symbol : {scope : Scope} {rest : List Placed} {p s : ℕ} {name : List ℕ} → variable_of scope name ≡ None → symbol_of m name ≡ Some s → Atom m scope (at p (Name name) ∷ rest) rest (named_tree m s)
     sort : {scope : Scope} {rest : List Placed} {p : ℕ} → Atom m scope (at p TypeWord ∷ rest) rest SortType
     enclosed : {scope : Scope} {tokens rest : List Placed} {p q : ℕ} {t : Tree} → Term m scope tokens (at q RightParen ∷ rest) t → Atom m scope (at p LeftParen ∷ tokens) rest t
 

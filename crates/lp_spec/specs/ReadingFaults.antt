@@ -3,9 +3,10 @@
 use Rattle.std.specs.Prelude.{ℕ, ◌+◌, ◌==◌, nat_le, if◌then◌else◌, List, [], ◌∷◌, ◌++◌, length, take, Option, None, Some}
 use Rattle.lp_spec.specs.declared.form.Form.{Form}
 use Rattle.lp_spec.specs.declared.form.Form.TheVariants.{Symbol, Def, Thm}
-use Rattle.lp_spec.specs.Trees.{Tree, SortType, Var, Sym, App, Lam, Pi, depth}
+use Rattle.lp_spec.specs.Trees.{Tree, SortType, Var, App, Lam, Pi, depth}
 use Rattle.lp_spec.specs.Modules.{Declaration, signature}
 use Rattle.lp_spec.specs.ModuleOrder.{is_declared}
+use Rattle.lp_spec.specs.ShortNames.{named_tree}
 use Rattle.lp_spec.specs.Text.{prelude}
 use Rattle.lp_spec.specs.Tokens.{Token, Name, TypeWord, DefWord, ThmWord, Colon, Assign, Arrow, FatArrow, Dot, LeftParen, RightParen, Placed, at, End, ended, stuck, Pending, Nothing, Taken, goes, sticks, take_byte, last_tokens, end_at}
 use Rattle.lp_spec.specs.Reading.{Scope, variable_of, symbol_of, max_depth}
@@ -68,14 +69,14 @@ pub data Outcome : Type 0 where
 abbrev pub stops : ℕ → Fault → Outcome
 stops p fault = Stops (refusal p fault)
 
--- the variable or the symbol that an identifier is
-abbrev pub meant : Option ℕ → Option ℕ → Option Tree
-meant (Some n) symbol = Some (Var n)
-meant None (Some s) = Some (Sym s)
-meant None None = None
+-- the variable or the symbol that an identifier is; a short name is the tree for which it is short
+abbrev pub meant : List Declaration → Option ℕ → Option ℕ → Option Tree
+meant m (Some n) symbol = Some (Var n)
+meant m None (Some s) = Some (named_tree m s)
+meant m None None = None
 
 abbrev pub meaning : List Declaration → List Frame → List ℕ → Option Tree
-meaning m frames name = meant (variable_of (scope_of frames) name) (symbol_of m name)
+meaning m frames name = meant m (variable_of (scope_of frames) name) (symbol_of m name)
 
 -- a tree after what is applied to it, if anything
 abbrev pub argued : Option Tree → Tree → Tree

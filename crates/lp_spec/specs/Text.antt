@@ -5,6 +5,7 @@ use Rattle.lp_spec.specs.declared.form.Form.{Form}
 use Rattle.lp_spec.specs.declared.form.Form.TheVariants.{Symbol, Def, Thm}
 use Rattle.lp_spec.specs.Trees.{Tree, SortType, SortKind, Var, Sym, App, Lam, Pi}
 use Rattle.lp_spec.specs.Modules.{Declaration, symbol_name}
+use Rattle.lp_spec.specs.ShortNames.{shortened_after}
 
 -- A line of the prelude. It declares a symbol, given by its name and what stands behind the name, or a symbol that a rule rewrites; or
 -- it is the rule, given by its two sides, over the variables a and b.
@@ -98,6 +99,6 @@ abbrev pub declarations_text : List Declaration → List Declaration → List �
 declarations_text m (d ∷ ds) (bound ∷ bounds) = declaration_text m d bound ++ declarations_text m ds bounds
 declarations_text m _ _ = []
 
--- the text of a module and of its bounds
+-- the text of a module and of its bounds, each tree by the short names that are declared before it
 abbrev pub written : List Declaration → List ℕ → List ℕ
-written m bounds = prelude ++ declarations_text m m bounds
+written m bounds = prelude ++ declarations_text m (shortened_after [] m) bounds

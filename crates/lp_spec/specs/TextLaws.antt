@@ -6,6 +6,7 @@ use Rattle.lp_spec.specs.Trees.{Tree, Var, Pi, lift, depth}
 use Rattle.lp_spec.specs.Modules.{Declaration, signature, symbol, types, arr_of, term_of}
 use Rattle.lp_spec.specs.ModuleOrder.{IsModule}
 use Rattle.lp_spec.specs.Text.{Line, SymbolLine, RewrittenLine, RuleLine, prelude_lines, prelude, binder_name, written}
+use Rattle.lp_spec.specs.ShortNames.{AreLong}
 use Rattle.lp_spec.specs.Tokens.{Name, is_letter, is_word_byte, word_token}
 use Rattle.lp_spec.specs.Reading.{max_depth, Reads}
 use Rattle.lp_spec.specs.ReadingFaults.{Refusal, DkTooLong, reads, refused, answer, answer_within}
@@ -109,6 +110,10 @@ pub record ReadsBack (m : List Declaration) (bounds : List ℕ) : Type 0 where
   pub read : Reads (written m bounds) m
   pub only : (other : List Declaration) → Reads (written m bounds) other → other ≡ m
 
--- The law of texts: what is written of a module reads as that module alone.
+-- The law of short names: no tree that is read names a definition with a short name.
+abbrev pub ReadsLong : Type 0
+ReadsLong = (bytes : List ℕ) (m : List Declaration) → Reads bytes m → AreLong [] m
+
+-- The law of texts: what is written of a module reads as that module alone, where no tree of it names a definition with a short name.
 abbrev pub WrittenReads : Type 0
-WrittenReads = (m : List Declaration) (bounds : List ℕ) → IsModule m → ArePlain m → AreShallow m → length bounds ≡ length m → ReadsBack m bounds
+WrittenReads = (m : List Declaration) (bounds : List ℕ) → IsModule m → AreLong [] m → ArePlain m → AreShallow m → length bounds ≡ length m → ReadsBack m bounds

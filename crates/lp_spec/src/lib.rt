@@ -11,6 +11,7 @@
 //! | `Lemmas` | the two theorems with which each module begins |
 //! | `Conversion` | the steps of reduction and their chains |
 //! | `Typing` | the rules of typing, and when a module is well typed |
+//! | `Numerals`, `ShortNames` | how names write numbers; definitions whose names stand, in texts, for their bodies |
 //! | `Text` | the one text of a module |
 //! | `Tokens`, `Reading`, `ReadingFaults` | which module a text reads as, and why it is refused |
 //! | `Weight` | the bound on the steps of a declaration's check |

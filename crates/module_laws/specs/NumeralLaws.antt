@@ -8,7 +8,7 @@ use Rattle.std.proofs.lemmas.Bool.Decides.{nat_tests}
 use Rattle.std.proofs.lemmas.Fmt.{decimal_by_steps_wide, decimal_from_appends_wide}
 use Rattle.std.proofs.lemmas.List.{length-append, append-nil}
 use Rattle.std.proofs.lemmas.List.Folds.{list_all-append}
-use Rattle.module_spec.specs.Numerals.{last_digits, numeral, IsNumeral, is_decimal_digit, is_numeral}
+use Rattle.lp_spec.specs.Numerals.{last_digits, numeral, IsNumeral, is_decimal_digit, is_numeral}
 
 -- a number has one digit, or one more than a tenth of it
 last_digits-one : (k n : ℕ) → n < 10 → last_digits (suc k) n ≡ (48 + n) ∷ []

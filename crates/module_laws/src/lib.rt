@@ -15,11 +15,11 @@
 //! | `ItemConditions`, `HeldItems`, `NeededSteps`, `MadeModules`, `KeptModules`, `WantedItems`, `ModuleTyping`, `ItemShapes` | what each item asks of those before it; what is reached is kept and renumbered; each declaration is shaped |
 //! | `ShapesTyped`, `OrderedModules`, `PricedModules` | what is shaped is typed, over what stands before it, and checked at its price |
 //! | `SymbolsHeld`, `DefinitionsHeld`, `SaidItems`, `AcceptedItems` | what a proof made is, as items, made in order; what items say |
-//! | `NumeralLaws`, `ExportNames` | how names write numbers: differently, and so that a test tells the names of exports |
+//! | `NumeralLaws`, `ExportNames` | how names write numbers: differently, and so that tests tell the names of exports and short names |
 //! | `TranslationStatements`, `TranslationShown`, `ShapeStatements`, `NameStatements` | the statements of the functions below |
 #![tactic(auto)]
 
-ghost use Rattle.module_laws.specs.NameStatements.{ExportNamesTold, NumeralsDiffer};
+ghost use Rattle.module_laws.specs.NameStatements.{ExportNamesTold, NumeralsDiffer, ShortNamesTold};
 ghost use Rattle.module_laws.specs.TranslationStatements.{SequentSubstitutionTranslated, SequentsEncoded, TermSubstitutionTranslated, TypeSubstitutionTranslated};
 ghost use Rattle.module_laws.specs.ShapeStatements.{ModulesPriced, ModulesShaped, ModulesTyped, RulesShaped, SequentsShaped, TermsShaped, TheoremsShaped};
 
@@ -52,6 +52,11 @@ pub fn numerals_differ()
 /// The test of the names of exports tells them exactly: `E` and a number without leading zeros.
 pub fn export_names_told()
     ensures { ExportNamesTold }
+{}
+
+/// The test of short names tells them exactly: `X` and a number without leading zeros.
+pub fn short_names_told()
+    ensures { ShortNamesTold }
 {}
 
 /// The law of terms: the tree of a term is a term of the tree of its type.

@@ -14,7 +14,7 @@ use Rattle.module_spec.specs.ConstantMeaning.{MeansConstant, closed_bool, equali
 use Rattle.module_spec.specs.TypeEnc.{Place, place, StandsForType}
 use Rattle.module_spec.specs.Enc.{domains, IsClosedForm, Enc}
 use Rattle.module_spec.specs.Image.{image}
-use Rattle.module_spec.specs.Numerals.{numeral}
+use Rattle.lp_spec.specs.Numerals.{numeral}
 use Rattle.module_spec.specs.Stands.{is_export_name, AreExports, none, more}
 use Rattle.module_spec.proofs.Examples.{p_is_p, run}
 

@@ -14,7 +14,7 @@ use Rattle.lp_spec.specs.Trees.{Tree, Var, Sym, App, Lam, Pi}
 use Rattle.lp_spec.specs.Modules.{symbol, types, bools, term_of, arr_of, eq_of, proof_of, refl_of}
 use Rattle.lp_spec.specs.Lemmas.{lemmas, theorem}
 use Rattle.module_spec.specs.Image.{image}
-use Rattle.module_spec.specs.Numerals.{numeral}
+use Rattle.lp_spec.specs.Numerals.{numeral}
 
 abbrev p : Term
 p = free (codes "p" ∷ []) bool

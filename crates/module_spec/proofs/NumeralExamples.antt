@@ -1,6 +1,6 @@
 -- Numbers as names write them; and names that are, or aren't, those of exports.
 use Rattle.std.proofs.Common.{◌≡◌, true, false, codes, refl}
-use Rattle.module_spec.specs.Numerals.{numeral}
+use Rattle.lp_spec.specs.Numerals.{numeral}
 use Rattle.module_spec.specs.Stands.{is_export_name}
 
 nought : numeral 0 ≡ codes "0"

@@ -13,7 +13,7 @@ use Rattle.lp_spec.specs.Modules.{Declaration}
 use Rattle.module_spec.specs.Items.{Content, type_operator, type_abstraction, type_representation}
 use Rattle.module_spec.specs.Reach.{reached}
 use Rattle.module_spec.specs.MadeItems.{items_of, roots_of}
-use Rattle.module_spec.specs.Numerals.{numeral}
+use Rattle.lp_spec.specs.Numerals.{numeral}
 
 -- whether a number is among others
 abbrev pub is_one_of : ℕ → List ℕ → Bool

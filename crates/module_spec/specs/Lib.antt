@@ -3,7 +3,6 @@ pub mod Enc
 pub mod Image
 pub mod Items
 pub mod MadeItems
-pub mod Numerals
 pub mod OperatorMeaning
 pub mod ProofTrees
 pub mod Reach

@@ -5,7 +5,7 @@ use Rattle.hol_spec.specs.Names.{Name}
 use Rattle.hol_spec.specs.Primitives.{arrow_name, bool_name, ind_name, primitive_arity}
 use Rattle.lp_spec.specs.Modules.{Declaration, arr_symbol, bool_symbol, ind_symbol, symbol_name, symbol_type, products, types}
 use Rattle.hol_spec.specs.Mangling.{mangled, IsName}
-use Rattle.module_spec.specs.Numerals.{numeral}
+use Rattle.lp_spec.specs.Numerals.{numeral}
 
 -- A symbol is named by this text and the mangled name of an operator that isn't primitive, and its type is
 -- `type -> .. -> type` with so many arguments.

@@ -18,7 +18,7 @@ use Rattle.lp_spec.specs.Trees.{Tree, SortType, SortKind, Var, Sym, App, Lam, Pi
 use Rattle.lp_spec.specs.Modules.{Declaration, signature, symbol, symbol_type, applied, products, abstractions, types, term_of, sub_symbol, sub_abs_symbol, sub_rep_symbol}
 use Rattle.lp_spec.specs.ModuleOrder.{IsModule}
 use Rattle.lp_spec.specs.Typing.{WellTyped}
-use Rattle.module_spec.specs.Numerals.{numeral, is_numeral}
+use Rattle.lp_spec.specs.Numerals.{numeral, is_numeral}
 use Rattle.module_spec.specs.TypeEnc.{place, StandsForType}
 use Rattle.module_spec.specs.Enc.{Enc, StandsForTerm}
 use Rattle.module_spec.specs.Image.{input_constant_name, input_operator_name, constant_name, operator_name}

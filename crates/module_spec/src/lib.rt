@@ -11,7 +11,6 @@
 //! | `Items` | what a module is made of, each with its declaration |
 //! | `MadeItems` | the items of what a run made, in order of making |
 //! | `Reach` | what the exports reach, through types and bodies |
-//! | `Numerals` | how names write numbers |
 //! | `Image` | the names of declarations, and the module of an accepted run |
 //! | `OperatorMeaning`, `TypeEnc`, `ConstantMeaning`, `Enc` | which operators, types, constants and sequents the symbols and types of any module stand for |
 //! | `Stands` | what a module says for its run: well typed, nothing unproved but its inputs and assumptions, the exports of the run |

@@ -4,7 +4,7 @@ ghost use Rattle.std.specs.List.{position_or_len};
 ghost use Rattle.hol_rules.specs.Kept.{step_count};
 ghost use Rattle.hol_rules.specs.Views.{step_at};
 ghost use Rattle.module_spec.specs.Image.{step_name as name_of_step, unexported_name as name_by_kind};
-ghost use Rattle.module_spec.specs.Numerals.{numeral};
+ghost use Rattle.lp_spec.specs.Numerals.{numeral};
 ghost use Rattle.rule_proofs.specs.Numbers.{IsRising};
 
 use bridge_base::Memory;

@@ -32,7 +32,7 @@ use Rattle.module_spec.specs.MadeItems.{said_by, content_by, premise_at, items_o
 use Rattle.module_spec.specs.Reach.{Key, number_key, gives, kept, renumbered, renumbered_content, keep_of, symbol_of, image_items}
 use Rattle.module_spec.specs.Enc.{Enc}
 use Rattle.module_spec.specs.Image.{is_one_of, name_in, image}
-use Rattle.module_spec.specs.Numerals.{numeral, is_numeral}
+use Rattle.lp_spec.specs.Numerals.{numeral, is_numeral}
 use Rattle.module_spec.specs.Stands.{is_export_name, AreExports}
 use Rattle.module_laws.specs.ExportNames.{export-named}
 use Rattle.module_laws.specs.SaidItems.{says-gives_of, silent-length, telling-length, premise_at-said}

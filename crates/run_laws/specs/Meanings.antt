@@ -22,7 +22,7 @@ use Rattle.hol_spec.specs.Mangling.{mangled, IsName}
 use Rattle.hol_spec.specs.ClosedForm.{close_type}
 use Rattle.hol_laws.specs.Members.{All-at, All-append, All-weaker}
 use Rattle.lp_spec.specs.Modules.{Declaration, symbol_declaration, symbol_name, symbol_type, arr_symbol, bool_symbol, ind_symbol, eq_symbol, select_symbol}
-use Rattle.module_spec.specs.Numerals.{numeral}
+use Rattle.lp_spec.specs.Numerals.{numeral}
 use Rattle.module_spec.specs.OperatorMeaning.{MeansOperator}
 use Rattle.module_spec.specs.OperatorMeaning as means_operator
 use Rattle.module_spec.specs.ConstantMeaning.{MeansConstant}

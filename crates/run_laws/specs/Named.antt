@@ -13,7 +13,7 @@ use Rattle.hol_spec.specs.declared.StepKind.TheVariants as kinds
 use Rattle.hol_spec.specs.Proofs.{Step, symbols_of, Accepted}
 use Rattle.module_spec.specs.Rows.{has_row}
 use Rattle.module_spec.specs.Image.{is_one_of, place_among, unexported_name, step_name}
-use Rattle.module_spec.specs.Numerals.{numeral, is_decimal_digit}
+use Rattle.lp_spec.specs.Numerals.{numeral, is_decimal_digit}
 use Rattle.module_laws.specs.NumeralLaws.{numeral-injective, numeral-digits}
 use Rattle.std.proofs.lemmas.Option.{same_Some}
 use Rattle.hol_laws.specs.PositionLaws.{position-cons}

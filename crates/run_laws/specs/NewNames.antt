@@ -29,7 +29,7 @@ use Rattle.module_laws.specs.MadeModules.{any_content, IsNew}
 use Rattle.module_spec.specs.Items.{Content, operator, constant, defined_constant, type_operator, type_abstraction, type_representation, unproved, step, Item, is_constant, is_operator}
 use Rattle.module_spec.specs.MadeItems.{contents_of, type_contents}
 use Rattle.module_spec.specs.Image.{symbol_name, type_definition_name}
-use Rattle.module_spec.specs.Numerals.{numeral, is_decimal_digit}
+use Rattle.lp_spec.specs.Numerals.{numeral, is_decimal_digit}
 use Rattle.module_laws.specs.NumeralLaws.{numeral-injective, numeral-digits, numeral-some}
 use Rattle.run_laws.specs.Named.{SymbolHasName, first_byte, second_byte, first_digit-low, one_byte}
 

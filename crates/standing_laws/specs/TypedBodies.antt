@@ -27,7 +27,7 @@ use Rattle.module_spec.specs.Items.{Content, operator, constant, defined_constan
 use Rattle.module_spec.specs.MadeItems.{content_by}
 use Rattle.module_spec.specs.Reach.{renumbered_content}
 use Rattle.module_spec.specs.Image.{is_one_of, name_in, image}
-use Rattle.module_spec.specs.Numerals.{numeral}
+use Rattle.lp_spec.specs.Numerals.{numeral}
 use Rattle.run_laws.specs.AcceptedRuns.{IsCarried, runs_are_carried}
 use Rattle.run_laws.specs.ExportOrder.{symbol-silent}
 use Rattle.run_laws.specs.Named.{HasNames, IsStepName, at-place}

@@ -17,7 +17,7 @@ use Rattle.hol_laws.specs.Members.{IsIn-left, All-at, All-each, All-mapped, All-
 use Rattle.module_laws.specs.MadeModules.{any_content, IsNew, AreMade}
 use Rattle.module_laws.specs.NumeralLaws.{numeral-injective, numeral-digits}
 use Rattle.module_spec.specs.Image.{input_constant_name, input_operator_name, constant_name}
-use Rattle.module_spec.specs.Numerals.{numeral}
+use Rattle.lp_spec.specs.Numerals.{numeral}
 use Rattle.module_spec.specs.Items.{Content, operator, constant, defined_constant, type_operator, type_abstraction, type_representation, unproved, step, Item, says, is_operator}
 use Rattle.module_spec.specs.Reach.{renumbered_content, renumbered, image_items, symbol_of, kept}
 use Rattle.run_laws.specs.Named.{first_byte, second_byte, step_name-low, one_byte}

@@ -1,10 +1,13 @@
 -- Worked examples: the faults of small texts, by their rules.
-use Rattle.std.proofs.Common.{◌≡◌, refl, ℕ, zero, suc, ◌+◌, ◌≤◌, subst, arith, Some, List, [], ◌∷◌, ◌++◌, length, drop, codes}
+use Rattle.std.proofs.Common.{◌≡◌, refl, ℕ, zero, suc, ◌+◌, ◌≤◌, arith, Some, List, [], ◌∷◌, ◌++◌, length, drop, codes}
 use Rattle.lp_spec.specs.Text.{prelude}
 use Rattle.lp_spec.specs.Tokens.{Name, TypeWord, Colon, Arrow, Dot, Placed, at}
 use Rattle.lp_spec.specs.Reading.{max_depth}
 use Rattle.lp_spec.specs.ReadingFaults.{answer_within, refused, DkTooLong, refusal, NoPrelude, BadText, UnknownName, NameTwice, DkTooDeep}
-use Rattle.lp_spec.specs.Faults.{identifier, sort, none, application, BareTerm, nameless, plain, first, of_symbol, of_theorem, only_type, type_before_body, of_whole, of_term, further, TokensShow, name_twice, unknown_name, too_deep, Shows, no_prelude, by_tokens, no_token}
+use Rattle.lp_spec.specs.Trees.{Tree, SortType, Pi, depth}
+use Rattle.lp_spec.specs.Reading.{Scope, Term, nameless, plain, application, sort, none, IsNew}
+use Rattle.lp_spec.specs.Faults as faults
+use Rattle.lp_spec.specs.Faults.{none_yet, symbol_name, symbol_type, first, of_symbol, of_theorem, only_type, type_before_body, of_whole, of_term, further, TokensShow, name_twice, unknown_name, too_deep, Shows, no_prelude, by_tokens, no_token}
 use Rattle.text_laws.specs.FaultLaws.{refusals_shown}
 
 -- a symbol of the signature is declared again
@@ -13,7 +16,7 @@ name_again = by_tokens (codes "bool : type.") refl (name_twice (of_symbol first)
 
 -- a declaration's name in its own type
 own_name : Shows (prelude ++ codes "thm e : proof e := e.") (refusal (length prelude + 14) (UnknownName (codes "e")))
-own_name = by_tokens (codes "thm e : proof e := e.") refl (unknown_name (further (of_term (of_whole (type_before_body tt (of_theorem first)))) (application identifier none)) refl refl tt)
+own_name = by_tokens (codes "thm e : proof e := e.") refl (unknown_name (further (of_term (of_whole (type_before_body tt (of_theorem first)))) (faults.BareApplication.application faults.BareAtom.identifier faults.BareArguments.none)) refl refl tt)
 
 -- a byte that begins no token
 no_such_token : Shows (prelude ++ codes "a : ?") (refusal (length prelude + 4) BadText)
@@ -32,13 +35,21 @@ abbrev arrows : ℕ → List Placed → List Placed
 arrows zero rest = at 0 TypeWord ∷ rest
 arrows (suc n) rest = at 0 TypeWord ∷ at 0 Arrow ∷ arrows n rest
 
-arrows-BareTerm : (n : ℕ) (rest : List Placed) → BareTerm (arrows n rest) rest (suc n)
-arrows-BareTerm zero rest = plain (application sort none)
-arrows-BareTerm (suc n) rest = subst (BareTerm (arrows (suc n) rest) rest) (omega arith) (nameless (application sort none) (arrows-BareTerm n rest))
+abbrev arrow_tree : ℕ → Tree
+arrow_tree zero = SortType
+arrow_tree (suc n) = Pi SortType (arrow_tree n)
+
+arrows-Term : (n : ℕ) (scope : Scope) (rest : List Placed) → Term [] scope (arrows n rest) rest (arrow_tree n)
+arrows-Term zero scope rest = plain (application sort none)
+arrows-Term (suc n) scope rest = nameless (application sort none) (arrows-Term n ([] ∷ scope) rest)
+
+arrow_tree-depth : (n : ℕ) → depth (arrow_tree n) ≡ suc n
+arrow_tree-depth zero = refl
+arrow_tree-depth (suc n) = omega (arith, arrow_tree-depth n)
 
 -- a type that is deeper than the limit
-deep : (n : ℕ) (name : List ℕ) (p : ℕ) → max_depth ≤ n → TokensShow (at 0 (Name name) ∷ at 0 Colon ∷ arrows n (at p Dot ∷ [])) (refusal p DkTooDeep)
-deep n name p h = too_deep (only_type (of_symbol first)) (arrows-BareTerm n (at p Dot ∷ [])) (omega (arith, h))
+deep : (n : ℕ) (name : List ℕ) (p : ℕ) → IsNew [] name → max_depth ≤ n → TokensShow (at 0 (Name name) ∷ at 0 Colon ∷ arrows n (at p Dot ∷ [])) (refusal p DkTooDeep)
+deep n name p new h = too_deep (symbol_type (symbol_name none_yet new)) (arrows-Term n [] (at p Dot ∷ [])) (omega (arith, h, arrow_tree-depth n))
 
 -- a token that the limit cuts is not judged, also where it can't follow whatever it becomes
 cut_token : answer_within (Some (length prelude + 1)) (prelude ++ codes ":x") ≡ refused (refusal (length prelude + 1) DkTooLong)

@@ -174,7 +174,7 @@ module _ (e : ℕ) (all : List Placed) (ascending : AreAscending e all) where
     declaration_comes (next {p = p} w t) =
         then_reaches (whole_comes w) (λ n k. (term_keeps (after_kept e n) t k).1)
         (λ x k. then_reaches (term_reaches read e x.m t x.head [] tt tt (whole_keeps (ascending_kept e) ascending w) k) (λ n l. l.1)
-        (λ y l. declared p x.m x.head y.t x.named x.closed (term_keeps (ascending_kept e) t (whole_keeps (ascending_kept e) ascending w)).0 l))
+        (λ y l. declared p x.m x.head y x.named x.closed (term_keeps (ascending_kept e) t (whole_keeps (ascending_kept e) ascending w)).0 l))
 
     pub name_comes : {names : List (List ℕ)} {form : Form} {tokens : List Placed} → NameStands all names form tokens → Comes (OfNames names) (λ x. Goes x.m (name_state form)) tokens
     name_comes (of_symbol d) = declaration_comes d
@@ -189,7 +189,7 @@ module _ (e : ℕ) (all : List Placed) (ascending : AreAscending e all) where
     whole_comes (body {p = p} w t) =
         then_reaches (whole_comes w) (λ n k. (term_keeps (after_kept e n) t k).1)
         (λ x k. then_reaches (term_reaches read e x.m t x.head [] tt tt (whole_keeps (ascending_kept e) ascending w) k) (λ n l. l.1)
-        (λ y l. assigned p x.m x.head y.t x.named x.closed (term_keeps (ascending_kept e) t (whole_keeps (ascending_kept e) ascending w)).0 l))
+        (λ y l. assigned p x.m x.head y x.named x.closed (term_keeps (ascending_kept e) t (whole_keeps (ascending_kept e) ascending w)).0 l))
 
   -- a parenthesis
   parenthesis_comes : {names : List (List ℕ)} {scope : Scope} {tokens : List Placed} (binder : Bool) (p : ℕ) (y : OfPlace names scope) → read ≡ advance_all (place_state binder y) (at p LeftParen ∷ tokens) → Comes (OfTerm names scope) (λ x. Goes x.m (AtTerm x.head x.frames)) tokens
@@ -202,15 +202,15 @@ module _ (e : ℕ) (all : List Placed) (ascending : AreAscending e all) where
     term_comes (after_product {name = name} t y) =
         then_reaches (term_comes t) (λ n k. (application_keeps (after_kept e n) y k.1.1).1)
         (λ x k. then_reaches (application_reaches read e x.m y x.head (Domain name ∷ x.frames) (term_begins_keeps (ascending_kept e) ascending t).1.1 k) (λ n l. l.1)
-        (λ a l. reached (record { m = x.m; named = x.named; head = x.head; frames = Product name a.t ∷ x.frames; scoped = ap (λ s. name ∷ s) x.scoped; free = tt }) l))
+        (λ a l. reached (record { m = x.m; named = x.named; head = x.head; frames = Product name a ∷ x.frames; scoped = ap (λ s. name ∷ s) x.scoped; free = tt }) l))
     term_comes (after_abstraction {name = name} t y) =
         then_reaches (term_comes t) (λ n k. (application_keeps (after_kept e n) y k.1.1).1)
         (λ x k. then_reaches (application_reaches read e x.m y x.head (Domain name ∷ x.frames) (term_begins_keeps (ascending_kept e) ascending t).1.1 k) (λ n l. l.1)
-        (λ a l. reached (record { m = x.m; named = x.named; head = x.head; frames = Abstraction name a.t ∷ x.frames; scoped = ap (λ s. name ∷ s) x.scoped; free = tt }) l))
+        (λ a l. reached (record { m = x.m; named = x.named; head = x.head; frames = Abstraction name a ∷ x.frames; scoped = ap (λ s. name ∷ s) x.scoped; free = tt }) l))
     term_comes (after_nameless {rest = rest} {r = r} t y) =
         then_reaches (term_comes t) (λ n k. (application_keeps (after_kept e n) y k).1)
         (λ x k. then_reaches (first_application_reaches read e x.m y x.head x.frames tt (term_begins_keeps (ascending_kept e) ascending t) k) (λ n l. l.1)
-        (λ a l. reached (record { m = x.m; named = x.named; head = x.head; frames = Product [] a.t ∷ x.frames; scoped = ap (λ s. [] ∷ s) x.scoped; free = tt }) (l ∙ arrow_opens read e x.m x.head x.frames a.t r rest x.free)))
+        (λ a l. reached (record { m = x.m; named = x.named; head = x.head; frames = Product [] a ∷ x.frames; scoped = ap (λ s. [] ∷ s) x.scoped; free = tt }) (l ∙ arrow_opens read e x.m x.head x.frames a r rest x.free)))
     term_comes (enclosed_term {binder = binder} {p = p} x) = then_reaches (atom_comes x tt) (λ n k. k.1) (λ y k. parenthesis_comes binder p y k)
 
     pub application_comes : {names : List (List ℕ)} {scope : Scope} {binder : Bool} {tokens : List Placed} → ApplicationBegins all names scope binder tokens → Comes (OfPlace names scope) (place_state binder) tokens
@@ -221,12 +221,12 @@ module _ (e : ℕ) (all : List Placed) (ascending : AreAscending e all) where
     atom_comes (of_application x) i = application_comes x
     atom_comes (further x y) i = then_reaches (applied_comes x y i) (λ n k. k) (λ z k. reached (record { m = z.m; named = z.named; head = z.head; frames = z.frames; scoped = z.scoped; f = Some z.t }) k)
 
-    pub applied_comes : {names : List (List ℕ)} {scope : Scope} {binder : Bool} {tokens rest : List Placed} {d : ℕ} → ApplicationBegins all names scope binder tokens → BareApplication tokens rest d → IsApplied rest → Comes (OfApplied names scope) (λ x. Goes x.m (InApplication x.head x.frames (Some x.t))) rest
+    pub applied_comes : {names : List (List ℕ)} {scope : Scope} {binder : Bool} {tokens rest : List Placed} → ApplicationBegins all names scope binder tokens → BareApplication tokens rest → IsApplied rest → Comes (OfApplied names scope) (λ x. Goes x.m (InApplication x.head x.frames (Some x.t))) rest
     applied_comes (of_term t) y i =
         then_reaches (term_comes t) (λ n. application_keeps (after_kept e n) y)
         (λ x k. then_reaches (first_application_reaches read e x.m y x.head x.frames i (term_begins_keeps (ascending_kept e) ascending t) k) (λ n l. l)
-        (λ a l. reached (record { m = x.m; named = x.named; head = x.head; frames = x.frames; scoped = x.scoped; t = a.t }) l))
+        (λ a l. reached (record { m = x.m; named = x.named; head = x.head; frames = x.frames; scoped = x.scoped; t = a }) l))
     applied_comes (of_domain {name = name} t) y i =
         then_reaches (term_comes t) (λ n k. application_keeps (after_kept e n) y k.1.1)
         (λ x k. then_reaches (application_reaches read e x.m y x.head (Domain name ∷ x.frames) (term_begins_keeps (ascending_kept e) ascending t).1.1 k) (λ n l. l)
-        (λ a l. reached (record { m = x.m; named = x.named; head = x.head; frames = Domain name ∷ x.frames; scoped = x.scoped; t = a.t }) l))
+        (λ a l. reached (record { m = x.m; named = x.named; head = x.head; frames = Domain name ∷ x.frames; scoped = x.scoped; t = a }) l))

@@ -1,6 +1,5 @@
 -- The tokens that can follow those before them, and the texts that then begin so.
 use Rattle.std.proofs.Common.{ℕ, Bool, List, [], ◌∷◌, ◌++◌}
-use Rattle.std.specs.Prelude.{max, ◌+◌}
 use Rattle.lp_spec.specs.declared.form.Form.{Form}
 use Rattle.lp_spec.specs.Tokens.{Token, Name, TypeWord, DefWord, ThmWord, Colon, Arrow, FatArrow, LeftParen, RightParen, Placed, at}
 use Rattle.lp_spec.specs.Reading.{Scope}
@@ -12,21 +11,21 @@ pub data CanFollow (all : List Placed) : List Placed → Type 0 where
   theorem_word : {names : List (List ℕ)} {rest : List Placed} {p : ℕ} → DeclarationBegins all names (at p ThmWord ∷ rest) → CanFollow all (at p ThmWord ∷ rest)
   declared_name : {names : List (List ℕ)} {form : Form} {name : List ℕ} {rest : List Placed} {p : ℕ} → NameStands all names form (at p (Name name) ∷ rest) → CanFollow all (at p (Name name) ∷ rest)
   declared_colon : {names : List (List ℕ)} {form : Form} {name : List ℕ} {rest : List Placed} {p q : ℕ} → NameStands all names form (at p (Name name) ∷ at q Colon ∷ rest) → CanFollow all (at q Colon ∷ rest)
-  whole_end : {names : List (List ℕ)} {name : List ℕ} {end : Token} {tokens rest : List Placed} {p d : ℕ} → WholeBegins all names name end tokens → BareTerm tokens (at p end ∷ rest) d → CanFollow all (at p end ∷ rest)
+  whole_end : {names : List (List ℕ)} {name : List ℕ} {end : Token} {tokens rest : List Placed} {p : ℕ} → WholeBegins all names name end tokens → BareTerm tokens (at p end ∷ rest) → CanFollow all (at p end ∷ rest)
   identifier_atom : {names : List (List ℕ)} {scope : Scope} {binder : Bool} {name : List ℕ} {rest : List Placed} {p : ℕ} → AtomStands all names scope binder (at p (Name name) ∷ rest) → CanFollow all (at p (Name name) ∷ rest)
   sort_atom : {names : List (List ℕ)} {scope : Scope} {binder : Bool} {rest : List Placed} {p : ℕ} → AtomStands all names scope binder (at p TypeWord ∷ rest) → CanFollow all (at p TypeWord ∷ rest)
   left_parenthesis : {names : List (List ℕ)} {scope : Scope} {binder : Bool} {rest : List Placed} {p : ℕ} → AtomStands all names scope binder (at p LeftParen ∷ rest) → CanFollow all (at p LeftParen ∷ rest)
-  right_parenthesis : {names : List (List ℕ)} {scope : Scope} {binder : Bool} {tokens rest : List Placed} {p q d : ℕ} → AtomStands all names scope binder (at p LeftParen ∷ tokens) → BareTerm tokens (at q RightParen ∷ rest) d → CanFollow all (at q RightParen ∷ rest)
+  right_parenthesis : {names : List (List ℕ)} {scope : Scope} {binder : Bool} {tokens rest : List Placed} {p q : ℕ} → AtomStands all names scope binder (at p LeftParen ∷ tokens) → BareTerm tokens (at q RightParen ∷ rest) → CanFollow all (at q RightParen ∷ rest)
   binder_colon : {names : List (List ℕ)} {scope : Scope} {name : List ℕ} {rest : List Placed} {p q : ℕ} → TermBegins all names scope (at p (Name name) ∷ at q Colon ∷ rest) → CanFollow all (at q Colon ∷ rest)
-  arrow_sign : {names : List (List ℕ)} {scope : Scope} {binder : Bool} {tokens rest : List Placed} {p d : ℕ} → ApplicationBegins all names scope binder tokens → BareApplication tokens (at p Arrow ∷ rest) d → CanFollow all (at p Arrow ∷ rest)
-  fat_arrow_sign : {names : List (List ℕ)} {scope : Scope} {name : List ℕ} {tokens rest : List Placed} {p q r d : ℕ} → TermBegins all names scope (at p (Name name) ∷ at q Colon ∷ tokens) → BareApplication tokens (at r FatArrow ∷ rest) d → CanFollow all (at r FatArrow ∷ rest)
+  arrow_sign : {names : List (List ℕ)} {scope : Scope} {binder : Bool} {tokens rest : List Placed} {p : ℕ} → ApplicationBegins all names scope binder tokens → BareApplication tokens (at p Arrow ∷ rest) → CanFollow all (at p Arrow ∷ rest)
+  fat_arrow_sign : {names : List (List ℕ)} {scope : Scope} {name : List ℕ} {tokens rest : List Placed} {p q r : ℕ} → TermBegins all names scope (at p (Name name) ∷ at q Colon ∷ tokens) → BareApplication tokens (at r FatArrow ∷ rest) → CanFollow all (at r FatArrow ∷ rest)
 
 -- an atom more
-pub arguments_snoc : {tokens more rest : List Placed} {d n e : ℕ} → BareArguments d tokens more n → BareAtom more rest e → BareArguments d tokens rest (1 + max n e)
+pub arguments_snoc : {tokens more rest : List Placed} → BareArguments tokens more → BareAtom more rest → BareArguments tokens rest
 arguments_snoc none x = argument x none
 arguments_snoc (argument y args) x = argument y (arguments_snoc args x)
 
-pub application_snoc : {tokens more rest : List Placed} {n e : ℕ} → BareApplication tokens more n → BareAtom more rest e → BareApplication tokens rest (1 + max n e)
+pub application_snoc : {tokens more rest : List Placed} → BareApplication tokens more → BareAtom more rest → BareApplication tokens rest
 application_snoc (application y args) x = application y (arguments_snoc args x)
 
 -- each token of the second list before the first one can follow
@@ -40,19 +39,19 @@ module _ {all : List Placed} where
   then_follow (more_follow c h) k = more_follow c (then_follow h k)
 
   mutual
-    atom_follows : {names : List (List ℕ)} {scope : Scope} {binder : Bool} {tokens rest : List Placed} {d : ℕ} → AtomStands all names scope binder tokens → BareAtom tokens rest d → AllFollow all rest tokens
+    atom_follows : {names : List (List ℕ)} {scope : Scope} {binder : Bool} {tokens rest : List Placed} → AtomStands all names scope binder tokens → BareAtom tokens rest → AllFollow all rest tokens
     atom_follows a identifier = more_follow (identifier_atom a) done
     atom_follows a sort = more_follow (sort_atom a) done
     atom_follows a (enclosed t) = more_follow (left_parenthesis a) (then_follow (term_follows (enclosed_term a) t) (more_follow (right_parenthesis a t) done))
 
-    arguments_follow : {names : List (List ℕ)} {scope : Scope} {binder : Bool} {start tokens rest : List Placed} {d n : ℕ} → ApplicationBegins all names scope binder start → BareApplication start tokens d → BareArguments d tokens rest n → AllFollow all rest tokens
+    arguments_follow : {names : List (List ℕ)} {scope : Scope} {binder : Bool} {start tokens rest : List Placed} → ApplicationBegins all names scope binder start → BareApplication start tokens → BareArguments tokens rest → AllFollow all rest tokens
     arguments_follow a y none = done
     arguments_follow a y (argument x args) = then_follow (atom_follows (further a y) x) (arguments_follow a (application_snoc y x) args)
 
-    application_follows : {names : List (List ℕ)} {scope : Scope} {binder : Bool} {tokens rest : List Placed} {d : ℕ} → ApplicationBegins all names scope binder tokens → BareApplication tokens rest d → AllFollow all rest tokens
+    application_follows : {names : List (List ℕ)} {scope : Scope} {binder : Bool} {tokens rest : List Placed} → ApplicationBegins all names scope binder tokens → BareApplication tokens rest → AllFollow all rest tokens
     application_follows a (application x args) = then_follow (atom_follows (of_application a) x) (arguments_follow a (application x none) args)
 
-    term_follows : {names : List (List ℕ)} {scope : Scope} {tokens rest : List Placed} {d : ℕ} → TermBegins all names scope tokens → BareTerm tokens rest d → AllFollow all rest tokens
+    term_follows : {names : List (List ℕ)} {scope : Scope} {tokens rest : List Placed} → TermBegins all names scope tokens → BareTerm tokens rest → AllFollow all rest tokens
     term_follows t (product y u) =
         more_follow (identifier_atom (of_application (of_term t)))
         (more_follow (binder_colon t) (then_follow (application_follows (of_domain t) y) (more_follow (arrow_sign (of_domain t) y) (term_follows (after_product t y) u))))

@@ -14,7 +14,7 @@ use Rattle.text_laws.specs.ReadingLaws.{one_answer, read_bytes-Refused, Reads-an
 use Rattle.lp_spec.specs.TextLaws.{ReadsOnce, IsRefused, EachFaultTold}
 use Rattle.text_laws.specs.FaultFollows.{CanFollow}
 use Rattle.text_laws.specs.FaultMoves.{follows-text, text-follows}
-use Rattle.lp_spec.specs.Faults.{DeclarationBegins, first, IsText, Differs, tokens_after, TokensShow, bad_token, unknown_name, name_twice, too_deep, Shows, no_prelude, by_tokens, no_token, no_end, IsLeastFault}
+use Rattle.lp_spec.specs.Faults.{DeclarationBegins, first, Declared, none_yet, IsText, Differs, tokens_after, TokensShow, bad_token, unknown_name, name_twice, too_deep, Shows, no_prelude, by_tokens, no_token, no_end, IsLeastFault}
 use Rattle.text_laws.specs.FaultReach.{AreAfter, AreAscending, run, Reaches, past, reached}
 use Rattle.text_laws.specs.FaultContexts.{names_of, OfNames, declaration_comes}
 use Rattle.text_laws.specs.FaultLeast.{can-follow, place_of, IsNoLater, no_later, unknown-no-later, twice-no-later, deep-no-later}
@@ -56,7 +56,7 @@ module _ (e : ℕ) (all : List Placed) (ascending : AreAscending e all) where
       (advance_step e all ascending m state p token rest s)
 
   pub read_shown : IsShown e all read
-  read_shown = run_shown all [] [] Between refl ascending first refl
+  read_shown = run_shown all [] [] Between refl ascending (first, none_yet) refl
 
   -- a token that can't follow is refused, or something before it
   step_least : {o : Outcome} (p q : ℕ) (end : End) (other : Token) (rest : List Placed) → q < p → read ≡ advance_all o rest → ((m : List Declaration) (state : State) → Stands all m state rest → read ≡ run m state rest → IsNoLater (answers read end) (refusal p BadText)) → Step all q other rest o → IsNoLater (answers read end) (refusal p BadText)
@@ -80,7 +80,7 @@ module _ (e : ℕ) (all : List Placed) (ascending : AreAscending e all) where
 
   bad-no-later : (front rest : List Placed) (p : ℕ) (end : End) (token : Token) → all ≡ front ++ at p token ∷ rest → ((more : List Placed) → IsText (front ++ at p token ∷ more) → ⊥) → IsNoLater (answers read end) (refusal p BadText)
   bad-no-later front rest p end token i b =
-      run_least front rest p end token [] Between (λ c. let t = follows-text all front rest p token i c in b t.0 t.1) (subst (AreAscending e) i ascending) (subst (DeclarationBegins all []) i first) (ap (λ tokens. run [] Between tokens) i)
+      run_least front rest p end token [] Between (λ c. let t = follows-text all front rest p token i c in b t.0 t.1) (subst (AreAscending e) i ascending) (subst (λ tokens. DeclarationBegins all [] tokens × Declared all [] tokens) i (first, none_yet)) (ap (λ tokens. run [] Between tokens) i)
 
   -- where a reading ends that is between no two declarations
   unended : (m : List Declaration) (state : State) → read ≡ Goes m state → (state ≡ Between → ⊥) → IsText all → ⊥
@@ -153,7 +153,7 @@ module _ (bytes text : List ℕ) (begun : bytes ≡ prelude ++ text) where
   ended_least : (o : Outcome) (p : ℕ) → last_place ≡ p → (IsText all_tokens → ⊥) → IsShown last_place all_tokens o → IsNoLater (answers o (ended p)) (refusal p BadText)
   ended_least (Stops r) p i b s = inl (subst (λ n. r.place < n) i s.1)
   ended_least (Goes m (AfterFirst h frames q name)) p i b s = first_least m h frames q name p (meaning m frames name) i s
-  ended_least (Goes m Between) p i b s = absurd (b (names_of m, s))
+  ended_least (Goes m Between) p i b s = absurd (b (names_of m, s.0))
   ended_least (Goes m (AfterKeyword form)) p i b s = inr refl
   ended_least (Goes m (AfterName form name)) p i b s = inr refl
   ended_least (Goes m (AtTerm h frames)) p i b s = inr refl

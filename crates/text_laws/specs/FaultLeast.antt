@@ -8,12 +8,13 @@ use Rattle.lp_spec.specs.Trees.{Tree, Lam, Pi, depth}
 use Rattle.lp_spec.specs.Modules.{Declaration, signature}
 use Rattle.lp_spec.specs.ModuleOrder.{is_declared}
 use Rattle.lp_spec.specs.Tokens.{Token, Name, TypeWord, DefWord, ThmWord, Colon, Assign, Arrow, FatArrow, Dot, LeftParen, RightParen, Placed, at, End, ended, stuck}
-use Rattle.lp_spec.specs.Reading.{Scope, variable_of, symbol_of, max_depth}
+use Rattle.lp_spec.specs.Reading.{Scope, variable_of, symbol_of, max_depth, Term}
 use Rattle.lp_spec.specs.ReadingFaults.{Frame, Enclosing, Domain, Product, Abstraction, scope_of, Head, TypeOf, BodyOf, State, Between, AfterKeyword, AfterName, AtTerm, AfterFirst, InApplication, Outcome, Goes, Stops, stops, Refusal, refusal, BadText, NameTwice, UnknownName, DkTooDeep, meant, meaning, atom, encloses, whole, declares, assigns, arrow, fat_arrow, applies, goes_on, unless_deep, advance, advance_all, broken_after, Answer, reads, refused, answers}
-use Rattle.lp_spec.specs.Faults.{BareTerm, NameStands, WholeBegins, AtomStands, is_symbol, IsNoBinder}
+use Rattle.lp_spec.specs.Faults.{BareTerm, NameStands, Declared, none_yet, one_more, NameReads, symbol_name, definition_name, theorem_name, WholeReads, bodied_type, body_after, AtomStands, is_symbol, IsNoBinder}
 use Rattle.text_laws.specs.FaultFollows.{CanFollow, definition_word, theorem_word, declared_name, declared_colon, whole_end, identifier_atom, sort_atom, left_parenthesis, right_parenthesis, binder_colon, arrow_sign, fat_arrow_sign}
-use Rattle.text_laws.specs.FaultReach.{AreAfter, AreAscending, after_kept, ascending_kept, application_keeps, term_keeps, run, OfDepth, Reaches, past, reached, then_reaches, application_reaches, term_reaches}
-use Rattle.text_laws.specs.FaultContexts.{declaration_keeps, name_keeps, whole_keeps, term_begins_keeps, application_begins_keeps, atom_stands_keeps, names_of, OfNames, OfWhole, OfPlace, OfTerm, name_state, IsClosedBy, symbol_type, definition_type, theorem_type, any_body, place_state, closed_end, declaration_comes, name_comes, whole_comes, term_comes, atom_comes, applied_comes}
+use Rattle.text_laws.specs.ReadingComplete.{term_runs, names_run, shallow_runs, declares_runs}
+use Rattle.text_laws.specs.FaultReach.{AreAfter, AreAscending, after_kept, ascending_kept, application_keeps, term_keeps, run, Reaches, past, reached, then_reaches, application_reaches, term_reaches}
+use Rattle.text_laws.specs.FaultContexts.{declaration_keeps, name_keeps, whole_keeps, term_begins_keeps, application_begins_keeps, atom_stands_keeps, names_of, OfNames, OfPlace, OfTerm, name_state, IsClosedBy, symbol_type, definition_type, theorem_type, any_body, place_state, closed_end, declaration_comes, name_comes, whole_comes, term_comes, atom_comes, applied_comes}
 use Rattle.text_laws.specs.FaultNames.{is_declared-is_symbol, is_symbol-symbol_of}
 
 -- a token can't follow only at its own place
@@ -205,7 +206,7 @@ module _ (e : ℕ) (all : List Placed) (ascending : AreAscending e all) where
   after_domain name m head frames t k = reached (record { m = m; head = head; frames = frames; t = t }) k
 
   -- after what a parenthesis encloses
-  in_parentheses : {names : List (List ℕ)} {scope : Scope} {tokens rest : List Placed} {q d : ℕ} (p : ℕ) (binder : Bool) (y : OfPlace names scope) → BareTerm tokens (at q RightParen ∷ rest) d → AreAscending e tokens → read ≡ advance_all (place_state binder y) (at p LeftParen ∷ tokens) → read ≡ Stops (refusal q BadText) → ⊥
+  in_parentheses : {names : List (List ℕ)} {scope : Scope} {tokens rest : List Placed} {q : ℕ} (p : ℕ) (binder : Bool) (y : OfPlace names scope) → BareTerm tokens (at q RightParen ∷ rest) → AreAscending e tokens → read ≡ advance_all (place_state binder y) (at p LeftParen ∷ tokens) → read ≡ Stops (refusal q BadText) → ⊥
   in_parentheses p true y t a k = conclude (term_reaches read e y.m t y.head (Enclosing None ∷ y.frames) tt tt a k) (term_keeps (ascending_kept e) t a).0 (λ z. tt)
   in_parentheses p false y t a k = conclude (term_reaches read e y.m t y.head (Enclosing y.f ∷ y.frames) tt tt a k) (term_keeps (ascending_kept e) t a).0 (λ z. tt)
 
@@ -214,7 +215,7 @@ module _ (e : ℕ) (all : List Placed) (ascending : AreAscending e all) where
   IsBadAt [] = ⊥
   IsBadAt (at p token ∷ rest) = read ≡ Stops (refusal p BadText)
 
-  follows_parenthesis : {names : List (List ℕ)} {scope : Scope} {tokens rest : List Placed} {q d : ℕ} (p : ℕ) (binder : Bool) → Comes (OfPlace names scope) (place_state binder) (at p LeftParen ∷ tokens) → BareTerm tokens (at q RightParen ∷ rest) d → AreAscending e (at p LeftParen ∷ tokens) → read ≡ Stops (refusal q BadText) → ⊥
+  follows_parenthesis : {names : List (List ℕ)} {scope : Scope} {tokens rest : List Placed} {q : ℕ} (p : ℕ) (binder : Bool) → Comes (OfPlace names scope) (place_state binder) (at p LeftParen ∷ tokens) → BareTerm tokens (at q RightParen ∷ rest) → AreAscending e (at p LeftParen ∷ tokens) → read ≡ Stops (refusal q BadText) → ⊥
   follows_parenthesis {q = q} p binder (past r h a) t b k = let same : r ≡ refusal q BadText = cc in absurd (omega (arith, (term_keeps (after_kept e r.place) t a.1).0, ap (λ s. s.place) same))
   follows_parenthesis p binder (reached y h) t b k = in_parentheses p binder y t b.1 h k
 
@@ -228,7 +229,7 @@ module _ (e : ℕ) (all : List Placed) (ascending : AreAscending e all) where
   can-follow (whole_end {name = name} {end = end} {rest = rest} {p = p} w t) k =
       conclude (then_reaches (whole_comes e all ascending w) (λ n. term_keeps (after_kept e n) t)
       (λ x l. then_reaches (term_reaches read e x.m t x.head [] tt (closed_end p rest x.closed) (whole_keeps (ascending_kept e) ascending w) l) (λ n i. i)
-      (λ y i. closing x.m x.head y.t x.closed i)))
+      (λ y i. closing x.m x.head y x.closed i)))
       (term_keeps (ascending_kept e) t (whole_keeps (ascending_kept e) ascending w)).0 (λ x. closed_fine x.m x.head x.t p x.closed) k
   can-follow (identifier_atom {binder = binder} {name = name} {p = p} a) k = conclude (atom_comes e all ascending a tt) (atom_stands_keeps (ascending_kept e) ascending a).0 (λ x. identifier_fine binder p name x) k
   can-follow (sort_atom {binder = binder} {p = p} a) k = conclude (atom_comes e all ascending a tt) (atom_stands_keeps (ascending_kept e) ascending a).0 (λ x. sort_fine binder p x) k
@@ -241,7 +242,7 @@ module _ (e : ℕ) (all : List Placed) (ascending : AreAscending e all) where
   can-follow (fat_arrow_sign {name = name} t y) k =
       conclude {token = FatArrow} (then_reaches (term_comes e all ascending t) (λ n l. application_keeps (after_kept e n) y l.1.1)
       (λ x l. then_reaches (application_reaches read e x.m y x.head (Domain name ∷ x.frames) (term_begins_keeps (ascending_kept e) ascending t).1.1 l) (λ n i. i)
-      (λ z i. after_domain name x.m x.head x.frames z.t i)))
+      (λ z i. after_domain name x.m x.head x.frames z i)))
       (application_keeps (ascending_kept e) y (term_begins_keeps (ascending_kept e) ascending t).1.1).0 (λ x. tt) k
 
 -- the place of an end
@@ -269,20 +270,55 @@ answers-AfterFirst m head frames p name (stuck q) o h k = ap (λ c. answers c (s
 
 meaning-None : {names : List (List ℕ)} {scope : Scope} (m : List Declaration) (frames : List Frame) (name : List ℕ) → names_of m ≡ names → scope_of frames ≡ scope → variable_of scope name ≡ None → IsFalse (is_symbol names name) → meaning m frames name ≡ None
 meaning-None {names = names} m frames name n s v i =
-    ap (λ w. meant w (symbol_of m name)) (ap (λ c. variable_of c name) s ∙ v) ∙ ap (λ w. meant None w) (is_symbol-symbol_of m names name n i)
+    ap (λ w. meant m w (symbol_of m name)) (ap (λ c. variable_of c name) s ∙ v) ∙ ap (λ w. meant m None w) (is_symbol-symbol_of m names name n i)
 
-too_deep_le : (t : Tree) (d : ℕ) → depth t ≡ d → max_depth < d → nat_le (depth t) max_depth ≡ false
-too_deep_le t d h k = grind (arith, common_steps, h, k)
+too_deep_le : (t : Tree) → max_depth < depth t → nat_le (depth t) max_depth ≡ false
+too_deep_le t k = grind (arith, common_steps, k)
 
 -- a tree that is too deep stops the reading
-deep_stops : (t : Tree) (d p : ℕ) (o : Outcome) (rest : List Placed) → depth t ≡ d → max_depth < d → advance_all (unless_deep t p o) rest ≡ Stops (refusal p DkTooDeep)
-deep_stops t d p o rest h k = ap (λ (b : Bool). advance_all (if b then o else stops p DkTooDeep) rest) (too_deep_le t d h k)
+deep_stops : (t : Tree) (p : ℕ) (o : Outcome) (rest : List Placed) → max_depth < depth t → advance_all (unless_deep t p o) rest ≡ Stops (refusal p DkTooDeep)
+deep_stops t p o rest k = ap (λ (b : Bool). advance_all (if b then o else stops p DkTooDeep) rest) (too_deep_le t k)
 
-closed_deep : {name : List ℕ} {end : Token} (m : List Declaration) (head : Head) (t : Tree) (d p : ℕ) (rest : List Placed) → IsClosedBy head name end → depth t ≡ d → max_depth < d → run m (InApplication head [] (Some t)) (at p end ∷ rest) ≡ Stops (refusal p DkTooDeep)
-closed_deep m (TypeOf Symbol name) t d p rest symbol_type h k = deep_stops t d p (Goes (m ++ record { name = name; form = Symbol; ty = t; body = None } ∷ []) Between) rest h k
-closed_deep m (TypeOf Def name) t d p rest definition_type h k = deep_stops t d p (Goes m (AtTerm (BodyOf Def name t) [])) rest h k
-closed_deep m (TypeOf Thm name) t d p rest theorem_type h k = deep_stops t d p (Goes m (AtTerm (BodyOf Thm name t) [])) rest h k
-closed_deep m (BodyOf form name ty) t d p rest any_body h k = deep_stops t d p (Goes (m ++ record { name = name; form = form; ty = ty; body = Some t } ∷ []) Between) rest h k
+closed_deep : {name : List ℕ} {end : Token} (m : List Declaration) (head : Head) (t : Tree) (p : ℕ) (rest : List Placed) → IsClosedBy head name end → max_depth < depth t → run m (InApplication head [] (Some t)) (at p end ∷ rest) ≡ Stops (refusal p DkTooDeep)
+closed_deep m (TypeOf Symbol name) t p rest symbol_type k = deep_stops t p (Goes (m ++ record { name = name; form = Symbol; ty = t; body = None } ∷ []) Between) rest k
+closed_deep m (TypeOf Def name) t p rest definition_type k = deep_stops t p (Goes m (AtTerm (BodyOf Def name t) [])) rest k
+closed_deep m (TypeOf Thm name) t p rest theorem_type k = deep_stops t p (Goes m (AtTerm (BodyOf Thm name t) [])) rest k
+closed_deep m (BodyOf form name ty) t p rest any_body k = deep_stops t p (Goes (m ++ record { name = name; form = form; ty = ty; body = Some t } ∷ []) Between) rest k
+
+-- what is read before a type or a body leads to its beginning
+declared_read : {all tokens : List Placed} {m : List Declaration} → Declared all m tokens → run [] Between all ≡ run m Between tokens
+declared_read none_yet = refl
+declared_read (one_more {m = m} h d) = declared_read h ∙ declares_runs m d
+
+name_read : {all tokens : List Placed} {m : List Declaration} {form : Form} {name : List ℕ} → NameReads all m form name tokens → run [] Between all ≡ run m (AtTerm (TypeOf form name) []) tokens
+name_read {m = m} (symbol_name {name = name} {tokens = tokens} {p = p} {q = q} h new) = declared_read h ∙ names_run m Between (Goes m (AfterName Symbol name)) name p (at q Colon ∷ tokens) (is_declared (signature ++ m) name) new
+name_read {m = m} (definition_name {name = name} {tokens = tokens} {p = p} {q = q} h new) = declared_read h ∙ names_run m Between (Goes m (AfterName Def name)) name p (at q Colon ∷ tokens) (is_declared (signature ++ m) name) new
+name_read {m = m} (theorem_name {name = name} {tokens = tokens} {p = p} {q = q} h new) = declared_read h ∙ names_run m Between (Goes m (AfterName Thm name)) name p (at q Colon ∷ tokens) (is_declared (signature ++ m) name) new
+
+record IsWholeRead (all : List Placed) (m : List Declaration) (end : Token) (tokens : List Placed) : Type 0 where
+  head : Head
+  name : List ℕ
+  closed : IsClosedBy head name end
+  run : run [] Between all ≡ run m (AtTerm head []) tokens
+
+whole_read : {all tokens : List Placed} {m : List Declaration} {end : Token} → WholeReads all m end tokens → IsWholeRead all m end tokens
+whole_read (WholeReads.symbol_type {name = name} n) = record { head = TypeOf Symbol name; name = name; closed = symbol_type; run = name_read n }
+whole_read (bodied_type {name = name} {form = Def} b n) = record { head = TypeOf Def name; name = name; closed = definition_type; run = name_read n }
+whole_read (bodied_type {name = name} {form = Thm} b n) = record { head = TypeOf Thm name; name = name; closed = theorem_type; run = name_read n }
+whole_read (bodied_type {name = name} {form = Symbol} b n) = absurd b
+whole_read {m = m} (body_after {name = name} {form = Def} {rest = rest} {p = p} {t = t} b n w) = record {
+  head = BodyOf Def name t;
+  name = name;
+  closed = any_body;
+  run = name_read n ∙ term_runs m w.term (TypeOf Def name) [] refl tt tt ∙ shallow_runs m t p (Goes m (AtTerm (BodyOf Def name t) [])) rest w.shallow;
+}
+whole_read {m = m} (body_after {name = name} {form = Thm} {rest = rest} {p = p} {t = t} b n w) = record {
+  head = BodyOf Thm name t;
+  name = name;
+  closed = any_body;
+  run = name_read n ∙ term_runs m w.term (TypeOf Thm name) [] refl tt tt ∙ shallow_runs m t p (Goes m (AtTerm (BodyOf Thm name t) [])) rest w.shallow;
+}
+whole_read (body_after {form = Symbol} b n w) = absurd b
 
 twice_stops : (m : List Declaration) (form : Form) (name : List ℕ) (p : ℕ) (rest : List Placed) → is_declared (signature ++ m) name ≡ true → run m (name_state form) (at p (Name name) ∷ rest) ≡ Stops (refusal p (NameTwice name))
 twice_stops m Symbol name p rest h = ap (λ (b : Bool). advance_all (if b then stops p (NameTwice name) else Goes m (AfterName Symbol name)) rest) h
@@ -321,13 +357,8 @@ module _ (end : End) (all : List Placed) (ascending : AreAscending (place_of end
       least (past r h c) = no_later (run [] Between all) (refusal p (NameTwice name)) r end h (inl c.0)
       least (reached y h) = no_later (run [] Between all) (refusal p (NameTwice name)) (refusal p (NameTwice name)) end (h ∙ twice_stops y.m form name p rest (is_declared-is_symbol y.m names name y.named ∙ i)) (inr refl)
 
-  deep_least : {names : List (List ℕ)} {name : List ℕ} {last : Token} {tokens rest : List Placed} {p d : ℕ} → Reaches (run [] Between all) (place_of end) (OfWhole names name last) (λ x. Goes x.m (AtTerm x.head [])) tokens → BareTerm tokens (at p last ∷ rest) d → AreAscending (place_of end) tokens → max_depth < d → IsNoLater answered (refusal p DkTooDeep)
-  deep_least {rest = rest} {p = p} {d = d} (past r h c) t a k = no_later (run [] Between all) (refusal p DkTooDeep) r end h (inl (term_keeps (after_kept (place_of end) r.place) t c).0)
-  deep_least {last = last} {rest = rest} {p = p} {d = d} (reached x h) t a k = least (term_reaches (run [] Between all) (place_of end) x.m t x.head [] tt (closed_end p rest x.closed) a h)
-    where
-      least : Reaches (run [] Between all) (place_of end) (OfDepth d) (λ y. Goes x.m (InApplication x.head [] (Some y.t))) (at p last ∷ rest) → IsNoLater answered (refusal p DkTooDeep)
-      least (past r l c) = no_later (run [] Between all) (refusal p DkTooDeep) r end l (inl c.0)
-      least (reached y l) = no_later (run [] Between all) (refusal p DkTooDeep) (refusal p DkTooDeep) end (l ∙ closed_deep x.m x.head y.t d p rest x.closed y.is k) (inr refl)
-
-  pub deep-no-later : {names : List (List ℕ)} {name : List ℕ} {last : Token} {tokens rest : List Placed} {p d : ℕ} → WholeBegins all names name last tokens → BareTerm tokens (at p last ∷ rest) d → max_depth < d → IsNoLater answered (refusal p DkTooDeep)
-  deep-no-later w t k = deep_least (whole_comes (place_of end) all ascending w) t (whole_keeps (ascending_kept (place_of end)) ascending w) k
+  pub deep-no-later : {m : List Declaration} {last : Token} {tokens rest : List Placed} {p : ℕ} {t : Tree} → WholeReads all m last tokens → Term m [] tokens (at p last ∷ rest) t → max_depth < depth t → IsNoLater answered (refusal p DkTooDeep)
+  deep-no-later {m = m} {rest = rest} {p = p} {t = t} w u k =
+      let r = whole_read w in
+      no_later (run [] Between all) (refusal p DkTooDeep) (refusal p DkTooDeep) end
+      (r.run ∙ term_runs m u r.head [] refl tt (closed_end p rest r.closed) ∙ closed_deep m r.head t p rest r.closed k) (inr refl)

@@ -29,20 +29,8 @@ pub record Cut (S : List Placed → List Placed → Type 0) (tokens rest : List 
   pub is : tokens ≡ g rest
   pub moved : (other : List Placed) → S (g other) other
 
-abbrev atom_of : ℕ → List Placed → List Placed → Type 0
-atom_of d tokens rest = BareAtom tokens rest d
-
-abbrev arguments_of : ℕ → ℕ → List Placed → List Placed → Type 0
-arguments_of d n tokens rest = BareArguments d tokens rest n
-
-abbrev application_of : ℕ → List Placed → List Placed → Type 0
-application_of d tokens rest = BareApplication tokens rest d
-
-abbrev term_of_depth : ℕ → List Placed → List Placed → Type 0
-term_of_depth d tokens rest = BareTerm tokens rest d
-
 mutual
-  cut_atom : {tokens rest : List Placed} {d : ℕ} → BareAtom tokens rest d → Cut (atom_of d) tokens rest
+  cut_atom : {tokens rest : List Placed} → BareAtom tokens rest → Cut BareAtom tokens rest
   cut_atom (identifier {p = p} {name = name}) = record { g = λ r. at p (Name name) ∷ r; prepends = prepends_token p (Name name); is = refl; moved = λ r. identifier }
   cut_atom (sort {p = p}) = record { g = λ r. at p TypeWord ∷ r; prepends = prepends_token p TypeWord; is = refl; moved = λ r. sort }
   cut_atom (enclosed {p = p} {q = q} t) =
@@ -54,20 +42,20 @@ mutual
         moved = λ r. enclosed (c.moved (at q RightParen ∷ r));
       }
 
-  cut_arguments : {tokens rest : List Placed} {d n : ℕ} → BareArguments d tokens rest n → Cut (arguments_of d n) tokens rest
+  cut_arguments : {tokens rest : List Placed} → BareArguments tokens rest → Cut BareArguments tokens rest
   cut_arguments none = record { g = λ r. r; prepends = prepends_none; is = refl; moved = λ r. none }
   cut_arguments (argument x args) =
       let c = cut_atom x in
       let a = cut_arguments args in
       record { g = λ r. c.g (a.g r); prepends = prepends_then c.prepends a.prepends; is = c.is ∙ ap c.g a.is; moved = λ r. argument (c.moved (a.g r)) (a.moved r) }
 
-  cut_application : {tokens rest : List Placed} {d : ℕ} → BareApplication tokens rest d → Cut (application_of d) tokens rest
+  cut_application : {tokens rest : List Placed} → BareApplication tokens rest → Cut BareApplication tokens rest
   cut_application (application x args) =
       let c = cut_atom x in
       let a = cut_arguments args in
       record { g = λ r. c.g (a.g r); prepends = prepends_then c.prepends a.prepends; is = c.is ∙ ap c.g a.is; moved = λ r. application (c.moved (a.g r)) (a.moved r) }
 
-  cut_term : {tokens rest : List Placed} {d : ℕ} → BareTerm tokens rest d → Cut (term_of_depth d) tokens rest
+  cut_term : {tokens rest : List Placed} → BareTerm tokens rest → Cut BareTerm tokens rest
   cut_term (product {p = p} {q = q} {r = r} {name = name} y t) =
       let c = cut_application y in
       let u = cut_term t in
@@ -107,10 +95,10 @@ abbrev rest_after : Token → List Placed
 rest_after Assign = at 0 TypeWord ∷ at 0 Dot ∷ []
 rest_after _ = []
 
-only_sort : {rest : List Placed} {p : ℕ} → BareTerm (at p TypeWord ∷ rest) rest 1
+only_sort : {rest : List Placed} {p : ℕ} → BareTerm (at p TypeWord ∷ rest) rest
 only_sort = plain (application sort none)
 
-end_text : {all : List Placed} {names : List (List ℕ)} {name : List ℕ} {end : Token} {tokens : List Placed} {d : ℕ} (p : ℕ) → WholeBegins all names name end tokens → BareTerm tokens (at p end ∷ rest_after end) d → IsText all
+end_text : {all : List Placed} {names : List (List ℕ)} {name : List ℕ} {end : Token} {tokens : List Placed} (p : ℕ) → WholeBegins all names name end tokens → BareTerm tokens (at p end ∷ rest_after end) → IsText all
 end_text {names = names} {name = name} p (only_type n) t = (names ++ name ∷ [], next (only_type n) t)
 end_text {names = names} {name = name} p (type_before_body b n) t = (names ++ name ∷ [], next (body (type_before_body b n) t) only_sort)
 end_text {names = names} {name = name} p (body w u) t = (names ++ name ∷ [], next (body w u) t)
@@ -121,13 +109,13 @@ name_text Def name p q n = end_text 0 (type_before_body tt n) only_sort
 name_text Thm name p q n = end_text 0 (type_before_body tt n) only_sort
 
 -- a place of a text, which stands so before any tokens, and ends a text with the tail after what is to stand there
-record Place (S : List Placed → List Placed → Type 0) (T : List Placed → List Placed → ℕ → Type 0) (all rest : List Placed) : Type 0 where
+record Place (S : List Placed → List Placed → Type 0) (T : List Placed → List Placed → Type 0) (all rest : List Placed) : Type 0 where
   g : List Placed → List Placed
   prepends : Prepends g
   is : all ≡ g rest
   moved : (other : List Placed) → S (g other) other
   tail : List Placed
-  text : (tokens : List Placed) (d : ℕ) → T tokens tail d → IsText (g tokens)
+  text : (tokens : List Placed) → T tokens tail → IsText (g tokens)
 
 abbrev declaration_at : List (List ℕ) → List Placed → List Placed → Type 0
 declaration_at names all tokens = DeclarationBegins all names tokens
@@ -198,7 +186,7 @@ module _ {all : List Placed} where
       place_term : {scope : Scope} {tokens : List Placed} → TermBegins all names scope tokens → Place (term_at names scope) BareTerm all tokens
       place_term (of_whole {end = end} w) =
           let c = cut_whole w in
-          record { g = c.g; prepends = c.prepends; is = c.is; moved = λ r. of_whole (c.moved r); tail = at 0 end ∷ rest_after end; text = λ tokens d t. end_text 0 (c.moved tokens) t }
+          record { g = c.g; prepends = c.prepends; is = c.is; moved = λ r. of_whole (c.moved r); tail = at 0 end ∷ rest_after end; text = λ tokens t. end_text 0 (c.moved tokens) t }
       place_term (after_product {name = name} {p = p} {q = q} {r = r} t y) =
           let c = place_term t in
           let u = cut_application y in
@@ -208,7 +196,7 @@ module _ {all : List Placed} where
             is = c.is ∙ ap (λ o. c.g (at p (Name name) ∷ at q Colon ∷ o)) u.is;
             moved = λ o. after_product (c.moved (at p (Name name) ∷ at q Colon ∷ u.g (at r Arrow ∷ o))) (u.moved (at r Arrow ∷ o));
             tail = c.tail;
-            text = λ tokens d v. c.text (at p (Name name) ∷ at q Colon ∷ u.g (at r Arrow ∷ tokens)) _ (product (u.moved (at r Arrow ∷ tokens)) v);
+            text = λ tokens v. c.text (at p (Name name) ∷ at q Colon ∷ u.g (at r Arrow ∷ tokens)) (product (u.moved (at r Arrow ∷ tokens)) v);
           }
       place_term (after_abstraction {name = name} {p = p} {q = q} {r = r} t y) =
           let c = place_term t in
@@ -219,7 +207,7 @@ module _ {all : List Placed} where
             is = c.is ∙ ap (λ o. c.g (at p (Name name) ∷ at q Colon ∷ o)) u.is;
             moved = λ o. after_abstraction (c.moved (at p (Name name) ∷ at q Colon ∷ u.g (at r FatArrow ∷ o))) (u.moved (at r FatArrow ∷ o));
             tail = c.tail;
-            text = λ tokens d v. c.text (at p (Name name) ∷ at q Colon ∷ u.g (at r FatArrow ∷ tokens)) _ (abstraction (u.moved (at r FatArrow ∷ tokens)) v);
+            text = λ tokens v. c.text (at p (Name name) ∷ at q Colon ∷ u.g (at r FatArrow ∷ tokens)) (abstraction (u.moved (at r FatArrow ∷ tokens)) v);
           }
       place_term (after_nameless {r = r} t y) =
           let c = place_term t in
@@ -230,7 +218,7 @@ module _ {all : List Placed} where
             is = c.is ∙ ap c.g u.is;
             moved = λ o. after_nameless (c.moved (u.g (at r Arrow ∷ o))) (u.moved (at r Arrow ∷ o));
             tail = c.tail;
-            text = λ tokens d v. c.text (u.g (at r Arrow ∷ tokens)) _ (nameless (u.moved (at r Arrow ∷ tokens)) v);
+            text = λ tokens v. c.text (u.g (at r Arrow ∷ tokens)) (nameless (u.moved (at r Arrow ∷ tokens)) v);
           }
       place_term (enclosed_term {p = p} a) =
           let c = place_atom a in
@@ -240,13 +228,13 @@ module _ {all : List Placed} where
             is = c.is;
             moved = λ o. enclosed_term (c.moved (at p LeftParen ∷ o));
             tail = at 0 RightParen ∷ c.tail;
-            text = λ tokens d v. c.text (at p LeftParen ∷ tokens) d (enclosed v);
+            text = λ tokens v. c.text (at p LeftParen ∷ tokens) (enclosed v);
           }
 
       place_application : {scope : Scope} {binder : Bool} {tokens : List Placed} → ApplicationBegins all names scope binder tokens → Place (application_at names scope binder) BareApplication all tokens
       place_application (of_term t) =
           let c = place_term t in
-          record { g = c.g; prepends = c.prepends; is = c.is; moved = λ o. of_term (c.moved o); tail = c.tail; text = λ tokens d y. c.text tokens d (plain y) }
+          record { g = c.g; prepends = c.prepends; is = c.is; moved = λ o. of_term (c.moved o); tail = c.tail; text = λ tokens y. c.text tokens (plain y) }
       place_application (of_domain {name = name} {p = p} {q = q} t) =
           let c = place_term t in
           record {
@@ -255,13 +243,13 @@ module _ {all : List Placed} where
             is = c.is;
             moved = λ o. of_domain (c.moved (at p (Name name) ∷ at q Colon ∷ o));
             tail = at 0 Arrow ∷ at 0 TypeWord ∷ c.tail;
-            text = λ tokens d y. c.text (at p (Name name) ∷ at q Colon ∷ tokens) _ (product y only_sort);
+            text = λ tokens y. c.text (at p (Name name) ∷ at q Colon ∷ tokens) (product y only_sort);
           }
 
       place_atom : {scope : Scope} {binder : Bool} {tokens : List Placed} → AtomStands all names scope binder tokens → Place (atom_at names scope binder) BareAtom all tokens
       place_atom (of_application a) =
           let c = place_application a in
-          record { g = c.g; prepends = c.prepends; is = c.is; moved = λ o. of_application (c.moved o); tail = c.tail; text = λ tokens d x. c.text tokens d (application x none) }
+          record { g = c.g; prepends = c.prepends; is = c.is; moved = λ o. of_application (c.moved o); tail = c.tail; text = λ tokens x. c.text tokens (application x none) }
       place_atom (further a y) =
           let c = place_application a in
           let u = cut_application y in
@@ -271,7 +259,7 @@ module _ {all : List Placed} where
             is = c.is ∙ ap c.g u.is;
             moved = λ o. further (c.moved (u.g o)) (u.moved o);
             tail = c.tail;
-            text = λ tokens d x. c.text (u.g tokens) _ (application_snoc (u.moved tokens) x);
+            text = λ tokens x. c.text (u.g tokens) (application_snoc (u.moved tokens) x);
           }
 
 -- a token that can follow those before it can so before any others, and before some that end a text
@@ -313,13 +301,13 @@ follow_cut (whole_end {end = end} {p = p} w t) =
     }
 follow_cut (identifier_atom {name = name} {p = p} a) =
     let c = place_atom a in
-    record { g = c.g; prepends = c.prepends; is = c.is; moved = λ r. identifier_atom (c.moved (at p (Name name) ∷ r)); more = c.tail; text = c.text (at p (Name name) ∷ c.tail) 1 identifier }
+    record { g = c.g; prepends = c.prepends; is = c.is; moved = λ r. identifier_atom (c.moved (at p (Name name) ∷ r)); more = c.tail; text = c.text (at p (Name name) ∷ c.tail) identifier }
 follow_cut (sort_atom {p = p} a) =
     let c = place_atom a in
-    record { g = c.g; prepends = c.prepends; is = c.is; moved = λ r. sort_atom (c.moved (at p TypeWord ∷ r)); more = c.tail; text = c.text (at p TypeWord ∷ c.tail) 1 sort }
+    record { g = c.g; prepends = c.prepends; is = c.is; moved = λ r. sort_atom (c.moved (at p TypeWord ∷ r)); more = c.tail; text = c.text (at p TypeWord ∷ c.tail) sort }
 follow_cut (left_parenthesis {p = p} a) =
     let c = place_atom a in
-    record { g = c.g; prepends = c.prepends; is = c.is; moved = λ r. left_parenthesis (c.moved (at p LeftParen ∷ r)); more = at 0 TypeWord ∷ at 0 RightParen ∷ c.tail; text = c.text (at p LeftParen ∷ at 0 TypeWord ∷ at 0 RightParen ∷ c.tail) 1 (enclosed only_sort) }
+    record { g = c.g; prepends = c.prepends; is = c.is; moved = λ r. left_parenthesis (c.moved (at p LeftParen ∷ r)); more = at 0 TypeWord ∷ at 0 RightParen ∷ c.tail; text = c.text (at p LeftParen ∷ at 0 TypeWord ∷ at 0 RightParen ∷ c.tail) (enclosed only_sort) }
 follow_cut (right_parenthesis {p = p} {q = q} a t) =
     let c = place_atom a in
     let u = cut_term t in
@@ -329,7 +317,7 @@ follow_cut (right_parenthesis {p = p} {q = q} a t) =
       is = c.is ∙ ap (λ r. c.g (at p LeftParen ∷ r)) u.is;
       moved = λ r. right_parenthesis (c.moved (at p LeftParen ∷ u.g (at q RightParen ∷ r))) (u.moved (at q RightParen ∷ r));
       more = c.tail;
-      text = c.text (at p LeftParen ∷ u.g (at q RightParen ∷ c.tail)) _ (enclosed (u.moved (at q RightParen ∷ c.tail)));
+      text = c.text (at p LeftParen ∷ u.g (at q RightParen ∷ c.tail)) (enclosed (u.moved (at q RightParen ∷ c.tail)));
     }
 follow_cut (binder_colon {name = name} {p = p} {q = q} t) =
     let c = place_term t in
@@ -339,7 +327,7 @@ follow_cut (binder_colon {name = name} {p = p} {q = q} t) =
       is = c.is;
       moved = λ r. binder_colon (c.moved (at p (Name name) ∷ at q Colon ∷ r));
       more = at 0 TypeWord ∷ at 0 Arrow ∷ at 0 TypeWord ∷ c.tail;
-      text = c.text (at p (Name name) ∷ at q Colon ∷ at 0 TypeWord ∷ at 0 Arrow ∷ at 0 TypeWord ∷ c.tail) _ (product (application sort none) only_sort);
+      text = c.text (at p (Name name) ∷ at q Colon ∷ at 0 TypeWord ∷ at 0 Arrow ∷ at 0 TypeWord ∷ c.tail) (product (application sort none) only_sort);
     }
 follow_cut (arrow_sign {p = o} (of_term t) y) =
     let c = place_term t in
@@ -350,7 +338,7 @@ follow_cut (arrow_sign {p = o} (of_term t) y) =
       is = c.is ∙ ap c.g u.is;
       moved = λ r. arrow_sign (of_term (c.moved (u.g (at o Arrow ∷ r)))) (u.moved (at o Arrow ∷ r));
       more = at 0 TypeWord ∷ c.tail;
-      text = c.text (u.g (at o Arrow ∷ at 0 TypeWord ∷ c.tail)) _ (nameless (u.moved (at o Arrow ∷ at 0 TypeWord ∷ c.tail)) only_sort);
+      text = c.text (u.g (at o Arrow ∷ at 0 TypeWord ∷ c.tail)) (nameless (u.moved (at o Arrow ∷ at 0 TypeWord ∷ c.tail)) only_sort);
     }
 follow_cut (arrow_sign {p = o} (of_domain {name = name} {p = p} {q = q} t) y) =
     let c = place_term t in
@@ -361,7 +349,7 @@ follow_cut (arrow_sign {p = o} (of_domain {name = name} {p = p} {q = q} t) y) =
       is = c.is ∙ ap (λ r. c.g (at p (Name name) ∷ at q Colon ∷ r)) u.is;
       moved = λ r. arrow_sign (of_domain (c.moved (at p (Name name) ∷ at q Colon ∷ u.g (at o Arrow ∷ r)))) (u.moved (at o Arrow ∷ r));
       more = at 0 TypeWord ∷ c.tail;
-      text = c.text (at p (Name name) ∷ at q Colon ∷ u.g (at o Arrow ∷ at 0 TypeWord ∷ c.tail)) _ (product (u.moved (at o Arrow ∷ at 0 TypeWord ∷ c.tail)) only_sort);
+      text = c.text (at p (Name name) ∷ at q Colon ∷ u.g (at o Arrow ∷ at 0 TypeWord ∷ c.tail)) (product (u.moved (at o Arrow ∷ at 0 TypeWord ∷ c.tail)) only_sort);
     }
 follow_cut (fat_arrow_sign {name = name} {p = p} {q = q} {r = o} t y) =
     let c = place_term t in
@@ -372,7 +360,7 @@ follow_cut (fat_arrow_sign {name = name} {p = p} {q = q} {r = o} t y) =
       is = c.is ∙ ap (λ r. c.g (at p (Name name) ∷ at q Colon ∷ r)) u.is;
       moved = λ r. fat_arrow_sign (c.moved (at p (Name name) ∷ at q Colon ∷ u.g (at o FatArrow ∷ r))) (u.moved (at o FatArrow ∷ r));
       more = at 0 TypeWord ∷ c.tail;
-      text = c.text (at p (Name name) ∷ at q Colon ∷ u.g (at o FatArrow ∷ at 0 TypeWord ∷ c.tail)) _ (abstraction (u.moved (at o FatArrow ∷ at 0 TypeWord ∷ c.tail)) only_sort);
+      text = c.text (at p (Name name) ∷ at q Colon ∷ u.g (at o FatArrow ∷ at 0 TypeWord ∷ c.tail)) (abstraction (u.moved (at o FatArrow ∷ at 0 TypeWord ∷ c.tail)) only_sort);
     }
 
 -- what is put before the same tokens is the same

@@ -9,10 +9,12 @@ pub mod FaultPlaces
 pub mod FaultReach
 pub mod FaultStands
 pub mod PreludeLaws
+pub mod ReadTrees
 pub mod ReadingComplete
 pub mod ReadingLaws
 pub mod ReadingOrder
 pub mod ReadingSound
+pub mod ShortenedTrees
 pub mod TermEnds
 pub mod WrittenModules
 pub mod WrittenReads

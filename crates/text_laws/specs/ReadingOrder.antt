@@ -10,6 +10,10 @@ use Rattle.lp_spec.specs.Trees.{Tree, SortType, Var, Sym, Lam, Pi, loose, depth}
 use Rattle.lp_spec.specs.Modules.{Declaration, signature, symbol}
 use Rattle.lp_spec.specs.ModuleOrder.{has_kind, symbols, is_declared, IsOver, IsBodyOver, MayFollow}
 use Rattle.lp_spec.specs.Tokens.{Token, Name, TypeWord, DefWord, ThmWord, Colon, Assign, Arrow, FatArrow, Dot, LeftParen, RightParen}
+use Rattle.std.specs.Option.{unwrap_or}
+use Rattle.lp_spec.specs.ModuleOrder.{IsModule}
+use Rattle.lp_spec.specs.ShortNames.{short_for, named_tree}
+use Rattle.text_laws.specs.ReadTrees.{short-over}
 use Rattle.lp_spec.specs.Reading.{variable_of, symbol_of, max_depth, IsNew}
 use Rattle.lp_spec.specs.ReadingFaults.{Frame, Enclosing, Domain, Product, Abstraction, scope_of, Head, TypeOf, BodyOf, State, Between, AfterKeyword, AfterName, AtTerm, AfterFirst, InApplication, Outcome, Goes, Stops, stops, meant, meaning, argued, atom, encloses, whole, declares, assigns, arrow, fat_arrow, applies, goes_on, advance, NameTwice, DkTooDeep}
 use Rattle.lp_spec.specs.Faults.{HasBody}
@@ -51,19 +55,26 @@ position_below : {X : Type 0} (p : X → Bool) (xs : List X) (n : ℕ) (d : X) �
 position_below p xs n d e = (position-Some p xs n d e).0
 
 -- what an identifier means is under the binders round it
-meant_under : (m : List Declaration) (frames : List Frame) (name : List ℕ) (x : Tree) (v s : Option ℕ) → variable_of (scope_of frames) name ≡ v → symbol_of m name ≡ s → meant v s ≡ Some x → IsUnder (length (signature ++ m)) (length (scope_of frames)) x
-meant_under m frames name x (Some n) s e f h =
+named_under : (m : List Declaration) (frames : List Frame) (s : ℕ) → IsModule m → s < length (signature ++ m) → IsUnder (length (signature ++ m)) (length (scope_of frames)) (named_tree m s)
+named_under m frames s in_order below = go (short_for m s) refl
+  where
+    go : (o : Option Tree) → short_for m s ≡ o → IsUnder (length (signature ++ m)) (length (scope_of frames)) (unwrap_or o (Sym s))
+    go None e = record { bound = omega arith; kindless = refl; known = omega (arith, below) }
+    go (Some t) e = let o = short-over m in_order s t e in record { bound = omega (arith, o.closed); kindless = o.kindless; known = o.known }
+
+meant_under : (m : List Declaration) (frames : List Frame) (name : List ℕ) (x : Tree) (v s : Option ℕ) → IsModule m → variable_of (scope_of frames) name ≡ v → symbol_of m name ≡ s → meant m v s ≡ Some x → IsUnder (length (signature ++ m)) (length (scope_of frames)) x
+meant_under m frames name x (Some n) s in_order e f h =
     let b : n < length (scope_of frames) = position_below (λ b. bytes_eq b name) (scope_of frames) n [] e in
     let is : Var n ≡ x = cc in
     subst (IsUnder (length (signature ++ m)) (length (scope_of frames))) is (record { bound = omega (arith, b); kindless = refl; known = omega arith })
-meant_under m frames name x None (Some s) e f h =
+meant_under m frames name x None (Some s) in_order e f h =
     let b : s < length (signature ++ m) = position_below (λ d. bytes_eq d.name name) (signature ++ m) s (symbol [] SortType) f in
-    let is : Sym s ≡ x = cc in
-    subst (IsUnder (length (signature ++ m)) (length (scope_of frames))) is (record { bound = omega arith; kindless = refl; known = omega (arith, b) })
-meant_under m frames name x None None e f h = absurd (cc)
+    let is : named_tree m s ≡ x = cc in
+    subst (IsUnder (length (signature ++ m)) (length (scope_of frames))) is (named_under m frames s in_order b)
+meant_under m frames name x None None in_order e f h = absurd (cc)
 
-pub meaning-IsUnder : (m : List Declaration) (frames : List Frame) (name : List ℕ) (x : Tree) → meaning m frames name ≡ Some x → IsUnder (length (signature ++ m)) (length (scope_of frames)) x
-meaning-IsUnder m frames name x h = meant_under m frames name x (variable_of (scope_of frames) name) (symbol_of m name) refl refl h
+pub meaning-IsUnder : (m : List Declaration) (frames : List Frame) (name : List ℕ) (x : Tree) → IsModule m → meaning m frames name ≡ Some x → IsUnder (length (signature ++ m)) (length (scope_of frames)) x
+meaning-IsUnder m frames name x in_order h = meant_under m frames name x (variable_of (scope_of frames) name) (symbol_of m name) in_order refl refl h
 
 pub argued-IsUnder : (count d : ℕ) (f : Option Tree) (x : Tree) → IsAppliedUnder count d f → IsUnder count d x → IsUnder count d (argued f x)
 argued-IsUnder count d None x h k = k
@@ -111,10 +122,10 @@ name_ordered : (m : List Declaration) (form : Form) (p : ℕ) (name : List ℕ) 
 name_ordered m form p name true e = tt
 name_ordered m form p name false e = e
 
-module _ (m : List Declaration) where
+module _ (m : List Declaration) (in_order : IsModule m) where
   atom_ordered : (head : Head) (frames : List Frame) (f : Option Tree) (p : ℕ) (name : List ℕ) (o : Option Tree) → meaning m frames name ≡ o → IsState m (InApplication head frames f) → IsOrdered (atom m head frames f p name o)
   atom_ordered head frames f p name None e h = tt
-  atom_ordered head frames f p name (Some x) e h = (h.0, h.1, argued-IsUnder (length (signature ++ m)) (length (scope_of frames)) f x h.2 (meaning-IsUnder m frames name x e))
+  atom_ordered head frames f p name (Some x) e h = (h.0, h.1, argued-IsUnder (length (signature ++ m)) (length (scope_of frames)) f x h.2 (meaning-IsUnder m frames name x in_order e))
 
   encloses_ordered : (head : Head) (frames : List Frame) (t : Tree) (p : ℕ) → IsState m (InApplication head frames (Some t)) → IsOrdered (encloses m head frames t p)
   encloses_ordered head [] t p h = tt
@@ -161,7 +172,7 @@ module _ (m : List Declaration) where
 
   first_ordered : (head : Head) (frames : List Frame) (q : ℕ) (name : List ℕ) (p : ℕ) (token : Token) (o : Option Tree) → meaning m frames name ≡ o → IsHead m head → AreFrames (length (signature ++ m)) frames → IsOrdered (goes_on m head frames q name o p token)
   first_ordered head frames q name p token None e h k = tt
-  first_ordered head frames q name p token (Some x) e h k = applies_ordered head frames (Some x) p token (h, k, meaning-IsUnder m frames name x e)
+  first_ordered head frames q name p token (Some x) e h k = applies_ordered head frames (Some x) p token (h, k, meaning-IsUnder m frames name x in_order e)
 
   pub advance-IsOrdered : (state : State) (p : ℕ) (token : Token) → IsState m state → IsOrdered (advance m state p token)
   advance-IsOrdered Between p (Name name) h = name_ordered m Symbol p name (is_declared (signature ++ m) name) refl

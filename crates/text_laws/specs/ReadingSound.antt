@@ -63,12 +63,12 @@ GoesFrom all (Stops r) tokens = ⊥
 GoesFrom all (Goes m state) tokens = GoesOn m all state tokens
 
 -- an identifier that means a tree is an atom
-meant_atom : (m : List Declaration) (frames : List Frame) (name : List ℕ) (p : ℕ) (rest : List Placed) (x : Tree) (v s : Option ℕ) → variable_of (scope_of frames) name ≡ v → symbol_of m name ≡ s → meant v s ≡ Some x → Atom m (scope_of frames) (at p (Name name) ∷ rest) rest x
+meant_atom : (m : List Declaration) (frames : List Frame) (name : List ℕ) (p : ℕ) (rest : List Placed) (x : Tree) (v s : Option ℕ) → variable_of (scope_of frames) name ≡ v → symbol_of m name ≡ s → meant m v s ≡ Some x → Atom m (scope_of frames) (at p (Name name) ∷ rest) rest x
 meant_atom m frames name p rest x (Some n) s ev es e = subst (Atom m (scope_of frames) (at p (Name name) ∷ rest) rest) (cc) (variable {p = p} ev)
 meant_atom m frames name p rest x None (Some s) ev es e = subst (Atom m (scope_of frames) (at p (Name name) ∷ rest) rest) (cc) (symbol {p = p} ev es)
 meant_atom m frames name p rest x None None ev es e = absurd (cc)
 
-named_atom : (m : List Declaration) (frames : List Frame) (name : List ℕ) (p : ℕ) (rest : List Placed) (x : Tree) → meaning m frames name ≡ Some x → Atom m (scope_of frames) (at p (Name name) ∷ rest) rest x
+pub named_atom : (m : List Declaration) (frames : List Frame) (name : List ℕ) (p : ℕ) (rest : List Placed) (x : Tree) → meaning m frames name ≡ Some x → Atom m (scope_of frames) (at p (Name name) ∷ rest) rest x
 named_atom m frames name p rest x e = meant_atom m frames name p rest x (variable_of (scope_of frames) name) (symbol_of m name) refl refl e
 
 module _ (m all : List Declaration) where

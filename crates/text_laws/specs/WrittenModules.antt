@@ -19,7 +19,9 @@ use Rattle.lp_spec.specs.ModuleOrder.{is_declared, IsOver, IsBodyOver, MayFollow
 use Rattle.lp_spec.specs.Text.{prelude, tree_text, declaration_text, declarations_text, written}
 use Rattle.lp_spec.specs.TextLaws.{IsPlainName, ArePlain, IsBodyShallow, AreShallow, WrittenReads}
 use Rattle.lp_spec.specs.Tokens.{is_letter, is_word_byte, word_token, Name, DefWord, ThmWord, Colon, Assign, Dot, Placed, at, before, Scanned, ended, tokens_from}
-use Rattle.lp_spec.specs.Reading.{symbol_of, max_depth, IsNew, IsWhole, Declares, symbol_declaration, definition, theorem, Completes, complete, next, Reads}
+use Rattle.lp_spec.specs.Reading.{symbol_of, max_depth, IsNew, Term, IsWhole, Declares, symbol_declaration, definition, theorem, Completes, complete, next, Reads}
+use Rattle.lp_spec.specs.ShortNames.{shortened, shortened_declaration, shortened_after, IsLong, IsBodyLong, AreLong}
+use Rattle.text_laws.specs.ShortenedTrees.{expanded-shortened, shortened-IsNoMore}
 use Rattle.text_laws.specs.ReadingLaws.{Reads-answer}
 use Rattle.text_laws.specs.WrittenTokens.{IsStop, Front, put, Found, Says, word_at, colon_at, assign_at, dot_at, decimal-bytes, bound_scan}
 use Rattle.text_laws.specs.WrittenReads.{AreNamed, IsWritable, found_as, tree_said}
@@ -31,10 +33,15 @@ grouped_after : (j i k n c t a b e r : List ℕ) → j ++ i ++ k ++ n ++ c ++ t 
 grouped_after j i k n c t a b e r = simp append_assoc
 
 module _ (m ds : List Declaration) where
-  whole_said : AreNamed m ds → (t : Tree) → IsOver (length (signature ++ ds)) t → depth t ≤ max_depth → Says (λ tokens rest. IsWhole ds tokens rest t) (tree_text m 0 t)
-  whole_said n t o h =
-      let w : IsWritable m ds 0 t = record { bound = omega (arith, o.closed); kindless = o.kindless; known = o.known; few = omega (arith, h) } in
-      found_as m ds (λ tokens rest a. record { term = a; shallow = h }) (tree_said m ds n 0 t w).term
+  -- a tree by the short names that are declared before it
+  abbrev short_text : Tree → List ℕ
+  short_text t = tree_text m 0 (shortened ds t)
+
+  whole_said : AreNamed m ds → (t : Tree) → IsOver (length (signature ++ ds)) t → IsLong ds t → depth t ≤ max_depth → Says (λ tokens rest. IsWhole ds tokens rest t) (short_text t)
+  whole_said n t o l h =
+      let k = shortened-IsNoMore ds t in
+      let w : IsWritable m ds 0 (shortened ds t) = record { bound = omega (arith, k.bound, o.closed); kindless = k.kindless o.kindless; known = k.known o.known; few = omega (arith, k.shallow, h) } in
+      found_as m ds (λ tokens rest a. record { term = subst (Term ds [] tokens rest) (expanded-shortened ds t l) a; shallow = h }) (tree_said m ds n 0 (shortened ds t) w).term
 
   symbol_parts : (name ty rest : List ℕ) → [] ++ name ++ codes " : " ++ ty ++ [] ++ codes ".\n" ++ rest ≡ name ++ (32 ∷ 58 ∷ 32 ∷ (ty ++ (46 ∷ 10 ∷ rest)))
   symbol_parts name ty rest = simp (append_assoc, append-nil)
@@ -44,32 +51,32 @@ module _ (m ds : List Declaration) where
     front : Front
     colon : ℕ
     place : ℕ
-    is : tokens_from p (name ++ (32 ∷ 58 ∷ 32 ∷ (tree_text m 0 t ++ rest))) ≡ put (λ tokens. at p (Name name) ∷ at colon Colon ∷ front tokens) (tokens_from place rest)
+    is : tokens_from p (name ++ (32 ∷ 58 ∷ 32 ∷ (short_text t ++ rest))) ≡ put (λ tokens. at p (Name name) ∷ at colon Colon ∷ front tokens) (tokens_from place rest)
     holds : (tokens : List Placed) → IsWhole ds (front tokens) tokens t
 
-  typed_at : (name : List ℕ) (t : Tree) (p : ℕ) (rest : List ℕ) → IsPlainName name → Says (λ tokens rest. IsWhole ds tokens rest t) (tree_text m 0 t) → IsStop rest → IsTyped name t p rest
+  typed_at : (name : List ℕ) (t : Tree) (p : ℕ) (rest : List ℕ) → IsPlainName name → Says (λ tokens rest. IsWhole ds tokens rest t) (short_text t) → IsStop rest → IsTyped name t p rest
   typed_at name t p rest plain h stop =
-      let w = word_at p name (32 ∷ 58 ∷ 32 ∷ (tree_text m 0 t ++ rest)) plain.word refl in
+      let w = word_at p name (32 ∷ 58 ∷ 32 ∷ (short_text t ++ rest)) plain.word refl in
       let r = h (w.place + 1 + 1 + 1) rest stop in
       record {
         front = r.front;
         colon = w.place + 1;
         place = r.place;
         is = w.is
-            ∙ ap (λ token. before (at p token ∷ []) (tokens_from w.place (32 ∷ 58 ∷ 32 ∷ (tree_text m 0 t ++ rest)))) plain.no_key
-            ∙ ap (before (at p (Name name) ∷ [])) (colon_at w.place (tree_text m 0 t ++ rest))
+            ∙ ap (λ token. before (at p token ∷ []) (tokens_from w.place (32 ∷ 58 ∷ 32 ∷ (short_text t ++ rest)))) plain.no_key
+            ∙ ap (before (at p (Name name) ∷ [])) (colon_at w.place (short_text t ++ rest))
             ∙ ap (put (λ tokens. at p (Name name) ∷ at (w.place + 1) Colon ∷ tokens)) r.is;
         holds = r.holds;
       }
 
   -- what is read of a declaration's text
-  symbol_found : (name : List ℕ) (ty : Tree) (p : ℕ) (rest : List ℕ) → IsPlainName name → IsNew ds name → Says (λ tokens rest. IsWhole ds tokens rest ty) (tree_text m 0 ty) → Found (λ tokens rest. Declares ds tokens rest (record { name = name; form = Symbol; ty = ty; body = None })) p ([] ++ name ++ codes " : " ++ tree_text m 0 ty ++ [] ++ codes ".\n") rest
+  symbol_found : (name : List ℕ) (ty : Tree) (p : ℕ) (rest : List ℕ) → IsPlainName name → IsNew ds name → Says (λ tokens rest. IsWhole ds tokens rest ty) (short_text ty) → Found (λ tokens rest. Declares ds tokens rest (record { name = name; form = Symbol; ty = ty; body = None })) p ([] ++ name ++ codes " : " ++ short_text ty ++ [] ++ codes ".\n") rest
   symbol_found name ty p rest plain new h =
       let r = typed_at name ty p (46 ∷ 10 ∷ rest) plain h refl in
       record {
         front = λ tokens. at p (Name name) ∷ at r.colon Colon ∷ r.front (at r.place Dot ∷ tokens);
         place = r.place + 1 + 1;
-        is = ap (tokens_from p) (symbol_parts name (tree_text m 0 ty) rest)
+        is = ap (tokens_from p) (symbol_parts name (short_text ty) rest)
             ∙ r.is
             ∙ ap (put (λ tokens. at p (Name name) ∷ at r.colon Colon ∷ r.front tokens)) (dot_at r.place rest);
         holds = λ tokens. symbol_declaration new (r.holds (at r.place Dot ∷ tokens));
@@ -83,14 +90,14 @@ module _ (m ds : List Declaration) where
     assign : ℕ
     dot : ℕ
     place : ℕ
-    is : tokens_from p (name ++ (32 ∷ 58 ∷ 32 ∷ (tree_text m 0 ty ++ (32 ∷ 58 ∷ 61 ∷ 32 ∷ (tree_text m 0 body ++ (46 ∷ 10 ∷ rest))))))
+    is : tokens_from p (name ++ (32 ∷ 58 ∷ 32 ∷ (short_text ty ++ (32 ∷ 58 ∷ 61 ∷ 32 ∷ (short_text body ++ (46 ∷ 10 ∷ rest))))))
         ≡ put (λ tokens. at p (Name name) ∷ at colon Colon ∷ front (at assign Assign ∷ between (at dot Dot ∷ tokens))) (tokens_from place rest)
     ty_holds : (tokens : List Placed) → IsWhole ds (front tokens) tokens ty
     body_holds : (tokens : List Placed) → IsWhole ds (between tokens) tokens body
 
-  bodied_at : (name : List ℕ) (ty body : Tree) (p : ℕ) (rest : List ℕ) → IsPlainName name → Says (λ tokens rest. IsWhole ds tokens rest ty) (tree_text m 0 ty) → Says (λ tokens rest. IsWhole ds tokens rest body) (tree_text m 0 body) → IsBodied name ty body p rest
+  bodied_at : (name : List ℕ) (ty body : Tree) (p : ℕ) (rest : List ℕ) → IsPlainName name → Says (λ tokens rest. IsWhole ds tokens rest ty) (short_text ty) → Says (λ tokens rest. IsWhole ds tokens rest body) (short_text body) → IsBodied name ty body p rest
   bodied_at name ty body p rest plain h k =
-      let r = typed_at name ty p (32 ∷ 58 ∷ 61 ∷ 32 ∷ (tree_text m 0 body ++ (46 ∷ 10 ∷ rest))) plain h refl in
+      let r = typed_at name ty p (32 ∷ 58 ∷ 61 ∷ 32 ∷ (short_text body ++ (46 ∷ 10 ∷ rest))) plain h refl in
       let s = k (r.place + 1 + 1 + 1 + 1) (46 ∷ 10 ∷ rest) refl in
       record {
         front = r.front;
@@ -100,7 +107,7 @@ module _ (m ds : List Declaration) where
         dot = s.place;
         place = s.place + 1 + 1;
         is = r.is
-            ∙ ap (put (λ tokens. at p (Name name) ∷ at r.colon Colon ∷ r.front tokens)) (assign_at r.place (tree_text m 0 body ++ (46 ∷ 10 ∷ rest)))
+            ∙ ap (put (λ tokens. at p (Name name) ∷ at r.colon Colon ∷ r.front tokens)) (assign_at r.place (short_text body ++ (46 ∷ 10 ∷ rest)))
             ∙ ap (put (λ tokens. at p (Name name) ∷ at r.colon Colon ∷ r.front (at (r.place + 1) Assign ∷ tokens))) s.is
             ∙ ap (put (λ tokens. at p (Name name) ∷ at r.colon Colon ∷ r.front (at (r.place + 1) Assign ∷ s.front tokens))) (dot_at s.place rest);
         ty_holds = r.holds;
@@ -110,44 +117,44 @@ module _ (m ds : List Declaration) where
   definition_parts : (name ty body rest : List ℕ) → codes "def " ++ name ++ codes " : " ++ ty ++ (codes " := " ++ body) ++ codes ".\n" ++ rest ≡ codes "def" ++ (32 ∷ (name ++ (32 ∷ 58 ∷ 32 ∷ (ty ++ (32 ∷ 58 ∷ 61 ∷ 32 ∷ (body ++ (46 ∷ 10 ∷ rest)))))))
   definition_parts name ty body rest = grouped (codes "def ") name (codes " : ") ty (codes " := ") body (codes ".\n") rest
 
-  definition_found : (name : List ℕ) (ty body : Tree) (p : ℕ) (rest : List ℕ) → IsPlainName name → IsNew ds name → Says (λ tokens rest. IsWhole ds tokens rest ty) (tree_text m 0 ty) → Says (λ tokens rest. IsWhole ds tokens rest body) (tree_text m 0 body) → Found (λ tokens rest. Declares ds tokens rest (record { name = name; form = Def; ty = ty; body = Some body })) p (codes "def " ++ name ++ codes " : " ++ tree_text m 0 ty ++ (codes " := " ++ tree_text m 0 body) ++ codes ".\n") rest
+  definition_found : (name : List ℕ) (ty body : Tree) (p : ℕ) (rest : List ℕ) → IsPlainName name → IsNew ds name → Says (λ tokens rest. IsWhole ds tokens rest ty) (short_text ty) → Says (λ tokens rest. IsWhole ds tokens rest body) (short_text body) → Found (λ tokens rest. Declares ds tokens rest (record { name = name; form = Def; ty = ty; body = Some body })) p (codes "def " ++ name ++ codes " : " ++ short_text ty ++ (codes " := " ++ short_text body) ++ codes ".\n") rest
   definition_found name ty body p rest plain new h k =
-      let w = word_at p (codes "def") (32 ∷ (name ++ (32 ∷ 58 ∷ 32 ∷ (tree_text m 0 ty ++ (32 ∷ 58 ∷ 61 ∷ 32 ∷ (tree_text m 0 body ++ (46 ∷ 10 ∷ rest))))))) (record { first = 100; more = codes "ef"; is = refl; letter = refl; bytes = refl }) refl in
+      let w = word_at p (codes "def") (32 ∷ (name ++ (32 ∷ 58 ∷ 32 ∷ (short_text ty ++ (32 ∷ 58 ∷ 61 ∷ 32 ∷ (short_text body ++ (46 ∷ 10 ∷ rest))))))) (record { first = 100; more = codes "ef"; is = refl; letter = refl; bytes = refl }) refl in
       let r = bodied_at name ty body (w.place + 1) rest plain h k in
       record {
         front = λ tokens. at p DefWord ∷ at (w.place + 1) (Name name) ∷ at r.colon Colon ∷ r.front (at r.assign Assign ∷ r.between (at r.dot Dot ∷ tokens));
         place = r.place;
-        is = ap (tokens_from p) (definition_parts name (tree_text m 0 ty) (tree_text m 0 body) rest) ∙ w.is ∙ ap (before (at p DefWord ∷ [])) r.is;
+        is = ap (tokens_from p) (definition_parts name (short_text ty) (short_text body) rest) ∙ w.is ∙ ap (before (at p DefWord ∷ [])) r.is;
         holds = λ tokens. definition new (r.ty_holds (at r.assign Assign ∷ r.between (at r.dot Dot ∷ tokens))) (r.body_holds (at r.dot Dot ∷ tokens));
       }
 
   theorem_parts : (number name ty body rest : List ℕ) → codes "(; bound " ++ number ++ codes " ;)\nthm " ++ name ++ codes " : " ++ ty ++ (codes " := " ++ body) ++ codes ".\n" ++ rest ≡ codes "(; bound " ++ (number ++ (codes " ;)\n" ++ (codes "thm" ++ (32 ∷ (name ++ (32 ∷ 58 ∷ 32 ∷ (ty ++ (32 ∷ 58 ∷ 61 ∷ 32 ∷ (body ++ (46 ∷ 10 ∷ rest))))))))))
   theorem_parts number name ty body rest = grouped_after (codes "(; bound ") number (codes " ;)\nthm ") name (codes " : ") ty (codes " := ") body (codes ".\n") rest
 
-  theorem_found : (bound : ℕ) (name : List ℕ) (ty body : Tree) (p : ℕ) (rest : List ℕ) → IsPlainName name → IsNew ds name → Says (λ tokens rest. IsWhole ds tokens rest ty) (tree_text m 0 ty) → Says (λ tokens rest. IsWhole ds tokens rest body) (tree_text m 0 body) → Found (λ tokens rest. Declares ds tokens rest (record { name = name; form = Thm; ty = ty; body = Some body })) p (codes "(; bound " ++ decimal bound ++ codes " ;)\nthm " ++ name ++ codes " : " ++ tree_text m 0 ty ++ (codes " := " ++ tree_text m 0 body) ++ codes ".\n") rest
+  theorem_found : (bound : ℕ) (name : List ℕ) (ty body : Tree) (p : ℕ) (rest : List ℕ) → IsPlainName name → IsNew ds name → Says (λ tokens rest. IsWhole ds tokens rest ty) (short_text ty) → Says (λ tokens rest. IsWhole ds tokens rest body) (short_text body) → Found (λ tokens rest. Declares ds tokens rest (record { name = name; form = Thm; ty = ty; body = Some body })) p (codes "(; bound " ++ decimal bound ++ codes " ;)\nthm " ++ name ++ codes " : " ++ short_text ty ++ (codes " := " ++ short_text body) ++ codes ".\n") rest
   theorem_found bound name ty body p rest plain new h k =
-      let more = 32 ∷ (name ++ (32 ∷ 58 ∷ 32 ∷ (tree_text m 0 ty ++ (32 ∷ 58 ∷ 61 ∷ 32 ∷ (tree_text m 0 body ++ (46 ∷ 10 ∷ rest)))))) in
+      let more = 32 ∷ (name ++ (32 ∷ 58 ∷ 32 ∷ (short_text ty ++ (32 ∷ 58 ∷ 61 ∷ 32 ∷ (short_text body ++ (46 ∷ 10 ∷ rest)))))) in
       let c = bound_scan p (decimal bound) (codes "thm" ++ more) (decimal-bytes bound) in
       let w = word_at c.place (codes "thm") more (record { first = 116; more = codes "hm"; is = refl; letter = refl; bytes = refl }) refl in
       let r = bodied_at name ty body (w.place + 1) rest plain h k in
       record {
         front = λ tokens. at c.place ThmWord ∷ at (w.place + 1) (Name name) ∷ at r.colon Colon ∷ r.front (at r.assign Assign ∷ r.between (at r.dot Dot ∷ tokens));
         place = r.place;
-        is = ap (tokens_from p) (theorem_parts (decimal bound) name (tree_text m 0 ty) (tree_text m 0 body) rest) ∙ c.is ∙ w.is ∙ ap (before (at c.place ThmWord ∷ [])) r.is;
+        is = ap (tokens_from p) (theorem_parts (decimal bound) name (short_text ty) (short_text body) rest) ∙ c.is ∙ w.is ∙ ap (before (at c.place ThmWord ∷ [])) r.is;
         holds = λ tokens. theorem new (r.ty_holds (at r.assign Assign ∷ r.between (at r.dot Dot ∷ tokens))) (r.body_holds (at r.dot Dot ∷ tokens));
       }
 
   -- what is read of any declaration's text
-  by_form : AreNamed m ds → (form : Form) (name : List ℕ) (ty : Tree) (body : Option Tree) (bound p : ℕ) (rest : List ℕ) → IsPlainName name → IsNew ds name → Says (λ tokens rest. IsWhole ds tokens rest ty) (tree_text m 0 ty) → IsBodyOver (length (signature ++ ds)) form body → IsBodyShallow body → Found (λ tokens rest. Declares ds tokens rest (record { name = name; form = form; ty = ty; body = body })) p (declaration_text m (record { name = name; form = form; ty = ty; body = body }) bound) rest
-  by_form n Symbol name ty None bound p rest plain new h o k = symbol_found name ty p rest plain new h
-  by_form n Symbol name ty (Some t) bound p rest plain new h o k = absurd (cc)
-  by_form n Def name ty None bound p rest plain new h o k = absurd o
-  by_form n Def name ty (Some t) bound p rest plain new h o k = definition_found name ty t p rest plain new h (whole_said n t o k)
-  by_form n Thm name ty None bound p rest plain new h o k = absurd o
-  by_form n Thm name ty (Some t) bound p rest plain new h o k = theorem_found bound name ty t p rest plain new h (whole_said n t o k)
+  by_form : AreNamed m ds → (form : Form) (name : List ℕ) (ty : Tree) (body : Option Tree) (bound p : ℕ) (rest : List ℕ) → IsPlainName name → IsNew ds name → Says (λ tokens rest. IsWhole ds tokens rest ty) (short_text ty) → IsBodyOver (length (signature ++ ds)) form body → IsBodyLong ds body → IsBodyShallow body → Found (λ tokens rest. Declares ds tokens rest (record { name = name; form = form; ty = ty; body = body })) p (declaration_text m (shortened_declaration ds (record { name = name; form = form; ty = ty; body = body })) bound) rest
+  by_form n Symbol name ty None bound p rest plain new h o l k = symbol_found name ty p rest plain new h
+  by_form n Symbol name ty (Some t) bound p rest plain new h o l k = absurd (cc)
+  by_form n Def name ty None bound p rest plain new h o l k = absurd o
+  by_form n Def name ty (Some t) bound p rest plain new h o l k = definition_found name ty t p rest plain new h (whole_said n t o l k)
+  by_form n Thm name ty None bound p rest plain new h o l k = absurd o
+  by_form n Thm name ty (Some t) bound p rest plain new h o l k = theorem_found bound name ty t p rest plain new h (whole_said n t o l k)
 
-  declaration_found : AreNamed m ds → (d : Declaration) (bound p : ℕ) (rest : List ℕ) → IsPlainName d.name → MayFollow (signature ++ ds) d → depth d.ty ≤ max_depth → IsBodyShallow d.body → Found (λ tokens rest. Declares ds tokens rest d) p (declaration_text m d bound) rest
-  declaration_found n d bound p rest plain f h k = by_form n d.form d.name d.ty d.body bound p rest plain f.new_name (whole_said n d.ty f.ty h) f.body k
+  declaration_found : AreNamed m ds → (d : Declaration) (bound p : ℕ) (rest : List ℕ) → IsPlainName d.name → MayFollow (signature ++ ds) d → IsLong ds d.ty → IsBodyLong ds d.body → depth d.ty ≤ max_depth → IsBodyShallow d.body → Found (λ tokens rest. Declares ds tokens rest d) p (declaration_text m (shortened_declaration ds d) bound) rest
+  declaration_found n d bound p rest plain f l j h k = by_form n d.form d.name d.ty d.body bound p rest plain f.new_name (whole_said n d.ty f.ty l h) f.body j k
 
 -- any declaration, for a place that a list lacks
 abbrev no_declaration : Declaration
@@ -300,22 +307,22 @@ read_after m ds d p text more f h =
       declares = subst (λ (s : Scanned). Completes ds s.tokens m) (sym f.is) (next (f.holds (tokens_from f.place more).tokens) r.declares);
     }
 
-read_rest : (m ds rest : List Declaration) (bounds : List ℕ) → m ≡ ds ++ rest → AreDistinct (signature ++ ds) → ArePlain (signature ++ ds) → ArePlain rest → AreShallow rest → AreDeclared (signature ++ ds) rest → length bounds ≡ length rest → (p : ℕ) → IsRead p (declarations_text m rest bounds) ds m
-read_rest m ds [] bounds e h k plain shallow f size p = record { place = p; whole = refl; declares = subst (Completes ds []) (sym (e ∙ append-nil ds)) complete }
-read_rest m ds (d ∷ rest) [] e h k plain shallow f size p = absurd (omega (arith, size))
-read_rest m ds (d ∷ rest) (bound ∷ bounds) e h k plain shallow f size p =
-    read_after m ds d p (declaration_text m d bound) (declarations_text m rest bounds)
-    (declaration_found m ds (named_in m ds (d ∷ rest) e h k) d bound p (declarations_text m rest bounds) plain.0 f.0 shallow.0 shallow.1)
+read_rest : (m ds rest : List Declaration) (bounds : List ℕ) → m ≡ ds ++ rest → AreDistinct (signature ++ ds) → ArePlain (signature ++ ds) → ArePlain rest → AreShallow rest → AreLong ds rest → AreDeclared (signature ++ ds) rest → length bounds ≡ length rest → (p : ℕ) → IsRead p (declarations_text m (shortened_after ds rest) bounds) ds m
+read_rest m ds [] bounds e h k plain shallow long f size p = record { place = p; whole = refl; declares = subst (Completes ds []) (sym (e ∙ append-nil ds)) complete }
+read_rest m ds (d ∷ rest) [] e h k plain shallow long f size p = absurd (omega (arith, size))
+read_rest m ds (d ∷ rest) (bound ∷ bounds) e h k plain shallow long f size p =
+    read_after m ds d p (declaration_text m (shortened_declaration ds d) bound) (declarations_text m (shortened_after (ds ++ d ∷ []) rest) bounds)
+    (declaration_found m ds (named_in m ds (d ∷ rest) e h k) d bound p (declarations_text m (shortened_after (ds ++ d ∷ []) rest) bounds) plain.0 f.0 long.0 long.1 shallow.0 shallow.1)
     (read_rest m (ds ++ d ∷ []) rest bounds (e ∙ sym (append_assoc ds (d ∷ []) rest))
     (subst AreDistinct (append_assoc signature ds (d ∷ [])) (distinct_push (signature ++ ds) d h f.0.new_name))
     (subst ArePlain (append_assoc signature ds (d ∷ [])) (plain_append (signature ++ ds) (d ∷ []) k (plain.0, tt)))
-    plain.1 shallow.2
+    plain.1 shallow.2 long.2
     (subst (λ w. AreDeclared w rest) (append_assoc signature ds (d ∷ [])) f.1)
     (omega (arith, size)))
 
 -- what is written of a module reads as it
 pub written_reads : WrittenReads
-written_reads m bounds f plain shallow size =
-    let r = read_rest m [] m bounds refl signature_distinct signature_plain plain shallow f size (length prelude) in
-    let read : Reads (written m bounds) m = record { text = declarations_text m m bounds; begins = refl; place = r.place; whole = r.whole; declares = r.declares } in
+written_reads m bounds f long plain shallow size =
+    let r = read_rest m [] m bounds refl signature_distinct signature_plain plain shallow long f size (length prelude) in
+    let read : Reads (written m bounds) m = record { text = declarations_text m (shortened_after [] m) bounds; begins = refl; place = r.place; whole = r.whole; declares = r.declares } in
     record { read = read; only = λ other h. cc (Reads-answer (written m bounds) other h, Reads-answer (written m bounds) m read) }

@@ -13,6 +13,7 @@ use Rattle.lp_spec.specs.Text.{is_binder, is_word, enclosed, binder_name, tree_t
 use Rattle.lp_spec.specs.Tokens.{Name, TypeWord, LeftParen, RightParen, Colon, Arrow, FatArrow, Placed, at, word_token, before, tokens_from}
 use Rattle.lp_spec.specs.Reading.{Scope, variable_of, symbol_of, Atom, variable, symbol, sort, enclosed as enclosed_atom, Arguments, none, argument, Application, application, Term, product, abstraction, plain}
 use Rattle.lp_spec.specs.TextLaws.{IsWordText, IsPlainName}
+use Rattle.text_laws.specs.ShortenedTrees.{expanded}
 use Rattle.text_laws.specs.WrittenTokens.{IsOpener, put, Says, word_at, paren_at, space_at, close_at, colon_at, arrow_at, fat_arrow_at, binder_name-IsWordText}
 
 -- the binders of a written tree, each by its number
@@ -59,9 +60,9 @@ module _ (m ds : List Declaration) where
   -- a tree's text is read as a term, and as an application or an atom where it is none with binders, or a single word
   pub record IsSaid (d : ℕ) (t : Tree) : Type 0 where
     pub opener : IsOpener (tree_text m d t)
-    pub term : Says (λ tokens rest. Term ds (binders d) tokens rest t) (tree_text m d t)
-    pub as_application : is_binder t ≡ false → Says (λ tokens rest. Application ds (binders d) tokens rest t) (tree_text m d t)
-    pub as_atom : is_word t ≡ true → Says (λ tokens rest. Atom ds (binders d) tokens rest t) (tree_text m d t)
+    pub term : Says (λ tokens rest. Term ds (binders d) tokens rest (expanded ds t)) (tree_text m d t)
+    pub as_application : is_binder t ≡ false → Says (λ tokens rest. Application ds (binders d) tokens rest (expanded ds t)) (tree_text m d t)
+    pub as_atom : is_word t ≡ true → Says (λ tokens rest. Atom ds (binders d) tokens rest (expanded ds t)) (tree_text m d t)
 
   word_opener : {word : List ℕ} → IsWordText word → IsOpener word
   word_opener w = record { first = w.first; more = w.more; is = w.is; other = grind (arith, common_steps, w.letter) }
@@ -103,7 +104,7 @@ module _ (m ds : List Declaration) where
   domain_says false text o h term = h refl
 
   -- a tree of one word
-  word_said : {d : ℕ} {t : Tree} → IsOpener (tree_text m d t) → Says (λ tokens rest. Atom ds (binders d) tokens rest t) (tree_text m d t) → IsSaid d t
+  word_said : {d : ℕ} {t : Tree} → IsOpener (tree_text m d t) → Says (λ tokens rest. Atom ds (binders d) tokens rest (expanded ds t)) (tree_text m d t) → IsSaid d t
   word_said o h = record {
     opener = o;
     term = found_as (λ tokens rest a. plain (application a none)) h;

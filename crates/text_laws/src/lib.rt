@@ -10,7 +10,9 @@
 //! | `FaultNames`, `FaultContexts`, `FaultMoves`, `FaultReach`, `FaultStands`, `FaultFollows`, `FaultPlaces`, `FaultLeast`, `FaultLaws` | a text is refused for a fault that it shows, the one at the least place |
 //! | `FaultLimits` | and so it is under a limit of its bytes |
 //! | `ReadingOrder` | what has been read so far can come in a module |
+//! | `ReadTrees` | no tree that is read names a definition with a short name, and short names are short for closed trees |
 //! | `PreludeLaws` | each line of the prelude says the type of its symbol |
+//! | `ShortenedTrees` | a tree as it is written, by short names, is read as the tree |
 //! | `WrittenTokens`, `WrittenReads`, `WrittenModules` | the tokens, the trees and the module that are read of what is written |
 //!
 //! A proof has a law by a call, or cites one by its path:
@@ -21,7 +23,7 @@
 //! ```
 #![tactic(auto)]
 
-ghost use Rattle.lp_spec.specs.TextLaws.{EachFaultTold, EachLimitTold, OneAnswer, PreludeReads, WrittenReads};
+ghost use Rattle.lp_spec.specs.TextLaws.{EachFaultTold, EachLimitTold, OneAnswer, PreludeReads, ReadsLong, WrittenReads};
 
 /// The law of readings: every text reads as exactly one module, or is refused for exactly one fault.
 pub fn one_answer()
@@ -50,4 +52,10 @@ pub fn prelude_reads()
 /// unlike those of binders, and its trees are not too deep.
 pub fn written_reads()
     ensures { WrittenReads }
+{}
+
+/// The law of short names: no tree that is read names a definition with a short name, since such a name is read as the tree for
+/// which it is short.
+pub fn reads_long()
+    ensures { ReadsLong }
 {}

@@ -3,7 +3,7 @@ ghost use Rattle.std.specs.Prelude.{◌≡◌, ◌++◌, codes, decimal, IfOk, O
 ghost use Rattle.hol_spec.specs.Mangling.{mangled};
 ghost use Rattle.holide_sig.specs.Modules.{declarations_of, symbol_number};
 ghost use Rattle.module_spec.specs.Image.{input_operator_name};
-ghost use Rattle.module_spec.specs.Numerals.{numeral};
+ghost use Rattle.lp_spec.specs.Numerals.{numeral};
 ghost use Rattle.translate_term.specs.Told.{told_constant, told_operator};
 
 use crate::nodes::{ARR, BOOL, EQ, IND, SELECT};

@@ -4,7 +4,7 @@ use Rattle.std.specs.List.{position_or_len}
 use Rattle.std.proofs.lemmas.Result.{IfOk-weaker}
 use Rattle.hol_rules.specs.Views.{step_at}
 use Rattle.module_spec.specs.Image.{unexported_name}
-use Rattle.module_spec.specs.Numerals.{numeral}
+use Rattle.lp_spec.specs.Numerals.{numeral}
 use Rattle.rule_proofs.proofs.PlaceOf.{place-is_in, place-not_in, place-position_or_len}
 use Rattle.rule_proofs.proofs.names.step_name.Goals as goal
 

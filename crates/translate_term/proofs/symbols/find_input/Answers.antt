@@ -2,7 +2,7 @@ use Rattle.std.proofs.Common.{◌∙◌, ◌++◌, [], ◌∷◌, append_assoc, 
 use Rattle.std.proofs.lemmas.Result.{IfOk-weaker}
 use Rattle.hol_spec.specs.Mangling.{mangled}
 use Rattle.holide_sig.specs.Modules.{declarations_of, symbol_number}
-use Rattle.module_spec.specs.Numerals.{numeral}
+use Rattle.lp_spec.specs.Numerals.{numeral}
 use Rattle.translate_term.proofs.symbols.find_input.Goals as goal
 
 pub returns : goal.returns
