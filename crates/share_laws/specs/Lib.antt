@@ -1,0 +1,17 @@
+pub mod FoldStatements
+pub mod AbbreviationLaws
+pub mod AbbreviationsKept
+pub mod FoldedAbbreviations
+pub mod FoldedModules
+pub mod FoldedShapes
+pub mod FoldedStandsLaws
+pub mod FoldedTexts
+pub mod FoldedWeights
+pub mod MovedLaws
+pub mod MovedMeanings
+pub mod MovedShapes
+pub mod MovedSteps
+pub mod WrittenOnceLaws
+pub mod PlacesByNodes
+pub mod NumberedTrees
+pub mod FirstsByNodes

@@ -1,0 +1,5 @@
+pub mod Abbreviations
+pub mod Folded
+pub mod MovedTrees
+pub mod WrittenOnce
+pub mod FoldedStands
