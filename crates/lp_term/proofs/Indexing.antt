@@ -13,7 +13,13 @@ use Rattle.lp_term.specs.declared.shapes.Slot.{Slot}
 use Rattle.lp_term.specs.declared.shapes.Slot.TheVariants as slot
 use Rattle.lp_term.specs.Shapes.{node_of}
 use Rattle.lp_term.specs.Tables.{PartsBelow}
-use Rattle.lp_term.specs.Indexed.{greater_part, nothing, no_children, with_child, IsChild, HasRoom, Has, Lacks, IsFull, IsWith, IsApart, IsIndexed, Finds, FindsOther}
+use Rattle.std.specs.Prelude.{IfSome}
+use Rattle.std.proofs.lemmas.Map.Entries.{hash_map_get_place}
+use Rattle.indexmap.specs.IndexMap.{IndexMap, Updates}
+use Rattle.lp_term.specs.contracts.shape.ShapePartialEq.TheImpl as shape_eq
+use Rattle.lp_term.specs.contracts.shape.ShapeEq.TheImpl.Laws.{laws-law}
+use Rattle.lp_term.specs.ShapeLaws.{same_shape}
+use Rattle.lp_term.specs.Indexed.{kept_in, IsFrom, greater_part, nothing, no_children, with_child, IsChild, HasRoom, Has, Lacks, IsFull, IsWith, IsApart, IsIndexed, Finds, FindsOther}
 
 -- an item of a list in which one was set
 slice_get-set : {X : Type 0} (xs : List X) (p : ℕ) (x : X) → p < length xs → slice_get (slice_set xs p x) p ≡ Some x
@@ -163,11 +169,25 @@ slice_get-take (suc n) [] i h = refl
 slice_get-take (suc n) (x ∷ xs) zero h = refl
 slice_get-take (suc n) (x ∷ xs) (suc i) h = slice_get-take n xs i (omega (arith, h))
 
-pub IsIndexed-take : (n : ℕ) (shapes : List Shape) (children : List Children) (kept : Shape → Option ℕ) → IsIndexed shapes children kept → IsIndexed (take n shapes) (take n children) kept
-IsIndexed-take n shapes children kept t = record { each = each; lower = λ i s p h g. t.lower i s p (slice_get-of_take n shapes i s h) g; count = omega (arith, t.count, length-take n shapes, length-take n children); few = omega (arith, t.few, length-take n shapes) }
+pub IsIndexed-take : (n : ℕ) (shapes : List Shape) (children : List Children) (kept less : Shape → Option ℕ) → IsIndexed shapes children kept → ((s : Shape) (i : ℕ) → i < n → kept s ≡ Some i → less s ≡ Some i) → IsIndexed (take n shapes) (take n children) less
+IsIndexed-take n shapes children kept less t stay = record { each = each; lower = λ i s p h g. t.lower i s p (slice_get-of_take n shapes i s h) g; count = omega (arith, t.count, length-take n shapes, length-take n children); few = omega (arith, t.few, length-take n shapes) }
   where
-    each : (i : ℕ) (s : Shape) → Has (take n shapes) i s → IsWith (take n children) s i ⊎ IsApart (take n children) kept s i
+    each : (i : ℕ) (s : Shape) → Has (take n shapes) i s → IsWith (take n children) s i ⊎ IsApart (take n children) less s i
     each i s h = ⊎_elim
         (λ w. inl (record { part = w.part; with = w.with; greater = w.greater; at = slice_get-take n children w.part (let l = t.lower i s w.part (slice_get-of_take n shapes i s h) w.greater in let k = slice_get_within (take n shapes) i s h in omega (arith, l, k, length-take n shapes)) ∙ w.at; child = w.child }))
-        (λ a. inr (record { found = a.found; full = λ p c g e r. a.full p c g (slice_get-of_take n children p c e) r }))
+        (λ a. inr (record { found = stay s i (let k = slice_get_within (take n shapes) i s h in omega (arith, k, length-take n shapes)) a.found; full = λ p c g e r. a.full p c g (slice_get-of_take n children p c e) r }))
         (t.each i s (slice_get-of_take n shapes i s h))
+
+-- a hash table tells the lower numbers as before, once an entry with a higher one has gone
+pub kept_in-gone : {S : Type 0} (old new : IndexMap Shape ℕ S) (place len : ℕ) (gone : Option (Shape × ℕ)) → IsFrom old place len → gone ≡ slice_get old.entries place → IfSome gone (λ e. Updates shape_eq.eq-value.it old new e.0 None) → (s : Shape) (n : ℕ) → n < len → kept_in old s ≡ Some n → kept_in new s ≡ Some n
+kept_in-gone old new place len gone f is updates s n low k = go (shape_eq.eq-value.it f.entry.0 s) refl
+  where
+    changed : Updates shape_eq.eq-value.it old new f.entry.0 None
+    changed = subst (λ (o : Option (Shape × ℕ)). IfSome o (λ e. Updates shape_eq.eq-value.it old new e.0 None)) (is ∙ f.at) updates
+
+    go : (b : Bool) → shape_eq.eq-value.it f.entry.0 s ≡ b → kept_in new s ≡ Some n
+    go true e =
+        let here : kept_in old f.entry.0 ≡ Some f.entry.1 = hash_map_get_place laws-law old place f.entry.0 f.entry.1 f.unique f.at in
+        let same : n ≡ f.entry.1 = same_Some n f.entry.1 (sym k ∙ ap (kept_in old) (sym (same_shape f.entry.0 s e)) ∙ here) in
+        absurd (omega (arith, low, same, f.from))
+    go false e = changed.2 s e ∙ k

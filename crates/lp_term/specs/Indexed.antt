@@ -1,6 +1,6 @@
 -- Where a shape is found among shapes by number.
-use Rattle.std.specs.Prelude.{◌≡◌, ◌⊎◌, ℕ, ◌<◌, ◌-◌, ◌^◌, ◌==◌, max, if◌then◌else◌, List, length, Option, None, Some, slice_get}
-use Rattle.indexmap.specs.IndexMap.{IndexMap, get}
+use Rattle.std.specs.Prelude.{◌≡◌, ◌⊎◌, ℕ, ◌<◌, ◌≤◌, ◌-◌, ◌^◌, ◌==◌, max, if◌then◌else◌, List, length, Option, None, Some, slice_get}
+use Rattle.indexmap.specs.IndexMap.{IndexMap, get, IsUnique}
 use Rattle.lp_term.specs.declared.shape.Shape.{Shape}
 use Rattle.lp_term.specs.declared.shape.Shape.TheVariants as shape
 use Rattle.lp_term.specs.declared.shapes.Children.{Children}
@@ -21,6 +21,13 @@ greater_part (shape.Pi a b) = Some (max a b)
 -- the number that a hash table has for a shape
 abbrev pub kept_in : {S : Type 0} → IndexMap Shape ℕ S → Shape → Option ℕ
 kept_in others s = get shape_eq.eq-value.it others s
+
+-- at this place of a hash table, which has no shape twice, stands a number of n or more
+pub record IsFrom {S : Type 0} (others : IndexMap Shape ℕ S) (place n : ℕ) : Type 0 where
+  pub unique : IsUnique shape_eq.eq-value.it others
+  pub entry : Shape × ℕ
+  pub at : slice_get others.entries place ≡ Some entry
+  pub from : n ≤ entry.1
 
 -- the number of no shape
 abbrev pub nothing : ℕ

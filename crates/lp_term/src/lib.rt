@@ -213,8 +213,8 @@ impl LpTable {
         &self.measures[id.0]
     }
 
-    // Gives up all trees from the number `len` on.
-    pub(crate) fn cut(&mut self, len: usize)
+    /// Gives up all trees from the number `len` on. Those below keep their numbers.
+    pub fn cut(&mut self, len: usize)
         requires { len ≤ length self.old }
         ensures { self.new ≡ take len self.old }
     {
@@ -222,7 +222,8 @@ impl LpTable {
         self.measures.truncate(len);
     }
 
-    pub(crate) fn count(&self) -> usize
+    /// How many trees it has.
+    pub fn count(&self) -> usize
         ensures count { result ≡ length self.now }
         ensures distinct { IsDistinct self.now }
     {

@@ -8,7 +8,7 @@ ghost use Rattle.std.specs.Bool.{OnTrue, OnFalse};
 ghost use Rattle.lp_term.specs.Columns.{IsInserted};
 ghost use Rattle.lp_term.specs.declared.shape.Shape.{Shape as AShape};
 ghost use Rattle.lp_term.specs.declared.shapes.Children.{Children as AChildren};
-ghost use Rattle.lp_term.specs.Indexed.{greater_part as greater_part_of, kept_in, no_children, with_child, Has, Finds, FindsOther, IsIndexed};
+ghost use Rattle.lp_term.specs.Indexed.{greater_part as greater_part_of, kept_in, no_children, with_child, Has, Finds, FindsOther, IsFrom, IsIndexed};
 
 use crate::shape::Shape;
 use bridge_base::Memory;
@@ -117,6 +117,7 @@ impl Shapes {
     {
         self.shapes.truncate(len);
         self.children.truncate(len);
+        forget(&mut self.others, len);
     }
 }
 
@@ -293,4 +294,26 @@ fn put_apart(
     others.insert(shape, number)?;
     push(shapes, children, shape)?;
     Ok(number)
+}
+
+// Takes the last shapes out of the hash table, as long as their numbers are `len` or more.
+fn forget(others: &mut IndexMap<Shape, u32>, len: usize)
+    ensures lower_stay { (s : AShape) (n : ℕ) → n < len → kept_in others.old s ≡ Some n → kept_in others.new s ≡ Some n }
+{
+    while let Some(place) = last_from(others, len) {
+        others.swap_remove_index(place);
+    }
+}
+
+// The place of the last shape in the hash table, if its number is `len` or more.
+fn last_from(others: &IndexMap<Shape, u32>, len: usize) -> Option<usize>
+    ensures { IfSome result (λ place. IsFrom others.now place len) }
+{
+    let place = others.len().checked_sub(1)?;
+    let (_shape, number) = others.get_index(place)?;
+    if *number as usize >= len {
+        Some(place)
+    } else {
+        None
+    }
 }
