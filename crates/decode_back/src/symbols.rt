@@ -6,7 +6,7 @@ ghost use Rattle.lp_spec.specs.Trees.{tree_eq};
 ghost use Rattle.lp_spec.specs.Modules.{signature, symbol_name, symbol_type, products, types};
 ghost use Rattle.lp_term.specs.Tables.{tree_at};
 ghost use Rattle.holide_sig.specs.Modules.{declarations_of, IsHeld};
-ghost use Rattle.module_spec.specs.Numerals.{numeral};
+ghost use Rattle.lp_spec.specs.Numerals.{numeral};
 ghost use Rattle.decode_spec.specs.Options.{or_else};
 ghost use Rattle.decode_spec.specs.Decode.{behind, name_behind as name_told, is_lacking, has_type, named_operator, operator_at as operator_meant};
 

@@ -3,6 +3,7 @@ use Rattle.std.proofs.Common.{◌≡◌, ℕ, refl, sym, ap, subst, ◌∙◌, L
 use Rattle.lp_spec.specs.Modules.{Declaration}
 use Rattle.lp_spec.specs.Tokens as tokens
 use Rattle.lp_spec.specs.ReadingFaults as reading
+use Rattle.lp_spec.specs.ModuleOrder.{IsModule}
 use Rattle.text_laws.specs.ReadingOrder.{IsState, IsOrdered, advance-IsOrdered}
 use Rattle.dk_read.specs.declared.faults.Stop.{Stop}
 use Rattle.dk_read.specs.declared.parser.Parser.{Parser}
@@ -15,12 +16,12 @@ use Rattle.dk_read.proofs.Grown.{known-Grows, state-Grows}
 use Rattle.dk_read.specs.Texts.{Takes, Closes}
 
 -- a token leaves the reading in order
-pub next_ordered : (old new : Parser) (p : ℕ) (token : tokens.Token) → IsState (before old) (state_of old) → reading.advance (before old) (state_of old) p token ≡ reading.Goes (before new) (state_of new) → IsState (before new) (state_of new)
-next_ordered old new p token h e = subst IsOrdered e (advance-IsOrdered (before old) (state_of old) p token h)
+pub next_ordered : (old new : Parser) (p : ℕ) (token : tokens.Token) → IsModule (before old) → IsState (before old) (state_of old) → reading.advance (before old) (state_of old) p token ≡ reading.Goes (before new) (state_of new) → IsState (before new) (state_of new)
+next_ordered old new p token o h e = subst IsOrdered e (advance-IsOrdered (before old) o (state_of old) p token h)
 
-pub reading_ready : (old new : Parser) (p : ℕ) (token : tokens.Token) (r : Result (Unit {0}) Stop) → IsState (before old) (state_of old) → Becomes (reading.advance (before old) (state_of old) p token) new r → OnOk r (IsReady new) → OnOk r (IsReading new)
-reading_ready old new p token (Ok u) h e k = record { ready = k; ordered = next_ordered old new p token h e }
-reading_ready old new p token (Err f) h e k = tt
+pub reading_ready : (old new : Parser) (p : ℕ) (token : tokens.Token) (r : Result (Unit {0}) Stop) → IsModule (before old) → IsState (before old) (state_of old) → Becomes (reading.advance (before old) (state_of old) p token) new r → OnOk r (IsReady new) → OnOk r (IsReading new)
+reading_ready old new p token (Ok u) o h e k = record { ready = k; ordered = next_ordered old new p token o h e }
+reading_ready old new p token (Err f) o h e k = tt
 
 -- a reading goes on over names that have grown
 pub reading_grows : (old new : Parser) → Grows old new → IsReading old → IsReading new

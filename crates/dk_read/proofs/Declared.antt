@@ -8,6 +8,7 @@ use Rattle.lp_spec.specs.Modules.{Declaration, signature}
 use Rattle.lp_spec.specs.ModuleOrder.{MayFollow}
 use Rattle.lp_spec.specs.Tokens as tokens
 use Rattle.lp_spec.specs.ReadingFaults as reading
+use Rattle.lp_spec.specs.ModuleOrder.{IsModule}
 use Rattle.text_laws.specs.ReadingOrder.{IsOrdered, meaning-IsUnder, IsState, IsHead, IsUnder, whole-IsUnder, symbol_follows, body_follows}
 use Rattle.lp_term.specs.declared.LpId.{LpId}
 use Rattle.lp_term.specs.Tables.{tree_at, Holds}
@@ -111,8 +112,8 @@ first_goes m h frames q name p ns token.Colon n = absurd n
 first_goes m h frames q name p ns _ n = refl
 
 -- an identifier that means a tree, over a table that has grown
-pub first_ordered : (old one : Parser) (name : List ℕ) (x : Tree) (q : ℕ) → Grows old one → IsState (before old) (reading.AfterFirst (head_of old) (frames_of old) q name) → reading.meaning (before old) (frames_of old) name ≡ Some x → IsState (before one) (reading.InApplication (head_of one) (frames_of one) (Some x))
-first_ordered old one name x q g st e = subst IsOrdered (grown_atom old one None x g tt) (st.0, st.1, meaning-IsUnder (before old) (frames_of old) name x e)
+pub first_ordered : (old one : Parser) (name : List ℕ) (x : Tree) (q : ℕ) → IsModule (before old) → Grows old one → IsState (before old) (reading.AfterFirst (head_of old) (frames_of old) q name) → reading.meaning (before old) (frames_of old) name ≡ Some x → IsState (before one) (reading.InApplication (head_of one) (frames_of one) (Some x))
+first_ordered old one name x q o g st e = subst IsOrdered (grown_atom old one None x g tt) (st.0, st.1, meaning-IsUnder (before old) (frames_of old) name x o e)
 
 pub first_applies : (old one : Parser) (name : List ℕ) (x : Tree) (q p : ℕ) (t u : tokens.Token) → Grows old one → reading.meaning (before old) (frames_of old) name ≡ Some x → t ≡ u → reading.goes_on (before old) (head_of old) (frames_of old) q name (reading.meaning (before old) (frames_of old) name) p t ≡ reading.applies (before one) (head_of one) (frames_of one) (Some x) p u
 first_applies old one name x q p t u g e same =

@@ -5,7 +5,7 @@ use Rattle.std.specs.Str.{bytes_eq}
 use Rattle.std.proofs.lemmas.List.Quantifiers.{position-Some}
 use Rattle.lp_spec.specs.declared.form.Form.{Form}
 use Rattle.lp_spec.specs.Trees.{Tree, SortType, Var}
-use Rattle.lp_spec.specs.Modules.{Declaration, signature}
+use Rattle.lp_spec.specs.Modules.{Declaration, signature, symbol}
 use Rattle.lp_spec.specs.Reading.{Scope, variable_of, symbol_of}
 use Rattle.lp_spec.specs.Tokens as tokens
 use Rattle.lp_spec.specs.ReadingFaults as reading
@@ -51,22 +51,41 @@ module _ (ds : List Declaration) (x : List ℕ) where
   bound-level [] = refl
   bound-level (b ∷ scope) = bound_by b scope (bytes_eq b x) refl (bound-level scope)
 
-meant_by : (d : ℕ) (v s : Option ℕ) → ((n : ℕ) → v ≡ Some n → n < d) → meaning_tree d (level_meaning d v (symbol_meaning s)) ≡ reading.meant v s
-meant_by d (Some n) s h = let l : n < d = h n refl in ap (λ i. Some (Var i)) (omega (arith, l))
-meant_by d None (Some s) h = refl
-meant_by d None None h = refl
+meant_by : (m : List Declaration) (d : ℕ) (v s : Option ℕ) → ((n : ℕ) → v ≡ Some n → n < d) → meaning_tree m d (level_meaning d v (symbol_meaning s)) ≡ reading.meant m v s
+meant_by m d (Some n) s h = let l : n < d = h n refl in ap (λ i. Some (Var i)) (omega (arith, l))
+meant_by m d None (Some s) h = refl
+meant_by m d None None h = refl
 
 -- the tree of what a name means inside binders is what the identifier means there
-pub meaning-bound : (m : List Declaration) (scope : Scope) (x : List ℕ) → meaning_tree (length scope) (bound (signature ++ m) scope x) ≡ reading.meant (variable_of scope x) (symbol_of m x)
+pub meaning-bound : (m : List Declaration) (scope : Scope) (x : List ℕ) → meaning_tree m (length scope) (bound (signature ++ m) scope x) ≡ reading.meant m (variable_of scope x) (symbol_of m x)
 meaning-bound m scope x =
-    ap (meaning_tree (length scope)) (bound-level (signature ++ m) x scope)
-    ∙ meant_by (length scope) (variable_of scope x) (symbol_of m x) (λ n e. (position-Some (λ b. bytes_eq b x) scope n [] e).0)
+    ap (meaning_tree m (length scope)) (bound-level (signature ++ m) x scope)
+    ∙ meant_by m (length scope) (variable_of scope x) (symbol_of m x) (λ n e. (position-Some (λ b. bytes_eq b x) scope n [] e).0)
 
 -- so it is for the meaning that a reading has of it
-pub meaning_is : (p : Parser) (n : ℕ) (w : Meaning) → IsSound p → w ≡ looked p.names (name_at p.names n) → reading.meaning (before p) (frames_of p) (name_at p.names n) ≡ meaning_tree p.binders w
+pub meaning_is : (p : Parser) (n : ℕ) (w : Meaning) → IsSound p → w ≡ looked p.names (name_at p.names n) → reading.meaning (before p) (frames_of p) (name_at p.names n) ≡ meaning_tree (before p) p.binders w
 meaning_is p n w s e =
     let x = name_at p.names n in
-    sym (ap (λ d. meaning_tree d w) s.depth ∙ ap (meaning_tree (length (scope_of p))) (e ∙ s.meanings x) ∙ meaning-bound (before p) (scope_of p) x)
+    sym (ap (λ d. meaning_tree (before p) d w) s.depth ∙ ap (meaning_tree (before p) (length (scope_of p))) (e ∙ s.meanings x) ∙ meaning-bound (before p) (scope_of p) x)
+
+-- a symbol that a name means is declared
+symbol_within : (ds : List Declaration) (x : List ℕ) (o : Option ℕ) (s : ℕ) → position (λ d. bytes_eq d.name x) ds ≡ o → meaning.Symbol s ≡ symbol_meaning o → s < length ds
+symbol_within ds x None s e f = absurd (cc)
+symbol_within ds x (Some k) s e f =
+    let same : s ≡ k = cc in
+    let l : k < length ds = (position-Some (λ d. bytes_eq d.name x) ds k (symbol [] SortType) e).0 in
+    omega (arith, same, l)
+
+bound_within : (ds : List Declaration) (scope : Scope) (x : List ℕ) (s : ℕ) → meaning.Symbol s ≡ bound ds scope x → s < length ds
+bound_within ds [] x s e = symbol_within ds x (position (λ d. bytes_eq d.name x) ds) s refl e
+bound_within ds (b ∷ scope) x s e = go (bytes_eq x b) e (bound_within ds scope x s)
+  where
+    go : (t : Bool) → meaning.Symbol s ≡ (if t then meaning.Binder (length scope) else bound ds scope x) → (meaning.Symbol s ≡ bound ds scope x → s < length ds) → s < length ds
+    go true f k = absurd (cc)
+    go false f k = k f
+
+pub meaning_within : (p : Parser) (n s : ℕ) → IsSound p → meaning.Symbol s ≡ looked p.names (name_at p.names n) → s < length (signature ++ before p)
+meaning_within p n s h e = bound_within (signature ++ before p) (scope_of p) (name_at p.names n) s (e ∙ h.meanings (name_at p.names n))
 
 -- a tree that was made for what is meant
 pub means_made : (means : Option Tree) (place : ℕ) (name : List ℕ) (p : Parser) (t : Tree) (r : Result LpId Stop) → means ≡ Some t → IfOk r (λ id. Holds p.module.table id.0 t) → IfErr r (λ e. e ≡ stop.Memory) → Means means place name p r

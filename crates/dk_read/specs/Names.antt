@@ -3,7 +3,8 @@ use Rattle.std.specs.Prelude.{◌≡◌, ℕ, zero, suc, ◌-◌, ◌<◌, ◌�
 use Rattle.std.specs.List.{list_any}
 use Rattle.std.specs.Coded.{Coded, code_by, coded×, coded_list, coded_ℕ}
 use Rattle.std.specs.Str.{bytes_eq}
-use Rattle.lp_spec.specs.Trees.{Tree, Var, Sym}
+use Rattle.lp_spec.specs.Trees.{Tree, Var}
+use Rattle.lp_spec.specs.ShortNames.{named_tree}
 use Rattle.lp_spec.specs.Modules.{Declaration, signature}
 use Rattle.lp_spec.specs.Reading.{Scope}
 use Rattle.dk_read.specs.declared.terms.Meaning.{Meaning}
@@ -76,11 +77,11 @@ IsNameless ns n = (n < length ns) × (name_at ns n ≡ [])
 pub record HasSymbols (ns : List Named) (k : ℕ) : Type 0 where
   pub each : (x : List ℕ) → looked ns x ≡ bound (take k signature) [] x
 
--- the tree of a meaning inside so many binders, if it has one
-abbrev pub meaning_tree : ℕ → Meaning → Option Tree
-meaning_tree d meaning.Nothing = None
-meaning_tree d (meaning.Symbol s) = Some (Sym s)
-meaning_tree d (meaning.Binder level) = Some (Var (d - level - 1))
+-- the tree of a meaning after these declarations, inside so many binders, if it has one
+abbrev pub meaning_tree : List Declaration → ℕ → Meaning → Option Tree
+meaning_tree ds d meaning.Nothing = None
+meaning_tree ds d (meaning.Symbol s) = Some (named_tree ds s)
+meaning_tree ds d (meaning.Binder level) = Some (Var (d - level - 1))
 
 abbrev meaning_code : Meaning → ℕ × ℕ
 meaning_code meaning.Nothing = (0, 0)

@@ -1,7 +1,7 @@
 //! The reader of modules: the text of a module, in any pieces, becomes the module that it reads as.
 //!
 //! A text that reads as no module is refused for its fault at the least place, and so is one that is longer than the limit.
-//! Parentheses and binders may nest as deep as memory reaches.
+//! Parentheses and binders may nest as deep as memory reaches. A name that is short for a tree is read as that tree, which is kept once.
 //!
 //! ```
 //! let mut reader = Reader::new(alloc, Limit::Bytes(4294967296));

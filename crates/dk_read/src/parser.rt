@@ -1,5 +1,6 @@
 //! The reading of tokens: each leads from one state to the next.
 ghost use Rattle.lp_spec.specs.Modules.{signature, symbol_name};
+ghost use Rattle.lp_spec.specs.ShortNames.{named_tree};
 ghost use Rattle.std.specs.Prelude.{ℕ, ◌≡◌, ◌<◌, ◌+◌, ◌++◌, [], ◌∷◌, length, slice_get, None, Some, IfOk, IfSome, IfNone, OnOk, IfErr};
 ghost use Rattle.lp_spec.specs.ModuleOrder.{MayFollow};
 ghost use Rattle.lp_spec.specs.Trees.{Var, Sym};
@@ -219,6 +220,21 @@ impl Parser {
         self.atoms.keep(number, id);
     }
 
+    // The tree that the name of a symbol means: the one for which it is short, or else the symbol.
+    fn named(&mut self, number: usize) -> Result<LpId, Stop>
+        requires sound { IsSound self.old }
+        requires declared { number < length (signature ++ before self.old) }
+        ensures known { IfOk result (λ id. id.0 < length self.new.module.table) }
+        ensures made { IfOk result (λ id. Holds self.new.module.table id.0 (named_tree (before self.old) number)) }
+        ensures grows { Grows self.old self.new }
+        ensures memory { IfErr result (λ e. e ≡ stop.Memory) }
+    {
+        match self.module.short_body(number) {
+            Some(id) => Ok(id),
+            None => self.symbol(number),
+        }
+    }
+
     /// The tree that an identifier means.
     pub(crate) fn meaning(&mut self, place: u64, name: usize) -> Result<LpId, Stop>
         requires sound { IsSound self.old }
@@ -232,7 +248,7 @@ impl Parser {
                 let number = self.binders.saturating_sub(level).saturating_sub(1);
                 self.variable(number)
             }
-            Meaning::Symbol(symbol) => self.symbol(symbol),
+            Meaning::Symbol(symbol) => self.named(symbol),
             Meaning::Nothing => Err(Stop::UnknownName(place, name)),
         }
     }

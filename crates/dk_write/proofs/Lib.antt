@@ -2,3 +2,4 @@ pub mod GainedLaws
 pub mod FrameTexts
 pub mod DeclarationTexts
 mod Told
+mod ShortPlaces

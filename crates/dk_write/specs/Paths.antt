@@ -1,7 +1,9 @@
 -- What is left of a tree that is being written.
-use Rattle.std.specs.Prelude.{ℕ, suc, ◌+◌, ◌*◌, ◌<◌, ◌≤◌, Bool, not, if◌then◌else◌, List, [], ◌∷◌, ◌++◌, length, codes}
+use Rattle.std.specs.Prelude.{ℕ, take, suc, ◌+◌, ◌*◌, ◌<◌, ◌≤◌, Bool, not, if◌then◌else◌, List, [], ◌∷◌, ◌++◌, length, codes}
 use Rattle.lp_spec.specs.Trees.{Tree, size, depth}
+use Rattle.lp_spec.specs.ShortNames.{shortened}
 use Rattle.lp_spec.specs.Text.{enclosed, is_word, tree_text}
+use Rattle.lp_term.specs.declared.LpId.{LpId}
 use Rattle.lp_term.specs.Tables.{tree_at}
 use Rattle.holide_sig.specs.declared.module.Module.{Module}
 use Rattle.holide_sig.specs.Modules.{declarations_of}
@@ -31,27 +33,31 @@ abbrev pub IsTurn : ℕ → List Tree → List Frame → Turn → Type 0
 IsTurn most trees frames (Write p) = IsPlace most trees (length frames) p
 IsTurn most trees frames Leave = Unit {0}
 
-abbrev pub place_text : Module → Place → List ℕ
-place_text m p = tree_text (declarations_of m) p.depth (tree_at m.table p.id.0)
+-- the tree of a number as it is written after so many declarations
+abbrev pub written_tree : Module → ℕ → LpId → Tree
+written_tree m n id = shortened (take n (declarations_of m)) (tree_at m.table id.0)
+
+abbrev pub place_text : Module → ℕ → Place → List ℕ
+place_text m n p = tree_text (declarations_of m) p.depth (written_tree m n p.id)
 
 abbrev pub closing_text : Bool → List ℕ
 closing_text closes = if closes then codes ")" else []
 
 -- what a frame writes
-abbrev pub frame_text : Module → Frame → List ℕ
-frame_text m Close = codes ")"
-frame_text m (Argument p closes) = closing_text closes ++ (codes " " ++ enclosed (not (is_word (tree_at m.table p.id.0))) (place_text m p))
-frame_text m (Abstracted p closes) = closing_text closes ++ (codes " => " ++ place_text m p)
-frame_text m (Produced p closes) = closing_text closes ++ (codes " -> " ++ place_text m p)
+abbrev pub frame_text : Module → ℕ → Frame → List ℕ
+frame_text m n Close = codes ")"
+frame_text m n (Argument p closes) = closing_text closes ++ (codes " " ++ enclosed (not (is_word (written_tree m n p.id))) (place_text m n p))
+frame_text m n (Abstracted p closes) = closing_text closes ++ (codes " => " ++ place_text m n p)
+frame_text m n (Produced p closes) = closing_text closes ++ (codes " -> " ++ place_text m n p)
 
-abbrev pub frames_text : Module → List Frame → List ℕ
-frames_text m [] = []
-frames_text m (frame ∷ frames) = frame_text m frame ++ frames_text m frames
+abbrev pub frames_text : Module → ℕ → List Frame → List ℕ
+frames_text m n [] = []
+frames_text m n (frame ∷ frames) = frame_text m n frame ++ frames_text m n frames
 
 -- what is left to write
-abbrev pub left_text : Module → Turn → List Frame → List ℕ
-left_text m (Write p) frames = place_text m p ++ frames_text m frames
-left_text m Leave frames = frames_text m frames
+abbrev pub left_text : Module → ℕ → Turn → List Frame → List ℕ
+left_text m n (Write p) frames = place_text m n p ++ frames_text m n frames
+left_text m n Leave frames = frames_text m n frames
 
 -- how many turns there are left, at most
 

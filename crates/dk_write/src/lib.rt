@@ -1,5 +1,7 @@
 //! Writes modules of the lambda-Pi calculus in Dedukti's syntax.
 //!
+//! A tree for which a name that was declared before is short is written as that name: the text of a tree is as long as what is written of it.
+//!
 //! `write` puts the one text of a module to a sink, with a bound before each theorem: the whole text, or a front of it where the sink fails. It is
 //! `write_prelude`, and then `write_decl` for each declaration, for a caller that wants the text piece by piece. They take no memory: what follows
 //! the part that is being written stands in a path, which `Path::new` makes with room for the module's deepest tree. The text is gathered in an
@@ -12,8 +14,9 @@
 //! ```
 #![tactic(auto)]
 
-ghost use Rattle.std.specs.Prelude.{◌≡◌, ◌<◌, ◌^◌, [], length, option_map, OnOk, OnErr};
+ghost use Rattle.std.specs.Prelude.{◌≡◌, take, ◌<◌, ◌≤◌, ◌^◌, [], length, option_map, OnOk, OnErr};
 ghost use Rattle.bridge_base.specs.Outside.{Gains, GainsFront, HasCause};
+ghost use Rattle.lp_spec.specs.ShortNames.{shortened, shortened_declaration};
 ghost use Rattle.lp_spec.specs.Text.{body_text, declaration_text, opening, prelude, written};
 ghost use Rattle.lp_term.specs.Tables.{tree_at};
 ghost use Rattle.holide_sig.specs.Modules.{declaration_in, declarations_of, IsBodyKnown, IsKnown, IsHeld};
@@ -85,53 +88,59 @@ pub fn write_decl<S: Sink>(
     ensures cause { HasCause (S.faults sink.old) (S.faults sink.new) result }
 {
     path.clear();
-    write_by(source, source.decls.get(i), bounds[i], path, sink)
+    write_by(source, i, source.decls.get(i), bounds[i], path, sink)
 }
 
 // Writes what a declaration adds, with this path.
 fn write_by<S: Sink>(
     source: &Module,
+    before: usize,
     decl: &Decl,
     bound: u128,
     path: &mut Path,
     sink: &mut S,
 ) -> Result<(), Failed>
+    requires held { IsHeld source.now }
+    requires before { before ≤ length source.now.decls }
     requires known { IsKnown source.now.table decl.now }
     requires room { IsWithin path.old.room source.now.table decl.now }
     requires empty { path.old.frames ≡ [] }
     requires small { path.old.room < 2 ^ 64 }
     ensures room { path.new.room ≡ path.old.room }
-    ensures ok { OnOk result (Gains (S.got sink.old) (declaration_text (declarations_of source.now) (declaration_in source.now.table decl.now) bound) (S.got sink.new)) }
-    ensures err { OnErr result (GainsFront (S.got sink.old) (declaration_text (declarations_of source.now) (declaration_in source.now.table decl.now) bound) (S.got sink.new)) }
+    ensures ok { OnOk result (Gains (S.got sink.old) (declaration_text (declarations_of source.now) (shortened_declaration (take before (declarations_of source.now)) (declaration_in source.now.table decl.now)) bound) (S.got sink.new)) }
+    ensures err { OnErr result (GainsFront (S.got sink.old) (declaration_text (declarations_of source.now) (shortened_declaration (take before (declarations_of source.now)) (declaration_in source.now.table decl.now)) bound) (S.got sink.new)) }
     ensures cause { HasCause (S.faults sink.old) (S.faults sink.new) result }
 {
     let mut gathered = Gathered::new();
-    write_declaration(source, decl, bound, path, &mut gathered, sink)?;
+    write_declaration(source, before, decl, bound, path, &mut gathered, sink)?;
     gathered.flush(sink)
 }
 
 // Writes the line of a declaration, for a theorem with its bound on the line before.
 fn write_declaration<S: Sink>(
     source: &Module,
+    before: usize,
     decl: &Decl,
     bound: u128,
     path: &mut Path,
     gathered: &mut Gathered,
     sink: &mut S,
 ) -> Result<(), Failed>
+    requires held { IsHeld source.now }
+    requires before { before ≤ length source.now.decls }
     requires known { IsKnown source.now.table decl.now }
     requires room { IsWithin path.old.room source.now.table decl.now }
     requires empty { path.old.frames ≡ [] }
     requires small { path.old.room < 2 ^ 64 }
     ensures room { path.new.room ≡ path.old.room }
     ensures writes { Writes (S.got sink.old) gathered.old (S.faults sink.old)
-        (declaration_text (declarations_of source.now) (declaration_in source.now.table decl.now) bound)
+        (declaration_text (declarations_of source.now) (shortened_declaration (take before (declarations_of source.now)) (declaration_in source.now.table decl.now)) bound)
         (S.got sink.new) gathered.new (S.faults sink.new) result }
 {
     write_opening(decl.form, bound, gathered, sink)?;
     gathered.write_words(&[decl.name.as_bytes(), b" : "], sink)?;
-    write_tree(source, decl.ty, path, gathered, sink)?;
-    write_body(source, decl.body, path, gathered, sink)?;
+    write_tree(source, before, decl.ty, path, gathered, sink)?;
+    write_body(source, before, decl.body, path, gathered, sink)?;
     gathered.write_words(&[b".\n"], sink)
 }
 
@@ -158,24 +167,27 @@ fn write_opening<S: Sink>(
 // Writes the body of a declaration, if it has one.
 fn write_body<S: Sink>(
     source: &Module,
+    before: usize,
     body: Option<LpId>,
     path: &mut Path,
     gathered: &mut Gathered,
     sink: &mut S,
 ) -> Result<(), Failed>
+    requires held { IsHeld source.now }
+    requires before { before ≤ length source.now.decls }
     requires known { IsBodyKnown source.now.table body }
     requires room { IsBodyWithin path.old.room source.now.table body }
     requires empty { path.old.frames ≡ [] }
     requires small { path.old.room < 2 ^ 64 }
     ensures room { path.new.room ≡ path.old.room }
     ensures writes { Writes (S.got sink.old) gathered.old (S.faults sink.old)
-        (body_text (declarations_of source.now) (option_map (λ id. tree_at source.now.table id.0) body))
+        (body_text (declarations_of source.now) (option_map (shortened (take before (declarations_of source.now))) (option_map (λ id. tree_at source.now.table id.0) body)))
         (S.got sink.new) gathered.new (S.faults sink.new) result }
 {
     match body {
         Some(id) => {
             gathered.write_words(&[b" := "], sink)?;
-            write_tree(source, id, path, gathered, sink)
+            write_tree(source, before, id, path, gathered, sink)
         }
         None => Ok(()),
     }

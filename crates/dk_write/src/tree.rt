@@ -1,12 +1,13 @@
 //! Writing a tree, with a path in the place of a recursion.
-ghost use Rattle.std.specs.Prelude.{◌≡◌, ◌+◌, ◌-◌, ◌<◌, ◌≤◌, ◌^◌, [], ◌∷◌, ◌++◌, suc, length, codes, IfOk, OnOk, OnErr, if◌then◌else◌};
+ghost use Rattle.std.specs.Prelude.{◌≡◌, None, take, ◌+◌, ◌-◌, ◌<◌, ◌≤◌, ◌^◌, [], ◌∷◌, ◌++◌, suc, length, codes, IfOk, OnOk, OnErr, if◌then◌else◌};
 ghost use Rattle.bridge_base.specs.Outside.{GainsFront, HasCause};
 ghost use Rattle.lp_spec.specs.Trees.{depth as depth_of};
 ghost use Rattle.lp_spec.specs.Text.{binder_name, is_binder as is_binder_tree, is_word as is_word_tree, tree_text};
 ghost use Rattle.lp_spec.specs.Modules.{symbol_name as name_of};
 ghost use Rattle.lp_term.specs.Tables.{tree_at};
-ghost use Rattle.holide_sig.specs.Modules.{declarations_of};
-ghost use Rattle.dk_write.specs.Paths.{IsPlace, IsTurn, AreFrames, IsFrame, left_text, frames_text, frame_text, work, frames_work, frame_work};
+ghost use Rattle.lp_spec.specs.ShortNames.{short};
+ghost use Rattle.holide_sig.specs.Modules.{declarations_of, IsHeld};
+ghost use Rattle.dk_write.specs.Paths.{IsPlace, IsTurn, AreFrames, IsFrame, left_text, frames_text, frame_text, written_tree, work, frames_work, frame_work};
 ghost use Rattle.dk_write.specs.Writing.{Writes, Gained};
 
 use crate::gathered::Gathered;
@@ -28,11 +29,14 @@ pub(crate) enum Turn {
 // Writes a tree that stands under no binder. Nothing follows it, before and after.
 pub(crate) fn write_tree<S: Sink>(
     source: &Module,
+    before: usize,
     id: LpId,
     path: &mut Path,
     gathered: &mut Gathered,
     sink: &mut S,
 ) -> Result<(), Failed>
+    requires held { IsHeld source.now }
+    requires before { before ≤ length source.now.decls }
     requires known { id.0 < length source.now.table }
     requires room { depth_of (tree_at source.now.table id.0) ≤ path.old.room }
     requires small { path.old.room < 2 ^ 64 }
@@ -40,28 +44,31 @@ pub(crate) fn write_tree<S: Sink>(
     ensures empty { OnOk result (path.new.frames ≡ []) }
     ensures room { path.new.room ≡ path.old.room }
     ensures writes { Writes (S.got sink.old) gathered.old (S.faults sink.old)
-        (tree_text (declarations_of source.now) 0 (tree_at source.now.table id.0)) (S.got sink.new) gathered.new (S.faults sink.new) result }
+        (tree_text (declarations_of source.now) 0 (written_tree source.now before id)) (S.got sink.new) gathered.new (S.faults sink.new) result }
 {
     let mut turn = Turn::Write(Place { id, depth: 0 });
     loop {
         turn = match turn {
-            Turn::Write(place) => write_place(source, place, path, gathered, sink)?,
+            Turn::Write(place) => write_place(source, before, place, path, gathered, sink)?,
             Turn::Leave => match path.pop() {
-                Some(frame) => write_frame(source, frame, path, gathered, sink)?,
+                Some(frame) => write_frame(source, before, frame, path, gathered, sink)?,
                 None => return Ok(()),
             },
         };
     }
 }
 
-// Writes the front of a tree, as far as its first part, or all of it where it has none.
+// Writes the name that is short for a tree; or its front, as far as its first part, or all of it where it has none.
 fn write_place<S: Sink>(
     source: &Module,
+    before: usize,
     place: Place,
     path: &mut Path,
     gathered: &mut Gathered,
     sink: &mut S,
 ) -> Result<Turn, Failed>
+    requires held { IsHeld source.now }
+    requires before { before ≤ length source.now.decls }
     requires place { IsPlace path.old.room source.now.table (length path.old.frames) place }
     requires frames { AreFrames path.old.room source.now.table path.old.frames }
     requires small { path.old.room < 2 ^ 64 }
@@ -69,8 +76,40 @@ fn write_place<S: Sink>(
     ensures frames { IfOk result (λ _. AreFrames path.new.room source.now.table path.new.frames) }
     ensures room { path.new.room ≡ path.old.room }
     ensures less { IfOk result (λ turn. work source.now.table turn path.new.frames < work source.now.table (Turn.Write place) path.old.frames) }
-    ensures ok { IfOk result (λ turn. Gained (S.got sink.old) (gathered.old ++ left_text source.now (Turn.Write place) path.old.frames) (gathered.new ++ left_text source.now turn path.new.frames) (S.got sink.new)) }
-    ensures err { OnErr result (GainsFront (S.got sink.old) (gathered.old ++ left_text source.now (Turn.Write place) path.old.frames) (S.got sink.new)) }
+    ensures ok { IfOk result (λ turn. Gained (S.got sink.old) (gathered.old ++ left_text source.now before (Turn.Write place) path.old.frames) (gathered.new ++ left_text source.now before turn path.new.frames) (S.got sink.new)) }
+    ensures err { OnErr result (GainsFront (S.got sink.old) (gathered.old ++ left_text source.now before (Turn.Write place) path.old.frames) (S.got sink.new)) }
+    ensures cause { HasCause (S.faults sink.old) (S.faults sink.new) result }
+{
+    match short_name(source, before, place.id) {
+        Some(symbol) => {
+            gathered.write(symbol_name(source, symbol), sink)?;
+            Ok(Turn::Leave)
+        }
+        None => write_parts(source, before, place, path, gathered, sink),
+    }
+}
+
+// Writes the front of a tree for which no name is short, as far as its first part, or all of it where it has none.
+fn write_parts<S: Sink>(
+    source: &Module,
+    before: usize,
+    place: Place,
+    path: &mut Path,
+    gathered: &mut Gathered,
+    sink: &mut S,
+) -> Result<Turn, Failed>
+    requires held { IsHeld source.now }
+    requires before { before ≤ length source.now.decls }
+    requires place { IsPlace path.old.room source.now.table (length path.old.frames) place }
+    requires frames { AreFrames path.old.room source.now.table path.old.frames }
+    requires small { path.old.room < 2 ^ 64 }
+    requires long { short (take before (declarations_of source.now)) (tree_at source.now.table place.id.0) ≡ None }
+    ensures turn { IfOk result (IsTurn path.new.room source.now.table path.new.frames) }
+    ensures frames { IfOk result (λ _. AreFrames path.new.room source.now.table path.new.frames) }
+    ensures room { path.new.room ≡ path.old.room }
+    ensures less { IfOk result (λ turn. work source.now.table turn path.new.frames < work source.now.table (Turn.Write place) path.old.frames) }
+    ensures ok { IfOk result (λ turn. Gained (S.got sink.old) (gathered.old ++ left_text source.now before (Turn.Write place) path.old.frames) (gathered.new ++ left_text source.now before turn path.new.frames) (S.got sink.new)) }
+    ensures err { OnErr result (GainsFront (S.got sink.old) (gathered.old ++ left_text source.now before (Turn.Write place) path.old.frames) (S.got sink.new)) }
     ensures cause { HasCause (S.faults sink.old) (S.faults sink.new) result }
 {
     let depth = place.depth;
@@ -91,7 +130,7 @@ fn write_place<S: Sink>(
             Ok(Turn::Leave)
         }
         LpNode::App(function, argument) => {
-            let closes = is_binder(source, function);
+            let closes = is_binder(source, before, function);
             path.push(Frame::Argument(
                 Place {
                     id: argument,
@@ -106,7 +145,7 @@ fn write_place<S: Sink>(
             }))
         }
         LpNode::Lam(domain, body) => {
-            let closes = is_binder(source, domain);
+            let closes = is_binder(source, before, domain);
             path.push(Frame::Abstracted(
                 Place {
                     id: body,
@@ -118,7 +157,7 @@ fn write_place<S: Sink>(
             Ok(Turn::Write(Place { id: domain, depth }))
         }
         LpNode::Pi(domain, body) => {
-            let closes = is_binder(source, domain);
+            let closes = is_binder(source, before, domain);
             path.push(Frame::Produced(
                 Place {
                     id: body,
@@ -160,11 +199,14 @@ fn write_binder<S: Sink>(
 // Writes what stands between a part of a tree and the next.
 fn write_frame<S: Sink>(
     source: &Module,
+    before: usize,
     frame: Frame,
     path: &mut Path,
     gathered: &mut Gathered,
     sink: &mut S,
 ) -> Result<Turn, Failed>
+    requires held { IsHeld source.now }
+    requires before { before ≤ length source.now.decls }
     requires frame { IsFrame path.old.room source.now.table (length path.old.frames) frame }
     requires frames { AreFrames path.old.room source.now.table path.old.frames }
     requires small { path.old.room < 2 ^ 64 }
@@ -173,8 +215,8 @@ fn write_frame<S: Sink>(
     ensures frames { IfOk result (λ _. AreFrames path.new.room source.now.table path.new.frames) }
     ensures room { path.new.room ≡ path.old.room }
     ensures less { IfOk result (λ turn. work source.now.table turn path.new.frames < work source.now.table Turn.Leave (frame ∷ path.old.frames)) }
-    ensures ok { IfOk result (λ turn. Gained (S.got sink.old) (gathered.old ++ left_text source.now Turn.Leave (frame ∷ path.old.frames)) (gathered.new ++ left_text source.now turn path.new.frames) (S.got sink.new)) }
-    ensures err { OnErr result (GainsFront (S.got sink.old) (gathered.old ++ left_text source.now Turn.Leave (frame ∷ path.old.frames)) (S.got sink.new)) }
+    ensures ok { IfOk result (λ turn. Gained (S.got sink.old) (gathered.old ++ left_text source.now before Turn.Leave (frame ∷ path.old.frames)) (gathered.new ++ left_text source.now before turn path.new.frames) (S.got sink.new)) }
+    ensures err { OnErr result (GainsFront (S.got sink.old) (gathered.old ++ left_text source.now before Turn.Leave (frame ∷ path.old.frames)) (S.got sink.new)) }
     ensures cause { HasCause (S.faults sink.old) (S.faults sink.new) result }
 {
     match frame {
@@ -183,7 +225,7 @@ fn write_frame<S: Sink>(
             Ok(Turn::Leave)
         }
         Frame::Argument(place, closes) => {
-            let opens = !is_word(source, place.id);
+            let opens = !is_word(source, before, place.id);
             gathered.write(between(closes, opens), sink)?;
             if opens {
                 path.push(Frame::Close);
@@ -212,23 +254,53 @@ fn symbol_name(source: &Module, symbol: usize) -> &[u8]
     }
 }
 
-// Whether a tree is an abstraction or a product.
-fn is_binder(source: &Module, id: LpId) -> bool
-    requires { id.0 < length source.now.table }
-    ensures { result ≡ is_binder_tree (tree_at source.now.table id.0) }
+// The name that is short for a tree, among those that are declared before, by its symbol.
+fn short_name(source: &Module, before: usize, id: LpId) -> Option<usize>
+    requires held { IsHeld source.now }
+    requires before { before ≤ length source.now.decls }
+    requires known { id.0 < length source.now.table }
+    ensures { result ≡ short (take before (declarations_of source.now)) (tree_at source.now.table id.0) }
 {
-    matches!(source.table.view(id), LpNode::Lam(_, _) | LpNode::Pi(_, _))
+    let _count = source.decls.len();
+    match source.short(id) {
+        Some(symbol) => {
+            if symbol < SIGNATURE + before {
+                Some(symbol)
+            } else {
+                None
+            }
+        }
+        None => None,
+    }
+}
+
+// Whether a tree is written as an abstraction or a product.
+fn is_binder(source: &Module, before: usize, id: LpId) -> bool
+    requires held { IsHeld source.now }
+    requires before { before ≤ length source.now.decls }
+    requires known { id.0 < length source.now.table }
+    ensures { result ≡ is_binder_tree (written_tree source.now before id) }
+{
+    match short_name(source, before, id) {
+        Some(_) => false,
+        None => matches!(source.table.view(id), LpNode::Lam(_, _) | LpNode::Pi(_, _)),
+    }
 }
 
 // Whether a tree is written as a single word.
-fn is_word(source: &Module, id: LpId) -> bool
-    requires { id.0 < length source.now.table }
-    ensures { result ≡ is_word_tree (tree_at source.now.table id.0) }
+fn is_word(source: &Module, before: usize, id: LpId) -> bool
+    requires held { IsHeld source.now }
+    requires before { before ≤ length source.now.decls }
+    requires known { id.0 < length source.now.table }
+    ensures { result ≡ is_word_tree (written_tree source.now before id) }
 {
-    !matches!(
-        source.table.view(id),
-        LpNode::App(_, _) | LpNode::Lam(_, _) | LpNode::Pi(_, _)
-    )
+    match short_name(source, before, id) {
+        Some(_) => true,
+        None => !matches!(
+            source.table.view(id),
+            LpNode::App(_, _) | LpNode::Lam(_, _) | LpNode::Pi(_, _)
+        ),
+    }
 }
 
 fn opening(wanted: bool) -> &'static [u8]

@@ -3,3 +3,6 @@ pub mod Added
 pub mod Placed
 pub mod Pushed
 pub mod SignatureNodes
+pub mod ShortBodies
+mod ShortSymbols
+mod ShortPlaced

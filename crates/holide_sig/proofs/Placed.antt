@@ -11,11 +11,11 @@ use Rattle.holide_sig.specs.Places.{fingerprint, placed_with, IsNamed, ArePlaced
 use Rattle.holide_sig.proofs.Positions.{first, position-first}
 
 -- the first place at which a test passes
-first-none : {X : Type 0} (p : X → Bool) (xs : List X) → ((n : ℕ) (x : X) → slice_get xs n ≡ Some x → p x ≡ false) → first p xs ≡ None
+pub first-none : {X : Type 0} (p : X → Bool) (xs : List X) → ((n : ℕ) (x : X) → slice_get xs n ≡ Some x → p x ≡ false) → first p xs ≡ None
 first-none p [] h = refl
 first-none p (x ∷ xs) h = ap (λ b. cond b (Some 0) (option_map suc (first p xs))) (h 0 x refl) ∙ ap (option_map suc) (first-none p xs (λ n y e. h (suc n) y e))
 
-first-at : {X : Type 0} (p : X → Bool) (xs : List X) (k : ℕ) (x : X) → slice_get xs k ≡ Some x → p x ≡ true → ((n : ℕ) (y : X) → n < k → slice_get xs n ≡ Some y → p y ≡ false) → first p xs ≡ Some k
+pub first-at : {X : Type 0} (p : X → Bool) (xs : List X) (k : ℕ) (x : X) → slice_get xs k ≡ Some x → p x ≡ true → ((n : ℕ) (y : X) → n < k → slice_get xs n ≡ Some y → p y ≡ false) → first p xs ≡ Some k
 first-at p [] k x e t h = absurd (cc)
 first-at p (y ∷ xs) zero x e t h = ap (λ b. cond b (Some 0) (option_map suc (first p xs))) (ap p (same_Some y x e) ∙ t)
 first-at p (y ∷ xs) (suc k) x e t h =
@@ -41,14 +41,14 @@ module _ (decls : List Decl) (placed : ℕ → Option ℕ) (t : ArePlaced decls 
       (λ n d less e. apart_by d.name name (bytes_eq d.name name) refl (λ same. let r = t.each n d e in absurd (let one : p ≡ r.0 = same_Some p r.0 (sym at ∙ ap (λ x. placed (fingerprint x)) (sym same) ∙ r.1) in let few = r.2 in omega (arith, less, one, few))))
 
 -- one more declaration
-push_at : (ds : List Decl) (d x : Decl) (n : ℕ) → slice_get (ds ++ d ∷ []) n ≡ Some x → (slice_get ds n ≡ Some x) ⊎ ((n ≡ length ds) × (d ≡ x))
+pub push_at : (ds : List Decl) (d x : Decl) (n : ℕ) → slice_get (ds ++ d ∷ []) n ≡ Some x → (slice_get ds n ≡ Some x) ⊎ ((n ≡ length ds) × (d ≡ x))
 push_at [] d x zero e = inr (refl, same_Some d x e)
 push_at [] d x (suc n) e = absurd (cc)
 push_at (y ∷ ds) d x zero e = inl e
 push_at (y ∷ ds) d x (suc n) e = ⊎_elim (λ f. inl f) (λ f. inr (ap suc f.0, f.1)) (push_at ds d x n e)
 
 -- a number that has a place keeps it
-placed_with-old : (placed : ℕ → Option ℕ) (n place m p : ℕ) → placed m ≡ Some p → placed_with placed n place m ≡ Some p
+pub placed_with-old : (placed : ℕ → Option ℕ) (n place m p : ℕ) → placed m ≡ Some p → placed_with placed n place m ≡ Some p
 placed_with-old placed n place m p h = go (nat_eq n m) refl
   where
     go : (b : Bool) → nat_eq n m ≡ b → (if b then Some (unwrap_or (placed n) place) else placed m) ≡ Some p
@@ -56,7 +56,7 @@ placed_with-old placed n place m p h = go (nat_eq n m) refl
     go false e = h
 
 -- and the number n has one, at most the length
-placed_with-new : (placed : ℕ → Option ℕ) (n place : ℕ) → ((p : ℕ) → placed n ≡ Some p → p ≤ place) → (p : ℕ) × (placed_with placed n place n ≡ Some p) × (p ≤ place)
+pub placed_with-new : (placed : ℕ → Option ℕ) (n place : ℕ) → ((p : ℕ) → placed n ≡ Some p → p ≤ place) → (p : ℕ) × (placed_with placed n place n ≡ Some p) × (p ≤ place)
 placed_with-new placed n place h = (unwrap_or (placed n) place, ap (λ b. if b then Some (unwrap_or (placed n) place) else placed n) (nat_eq-refl n), go (placed n) refl)
   where
     nat_eq-refl : (k : ℕ) → nat_eq k k ≡ true
@@ -66,7 +66,7 @@ placed_with-new placed n place h = (unwrap_or (placed n) place, ap (λ b. if b t
     go None e = omega arith
     go (Some p) e = h p e
 
-placed_with-within : (placed : ℕ → Option ℕ) (n place m p most : ℕ) → ((k q : ℕ) → placed k ≡ Some q → q ≤ most) → place ≤ most → placed_with placed n place m ≡ Some p → p ≤ most
+pub placed_with-within : (placed : ℕ → Option ℕ) (n place m p most : ℕ) → ((k q : ℕ) → placed k ≡ Some q → q ≤ most) → place ≤ most → placed_with placed n place m ≡ Some p → p ≤ most
 placed_with-within placed n place m p most h l e = go (nat_eq n m) refl e
   where
     told : (o : Option ℕ) → placed n ≡ o → Some (unwrap_or o place) ≡ Some p → p ≤ most

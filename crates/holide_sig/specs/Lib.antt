@@ -1,4 +1,5 @@
 pub mod Modules
 pub mod ModuleLaws
+pub mod ShortIds
 pub mod Places
 pub mod Nodes

@@ -1,12 +1,15 @@
 //! Declarations, and the list of a module's.
-ghost use Rattle.std.specs.Prelude.{ℕ, ◌≡◌, ◌↔◌, ◌<◌, ◌^◌, ◌++◌, ◌∷◌, [], length, slice_get, Some, IsTrue, IsFalse, IfSome, OnOk, OnErr, position, nat_eq};
+ghost use Rattle.std.specs.Prelude.{ℕ, if◌then◌else◌, None, ◌≡◌, ◌↔◌, ◌<◌, ◌^◌, ◌++◌, ◌∷◌, [], length, slice_get, Some, IsTrue, IsFalse, IfSome, OnOk, OnErr, position, nat_eq};
 ghost use Rattle.std.specs.List.{list_any};
 ghost use Rattle.std.specs.Bool.{OnTrue};
 ghost use Rattle.std.specs.Str.{bytes_eq};
+ghost use Rattle.lp_spec.specs.ShortNames.{is_short_name};
 ghost use Rattle.indexmap.specs.IndexMap.{get};
-ghost use Rattle.holide_sig.specs.Places.{fingerprint as fingerprint_of, placed_with, IsNamed};
+ghost use Rattle.holide_sig.specs.ShortIds.{is_id, short_id};
+ghost use Rattle.holide_sig.specs.Places.{fingerprint as fingerprint_of, placed_with, short_with, IsNamed, IsShortAt};
 
 use crate::ident::Ident;
+use crate::shorts::is_short;
 use bridge_base::Memory;
 use indexmap::IndexMap;
 use lp_spec::Form;
@@ -30,6 +33,8 @@ pub struct Decls {
     decls: Vec<Decl>,
     // By the fingerprint of a name, the place of the first declaration that has it.
     places: IndexMap<u64, usize>,
+    // By the number of a tree, the place of the first declaration whose name is short for it.
+    shorts: IndexMap<usize, usize>,
 }
 
 impl Model for Decls {
@@ -39,11 +44,11 @@ impl Model for Decls {
 
     ghost Value = { List ADecl };
 
-    ghost use Rattle.holide_sig.specs.Places.{ArePlaced};
+    ghost use Rattle.holide_sig.specs.Places.{ArePlaced, AreShortPlaced};
 
     ghost view = { λ d. d.decls.items };
 
-    ghost invariant = { λ d. ArePlaced d.decls.items (get nat_eq d.places) };
+    ghost invariant = { λ d. ArePlaced d.decls.items (get nat_eq d.places) × AreShortPlaced d.decls.items (get nat_eq d.shorts) };
 }
 
 impl Decls {
@@ -54,6 +59,7 @@ impl Decls {
         Decls {
             decls: Vec::new(alloc),
             places: IndexMap::new(alloc),
+            shorts: IndexMap::new(alloc),
         }
     }
 
@@ -94,6 +100,21 @@ impl Decls {
         position_of(&self.decls, name)
     }
 
+    /// The place of the first declaration whose name is short for the tree of that number.
+    pub(crate) fn short(&self, id: LpId) -> Option<usize>
+        ensures place { result ≡ position (λ d. is_id (short_id d) id) self.now }
+        ensures small { IfSome result (λ place. place < 2 ^ 63) }
+    {
+        let _count = self.len();
+        let Some(place) = self.shorts.get(&id.0) else {
+            return None;
+        };
+        if is_short_at(&self.decls, *place, id) {
+            return Some(*place);
+        }
+        short_place(&self.decls, id)
+    }
+
     /// Adds a declaration of a new name at the end.
     pub(crate) fn push(&mut self, decl: Decl) -> Result<(), Memory>
         requires { IsFalse (list_any (λ d. bytes_eq d.name decl.name) self.old) }
@@ -103,6 +124,7 @@ impl Decls {
         let number = fingerprint(decl.name.as_bytes());
         let place = self.decls.len();
         note(&mut self.places, number, place)?;
+        note_short(&mut self.shorts, short_tree(&decl), place)?;
         self.decls.push(decl)?;
         Ok(())
     }
@@ -145,6 +167,67 @@ fn position_of(decls: &[Decl], name: &[u8]) -> Option<usize>
     )
 }
 
+// The place of the first declaration whose name is short for the tree of that number.
+fn short_place(decls: &[Decl], id: LpId) -> Option<usize>
+    ensures { result ≡ position (λ d. is_id (short_id d) id) decls.now }
+{
+    decls.iter().position(
+        |decl: &Decl| -> bool
+            ensures { result ≡ is_id (short_id decl.now) id }
+        { is_short_of(decl, id) },
+    )
+}
+
+// Whether the declaration at a place has a name that is short for the tree of that number.
+fn is_short_at(decls: &[Decl], place: usize, id: LpId) -> bool
+    ensures { OnTrue result (IsShortAt decls.now place id) }
+{
+    match decls.get(place) {
+        Some(decl) => is_short_of(decl, id),
+        None => false,
+    }
+}
+
+// Notes a place for the tree for which a name is short, if it is, unless that has one.
+fn note_short(
+    shorts: &mut IndexMap<usize, usize>,
+    body: Option<LpId>,
+    place: usize,
+) -> Result<(), Memory>
+    ensures noted { OnOk result ((m : ℕ) → get nat_eq shorts.new m ≡ short_with (get nat_eq shorts.old) body place m) }
+    ensures unchanged { OnErr result ((m : ℕ) → get nat_eq shorts.new m ≡ get nat_eq shorts.old m) }
+{
+    match body {
+        Some(id) => note_number(shorts, id.0, place),
+        None => Ok(()),
+    }
+}
+
+// Notes a place for the number of a tree, unless it has one.
+fn note_number(
+    shorts: &mut IndexMap<usize, usize>,
+    number: usize,
+    place: usize,
+) -> Result<(), Memory>
+    ensures noted { OnOk result ((m : ℕ) → get nat_eq shorts.new m ≡ placed_with (get nat_eq shorts.old) number place m) }
+    ensures unchanged { OnErr result ((m : ℕ) → get nat_eq shorts.new m ≡ get nat_eq shorts.old m) }
+{
+    if shorts.get(&number).is_none() {
+        shorts.insert(number, place)?;
+    }
+    Ok(())
+}
+
+// Whether the name of a declaration is short for the tree of that number.
+fn is_short_of(decl: &Decl, id: LpId) -> bool
+    ensures { result ≡ is_id (short_id decl.now) id }
+{
+    match short_tree(decl) {
+        Some(body) => body == id,
+        None => false,
+    }
+}
+
 // Notes a place for a fingerprint, unless it has one.
 fn note(places: &mut IndexMap<u64, usize>, number: u64, place: usize) -> Result<(), Memory>
     ensures noted { OnOk result ((m : ℕ) → get nat_eq places.new m ≡ placed_with (get nat_eq places.old) number place m) }
@@ -154,4 +237,25 @@ fn note(places: &mut IndexMap<u64, usize>, number: u64, place: usize) -> Result<
         places.insert(number, place)?;
     }
     Ok(())
+}
+
+// The tree for which the name of a declaration is short.
+pub(crate) fn short_tree(decl: &Decl) -> Option<LpId>
+    ensures { result ≡ short_id decl.now }
+{
+    match decl.form {
+        Form::Def => if_short(decl),
+        Form::Symbol | Form::Thm => None,
+    }
+}
+
+// The body of a declaration whose name is short.
+fn if_short(decl: &Decl) -> Option<LpId>
+    ensures { result ≡ (if is_short_name decl.now.name then decl.now.body else None) }
+{
+    if is_short(decl.name.as_bytes()) {
+        decl.body
+    } else {
+        None
+    }
 }

@@ -4,6 +4,9 @@
 //! from 0, the declarations after them, and the trees of its types stand at the same numbers in every module's table. `push` takes a declaration
 //! whose name is new and whose trees are closed over earlier names, so a module stays one; `find` gives the symbol of a name.
 //!
+//! A definition called `X` and a number is short for its body: `short_body` gives that tree, and `short` the first symbol whose name is short for a
+//! tree. Neither takes memory.
+//!
 //! ```
 //! let mut module = Module::new(alloc)?;
 //! let ty = module.table.node(LpNode::Sym(0))?;
@@ -14,6 +17,7 @@
 mod decls;
 mod ident;
 mod module;
+mod shorts;
 mod signature;
 
 pub use decls::{Decl, Decls};

@@ -1,11 +1,12 @@
 //! Modules.
-ghost use Rattle.std.specs.Prelude.{◌≡◌, ◌<◌, ◌++◌, ◌∷◌, [], length, slice_get, Some, IfOk, OnOk, OnErr};
+ghost use Rattle.std.specs.Prelude.{◌≡◌, ◌<◌, ◌++◌, ◌∷◌, [], length, slice_get, option_map, Some, IfSome, IfOk, OnOk, OnErr};
 ghost use Rattle.lp_spec.specs.Modules.{signature, symbol_name, symbol_type};
 ghost use Rattle.lp_spec.specs.ModuleOrder.{IsModule, MayFollow};
+ghost use Rattle.lp_spec.specs.ShortNames.{short, short_for};
 ghost use Rattle.lp_term.specs.Tables.{tree_at};
 ghost use Rattle.holide_sig.specs.Modules.{declaration_in, declarations_of, symbol_number, IsHeld, IsKnown};
 
-use crate::decls::{Decl, Decls};
+use crate::decls::{Decl, Decls, short_tree};
 use crate::signature::{
     NODES, SIGNATURE, add_nodes, signature_name, signature_symbol, signature_type,
 };
@@ -91,5 +92,29 @@ impl Module {
         } else {
             self.decls.get(symbol - SIGNATURE).ty
         }
+    }
+
+    /// The tree for which the name of a symbol is short: the body of a definition that is called `X` and a number.
+    pub fn short_body(&self, symbol: usize) -> Option<LpId>
+        requires held { IsHeld self.now }
+        requires declared { symbol < length (signature ++ declarations_of self.now) }
+        ensures is { option_map (λ id. tree_at self.now.table id.0) result ≡ short_for (declarations_of self.now) symbol }
+        ensures known { IfSome result (λ id. id.0 < length self.now.table) }
+    {
+        if symbol < SIGNATURE {
+            None
+        } else {
+            short_tree(self.decls.get(symbol - SIGNATURE))
+        }
+    }
+
+    /// The first symbol whose name is short for the tree of that number.
+    pub fn short(&self, id: LpId) -> Option<usize>
+        requires held { IsHeld self.now }
+        requires known { id.0 < length self.now.table }
+        ensures { result ≡ short (declarations_of self.now) (tree_at self.now.table id.0) }
+    {
+        let place = self.decls.short(id)?;
+        Some(SIGNATURE + place)
     }
 }

@@ -1,61 +1,21 @@
-use Rattle.std.proofs.Common.{refl, ap, ◌∙◌, ◌≡◌, ℕ, ◌-◌, ◌+◌, suc, arith}
+use Rattle.std.proofs.Common.{sym, ◌∙◌, arith}
+use Rattle.lp_term.specs.Tables.{tree_at}
+use Rattle.dk_write.proofs.ShortPlaces.{size-positive}
 use Rattle.dk_write.proofs.GainedLaws.{gained_part, on_err_front}
-use Rattle.dk_write.proofs.FrameTexts.{variable_parts, symbol_parts, application_parts, abstraction_parts, product_parts}
+use Rattle.dk_write.proofs.FrameTexts.{short_parts}
 use Rattle.dk_write.proofs.tree.write_place.Goals as goal
 
-next : (n : ℕ) → n + 1 ≡ suc n
-next n = omega arith
-
-pub returns-in_err-write_words-in-Var-clause-err : goal.returns-in_err-write_words-in-Var-clause-err
-returns-in_err-write_words-in-Var-clause-err g c =
+pub returns-in_err-write-in-Some-clause-err : goal.returns-in_err-write-in-Some-clause-err
+returns-in_err-write-in-Some-clause-err g c =
     on_err_front _ _ _ _ _ _ _
-    (variable_parts c.args.source.now c.args.path.now.frames c.args.place c.in-Var.number c.saturating_sub-binder.result _ c.in-Var.ensures.is
-    (c.as_bytes.ensures.value ∙ c.format.ensures.text)
-    (c.saturating_sub-binder.ensures ∙ ap (λ n. n - 1) (c.saturating_sub.ensures ∙ ap (λ n. n - c.in-Var.number) c.from.ensures)))
-    c.in_err-write_words-in-Var.ensures.err
+    (short_parts c.args.source.now c.args.before c.args.path.now.frames c.args.place c.in-Some.symbol _ (sym c.short_name.ensures ∙ c.in-Some.is) c.symbol_name.ensures)
+    c.in_err-write-in-Some.ensures.err
 
-pub returns-in_err-write-in-Sym-clause-err : goal.returns-in_err-write-in-Sym-clause-err
-returns-in_err-write-in-Sym-clause-err g c =
-    on_err_front _ _ _ _ _ _ _
-    (symbol_parts c.args.source.now c.args.path.now.frames c.args.place c.in-Sym.symbol _ c.in-Sym.ensures.is c.symbol_name.ensures)
-    c.in_err-write-in-Sym.ensures.err
+pub returns-in_ok-write-in-Some-clause-less : goal.returns-in_ok-write-in-Some-clause-less
+returns-in_ok-write-in-Some-clause-less g c = let s = size-positive (tree_at c.args.source.now.table c.args.place.id.0) in omega (arith, s)
 
-pub returns-in_err-open_part-in-App-clause-err : goal.returns-in_err-open_part-in-App-clause-err
-returns-in_err-open_part-in-App-clause-err g c =
-    on_err_front _ _ _ _ _ _ _
-    (application_parts c.args.source.now c.args.path.now.frames c.args.place c.in-App.function c.in-App.argument c.is_binder-closes.result _ c.in-App.ensures.is c.is_binder-closes.ensures refl)
-    c.in_err-open_part-in-App.ensures.err
-
-pub returns-in_ok-open_part-in-App-clause-ok : goal.returns-in_ok-open_part-in-App-clause-ok
-returns-in_ok-open_part-in-App-clause-ok g c =
-    rw c.push.ensures.frames (gained_part _ _ _ _ _ _ _
-    (application_parts c.args.source.now c.args.path.now.frames c.args.place c.in-App.function c.in-App.argument c.is_binder-closes.result _ c.in-App.ensures.is c.is_binder-closes.ensures refl)
-    c.in_ok-open_part-in-App.ensures.ok)
-
-pub returns-in_err-write_binder-in-Lam-clause-err : goal.returns-in_err-write_binder-in-Lam-clause-err
-returns-in_err-write_binder-in-Lam-clause-err g c =
-    on_err_front _ _ _ _ _ _ _
-    (abstraction_parts c.args.source.now c.args.path.now.frames c.args.place c.in-Lam.domain c.in-Lam.body (c.args.place.depth + 1) c.is_binder-closes-in-Lam.result
-    c.in-Lam.ensures.is c.is_binder-closes-in-Lam.ensures (next c.args.place.depth))
-    c.in_err-write_binder-in-Lam.ensures.err
-
-pub returns-in_err-write_binder-in-Pi-clause-err : goal.returns-in_err-write_binder-in-Pi-clause-err
-returns-in_err-write_binder-in-Pi-clause-err g c =
-    on_err_front _ _ _ _ _ _ _
-    (product_parts c.args.source.now c.args.path.now.frames c.args.place c.in-Pi.domain c.in-Pi.body (c.args.place.depth + 1) c.is_binder-closes-in-Pi.result
-    c.in-Pi.ensures.is c.is_binder-closes-in-Pi.ensures (next c.args.place.depth))
-    c.in_err-write_binder-in-Pi.ensures.err
-
-pub returns-in_ok-write_binder-in-Lam-clause-ok : goal.returns-in_ok-write_binder-in-Lam-clause-ok
-returns-in_ok-write_binder-in-Lam-clause-ok g c =
-    rw c.push-in-Lam.ensures.frames (gained_part _ _ _ _ _ _ _
-    (abstraction_parts c.args.source.now c.args.path.now.frames c.args.place c.in-Lam.domain c.in-Lam.body (c.args.place.depth + 1) c.is_binder-closes-in-Lam.result
-    c.in-Lam.ensures.is c.is_binder-closes-in-Lam.ensures (next c.args.place.depth))
-    c.in_ok-write_binder-in-Lam.ensures.ok)
-
-pub returns-in_ok-write_binder-in-Pi-clause-ok : goal.returns-in_ok-write_binder-in-Pi-clause-ok
-returns-in_ok-write_binder-in-Pi-clause-ok g c =
-    rw c.push-in-Pi.ensures.frames (gained_part _ _ _ _ _ _ _
-    (product_parts c.args.source.now c.args.path.now.frames c.args.place c.in-Pi.domain c.in-Pi.body (c.args.place.depth + 1) c.is_binder-closes-in-Pi.result
-    c.in-Pi.ensures.is c.is_binder-closes-in-Pi.ensures (next c.args.place.depth))
-    c.in_ok-write_binder-in-Pi.ensures.ok)
+pub returns-in_ok-write-in-Some-clause-ok : goal.returns-in_ok-write-in-Some-clause-ok
+returns-in_ok-write-in-Some-clause-ok g c =
+    gained_part _ _ _ _ _ _ _
+    (short_parts c.args.source.now c.args.before c.args.path.now.frames c.args.place c.in-Some.symbol _ (sym c.short_name.ensures ∙ c.in-Some.is) c.symbol_name.ensures)
+    c.in_ok-write-in-Some.ensures.ok

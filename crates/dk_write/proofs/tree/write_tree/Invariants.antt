@@ -1,8 +1,7 @@
 use Rattle.std.proofs.Common.{◌≡◌, ◌≤◌, ◌++◌}
 use Rattle.lp_spec.specs.Text.{tree_text}
-use Rattle.lp_term.specs.Tables.{tree_at}
 use Rattle.holide_sig.specs.Modules.{declarations_of}
-use Rattle.dk_write.specs.Paths.{IsTurn, AreFrames, left_text, work}
+use Rattle.dk_write.specs.Paths.{IsTurn, AreFrames, left_text, written_tree, work}
 use Rattle.dk_write.specs.Writing.{Gained}
 use Rattle.dk_write.proofs.tree.write_tree.Given as goal
 
@@ -11,7 +10,7 @@ abbrev pub invariant-loop-turn : goal.invariant-loop-turn
 invariant-loop-turn g l = record {
   turn : IsTurn l.path.room l.source.table l.path.frames l.turn;
   frames : AreFrames l.path.room l.source.table l.path.frames;
-  text : Gained (g.S.Sink.got l.fn.sink) (l.fn.gathered ++ tree_text (declarations_of l.fn.source) 0 (tree_at l.fn.source.table l.fn.id.0)) (l.gathered ++ left_text l.source l.turn l.path.frames) (g.S.Sink.got l.sink);
+  text : Gained (g.S.Sink.got l.fn.sink) (l.fn.gathered ++ tree_text (declarations_of l.fn.source) 0 (written_tree l.fn.source l.fn.before l.fn.id)) (l.gathered ++ left_text l.source l.before l.turn l.path.frames) (g.S.Sink.got l.sink);
   room : l.path.room ≡ l.fn.path.room;
   later : g.S.Sink.faults l.fn.sink ≤ g.S.Sink.faults l.sink;
 }

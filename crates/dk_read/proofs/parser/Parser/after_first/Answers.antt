@@ -13,7 +13,7 @@ apply-requires c =
     record {
       sound = grows.sound c.requires.sound;
       function = c.in-Ok.ensures.known;
-      ordered = first_ordered old one (name_at old.names c.args.name) (tree_at one.module.table c.in-Ok.atom.0) c.args.first grows c.requires.ordered c.in-Ok.ensures.means;
+      ordered = first_ordered old one (name_at old.names c.args.name) (tree_at one.module.table c.in-Ok.atom.0) c.args.first c.requires.sound.is_module grows c.requires.ordered c.in-Ok.ensures.means;
       token = IsTokenKnown-longer old.names one.names c.args.token grows.names.longer c.requires.token;
     }
 
