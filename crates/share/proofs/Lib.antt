@@ -1,0 +1,11 @@
+pub mod CountLaws
+pub mod MeetingLaws
+pub mod TypingLaws
+pub mod TurnLaws
+pub mod AskingLaws
+pub mod MovingLaws
+pub mod AbbreviatingLaws
+pub mod DeclaringLaws
+pub mod ListingLaws
+pub mod PlacingLaws
+pub mod FoldingLaws

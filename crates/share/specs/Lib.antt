@@ -1,0 +1,10 @@
+pub mod Counts
+pub mod Meetings
+pub mod NodeParts
+pub mod Typings
+pub mod Asking
+pub mod Moving
+pub mod Declaring
+pub mod Listings
+pub mod Placings
+pub mod Foldings
