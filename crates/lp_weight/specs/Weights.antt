@@ -4,6 +4,7 @@ use Rattle.std.specs.Option.{option_map_or}
 use Rattle.lp_spec.specs.Trees.{Tree, SortType, SortKind, Var, Sym, App, Lam, Pi}
 use Rattle.lp_spec.specs.Modules.{Declaration}
 use Rattle.lp_spec.specs.Weight.{symbol_spread, spreads, weight, bound}
+use Rattle.lp_fast.specs.FastCheck.{fast_bound}
 
 -- the weight of the declaration with this number
 abbrev pub weight_at : List Declaration → ℕ → ℕ
@@ -12,6 +13,10 @@ weight_at m i = option_map_or (weight m) (slice_get m i) 0
 -- the bound of the declaration with this number
 abbrev pub bound_at : List Declaration → ℕ → ℕ
 bound_at m i = option_map_or (bound m) (slice_get m i) 0
+
+-- the bound of its check without rechecks of sorts
+abbrev pub fast_bound_at : List Declaration → ℕ → ℕ
+fast_bound_at m i = option_map_or (fast_bound m) (slice_get m i) 0
 
 -- the spread of the symbol at the head of a tree that is applied to these arguments, where a symbol stands there
 abbrev pub head_spread : List Declaration → List Tree → Tree → ℕ

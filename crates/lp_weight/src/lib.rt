@@ -1,7 +1,8 @@
 //! What a declaration of a module weighs, and the bound that its weight sets on the steps of its check.
 //!
 //! The weight is the size of the declaration's type and body, as trees, with the spread of every symbol in them: a part counts as often as it
-//! occurs, and is looked at once. The bound is 64 times the cube of the weight. Both stop at the greatest number of their type. A bound that is
+//! occurs, and is looked at once. The bound is 64 times the cube of the weight, and that of a check without
+//! rechecks of sorts 64 times its square. All stop at the greatest number of their type. A bound that is
 //! this number is still the bound, which is never more; a weight that is this number may be less than what the declaration weighs.
 //!
 //! Nothing is made: the module stays as it is, and what is noted on the way goes with the call. Walks keep a stack of their own.
@@ -16,7 +17,7 @@ ghost use Rattle.lp_spec.specs.Weight.{tree_weight as tree_weighs};
 ghost use Rattle.lp_term.specs.Tables.{tree_at};
 ghost use Rattle.holide_sig.specs.Modules.{declarations_of, IsHeld};
 ghost use Rattle.lp_weight.specs.Saturation.{saturated};
-ghost use Rattle.lp_weight.specs.Weights.{weight_at, bound_at};
+ghost use Rattle.lp_weight.specs.Weights.{weight_at, bound_at, fast_bound_at};
 
 mod measure;
 mod memo;
@@ -30,7 +31,7 @@ use holide_sig::Module;
 use lp_term::LpId;
 use std::alloc::Global;
 
-// How many times the cube of its weight the steps of a declaration's check may be.
+// How many times the cube of its weight the steps of a declaration's check may be, and the square without rechecks of sorts.
 const FACTOR: u128 = 64;
 
 /// How many steps the check of this declaration may take: 64 times the cube of its weight, or the greatest number of the type if that is more.
@@ -42,6 +43,17 @@ pub fn bound(alloc: Global, base: &Module, i: usize) -> Result<u128, Memory>
     let weight = weight(alloc, base, i)?;
     let square = weight.saturating_mul(weight);
     Ok(square.saturating_mul(weight).saturating_mul(FACTOR))
+}
+
+/// How many steps the check of this declaration without rechecks of sorts may take: 64 times the square of its weight, or the greatest number
+/// of the type if that is more.
+pub fn bound_fast(alloc: Global, base: &Module, i: usize) -> Result<u128, Memory>
+    requires held { IsHeld base.now }
+    requires i { i < length base.now.decls }
+    ensures { IfOk result (λ steps. steps ≡ fast_bound_at (declarations_of base.now) i) }
+{
+    let weight = weight(alloc, base, i)?;
+    Ok(weight.saturating_mul(weight).saturating_mul(FACTOR))
 }
 
 /// What this declaration weighs, or the greatest number of the type if it weighs more.

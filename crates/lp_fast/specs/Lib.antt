@@ -1,0 +1,5 @@
+pub mod FastCheck
+pub mod FastModules
+pub mod FastPrices
+pub mod FastStatements
+pub mod FastTyping
