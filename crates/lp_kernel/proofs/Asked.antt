@@ -1,5 +1,5 @@
 -- A turn that asks for the type of a tree.
-use Rattle.std.proofs.Common.{◌≡◌, refl, sym, ap, ◌∙◌, subst, ℕ, zero, suc, length, Option, ◌-◌, ◌<◌, ◌≤◌, arith, true, List, [], ◌∷◌, Some}
+use Rattle.std.proofs.Common.{◌≡◌, refl, sym, ap, ◌∙◌, subst, ℕ, zero, suc, length, Option, ◌-◌, ◌<◌, ◌≤◌, arith, List, [], ◌∷◌, Some, Bool}
 use Rattle.std.proofs.Math.Path.{subst₂}
 use Rattle.lp_spec.specs.Trees.{Tree, Sym, App, Lam, Pi, lift}
 use Rattle.lp_spec.specs.Modules.{Declaration}
@@ -21,55 +21,55 @@ use Rattle.lp_kernel.specs.Pending.{resume, IsTurned, variable_plan, variable_ty
 use Rattle.std.proofs.lemmas.Option.{same_Some}
 
 -- a turn that goes on as the plan for the tree does
-module _ (ds : List Declaration) (G : List Tree) (rest : Tree → Plan) where
-  pub asked-as : {t u : Tree} {p : Plan} {spent : ℕ} → t ≡ u → spent ≤ 1 → and_then (infer ds true G u) rest ≡ p → Leaves ds true (Ask (Infer G t) rest) spent p
+module _ (rechecks : Bool) (ds : List Declaration) (G : List Tree) (rest : Tree → Plan) where
+  pub asked-as : {t u : Tree} {p : Plan} {spent : ℕ} → t ≡ u → spent ≤ 1 → and_then (infer ds rechecks G u) rest ≡ p → Leaves ds rechecks (Ask (Infer G t) rest) spent p
   asked-as {u = u} {p = p} {spent = spent} e le is =
-      subst (λ w. Leaves ds true (Ask (Infer G w) rest) spent p) (sym e)
-      (leaves_fewer ds true le (leaves_then ds true (leaves_ask ds true (Infer G u) rest) (leaves_equal ds true is)))
+      subst (λ w. Leaves ds rechecks (Ask (Infer G w) rest) spent p) (sym e)
+      (leaves_fewer ds rechecks le (leaves_then ds rechecks (leaves_ask ds rechecks (Infer G u) rest) (leaves_equal ds rechecks is)))
 
-module _ (ds : List Declaration) (ts : List Tree) (c : List LpId) (fs new : List Frame) (id : LpId) (spent : ℕ) where
+module _ (rechecks : Bool) (ds : List Declaration) (ts : List Tree) (c : List LpId) (fs new : List Frame) (id : LpId) (spent : ℕ) where
   pub asked-application : (f x : LpId) → Holds ts id.0 (App (tree_at ts f.0) (tree_at ts x.0)) → new ≡ frame.Function f x id ∷ fs → spent ≤ 1
-      → Leaves ds true (Ask (Infer (trees_at ts c) (tree_at ts id.0)) (resume ds ts c fs)) spent (Ask (Infer (trees_at ts c) (tree_at ts f.0)) (resume ds ts c new))
+      → Leaves ds rechecks (Ask (Infer (trees_at ts c) (tree_at ts id.0)) (resume rechecks ds ts c fs)) spent (Ask (Infer (trees_at ts c) (tree_at ts f.0)) (resume rechecks ds ts c new))
   asked-application f x at e le =
-      subst (λ l. Leaves ds true (Ask (Infer (trees_at ts c) (tree_at ts id.0)) (resume ds ts c fs)) spent (Ask (Infer (trees_at ts c) (tree_at ts f.0)) (resume ds ts c l))) (sym e)
-      (asked-as ds (trees_at ts c) (resume ds ts c fs) (Holds-tree_at ts id.0 _ at) le refl)
+      subst (λ l. Leaves ds rechecks (Ask (Infer (trees_at ts c) (tree_at ts id.0)) (resume rechecks ds ts c fs)) spent (Ask (Infer (trees_at ts c) (tree_at ts f.0)) (resume rechecks ds ts c l))) (sym e)
+      (asked-as rechecks ds (trees_at ts c) (resume rechecks ds ts c fs) (Holds-tree_at ts id.0 _ at) le refl)
 
   pub asked-abstraction : (a b : LpId) → Holds ts id.0 (Lam (tree_at ts a.0) (tree_at ts b.0)) → new ≡ frame.Domain a b ∷ fs → spent ≤ 1
-      → Leaves ds true (Ask (Infer (trees_at ts c) (tree_at ts id.0)) (resume ds ts c fs)) spent (Ask (Infer (trees_at ts c) (tree_at ts a.0)) (resume ds ts c new))
+      → Leaves ds rechecks (Ask (Infer (trees_at ts c) (tree_at ts id.0)) (resume rechecks ds ts c fs)) spent (Ask (Infer (trees_at ts c) (tree_at ts a.0)) (resume rechecks ds ts c new))
   asked-abstraction a b at e le =
-      subst (λ l. Leaves ds true (Ask (Infer (trees_at ts c) (tree_at ts id.0)) (resume ds ts c fs)) spent (Ask (Infer (trees_at ts c) (tree_at ts a.0)) (resume ds ts c l))) (sym e)
-      (asked-as ds (trees_at ts c) (resume ds ts c fs) (Holds-tree_at ts id.0 _ at) le refl)
+      subst (λ l. Leaves ds rechecks (Ask (Infer (trees_at ts c) (tree_at ts id.0)) (resume rechecks ds ts c fs)) spent (Ask (Infer (trees_at ts c) (tree_at ts a.0)) (resume rechecks ds ts c l))) (sym e)
+      (asked-as rechecks ds (trees_at ts c) (resume rechecks ds ts c fs) (Holds-tree_at ts id.0 _ at) le refl)
 
   pub asked-product : (a b : LpId) → Holds ts id.0 (Pi (tree_at ts a.0) (tree_at ts b.0)) → new ≡ frame.ProductDomain a b ∷ fs → spent ≤ 1
-      → Leaves ds true (Ask (Infer (trees_at ts c) (tree_at ts id.0)) (resume ds ts c fs)) spent (Ask (Infer (trees_at ts c) (tree_at ts a.0)) (resume ds ts c new))
+      → Leaves ds rechecks (Ask (Infer (trees_at ts c) (tree_at ts id.0)) (resume rechecks ds ts c fs)) spent (Ask (Infer (trees_at ts c) (tree_at ts a.0)) (resume rechecks ds ts c new))
   asked-product a b at e le =
-      subst (λ l. Leaves ds true (Ask (Infer (trees_at ts c) (tree_at ts id.0)) (resume ds ts c fs)) spent (Ask (Infer (trees_at ts c) (tree_at ts a.0)) (resume ds ts c l))) (sym e)
-      (asked-as ds (trees_at ts c) (resume ds ts c fs) (Holds-tree_at ts id.0 _ at) le refl)
+      subst (λ l. Leaves ds rechecks (Ask (Infer (trees_at ts c) (tree_at ts id.0)) (resume rechecks ds ts c fs)) spent (Ask (Infer (trees_at ts c) (tree_at ts a.0)) (resume rechecks ds ts c l))) (sym e)
+      (asked-as rechecks ds (trees_at ts c) (resume rechecks ds ts c fs) (Holds-tree_at ts id.0 _ at) le refl)
 
-pub asked-symbol : (m : Module) (s : State) (id : LpId) (k old new : ℕ) (n : Next) → Holds m.table id.0 (Sym k) → variable_plan m k n → old - new ≤ 1
-    → IsTurned m (Ask (Infer (trees_at m.table s.context) (tree_at m.table id.0)) (resume (declarations_of m) m.table s.context s.frames)) old new s n
-asked-symbol m s id k old new (next.Tell t) at h le =
-    asked-as (declarations_of m) (trees_at m.table s.context) (resume (declarations_of m) m.table s.context s.frames) (Holds-tree_at m.table id.0 _ at) le
-    (ap (λ o. and_then (found_if o) (resume (declarations_of m) m.table s.context s.frames)) h)
-asked-symbol m s id k old new next.No at h le =
-    asked-as (declarations_of m) (trees_at m.table s.context) (resume (declarations_of m) m.table s.context s.frames) (Holds-tree_at m.table id.0 _ at) le
-    (ap (λ o. and_then (found_if o) (resume (declarations_of m) m.table s.context s.frames)) h)
-asked-symbol m s id k old new (next.Ask t) at h le = absurd h
-asked-symbol m s id k old new next.Over at h le = absurd h
-asked-symbol m s id k old new (next.Under b j f) at h le = absurd h
+pub asked-symbol : (rechecks : Bool) (m : Module) (s : State) (id : LpId) (k old new : ℕ) (n : Next) → Holds m.table id.0 (Sym k) → variable_plan m k n → old - new ≤ 1
+    → IsTurned rechecks m (Ask (Infer (trees_at m.table s.context) (tree_at m.table id.0)) (resume rechecks (declarations_of m) m.table s.context s.frames)) old new s n
+asked-symbol rechecks m s id k old new (next.Tell t) at h le =
+    asked-as rechecks (declarations_of m) (trees_at m.table s.context) (resume rechecks (declarations_of m) m.table s.context s.frames) (Holds-tree_at m.table id.0 _ at) le
+    (ap (λ o. and_then (found_if o) (resume rechecks (declarations_of m) m.table s.context s.frames)) h)
+asked-symbol rechecks m s id k old new next.No at h le =
+    asked-as rechecks (declarations_of m) (trees_at m.table s.context) (resume rechecks (declarations_of m) m.table s.context s.frames) (Holds-tree_at m.table id.0 _ at) le
+    (ap (λ o. and_then (found_if o) (resume rechecks (declarations_of m) m.table s.context s.frames)) h)
+asked-symbol rechecks m s id k old new (next.Ask t) at h le = absurd h
+asked-symbol rechecks m s id k old new next.Over at h le = absurd h
+asked-symbol rechecks m s id k old new (next.Under b j f) at h le = absurd h
 
 -- the turns of the leaves: what is found, if anything, at once
-pub asked-found : (m : Module) (s : State) (id : LpId) (t : Tree) (o : Option Tree) (old new : ℕ) (n : Next) → tree_at m.table id.0 ≡ t → infer (declarations_of m) true (trees_at m.table s.context) t ≡ found_if o → IsFoundIf m.table o n → old - new ≤ 1
-    → IsTurned m (Ask (Infer (trees_at m.table s.context) (tree_at m.table id.0)) (resume (declarations_of m) m.table s.context s.frames)) old new s n
-asked-found m s id t o old new (next.Tell r) at is h le =
-    asked-as (declarations_of m) (trees_at m.table s.context) (resume (declarations_of m) m.table s.context s.frames) at le
-    (ap (λ p. and_then p (resume (declarations_of m) m.table s.context s.frames)) (is ∙ ap found_if h))
-asked-found m s id t o old new next.No at is h le =
-    asked-as (declarations_of m) (trees_at m.table s.context) (resume (declarations_of m) m.table s.context s.frames) at le
-    (ap (λ p. and_then p (resume (declarations_of m) m.table s.context s.frames)) (is ∙ ap found_if h))
-asked-found m s id t o old new (next.Ask r) at is h le = absurd h
-asked-found m s id t o old new next.Over at is h le = absurd h
-asked-found m s id t o old new (next.Under b j f) at is h le = absurd h
+pub asked-found : (rechecks : Bool) (m : Module) (s : State) (id : LpId) (t : Tree) (o : Option Tree) (old new : ℕ) (n : Next) → tree_at m.table id.0 ≡ t → infer (declarations_of m) rechecks (trees_at m.table s.context) t ≡ found_if o → IsFoundIf m.table o n → old - new ≤ 1
+    → IsTurned rechecks m (Ask (Infer (trees_at m.table s.context) (tree_at m.table id.0)) (resume rechecks (declarations_of m) m.table s.context s.frames)) old new s n
+asked-found rechecks m s id t o old new (next.Tell r) at is h le =
+    asked-as rechecks (declarations_of m) (trees_at m.table s.context) (resume rechecks (declarations_of m) m.table s.context s.frames) at le
+    (ap (λ p. and_then p (resume rechecks (declarations_of m) m.table s.context s.frames)) (is ∙ ap found_if h))
+asked-found rechecks m s id t o old new next.No at is h le =
+    asked-as rechecks (declarations_of m) (trees_at m.table s.context) (resume rechecks (declarations_of m) m.table s.context s.frames) at le
+    (ap (λ p. and_then p (resume rechecks (declarations_of m) m.table s.context s.frames)) (is ∙ ap found_if h))
+asked-found rechecks m s id t o old new (next.Ask r) at is h le = absurd h
+asked-found rechecks m s id t o old new next.Over at is h le = absurd h
+asked-found rechecks m s id t o old new (next.Under b j f) at is h le = absurd h
 
 -- a variable's type
 pub entry-of : (ts : List Tree) (c : List LpId) (n : ℕ) (o : Option LpId) → o ≡ slice_get c n → option_map (λ id. tree_at ts id.0) o ≡ slice_get (trees_at ts c) n
@@ -114,10 +114,10 @@ pub known-state : {ts us : List Tree} → Keeps ts us → (s : State) → IsKnow
 known-state k s h = record { context = AreKnown-Keeps k s.context h.context; frames = known-frames k s.frames h.frames }
 
 -- a leaf's turn, in a table that may have grown
-pub asked-leaf : (m : Module) (ts : List Tree) (s : State) (id : LpId) (t : Tree) (o : Option Tree) (old new : ℕ) (n : Next) → Keeps ts m.table → Holds ts id.0 t
-    → infer (declarations_of m) true (trees_at m.table s.context) t ≡ found_if o → IsFoundIf m.table o n → old - new ≤ 1
-    → IsTurned m (Ask (Infer (trees_at m.table s.context) (tree_at m.table id.0)) (resume (declarations_of m) m.table s.context s.frames)) old new s n
-asked-leaf m ts s id t o old new n k at is h le = asked-found m s id t o old new n (Holds-tree_at m.table id.0 t (k.stays.each id.0 t at)) is h le
+pub asked-leaf : (rechecks : Bool) (m : Module) (ts : List Tree) (s : State) (id : LpId) (t : Tree) (o : Option Tree) (old new : ℕ) (n : Next) → Keeps ts m.table → Holds ts id.0 t
+    → infer (declarations_of m) rechecks (trees_at m.table s.context) t ≡ found_if o → IsFoundIf m.table o n → old - new ≤ 1
+    → IsTurned rechecks m (Ask (Infer (trees_at m.table s.context) (tree_at m.table id.0)) (resume rechecks (declarations_of m) m.table s.context s.frames)) old new s n
+asked-leaf rechecks m ts s id t o old new n k at is h le = asked-found rechecks m s id t o old new n (Holds-tree_at m.table id.0 t (k.stays.each id.0 t at)) is h le
 
 -- what follows from what holds of a result
 pub IfOk-map : {X E : Type 0} {P Q : X → Type 0} (r : Result X E) → ((x : X) → P x → Q x) → IfOk r P → IfOk r Q

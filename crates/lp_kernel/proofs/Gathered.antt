@@ -1,12 +1,12 @@
 -- The arguments of an application.
-use Rattle.std.proofs.Common.{◌≡◌, sym, ap, ◌∙◌, subst, ℕ, suc, ◌<◌, arith, length, List, [], ◌∷◌, ◌++◌}
+use Rattle.std.proofs.Common.{◌≡◌, sym, ap, ◌∙◌, subst, ℕ, suc, ◌<◌, arith, length, List, [], ◌∷◌, ◌++◌, Bool}
 use Rattle.std.specs.Prelude.{reverse}
 use Rattle.std.proofs.lemmas.List.{append_assoc, append-nil, reverse-append}
 use Rattle.lp_spec.specs.Trees.{Tree, App}
 use Rattle.lp_term.specs.declared.LpId.{LpId}
 use Rattle.lp_term.specs.Tables.{tree_at, trees_at, Holds, AreKnown}
 use Rattle.lp_term.specs.TableLaws.{Holds-tree_at}
-use Rattle.std.proofs.Common.{◌-◌, ◌≤◌, true, Some}
+use Rattle.std.proofs.Common.{◌-◌, ◌≤◌, Some}
 use Rattle.lp_spec.specs.Trees.{Pi, put_all}
 use Rattle.lp_term.specs.Tables.{Stays}
 use Rattle.holide_sig.specs.declared.module.Module.{Module}
@@ -54,16 +54,16 @@ awaited-argument m s b k g a c f x w mid new hs at ha hc same popped pushed =
     let known = subst (AreKnownFrames m.table) popped hs.frames in
     (known.0.argument, record { context = hs.context; frames = subst (AreKnownFrames m.table) (sym pushed) ((ha, hc, known.0.function, known.0.whole), known.1) }, ap length pushed ∙ sym (ap length popped), turned known.0)
   where
-    turned : IsApplication m.table f x w → (left : ℕ) → IsMade m s b k g left (record { context = s.context; frames = new }) (next.Ask x)
-    turned app left =
+    turned : IsApplication m.table f x w → (rechecks : Bool) (left : ℕ) → IsMade rechecks m s b k g left (record { context = s.context; frames = new }) (next.Ask x)
+    turned app rechecks left =
         let none : left - left ≤ 0 = omega arith in
-        subst (λ l. Leaves (declarations_of m) true (resume (declarations_of m) m.table s.context l (put_all (spine_args k (tree_at m.table g.0)) (tree_at m.table b.0))) (left - left) (Ask (Infer (trees_at m.table s.context) (tree_at m.table x.0)) (resume (declarations_of m) m.table s.context new))) (sym popped)
-        (subst (λ n. Leaves (declarations_of m) true (resume (declarations_of m) m.table s.context (frame.Function f x w ∷ mid) (put_all (spine_args k (tree_at m.table n)) (tree_at m.table b.0))) (left - left) (Ask (Infer (trees_at m.table s.context) (tree_at m.table x.0)) (resume (declarations_of m) m.table s.context new))) same
-        (told-under (declarations_of m) m.table s.context mid f x w b a c k new (left - left) at app pushed none))
+        subst (λ l. Leaves (declarations_of m) rechecks (resume rechecks (declarations_of m) m.table s.context l (put_all (spine_args k (tree_at m.table g.0)) (tree_at m.table b.0))) (left - left) (Ask (Infer (trees_at m.table s.context) (tree_at m.table x.0)) (resume rechecks (declarations_of m) m.table s.context new))) (sym popped)
+        (subst (λ n. Leaves (declarations_of m) rechecks (resume rechecks (declarations_of m) m.table s.context (frame.Function f x w ∷ mid) (put_all (spine_args k (tree_at m.table n)) (tree_at m.table b.0))) (left - left) (Ask (Infer (trees_at m.table s.context) (tree_at m.table x.0)) (resume rechecks (declarations_of m) m.table s.context new))) same
+        (told-under rechecks (declarations_of m) m.table s.context mid f x w b a c k new (left - left) at app pushed none))
 
 -- a type that is made
-pub made-type : (m : Module) {ts : List Tree} (s t : State) (b : LpId) (k : ℕ) (g made : LpId) → Stays ts m.table → b.0 < length ts → g.0 < length ts → IsFilled ts b k g m.table made → t ≡ s → (left : ℕ) → IsMade m s b k g left t (next.Tell made)
-made-type m s t b k g made stays hb hg h same left =
+pub made-type : (rechecks : Bool) (m : Module) {ts : List Tree} (s t : State) (b : LpId) (k : ℕ) (g made : LpId) → Stays ts m.table → b.0 < length ts → g.0 < length ts → IsFilled ts b k g m.table made → t ≡ s → (left : ℕ) → IsMade rechecks m s b k g left t (next.Tell made)
+made-type rechecks m s t b k g made stays hb hg h same left =
     let none : left - left ≤ 0 = omega arith in
-    subst (λ u. IsMade m s b k g left u (next.Tell made)) (sym same)
-    (leaves_fewer (declarations_of m) true none (leaves_equal (declarations_of m) true (ap (resume (declarations_of m) m.table s.context s.frames) (sym (filled-here stays b k g made hb hg h)))))
+    subst (λ u. IsMade rechecks m s b k g left u (next.Tell made)) (sym same)
+    (leaves_fewer (declarations_of m) rechecks none (leaves_equal (declarations_of m) rechecks (ap (resume rechecks (declarations_of m) m.table s.context s.frames) (sym (filled-here stays b k g made hb hg h)))))

@@ -1,5 +1,5 @@
 -- Questions inside one another: a closed tree's type is asked for by itself, while what asked for it waits.
-use Rattle.std.proofs.Common.{◌≡◌, refl, sym, ap, ◌∙◌, subst, ℕ, suc, ◌+◌, ◌*◌, ◌-◌, ◌<◌, ◌≤◌, arith, true, length, List, [], ◌∷◌, ◌⊎◌, ⊎_elim}
+use Rattle.std.proofs.Common.{◌≡◌, refl, sym, ap, ◌∙◌, subst, ℕ, suc, ◌+◌, ◌*◌, ◌-◌, ◌<◌, ◌≤◌, arith, length, List, [], ◌∷◌, ◌⊎◌, ⊎_elim, Bool}
 use Rattle.std.proofs.Math.Path.{ap₂}
 use Rattle.lp_spec.specs.Trees.{Tree, loose}
 use Rattle.lp_spec.specs.Modules.{Declaration}
@@ -30,68 +30,68 @@ use Rattle.lp_kernel.proofs.Asked.{known-state}
 use Rattle.lp_kernel.proofs.Looped.{turned-then}
 
 -- a closed tree has one type, at one price, in all contexts
-pub typing-anywhere : (ds : List Declaration) → IsClosed ds → (G D : List Tree) (t : Tree) → loose t ≡ 0 → {reply : Reply} {n : ℕ} → Ends ds true (typing G t) reply n → Ends ds true (typing D t) reply n
-typing-anywhere ds c G D t h (refused e) = refused (infer-anywhere ds c true G D t No _ h e)
-typing-anywhere ds c G D t h (asked {t = u} e said) = asked (infer-anywhere ds c true G D t (Found u) _ h e) said
+pub typing-anywhere : (rechecks : Bool) (ds : List Declaration) → IsClosed ds → (G D : List Tree) (t : Tree) → loose t ≡ 0 → {reply : Reply} {n : ℕ} → Ends ds rechecks (typing G t) reply n → Ends ds rechecks (typing D t) reply n
+typing-anywhere rechecks ds c G D t h (refused e) = refused (infer-anywhere ds c rechecks G D t No _ h e)
+typing-anywhere rechecks ds c G D t h (asked {t = u} e said) = asked (infer-anywhere ds c rechecks G D t (Found u) _ h e) said
 
 -- a question takes a step
-takes-one : (ds : List Declaration) (q : Question) (rest : Tree → Plan) {reply : Reply} {n : ℕ} → Ends ds true (Ask q rest) reply n → 1 ≤ n
-takes-one ds q rest (refused e) = omega arith
-takes-one ds q rest (asked e f) = omega arith
+takes-one : (rechecks : Bool) (ds : List Declaration) (q : Question) (rest : Tree → Plan) {reply : Reply} {n : ℕ} → Ends ds rechecks (Ask q rest) reply n → 1 ≤ n
+takes-one rechecks ds q rest (refused e) = omega arith
+takes-one rechecks ds q rest (asked e f) = omega arith
 
 -- what is kept of a question that was asked where so much was left
-pub record IsLevel (m : Module) (p : Plan) (all here : ℕ) (s : State) (n : Next) : Type 0 where
+pub record IsLevel (rechecks : Bool) (m : Module) (p : Plan) (all here : ℕ) (s : State) (n : Next) : Type 0 where
   pub state : IsKnownState m.table s
   pub next : IsKnownNext m.table n
   pub less : here ≤ all
-  pub turned : IsTurned m p all here s n
+  pub turned : IsTurned rechecks m p all here s n
 
-next-level : (m k : Module) (p : Plan) (all here there : ℕ) (s t : State) (n o : Next) → IsHeld m → IsLevel m p all here s n → (n ≡ next.Over → ⊥) → Grows m k → IsKnownState k.table t → IsKnownNext k.table o → there ≤ here
-    → IsTurned k (pending (declarations_of k) k.table s n) here there t o → IsLevel k p all there t o
-next-level m k p all here there s t n o held l not g ht ho le b = record {
+next-level : (rechecks : Bool) (m k : Module) (p : Plan) (all here there : ℕ) (s t : State) (n o : Next) → IsHeld m → IsLevel rechecks m p all here s n → (n ≡ next.Over → ⊥) → Grows m k → IsKnownState k.table t → IsKnownNext k.table o → there ≤ here
+    → IsTurned rechecks k (pending rechecks (declarations_of k) k.table s n) here there t o → IsLevel rechecks k p all there t o
+next-level rechecks m k p all here there s t n o held l not g ht ho le b = record {
   state = ht;
   next = ho;
   less = omega (arith, l.less, le);
-  turned = turned-then m k p all here there s t n o g held l.state l.next not le l.less l.turned b;
+  turned = turned-then rechecks m k p all here there s t n o g held l.state l.next not le l.less l.turned b;
 }
 
 -- a question that waits stays where the module has grown
-level-stays : (m k : Module) (p : Plan) (all here : ℕ) (s : State) (id : LpId) → IsHeld m → Grows m k → IsLevel m p all here s (next.Ask id) → IsLevel k p all here s (next.Ask id)
-level-stays m k p all here s id held g l =
+level-stays : (rechecks : Bool) (m k : Module) (p : Plan) (all here : ℕ) (s : State) (id : LpId) → IsHeld m → Grows m k → IsLevel rechecks m p all here s (next.Ask id) → IsLevel rechecks k p all here s (next.Ask id)
+level-stays rechecks m k p all here s id held g l =
     let none : here - here ≤ 0 = omega arith in
     let le : here ≤ here = omega arith in
-    next-level m k p all here here s s (next.Ask id) (next.Ask id) held l (λ e. cc) g (known-state g.keeps s l.state) (omega (arith, g.keeps.longer, l.next)) le
-    (leaves_fewer (declarations_of k) true none (leaves_all (declarations_of k) true (pending (declarations_of k) k.table s (next.Ask id))))
+    next-level rechecks m k p all here here s s (next.Ask id) (next.Ask id) held l (λ e. cc) g (known-state g.keeps s l.state) (omega (arith, g.keeps.longer, l.next)) le
+    (leaves_fewer (declarations_of k) rechecks none (leaves_all (declarations_of k) rechecks (pending rechecks (declarations_of k) k.table s (next.Ask id))))
 
 -- a question in the empty context with nothing pending
-start-level : (m : Module) (id : LpId) (all : ℕ) (s : State) → id.0 < length m.table → s.context ≡ [] → s.frames ≡ [] → IsLevel m (typing [] (tree_at m.table id.0)) all all s (next.Ask id)
-start-level m id all s known e f = record {
+start-level : (rechecks : Bool) (m : Module) (id : LpId) (all : ℕ) (s : State) → id.0 < length m.table → s.context ≡ [] → s.frames ≡ [] → IsLevel rechecks m (typing [] (tree_at m.table id.0)) all all s (next.Ask id)
+start-level rechecks m id all s known e f = record {
   state = record { context = subst (AreKnown m.table) (sym e) tt; frames = subst (AreKnownFrames m.table) (sym f) tt };
   next = known;
   less = omega arith;
   turned =
       let is : all - all ≤ 0 = omega arith in
-      leaves_fewer (declarations_of m) true is
-      (leaves_equal (declarations_of m) true (ap₂ (λ k l. Ask (Infer (trees_at m.table k) (tree_at m.table id.0)) (resume (declarations_of m) m.table k l)) (sym e) (sym f)));
+      leaves_fewer (declarations_of m) rechecks is
+      (leaves_equal (declarations_of m) rechecks (ap₂ (λ k l. Ask (Infer (trees_at m.table k) (tree_at m.table id.0)) (resume rechecks (declarations_of m) m.table k l)) (sym e) (sym f)));
 }
 
 -- the questions that wait, each for the type of a closed tree, down to the first; the last is this, asked where so much was left
-abbrev pub AreWaiting : Module → Plan → ℕ → List Waiting → Plan → ℕ → Type 0
-AreWaiting m first all [] p start = (p ≡ first) × (start ≡ all)
-AreWaiting m first all (w ∷ ws) p start =
-    (q : Plan) × (before : ℕ) × IsLevel m q before start w.state (next.Ask w.id) × (loose (tree_at m.table w.id.0) ≡ 0) × (p ≡ typing [] (tree_at m.table w.id.0)) × AreWaiting m first all ws q before
+abbrev pub AreWaiting : (rechecks : Bool) → Module → Plan → ℕ → List Waiting → Plan → ℕ → Type 0
+AreWaiting rechecks m first all [] p start = (p ≡ first) × (start ≡ all)
+AreWaiting rechecks m first all (w ∷ ws) p start =
+    (q : Plan) × (before : ℕ) × IsLevel rechecks m q before start w.state (next.Ask w.id) × (loose (tree_at m.table w.id.0) ≡ 0) × (p ≡ typing [] (tree_at m.table w.id.0)) × AreWaiting rechecks m first all ws q before
 
-waiting-stays : (m k : Module) (first : Plan) (all : ℕ) (ws : List Waiting) (p : Plan) (start : ℕ) → IsHeld m → Grows m k → AreWaiting m first all ws p start → AreWaiting k first all ws p start
-waiting-stays m k first all [] p start held g h = h
-waiting-stays m k first all (w ∷ ws) p start held g h =
+waiting-stays : (rechecks : Bool) (m k : Module) (first : Plan) (all : ℕ) (ws : List Waiting) (p : Plan) (start : ℕ) → IsHeld m → Grows m k → AreWaiting rechecks m first all ws p start → AreWaiting rechecks k first all ws p start
+waiting-stays rechecks m k first all [] p start held g h = h
+waiting-stays rechecks m k first all (w ∷ ws) p start held g h =
     let same = tree_at-Stays g.keeps.stays w.id.0 h.2.next in
-    (h.0, h.1, level-stays m k h.0 h.1 start w.state w.id held g h.2, subst (λ t. loose t ≡ 0) same h.3, h.4 ∙ ap (typing []) same, waiting-stays m k first all ws h.0 h.1 held g h.5)
+    (h.0, h.1, level-stays rechecks m k h.0 h.1 start w.state w.id held g h.2, subst (λ t. loose t ≡ 0) same h.3, h.4 ∙ ap (typing []) same, waiting-stays rechecks m k first all ws h.0 h.1 held g h.5)
 
 -- what is noted stays right where the module has grown
-pub right-stays : (m k : Module) (es : List (LpId × LpId)) → IsHeld m → Grows m k → AreRight (declarations_of m) m.table es → AreRight (declarations_of k) k.table es
-right-stays m k es held g h = record { each = each }
+pub right-stays : (rechecks : Bool) (m k : Module) (es : List ℕ) → IsHeld m → Grows m k → AreRight rechecks (declarations_of m) m.table es → AreRight rechecks (declarations_of k) k.table es
+right-stays rechecks m k es held g h = record { each = each }
   where
-    each : (id found : LpId) → IsNoted es id found → IsTypeOfClosed (declarations_of k) k.table id found
+    each : (id found : LpId) → IsNoted es id found → IsTypeOfClosed rechecks (declarations_of k) k.table id found
     each id found i =
         let r = h.each id found i in
         let e = tree_at-Stays g.keeps.stays id.0 r.known in
@@ -100,72 +100,72 @@ right-stays m k es held g h = record { each = each }
           known = omega (arith, r.known, g.keeps.longer);
           found_known = omega (arith, r.found_known, g.keeps.longer);
           closed = subst (λ t. loose t ≡ 0) e r.closed;
-          answered = subst (λ ds. Answered ds true (typing [] (tree_at k.table id.0)) (Found (tree_at k.table found.0)) 1) (sym (declarations_of-Grows m k g held))
-              (subst (λ t. Answered (declarations_of m) true (typing [] t) (Found (tree_at k.table found.0)) 1) e
-              (subst (λ u. Answered (declarations_of m) true (typing [] (tree_at m.table id.0)) (Found u) 1) f r.answered));
+          answered = subst (λ ds. Answered ds rechecks (typing [] (tree_at k.table id.0)) (Found (tree_at k.table found.0)) 1) (sym (declarations_of-Grows m k g held))
+              (subst (λ t. Answered (declarations_of m) rechecks (typing [] t) (Found (tree_at k.table found.0)) 1) e
+              (subst (λ u. Answered (declarations_of m) rechecks (typing [] (tree_at m.table id.0)) (Found u) 1) f r.answered));
         }
 
 -- at first nothing is noted
-pub empty-right : (ds : List Declaration) (ts : List Tree) (es : List (LpId × LpId)) → ((t r : LpId) → IsNoted es t r → ⊥) → AreRight ds ts es
-empty-right ds ts es h = record { each = λ t r i. absurd (h t r i) }
+pub empty-right : (rechecks : Bool) (ds : List Declaration) (ts : List Tree) (es : List ℕ) → ((t r : LpId) → IsNoted es t r → ⊥) → AreRight rechecks ds ts es
+empty-right rechecks ds ts es h = record { each = λ t r i. absurd (h t r i) }
 
 -- what is true at each turn of the loop
-pub record IsNoting (from m : Module) (id : LpId) (all here : ℕ) (ws : List Waiting) (s : State) (n : Next) (es : List (LpId × LpId)) : Type 0 where
+pub record IsNoting (rechecks : Bool) (from m : Module) (id : LpId) (all here : ℕ) (ws : List Waiting) (s : State) (n : Next) (es : List ℕ) : Type 0 where
   pub grows : Grows from m
   pub held : IsHeld m
   pub less : here ≤ all
   pub question : Plan
   pub start : ℕ
-  pub level : IsLevel m question start here s n
-  pub waiting : AreWaiting m (typing [] (tree_at from.table id.0)) all ws question start
-  pub right : AreRight (declarations_of m) m.table es
+  pub level : IsLevel rechecks m question start here s n
+  pub waiting : AreWaiting rechecks m (typing [] (tree_at from.table id.0)) all ws question start
+  pub right : AreRight rechecks (declarations_of m) m.table es
 
-pub start-noting : (m : Module) (id : LpId) (all : ℕ) (ws : List Waiting) (s : State) (es : List (LpId × LpId)) → IsHeld m → id.0 < length m.table → AreRight (declarations_of m) m.table es → s.context ≡ [] → s.frames ≡ [] → ws ≡ []
-    → IsNoting m m id all all ws s (next.Ask id) es
-start-noting m id all ws s es held known right e f w = record {
+pub start-noting : (rechecks : Bool) (m : Module) (id : LpId) (all : ℕ) (ws : List Waiting) (s : State) (es : List ℕ) → IsHeld m → id.0 < length m.table → AreRight rechecks (declarations_of m) m.table es → s.context ≡ [] → s.frames ≡ [] → ws ≡ []
+    → IsNoting rechecks m m id all all ws s (next.Ask id) es
+start-noting rechecks m id all ws s es held known right e f w = record {
   grows = Grows-refl m;
   held = held;
   less = omega arith;
   question = typing [] (tree_at m.table id.0);
   start = all;
-  level = start-level m id all s known e f;
-  waiting = subst (λ l. AreWaiting m (typing [] (tree_at m.table id.0)) all l (typing [] (tree_at m.table id.0)) all) (sym w) (refl, refl);
+  level = start-level rechecks m id all s known e f;
+  waiting = subst (λ l. AreWaiting rechecks m (typing [] (tree_at m.table id.0)) all l (typing [] (tree_at m.table id.0)) all) (sym w) (refl, refl);
   right = right;
 }
 
-module _ (from m : Module) (id : LpId) (all here : ℕ) (ws : List Waiting) (s : State) where
+module _ (rechecks : Bool) (from m : Module) (id : LpId) (all here : ℕ) (ws : List Waiting) (s : State) where
   -- a turn of the question that is asked
-  pub noting-turn : (k : Module) (there : ℕ) (t : State) (n o : Next) (es : List (LpId × LpId)) → IsNoting from m id all here ws s n es → (n ≡ next.Over → ⊥) → Grows m k → IsKnownState k.table t → IsKnownNext k.table o → there ≤ here
-      → IsTurned k (pending (declarations_of k) k.table s n) here there t o → IsNoting from k id all there ws t o es
+  pub noting-turn : (k : Module) (there : ℕ) (t : State) (n o : Next) (es : List ℕ) → IsNoting rechecks from m id all here ws s n es → (n ≡ next.Over → ⊥) → Grows m k → IsKnownState k.table t → IsKnownNext k.table o → there ≤ here
+      → IsTurned rechecks k (pending rechecks (declarations_of k) k.table s n) here there t o → IsNoting rechecks from k id all there ws t o es
   noting-turn k there t n o es l not g ht ho le b = record {
     grows = Grows-trans l.grows g;
     held = IsHeld-Grows m k g l.held;
     less = omega (arith, l.less, le);
     question = l.question;
     start = l.start;
-    level = next-level m k l.question l.start here there s t n o l.held l.level not g ht ho le b;
-    waiting = waiting-stays m k (typing [] (tree_at from.table id.0)) all ws l.question l.start l.held g l.waiting;
-    right = right-stays m k es l.held g l.right;
+    level = next-level rechecks m k l.question l.start here there s t n o l.held l.level not g ht ho le b;
+    waiting = waiting-stays rechecks m k (typing [] (tree_at from.table id.0)) all ws l.question l.start l.held g l.waiting;
+    right = right-stays rechecks m k es l.held g l.right;
   }
 
   -- a turn that goes on with a type that was found
-  pub noting-told : (k : Module) (there : ℕ) (t : State) (found : LpId) (o : Next) (f : Frame) (fs : List Frame) (es : List (LpId × LpId)) → IsNoting from m id all here ws s (next.Tell found) es → s.frames ≡ f ∷ fs → Grows m k → IsKnownState k.table t
-      → IsKnownNext k.table o → there ≤ here → IsTurned k (resume (declarations_of k) k.table s.context (f ∷ fs) (tree_at k.table found.0)) here there t o → IsNoting from k id all there ws t o es
+  pub noting-told : (k : Module) (there : ℕ) (t : State) (found : LpId) (o : Next) (f : Frame) (fs : List Frame) (es : List ℕ) → IsNoting rechecks from m id all here ws s (next.Tell found) es → s.frames ≡ f ∷ fs → Grows m k → IsKnownState k.table t
+      → IsKnownNext k.table o → there ≤ here → IsTurned rechecks k (resume rechecks (declarations_of k) k.table s.context (f ∷ fs) (tree_at k.table found.0)) here there t o → IsNoting rechecks from k id all there ws t o es
   noting-told k there t found o f fs es l e g ht ho le b =
       noting-turn k there t (next.Tell found) o es l (λ q. cc) g ht ho le
-      (subst (λ l. IsTurned k (resume (declarations_of k) k.table s.context l (tree_at k.table found.0)) here there t o) (sym e) b)
+      (subst (λ l. IsTurned rechecks k (resume rechecks (declarations_of k) k.table s.context l (tree_at k.table found.0)) here there t o) (sym e) b)
 
   -- a turn that asks for a closed tree by itself
-  pub noting-closed : (tree : LpId) (inner : State) (all-waiting : List Waiting) (es : List (LpId × LpId)) → IsNoting from m id all here ws s (next.Ask tree) es → loose (tree_at m.table tree.0) ≡ 0 → inner.context ≡ [] → inner.frames ≡ []
-      → all-waiting ≡ record { id = tree; state = s } ∷ ws → IsNoting from m id all here all-waiting inner (next.Ask tree) es
+  pub noting-closed : (tree : LpId) (inner : State) (all-waiting : List Waiting) (es : List ℕ) → IsNoting rechecks from m id all here ws s (next.Ask tree) es → loose (tree_at m.table tree.0) ≡ 0 → inner.context ≡ [] → inner.frames ≡ []
+      → all-waiting ≡ record { id = tree; state = s } ∷ ws → IsNoting rechecks from m id all here all-waiting inner (next.Ask tree) es
   noting-closed tree inner all-waiting es l closed e f w = record {
     grows = l.grows;
     held = l.held;
     less = l.less;
     question = typing [] (tree_at m.table tree.0);
     start = here;
-    level = start-level m tree here inner l.level.next e f;
-    waiting = subst (λ l. AreWaiting m (typing [] (tree_at from.table id.0)) all l (typing [] (tree_at m.table tree.0)) here) (sym w) (l.question, l.start, l.level, closed, refl, l.waiting);
+    level = start-level rechecks m tree here inner l.level.next e f;
+    waiting = subst (λ l. AreWaiting rechecks m (typing [] (tree_at from.table id.0)) all l (typing [] (tree_at m.table tree.0)) here) (sym w) (l.question, l.start, l.level, closed, refl, l.waiting);
     right = l.right;
   }
 
@@ -174,40 +174,40 @@ module _ (from m : Module) (id : LpId) (all here : ℕ) (ws : List Waiting) (s :
   are-closed g held a = subst IsClosed (sym (declarations_of-Grows from m g held)) (IsModule-IsSelfContained (declarations_of from) a).closed
 
   -- a type that is remembered
-  pub noting-found : IsHeld from → IsModule (declarations_of from) → (tree r : LpId) (there : ℕ) (o : Next) (es : List (LpId × LpId)) → IsNoting from m id all here ws s (next.Ask tree) es → IsNoted es tree r → IsTakenUp r here there o
-      → IsNoting from m id all there ws s o es
+  pub noting-found : IsHeld from → IsModule (declarations_of from) → (tree r : LpId) (there : ℕ) (o : Next) (es : List ℕ) → IsNoting rechecks from m id all here ws s (next.Ask tree) es → IsNoted es tree r → IsTakenUp r here there o
+      → IsNoting rechecks from m id all there ws s o es
   noting-found held a tree r there o es l i = go o
     where
       T : Tree
       T = tree_at m.table tree.0
 
       rest : Tree → Plan
-      rest = resume (declarations_of m) m.table s.context s.frames
+      rest = resume rechecks (declarations_of m) m.table s.context s.frames
 
-      fact : IsTypeOfClosed (declarations_of m) m.table tree r
+      fact : IsTypeOfClosed rechecks (declarations_of m) m.table tree r
       fact = l.right.each tree r i
 
-      ends : Ends (declarations_of m) true (typing (trees_at m.table s.context) T) (Found (tree_at m.table r.0)) fact.answered.price
-      ends = typing-anywhere (declarations_of m) (are-closed l.grows held a) [] (trees_at m.table s.context) T fact.closed fact.answered.ends
+      ends : Ends (declarations_of m) rechecks (typing (trees_at m.table s.context) T) (Found (tree_at m.table r.0)) fact.answered.price
+      ends = typing-anywhere rechecks (declarations_of m) (are-closed l.grows held a) [] (trees_at m.table s.context) T fact.closed fact.answered.ends
 
-      go : (o : Next) → IsTakenUp r here there o → IsNoting from m id all there ws s o es
+      go : (o : Next) → IsTakenUp r here there o → IsNoting rechecks from m id all there ws s o es
       go (next.Tell x) h =
           let le : here - there ≤ fact.answered.price = omega (arith, h.1, fact.answered.within) in
           let lt : there ≤ here = omega (arith, h.1) in
-          subst (λ y. IsNoting from m id all there ws s (next.Tell y) es) (sym h.0)
+          subst (λ y. IsNoting rechecks from m id all there ws s (next.Tell y) es) (sym h.0)
           (noting-turn m there s (next.Ask tree) (next.Tell r) es l (λ e. cc) (Grows-refl m) l.level.state fact.found_known lt
-          (leaves_found (declarations_of m) true (typing (trees_at m.table s.context) T) rest (tree_at m.table r.0) fact.answered.price (here - there) ends le))
+          (leaves_found (declarations_of m) rechecks (typing (trees_at m.table s.context) T) rest (tree_at m.table r.0) fact.answered.price (here - there) ends le))
       go next.Over h =
           let lt : there ≤ here = omega (arith, h.1) in
           noting-turn m there s (next.Ask tree) next.Over es l (λ e. cc) (Grows-refl m) l.level.state tt lt
-          (λ reply n e. omega (arith, h.0, takes-one (declarations_of m) (Infer (trees_at m.table s.context) T) rest e))
+          (λ reply n e. omega (arith, h.0, takes-one rechecks (declarations_of m) (Infer (trees_at m.table s.context) T) rest e))
       go (next.Ask x) h = absurd h
       go (next.Under b k f) h = absurd h
       go next.No h = absurd h
 
   -- the type of a closed tree that was asked for by itself: it is noted, and what waits for it goes on
-  pub noting-end : IsHeld from → IsModule (declarations_of from) → (found : LpId) (w : Waiting) (rest : List Waiting) (es fs : List (LpId × LpId)) → IsNoting from m id all here ws s (next.Tell found) es → s.frames ≡ [] → ws ≡ w ∷ rest
-      → ((t r : LpId) → IsNoted fs t r → IsNoted es t r ⊎ ((t ≡ w.id) × (r ≡ found))) → IsNoting from m id all here rest w.state (next.Tell found) fs
+  pub noting-end : IsHeld from → IsModule (declarations_of from) → (found : LpId) (w : Waiting) (rest : List Waiting) (es fs : List ℕ) → IsNoting rechecks from m id all here ws s (next.Tell found) es → s.frames ≡ [] → ws ≡ w ∷ rest
+      → ((t r : LpId) → IsNoted fs t r → IsNoted es t r ⊎ ((t ≡ w.id) × (r ≡ found))) → IsNoting rechecks from m id all here rest w.state (next.Tell found) fs
   noting-end held a found w rest es fs l none e noted = record {
     grows = l.grows;
     held = l.held;
@@ -216,7 +216,7 @@ module _ (from m : Module) (id : LpId) (all here : ℕ) (ws : List Waiting) (s :
     start = h.1;
     level = record { state = h.2.state; next = l.level.next; less = omega (arith, h.2.less, l.level.less); turned = goes-on };
     waiting = h.5;
-    right = record { each = λ t r i. ⊎_elim (λ old. l.right.each t r old) (λ new. subst (λ x. IsTypeOfClosed ds m.table x r) (sym new.0) (subst (λ y. IsTypeOfClosed ds m.table w.id y) (sym new.1) fact)) (noted t r i) };
+    right = record { each = λ t r i. ⊎_elim (λ old. l.right.each t r old) (λ new. subst (λ x. IsTypeOfClosed rechecks ds m.table x r) (sym new.0) (subst (λ y. IsTypeOfClosed rechecks ds m.table w.id y) (sym new.1) fact)) (noted t r i) };
   }
     where
       ds : List Declaration
@@ -225,75 +225,75 @@ module _ (from m : Module) (id : LpId) (all here : ℕ) (ws : List Waiting) (s :
       T : Tree
       T = tree_at m.table w.id.0
 
-      h : AreWaiting m (typing [] (tree_at from.table id.0)) all (w ∷ rest) l.question l.start
-      h = subst (λ x. AreWaiting m (typing [] (tree_at from.table id.0)) all x l.question l.start) e l.waiting
+      h : AreWaiting rechecks m (typing [] (tree_at from.table id.0)) all (w ∷ rest) l.question l.start
+      h = subst (λ x. AreWaiting rechecks m (typing [] (tree_at from.table id.0)) all x l.question l.start) e l.waiting
 
-      left : Leaves ds true l.question (l.start - here) (Say (Found (tree_at m.table found.0)))
-      left = subst (λ x. Leaves ds true l.question (l.start - here) (resume ds m.table s.context x (tree_at m.table found.0))) none l.level.turned
+      left : Leaves ds rechecks l.question (l.start - here) (Say (Found (tree_at m.table found.0)))
+      left = subst (λ x. Leaves ds rechecks l.question (l.start - here) (resume rechecks ds m.table s.context x (tree_at m.table found.0))) none l.level.turned
 
-      up : (k : ℕ) × Ends ds true l.question (Found (tree_at m.table found.0)) k × (l.start - here) + 0 ≤ k
+      up : (k : ℕ) × Ends ds rechecks l.question (Found (tree_at m.table found.0)) k × (l.start - here) + 0 ≤ k
       up = left.up (Found (tree_at m.table found.0)) 0 said
 
-      ends : Ends ds true (typing [] T) (Found (tree_at m.table found.0)) up.0
-      ends = subst (λ p. Ends ds true p (Found (tree_at m.table found.0)) up.0) h.4 up.1
+      ends : Ends ds rechecks (typing [] T) (Found (tree_at m.table found.0)) up.0
+      ends = subst (λ p. Ends ds rechecks p (Found (tree_at m.table found.0)) up.0) h.4 up.1
 
-      fact : IsTypeOfClosed ds m.table w.id found
-      fact = record { known = h.2.next; found_known = l.level.next; closed = h.3; answered = record { price = up.0; ends = ends; within = takes-one ds (Infer [] T) (λ t. Say (Found t)) ends } }
+      fact : IsTypeOfClosed rechecks ds m.table w.id found
+      fact = record { known = h.2.next; found_known = l.level.next; closed = h.3; answered = record { price = up.0; ends = ends; within = takes-one rechecks ds (Infer [] T) (λ t. Say (Found t)) ends } }
 
-      goes-on : Leaves ds true h.0 (h.1 - here) (resume ds m.table w.state.context w.state.frames (tree_at m.table found.0))
+      goes-on : Leaves ds rechecks h.0 (h.1 - here) (resume rechecks ds m.table w.state.context w.state.frames (tree_at m.table found.0))
       goes-on =
           let le : l.start - here ≤ up.0 = omega (arith, up.2) in
           let sum : h.1 - here ≤ (h.1 - l.start) + (l.start - here) = omega (arith, h.2.less, l.level.less) in
-          leaves_fewer ds true sum
-          (leaves_then ds true h.2.turned
-          (leaves_found ds true (typing (trees_at m.table w.state.context) T) (resume ds m.table w.state.context w.state.frames) (tree_at m.table found.0) up.0 (l.start - here)
-          (typing-anywhere ds (are-closed l.grows held a) [] (trees_at m.table w.state.context) T h.3 ends) le))
+          leaves_fewer ds rechecks sum
+          (leaves_then ds rechecks h.2.turned
+          (leaves_found ds rechecks (typing (trees_at m.table w.state.context) T) (resume rechecks ds m.table w.state.context w.state.frames) (tree_at m.table found.0) up.0 (l.start - here)
+          (typing-anywhere rechecks ds (are-closed l.grows held a) [] (trees_at m.table w.state.context) T h.3 ends) le))
 
   -- the end of the loop
-  pub noting-last : IsHeld from → (found : LpId) (es : List (LpId × LpId)) → IsNoting from m id all here ws s (next.Tell found) es → s.frames ≡ [] → ws ≡ [] → IsInferred from [] id m.table all here (inferred.Found found)
+  pub noting-last : IsHeld from → (found : LpId) (es : List ℕ) → IsNoting rechecks from m id all here ws s (next.Tell found) es → s.frames ≡ [] → ws ≡ [] → IsInferred rechecks from [] id m.table all here (inferred.Found found)
   noting-last held found es l none e =
-      let h = subst (λ x. AreWaiting m (typing [] (tree_at from.table id.0)) all x l.question l.start) e l.waiting in
-      let left = subst (λ x. Leaves (declarations_of m) true l.question (l.start - here) (resume (declarations_of m) m.table s.context x (tree_at m.table found.0))) none l.level.turned in
+      let h = subst (λ x. AreWaiting rechecks m (typing [] (tree_at from.table id.0)) all x l.question l.start) e l.waiting in
+      let left = subst (λ x. Leaves (declarations_of m) rechecks l.question (l.start - here) (resume rechecks (declarations_of m) m.table s.context x (tree_at m.table found.0))) none l.level.turned in
       let up = left.up (Found (tree_at m.table found.0)) 0 said in
       record {
         price = up.0;
-        ends = subst (λ ds. Ends ds true (typing [] (tree_at from.table id.0)) (Found (tree_at m.table found.0)) up.0) (declarations_of-Grows from m l.grows held) (subst (λ p. Ends (declarations_of m) true p (Found (tree_at m.table found.0)) up.0) h.0 up.1);
+        ends = subst (λ ds. Ends ds rechecks (typing [] (tree_at from.table id.0)) (Found (tree_at m.table found.0)) up.0) (declarations_of-Grows from m l.grows held) (subst (λ p. Ends (declarations_of m) rechecks p (Found (tree_at m.table found.0)) up.0) h.0 up.1);
         within = omega (arith, up.2, h.1);
       }
 
-  pub noting-no : IsHeld from → IsModule (declarations_of from) → (es : List (LpId × LpId)) → IsNoting from m id all here ws s next.No es → IsInferred from [] id m.table all here inferred.No
+  pub noting-no : IsHeld from → IsModule (declarations_of from) → (es : List ℕ) → IsNoting rechecks from m id all here ws s next.No es → IsInferred rechecks from [] id m.table all here inferred.No
   noting-no held a es l =
       let up = l.level.turned.up No 0 said in
       let k = below ws l.question l.start up.0 l.waiting l.level.less up.1 (omega (arith, up.2)) in
-      record { price = k.0; ends = subst (λ ds. Ends ds true (typing [] (tree_at from.table id.0)) No k.0) (declarations_of-Grows from m l.grows held) k.1; within = k.2 }
+      record { price = k.0; ends = subst (λ ds. Ends ds rechecks (typing [] (tree_at from.table id.0)) No k.0) (declarations_of-Grows from m l.grows held) k.1; within = k.2 }
     where
       ds : List Declaration
       ds = declarations_of m
 
-      below : (ws : List Waiting) (p : Plan) (start n : ℕ) → AreWaiting m (typing [] (tree_at from.table id.0)) all ws p start → here ≤ start → Ends ds true p No n → start - here ≤ n → (k : ℕ) × Ends ds true (typing [] (tree_at from.table id.0)) No k × all - here ≤ k
-      below [] p start n h lt e le = (n, subst (λ q. Ends ds true q No n) h.0 e, omega (arith, le, h.1))
+      below : (ws : List Waiting) (p : Plan) (start n : ℕ) → AreWaiting rechecks m (typing [] (tree_at from.table id.0)) all ws p start → here ≤ start → Ends ds rechecks p No n → start - here ≤ n → (k : ℕ) × Ends ds rechecks (typing [] (tree_at from.table id.0)) No k × all - here ≤ k
+      below [] p start n h lt e le = (n, subst (λ q. Ends ds rechecks q No n) h.0 e, omega (arith, le, h.1))
       below (w ∷ ws) p start n h lt e le =
           let T = tree_at m.table w.id.0 in
           let G = trees_at m.table w.state.context in
-          let f = typing-anywhere ds (are-closed l.grows held a) [] G T h.3 (subst (λ q. Ends ds true q No n) h.4 e) in
-          let b = (leaves_no ds true (typing G T) (resume ds m.table w.state.context w.state.frames) n (start - here) f le).up No 0 said in
+          let f = typing-anywhere rechecks ds (are-closed l.grows held a) [] G T h.3 (subst (λ q. Ends ds rechecks q No n) h.4 e) in
+          let b = (leaves_no ds rechecks (typing G T) (resume rechecks ds m.table w.state.context w.state.frames) n (start - here) f le).up No 0 said in
           let c = h.2.turned.up No b.0 b.1 in
           below ws h.0 h.1 c.0 h.5 (omega (arith, lt, h.2.less)) c.1 (omega (arith, b.2, c.2, lt, h.2.less))
 
-  pub noting-over : IsHeld from → IsModule (declarations_of from) → (es : List (LpId × LpId)) → IsNoting from m id all here ws s next.Over es → IsInferred from [] id m.table all here inferred.Over
-  noting-over held a es l = subst (λ ds. IsOver ds true (typing [] (tree_at from.table id.0)) all) (declarations_of-Grows from m l.grows held) (below ws l.question l.start l.waiting l.level.turned)
+  pub noting-over : IsHeld from → IsModule (declarations_of from) → (es : List ℕ) → IsNoting rechecks from m id all here ws s next.Over es → IsInferred rechecks from [] id m.table all here inferred.Over
+  noting-over held a es l = subst (λ ds. IsOver ds rechecks (typing [] (tree_at from.table id.0)) all) (declarations_of-Grows from m l.grows held) (below ws l.question l.start l.waiting l.level.turned)
     where
       ds : List Declaration
       ds = declarations_of m
 
-      below : (ws : List Waiting) (p : Plan) (start : ℕ) → AreWaiting m (typing [] (tree_at from.table id.0)) all ws p start → IsOver ds true p start → IsOver ds true (typing [] (tree_at from.table id.0)) all
-      below [] p start h over = λ reply n e. omega (arith, over reply n (subst (λ q. Ends ds true q reply n) (sym h.0) e), h.1)
+      below : (ws : List Waiting) (p : Plan) (start : ℕ) → AreWaiting rechecks m (typing [] (tree_at from.table id.0)) all ws p start → IsOver ds rechecks p start → IsOver ds rechecks (typing [] (tree_at from.table id.0)) all
+      below [] p start h over = λ reply n e. omega (arith, over reply n (subst (λ q. Ends ds rechecks q reply n) (sym h.0) e), h.1)
       below (w ∷ ws) p start h over =
           let T = tree_at m.table w.id.0 in
           let G = trees_at m.table w.state.context in
-          let inner = λ (reply : Reply) (n : ℕ) (e : Ends ds true (typing G T) reply n). over reply n (subst (λ q. Ends ds true q reply n) (sym h.4) (typing-anywhere ds (are-closed l.grows held a) G [] T h.3 e)) in
+          let inner = λ (reply : Reply) (n : ℕ) (e : Ends ds rechecks (typing G T) reply n). over reply n (subst (λ q. Ends ds rechecks q reply n) (sym h.4) (typing-anywhere rechecks ds (are-closed l.grows held a) G [] T h.3 e)) in
           let sum : h.1 ≤ (h.1 - start) + start = omega arith in
-          below ws h.0 h.1 h.5 (over_leaves ds true h.2.turned sum (over_then ds true (typing G T) (resume ds m.table w.state.context w.state.frames) start inner))
+          below ws h.0 h.1 h.5 (over_leaves ds rechecks h.2.turned sum (over_then ds rechecks (typing G T) (resume rechecks ds m.table w.state.context w.state.frames) start inner))
 
 -- how much the questions that wait have pending
 abbrev pub load : List Waiting → ℕ

@@ -1,6 +1,7 @@
 pub mod Asked
 pub mod Checked
 pub mod Expected
+pub mod Filled
 pub mod Judged
 pub mod Levels
 pub mod Looped

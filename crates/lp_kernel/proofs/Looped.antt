@@ -1,5 +1,5 @@
 -- What the loop keeps: what is pending is what the question leaves.
-use Rattle.std.proofs.Common.{◌≡◌, refl, sym, ap, ◌∙◌, subst, ℕ, ◌-◌, ◌<◌, ◌≤◌, arith, true, length, List, [], ◌∷◌}
+use Rattle.std.proofs.Common.{◌≡◌, refl, sym, ap, ◌∙◌, subst, ℕ, ◌-◌, ◌<◌, ◌≤◌, arith, length, List, [], ◌∷◌, Bool}
 use Rattle.std.proofs.Math.Path.{fun_ext}
 use Rattle.lp_spec.specs.Trees.{Tree, put_all}
 use Rattle.std.proofs.Math.Path.{ap₂}
@@ -24,9 +24,9 @@ use Rattle.lp_kernel.specs.Inference.{typing, IsInferred}
 use Rattle.lp_kernel.specs.Pending.{spine_args, resume, pending, after, below, IsTurned, IsKnownFrame, AreKnownFrames, IsKnownState, IsKnownNext}
 use Rattle.lp_conv.specs.GrowthLaws.{trees_at-Stays}
 
-module _ (ds : List Declaration) {ts us : List Tree} (s : Stays ts us) where
+module _ (rechecks : Bool) (ds : List Declaration) {ts us : List Tree} (s : Stays ts us) where
   -- how a frame goes on stays
-  after-stays : (G : List Tree) (f : Frame) (t : Tree) → IsKnownFrame ts f → after ds us G f t ≡ after ds ts G f t
+  after-stays : (G : List Tree) (f : Frame) (t : Tree) → IsKnownFrame ts f → after rechecks ds us G f t ≡ after rechecks ds ts G f t
   after-stays G (frame.Function f x w) t h = rw (tree_at-Stays s x.0 h.argument) refl
   after-stays G (frame.Reached p f x w) t h = rw (tree_at-Stays s p.0 h.0, tree_at-Stays s x.0 h.1.argument) refl
   after-stays G (frame.Argument a b k f w) t h = rw (tree_at-Stays s a.0 h.0, tree_at-Stays s b.0 h.1, tree_at-Stays s f.0 h.2, tree_at-Stays s w.0 h.3) refl
@@ -49,55 +49,55 @@ module _ (ds : List Declaration) {ts us : List Tree} (s : Stays ts us) where
   below-known (id ∷ ids) frame.ProductBody h = h.1
 
   -- how all frames go on stays
-  resume-stays : (c : List LpId) (fs : List Frame) (t : Tree) → AreKnown ts c → AreKnownFrames ts fs → resume ds us c fs t ≡ resume ds ts c fs t
+  resume-stays : (c : List LpId) (fs : List Frame) (t : Tree) → AreKnown ts c → AreKnownFrames ts fs → resume rechecks ds us c fs t ≡ resume rechecks ds ts c fs t
   resume-stays c [] t hc h = refl
   resume-stays c (f ∷ fs) t hc h =
-      ap (λ G. and_then (after ds us G f t) (resume ds us (below c f) fs)) (trees_at-Stays s c hc)
+      ap (λ G. and_then (after rechecks ds us G f t) (resume rechecks ds us (below c f) fs)) (trees_at-Stays s c hc)
       ∙ ap₂ and_then (after-stays (trees_at ts c) f t h.0) (fun_ext (λ u. resume-stays (below c f) fs u (below-known c f hc) h.1))
 
   -- what is pending stays
-  pub pending-stays : (st : State) (n : Next) → IsKnownState ts st → IsKnownNext ts n → pending ds us st n ≡ pending ds ts st n
+  pub pending-stays : (st : State) (n : Next) → IsKnownState ts st → IsKnownNext ts n → pending rechecks ds us st n ≡ pending rechecks ds ts st n
   pending-stays st (next.Ask id) h k =
       ap₂ Ask (ap₂ Infer (trees_at-Stays s st.context h.context) (sym (tree_at-Stays s id.0 k))) (fun_ext (λ t. resume-stays st.context st.frames t h.context h.frames))
-  pending-stays st (next.Tell id) h k = resume-stays st.context st.frames (tree_at us id.0) h.context h.frames ∙ ap (resume ds ts st.context st.frames) (sym (tree_at-Stays s id.0 k))
-  pending-stays st (next.Under b j f) h k = resume-stays st.context st.frames (put_all (spine_args j (tree_at us f.0)) (tree_at us b.0)) h.context h.frames ∙ ap₂ (λ F B. resume ds ts st.context st.frames (put_all (spine_args j F) B)) (sym (tree_at-Stays s f.0 k.1)) (sym (tree_at-Stays s b.0 k.0))
+  pending-stays st (next.Tell id) h k = resume-stays st.context st.frames (tree_at us id.0) h.context h.frames ∙ ap (resume rechecks ds ts st.context st.frames) (sym (tree_at-Stays s id.0 k))
+  pending-stays st (next.Under b j f) h k = resume-stays st.context st.frames (put_all (spine_args j (tree_at us f.0)) (tree_at us b.0)) h.context h.frames ∙ ap₂ (λ F B. resume rechecks ds ts st.context st.frames (put_all (spine_args j F) B)) (sym (tree_at-Stays s f.0 k.1)) (sym (tree_at-Stays s b.0 k.0))
   pending-stays st next.No h k = refl
   pending-stays st next.Over h k = refl
 
 -- a turn after others
-pub turned-then : (m k : Module) (p : Plan) (all here there : ℕ) (s t : State) (n o : Next) → Grows m k → IsHeld m → IsKnownState m.table s → IsKnownNext m.table n → (n ≡ next.Over → ⊥) → there ≤ here → here ≤ all
-    → IsTurned m p all here s n → IsTurned k (pending (declarations_of k) k.table s n) here there t o → IsTurned k p all there t o
-turned-then m k p all here there s t n o g held hs hn not lt la a b = go o b
+pub turned-then : (rechecks : Bool) (m k : Module) (p : Plan) (all here there : ℕ) (s t : State) (n o : Next) → Grows m k → IsHeld m → IsKnownState m.table s → IsKnownNext m.table n → (n ≡ next.Over → ⊥) → there ≤ here → here ≤ all
+    → IsTurned rechecks m p all here s n → IsTurned rechecks k (pending rechecks (declarations_of k) k.table s n) here there t o → IsTurned rechecks k p all there t o
+turned-then rechecks m k p all here there s t n o g held hs hn not lt la a b = go o b
   where
-    first : Leaves (declarations_of k) true p (all - here) (pending (declarations_of k) k.table s n)
-    first = subst (λ ds. Leaves ds true p (all - here) (pending ds k.table s n)) (sym (declarations_of-Grows m k g held))
-        (subst (Leaves (declarations_of m) true p (all - here)) (sym (pending-stays (declarations_of m) g.keeps.stays s n hs hn)) (plain n not a))
+    first : Leaves (declarations_of k) rechecks p (all - here) (pending rechecks (declarations_of k) k.table s n)
+    first = subst (λ ds. Leaves ds rechecks p (all - here) (pending rechecks ds k.table s n)) (sym (declarations_of-Grows m k g held))
+        (subst (Leaves (declarations_of m) rechecks p (all - here)) (sym (pending-stays rechecks (declarations_of m) g.keeps.stays s n hs hn)) (plain n not a))
       where
-        plain : (n : Next) → (n ≡ next.Over → ⊥) → IsTurned m p all here s n → Leaves (declarations_of m) true p (all - here) (pending (declarations_of m) m.table s n)
+        plain : (n : Next) → (n ≡ next.Over → ⊥) → IsTurned rechecks m p all here s n → Leaves (declarations_of m) rechecks p (all - here) (pending rechecks (declarations_of m) m.table s n)
         plain (next.Ask id) not h = h
         plain (next.Tell id) not h = h
         plain (next.Under b j f) not h = h
         plain next.No not h = h
         plain next.Over not h = absurd (not refl)
 
-    go : (o : Next) → IsTurned k (pending (declarations_of k) k.table s n) here there t o → IsTurned k p all there t o
-    go (next.Ask id) h = leaves_fewer (declarations_of k) true (omega (arith, lt, la)) (leaves_then (declarations_of k) true first h)
-    go (next.Tell id) h = leaves_fewer (declarations_of k) true (omega (arith, lt, la)) (leaves_then (declarations_of k) true first h)
-    go (next.Under b j f) h = leaves_fewer (declarations_of k) true (omega (arith, lt, la)) (leaves_then (declarations_of k) true first h)
-    go next.No h = leaves_fewer (declarations_of k) true (omega (arith, lt, la)) (leaves_then (declarations_of k) true first h)
-    go next.Over h = over_leaves (declarations_of k) true first (omega (arith, la)) h
+    go : (o : Next) → IsTurned rechecks k (pending rechecks (declarations_of k) k.table s n) here there t o → IsTurned rechecks k p all there t o
+    go (next.Ask id) h = leaves_fewer (declarations_of k) rechecks (omega (arith, lt, la)) (leaves_then (declarations_of k) rechecks first h)
+    go (next.Tell id) h = leaves_fewer (declarations_of k) rechecks (omega (arith, lt, la)) (leaves_then (declarations_of k) rechecks first h)
+    go (next.Under b j f) h = leaves_fewer (declarations_of k) rechecks (omega (arith, lt, la)) (leaves_then (declarations_of k) rechecks first h)
+    go next.No h = leaves_fewer (declarations_of k) rechecks (omega (arith, lt, la)) (leaves_then (declarations_of k) rechecks first h)
+    go next.Over h = over_leaves (declarations_of k) rechecks first (omega (arith, la)) h
 
 -- what is true at each turn of the loop
-pub record IsLoop (from m : Module) (c : List LpId) (id : LpId) (all here : ℕ) (s : State) (n : Next) : Type 0 where
+pub record IsLoop (rechecks : Bool) (from m : Module) (c : List LpId) (id : LpId) (all here : ℕ) (s : State) (n : Next) : Type 0 where
   pub grows : Grows from m
   pub held : IsHeld m
   pub state : IsKnownState m.table s
   pub next : IsKnownNext m.table n
   pub less : here ≤ all
-  pub turned : IsTurned m (alone (Infer (trees_at from.table c) (tree_at from.table id.0))) all here s n
+  pub turned : IsTurned rechecks m (alone (Infer (trees_at from.table c) (tree_at from.table id.0))) all here s n
 
-pub start-loop : (m : Module) (c : List LpId) (id : LpId) (all : ℕ) (s : State) → IsHeld m → AreKnown m.table c → id.0 < length m.table → s.context ≡ c → s.frames ≡ [] → IsLoop m m c id all all s (next.Ask id)
-start-loop m c id all s held hc known e f = record {
+pub start-loop : (rechecks : Bool) (m : Module) (c : List LpId) (id : LpId) (all : ℕ) (s : State) → IsHeld m → AreKnown m.table c → id.0 < length m.table → s.context ≡ c → s.frames ≡ [] → IsLoop rechecks m m c id all all s (next.Ask id)
+start-loop rechecks m c id all s held hc known e f = record {
   grows = record { keeps = Keeps-refl m.table; decls = refl };
   held = held;
   state = record { context = subst (AreKnown m.table) (sym e) hc; frames = subst (AreKnownFrames m.table) (sym f) tt };
@@ -105,38 +105,38 @@ start-loop m c id all s held hc known e f = record {
   less = omega arith;
   turned =
       let is : all - all ≤ 0 = omega arith in
-      leaves_fewer (declarations_of m) true is
-      (leaves_equal (declarations_of m) true (ap₂ (λ k l. Ask (Infer (trees_at m.table k) (tree_at m.table id.0)) (resume (declarations_of m) m.table k l)) (sym e) (sym f)));
+      leaves_fewer (declarations_of m) rechecks is
+      (leaves_equal (declarations_of m) rechecks (ap₂ (λ k l. Ask (Infer (trees_at m.table k) (tree_at m.table id.0)) (resume rechecks (declarations_of m) m.table k l)) (sym e) (sym f)));
 }
 
 -- a turn of the loop
-pub next-loop : (from m k : Module) (c : List LpId) (id : LpId) (all here there : ℕ) (s t : State) (n o : Next) → IsLoop from m c id all here s n → (n ≡ next.Over → ⊥) → Grows m k → IsKnownState k.table t → IsKnownNext k.table o → there ≤ here
-    → IsTurned k (pending (declarations_of k) k.table s n) here there t o → IsLoop from k c id all there t o
-next-loop from m k c id all here there s t n o l not g ht ho le b = record {
+pub next-loop : (rechecks : Bool) (from m k : Module) (c : List LpId) (id : LpId) (all here there : ℕ) (s t : State) (n o : Next) → IsLoop rechecks from m c id all here s n → (n ≡ next.Over → ⊥) → Grows m k → IsKnownState k.table t → IsKnownNext k.table o → there ≤ here
+    → IsTurned rechecks k (pending rechecks (declarations_of k) k.table s n) here there t o → IsLoop rechecks from k c id all there t o
+next-loop rechecks from m k c id all here there s t n o l not g ht ho le b = record {
   grows = Grows-trans l.grows g;
   held = IsHeld-Grows m k g l.held;
   state = ht;
   next = ho;
   less = omega (arith, l.less, le);
-  turned = turned-then m k (alone (Infer (trees_at from.table c) (tree_at from.table id.0))) all here there s t n o g l.held l.state l.next not le l.less l.turned b;
+  turned = turned-then rechecks m k (alone (Infer (trees_at from.table c) (tree_at from.table id.0))) all here there s t n o g l.held l.state l.next not le l.less l.turned b;
 }
 
 -- the end of the loop
-pub found-end : (from m : Module) (c : List LpId) (id found : LpId) (all here : ℕ) (s : State) → IsHeld from → IsLoop from m c id all here s (next.Tell found) → s.frames ≡ [] → IsInferred from c id m.table all here (inferred.Found found)
-found-end from m c id found all here s held l e =
-    let p = subst (λ fs. Leaves (declarations_of m) true (alone (Infer (trees_at from.table c) (tree_at from.table id.0))) (all - here) (resume (declarations_of m) m.table s.context fs (tree_at m.table found.0))) e l.turned in
+pub found-end : (rechecks : Bool) (from m : Module) (c : List LpId) (id found : LpId) (all here : ℕ) (s : State) → IsHeld from → IsLoop rechecks from m c id all here s (next.Tell found) → s.frames ≡ [] → IsInferred rechecks from c id m.table all here (inferred.Found found)
+found-end rechecks from m c id found all here s held l e =
+    let p = subst (λ fs. Leaves (declarations_of m) rechecks (alone (Infer (trees_at from.table c) (tree_at from.table id.0))) (all - here) (resume rechecks (declarations_of m) m.table s.context fs (tree_at m.table found.0))) e l.turned in
     let u = p.up (Found (tree_at m.table found.0)) 0 said in
-    record { price = u.0; ends = subst (λ ds. Ends ds true (typing (trees_at from.table c) (tree_at from.table id.0)) (Found (tree_at m.table found.0)) u.0) (declarations_of-Grows from m l.grows held) u.1; within = omega (arith, u.2) }
+    record { price = u.0; ends = subst (λ ds. Ends ds rechecks (typing (trees_at from.table c) (tree_at from.table id.0)) (Found (tree_at m.table found.0)) u.0) (declarations_of-Grows from m l.grows held) u.1; within = omega (arith, u.2) }
 
-pub no-end : (from m : Module) (c : List LpId) (id : LpId) (all here : ℕ) (s : State) → IsHeld from → IsLoop from m c id all here s next.No → IsInferred from c id m.table all here inferred.No
-no-end from m c id all here s held l = let u = l.turned.up No 0 said in record { price = u.0; ends = subst (λ ds. Ends ds true (typing (trees_at from.table c) (tree_at from.table id.0)) No u.0) (declarations_of-Grows from m l.grows held) u.1; within = omega (arith, u.2) }
+pub no-end : (rechecks : Bool) (from m : Module) (c : List LpId) (id : LpId) (all here : ℕ) (s : State) → IsHeld from → IsLoop rechecks from m c id all here s next.No → IsInferred rechecks from c id m.table all here inferred.No
+no-end rechecks from m c id all here s held l = let u = l.turned.up No 0 said in record { price = u.0; ends = subst (λ ds. Ends ds rechecks (typing (trees_at from.table c) (tree_at from.table id.0)) No u.0) (declarations_of-Grows from m l.grows held) u.1; within = omega (arith, u.2) }
 
 -- a turn of the loop that goes on with a type that was found
-pub told-loop : (from m k : Module) (c : List LpId) (id : LpId) (all here there : ℕ) (s t : State) (found : LpId) (o : Next) (f : Frame) (fs : List Frame) → IsLoop from m c id all here s (next.Tell found) → s.frames ≡ f ∷ fs → Grows m k → IsKnownState k.table t
-    → IsKnownNext k.table o → there ≤ here → IsTurned k (resume (declarations_of k) k.table s.context (f ∷ fs) (tree_at k.table found.0)) here there t o → IsLoop from k c id all there t o
-told-loop from m k c id all here there s t found o f fs l e g ht ho le b =
-    next-loop from m k c id all here there s t (next.Tell found) o l (λ q. cc) g ht ho le
-    (subst (λ l. IsTurned k (resume (declarations_of k) k.table s.context l (tree_at k.table found.0)) here there t o) (sym e) b)
+pub told-loop : (rechecks : Bool) (from m k : Module) (c : List LpId) (id : LpId) (all here there : ℕ) (s t : State) (found : LpId) (o : Next) (f : Frame) (fs : List Frame) → IsLoop rechecks from m c id all here s (next.Tell found) → s.frames ≡ f ∷ fs → Grows m k → IsKnownState k.table t
+    → IsKnownNext k.table o → there ≤ here → IsTurned rechecks k (resume rechecks (declarations_of k) k.table s.context (f ∷ fs) (tree_at k.table found.0)) here there t o → IsLoop rechecks from k c id all there t o
+told-loop rechecks from m k c id all here there s t found o f fs l e g ht ho le b =
+    next-loop rechecks from m k c id all here there s t (next.Tell found) o l (λ q. cc) g ht ho le
+    (subst (λ l. IsTurned rechecks k (resume rechecks (declarations_of k) k.table s.context l (tree_at k.table found.0)) here there t o) (sym e) b)
 
-pub over-end : (from m : Module) (c : List LpId) (id : LpId) (all here : ℕ) (s : State) → IsHeld from → IsLoop from m c id all here s next.Over → IsInferred from c id m.table all here inferred.Over
-over-end from m c id all here s held l = subst (λ ds. IsOver ds true (typing (trees_at from.table c) (tree_at from.table id.0)) all) (declarations_of-Grows from m l.grows held) l.turned
+pub over-end : (rechecks : Bool) (from m : Module) (c : List LpId) (id : LpId) (all here : ℕ) (s : State) → IsHeld from → IsLoop rechecks from m c id all here s next.Over → IsInferred rechecks from c id m.table all here inferred.Over
+over-end rechecks from m c id all here s held l = subst (λ ds. IsOver ds rechecks (typing (trees_at from.table c) (tree_at from.table id.0)) all) (declarations_of-Grows from m l.grows held) l.turned

@@ -1,100 +1,98 @@
--- What was noted in a memo, after another note: for any keys with an exact test.
-use Rattle.std.proofs.Common.{◌≡◌, ℕ, zero, suc, refl, sym, ap, ◌∙◌, List, [], ◌∷◌, Option, Some, None, Bool, true, false, arith, inl, inr, ◌⊎◌, ⊎_elim}
-use Rattle.std.specs.Prelude.{slice_get, if◌then◌else◌, IfSome, IfNone}
-use Rattle.std.specs.Map.{lookup}
-use Rattle.indexmap.specs.IndexMap.{insert_entry}
+-- What was noted in a memo, after another note, and after some were forgotten.
+use Rattle.std.proofs.Common.{◌≡◌, ◌≢◌, ℕ, zero, suc, ◌<◌, ◌≤◌, refl, sym, ap, ◌∙◌, subst, List, [], ◌∷◌, ◌++◌, length, Some, None, arith, inl, inr, ◌⊎◌, ⊎_elim}
+use Rattle.std.specs.Prelude.{slice_get, slice_set, take}
+use Rattle.std.proofs.lemmas.Bool.{cases_lt}
+use Rattle.std.proofs.lemmas.Bool.Decides.{eqb_tells}
+use Rattle.std.proofs.lemmas.List.{length-set, length-take}
+use Rattle.std.proofs.lemmas.Option.{slice_get_within, same_Some}
+use Rattle.lp_binding.specs.LookUps.{slice_get-append, slice_get-one_more, slice_get-of_take}
 use Rattle.lp_term.specs.declared.LpId.{LpId}
-use Rattle.lp_term.specs.contracts.LpIdPartialEq.TheImpl as id_eq
-use Rattle.lp_kernel.specs.Noted.{IsNoted}
-use Rattle.std.proofs.Math.Path.{ap₂}
-use Rattle.std.proofs.lemmas.Bool.{eqb-true}
-use Rattle.std.proofs.lemmas.Option.{same_Some}
+use Rattle.lp_kernel.specs.Noted.{IsNoted, IsLonger, IsForgotten}
 
--- numbers that are equal by their test are one, and each is equal to itself by it
-pub id_same : (p q : LpId) → id_eq.eq-value.it p q ≡ true → p ≡ q
-id_same p q h = let x = eqb-true p.0 q.0 h in λ i. record { 0 = x i }
+same_id : (p q : LpId) → p.0 ≡ q.0 → p ≡ q
+same_id p q e = λ i. record { 0 = e i }
 
-pub id_own : (p : LpId) → id_eq.eq-value.it p p ≡ true
-id_own p = grind arith
+-- an item of a list in which one was set
+pub slice_get-set : {X : Type 0} (xs : List X) (p : ℕ) (x : X) → p < length xs → slice_get (slice_set xs p x) p ≡ Some x
+slice_get-set [] p x h = absurd (omega (arith, h))
+slice_get-set (y ∷ xs) zero x h = refl
+slice_get-set (y ∷ xs) (suc p) x h = slice_get-set xs p x (omega (arith, h))
 
-module _ {K V : Type 0} (eq : K → K → Bool) (exact : (a b : K) → eq a b ≡ true → a ≡ b) (own : (a : K) → eq a a ≡ true) where
-  key_of : Option (K × V) → K → K
-  key_of None p = p
-  key_of (Some e) p = e.0
+pub slice_get-set_other : {X : Type 0} (xs : List X) (p q : ℕ) (x : X) → q ≢ p → slice_get (slice_set xs p x) q ≡ slice_get xs q
+slice_get-set_other [] p q x h = refl
+slice_get-set_other (y ∷ xs) zero zero x h = absurd (h refl)
+slice_get-set_other (y ∷ xs) zero (suc q) x h = refl
+slice_get-set_other (y ∷ xs) (suc p) zero x h = refl
+slice_get-set_other (y ∷ xs) (suc p) (suc q) x h = slice_get-set_other xs p q x (λ e. h (ap suc e))
 
-  value_of : Option (K × V) → V → V
-  value_of None r = r
-  value_of (Some e) r = e.1
+slice_get-take : {X : Type 0} (n : ℕ) (xs : List X) (i : ℕ) → i < n → slice_get (take n xs) i ≡ slice_get xs i
+slice_get-take zero xs i h = absurd (omega (arith, h))
+slice_get-take (suc n) [] i h = refl
+slice_get-take (suc n) (x ∷ xs) zero h = refl
+slice_get-take (suc n) (x ∷ xs) (suc i) h = slice_get-take n xs i (omega (arith, h))
 
-  entry_is : (e : K × V) (p : K) (r : V) → Some e ≡ Some (p, r) → (e.0 ≡ p) × (e.1 ≡ r)
-  unfolding key_of value_of
-  entry_is e p r h = (ap (λ o. key_of o p) h, ap (λ o. value_of o r) h)
+-- a list that is made longer
+pub IsLonger-refl : (xs : List ℕ) → IsLonger xs xs
+IsLonger-refl xs = record { noted = λ p n e. e; stay = λ p n e. e }
 
-  -- what is noted on a list with one entry more is noted behind it, or the entry
-  IsNoted-cons : (e : K × V) (es : List (K × V)) (p : K) (r : V) → IsNoted (e ∷ es) p r → ((e.0 ≡ p) × (e.1 ≡ r)) ⊎ IsNoted es p r
-  IsNoted-cons e es p r h = go h.0 h.1
+pub IsLonger-more : {old now new : List ℕ} → IsLonger old now → new ≡ now ++ 0 ∷ [] → IsLonger old new
+IsLonger-more {old} {now} {new} l e = record {
+  noted = λ p n h. ⊎_elim (λ k. l.noted p n k) (λ k. absurd (omega (arith, k.1))) (slice_get-one_more now 0 (suc n) p (ap (λ xs. slice_get xs p) (sym e) ∙ h));
+  stay = λ p n h. ap (λ xs. slice_get xs p) e ∙ slice_get-append now (0 ∷ []) p n (l.stay p n h);
+}
+
+-- what is noted once one more is
+module _ (old now : List ℕ) (id found : LpId) (n : ℕ) (l : IsLonger old now) (room : id.0 < length now) (is : n ≡ suc found.0) where
+  pub noted_new : IsNoted (slice_set now id.0 n) id found
+  noted_new = slice_get-set now id.0 n room ∙ ap Some is
+
+  pub noted_before : (t r : LpId) → IsNoted (slice_set now id.0 n) t r → IsNoted old t r ⊎ ((t ≡ id) × (r ≡ found))
+  noted_before t r h = ⊎_elim
+      (λ e. let here : n ≡ suc r.0 = same_Some n (suc r.0) (sym (slice_get-set now id.0 n room) ∙ ap (slice_get (slice_set now id.0 n)) (sym e.1) ∙ h) in inr (same_id t id e.1, same_id r found (omega (arith, here, is))))
+      (λ e. inl (l.noted t.0 r.0 (sym (slice_get-set_other now id.0 t.0 n e.1) ∙ h)))
+      (eqb_tells t.0 id.0)
+
+  pub noted_kept : (t r : LpId) → IsNoted old t r → (t ≡ id) ⊎ IsNoted (slice_set now id.0 n) t r
+  noted_kept t r h = ⊎_elim
+      (λ e. inl (same_id t id e.1))
+      (λ e. inr (slice_get-set_other now id.0 t.0 n e.1 ∙ l.stay t.0 (suc r.0) h))
+      (eqb_tells t.0 id.0)
+
+-- as places are gone through, and large numbers forgotten
+pub forgotten-start : (xs : List ℕ) (len : ℕ) → IsForgotten xs xs 0 len
+forgotten-start xs len = record { same = refl; lower = λ p n h. (h, λ lt. absurd (omega (arith, lt))); stay = λ p n lt h. h }
+
+module _ (old now : List ℕ) (i len x : ℕ) (f : IsForgotten old now i len) (room : i < length now) (at : slice_get now i ≡ Some x) where
+  pub forgotten-large : len < x → IsForgotten old (slice_set now i 0) (suc i) len
+  forgotten-large large = record { same = length-set now i 0 ∙ f.same; lower = lower; stay = stay }
     where
-      go : (i : ℕ) → slice_get (e ∷ es) i ≡ Some (p, r) → ((e.0 ≡ p) × (e.1 ≡ r)) ⊎ IsNoted es p r
-      go zero q = inl (entry_is e p r q)
-      go (suc i) q = inr (i, q)
+      lower : (p n : ℕ) → slice_get (slice_set now i 0) p ≡ Some (suc n) → slice_get old p ≡ Some (suc n) × (p < suc i → n < len)
+      lower p n h = ⊎_elim
+          (λ e. absurd (let no : 0 ≡ suc n = same_Some 0 (suc n) (sym (slice_get-set now i 0 room) ∙ ap (slice_get (slice_set now i 0)) (sym e.1) ∙ h) in omega (arith, no)))
+          (λ e. let was = f.lower p n (sym (slice_get-set_other now i p 0 e.1) ∙ h) in (was.0, λ lt. was.1 (⊎_elim (λ less. less) (λ same. absurd (e.1 (omega (arith, same, lt)))) (cases_lt p i))))
+          (eqb_tells p i)
 
-  IsNoted-behind : (e : K × V) (es : List (K × V)) (p : K) (r : V) → IsNoted es p r → IsNoted (e ∷ es) p r
-  IsNoted-behind e es p r h = (suc h.0, h.1)
+      stay : (p n : ℕ) → n < len → slice_get old p ≡ Some (suc n) → slice_get (slice_set now i 0) p ≡ Some (suc n)
+      stay p n lt h = ⊎_elim
+          (λ e. absurd (let is : x ≡ suc n = same_Some x (suc n) (sym at ∙ ap (slice_get now) (sym e.1) ∙ f.stay p n lt h) in omega (arith, is, large, lt)))
+          (λ e. slice_get-set_other now i p 0 e.1 ∙ f.stay p n lt h)
+          (eqb_tells p i)
 
-  found : (p : K) (es : List (K × V)) (r : V) → lookup (eq p) es ≡ Some r → IsNoted es p r
-  found p [] r h = absurd (cc)
-  found p (e ∷ es) r h = go (λ w. found p es r w) (eq p e.0) refl
-    where
-      go : (lookup (eq p) es ≡ Some r → IsNoted es p r) → (b : Bool) → eq p e.0 ≡ b → IsNoted (e ∷ es) p r
-      go on true q = (0, let v : e.1 ≡ r = same_Some _ _ (sym (ap (λ b. if b then Some e.1 else lookup (eq p) es) q) ∙ h) in ap Some (ap₂ (λ a b. (a, b)) (sym (exact p e.0 q)) v))
-      go on false q = let w = on (sym (ap (λ b. if b then Some e.1 else lookup (eq p) es) q) ∙ h) in (suc w.0, w.1)
+  pub forgotten-small : x ≤ len → IsForgotten old now (suc i) len
+  forgotten-small small = record {
+    same = f.same;
+    lower = λ p n h. let was = f.lower p n h in (was.0, λ lt. ⊎_elim (λ less. was.1 less) (λ same. let here : p ≡ i = omega (arith, same, lt) in let is : x ≡ suc n = same_Some x (suc n) (sym at ∙ ap (slice_get now) (sym here) ∙ h) in omega (arith, is, small)) (cases_lt p i));
+    stay = f.stay;
+  }
 
-  pub found_if : (p : K) (es : List (K × V)) (o : Option V) → o ≡ lookup (eq p) es → IfSome o (λ r. IsNoted es p r)
-  found_if p es None h = tt
-  found_if p es (Some r) h = found p es r (sym h)
+-- what is noted in the front of a list whose large numbers were forgotten
+module _ (types front new : List ℕ) (len : ℕ) (is : front ≡ take len types) (f : IsForgotten front new (length new) len) where
+  pub cut-lower : (t r : LpId) → IsNoted new t r → IsNoted types t r × (t.0 < len) × (r.0 < len)
+  cut-lower t r h =
+      let was = f.lower t.0 r.0 h in
+      let old : slice_get (take len types) t.0 ≡ Some (suc r.0) = ap (λ xs. slice_get xs t.0) (sym is) ∙ was.0 in
+      let low = slice_get_within (take len types) t.0 (suc r.0) old in
+      (slice_get-of_take len types t.0 (suc r.0) old, omega (arith, low, length-take len types), was.1 (slice_get_within new t.0 (suc r.0) h))
 
-  absent : (p : K) (r : V) (es : List (K × V)) → lookup (eq p) es ≡ None → IsNoted es p r → ⊥
-  absent p r [] h n = go n.0 n.1
-    where
-      go : (i : ℕ) → slice_get {X = K × V} [] i ≡ Some (p, r) → ⊥
-      go i q = cc
-  absent p r (e ∷ es) h n = go (λ k w. absent p r es k w) (eq p e.0) refl (IsNoted-cons e es p r n)
-    where
-      go : (lookup (eq p) es ≡ None → IsNoted es p r → ⊥) → (b : Bool) → eq p e.0 ≡ b → ((e.0 ≡ p) × (e.1 ≡ r)) ⊎ IsNoted es p r → ⊥
-      go on true q w = let k = sym (ap (λ b. if b then Some e.1 else lookup (eq p) es) q) ∙ h in cc
-      go on false q (inl w) = let k : eq p e.0 ≡ true = ap (eq p) w.0 ∙ own p in let m = sym k ∙ q in cc
-      go on false q (inr w) = on (sym (ap (λ b. if b then Some e.1 else lookup (eq p) es) q) ∙ h) w
-
-  pub absent_if : (p : K) (es : List (K × V)) (o : Option V) → o ≡ lookup (eq p) es → IfNone o ((r : V) → IsNoted es p r → ⊥)
-  absent_if p es None h = λ r. absent p r es (sym h)
-  absent_if p es (Some r) h = tt
-
-  module _ (k : K) (v : V) where
-    pub noted : (es : List (K × V)) (p : K) (r : V) → IsNoted (insert_entry eq es k v) p r → IsNoted es p r ⊎ ((p ≡ k) × (r ≡ v))
-    noted [] p r h = ⊎_elim (λ w. inr (sym w.0, sym w.1)) (λ w. inl w) (IsNoted-cons (k, v) [] p r h)
-    noted (e ∷ es) p r h = go (λ w. noted es p r w) (eq k e.0) refl h
-      where
-        go : (IsNoted (insert_entry eq es k v) p r → IsNoted es p r ⊎ ((p ≡ k) × (r ≡ v))) → (b : Bool) → eq k e.0 ≡ b → IsNoted (if b then (e.0, v) ∷ es else e ∷ insert_entry eq es k v) p r → IsNoted (e ∷ es) p r ⊎ ((p ≡ k) × (r ≡ v))
-        go on true q w = ⊎_elim (λ a. inr (sym (exact k e.0 q ∙ a.0), sym a.1)) (λ a. inl (IsNoted-behind e es p r a)) (IsNoted-cons (e.0, v) es p r w)
-        go on false q w = ⊎_elim
-            (λ a. inl (0, ap Some (ap₂ (λ x y. (x, y)) a.0 a.1)))
-            (λ a. ⊎_elim (λ b. inl (IsNoted-behind e es p r b)) (λ b. inr b) (on a))
-            (IsNoted-cons e (insert_entry eq es k v) p r w)
-
-    pub noted_new : (es : List (K × V)) → IsNoted (insert_entry eq es k v) k v
-    noted_new [] = (0, refl)
-    noted_new (e ∷ es) = go (noted_new es) (eq k e.0) refl
-      where
-        go : IsNoted (insert_entry eq es k v) k v → (b : Bool) → eq k e.0 ≡ b → IsNoted (if b then (e.0, v) ∷ es else e ∷ insert_entry eq es k v) k v
-        go on true q = (0, ap (λ x. Some (x, v)) (sym (exact k e.0 q)))
-        go on false q = IsNoted-behind e (insert_entry eq es k v) k v on
-
-    pub noted_kept : (es : List (K × V)) (p : K) (r : V) → IsNoted es p r → (p ≡ k) ⊎ IsNoted (insert_entry eq es k v) p r
-    noted_kept [] p r h = inr (IsNoted-behind (k, v) [] p r h)
-    noted_kept (e ∷ es) p r h = go (λ w. noted_kept es p r w) (eq k e.0) refl (IsNoted-cons e es p r h)
-      where
-        go : (IsNoted es p r → (p ≡ k) ⊎ IsNoted (insert_entry eq es k v) p r) → (b : Bool) → eq k e.0 ≡ b → ((e.0 ≡ p) × (e.1 ≡ r)) ⊎ IsNoted es p r → (p ≡ k) ⊎ IsNoted (if b then (e.0, v) ∷ es else e ∷ insert_entry eq es k v) p r
-        go on true q (inl a) = inl (sym (exact k e.0 q ∙ a.0))
-        go on true q (inr a) = inr (IsNoted-behind (e.0, v) es p r a)
-        go on false q (inl a) = inr (0, ap Some (ap₂ (λ x y. (x, y)) a.0 a.1))
-        go on false q (inr a) = ⊎_elim (λ b. inl b) (λ b. inr (IsNoted-behind e (insert_entry eq es k v) p r b)) (on a)
+  pub cut-kept : (t r : LpId) → t.0 < len → r.0 < len → IsNoted types t r → IsNoted new t r
+  cut-kept t r a b h = f.stay t.0 r.0 b (ap (λ xs. slice_get xs t.0) is ∙ slice_get-take len types t.0 a ∙ h)

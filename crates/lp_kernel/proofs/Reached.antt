@@ -1,7 +1,7 @@
 -- The walk of head steps to a product.
-use Rattle.std.proofs.Common.{◌≡◌, refl, sym, ap, ◌∙◌, subst, ℕ, ◌+◌, ◌-◌, ◌<◌, ◌≤◌, arith, true, length, List, Option, Some, None}
+use Rattle.std.proofs.Common.{◌≡◌, refl, sym, ap, ◌∙◌, subst, ℕ, ◌+◌, ◌-◌, ◌<◌, ◌≤◌, arith, Bool, true, length, List, Option, Some, None}
 use Rattle.std.proofs.Math.Path.{fun_ext}
-use Rattle.lp_spec.specs.Trees.{Tree}
+use Rattle.lp_spec.specs.Trees.{Tree, SortType, SortKind, Var, Sym, App, Lam, Pi}
 use Rattle.lp_spec.specs.Modules.{Declaration}
 use Rattle.lp_term.specs.declared.LpId.{LpId}
 use Rattle.lp_term.specs.declared.LpNode.{LpNode}
@@ -14,7 +14,7 @@ use Rattle.lp_shape.specs.HeadSteps.{head_step}
 use Rattle.lp_shape.specs.Check.{Reach, Reply, Found, No, Plan, Say, Ask, if_step, reach, Ends, said, refused, asked}
 use Rattle.lp_shape.specs.PlanLaws.{and_then, Leaves, leaves_all, leaves_equal, leaves_then, leaves_fewer, leaves_ask, over_leaves}
 use Rattle.lp_kernel.specs.declared.inference.Inferred.TheVariants as inferred
-use Rattle.lp_conv.specs.Answers.{Answered}
+use Rattle.lp_conv.specs.Answers.{Answered, IsOver}
 use Rattle.lp_conv.specs.Growth.{Grows}
 use Rattle.lp_kernel.specs.Inference.{IsFound}
 use Rattle.lp_conv.specs.GrowthLaws.{Grows-trans, IsHeld-Grows, declarations_of-Grows}
@@ -54,7 +54,7 @@ start-reach m id all held known = record {
 
 module _ (from : Module) (id : LpId) (all : ℕ) (m : Module) (reached : LpId) (here : ℕ) (n : LpNode) (s : IsReach from id all m reached here) (at : Holds m.table reached.0 (tree_of_node m.table n)) where
   -- the end at a product
-  pub reach-product : (a b : LpId) → n ≡ node.Pi a b → IsFound (declarations_of m) m.table (reach (declarations_of m) (tree_at from.table id.0)) all here (inferred.Found reached)
+  pub reach-product : (a b : LpId) → n ≡ node.Pi a b → IsFound true (declarations_of m) m.table (reach (declarations_of m) (tree_at from.table id.0)) all here (inferred.Found reached)
   reach-product a b e =
       let is = Holds-tree_at m.table reached.0 _ at ∙ ap (tree_of_node m.table) e in
       let p = subst (λ t. Ends (declarations_of m) true (reach (declarations_of m) t) (Found t) 0) (sym is) said in
@@ -69,7 +69,7 @@ module _ (from : Module) (id : LpId) (all : ℕ) (m : Module) (reached : LpId) (
         ∙ ap (λ w. if_step w (λ H. Ask (Reach H) (λ P. Say (Found P)))) h
 
     -- the end where there is no head step, in a table that may have grown
-    pub reach-none : (k : Module) → Grows m k → None ≡ head_step (declarations_of m) (tree_at m.table reached.0) → IsFound (declarations_of k) k.table (reach (declarations_of k) (tree_at from.table id.0)) all here inferred.No
+    pub reach-none : (k : Module) → Grows m k → None ≡ head_step (declarations_of m) (tree_at m.table reached.0) → IsFound true (declarations_of k) k.table (reach (declarations_of k) (tree_at from.table id.0)) all here inferred.No
     reach-none k g h =
         let p = subst (λ w. Ends (declarations_of m) true w No 0) (sym (other None (sym h))) said in
         let u = s.left.up No 0 p in
@@ -92,7 +92,7 @@ module _ (from : Module) (id : LpId) (all : ℕ) (m : Module) (reached : LpId) (
         }
 
     -- the end where the budget is spent
-    pub reach-over : (k : Module) (H : Tree) → Grows m k → Some H ≡ head_step (declarations_of m) (tree_at m.table reached.0) → here ≡ 0 → IsFound (declarations_of k) k.table (reach (declarations_of k) (tree_at from.table id.0)) all here inferred.Over
+    pub reach-over : (k : Module) (H : Tree) → Grows m k → Some H ≡ head_step (declarations_of m) (tree_at m.table reached.0) → here ≡ 0 → IsFound true (declarations_of k) k.table (reach (declarations_of k) (tree_at from.table id.0)) all here inferred.Over
     reach-over k H g h zero-here =
         subst (λ ds. (reply : Reply) (n : ℕ) → Ends ds true (reach ds (tree_at from.table id.0)) reply n → all < n) (sym (declarations_of-Grows m k g s.held))
         (over_leaves (declarations_of m) true s.left (omega (arith, s.less, zero-here)) (λ reply n e. positive (subst (λ w. Ends (declarations_of m) true w reply n) (other (Some H) (sym h)) e)))
@@ -100,3 +100,41 @@ module _ (from : Module) (id : LpId) (all : ℕ) (m : Module) (reached : LpId) (
         positive : {reply : Reply} {n : ℕ} → Ends (declarations_of m) true (Ask (Reach H) (λ P. Say (Found P))) reply n → 0 < n
         positive (refused e) = omega arith
         positive (asked e f) = omega arith
+
+-- the plan asks of head steps alone
+data Reaches : Plan → Type 0 where
+  says : {reply : Reply} → Reaches (Say reply)
+  asks : {F : Tree} {rest : Tree → Plan} → ((t : Tree) → Reaches (rest t)) → Reaches (Ask (Reach F) rest)
+
+reach-Reaches : (ds : List Declaration) (F : Tree) → Reaches (reach ds F)
+reach-Reaches ds F = of_tree F
+  where
+    step : (o : Option Tree) → Reaches (if_step o (λ H. Ask (Reach H) (λ P. Say (Found P))))
+    step None = says
+    step (Some H) = asks (λ P. says)
+
+    of_tree : (F : Tree) → Reaches (reach ds F)
+    of_tree (Pi A B) = says
+    of_tree SortType = step (head_step ds SortType)
+    of_tree SortKind = step (head_step ds SortKind)
+    of_tree (Var n) = step (head_step ds (Var n))
+    of_tree (Sym s) = step (head_step ds (Sym s))
+    of_tree (App f x) = step (head_step ds (App f x))
+    of_tree (Lam a b) = step (head_step ds (Lam a b))
+
+module _ (ds : List Declaration) (r s : Bool) where
+  Ends-Reaches : {p : Plan} {reply : Reply} {n : ℕ} → Reaches p → Ends ds r p reply n → Ends ds s p reply n
+  Ends-Reaches k said = said
+  Ends-Reaches (asks {F = F} k) (refused h) = refused (Ends-Reaches (reach-Reaches ds F) h)
+  Ends-Reaches (asks {F = F} k) (asked {t = t} h g) = asked (Ends-Reaches (reach-Reaches ds F) h) (Ends-Reaches (k t) g)
+
+  -- a check without rechecks reaches what one with them reaches
+  reach-Ends : (F : Tree) (reply : Reply) (n : ℕ) → Ends ds r (reach ds F) reply n → Ends ds s (reach ds F) reply n
+  reach-Ends F reply n h = Ends-Reaches (reach-Reaches ds F) h
+
+-- what is answered of a product that is reached, with rechecks or without
+pub reached-answered : (rechecks : Bool) (ds : List Declaration) (F : Tree) (reply : Reply) (spent : ℕ) → Answered ds true (reach ds F) reply spent → Answered ds rechecks (reach ds F) reply spent
+reached-answered rechecks ds F reply spent h = record { price = h.price; ends = reach-Ends ds true rechecks F reply h.price h.ends; within = h.within }
+
+pub reached-over : (rechecks : Bool) (ds : List Declaration) (F : Tree) (budget : ℕ) → IsOver ds true (reach ds F) budget → IsOver ds rechecks (reach ds F) budget
+reached-over rechecks ds F budget h = λ reply n k. h reply n (reach-Ends ds rechecks true F reply n k)

@@ -1,5 +1,5 @@
 -- What is found of a tree: the answer of the directed rules within a budget, and what it means.
-use Rattle.std.specs.Prelude.{ℕ, ◌<◌, ◌-◌, true, List, length, take}
+use Rattle.std.specs.Prelude.{ℕ, ◌<◌, ◌-◌, Bool, true, List, length, take}
 use Rattle.lp_spec.specs.Trees.{Tree}
 use Rattle.lp_spec.specs.Modules.{Declaration}
 use Rattle.lp_spec.specs.ModuleOrder.{IsModule}
@@ -18,19 +18,19 @@ use Rattle.lp_kernel.specs.declared.inference.Inferred.TheVariants as inferred
 abbrev pub typing : List Tree → Tree → Plan
 typing G t = alone (Infer G t)
 
--- the plan ends as the answer says, whose number is of this table, where the budget fell from old to new
-abbrev pub IsFound : List Declaration → List Tree → Plan → ℕ → ℕ → Inferred → Type 0
-IsFound ds ts p old new (inferred.Found id) = Answered ds true p (Found (tree_at ts id.0)) (old - new)
-IsFound ds ts p old new inferred.No = Answered ds true p No (old - new)
-IsFound ds ts p old new inferred.Over = IsOver ds true p old
+-- the plan ends as the answer says, with rechecks of sorts or without, whose number is of this table, where the budget fell from old to new
+abbrev pub IsFound : Bool → List Declaration → List Tree → Plan → ℕ → ℕ → Inferred → Type 0
+IsFound rechecks ds ts p old new (inferred.Found id) = Answered ds rechecks p (Found (tree_at ts id.0)) (old - new)
+IsFound rechecks ds ts p old new inferred.No = Answered ds rechecks p No (old - new)
+IsFound rechecks ds ts p old new inferred.Over = IsOver ds rechecks p old
 
 -- the answer to the question for a tree's type is that of the directed rules
-abbrev pub IsInferred : Module → List LpId → LpId → List Tree → ℕ → ℕ → Inferred → Type 0
-IsInferred m c id ts old new r = IsFound (declarations_of m) ts (typing (trees_at m.table c) (tree_at m.table id.0)) old new r
+abbrev pub IsInferred : Bool → Module → List LpId → LpId → List Tree → ℕ → ℕ → Inferred → Type 0
+IsInferred rechecks m c id ts old new r = IsFound rechecks (declarations_of m) ts (typing (trees_at m.table c) (tree_at m.table id.0)) old new r
 
 -- the answer to the question for the product that head steps reach is that of the directed rules
 abbrev pub IsProduct : Module → LpId → Module → ℕ → ℕ → Inferred → Type 0
-IsProduct from id m old new r = IsFound (declarations_of m) m.table (reach (declarations_of m) (tree_at from.table id.0)) old new r
+IsProduct from id m old new r = IsFound true (declarations_of m) m.table (reach (declarations_of m) (tree_at from.table id.0)) old new r
 
 -- the number that was found is of the table
 abbrev pub IsKnownType : List Tree → Inferred → Type 0

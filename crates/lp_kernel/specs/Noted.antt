@@ -1,10 +1,13 @@
 -- The entries of a memo of closed trees, and what they say.
-use Rattle.std.specs.Prelude.{◌≡◌, ℕ, ◌<◌, ◌+◌, true, List, [], Some, length, slice_get}
+use Rattle.std.specs.Prelude.{◌≡◌, ℕ, suc, ◌<◌, ◌+◌, Bool, List, [], Some, length, slice_get}
 use Rattle.lp_spec.specs.Trees.{Tree, loose}
 use Rattle.lp_spec.specs.Modules.{Declaration}
 use Rattle.lp_term.specs.declared.LpId.{LpId}
 use Rattle.lp_term.specs.Tables.{tree_at}
+use Rattle.holide_sig.specs.declared.module.Module.{Module}
+use Rattle.holide_sig.specs.Modules.{declarations_of}
 use Rattle.lp_shape.specs.Check.{Found}
+use Rattle.lp_conv.specs.Growth.{Grows}
 use Rattle.lp_conv.specs.Answers.{Answered}
 use Rattle.lp_kernel.specs.Inference.{typing}
 use Rattle.lp_kernel.specs.declared.state.Next.{Next}
@@ -12,26 +15,42 @@ use Rattle.lp_kernel.specs.declared.state.Next.TheVariants as next
 use Rattle.lp_kernel.specs.declared.noting.Recall.{Recall}
 use Rattle.lp_kernel.specs.declared.noting.Recall.TheVariants as recall
 
--- the memo has this value for the key
-abbrev pub IsNoted : {K V : Type 0} → List (K × V) → K → V → Type 0
-IsNoted entries key value = (i : ℕ) × (slice_get entries i ≡ Some (key, value))
+-- the list has the number of the tree's type, and one more, at the tree's number
+abbrev pub IsNoted : List ℕ → LpId → LpId → Type 0
+IsNoted types id found = slice_get types id.0 ≡ Some (suc found.0)
 
--- the tree is closed, and the directed rules find this type in the empty context, after a step at least
-pub record IsTypeOfClosed (ds : List Declaration) (ts : List Tree) (id found : LpId) : Type 0 where
+-- a list keeps its items, and what came behind them is 0
+pub record IsLonger (old new : List ℕ) : Type 0 where
+  pub noted : (place n : ℕ) → slice_get new place ≡ Some (suc n) → slice_get old place ≡ Some (suc n)
+  pub stay : (place n : ℕ) → slice_get old place ≡ Some n → slice_get new place ≡ Some n
+
+-- at the first places of a list, so many, the numbers from len on are forgotten, and nothing else
+pub record IsForgotten (old new : List ℕ) (count len : ℕ) : Type 0 where
+  pub same : length new ≡ length old
+  pub lower : (place n : ℕ) → slice_get new place ≡ Some (suc n) → slice_get old place ≡ Some (suc n) × (place < count → n < len)
+  pub stay : (place n : ℕ) → n < len → slice_get old place ≡ Some (suc n) → slice_get new place ≡ Some (suc n)
+
+-- the tree is closed, and the directed rules, with rechecks of sorts or without, find this type in the empty context, after a step at least
+pub record IsTypeOfClosed (rechecks : Bool) (ds : List Declaration) (ts : List Tree) (id found : LpId) : Type 0 where
   pub known : id.0 < length ts
   pub found_known : found.0 < length ts
   pub closed : loose (tree_at ts id.0) ≡ 0
-  pub answered : Answered ds true (typing [] (tree_at ts id.0)) (Found (tree_at ts found.0)) 1
+  pub answered : Answered ds rechecks (typing [] (tree_at ts id.0)) (Found (tree_at ts found.0)) 1
 
--- every entry is right
-pub record AreRight (ds : List Declaration) (ts : List Tree) (entries : List (LpId × LpId)) : Type 0 where
-  pub each : (id found : LpId) → IsNoted entries id found → IsTypeOfClosed ds ts id found
+-- every type that is noted is right
+pub record AreRight (rechecks : Bool) (ds : List Declaration) (ts : List Tree) (types : List ℕ) : Type 0 where
+  pub each : (id found : LpId) → IsNoted types id found → IsTypeOfClosed rechecks ds ts id found
+
+-- a module that has grown from another, and what is noted over it is right
+pub record IsCutBack (rechecks : Bool) (from m : Module) (types : List ℕ) : Type 0 where
+  pub grows : Grows from m
+  pub right : AreRight rechecks (declarations_of m) m.table types
 
 -- what is remembered of a tree: the type that is noted of it; or it is closed, and none is; or nothing is known of it
-abbrev pub IsRecalled : List Tree → List (LpId × LpId) → LpId → Recall → Type 0
-IsRecalled ts entries id (recall.Found r) = IsNoted entries id r
-IsRecalled ts entries id recall.Closed = (loose (tree_at ts id.0) ≡ 0) × ((r : LpId) → IsNoted entries id r → ⊥)
-IsRecalled ts entries id recall.Open = Unit {0}
+abbrev pub IsRecalled : List Tree → List ℕ → LpId → Recall → Type 0
+IsRecalled ts types id (recall.Found r) = IsNoted types id r
+IsRecalled ts types id recall.Closed = (loose (tree_at ts id.0) ≡ 0) × ((r : LpId) → IsNoted types id r → ⊥)
+IsRecalled ts types id recall.Open = Unit {0}
 
 -- one step is taken for a type that is remembered, unless none is left
 abbrev pub IsTakenUp : LpId → ℕ → ℕ → Next → Type 0

@@ -1,5 +1,5 @@
 -- What is pending while a type is inferred, as a plan.
-use Rattle.std.specs.Prelude.{◌≡◌, ℕ, zero, ◌+◌, ◌*◌, ◌-◌, ◌<◌, true, List, [], ◌∷◌, ◌++◌, Option, Some, None, length, suc, option_map, slice_get}
+use Rattle.std.specs.Prelude.{◌≡◌, ℕ, zero, ◌+◌, ◌*◌, ◌-◌, ◌<◌, Bool, List, [], ◌∷◌, ◌++◌, Option, Some, None, length, suc, option_map, slice_get}
 use Rattle.lp_spec.specs.Trees.{Tree, App, Pi, lift, put, put_all}
 use Rattle.lp_spec.specs.Modules.{Declaration, symbol_type}
 use Rattle.lp_term.specs.declared.LpId.{LpId}
@@ -35,29 +35,33 @@ below c _ = c
 abbrev pub meeting : List Tree → Tree → Tree → Tree → Tree → Plan
 meeting G A B x X = Ask (Meet G A X) (λ _. Say (Found (put x B)))
 
--- how a frame goes on with a type that was found
-abbrev pub after : List Declaration → List Tree → List Tree → Frame → Tree → Plan
-after ds ts G (frame.Function f x w) F = product_of ds true G F (λ A B. Ask (Infer G (tree_at ts x.0)) (meeting G A B (tree_at ts x.0)))
-after ds ts G (frame.Reached p f x w) s = if_sort s (if_product (tree_at ts p.0) (λ A B. Ask (Infer G (tree_at ts x.0)) (meeting G A B (tree_at ts x.0))))
-after ds ts G (frame.Argument a b k f w) X = Ask (Meet G (put_all (spine_args k (tree_at ts f.0)) (tree_at ts a.0)) X) (λ _. Say (Found (put_all (spine_args (suc k) (tree_at ts w.0)) (tree_at ts b.0))))
-after ds ts G (frame.Expected a b k w y) s = if_sort s (Ask (Convert (tree_at ts a.0) (tree_at ts y.0)) (λ _. Say (Found (put_all (spine_args k (tree_at ts w.0)) (tree_at ts b.0)))))
-after ds ts G (frame.Domain a b) s = if_type s (Ask (Infer (tree_at ts a.0 ∷ G) (tree_at ts b.0)) (λ B. unless_kind B (Say (Found (Pi (tree_at ts a.0) B)))))
-after ds ts G (frame.Body a) B = unless_kind B (Say (Found (Pi (tree_at ts a.0) B)))
-after ds ts G (frame.ProductDomain a b) s = if_type s (Ask (Infer (tree_at ts a.0 ∷ G) (tree_at ts b.0)) (λ o. if_sort o (Say (Found o))))
-after ds ts G frame.ProductBody o = if_sort o (Say (Found o))
+-- how an argument goes on with a product that the type of its function reaches
+abbrev pub applying : List Tree → List Tree → LpId → Tree → Plan
+applying ts G x P = if_product P (λ A B. Ask (Infer G (tree_at ts x.0)) (meeting G A B (tree_at ts x.0)))
+
+-- how a frame goes on with a type that was found, in a check with rechecks of sorts or without
+abbrev pub after : Bool → List Declaration → List Tree → List Tree → Frame → Tree → Plan
+after rechecks ds ts G (frame.Function f x w) F = product_of ds rechecks G F (λ A B. Ask (Infer G (tree_at ts x.0)) (meeting G A B (tree_at ts x.0)))
+after rechecks ds ts G (frame.Reached p f x w) s = if_sort s (applying ts G x (tree_at ts p.0))
+after rechecks ds ts G (frame.Argument a b k f w) X = Ask (Meet G (put_all (spine_args k (tree_at ts f.0)) (tree_at ts a.0)) X) (λ _. Say (Found (put_all (spine_args (suc k) (tree_at ts w.0)) (tree_at ts b.0))))
+after rechecks ds ts G (frame.Expected a b k w y) s = if_sort s (Ask (Convert (tree_at ts a.0) (tree_at ts y.0)) (λ _. Say (Found (put_all (spine_args k (tree_at ts w.0)) (tree_at ts b.0)))))
+after rechecks ds ts G (frame.Domain a b) s = if_type s (Ask (Infer (tree_at ts a.0 ∷ G) (tree_at ts b.0)) (λ B. unless_kind B (Say (Found (Pi (tree_at ts a.0) B)))))
+after rechecks ds ts G (frame.Body a) B = unless_kind B (Say (Found (Pi (tree_at ts a.0) B)))
+after rechecks ds ts G (frame.ProductDomain a b) s = if_type s (Ask (Infer (tree_at ts a.0 ∷ G) (tree_at ts b.0)) (λ o. if_sort o (Say (Found o))))
+after rechecks ds ts G frame.ProductBody o = if_sort o (Say (Found o))
 
 -- how all frames go on
-abbrev pub resume : List Declaration → List Tree → List LpId → List Frame → Tree → Plan
-resume ds ts c [] t = Say (Found t)
-resume ds ts c (f ∷ fs) t = and_then (after ds ts (trees_at ts c) f t) (resume ds ts (below c f) fs)
+abbrev pub resume : Bool → List Declaration → List Tree → List LpId → List Frame → Tree → Plan
+resume rechecks ds ts c [] t = Say (Found t)
+resume rechecks ds ts c (f ∷ fs) t = and_then (after rechecks ds ts (trees_at ts c) f t) (resume rechecks ds ts (below c f) fs)
 
 -- what is pending
-abbrev pub pending : List Declaration → List Tree → State → Next → Plan
-pending ds ts s (next.Ask id) = Ask (Infer (trees_at ts s.context) (tree_at ts id.0)) (resume ds ts s.context s.frames)
-pending ds ts s (next.Tell id) = resume ds ts s.context s.frames (tree_at ts id.0)
-pending ds ts s (next.Under b k f) = resume ds ts s.context s.frames (put_all (spine_args k (tree_at ts f.0)) (tree_at ts b.0))
-pending ds ts s next.No = Say No
-pending ds ts s next.Over = Say No
+abbrev pub pending : Bool → List Declaration → List Tree → State → Next → Plan
+pending rechecks ds ts s (next.Ask id) = Ask (Infer (trees_at ts s.context) (tree_at ts id.0)) (resume rechecks ds ts s.context s.frames)
+pending rechecks ds ts s (next.Tell id) = resume rechecks ds ts s.context s.frames (tree_at ts id.0)
+pending rechecks ds ts s (next.Under b k f) = resume rechecks ds ts s.context s.frames (put_all (spine_args k (tree_at ts f.0)) (tree_at ts b.0))
+pending rechecks ds ts s next.No = Say No
+pending rechecks ds ts s next.Over = Say No
 
 -- a function, an argument, and the application of the two
 pub record IsApplication (ts : List Tree) (f x w : LpId) : Type 0 where
@@ -92,17 +96,29 @@ IsKnownNext ts next.No = Unit {0}
 IsKnownNext ts next.Over = Unit {0}
 
 -- after a turn of the plan, what is pending is what the plan leaves; or the plan doesn't end within the budget
-abbrev pub IsTurned : Module → Plan → ℕ → ℕ → State → Next → Type 0
-IsTurned m p old new s next.Over = (reply : Reply) (n : ℕ) → Ends (declarations_of m) true p reply n → old < n
-IsTurned m p old new s n = Leaves (declarations_of m) true p (old - new) (pending (declarations_of m) m.table s n)
+abbrev pub IsTurned : Bool → Module → Plan → ℕ → ℕ → State → Next → Type 0
+IsTurned rechecks m p old new s next.Over = (reply : Reply) (n : ℕ) → Ends (declarations_of m) rechecks p reply n → old < n
+IsTurned rechecks m p old new s n = Leaves (declarations_of m) rechecks p (old - new) (pending rechecks (declarations_of m) m.table s n)
 
 -- after a turn that asks for the type of a tree
-abbrev pub IsAsked : Module → State → LpId → ℕ → ℕ → State → Next → Type 0
-IsAsked m s id old new t n = IsTurned m (pending (declarations_of m) m.table s (next.Ask id)) old new t n
+abbrev pub IsAsked : Bool → Module → State → LpId → ℕ → ℕ → State → Next → Type 0
+IsAsked rechecks m s id old new t n = IsTurned rechecks m (pending rechecks (declarations_of m) m.table s (next.Ask id)) old new t n
 
 -- after a turn that goes on with a type that was found for this frame
-abbrev pub IsTold : Module → Frame → State → LpId → ℕ → ℕ → State → Next → Type 0
-IsTold m f s found old new t n = IsTurned m (resume (declarations_of m) m.table s.context (f ∷ s.frames) (tree_at m.table found.0)) old new t n
+abbrev pub IsTold : Bool → Module → Frame → State → LpId → ℕ → ℕ → State → Next → Type 0
+IsTold rechecks m f s found old new t n = IsTurned rechecks m (resume rechecks (declarations_of m) m.table s.context (f ∷ s.frames) (tree_at m.table found.0)) old new t n
+
+-- after a turn that goes from a product, which the type of a function reaches, to the argument
+abbrev pub IsApplied : Bool → Module → State → LpId → LpId → ℕ → State → Next → Type 0
+IsApplied rechecks m s product x left t n = IsTurned rechecks m (and_then (applying m.table (trees_at m.table s.context) x (tree_at m.table product.0)) (resume rechecks (declarations_of m) m.table s.context s.frames)) left left t n
+
+-- what is left where the type of an argument, y, is to be converted to the expected one, a
+abbrev pub conversion : Bool → Module → State → LpId → LpId → ℕ → LpId → LpId → Plan
+conversion rechecks m s a b k w y = Ask (Convert (tree_at m.table a.0) (tree_at m.table y.0)) (λ _. resume rechecks (declarations_of m) m.table s.context s.frames (put_all (spine_args k (tree_at m.table w.0)) (tree_at m.table b.0)))
+
+-- after a turn that converts it
+abbrev pub IsConverted : Bool → Module → LpId → LpId → ℕ → LpId → LpId → ℕ → ℕ → State → Next → Type 0
+IsConverted rechecks m a b k w y old new s n = IsTurned rechecks m (conversion rechecks m s a b k w y) old new s n
 
 -- what is next where a tree may be found at once
 abbrev pub IsFoundIf : List Tree → Option Tree → Next → Type 0
@@ -151,10 +167,10 @@ IsLast ts k f (Some e) = (0 < k) × (e.0.0 < length ts) × (e.1.0 < length ts) �
 IsLast ts k f None = spine_args k (tree_at ts f.0) ≡ []
 
 -- after a turn for a type that is to have arguments put in
-abbrev pub IsMade : Module → State → LpId → ℕ → LpId → ℕ → State → Next → Type 0
-IsMade m s b k g left t n = IsTurned m (pending (declarations_of m) m.table s (next.Under b k g)) left left t n
+abbrev pub IsMade : Bool → Module → State → LpId → ℕ → LpId → ℕ → State → Next → Type 0
+IsMade rechecks m s b k g left t n = IsTurned rechecks m (pending rechecks (declarations_of m) m.table s (next.Under b k g)) left left t n
 
 -- the argument whose type is asked for, or nothing has changed
 abbrev pub IsAwaited : Module → State → LpId → ℕ → LpId → State → Option LpId → Type 0
-IsAwaited m s b k g t (Some x) = (x.0 < length m.table) × IsKnownState m.table t × (length t.frames ≡ length s.frames) × ((left : ℕ) → IsMade m s b k g left t (next.Ask x))
+IsAwaited m s b k g t (Some x) = (x.0 < length m.table) × IsKnownState m.table t × (length t.frames ≡ length s.frames) × ((rechecks : Bool) (left : ℕ) → IsMade rechecks m s b k g left t (next.Ask x))
 IsAwaited m s b k g t None = t ≡ s

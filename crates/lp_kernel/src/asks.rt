@@ -1,5 +1,5 @@
 //! Turns that ask for the type of a tree.
-ghost use Rattle.std.specs.Prelude.{◌≡◌, ◌<◌, ◌≤◌, IfOk, length, Some};
+ghost use Rattle.std.specs.Prelude.{◌≡◌, ◌<◌, ◌≤◌, Bool, IfOk, length, Some};
 ghost use Rattle.lp_spec.specs.Trees.{SortKind};
 ghost use Rattle.lp_term.specs.Tables.{AreKnown};
 ghost use Rattle.holide_sig.specs.Modules.{IsHeld};
@@ -26,7 +26,7 @@ pub(crate) fn ask(
     ensures known { IfOk result (λ n. IsKnownState base.new.table state.new) }
     ensures next { IfOk result (IsKnownNext base.new.table) }
     ensures less { budget.new.left ≤ budget.old.left }
-    ensures turned { IfOk result (IsAsked base.new state.old id budget.old.left budget.new.left state.new) }
+    ensures turned { IfOk result (λ n. (rechecks : Bool) → IsAsked rechecks base.new state.old id budget.old.left budget.new.left state.new n) }
     ensures fewer { IfOk result (IsFewerAsked state.old budget.old.left budget.new.left state.new) }
 {
     if !budget.tick() {

@@ -1,5 +1,5 @@
 //! The check of a declaration, and of all of a module's.
-ghost use Rattle.std.specs.Prelude.{◌≡◌, ℕ, ◌<◌, ◌≤◌, [], IfOk, length, slice_get, Some};
+ghost use Rattle.std.specs.Prelude.{◌≡◌, ℕ, ◌<◌, ◌≤◌, Bool, [], IfOk, length, slice_get, Some, true, false};
 ghost use Rattle.lp_spec.specs.ModuleOrder.{IsModule};
 ghost use Rattle.lp_spec.specs.Typing.{WellTyped};
 ghost use Rattle.lp_term.specs.Tables.{tree_at};
@@ -8,7 +8,8 @@ ghost use Rattle.lp_shape.specs.Check.{body_plan, declaration_plan};
 ghost use Rattle.lp_conv.specs.Growth.{Grows};
 ghost use Rattle.lp_conv.specs.declared.Answer.TheVariants as answer;
 ghost use Rattle.lp_kernel.specs.declared.checks.Verdict.TheVariants as verdict;
-ghost use Rattle.lp_kernel.specs.Noted.{AreRight};
+ghost use Rattle.holide_sig.specs.declared.module.Module.{Module as AModule};
+ghost use Rattle.lp_kernel.specs.Noted.{AreRight, IsCutBack};
 ghost use Rattle.lp_kernel.specs.Checks.{IsBodyChecked, IsChecked, IsTypedAt, IsJudged, PassWithin, IsRefusedWithin};
 
 use crate::inference::Inferred;
@@ -44,36 +45,37 @@ pub fn check_decl(
     requires i { i < length base.old.decls }
     ensures grows { Grows base.old base.new }
     ensures less { budget.new.left ≤ budget.old.left }
-    ensures answered { IfOk result (IsChecked (declarations_of base.old) i budget.old.left budget.new.left) }
+    ensures answered { IfOk result (IsChecked true (declarations_of base.old) i budget.old.left budget.new.left) }
     ensures sound { IfOk result (λ a. a ≡ answer.Yes → IsTypedAt (declarations_of base.old) i) }
 {
     let mut memo = Memo::new(alloc);
-    check_noted(alloc, base, &mut memo, i, budget)
+    check_noted(alloc, base, true, &mut memo, i, budget)
 }
 
-// Checks a declaration by what is noted of closed trees.
+// Checks a declaration by what is noted of closed trees, with rechecks of sorts or without.
 fn check_noted(
     alloc: Global,
     base: &mut Module,
+    rechecks: bool,
     memo: &mut Memo,
     i: usize,
     budget: &mut Budget,
 ) -> Result<Answer, Memory>
     requires held { IsHeld base.old }
     requires is_module { IsModule (declarations_of base.old) }
-    requires right { AreRight (declarations_of base.old) base.old.table memo.old }
+    requires right { AreRight rechecks (declarations_of base.old) base.old.table memo.old }
     requires i { i < length base.old.decls }
     ensures grows { Grows base.old base.new }
     ensures less { budget.new.left ≤ budget.old.left }
-    ensures answered { IfOk result (IsChecked (declarations_of base.old) i budget.old.left budget.new.left) }
+    ensures answered { IfOk result (IsChecked rechecks (declarations_of base.old) i budget.old.left budget.new.left) }
     ensures sound { IfOk result (λ a. a ≡ answer.Yes → IsTypedAt (declarations_of base.old) i) }
-    ensures right { IfOk result (λ a. AreRight (declarations_of base.new) base.new.table memo.new) }
+    ensures right { IfOk result (λ a. AreRight rechecks (declarations_of base.new) base.new.table memo.new) }
 {
     let decl = base.decls.get(i);
     let (ty, body) = (decl.ty, decl.body);
-    match infer_noted(alloc, base, memo, ty, budget)? {
+    match infer_noted(alloc, base, rechecks, memo, ty, budget)? {
         Inferred::Found(sort) => match base.table.view(sort) {
-            LpNode::SortType => check_body(alloc, base, memo, ty, body, budget),
+            LpNode::SortType => check_body(alloc, base, rechecks, memo, ty, body, budget),
             _ => Ok(Answer::No),
         },
         Inferred::No => Ok(Answer::No),
@@ -85,6 +87,7 @@ fn check_noted(
 fn check_body(
     alloc: Global,
     base: &mut Module,
+    rechecks: bool,
     memo: &mut Memo,
     ty: LpId,
     body: Option<LpId>,
@@ -92,18 +95,18 @@ fn check_body(
 ) -> Result<Answer, Memory>
     requires held { IsHeld base.old }
     requires is_module { IsModule (declarations_of base.old) }
-    requires right { AreRight (declarations_of base.old) base.old.table memo.old }
+    requires right { AreRight rechecks (declarations_of base.old) base.old.table memo.old }
     requires ty { ty.0 < length base.old.table }
     requires body { IsBodyKnown base.old.table body }
     ensures grows { Grows base.old base.new }
     ensures less { budget.new.left ≤ budget.old.left }
-    ensures answered { IfOk result (IsBodyChecked base.old ty body budget.old.left budget.new.left) }
-    ensures right { IfOk result (λ a. AreRight (declarations_of base.new) base.new.table memo.new) }
+    ensures answered { IfOk result (IsBodyChecked rechecks base.old ty body budget.old.left budget.new.left) }
+    ensures right { IfOk result (λ a. AreRight rechecks (declarations_of base.new) base.new.table memo.new) }
 {
     let Some(tree) = body else {
         return Ok(Answer::Yes);
     };
-    match infer_noted(alloc, base, memo, tree, budget)? {
+    match infer_noted(alloc, base, rechecks, memo, tree, budget)? {
         Inferred::Found(found) => conv(alloc, base, ty, found, budget),
         Inferred::No => Ok(Answer::No),
         Inferred::Over => Ok(Answer::Over),
@@ -116,19 +119,69 @@ pub fn check_module(alloc: Global, base: &mut Module, budgets: &[u128]) -> Resul
     requires is_module { IsModule (declarations_of base.old) }
     requires budgets { length budgets.now ≡ length base.old.decls }
     ensures grows { Grows base.old base.new }
-    ensures judged { IfOk result (IsJudged (declarations_of base.old) budgets.now) }
+    ensures judged { IfOk result (IsJudged true (declarations_of base.old) budgets.now) }
     ensures well_typed { IfOk result (λ v. v ≡ verdict.Accepted → WellTyped (declarations_of base.old)) }
-    ensures accepts { IfOk result (λ v. PassWithin (declarations_of base.old) budgets.now (length base.old.decls) → v ≡ verdict.Accepted) }
-    ensures refuses { IfOk result (λ v. (i : ℕ) → IsRefusedWithin (declarations_of base.old) budgets.now i → v ≡ verdict.IllTyped i) }
+    ensures accepts { IfOk result (λ v. PassWithin true (declarations_of base.old) budgets.now (length base.old.decls) → v ≡ verdict.Accepted) }
+    ensures refuses { IfOk result (λ v. (i : ℕ) → IsRefusedWithin true (declarations_of base.old) budgets.now i → v ≡ verdict.IllTyped i) }
 {
+    check_all(alloc, base, true, budgets)
+}
+
+/// Checks the declarations in order without rechecks of sorts, each over those before it and within its own budget.
+pub fn check_fast(alloc: Global, base: &mut Module, budgets: &[u128]) -> Result<Verdict, Memory>
+    requires held { IsHeld base.old }
+    requires is_module { IsModule (declarations_of base.old) }
+    requires budgets { length budgets.now ≡ length base.old.decls }
+    ensures grows { Grows base.old base.new }
+    ensures judged { IfOk result (IsJudged false (declarations_of base.old) budgets.now) }
+    ensures well_typed { IfOk result (λ v. v ≡ verdict.Accepted → WellTyped (declarations_of base.old)) }
+    ensures accepts { IfOk result (λ v. PassWithin false (declarations_of base.old) budgets.now (length base.old.decls) → v ≡ verdict.Accepted) }
+    ensures refuses { IfOk result (λ v. (i : ℕ) → IsRefusedWithin false (declarations_of base.old) budgets.now i → v ≡ verdict.IllTyped i) }
+{
+    check_all(alloc, base, false, budgets)
+}
+
+// Checks the declarations in order, with rechecks of sorts or without.
+fn check_all(
+    alloc: Global,
+    base: &mut Module,
+    rechecks: bool,
+    budgets: &[u128],
+) -> Result<Verdict, Memory>
+    requires held { IsHeld base.old }
+    requires is_module { IsModule (declarations_of base.old) }
+    requires budgets { length budgets.now ≡ length base.old.decls }
+    ensures grows { Grows base.old base.new }
+    ensures judged { IfOk result (IsJudged rechecks (declarations_of base.old) budgets.now) }
+    ensures well_typed { IfOk result (λ v. v ≡ verdict.Accepted → WellTyped (declarations_of base.old)) }
+    ensures accepts { IfOk result (λ v. PassWithin rechecks (declarations_of base.old) budgets.now (length base.old.decls) → v ≡ verdict.Accepted) }
+    ensures refuses { IfOk result (λ v. (i : ℕ) → IsRefusedWithin rechecks (declarations_of base.old) budgets.now i → v ≡ verdict.IllTyped i) }
+{
+    let kept = base.table.count();
     let mut memo = Memo::new(alloc);
     for (i, budget) in budgets.iter().enumerate() {
         let mut left = Budget { left: *budget };
-        match check_noted(alloc, base, &mut memo, i, &mut left)? {
-            Answer::Yes => {}
+        match check_noted(alloc, base, rechecks, &mut memo, i, &mut left)? {
+            Answer::Yes => cut_back(base, &mut memo, kept),
             Answer::No => return Ok(Verdict::IllTyped(i)),
             Answer::Over => return Ok(Verdict::OverBudget(i)),
         }
     }
     Ok(Verdict::Accepted)
+}
+
+// How many nodes the checks may make before they are given up: so many, or an eighth of the module's.
+const ROOM: usize = 4096;
+
+// Gives up the nodes that the checks made after the first `kept`, where they are many, and what is noted of them.
+fn cut_back(base: &mut Module, memo: &mut Memo, kept: usize)
+    requires { kept ≤ length base.old.table }
+    ensures { (rechecks : Bool) (from : AModule) → length from.table ≡ kept → IsHeld from → Grows from base.old → AreRight rechecks (declarations_of base.old) base.old.table memo.old → IsCutBack rechecks from base.new memo.new }
+{
+    let made = base.table.count() - kept;
+    if made < ROOM || made < kept / 8 {
+        return;
+    }
+    base.table.cut(kept);
+    memo.cut(kept);
 }

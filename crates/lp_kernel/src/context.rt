@@ -1,5 +1,5 @@
 //! The types of the loose variables of the tree that is walked.
-ghost use Rattle.std.specs.Prelude.{◌≡◌, ◌∷◌, OnOk, OnErr, IfOk, slice_get};
+ghost use Rattle.std.specs.Prelude.{◌≡◌, [], ◌∷◌, OnOk, OnErr, IfOk, slice_get};
 ghost use Rattle.lp_kernel.specs.Pending.{outside};
 
 use bridge_base::Memory;
@@ -51,6 +51,13 @@ impl Context {
         ensures { self.new ≡ outside self.old }
     {
         self.entries.pop();
+    }
+
+    /// Leaves out all variables.
+    pub(crate) fn clear(&mut self)
+        ensures { self.new ≡ [] }
+    {
+        self.entries.clear();
     }
 
     /// A new innermost variable of this type.

@@ -1,5 +1,5 @@
 //! The type of a tree, by the directed rules.
-ghost use Rattle.std.specs.Prelude.{◌<◌, ◌≤◌, IfOk, length};
+ghost use Rattle.std.specs.Prelude.{◌<◌, ◌≤◌, true, IfOk, length};
 ghost use Rattle.lp_term.specs.Tables.{tree_at, trees_at, AreKnown};
 ghost use Rattle.holide_sig.specs.Modules.{declarations_of, IsHeld};
 ghost use Rattle.lp_conv.specs.Growth.{Grows};
@@ -43,7 +43,7 @@ pub fn infer(
     ensures grows { Grows base.old base.new }
     ensures known { IfOk result (IsKnownType base.new.table) }
     ensures less { budget.new.left ≤ budget.old.left }
-    ensures answered { IfOk result (IsInferred base.old ctx.now id base.new.table budget.old.left budget.new.left) }
+    ensures answered { IfOk result (IsInferred true base.old ctx.now id base.new.table budget.old.left budget.new.left) }
     ensures sound { IfOk result (IsTypeOf base.old ctx.now id base.new.table) }
 {
     let mut state = State {
@@ -59,7 +59,7 @@ pub fn infer(
             Next::Tell(found) => match state.frames.pop() {
                 None => return Ok(Inferred::Found(found)),
                 Some(frame) => {
-                    next = tell(alloc, base, &mut state, frame, found, budget)?;
+                    next = tell(alloc, base, true, &mut state, frame, found, budget)?;
                 }
             },
             Next::Under(b, k, f) => {

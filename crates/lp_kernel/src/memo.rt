@@ -1,27 +1,29 @@
 //! The types of closed applications that were found, so that each is found once.
-ghost use Rattle.std.specs.Prelude.{◌≡◌, ◌⊎◌, IfNone, IfSome, OnOk};
+ghost use Rattle.std.specs.Prelude.{◌≡◌, suc, ◌<◌, ◌⊎◌, length, IfOk, IfNone, IfSome, OnOk};
 ghost use Rattle.lp_term.specs.declared.LpId.{LpId as AnId};
-ghost use Rattle.lp_kernel.specs.Noted.{IsNoted};
+ghost use Rattle.lp_kernel.specs.Noted.{IsNoted, IsLonger, IsForgotten};
 
 use bridge_base::Memory;
-use indexmap::IndexMap;
 use lp_term::LpId;
 use std::alloc::Global;
 use std::marker::Model;
 
-/// The types that were found, by their trees.
+/// The types that were found, by the numbers of their trees: a list in place of a table with a hash, so that no module makes it slow.
 #[derive(Drop)]
 pub(crate) struct Memo {
-    types: IndexMap<LpId, LpId>,
+    // One more than the type's number, or 0 where none is noted.
+    types: Vec<u32>,
 }
 
 impl Model for Memo {
-    ghost use Rattle.std.specs.Prelude.{List};
-    ghost use Rattle.lp_term.specs.declared.LpId.{LpId as AnId};
+    ghost use Rattle.std.specs.Prelude.{List, ℕ};
+    ghost use Rattle.std.specs.Coded.{coded_list, coded_ℕ};
 
-    ghost Value = { List (AnId × AnId) };
+    ghost Value = { List ℕ };
 
-    ghost view = { λ m. m.types.entries };
+    ghost coded = { coded_list coded_ℕ };
+
+    ghost view = { λ m. m.types.items };
 }
 
 impl Memo {
@@ -30,7 +32,7 @@ impl Memo {
         ensures empty { (t : AnId) (r : AnId) → IsNoted result t r → ⊥ }
     {
         Memo {
-            types: IndexMap::new(alloc),
+            types: Vec::new(alloc),
         }
     }
 
@@ -39,16 +41,61 @@ impl Memo {
         ensures noted { IfSome result (λ r. IsNoted self.now id r) }
         ensures absent { IfNone result ((r : AnId) → IsNoted self.now id r → ⊥) }
     {
-        self.types.get(&id).copied()
+        let noted = *self.types.get(id.0)?;
+        let number = noted.checked_sub(1)?;
+        Some(LpId(number as usize))
     }
 
-    /// Notes the type of a tree.
+    /// Notes the type of a tree. A number of 2^32 or more is want of memory.
     pub(crate) fn note(&mut self, id: LpId, found: LpId) -> Result<(), Memory>
         ensures noted { OnOk result ((t : AnId) (r : AnId) → IsNoted self.new t r → IsNoted self.old t r ⊎ ((t ≡ id) × (r ≡ found))) }
         ensures new { OnOk result (IsNoted self.new id found) }
         ensures kept { OnOk result ((t : AnId) (r : AnId) → IsNoted self.old t r → (t ≡ id) ⊎ IsNoted self.new t r) }
     {
-        self.types.insert(id, found)?;
+        let noted = one_more(found)?;
+        reach_to(&mut self.types, id.0)?;
+        self.types[id.0] = noted;
         Ok(())
+    }
+
+    /// Forgets each tree and each type with a number of `len` or more.
+    pub(crate) fn cut(&mut self, len: usize)
+        ensures lower { (t : AnId) (r : AnId) → IsNoted self.new t r → IsNoted self.old t r × (t.0 < len) × (r.0 < len) }
+        ensures kept { (t : AnId) (r : AnId) → t.0 < len → r.0 < len → IsNoted self.old t r → IsNoted self.new t r }
+    {
+        self.types.truncate(len);
+        forget(&mut self.types, len);
+    }
+}
+
+// One more than the number of a tree.
+fn one_more(id: LpId) -> Result<u32, Memory>
+    ensures { IfOk result (λ n. n ≡ suc id.0) }
+{
+    match u32::try_from(id.0) {
+        Ok(number) => number.checked_add(1).ok_or(Memory),
+        Err(_) => Err(Memory),
+    }
+}
+
+// Lengthens a list so that it has this place. Nothing is noted there.
+fn reach_to(types: &mut Vec<u32>, place: usize) -> Result<(), Memory>
+    ensures reached { OnOk result (place < length types.new.items) }
+    ensures longer { OnOk result (IsLonger types.old.items types.new.items) }
+{
+    while types.len() <= place {
+        types.push(0)?;
+    }
+    Ok(())
+}
+
+// Forgets the types with a number of `len` or more.
+fn forget(types: &mut Vec<u32>, len: usize)
+    ensures { IsForgotten types.old.items types.new.items (length types.new.items) len }
+{
+    for place in 0..types.len() {
+        if types[place] as usize > len {
+            types[place] = 0;
+        }
     }
 }

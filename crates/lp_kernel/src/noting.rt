@@ -29,56 +29,66 @@ pub(crate) enum Recall {
     Open,
 }
 
-/// The type of a tree in the empty context, by the directed rules, each step taking one of the budget. A closed tree whose type was found
+/// The type of a tree in the empty context, by the directed rules, with rechecks of sorts or without, each step taking one of
+/// the budget. A closed tree whose type was found
 /// before takes one step.
 pub(crate) fn infer_noted(
     alloc: Global,
     base: &mut Module,
+    rechecks: bool,
     memo: &mut Memo,
     id: LpId,
     budget: &mut Budget,
 ) -> Result<Inferred, Memory>
     requires held { IsHeld base.old }
     requires is_module { IsModule (declarations_of base.old) }
-    requires right { AreRight (declarations_of base.old) base.old.table memo.old }
+    requires right { AreRight rechecks (declarations_of base.old) base.old.table memo.old }
     requires id { id.0 < length base.old.table }
     ensures grows { Grows base.old base.new }
     ensures known { IfOk result (IsKnownType base.new.table) }
     ensures less { budget.new.left ≤ budget.old.left }
-    ensures answered { IfOk result (IsInferred base.old [] id base.new.table budget.old.left budget.new.left) }
-    ensures right { IfOk result (λ r. AreRight (declarations_of base.new) base.new.table memo.new) }
+    ensures answered { IfOk result (IsInferred rechecks base.old [] id base.new.table budget.old.left budget.new.left) }
+    ensures right { IfOk result (λ r. AreRight rechecks (declarations_of base.new) base.new.table memo.new) }
 {
     let mut state = fresh(alloc)?;
     let mut outer = Stack::new(alloc);
+    let mut spare = Stack::new(alloc);
     let mut next = Next::Ask(id);
+    // Whether the tree that is asked for is the function of an application.
+    let mut is_function = false;
     loop {
+        let at_function = is_function;
+        is_function = false;
         match next {
-            Next::Ask(tree) => match look_up(base, memo, tree) {
+            Next::Ask(tree) => match look_up(base, memo, tree, at_function) {
                 Recall::Found(found) => {
                     next = take_up(found, budget);
                 }
                 Recall::Closed => {
-                    let inner = fresh(alloc)?;
+                    let inner = emptied(alloc, &mut spare)?;
                     let below = std::mem::replace(&mut state, inner);
                     outer.push(Waiting {
                         id: tree,
                         state: below,
                     })?;
                     next = ask(base, &mut state, tree, budget)?;
+                    is_function = true;
                 }
                 Recall::Open => {
                     next = ask(base, &mut state, tree, budget)?;
+                    is_function = is_application(base, tree);
                 }
             },
             Next::Tell(found) => match state.frames.pop() {
                 Some(frame) => {
-                    next = tell(alloc, base, &mut state, frame, found, budget)?;
+                    next = tell(alloc, base, rechecks, &mut state, frame, found, budget)?;
                 }
                 None => match outer.pop() {
                     None => return Ok(Inferred::Found(found)),
                     Some(waiting) => {
                         memo.note(waiting.id, found)?;
-                        state = waiting.state;
+                        let ended = std::mem::replace(&mut state, waiting.state);
+                        spare.push(ended)?;
                         next = Next::Tell(found);
                     }
                 },
@@ -103,21 +113,42 @@ fn fresh(alloc: Global) -> Result<State, Memory>
     })
 }
 
-// What is remembered of a tree. Applications alone are noted: the others take few steps.
-fn look_up(base: &Module, memo: &Memo, id: LpId) -> Recall
+// The same, in the lists of a state that has ended, where there is one.
+fn emptied(alloc: Global, spare: &mut Stack<State>) -> Result<State, Memory>
+    ensures context { IfOk result (λ s. s.context ≡ []) }
+    ensures frames { IfOk result (λ s. s.frames ≡ []) }
+{
+    let Some(mut state) = spare.pop() else {
+        return fresh(alloc);
+    };
+    state.context.clear();
+    while let Some(_frame) = state.frames.pop() {}
+    Ok(state)
+}
+
+// What is remembered of a tree. Applications alone are noted, and not the functions of others: the others take few steps.
+fn look_up(base: &Module, memo: &Memo, id: LpId, is_function: bool) -> Recall
     requires id { id.0 < length base.now.table }
     ensures { IsRecalled base.now.table memo.now id result }
 {
-    let LpNode::App(_function, _argument) = base.table.view(id) else {
+    if !is_application(base, id) {
         return Recall::Open;
-    };
+    }
     if !base.table.is_closed_under(id, 0) {
         return Recall::Open;
     }
     match memo.find(id) {
         Some(found) => Recall::Found(found),
+        None if is_function => Recall::Open,
         None => Recall::Closed,
     }
+}
+
+// Whether a tree is an application.
+fn is_application(base: &Module, id: LpId) -> bool
+    requires id { id.0 < length base.now.table }
+{
+    matches!(base.table.view(id), LpNode::App(..))
 }
 
 // Goes on with a type that is remembered, at one step.

@@ -1,13 +1,13 @@
 //! Turns that go on with a type that was found.
-ghost use Rattle.std.specs.Prelude.{ℕ, ◌<◌, ◌≤◌, IfOk, length};
+ghost use Rattle.std.specs.Prelude.{ℕ, Bool, ◌<◌, ◌≤◌, IfOk, length};
 ghost use Rattle.holide_sig.specs.Modules.{IsHeld};
 ghost use Rattle.lp_conv.specs.Growth.{Grows};
 ghost use Rattle.lp_kernel.specs.declared.state.Frame.TheVariants as frame;
-ghost use Rattle.lp_kernel.specs.Pending.{IsKnownState, IsKnownNext, IsKnownFrame, IsTold, IsFewer};
+ghost use Rattle.lp_kernel.specs.Pending.{IsKnownState, IsKnownNext, IsKnownFrame, IsApplication, IsTold, IsApplied, IsConverted, IsFewer};
 
 use crate::inference::Inferred;
 use crate::products::reach;
-use crate::spines::filled;
+use crate::spines::filled_as;
 use crate::state::{Frame, Next, State};
 use bridge_base::{Budget, Memory};
 use holide_sig::Module;
@@ -15,10 +15,11 @@ use lp_conv::{Answer, conv};
 use lp_term::{LpId, LpNode};
 use std::alloc::Global;
 
-/// Goes on with a type that was found.
+/// Goes on with a type that was found, with rechecks of sorts or without.
 pub(crate) fn tell(
     alloc: Global,
     base: &mut Module,
+    rechecks: bool,
     state: &mut State,
     frame: Frame,
     found: LpId,
@@ -32,14 +33,16 @@ pub(crate) fn tell(
     ensures known { IfOk result (λ n. IsKnownState base.new.table state.new) }
     ensures next { IfOk result (IsKnownNext base.new.table) }
     ensures less { budget.new.left ≤ budget.old.left }
-    ensures turned { IfOk result (IsTold base.new frame state.old found budget.old.left budget.new.left state.new) }
+    ensures turned { IfOk result (IsTold rechecks base.new frame state.old found budget.old.left budget.new.left state.new) }
     ensures fewer { IfOk result (IsFewer state.old budget.old.left budget.new.left state.new) }
 {
     match frame {
-        Frame::Function(f, x, w) => tell_function(alloc, base, state, f, x, w, found, budget),
+        Frame::Function(f, x, w) => tell_function(
+            alloc, base, rechecks, state, f, x, w, found, budget,
+        ),
         Frame::Reached(p, f, x, w) => tell_reached(base, state, p, f, x, w, found),
         Frame::Argument(a, b, k, f, w) => tell_argument(
-            alloc, base, state, a, b, k, f, w, found, budget,
+            alloc, base, rechecks, state, a, b, k, f, w, found, budget,
         ),
         Frame::Expected(a, b, k, w, y) => tell_expected(
             alloc, base, state, a, b, k, w, y, found, budget,
@@ -55,6 +58,7 @@ pub(crate) fn tell(
 fn tell_function(
     alloc: Global,
     base: &mut Module,
+    rechecks: bool,
     state: &mut State,
     f: LpId,
     x: LpId,
@@ -70,7 +74,7 @@ fn tell_function(
     ensures known { IfOk result (λ n. IsKnownState base.new.table state.new) }
     ensures next { IfOk result (IsKnownNext base.new.table) }
     ensures less { budget.new.left ≤ budget.old.left }
-    ensures turned { IfOk result (IsTold base.new (frame.Function f x w) state.old found budget.old.left budget.new.left state.new) }
+    ensures turned { IfOk result (IsTold rechecks base.new (frame.Function f x w) state.old found budget.old.left budget.new.left state.new) }
     ensures fewer { IfOk result (IsFewer state.old budget.old.left budget.new.left state.new) }
 {
     if let LpNode::Pi(a, b) = base.table.view(found) {
@@ -79,6 +83,9 @@ fn tell_function(
     }
     match reach(alloc, base, found, budget)? {
         Inferred::Found(product) => {
+            if !rechecks {
+                return to_argument(base, state, product, f, x, w);
+            }
             state.frames.push(Frame::Reached(product, f, x, w))?;
             Ok(Next::Ask(product))
         }
@@ -104,17 +111,38 @@ fn tell_reached(
     ensures grows { Grows base.old base.new }
     ensures known { IfOk result (λ n. IsKnownState base.new.table state.new) }
     ensures next { IfOk result (IsKnownNext base.new.table) }
-    ensures turned { IfOk result (λ n. (left : ℕ) → IsTold base.new (frame.Reached product f x w) state.old found left left state.new n) }
+    ensures turned { IfOk result (λ n. (rechecks : Bool) (left : ℕ) → IsTold rechecks base.new (frame.Reached product f x w) state.old found left left state.new n) }
     ensures fewer { IfOk result (λ n. (left : ℕ) → IsFewer state.old left left state.new n) }
 {
     match base.table.view(found) {
-        LpNode::SortType | LpNode::SortKind => match base.table.view(product) {
-            LpNode::Pi(a, b) => {
-                state.frames.push(Frame::Argument(a, b, 0, f, w))?;
-                Ok(Next::Ask(x))
-            }
-            _ => Ok(Next::No),
-        },
+        LpNode::SortType | LpNode::SortKind => to_argument(base, state, product, f, x, w),
+        _ => Ok(Next::No),
+    }
+}
+
+// From a product that the type of a function reaches to the argument.
+fn to_argument(
+    base: &Module,
+    state: &mut State,
+    product: LpId,
+    f: LpId,
+    x: LpId,
+    w: LpId,
+) -> Result<Next, Memory>
+    requires held { IsHeld base.now }
+    requires known { IsKnownState base.now.table state.old }
+    requires product { product.0 < length base.now.table }
+    requires application { IsApplication base.now.table f x w }
+    ensures known { IfOk result (λ n. IsKnownState base.now.table state.new) }
+    ensures next { IfOk result (IsKnownNext base.now.table) }
+    ensures turned { IfOk result (λ n. (rechecks : Bool) (left : ℕ) → IsApplied rechecks base.now state.old product x left state.new n) }
+    ensures fewer { IfOk result (λ n. (left : ℕ) → IsFewer state.old left left state.new n) }
+{
+    match base.table.view(product) {
+        LpNode::Pi(a, b) => {
+            state.frames.push(Frame::Argument(a, b, 0, f, w))?;
+            Ok(Next::Ask(x))
+        }
         _ => Ok(Next::No),
     }
 }
@@ -123,6 +151,7 @@ fn tell_reached(
 fn tell_argument(
     alloc: Global,
     base: &mut Module,
+    rechecks: bool,
     state: &mut State,
     a: LpId,
     b: LpId,
@@ -140,7 +169,7 @@ fn tell_argument(
     ensures known { IfOk result (λ n. IsKnownState base.new.table state.new) }
     ensures next { IfOk result (IsKnownNext base.new.table) }
     ensures less { budget.new.left ≤ budget.old.left }
-    ensures turned { IfOk result (IsTold base.new (frame.Argument a b k f w) state.old found budget.old.left budget.new.left state.new) }
+    ensures turned { IfOk result (IsTold rechecks base.new (frame.Argument a b k f w) state.old found budget.old.left budget.new.left state.new) }
     ensures fewer { IfOk result (IsFewer state.old budget.old.left budget.new.left state.new) }
 {
     if !budget.tick() {
@@ -150,9 +179,12 @@ fn tell_argument(
     let Some(more) = k.checked_add(1) else {
         return Err(Memory);
     };
-    let domain = filled(alloc, base, a, k, f)?;
+    let domain = filled_as(alloc, base, a, k, f, found)?;
     if domain == found {
         return Ok(Next::Under(b, more, w));
+    }
+    if !rechecks {
+        return convert(alloc, base, state, domain, b, more, w, found, budget);
     }
     state
         .frames
@@ -181,16 +213,41 @@ fn tell_expected(
     ensures known { IfOk result (λ n. IsKnownState base.new.table state.new) }
     ensures next { IfOk result (IsKnownNext base.new.table) }
     ensures less { budget.new.left ≤ budget.old.left }
-    ensures turned { IfOk result (IsTold base.new (frame.Expected a b k w y) state.old found budget.old.left budget.new.left state.new) }
+    ensures turned { IfOk result (λ n. (rechecks : Bool) → IsTold rechecks base.new (frame.Expected a b k w y) state.old found budget.old.left budget.new.left state.new n) }
     ensures fewer { IfOk result (IsFewer state.old budget.old.left budget.new.left state.new) }
 {
     match base.table.view(found) {
-        LpNode::SortType | LpNode::SortKind => match conv(alloc, base, a, y, budget)? {
-            Answer::Yes => Ok(Next::Under(b, k, w)),
-            Answer::No => Ok(Next::No),
-            Answer::Over => Ok(Next::Over),
-        },
+        LpNode::SortType | LpNode::SortKind => convert(alloc, base, state, a, b, k, w, y, budget),
         _ => Ok(Next::No),
+    }
+}
+
+// Whether the type of an argument converts to the expected one; the type of the application is to be made if it does.
+fn convert(
+    alloc: Global,
+    base: &mut Module,
+    state: &State,
+    a: LpId,
+    b: LpId,
+    k: usize,
+    w: LpId,
+    y: LpId,
+    budget: &mut Budget,
+) -> Result<Next, Memory>
+    requires held { IsHeld base.old }
+    requires known { IsKnownState base.old.table state.now }
+    requires frame { IsKnownFrame base.old.table (frame.Expected a b k w y) }
+    ensures grows { Grows base.old base.new }
+    ensures known { IfOk result (λ n. IsKnownState base.new.table state.now) }
+    ensures next { IfOk result (IsKnownNext base.new.table) }
+    ensures less { budget.new.left ≤ budget.old.left }
+    ensures turned { IfOk result (λ n. (rechecks : Bool) → IsConverted rechecks base.new a b k w y budget.old.left budget.new.left state.now n) }
+    ensures fewer { IfOk result (IsFewer state.now budget.old.left budget.new.left state.now) }
+{
+    match conv(alloc, base, a, y, budget)? {
+        Answer::Yes => Ok(Next::Under(b, k, w)),
+        Answer::No => Ok(Next::No),
+        Answer::Over => Ok(Next::Over),
     }
 }
 
@@ -209,7 +266,7 @@ fn tell_domain(
     ensures grows { Grows base.old base.new }
     ensures known { IfOk result (λ n. IsKnownState base.new.table state.new) }
     ensures next { IfOk result (IsKnownNext base.new.table) }
-    ensures turned { IfOk result (λ n. (left : ℕ) → IsTold base.new (frame.Domain a b) state.old found left left state.new n) }
+    ensures turned { IfOk result (λ n. (rechecks : Bool) (left : ℕ) → IsTold rechecks base.new (frame.Domain a b) state.old found left left state.new n) }
     ensures fewer { IfOk result (λ n. (left : ℕ) → IsFewer state.old left left state.new n) }
 {
     match base.table.view(found) {
@@ -231,7 +288,7 @@ fn tell_body(base: &mut Module, state: &mut State, a: LpId, found: LpId) -> Resu
     ensures grows { Grows base.old base.new }
     ensures known { IfOk result (λ n. IsKnownState base.new.table state.new) }
     ensures next { IfOk result (IsKnownNext base.new.table) }
-    ensures turned { IfOk result (λ n. (left : ℕ) → IsTold base.new (frame.Body a) state.old found left left state.new n) }
+    ensures turned { IfOk result (λ n. (rechecks : Bool) (left : ℕ) → IsTold rechecks base.new (frame.Body a) state.old found left left state.new n) }
     ensures fewer { IfOk result (λ n. (left : ℕ) → IsFewer state.old left left state.new n) }
 {
     state.context.pop();
@@ -259,7 +316,7 @@ fn tell_product_domain(
     ensures grows { Grows base.old base.new }
     ensures known { IfOk result (λ n. IsKnownState base.new.table state.new) }
     ensures next { IfOk result (IsKnownNext base.new.table) }
-    ensures turned { IfOk result (λ n. (left : ℕ) → IsTold base.new (frame.ProductDomain a b) state.old found left left state.new n) }
+    ensures turned { IfOk result (λ n. (rechecks : Bool) (left : ℕ) → IsTold rechecks base.new (frame.ProductDomain a b) state.old found left left state.new n) }
     ensures fewer { IfOk result (λ n. (left : ℕ) → IsFewer state.old left left state.new n) }
 {
     match base.table.view(found) {
@@ -281,7 +338,7 @@ fn tell_product_body(base: &mut Module, state: &mut State, found: LpId) -> Resul
     ensures grows { Grows base.old base.new }
     ensures known { IfOk result (λ n. IsKnownState base.new.table state.new) }
     ensures next { IfOk result (IsKnownNext base.new.table) }
-    ensures turned { IfOk result (λ n. (left : ℕ) → IsTold base.new frame.ProductBody state.old found left left state.new n) }
+    ensures turned { IfOk result (λ n. (rechecks : Bool) (left : ℕ) → IsTold rechecks base.new frame.ProductBody state.old found left left state.new n) }
     ensures fewer { IfOk result (λ n. (left : ℕ) → IsFewer state.old left left state.new n) }
 {
     state.context.pop();

@@ -1,5 +1,6 @@
+use Rattle.std.proofs.Common.{true}
 use Rattle.lp_kernel.proofs.Levels.{empty-right}
 use Rattle.lp_kernel.proofs.checks.check_decl.Goals as goal
 
 pub check_noted-requires-clause-right : goal.check_noted-requires-clause-right
-check_noted-requires-clause-right c = empty-right _ _ c.new-memo.result c.new-memo.ensures.empty
+check_noted-requires-clause-right c = empty-right true _ _ c.new-memo.result c.new-memo.ensures.empty

@@ -26,8 +26,8 @@ pub returns-in-SortType-clause-answered : goal.returns-in-SortType-clause-answer
 returns-in-SortType-clause-answered c =
     IfOk-map c.check_body.result
     (λ a h.
-    plan-checked c.args.base.now c.requires.is_module c.args.i c.get-decl.result.now c.get-decl.ensures _ _ a
-    (sorted-replied c.args.base.now c.infer_noted.new.base c.infer_noted.ensures.grows c.requires.held c.args.i c.get-decl.result.now c.get-decl.ensures c.in-Found.sort _ _ c.infer_noted.ensures.less (rw c.in-Found.is at c.in_ok-sort.ensures.answered)
+    plan-checked c.args.rechecks c.args.base.now c.requires.is_module c.args.i c.get-decl.result.now c.get-decl.ensures _ _ a
+    (sorted-replied c.args.rechecks c.args.base.now c.infer_noted.new.base c.infer_noted.ensures.grows c.requires.held c.args.i c.get-decl.result.now c.get-decl.ensures c.in-Found.sort _ _ c.infer_noted.ensures.less (rw c.in-Found.is at c.in_ok-sort.ensures.answered)
     (rw c.in-SortType.is at c.view.ensures.is) _ a c.check_body.ensures.less h))
     c.check_body.ensures.answered
 
@@ -35,8 +35,8 @@ pub returns-in-SortType-clause-sound : goal.returns-in-SortType-clause-sound
 returns-in-SortType-clause-sound c =
     IfOk-map c.check_body.result
     (λ a h e.
-    plan-typed c.args.base.now c.requires.is_module c.args.i c.get-decl.result.now c.get-decl.ensures _ _ a
-    (sorted-replied c.args.base.now c.infer_noted.new.base c.infer_noted.ensures.grows c.requires.held c.args.i c.get-decl.result.now c.get-decl.ensures c.in-Found.sort _ _ c.infer_noted.ensures.less (rw c.in-Found.is at c.in_ok-sort.ensures.answered)
+    plan-typed c.args.rechecks c.args.base.now c.requires.is_module c.args.i c.get-decl.result.now c.get-decl.ensures _ _ a
+    (sorted-replied c.args.rechecks c.args.base.now c.infer_noted.new.base c.infer_noted.ensures.grows c.requires.held c.args.i c.get-decl.result.now c.get-decl.ensures c.in-Found.sort _ _ c.infer_noted.ensures.less (rw c.in-Found.is at c.in_ok-sort.ensures.answered)
     (rw c.in-SortType.is at c.view.ensures.is) _ a c.check_body.ensures.less h) e)
     c.check_body.ensures.answered
 
@@ -45,8 +45,8 @@ returns-in_default c = record {
   grows = c.infer_noted.ensures.grows;
   less = c.infer_noted.ensures.less;
   answered =
-      plan-checked c.args.base.now c.requires.is_module c.args.i c.get-decl.result.now c.get-decl.ensures _ _ answer.No
-      (unsorted-replied c.args.base.now c.infer_noted.new.base c.infer_noted.ensures.grows c.requires.held c.args.i c.get-decl.result.now c.get-decl.ensures c.in-Found.sort _ _ c.infer_noted.ensures.less (rw c.in-Found.is at c.in_ok-sort.ensures.answered)
+      plan-checked c.args.rechecks c.args.base.now c.requires.is_module c.args.i c.get-decl.result.now c.get-decl.ensures _ _ answer.No
+      (unsorted-replied c.args.rechecks c.args.base.now c.infer_noted.new.base c.infer_noted.ensures.grows c.requires.held c.args.i c.get-decl.result.now c.get-decl.ensures c.in-Found.sort _ _ c.infer_noted.ensures.less (rw c.in-Found.is at c.in_ok-sort.ensures.answered)
       c.view.result c.view.ensures.is c.in_default.not-SortType);
   sound = λ e. absurd (cc);
   right = c.in_ok-sort.ensures.right;
@@ -54,10 +54,10 @@ returns-in_default c = record {
 
 pub returns-in-No-clause-answered : goal.returns-in-No-clause-answered
 returns-in-No-clause-answered c =
-    plan-checked c.args.base.now c.requires.is_module c.args.i c.get-decl.result.now c.get-decl.ensures _ _ answer.No
-    (no-replied _ c.infer_noted.new.base.table _ (tree_at c.args.base.now.table c.get-decl.result.now.ty.0) _ _ _ (rw c.in-No.is at c.in_ok-sort.ensures.answered))
+    plan-checked c.args.rechecks c.args.base.now c.requires.is_module c.args.i c.get-decl.result.now c.get-decl.ensures _ _ answer.No
+    (no-replied c.args.rechecks _ c.infer_noted.new.base.table _ (tree_at c.args.base.now.table c.get-decl.result.now.ty.0) _ _ _ (rw c.in-No.is at c.in_ok-sort.ensures.answered))
 
 pub returns-in-Over-clause-answered : goal.returns-in-Over-clause-answered
 returns-in-Over-clause-answered c =
-    plan-checked c.args.base.now c.requires.is_module c.args.i c.get-decl.result.now c.get-decl.ensures _ c.infer_noted.new.budget.left answer.Over
-    (over-replied _ c.infer_noted.new.base.table _ (tree_at c.args.base.now.table c.get-decl.result.now.ty.0) _ _ c.infer_noted.new.budget.left (rw c.in-Over.is at c.in_ok-sort.ensures.answered))
+    plan-checked c.args.rechecks c.args.base.now c.requires.is_module c.args.i c.get-decl.result.now c.get-decl.ensures _ c.infer_noted.new.budget.left answer.Over
+    (over-replied c.args.rechecks _ c.infer_noted.new.base.table _ (tree_at c.args.base.now.table c.get-decl.result.now.ty.0) _ _ c.infer_noted.new.budget.left (rw c.in-Over.is at c.in_ok-sort.ensures.answered))

@@ -3,5 +3,5 @@ use Rattle.lp_kernel.proofs.Told.{told-domain}
 use Rattle.lp_kernel.proofs.tells.tell_domain.Goals as goal
 
 pub returns-in_ok-push-in-SortType-2-clause-turned : goal.returns-in_ok-push-in-SortType-2-clause-turned
-returns-in_ok-push-in-SortType-2-clause-turned c = λ left.
-    told-domain _ _ _ _ c.args.a c.args.b c.args.found _ _ _ c.in-SortType.ensures.is c.in_ok-push-in-SortType-2.ensures.pushed c.in_ok-push-in-SortType.ensures.pushed (omega arith)
+returns-in_ok-push-in-SortType-2-clause-turned c = λ rechecks left.
+    told-domain rechecks _ _ _ _ c.args.a c.args.b c.args.found _ _ _ c.in-SortType.ensures.is c.in_ok-push-in-SortType-2.ensures.pushed c.in_ok-push-in-SortType.ensures.pushed (omega arith)

@@ -1,10 +1,11 @@
 use Rattle.std.proofs.Common.{arith, ap, length}
-use Rattle.lp_kernel.proofs.Asked.{known-state, known-pushed, known-application}
-use Rattle.lp_kernel.proofs.Told.{told-product, told-reached, told-unreached, told-over}
+use Rattle.lp_kernel.proofs.Asked.{IfOk-map, known-state, known-pushed, known-application}
+use Rattle.lp_kernel.proofs.Told.{told-product, told-reached, told-unchecked, told-unreached, told-over}
+use Rattle.lp_conv.specs.GrowthLaws.{IsHeld-Grows}
 use Rattle.lp_kernel.proofs.tells.tell_function.Goals as goal
 
 pub returns-in-Pi-clause-turned : goal.returns-in-Pi-clause-turned
-returns-in-Pi-clause-turned c = told-product _ _ _ _ c.args.f c.args.x c.args.w c.args.found c.in-Pi.a c.in-Pi.b _ _ c.in-Pi.ensures.is c.requires.frame c.in_ok-push.ensures.pushed (omega arith)
+returns-in-Pi-clause-turned c = told-product c.args.rechecks _ _ _ _ c.args.f c.args.x c.args.w c.args.found c.in-Pi.a c.in-Pi.b _ _ c.in-Pi.ensures.is c.requires.frame c.in_ok-push.ensures.pushed (omega arith)
 
 pub returns-in_ok-push-in-Found : goal.returns-in_ok-push-in-Found
 returns-in_ok-push-in-Found c =
@@ -16,7 +17,7 @@ returns-in_ok-push-in-Found c =
       known = known-pushed _ c.args.state.now _ _ (known-state keeps _ c.requires.known) (known, known-application keeps c.args.f c.args.x c.args.w c.requires.frame) c.in_ok-push-in-Found.ensures.pushed;
       next = known;
       less = c.reach.ensures.less;
-      turned = told-reached _ _ _ _ _ c.args.f c.args.x c.args.w c.args.found c.view.result c.in-Found.product _ _ keeps.stays c.requires.found c.view.ensures.is c.in_default.not-Pi answered c.in_ok-push-in-Found.ensures.pushed;
+      turned = told-reached c.args.rechecks _ _ _ _ _ c.args.f c.args.x c.args.w c.args.found c.view.result c.if-not-rechecks.false c.in-Found.product _ _ keeps.stays c.requires.found c.view.ensures.is c.in_default.not-Pi answered c.in_ok-push-in-Found.ensures.pushed;
       fewer = omega (arith, c.reach.ensures.less, ap length c.in_ok-push-in-Found.ensures.pushed);
     }
 
@@ -28,7 +29,7 @@ returns-in-No c =
       known = known-state keeps _ c.requires.known;
       next = tt;
       less = c.reach.ensures.less;
-      turned = told-unreached _ _ _ _ _ c.args.f c.args.x c.args.w c.args.found c.view.result _ keeps.stays c.requires.found c.view.ensures.is c.in_default.not-Pi (rw c.in-No.is at c.in_ok-product.ensures.answered);
+      turned = told-unreached c.args.rechecks _ _ _ _ _ c.args.f c.args.x c.args.w c.args.found c.view.result _ keeps.stays c.requires.found c.view.ensures.is c.in_default.not-Pi (rw c.in-No.is at c.in_ok-product.ensures.answered);
       fewer = omega (arith, c.reach.ensures.less);
     }
 
@@ -40,6 +41,31 @@ returns-in-Over c =
       known = known-state keeps _ c.requires.known;
       next = tt;
       less = c.reach.ensures.less;
-      turned = told-over _ _ _ c.args.state.now.context c.args.state.now.frames c.args.f c.args.x c.args.w c.args.found c.view.result _ keeps.stays c.requires.found c.view.ensures.is c.in_default.not-Pi (rw c.in-Over.is at c.in_ok-product.ensures.answered);
+      turned = told-over c.args.rechecks _ _ _ c.args.state.now.context c.args.state.now.frames c.args.f c.args.x c.args.w c.args.found c.view.result _ keeps.stays c.requires.found c.view.ensures.is c.in_default.not-Pi (rw c.in-Over.is at c.in_ok-product.ensures.answered);
       fewer = omega (arith, c.reach.ensures.less);
     }
+
+pub to_argument-requires : goal.to_argument-requires
+to_argument-requires c =
+    let keeps = c.reach.ensures.grows.keeps in
+    record {
+      held = IsHeld-Grows _ _ c.reach.ensures.grows c.requires.held;
+      known = known-state keeps _ c.requires.known;
+      product = rw c.in-Found.is at c.in_ok-product.ensures.known;
+      application = known-application keeps c.args.f c.args.x c.args.w c.requires.frame;
+    }
+
+pub returns-then-not-rechecks : goal.returns-then-not-rechecks
+returns-then-not-rechecks c = record {
+  grows = c.reach.ensures.grows;
+  known = c.to_argument.ensures.known;
+  next = c.to_argument.ensures.next;
+  less = c.reach.ensures.less;
+  turned =
+      IfOk-map c.to_argument.result
+      (λ n h.
+      told-unchecked c.args.rechecks c.if-not-rechecks.true c.reach.new.base c.args.base.now.table c.args.state.now _ c.args.f c.args.x c.args.w c.args.found c.in-Found.product c.view.result _ _ n c.reach.ensures.grows.keeps.stays c.requires.found c.view.ensures.is
+      c.in_default.not-Pi (rw c.in-Found.is at c.in_ok-product.ensures.answered) c.reach.ensures.less (h c.args.rechecks c.reach.new.budget.left))
+      c.to_argument.ensures.turned;
+  fewer = IfOk-map c.to_argument.result (λ n h. let f = h c.reach.new.budget.left in omega (arith, f, c.reach.ensures.less)) c.to_argument.ensures.fewer;
+}

@@ -1,0 +1,8 @@
+use Rattle.std.proofs.Common.{◌≡◌, [], length}
+use Rattle.lp_kernel.proofs.noting.emptied.Given as goal
+
+abbrev pub decreases-loop-frame : goal.decreases-loop-frame
+decreases-loop-frame l = length l.state.frames
+
+abbrev pub invariant-loop-frame : goal.invariant-loop-frame
+invariant-loop-frame l = l.state.context ≡ []
