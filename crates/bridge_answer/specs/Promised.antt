@@ -27,9 +27,9 @@ trial-headline n run r = each_run_carries (trial_text n ∷ []) run (trial_text-
 
 form-headline : (form : Option Form) (told : Option Files) (run : Accepted) → FormRun form told run → Headline run
 form-headline None told run h = absurd h
-form-headline (Some (verify names)) told run h = run-headline told names run h
+form-headline (Some (verify fast names)) told run h = run-headline told names run h
 form-headline (Some (translate names)) told run h = run-headline told names run h
-form-headline (Some (check name budget)) told run h = absurd h
+form-headline (Some (check fast name budget)) told run h = absurd h
 form-headline (Some (show names)) told run h = run-headline told names run h
 form-headline (Some (decode name)) told run h = absurd h
 form-headline (Some (trial n)) told run h = trial-headline n run h
@@ -62,9 +62,9 @@ usage-Promise call result none d begun =
 -- Want of memory is an answer to any words.
 memory-answers : (form : Option Form) (shelf : Shelved) → FormAnswers form shelf Memory [] memory_line
 memory-answers None shelf = (refl, refl)
-memory-answers (Some (verify names)) shelf = (refl, refl)
+memory-answers (Some (verify fast names)) shelf = (refl, refl)
 memory-answers (Some (translate names)) shelf = (refl, refl)
-memory-answers (Some (check name budget)) shelf = (refl, refl)
+memory-answers (Some (check fast name budget)) shelf = (refl, refl)
 memory-answers (Some (show names)) shelf = (refl, refl)
 memory-answers (Some (decode name)) shelf = (refl, refl)
 memory-answers (Some (trial n)) shelf = (refl, refl)

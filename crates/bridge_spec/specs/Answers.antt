@@ -1,5 +1,5 @@
 -- When the program gives an answer, and the two texts that belong to it.
-use Rattle.std.specs.Prelude.{ℕ, ◌≡◌, List, [], ◌∷◌, map, length, Option, None, Some}
+use Rattle.std.specs.Prelude.{ℕ, ◌≡◌, Bool, not, List, [], ◌∷◌, map, length, Option, None, Some}
 use Rattle.std.specs.List.{AllByRecursion}
 use Rattle.lp_spec.specs.Modules.{Declaration}
 use Rattle.dk_read.specs.States.{fault_of}
@@ -46,9 +46,9 @@ IsRunOfTrial n run = Run (trial_text n ∷ []) (accepted run)
 -- the accepted run that a form asks for
 abbrev pub FormRun : Option Form → Option Files → Accepted → Type 0
 FormRun None told run = ⊥
-FormRun (Some (verify names)) told run = IsRunOf told names run
+FormRun (Some (verify fast names)) told run = IsRunOf told names run
 FormRun (Some (translate names)) told run = IsRunOf told names run
-FormRun (Some (check name budget)) told run = ⊥
+FormRun (Some (check fast name budget)) told run = ⊥
 FormRun (Some (show names)) told run = IsRunOf told names run
 FormRun (Some (decode name)) told run = ⊥
 FormRun (Some (trial n)) told run = IsRunOfTrial n run
@@ -93,17 +93,17 @@ AnswersShow names shelf status out note = AnswersRun shown_text (λ run. []) nam
 
 -- `check`: the counts of a module that the file reads as and that is accepted; or where the file is refused, or the first declaration that
 -- does not pass; or what failed.
-abbrev pub AnswersCheck : List ℕ → ℕ → Shelved → Status → List ℕ → List ℕ → Type 0
-AnswersCheck name budget shelf Done out note =
-    (m : List Declaration) × IsAccepted shelf.told_before name m × (out ≡ accepted_line (checked_of m)) × (note ≡ [])
-AnswersCheck name budget shelf ReadFault out note = ReadFailed shelf × NoteAlone read_fault_line out note
-AnswersCheck name budget shelf Memory out note = NoteAlone memory_line out note
-AnswersCheck name budget shelf (DkRefused place kind) out note =
+abbrev pub AnswersCheck : Bool → List ℕ → ℕ → Shelved → Status → List ℕ → List ℕ → Type 0
+AnswersCheck rechecks name budget shelf Done out note =
+    (m : List Declaration) × IsAccepted rechecks shelf.told_before name m × (out ≡ accepted_line (checked_of m)) × (note ≡ [])
+AnswersCheck rechecks name budget shelf ReadFault out note = ReadFailed shelf × NoteAlone read_fault_line out note
+AnswersCheck rechecks name budget shelf Memory out note = NoteAlone memory_line out note
+AnswersCheck rechecks name budget shelf (DkRefused place kind) out note =
     IsRefusedAt shelf.told_before name place kind × NoteAlone (dk_refusal_line place (fault_of kind)) out note
-AnswersCheck name budget shelf (IllTyped i) out note = IsIllTyped shelf.told_before name i × NoteAlone (ill_typed_line i) out note
-AnswersCheck name budget shelf (OverBudget i) out note =
-    IsOverBudget shelf.told_before name budget i × NoteAlone (over_budget_line i) out note
-AnswersCheck name budget shelf _ out note = ⊥
+AnswersCheck rechecks name budget shelf (IllTyped i) out note = IsIllTyped rechecks shelf.told_before name i × NoteAlone (ill_typed_line i) out note
+AnswersCheck rechecks name budget shelf (OverBudget i) out note =
+    IsOverBudget rechecks shelf.told_before name budget i × NoteAlone (over_budget_line i) out note
+AnswersCheck rechecks name budget shelf _ out note = ⊥
 
 -- `decode`: a line for each export of a module that the file reads as, with the closed sequent for which its type stands; or where the file
 -- is refused, or the first export that stands for none; or what failed.
@@ -127,9 +127,9 @@ AnswersTrial n _ out note = ⊥
 -- The answers of each form, before anything is written.
 abbrev pub FormAnswers : Option Form → Shelved → Status → List ℕ → List ℕ → Type 0
 FormAnswers None shelf status out note = AnswersNoForm status out note
-FormAnswers (Some (verify names)) shelf status out note = AnswersVerify names shelf status out note
+FormAnswers (Some (verify fast names)) shelf status out note = AnswersVerify names shelf status out note
 FormAnswers (Some (translate names)) shelf status out note = AnswersTranslate names shelf status out note
-FormAnswers (Some (check name budget)) shelf status out note = AnswersCheck name budget shelf status out note
+FormAnswers (Some (check fast name budget)) shelf status out note = AnswersCheck (not fast) name budget shelf status out note
 FormAnswers (Some (show names)) shelf status out note = AnswersShow names shelf status out note
 FormAnswers (Some (decode name)) shelf status out note = AnswersDecode name shelf status out note
 FormAnswers (Some (trial n)) shelf status out note = AnswersTrial n status out note

@@ -1,5 +1,5 @@
 -- What follows from the promise of a call.
-use Rattle.std.specs.Prelude.{ℕ, ◌≡◌, ◌<◌, ◌≤◌, ◌⊎◌, List, Option, IsTrue, None, Some, is_some, length}
+use Rattle.std.specs.Prelude.{ℕ, ◌≡◌, ◌<◌, ◌≤◌, ◌⊎◌, Bool, not, List, Option, IsTrue, None, Some, is_some, length}
 use Rattle.std.specs.List.{AllByRecursion}
 use Rattle.lp_spec.specs.Trees.{Tree}
 use Rattle.lp_spec.specs.Modules.{Declaration}
@@ -23,22 +23,22 @@ use Rattle.bridge_spec.specs.declared.status.Status.{Status}
 use Rattle.bridge_spec.specs.declared.status.Status.TheVariants.{Done, Refused, Usage, ReadFault, WriteFault, Memory, DkRefused, IllTyped, NotSequent}
 
 -- the check of each of the first declarations says yes, each at a price within the budget
-abbrev pub PassWithin : List Declaration → ℕ → ℕ → Type 0
-PassWithin m budget count = (k : ℕ) → k < count → (found : Tree) × EndsWithin m budget k (Found found)
+abbrev pub PassWithin : Bool → List Declaration → ℕ → ℕ → Type 0
+PassWithin rechecks m budget count = (k : ℕ) → k < count → (found : Tree) × EndsWithin rechecks m budget k (Found found)
 
 -- the file of that name reads as a module whose declarations all pass within the budget
-pub record PassesWithin (told : Option Files) (name : List ℕ) (budget : ℕ) : Type 0 where
+pub record PassesWithin (rechecks : Bool) (told : Option Files) (name : List ℕ) (budget : ℕ) : Type 0 where
   pub m : List Declaration
   pub file : ReadsAs told name m
-  pub pass : PassWithin m budget (length m)
+  pub pass : PassWithin rechecks m budget (length m)
 
 -- the file of that name reads as a module of which the declarations before this one pass within the budget, and the check of this one
 -- says no within it
-pub record FailsWithin (told : Option Files) (name : List ℕ) (budget i : ℕ) : Type 0 where
+pub record FailsWithin (rechecks : Bool) (told : Option Files) (name : List ℕ) (budget i : ℕ) : Type 0 where
   pub m : List Declaration
   pub file : ReadsAs told name m
-  pub before : PassWithin m budget i
-  pub no : EndsWithin m budget i No
+  pub before : PassWithin rechecks m budget i
+  pub no : EndsWithin rechecks m budget i No
 
 -- the text reads as one module, and that module is well typed
 pub record ReadsWellTyped (text : List ℕ) : Type 0 where
@@ -70,11 +70,11 @@ pub record IsAnswerOfRun (told : Option Files) (names : List (List ℕ)) (status
   pub is : status ≡ answer_of outcome
 
 -- A check must be answered so: the file passes within the budget, is refused, or has a first declaration that fails within the budget.
-abbrev pub IsDueOfCheck : Option Files → List ℕ → ℕ → Status → Type 0
-IsDueOfCheck told name budget Done = PassesWithin told name budget
-IsDueOfCheck told name budget (DkRefused place kind) = IsRefusedAt told name place kind
-IsDueOfCheck told name budget (IllTyped i) = FailsWithin told name budget i
-IsDueOfCheck told name budget _ = ⊥
+abbrev pub IsDueOfCheck : Bool → Option Files → List ℕ → ℕ → Status → Type 0
+IsDueOfCheck rechecks told name budget Done = PassesWithin rechecks told name budget
+IsDueOfCheck rechecks told name budget (DkRefused place kind) = IsRefusedAt told name place kind
+IsDueOfCheck rechecks told name budget (IllTyped i) = FailsWithin rechecks told name budget i
+IsDueOfCheck rechecks told name budget _ = ⊥
 
 -- A decoding must be answered so: each export says a closed sequent, the file is refused, or there is a first export that says none.
 abbrev pub IsDueOfDecode : Option Files → List ℕ → Status → Type 0
@@ -86,9 +86,9 @@ IsDueOfDecode told name _ = ⊥
 -- The files of the form must be answered so, where they are read without a fault; a trial, which reads none, is done.
 abbrev pub IsDue : Option Form → Option Files → Status → Type 0
 IsDue None told status = status ≡ Usage
-IsDue (Some (verify names)) told status = IsAnswerOfRun told names status
+IsDue (Some (verify fast names)) told status = IsAnswerOfRun told names status
 IsDue (Some (translate names)) told status = IsAnswerOfRun told names status
-IsDue (Some (check name budget)) told status = IsDueOfCheck told name budget status
+IsDue (Some (check fast name budget)) told status = IsDueOfCheck (not fast) told name budget status
 IsDue (Some (show names)) told status = IsAnswerOfRun told names status
 IsDue (Some (decode name)) told status = IsDueOfDecode told name status
 IsDue (Some (trial n)) told status = status ≡ Done
@@ -101,7 +101,7 @@ KeepsOut _ out = out.got ≡ out.got_before
 
 -- a form that writes the module of its run
 abbrev pub WritesModule : Option Form → Type 0
-WritesModule (Some (verify names)) = Unit {0}
+WritesModule (Some (verify fast names)) = Unit {0}
 WritesModule (Some (translate names)) = Unit {0}
 WritesModule _ = ⊥
 
@@ -129,12 +129,12 @@ pub record Consequences (call : Call) (result : Status) : Type 0 where
   -- Whatever the shelf tells, at Done what was written as the module of the run reads as one well-typed module.
   pub written : WritesModule call.form → result ≡ Done → GainsModule call.out
   -- A file with the module of a run passes under a budget of at least each of its bounds ..
-  pub passes : ReadWell call.shelf → (name : List ℕ) (budget : ℕ) → call.form ≡ Some (check name budget) → (file : HasModule call.shelf.told_before name) → AllByRecursion (λ bound. bound ≤ budget) (module_bounds file.run)
+  pub passes : ReadWell call.shelf → (fast : Bool) (name : List ℕ) (budget : ℕ) → call.form ≡ Some (check fast name budget) → (file : HasModule call.shelf.told_before name) → AllByRecursion (λ bound. bound ≤ budget) (module_bounds file.run)
       → Aside result (result ≡ Done)
   -- .. and is ill typed under no budget.
-  pub never_ill_typed : ReadWell call.shelf → (name : List ℕ) (budget i : ℕ) → call.form ≡ Some (check name budget) → HasModule call.shelf.told_before name → result ≡ IllTyped i → ⊥
+  pub never_ill_typed : ReadWell call.shelf → (fast : Bool) (name : List ℕ) (budget i : ℕ) → call.form ≡ Some (check fast name budget) → HasModule call.shelf.told_before name → result ≡ IllTyped i → ⊥
   -- The checker's law: a file that is told and accepted reads as one module, and that module is well typed.
-  pub checked : (name : List ℕ) (budget : ℕ) (files : Files) → call.form ≡ Some (check name budget) → call.shelf.told_before ≡ Some files → result ≡ Done → ReadsWellTyped (file files name)
+  pub checked : (fast : Bool) (name : List ℕ) (budget : ℕ) (files : Files) → call.form ≡ Some (check fast name budget) → call.shelf.told_before ≡ Some files → result ≡ Done → ReadsWellTyped (file files name)
   -- A trial is done, whatever the shelf tells and does.
   pub trial_done : (n : ℕ) → call.form ≡ Some (trial n) → Aside result (result ≡ Done)
   -- Words that are no form are answered with Usage ..

@@ -1,12 +1,12 @@
--- What a check says of the module in a file.
-use Rattle.std.specs.Prelude.{◌≡◌, ℕ, ◌<◌, ◌≤◌, List, length, Option, None, Some}
+-- What a check says of the module in a file, with rechecks of sorts or without.
+use Rattle.std.specs.Prelude.{◌≡◌, ℕ, ◌<◌, ◌≤◌, Bool, List, length, Option, None, Some}
 use Rattle.bridge_base.specs.Outside.{Files, file}
 use Rattle.lp_spec.specs.Modules.{Declaration}
 use Rattle.lp_spec.specs.Reading.{Reads}
 use Rattle.lp_spec.specs.ReadingFaults.{answer_within}
 use Rattle.lp_spec.specs.Typing.{WellTyped}
-use Rattle.lp_shape.specs.Check.{Reply, No, Check}
-use Rattle.lp_shape.specs.CheckerLaw.{PassesAt}
+use Rattle.lp_shape.specs.Check.{Reply, No}
+use Rattle.lp_fast.specs.FastCheck.{CheckBy, PassesBy}
 use Rattle.dk_read.specs.Texts.{Refuses}
 use Rattle.dk_read.specs.declared.faults.DkKind.{DkKind}
 
@@ -34,34 +34,34 @@ pub record IsRefusedAt (told : Option Files) (name : List ℕ) (place : ℕ) (ki
   pub refused : Refuses (answer_within (Some max_file) text) place kind
 
 -- the check of each of the first declarations says yes
-abbrev pub PassFirst : List Declaration → ℕ → Type 0
-PassFirst m count = (k : ℕ) → k < count → PassesAt m k
+abbrev pub PassFirst : Bool → List Declaration → ℕ → Type 0
+PassFirst rechecks m count = (k : ℕ) → k < count → PassesBy rechecks m k
 
 -- the file of that name reads as this module; the check of each declaration says yes, and the module is well typed
-pub record IsAccepted (told : Option Files) (name : List ℕ) (m : List Declaration) : Type 0 where
+pub record IsAccepted (rechecks : Bool) (told : Option Files) (name : List ℕ) (m : List Declaration) : Type 0 where
   pub file : ReadsAs told name m
-  pub pass : PassFirst m (length m)
+  pub pass : PassFirst rechecks m (length m)
   pub typed : WellTyped m
 
 -- the file of that name reads as a module; the checks of the declarations before this one say yes, and its own says no
-pub record IsIllTyped (told : Option Files) (name : List ℕ) (i : ℕ) : Type 0 where
+pub record IsIllTyped (rechecks : Bool) (told : Option Files) (name : List ℕ) (i : ℕ) : Type 0 where
   pub m : List Declaration
   pub file : ReadsAs told name m
-  pub before : PassFirst m i
+  pub before : PassFirst rechecks m i
   pub price : ℕ
-  pub no : Check m i No price
+  pub no : CheckBy rechecks m i No price
 
 -- the file of that name reads as a module; the checks of the declarations before this one say yes, and its own does not end at a price
 -- within the budget
-pub record IsOverBudget (told : Option Files) (name : List ℕ) (budget i : ℕ) : Type 0 where
+pub record IsOverBudget (rechecks : Bool) (told : Option Files) (name : List ℕ) (budget i : ℕ) : Type 0 where
   pub m : List Declaration
   pub file : ReadsAs told name m
   pub is : i < length m
-  pub before : PassFirst m i
-  pub over : (reply : Reply) (price : ℕ) → Check m i reply price → budget < price
+  pub before : PassFirst rechecks m i
+  pub over : (reply : Reply) (price : ℕ) → CheckBy rechecks m i reply price → budget < price
 
 -- the check of the declaration ends in this reply at a price within the budget
-pub record EndsWithin (m : List Declaration) (budget i : ℕ) (reply : Reply) : Type 0 where
+pub record EndsWithin (rechecks : Bool) (m : List Declaration) (budget i : ℕ) (reply : Reply) : Type 0 where
   pub price : ℕ
-  pub by : Check m i reply price
+  pub by : CheckBy rechecks m i reply price
   pub within : price ≤ budget

@@ -1,16 +1,16 @@
 -- The forms of the command line.
-use Rattle.std.specs.Prelude.{ℕ, ◌==◌, not, nat_le, Bool, false, List, [], ◌∷◌, take, drop, Option, None, Some, option_map, codes, if◌then◌else◌}
+use Rattle.std.specs.Prelude.{ℕ, ◌==◌, not, nat_le, Bool, true, false, List, [], ◌∷◌, ◌++◌, take, drop, Option, None, Some, is_some, option_map, codes, if◌then◌else◌}
 use Rattle.std.specs.List.{list_all}
 use Rattle.std.specs.Str.{bytes_eq}
 use Rattle.article_spec.specs.Numbers.{digits_value}
 
 -- what the words ask for: the module of the articles in these files, checked before it is written, or as it is; a check of the module in this
 -- file, with this budget for each declaration; what the articles in these files assume and export; what the exports of the module in this file
--- say; a trial with the generated article of so many blocks
+-- say; a trial with the generated article of so many blocks. A flag says of a check whether it is to be fast: without rechecks of sorts.
 pub data Form : Type 0 where
-  verify : List (List ℕ) → Form
+  verify : Bool → List (List ℕ) → Form
   translate : List (List ℕ) → Form
-  check : List ℕ → ℕ → Form
+  check : Bool → List ℕ → ℕ → Form
   show : List (List ℕ) → Form
   decode : List ℕ → Form
   trial : ℕ → Form
@@ -49,32 +49,74 @@ budget_of word = number_up_to greatest_budget word
 abbrev pub trial_of : List ℕ → Option ℕ
 trial_of word = number_up_to greatest_trial word
 
--- the budget that a word says with its name: `--budget=N`
-abbrev pub named_budget : List ℕ → Option ℕ
-named_budget word = if bytes_eq (take 9 word) (codes "--budget=") then budget_of (drop 9 word) else None
+-- the budget that was read: that which a word says, or where there is no word the default
+abbrev pub budget_in : Option (List ℕ) → Option ℕ
+budget_in None = Some default_budget
+budget_in (Some word) = budget_of word
 
--- the budget that two words say: `--budget N`
-abbrev pub budget_after : List ℕ → List ℕ → Option ℕ
-budget_after name word = if bytes_eq name (codes "--budget") then budget_of word else None
+-- a check of a file with a budget, where there are both
+abbrev pub check_in : Bool → Option (List ℕ) → Option ℕ → Option Form
+check_in fast (Some name) (Some budget) = Some (check fast name budget)
+check_in fast (Some name) None = None
+check_in fast None budget = None
 
--- the check of the file of this name with this budget, where they are a file and a budget
-abbrev pub check_with : List ℕ → Option ℕ → Option Form
-check_with name None = None
-check_with name (Some budget) = if is_file name then Some (check name budget) else None
+-- what was read so far of the words after `check`: a file, the word of a budget, and `--fast`
+pub record Checking : Type 0 where
+  pub file : Option (List ℕ)
+  pub budget : Option (List ℕ)
+  pub fast : Bool
 
--- the form of the words after `check`: a file, and at most one budget, before it or behind it
+abbrev pub checking : Option (List ℕ) → Option (List ℕ) → Bool → Checking
+checking f b x = record { file = f; budget = b; fast = x }
+
+-- The form of the words that follow what was read of `check`: each of a file, `--budget N` or `--budget=N`, and `--fast` at most once, in any
+-- order. Where the flag says that `--budget` came last, the next word is its number.
+abbrev pub check_after : Checking → Bool → List (List ℕ) → Option Form
+check_after g true [] = None
+check_after g false [] = check_in g.fast g.file (budget_in g.budget)
+check_after g true (w ∷ ws) = if is_file w then check_after (record g { budget = Some w }) false ws else None
+check_after g false (w ∷ ws) =
+    if bytes_eq w (codes "--fast") then (if g.fast then None else check_after (record g { fast = true }) false ws)
+    else if bytes_eq w (codes "--budget") then (if is_some g.budget then None else check_after g true ws)
+    else if bytes_eq (take 9 w) (codes "--budget=") then (if is_some g.budget then None else check_after (record g { budget = Some (drop 9 w) }) false ws)
+    else if is_file w then (if is_some g.file then None else check_after (record g { file = Some w }) false ws)
+    else None
+
+-- the form of the words after `check`
 abbrev pub check_form : List (List ℕ) → Option Form
-check_form (name ∷ []) = check_with name (Some default_budget)
-check_form (one ∷ two ∷ []) = if is_file one then check_with one (named_budget two) else check_with two (named_budget one)
-check_form (one ∷ two ∷ three ∷ []) = if is_file one then check_with one (budget_after two three) else check_with three (budget_after one two)
-check_form words = None
+check_form words = check_after (checking None None false) false words
+
+-- what was read so far of the words after `verify`: files, and `--fast`
+pub record Verifying : Type 0 where
+  pub files : List (List ℕ)
+  pub fast : Bool
+
+abbrev pub verifying : List (List ℕ) → Bool → Verifying
+verifying fs x = record { files = fs; fast = x }
+
+-- a run of files, where there is one at least
+abbrev pub verify_in : Bool → List (List ℕ) → Option Form
+verify_in fast [] = None
+verify_in fast (name ∷ names) = Some (verify fast (name ∷ names))
+
+-- The form of the words that follow what was read of `verify`: files, and at any place among them `--fast` at most once.
+abbrev pub verify_after : Verifying → List (List ℕ) → Option Form
+verify_after g [] = verify_in g.fast g.files
+verify_after g (w ∷ ws) =
+    if bytes_eq w (codes "--fast") then (if g.fast then None else verify_after (record g { fast = true }) ws)
+    else if is_file w then verify_after (record g { files = g.files ++ w ∷ [] }) ws
+    else None
+
+-- the form of the words after `verify`
+abbrev pub verify_form : List (List ℕ) → Option Form
+verify_form words = verify_after (verifying [] false) words
 
 -- one or more files, the articles of a run in order; a file may be named twice
 abbrev pub are_files : List (List ℕ) → Bool
 are_files [] = false
 are_files (name ∷ names) = list_all is_file (name ∷ names)
 
--- the form of the words after `verify`, `translate` or `show`: files
+-- the form of the words after `translate` or `show`: files
 abbrev pub files_form : (List (List ℕ) → Form) → List (List ℕ) → Option Form
 files_form form names = if are_files names then Some (form names) else None
 
@@ -91,7 +133,7 @@ trial_form words = None
 -- the form of a word and those after it
 abbrev pub form_by : List ℕ → List (List ℕ) → Option Form
 form_by word words =
-    if bytes_eq word (codes "verify") then files_form verify words
+    if bytes_eq word (codes "verify") then verify_form words
     else if bytes_eq word (codes "translate") then files_form translate words
     else if bytes_eq word (codes "check") then check_form words
     else if bytes_eq word (codes "show") then files_form show words

@@ -1,5 +1,5 @@
 -- What the module of an accepted run is good for.
-use Rattle.std.specs.Prelude.{◌≡◌, ℕ, List, Some, slice_get}
+use Rattle.std.specs.Prelude.{◌≡◌, ℕ, List, Some, slice_get, true, false}
 use Rattle.std.specs.List.{AllByRecursion}
 use Rattle.hol_spec.specs.Mangling.{AreBytes}
 use Rattle.hol_spec.specs.Proofs.{Accepted, IsProof}
@@ -9,6 +9,7 @@ use Rattle.lp_spec.specs.Modules.{Declaration}
 use Rattle.lp_spec.specs.Reading.{Reads}
 use Rattle.lp_spec.specs.Weight.{bound}
 use Rattle.lp_shape.specs.Check.{Found}
+use Rattle.lp_fast.specs.FastCheck.{fast_bound}
 use Rattle.module_spec.specs.Image.{image}
 use Rattle.module_spec.specs.Stands.{Stands}
 use Rattle.bridge_spec.specs.FileChecks.{EndsWithin}
@@ -23,7 +24,9 @@ pub record Headline (run : Accepted) : Type 0 where
   -- for the closed forms of the run's
   pub stands : Stands (image run) run
   -- the check of each declaration says yes within the bound that is printed before it, if it is a theorem
-  pub within : (i : ℕ) (d : Declaration) → slice_get (image run) i ≡ Some d → EndsWithin (image run) (bound (image run) d) i (Found d.ty)
+  pub within : (i : ℕ) (d : Declaration) → slice_get (image run) i ≡ Some d → EndsWithin true (image run) (bound (image run) d) i (Found d.ty)
+  -- and without rechecks of sorts within 64 times the square of the declaration's weight
+  pub within_fast : (i : ℕ) (d : Declaration) → slice_get (image run) i ≡ Some d → EndsWithin false (image run) (fast_bound (image run) d) i (Found d.ty)
   -- what the run made is a proof, in which no name is taken twice, each type definition is made from an earlier step, and its laws from that step
   pub proof : IsProof run.made
   -- each export of the run derives from its assumptions and its definitions alone

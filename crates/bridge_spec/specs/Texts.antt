@@ -77,7 +77,7 @@ abbrev pub six_lines : Counts → List ℕ
 six_lines counts = five_lines counts ++ codes "verified\n"
 
 abbrev pub usage_line : List ℕ
-usage_line = codes "usage: bridge verify FILE.. | translate FILE.. | check FILE [--budget N] | decode FILE | show FILE.. | trial N\n"
+usage_line = codes "usage: bridge verify [--fast] FILE.. | translate FILE.. | check FILE [--budget N] [--fast] | decode FILE | show FILE.. | trial N\n"
 
 abbrev pub refusal_line : ℕ → ℕ → Kind → List ℕ
 refusal_line article line kind =

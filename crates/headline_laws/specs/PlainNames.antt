@@ -7,6 +7,7 @@ use Rattle.std.specs.Char.{is_ascii_alphanumeric}
 use Rattle.std.specs.Str.{bytes_eq}
 use Rattle.std.specs.Bool.{Decides}
 use Rattle.std.proofs.Math.Bool.{or-true}
+use Rattle.std.proofs.lemmas.Grind.{common_steps}
 use Rattle.std.proofs.lemmas.Bool.{cases_lt, lt-ltb, le-ltb}
 use Rattle.std.proofs.lemmas.Bool.Decides.{nat_tests}
 use Rattle.std.proofs.lemmas.List.Folds.{list_all-append}
@@ -21,7 +22,8 @@ use Rattle.lp_spec.specs.Tokens.{is_letter, is_word_byte}
 use Rattle.module_spec.specs.Image.{image, name_in}
 use Rattle.module_spec.specs.Items.{Content, Item, declaration}
 use Rattle.module_spec.specs.MadeItems.{items_of, roots_of}
-use Rattle.module_spec.specs.Numerals.{numeral, is_decimal_digit}
+use Rattle.lp_spec.specs.ShortNames.{is_short_name, NoneShort}
+use Rattle.lp_spec.specs.Numerals.{numeral, is_decimal_digit, is_numeral}
 use Rattle.module_spec.specs.Reach.{keep_of, kept, renumbered, symbol_of, image_items}
 use Rattle.module_spec.specs.Items as item
 use Rattle.module_laws.specs.NumeralLaws.{numeral-digits}
@@ -186,3 +188,45 @@ image-ArePlain run named sound =
         declared-plain (item.symbols_of (image_items keep items)) (symbol_of keep) keep items plain,
       ),
     )
+
+-- NO NAME OF A RUN'S MODULE IS SHORT
+unshort : (first : ℕ) (more name : List ℕ) → name ≡ first ∷ more → (first ≡ 88 → ⊥) → is_short_name name ≡ false
+unshort first more name is other = ap is_short_name is ∙ go (nat_eq first 88) refl
+  where
+    go : (b : Bool) → nat_eq first 88 ≡ b → (b && is_numeral more) ≡ false
+    go true e = absurd (other (grind (arith, common_steps, e)))
+    go false e = refl
+
+symbol_name-unshort : (symbols : List Symbol) (c : Content) (name : List ℕ) → IsSymbolName symbols c name → is_short_name name ≡ false
+symbol_name-unshort symbols c name (IsSymbolName.an_input n is e w) = unshort 105 (codes "_" ++ mangled n) name w (λ e. absurd (omega (arith, e)))
+symbol_name-unshort symbols c name (IsSymbolName.an_input_operator n k is e w) = unshort 116 (numeral k ++ (codes "_" ++ mangled n)) name w (λ e. absurd (omega (arith, e)))
+symbol_name-unshort symbols c name (IsSymbolName.a_constant n is e w) = unshort 99 (codes "_" ++ mangled n) name w (λ e. absurd (omega (arith, e)))
+symbol_name-unshort symbols c name (IsSymbolName.an_operator names a f j one is among e w) = unshort 111 (codes "_" ++ mangled names.operator) name w (λ e. absurd (omega (arith, e)))
+
+step_name-unshort : (run : Accepted) (i : ℕ) (name : List ℕ) {k : _} → IsStepName run i k name → is_short_name name ≡ false
+step_name-unshort run i name (IsStepName.an_export e n) = unshort 69 (numeral (position_or_len (nat_eq i) run.exports)) name n (λ e. absurd (omega (arith, e)))
+step_name-unshort run i name (IsStepName.an_assumption d e y n) = unshort 65 (numeral (position_or_len (nat_eq i) run.assumptions)) name n (λ e. absurd (omega (arith, e)))
+step_name-unshort run i name (IsStepName.a_law e y n) = unshort 76 (numeral i) name n (λ e. absurd (omega (arith, e)))
+step_name-unshort run i name (IsStepName.a_theorem e y n) = unshort 84 (numeral i) name n (λ e. absurd (omega (arith, e)))
+
+item_name-unshort : (run : Accepted) (P : ℕ → Type 0) (z : Item) → IsItemName run P z → is_short_name z.name ≡ false
+item_name-unshort run P z (IsItemName.by_symbol h) = symbol_name-unshort (symbols_of run.made) z.content z.name h
+item_name-unshort run P z (IsItemName.by_step i x p at told h) = step_name-unshort run i z.name h
+
+items-unshort : (run : Accepted) (before xs : List Item) → HaveNames run before xs → AllByRecursion (λ (z : Item). is_short_name z.name ≡ false) xs
+items-unshort run before [] h = tt
+items-unshort run before (z ∷ zs) h = (item_name-unshort run _ z h.0, items-unshort run (before ++ z ∷ []) zs h.1)
+
+declared-unshort : (symbols : _) (number : ℕ → ℕ) (keep : ℕ → Bool) (xs : List Item) → AllByRecursion (λ (z : Item). is_short_name z.name ≡ false) xs → NoneShort (map (declaration symbols) (map (renumbered number) (kept keep xs)))
+declared-unshort symbols number keep [] h = tt
+declared-unshort symbols number keep (x ∷ xs) h = go (keep x.symbol) (declared-unshort symbols number keep xs h.1)
+  where
+    go : (b : Bool) → NoneShort (map (declaration symbols) (map (renumbered number) (kept keep xs))) → NoneShort (map (declaration symbols) (map (renumbered number) (cond b (x ∷ kept keep xs) (kept keep xs))))
+    go true rest = (subst (λ name. is_short_name name ≡ false) (sym (declared-name symbols (renumbered number x))) h.0, rest)
+    go false rest = rest
+
+pub image-NoneShort : (run : Accepted) → HasNames run → IsSoundRun run → NoneShort (image run)
+image-NoneShort run named sound =
+    let items = items_of (name_in run) run.made in
+    let keep = keep_of (roots_of (name_in run) run.made run.exports) items in
+    (refl, (refl, declared-unshort (item.symbols_of (image_items keep items)) (symbol_of keep) keep items (items-unshort run [] items (items-named run named sound [] items (made-origins run run.made)))))

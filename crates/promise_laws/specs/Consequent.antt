@@ -1,6 +1,6 @@
 -- What follows from the promise of a call comes of its outputs. Each form has the facts on its answers that this rests on.
-use Rattle.std.proofs.Common.{◌≡◌, ◌≤◌, ◌⊎◌, inl, inr, ℕ, zero, suc, List, [], ◌∷◌, map, length, slice_get, Option, None, Some, IsTrue, refl, sym, ap, subst, ◌∙◌, arith}
-use Rattle.std.specs.Prelude.{is_some}
+use Rattle.std.proofs.Common.{◌≡◌, ◌≤◌, ◌⊎◌, inl, inr, ℕ, zero, suc, Bool, true, false, List, [], ◌∷◌, map, length, slice_get, Option, None, Some, IsTrue, refl, sym, ap, subst, ◌∙◌, arith}
+use Rattle.std.specs.Prelude.{is_some, not}
 use Rattle.std.specs.List.{AllByRecursion}
 use Rattle.std.proofs.lemmas.Option.{same_Some}
 use Rattle.std.proofs.lemmas.List.{append-nil}
@@ -10,7 +10,9 @@ use Rattle.hol_spec.specs.Proofs.{Accepted}
 use Rattle.lp_spec.specs.Modules.{Declaration}
 use Rattle.lp_spec.specs.Reading.{Reads}
 use Rattle.lp_spec.specs.Weight.{bound}
-use Rattle.lp_shape.specs.Check.{No, Check}
+use Rattle.lp_shape.specs.Check.{Found, No}
+use Rattle.lp_fast.specs.FastCheck.{CheckBy}
+use Rattle.lp_fast.specs.FastPrices.{check-at, fast_passes}
 use Rattle.article_spec.specs.Run.{Outcome, machine, accepted, refused_at, Run}
 use Rattle.article_laws.specs.RunLaws.{one_outcome}
 use Rattle.module_spec.specs.Image.{image}
@@ -19,7 +21,7 @@ use Rattle.bridge_spec.specs.Headline.{Headline}
 use Rattle.headline_laws.specs.Headlines.{declaration-at, each_run_carries}
 use Rattle.bridge_spec.specs.Texts.{counts_of, five_lines, six_lines, shown_text, module_bounds, module_text}
 use Rattle.bridge_spec.specs.Calls.{Shelved, Sunk, Call}
-use Rattle.bridge_spec.specs.FileChecks.{ReadsAs, IsAccepted, IsIllTyped}
+use Rattle.bridge_spec.specs.FileChecks.{ReadsAs, IsAccepted, IsIllTyped, EndsWithin}
 use Rattle.bridge_spec.specs.Answers.{RunsTo, IsRunOf, ReadFailed, AnswersRun, FormAnswers, articles}
 use Rattle.bridge_spec.specs.Outputs.{Gained, Failed, Delivers, Outputs}
 use Rattle.bridge_spec.specs.Consequences.{PassesWithin, ReadsWellTyped, IsAnswerOfRun, answer_of, IsDue, ReadWell, Aside, KeepsOut, WritesModule, HasModule, Consequences, EachPromiseBears}
@@ -132,8 +134,8 @@ run-quiet out_of note_of names shelf (IllTyped i) out note h differs = absurd h
 run-quiet out_of note_of names shelf (OverBudget i) out note h differs = absurd h
 run-quiet out_of note_of names shelf (NotSequent i) out note h differs = absurd h
 
-verify-answers : (names : List (List ℕ)) (shelf : Shelved) → AreAnswers (Some (verify names)) shelf
-verify-answers names shelf = record {
+verify-answers : (fast : Bool) (names : List (List ℕ)) (shelf : Shelved) → AreAnswers (Some (verify fast names)) shelf
+verify-answers fast names shelf = record {
   exact = run-exact module_text (λ run. six_lines (counts_of (length names) run)) names shelf;
   usage = λ out note h. absurd h;
   read_fault = λ out note h. h.0;
@@ -160,38 +162,38 @@ show-answers names shelf = record {
 }
 
 -- `check`: a file that is told has at most one answer that is due, and one of another cause is not due.
-check-exact : (name : List ℕ) (budget : ℕ) (shelf : Shelved) → ReadWell shelf → (answer due : Status) (out note : List ℕ) → FormAnswers (Some (check name budget)) shelf answer out note
-    → IsDue (Some (check name budget)) shelf.told_before due → Aside answer (answer ≡ due)
-check-exact name budget shelf well Done due out note h d = checking.accepted-due shelf.told_before name budget well.tells h.0 h.1 due d
-check-exact name budget shelf well (Refused article line kind) due out note h d = absurd h
-check-exact name budget shelf well Usage due out note h d = absurd h
-check-exact name budget shelf well ReadFault due out note h d = absurd (well.no_fault h.0)
-check-exact name budget shelf well WriteFault due out note h d = tt
-check-exact name budget shelf well Memory due out note h d = tt
-check-exact name budget shelf well (DkRefused place kind) due out note h d = checking.refused-due shelf.told_before name budget well.tells place kind h.0 due d
-check-exact name budget shelf well (IllTyped i) due out note h d = checking.ill_typed-due shelf.told_before name budget well.tells i h.0 due d
-check-exact name budget shelf well (OverBudget i) due out note h d = absurd (checking.over_budget-due shelf.told_before name budget well.tells i h.0 due d)
-check-exact name budget shelf well (NotSequent i) due out note h d = absurd h
+check-exact : (fast : Bool) (name : List ℕ) (budget : ℕ) (shelf : Shelved) → ReadWell shelf → (answer due : Status) (out note : List ℕ) → FormAnswers (Some (check fast name budget)) shelf answer out note
+    → IsDue (Some (check fast name budget)) shelf.told_before due → Aside answer (answer ≡ due)
+check-exact fast name budget shelf well Done due out note h d = checking.accepted-due (not fast) shelf.told_before name budget well.tells h.0 h.1 due d
+check-exact fast name budget shelf well (Refused article line kind) due out note h d = absurd h
+check-exact fast name budget shelf well Usage due out note h d = absurd h
+check-exact fast name budget shelf well ReadFault due out note h d = absurd (well.no_fault h.0)
+check-exact fast name budget shelf well WriteFault due out note h d = tt
+check-exact fast name budget shelf well Memory due out note h d = tt
+check-exact fast name budget shelf well (DkRefused place kind) due out note h d = checking.refused-due (not fast) shelf.told_before name budget well.tells place kind h.0 due d
+check-exact fast name budget shelf well (IllTyped i) due out note h d = checking.ill_typed-due (not fast) shelf.told_before name budget well.tells i h.0 due d
+check-exact fast name budget shelf well (OverBudget i) due out note h d = absurd (checking.over_budget-due (not fast) shelf.told_before name budget well.tells i h.0 due d)
+check-exact fast name budget shelf well (NotSequent i) due out note h d = absurd h
 
-check-quiet : (name : List ℕ) (budget : ℕ) (shelf : Shelved) (answer : Status) (out note : List ℕ) → FormAnswers (Some (check name budget)) shelf answer out note → (answer ≡ Done → ⊥) → out ≡ []
-check-quiet name budget shelf Done out note h differs = absurd (differs refl)
-check-quiet name budget shelf (Refused article line kind) out note h differs = absurd h
-check-quiet name budget shelf Usage out note h differs = absurd h
-check-quiet name budget shelf ReadFault out note h differs = h.1.0
-check-quiet name budget shelf WriteFault out note h differs = absurd h
-check-quiet name budget shelf Memory out note h differs = h.0
-check-quiet name budget shelf (DkRefused place kind) out note h differs = h.1.0
-check-quiet name budget shelf (IllTyped i) out note h differs = h.1.0
-check-quiet name budget shelf (OverBudget i) out note h differs = h.1.0
-check-quiet name budget shelf (NotSequent i) out note h differs = absurd h
+check-quiet : (fast : Bool) (name : List ℕ) (budget : ℕ) (shelf : Shelved) (answer : Status) (out note : List ℕ) → FormAnswers (Some (check fast name budget)) shelf answer out note → (answer ≡ Done → ⊥) → out ≡ []
+check-quiet fast name budget shelf Done out note h differs = absurd (differs refl)
+check-quiet fast name budget shelf (Refused article line kind) out note h differs = absurd h
+check-quiet fast name budget shelf Usage out note h differs = absurd h
+check-quiet fast name budget shelf ReadFault out note h differs = h.1.0
+check-quiet fast name budget shelf WriteFault out note h differs = absurd h
+check-quiet fast name budget shelf Memory out note h differs = h.0
+check-quiet fast name budget shelf (DkRefused place kind) out note h differs = h.1.0
+check-quiet fast name budget shelf (IllTyped i) out note h differs = h.1.0
+check-quiet fast name budget shelf (OverBudget i) out note h differs = h.1.0
+check-quiet fast name budget shelf (NotSequent i) out note h differs = absurd h
 
-check-answers : (name : List ℕ) (budget : ℕ) (shelf : Shelved) → AreAnswers (Some (check name budget)) shelf
-check-answers name budget shelf = record {
-  exact = check-exact name budget shelf;
+check-answers : (fast : Bool) (name : List ℕ) (budget : ℕ) (shelf : Shelved) → AreAnswers (Some (check fast name budget)) shelf
+check-answers fast name budget shelf = record {
+  exact = check-exact fast name budget shelf;
   usage = λ out note h. absurd h;
   read_fault = λ out note h. h.0;
   write_fault = λ out note h. h;
-  quiet = check-quiet name budget shelf;
+  quiet = check-quiet fast name budget shelf;
 }
 
 -- `decode`: a file that is told has at most one answer that is due.
@@ -266,17 +268,17 @@ trial-answers n shelf = record {
 -- the answers of every form
 each-answers : (form : Option Form) (shelf : Shelved) → AreAnswers form shelf
 each-answers None shelf = no_form-answers shelf
-each-answers (Some (verify names)) shelf = verify-answers names shelf
+each-answers (Some (verify fast names)) shelf = verify-answers fast names shelf
 each-answers (Some (translate names)) shelf = translate-answers names shelf
-each-answers (Some (check name budget)) shelf = check-answers name budget shelf
+each-answers (Some (check fast name budget)) shelf = check-answers fast name budget shelf
 each-answers (Some (show names)) shelf = show-answers names shelf
 each-answers (Some (decode name)) shelf = decode-answers name shelf
 each-answers (Some (trial n)) shelf = trial-answers n shelf
 
 -- The checker's law: what is accepted is well typed.
-accepted-well_typed : (told : Option Files) (name : List ℕ) (files : Files) (m : List Declaration) → told ≡ Some files → IsAccepted told name m → ReadsWellTyped (file files name)
-accepted-well_typed None name files m e h = absurd (cc)
-accepted-well_typed (Some others) name files m e h =
+accepted-well_typed : (rechecks : Bool) (told : Option Files) (name : List ℕ) (files : Files) (m : List Declaration) → told ≡ Some files → IsAccepted rechecks told name m → ReadsWellTyped (file files name)
+accepted-well_typed rechecks None name files m e h = absurd (cc)
+accepted-well_typed rechecks (Some others) name files m e h =
     let same : others ≡ files = cc in
     subst (λ fs. ReadsWellTyped (file fs name)) same
     (subst ReadsWellTyped h.file.read (record { m = m; reads = h.file.reads; only = h.file.only; typed = h.typed }))
@@ -350,9 +352,9 @@ text-ReadsWellTyped run h = record { m = image run; reads = h.reads; only = h.on
 -- what is written at Done by a form that writes the module of its run
 module-written : (form : Option Form) (shelf : Shelved) (out note : List ℕ) → WritesModule form → FormAnswers form shelf Done out note → ReadsWellTyped out
 module-written None shelf out note w h = absurd w
-module-written (Some (verify names)) shelf out note w h = subst ReadsWellTyped (sym h.2) (text-ReadsWellTyped h.0 (run-headline shelf.told_before names h.0 h.1))
+module-written (Some (verify fast names)) shelf out note w h = subst ReadsWellTyped (sym h.2) (text-ReadsWellTyped h.0 (run-headline shelf.told_before names h.0 h.1))
 module-written (Some (translate names)) shelf out note w h = subst ReadsWellTyped (sym h.2) (text-ReadsWellTyped h.0 (run-headline shelf.told_before names h.0 h.1))
-module-written (Some (check name budget)) shelf out note w h = absurd w
+module-written (Some (check fast name budget)) shelf out note w h = absurd w
 module-written (Some (show names)) shelf out note w h = absurd w
 module-written (Some (decode name)) shelf out note w h = absurd w
 module-written (Some (trial n)) shelf out note w h = absurd w
@@ -376,26 +378,35 @@ bound-within [] bounds budget i d e h = absurd (cc)
 bound-within (x ∷ m) bounds budget zero d e h = subst (λ y. bounds y ≤ budget) (same_Some x d e) h.0
 bound-within (x ∷ m) bounds budget (suc i) d e h = bound-within m bounds budget i d e h.1
 
-module-PassesWithin : (told : Option Files) (name : List ℕ) (budget : ℕ) → (file : HasModule told name) → AllByRecursion (λ bound. bound ≤ budget) (module_bounds file.run) → PassesWithin told name budget
-module-PassesWithin told name budget file h = record {
+-- the check of each declaration ends within its bound, with rechecks of sorts or without
+within-bound : (rechecks : Bool) (run : Accepted) → Headline run → (i : ℕ) (d : Declaration) → slice_get (image run) i ≡ Some d → EndsWithin rechecks (image run) (bound (image run) d) i (Found d.ty)
+within-bound true run h i d e = h.within i d e
+within-bound false run h i d e =
+    let w = h.within i d e in
+    let f = fast_passes (image run) i d.ty w.price w.by in
+    record { price = f.0; by = f.1; within = let short = w.within in omega (arith, f.2, short) }
+
+module-PassesWithin : (rechecks : Bool) (told : Option Files) (name : List ℕ) (budget : ℕ) → (file : HasModule told name) → AllByRecursion (λ bound. bound ≤ budget) (module_bounds file.run) → PassesWithin rechecks told name budget
+module-PassesWithin rechecks told name budget file h = record {
   m = image file.run;
   file = module-ReadsAs told name file;
   pass = λ k l.
       let d = declaration-at (image file.run) k l in
-      let e = (each_run_carries file.texts file.run file.bytes file.runs).within k d.0 d.1 in
+      let e = within-bound rechecks file.run (each_run_carries file.texts file.run file.bytes file.runs) k d.0 d.1 in
       let low = bound-within (image file.run) (bound (image file.run)) budget k d.0 d.1 h in
       (d.0.ty, record { price = e.price; by = e.by; within = let short = e.within in omega (arith, short, low) });
 }
 
 -- no check of it says no
-module-passes : (told : Option Files) (name : List ℕ) (i : ℕ) → IsTrue (is_some told) → HasModule told name → IsIllTyped told name i → ⊥
-module-passes None name i tells file ill = absurd (cc)
-module-passes (Some files) name i tells file ill =
+module-passes : (rechecks : Bool) (told : Option Files) (name : List ℕ) (i : ℕ) → IsTrue (is_some told) → HasModule told name → IsIllTyped rechecks told name i → ⊥
+module-passes rechecks None name i tells file ill = absurd (cc)
+module-passes rechecks (Some files) name i tells file ill =
     let h = each_run_carries file.texts file.run file.bytes file.runs in
     let same : ill.m ≡ image file.run = h.only ill.m (subst (λ text. Reads text ill.m) (ill.file.read ∙ sym file.read) ill.file.reads) in
-    let no : Check (image file.run) i No ill.price = subst (λ m. Check m i No ill.price) same ill.no in
-    let e = h.within i no.declaration no.at in
-    checking.not-both (image file.run) i e.by no
+    let no : CheckBy rechecks (image file.run) i No ill.price = subst (λ m. CheckBy rechecks m i No ill.price) same ill.no in
+    let d = check-at (image file.run) i rechecks No ill.price no in
+    let e = within-bound rechecks file.run h i d.0 d.1 in
+    checking.not-both rechecks (image file.run) i d.0.ty e.price ill.price e.by no
 
 -- All that follows from the promise of a call comes of its outputs.
 outputs-Consequences : (call : Call) (result : Status) → Outputs call result → Consequences call result
@@ -406,12 +417,12 @@ outputs-Consequences call result h = record {
     gained = delivered-Gained h.answer h.out_text h.note_text call.out call.note result h.delivered (λ f. differ done f);
     typed = module-written call.form call.shelf h.out_text h.note_text writes (subst (λ status. FormAnswers call.form call.shelf status h.out_text h.note_text) (is done (λ f. cc)) h.answers);
   };
-  passes = λ well name budget form file bounds.
-      exact well Done (subst (λ f. IsDue f call.shelf.told_before Done) (sym form) (module-PassesWithin call.shelf.told_before name budget file bounds));
-  never_ill_typed = λ well name budget i form file ill.
-      module-passes call.shelf.told_before name i well.tells file
+  passes = λ well fast name budget form file bounds.
+      exact well Done (subst (λ f. IsDue f call.shelf.told_before Done) (sym form) (module-PassesWithin (not fast) call.shelf.told_before name budget file bounds));
+  never_ill_typed = λ well fast name budget i form file ill.
+      module-passes (not fast) call.shelf.told_before name i well.tells file
       (subst (λ f. FormAnswers f call.shelf (IllTyped i) h.out_text h.note_text) form (subst (λ status. FormAnswers call.form call.shelf status h.out_text h.note_text) (is ill (λ f. cc)) h.answers)).0;
-  checked = λ name budget files form told_files done. of_check name budget files form told_files (subst (λ status. FormAnswers call.form call.shelf status h.out_text h.note_text) (is done (λ f. cc)) h.answers);
+  checked = λ fast name budget files form told_files done. of_check fast name budget files form told_files (subst (λ status. FormAnswers call.form call.shelf status h.out_text h.note_text) (is done (λ f. cc)) h.answers);
   trial_done = λ n e. delivered-Aside (λ status. status ≡ Done) h.answer h.out_text h.note_text call.out call.note result h.delivered
       (trial-done n call.shelf h.answer h.out_text h.note_text (subst (λ form. FormAnswers form call.shelf h.answer h.out_text h.note_text) e h.answers));
   usage = λ e. delivered-Aside (λ status. status ≡ Usage) h.answer h.out_text h.note_text call.out call.note result h.delivered
@@ -435,11 +446,11 @@ outputs-Consequences call result h = record {
     exact : ReadWell call.shelf → (status : Status) → IsDue call.form call.shelf.told_before status → Aside result (result ≡ status)
     exact well due d = delivered-Aside (λ status. status ≡ due) h.answer h.out_text h.note_text call.out call.note result h.delivered (facts.exact well h.answer due h.out_text h.note_text h.answers d)
 
-    of_check : (name : List ℕ) (budget : ℕ) (files : Files) → call.form ≡ Some (check name budget) → call.shelf.told_before ≡ Some files
+    of_check : (fast : Bool) (name : List ℕ) (budget : ℕ) (files : Files) → call.form ≡ Some (check fast name budget) → call.shelf.told_before ≡ Some files
         → FormAnswers call.form call.shelf Done h.out_text h.note_text → ReadsWellTyped (file files name)
-    of_check name budget files form told_files a =
+    of_check fast name budget files form told_files a =
         let b = subst (λ f. FormAnswers f call.shelf Done h.out_text h.note_text) form a in
-        accepted-well_typed call.shelf.told_before name files b.0 told_files b.1
+        accepted-well_typed (not fast) call.shelf.told_before name files b.0 told_files b.1
 
 -- What follows from a promise.
 pub each_promise_bears : EachPromiseBears

@@ -3,14 +3,16 @@ use Rattle.std.proofs.Common.{◌≡◌, ◌<◌, ◌≤◌, ℕ, List, length, 
 use Rattle.std.specs.Prelude.{is_some, nat_le, if◌then◌else◌}
 use Rattle.std.proofs.lemmas.Bool.{cases_lt}
 use Rattle.std.proofs.lemmas.Grind.{common_steps}
-use Rattle.std.proofs.lemmas.Option.{slice_get_within, same_Some}
+use Rattle.std.proofs.lemmas.Option.{slice_get_within}
 use Rattle.bridge_base.specs.Outside.{Files}
 use Rattle.lp_spec.specs.Trees.{Tree}
 use Rattle.lp_spec.specs.Modules.{Declaration}
 use Rattle.lp_spec.specs.Reading.{Reads}
 use Rattle.lp_spec.specs.ReadingFaults.{Fault, NoPrelude, BadText, UnknownName, NameTwice, DkTooDeep, DkTooLong, Answer, reads, refused, answer, answer_within, cut_at, read_bytes, unread}
-use Rattle.lp_shape.specs.Check.{Reply, Found, No, Ends, declaration_plan, Check}
-use Rattle.lp_shape.specs.CheckLaws.{one_reply, Found-No}
+use Rattle.lp_shape.specs.Check.{Found, No}
+use Rattle.lp_shape.specs.CheckLaws.{Found-No}
+use Rattle.lp_fast.specs.FastCheck.{CheckBy}
+use Rattle.lp_fast.specs.FastPrices.{check-at, one_check}
 use Rattle.text_laws.specs.ReadingLaws.{Reads-answer}
 use Rattle.dk_read.specs.States.{fault_of}
 use Rattle.dk_read.specs.Texts.{Refuses}
@@ -21,15 +23,9 @@ use Rattle.bridge_spec.specs.Consequences.{IsDueOfCheck}
 use Rattle.bridge_spec.specs.declared.status.Status.{Status}
 use Rattle.bridge_spec.specs.declared.status.Status.TheVariants.{Done, Refused, Usage, ReadFault, WriteFault, Memory, DkRefused, IllTyped, OverBudget, NotSequent}
 
--- A check has one reply.
-one_check : (m : List Declaration) (i : ℕ) {a b : Reply} {n k : ℕ} → Check m i a n → Check m i b k → a ≡ b
-one_check m i {b = b} {k = k} c d =
-    let is : d.declaration ≡ c.declaration = same_Some _ _ (sym d.at ∙ c.at) in
-    (one_reply (take i m) true c.ends (subst (λ e. Ends (take i m) true (declaration_plan e) b k) is d.ends)).0
-
--- So a declaration that passes doesn't fail.
-pub not-both : (m : List Declaration) (i : ℕ) {t : Tree} {n k : ℕ} {X : Type 0} → Check m i (Found t) n → Check m i No k → X
-not-both m i c d = absurd (Found-No (one_check m i c d))
+-- A declaration that passes doesn't fail.
+pub not-both : (rechecks : Bool) (m : List Declaration) (i : ℕ) (t : Tree) (n k : ℕ) {X : Type 0} → CheckBy rechecks m i (Found t) n → CheckBy rechecks m i No k → X
+not-both rechecks m i t n k c d = absurd (Found-No (one_check rechecks m i (Found t) No n k c d).0)
 
 -- Two numbers are equal where neither is below the other.
 pub neither-below : (i j : ℕ) → (i < j → ⊥) → (j < i → ⊥) → i ≡ j
@@ -83,14 +79,15 @@ module _ (files : Files) (name : List ℕ) where
   pub read_or_refused : (m : List Declaration) (p : ℕ) (k : DkKind) {X : Type 0} → ReadsAs (Some files) name m → IsRefusedAt (Some files) name p k → X
   read_or_refused m p k h g = reads-or-refused h.text m p k h.within h.reads (subst (λ text. Refuses (answer_within (Some max_file) text) p k) (g.read ∙ sym h.read) g.refused)
 
-  module _ (budget : ℕ) where
-    accepted_due : (m : List Declaration) → IsAccepted (Some files) name m → (due : Status) → IsDueOfCheck (Some files) name budget due → Done ≡ due
+  module _ (rechecks : Bool) (budget : ℕ) where
+    accepted_due : (m : List Declaration) → IsAccepted rechecks (Some files) name m → (due : Status) → IsDueOfCheck rechecks (Some files) name budget due → Done ≡ due
     accepted_due m h Done d = refl
     accepted_due m h (DkRefused p k) d = read_or_refused m p k h.file d
     accepted_due m h (IllTyped i) d =
-        let no = subst (λ n. Check n i No d.no.price) (one_module d.m m d.file h.file) d.no.by in
-        let passes = h.pass i (slice_get_within m i no.declaration no.at) in
-        not-both m i passes.by no
+        let no = subst (λ n. CheckBy rechecks n i No d.no.price) (one_module d.m m d.file h.file) d.no.by in
+        let at = check-at m i rechecks No d.no.price no in
+        let passes = h.pass i (slice_get_within m i at.0 at.1) in
+        not-both rechecks m i passes.found passes.price d.no.price passes.by no
     accepted_due m h (Refused article line kind) d = absurd d
     accepted_due m h Usage d = absurd d
     accepted_due m h ReadFault d = absurd d
@@ -99,7 +96,7 @@ module _ (files : Files) (name : List ℕ) where
     accepted_due m h (OverBudget i) d = absurd d
     accepted_due m h (NotSequent i) d = absurd d
 
-    refused_due : (p : ℕ) (k : DkKind) → IsRefusedAt (Some files) name p k → (due : Status) → IsDueOfCheck (Some files) name budget due → DkRefused p k ≡ due
+    refused_due : (p : ℕ) (k : DkKind) → IsRefusedAt (Some files) name p k → (due : Status) → IsDueOfCheck rechecks (Some files) name budget due → DkRefused p k ≡ due
     refused_due p k h Done d = read_or_refused d.m p k d.file h
     refused_due p k h (DkRefused q l) d = one_refusal (answer_within (Some max_file) h.text) p q k l h.refused (subst (λ text. Refuses (answer_within (Some max_file) text) q l) (d.read ∙ sym h.read) d.refused)
     refused_due p k h (IllTyped i) d = read_or_refused d.m p k d.file h
@@ -111,16 +108,18 @@ module _ (files : Files) (name : List ℕ) where
     refused_due p k h (OverBudget i) d = absurd d
     refused_due p k h (NotSequent i) d = absurd d
 
-    ill_typed_due : (i : ℕ) → IsIllTyped (Some files) name i → (due : Status) → IsDueOfCheck (Some files) name budget due → IllTyped i ≡ due
+    ill_typed_due : (i : ℕ) → IsIllTyped rechecks (Some files) name i → (due : Status) → IsDueOfCheck rechecks (Some files) name budget due → IllTyped i ≡ due
     ill_typed_due i h Done d =
-        let no = subst (λ n. Check n i No h.price) (one_module h.m d.m h.file d.file) h.no in
-        not-both d.m i (d.pass i (slice_get_within d.m i no.declaration no.at)).1.by no
+        let no = subst (λ n. CheckBy rechecks n i No h.price) (one_module h.m d.m h.file d.file) h.no in
+        let at = check-at d.m i rechecks No h.price no in
+        let passes = d.pass i (slice_get_within d.m i at.0 at.1) in
+        not-both rechecks d.m i passes.0 passes.1.price h.price passes.1.by no
     ill_typed_due i h (DkRefused p k) d = read_or_refused h.m p k h.file d
     ill_typed_due i h (IllTyped j) d =
         let same = one_module d.m h.m d.file h.file in
         ap IllTyped (neither-below i j
-        (λ less. not-both d.m i (d.before i less).1.by (subst (λ n. Check n i No h.price) (sym same) h.no))
-        (λ less. not-both h.m j (h.before j less).by (subst (λ n. Check n j No d.no.price) same d.no.by)))
+        (λ less. let passes = d.before i less in not-both rechecks d.m i passes.0 passes.1.price h.price passes.1.by (subst (λ n. CheckBy rechecks n i No h.price) (sym same) h.no))
+        (λ less. let passes = h.before j less in not-both rechecks h.m j passes.found passes.price d.no.price passes.by (subst (λ n. CheckBy rechecks n j No d.no.price) same d.no.by)))
     ill_typed_due i h (Refused article line kind) d = absurd d
     ill_typed_due i h Usage d = absurd d
     ill_typed_due i h ReadFault d = absurd d
@@ -129,18 +128,18 @@ module _ (files : Files) (name : List ℕ) where
     ill_typed_due i h (OverBudget j) d = absurd d
     ill_typed_due i h (NotSequent j) d = absurd d
 
-    over_budget_due : (i : ℕ) → IsOverBudget (Some files) name budget i → (due : Status) → IsDueOfCheck (Some files) name budget due → ⊥
+    over_budget_due : (i : ℕ) → IsOverBudget rechecks (Some files) name budget i → (due : Status) → IsDueOfCheck rechecks (Some files) name budget due → ⊥
     over_budget_due i h Done d =
         let same = one_module d.m h.m d.file h.file in
         let passes = d.pass i (subst (λ n. i < length n) (sym same) h.is) in
-        absurd (omega (arith, passes.1.within, h.over (Found passes.0) passes.1.price (subst (λ n. Check n i (Found passes.0) passes.1.price) same passes.1.by)))
+        absurd (omega (arith, passes.1.within, h.over (Found passes.0) passes.1.price (subst (λ n. CheckBy rechecks n i (Found passes.0) passes.1.price) same passes.1.by)))
     over_budget_due i h (DkRefused p k) d = read_or_refused h.m p k h.file d
     over_budget_due i h (IllTyped j) d =
         let same = one_module d.m h.m d.file h.file in
         let equal : i ≡ j = neither-below i j
-        (λ less. let passes = d.before i less in absurd (omega (arith, passes.1.within, h.over (Found passes.0) passes.1.price (subst (λ n. Check n i (Found passes.0) passes.1.price) same passes.1.by))))
-        (λ less. not-both h.m j (h.before j less).by (subst (λ n. Check n j No d.no.price) same d.no.by)) in
-        absurd (omega (arith, d.no.within, h.over No d.no.price (subst (λ k. Check h.m k No d.no.price) (sym equal) (subst (λ n. Check n j No d.no.price) same d.no.by))))
+        (λ less. let passes = d.before i less in absurd (omega (arith, passes.1.within, h.over (Found passes.0) passes.1.price (subst (λ n. CheckBy rechecks n i (Found passes.0) passes.1.price) same passes.1.by))))
+        (λ less. let passes = h.before j less in not-both rechecks h.m j passes.found passes.price d.no.price passes.by (subst (λ n. CheckBy rechecks n j No d.no.price) same d.no.by)) in
+        absurd (omega (arith, d.no.within, h.over No d.no.price (subst (λ k. CheckBy rechecks h.m k No d.no.price) (sym equal) (subst (λ n. CheckBy rechecks n j No d.no.price) same d.no.by))))
     over_budget_due i h (Refused article line kind) d = absurd d
     over_budget_due i h Usage d = absurd d
     over_budget_due i h ReadFault d = absurd d
@@ -150,31 +149,31 @@ module _ (files : Files) (name : List ℕ) where
     over_budget_due i h (NotSequent j) d = absurd d
 
 -- Over a shelf that tells its files.
-module _ (told : Option Files) (name : List ℕ) (budget : ℕ) (tells : IsTrue (is_some told)) where
-  pub accepted-due : (m : List Declaration) → IsAccepted told name m → (due : Status) → IsDueOfCheck told name budget due → Done ≡ due
+module _ (rechecks : Bool) (told : Option Files) (name : List ℕ) (budget : ℕ) (tells : IsTrue (is_some told)) where
+  pub accepted-due : (m : List Declaration) → IsAccepted rechecks told name m → (due : Status) → IsDueOfCheck rechecks told name budget due → Done ≡ due
   accepted-due = by told tells
     where
-      by : (o : Option Files) → IsTrue (is_some o) → (m : List Declaration) → IsAccepted o name m → (due : Status) → IsDueOfCheck o name budget due → Done ≡ due
+      by : (o : Option Files) → IsTrue (is_some o) → (m : List Declaration) → IsAccepted rechecks o name m → (due : Status) → IsDueOfCheck rechecks o name budget due → Done ≡ due
       by None t = absurd (cc)
-      by (Some files) t = accepted_due files name budget
+      by (Some files) t = accepted_due files name rechecks budget
 
-  pub refused-due : (p : ℕ) (k : DkKind) → IsRefusedAt told name p k → (due : Status) → IsDueOfCheck told name budget due → DkRefused p k ≡ due
+  pub refused-due : (p : ℕ) (k : DkKind) → IsRefusedAt told name p k → (due : Status) → IsDueOfCheck rechecks told name budget due → DkRefused p k ≡ due
   refused-due = by told tells
     where
-      by : (o : Option Files) → IsTrue (is_some o) → (p : ℕ) (k : DkKind) → IsRefusedAt o name p k → (due : Status) → IsDueOfCheck o name budget due → DkRefused p k ≡ due
+      by : (o : Option Files) → IsTrue (is_some o) → (p : ℕ) (k : DkKind) → IsRefusedAt o name p k → (due : Status) → IsDueOfCheck rechecks o name budget due → DkRefused p k ≡ due
       by None t = absurd (cc)
-      by (Some files) t = refused_due files name budget
+      by (Some files) t = refused_due files name rechecks budget
 
-  pub ill_typed-due : (i : ℕ) → IsIllTyped told name i → (due : Status) → IsDueOfCheck told name budget due → IllTyped i ≡ due
+  pub ill_typed-due : (i : ℕ) → IsIllTyped rechecks told name i → (due : Status) → IsDueOfCheck rechecks told name budget due → IllTyped i ≡ due
   ill_typed-due = by told tells
     where
-      by : (o : Option Files) → IsTrue (is_some o) → (i : ℕ) → IsIllTyped o name i → (due : Status) → IsDueOfCheck o name budget due → IllTyped i ≡ due
+      by : (o : Option Files) → IsTrue (is_some o) → (i : ℕ) → IsIllTyped rechecks o name i → (due : Status) → IsDueOfCheck rechecks o name budget due → IllTyped i ≡ due
       by None t = absurd (cc)
-      by (Some files) t = ill_typed_due files name budget
+      by (Some files) t = ill_typed_due files name rechecks budget
 
-  pub over_budget-due : (i : ℕ) → IsOverBudget told name budget i → (due : Status) → IsDueOfCheck told name budget due → ⊥
+  pub over_budget-due : (i : ℕ) → IsOverBudget rechecks told name budget i → (due : Status) → IsDueOfCheck rechecks told name budget due → ⊥
   over_budget-due = by told tells
     where
-      by : (o : Option Files) → IsTrue (is_some o) → (i : ℕ) → IsOverBudget o name budget i → (due : Status) → IsDueOfCheck o name budget due → ⊥
+      by : (o : Option Files) → IsTrue (is_some o) → (i : ℕ) → IsOverBudget rechecks o name budget i → (due : Status) → IsDueOfCheck rechecks o name budget due → ⊥
       by None t = absurd (cc)
-      by (Some files) t = over_budget_due files name budget
+      by (Some files) t = over_budget_due files name rechecks budget

@@ -17,7 +17,7 @@ use Rattle.lp_spec.specs.Modules.{Declaration, bools, term_of, arr_of, arr_symbo
 use Rattle.module_spec.specs.Image.{image}
 use Rattle.module_spec.specs.OperatorMeaning.{truth_values, arrow}
 use Rattle.module_spec.specs.ConstantMeaning.{closed_bool, closed_function}
-use Rattle.module_spec.specs.Numerals.{numeral}
+use Rattle.lp_spec.specs.Numerals.{numeral}
 use Rattle.module_spec.specs.TypeEnc.{Place, place, StandsForType}
 use Rattle.module_spec.specs.Stands.{IsDefined}
 use Rattle.article_spec.proofs.SmallArticles.{named}

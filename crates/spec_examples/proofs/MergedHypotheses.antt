@@ -12,7 +12,7 @@ use Rattle.lp_spec.specs.Trees.{Tree, Var, Sym, Lam, Pi}
 use Rattle.lp_spec.specs.Modules.{symbol, applied, proof_of}
 use Rattle.lp_spec.specs.Lemmas.{lemmas}
 use Rattle.module_spec.specs.Image.{image}
-use Rattle.module_spec.specs.Numerals.{numeral}
+use Rattle.lp_spec.specs.Numerals.{numeral}
 use Rattle.spec_examples.proofs.SmallRuns.{name, p, q, r, TB, infers, assumes, exports, theorem, own_lines, next, assumed, exported}
 
 abbrev apart : Sequent

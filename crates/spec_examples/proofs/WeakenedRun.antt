@@ -17,7 +17,7 @@ use Rattle.module_spec.specs.OperatorMeaning.{truth_values}
 use Rattle.module_spec.specs.ConstantMeaning.{closed_bool}
 use Rattle.module_spec.specs.TypeEnc.{Place, place, StandsForType}
 use Rattle.module_spec.specs.Enc.{Enc}
-use Rattle.module_spec.specs.Numerals.{numeral}
+use Rattle.lp_spec.specs.Numerals.{numeral}
 use Rattle.module_spec.specs.Stands.{uses, IsGiven, IsReached, IsUnproved}
 use Rattle.article_spec.proofs.SmallArticles.{boolean}
 use Rattle.spec_examples.proofs.SmallRuns.{own_lines}

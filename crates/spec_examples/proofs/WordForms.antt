@@ -1,5 +1,5 @@
 -- Which words are a form, and the lines of a check.
-use Rattle.std.proofs.Common.{◌≡◌, [], ◌∷◌, refl}
+use Rattle.std.proofs.Common.{◌≡◌, [], ◌∷◌, true, false, refl}
 use Rattle.std.specs.Prelude.{None, Some, codes}
 use Rattle.std.specs.Fmt.{digits}
 use Rattle.lp_spec.specs.Modules.{types, bools, symbol}
@@ -12,19 +12,42 @@ use Rattle.bridge_spec.specs.Texts.{checked_of, accepted_line, dk_refusal_line, 
 translated : form_of (codes "bridge" ∷ codes "translate" ∷ codes "a" ∷ []) ≡ Some (translate (codes "a" ∷ []))
 translated = refl
 
-verified : form_of (codes "bridge" ∷ codes "verify" ∷ codes "a" ∷ codes "b" ∷ codes "a" ∷ []) ≡ Some (verify (codes "a" ∷ codes "b" ∷ codes "a" ∷ []))
+verified : form_of (codes "bridge" ∷ codes "verify" ∷ codes "a" ∷ codes "b" ∷ codes "a" ∷ []) ≡ Some (verify false (codes "a" ∷ codes "b" ∷ codes "a" ∷ []))
 verified = refl
 
-checked : form_of (codes "bridge" ∷ codes "check" ∷ codes "a" ∷ []) ≡ Some (check (codes "a") 100000000)
+checked : form_of (codes "bridge" ∷ codes "check" ∷ codes "a" ∷ []) ≡ Some (check false (codes "a") 100000000)
 checked = refl
 
-checked_before : form_of (codes "bridge" ∷ codes "check" ∷ codes "--budget" ∷ codes "4" ∷ codes "a" ∷ []) ≡ Some (check (codes "a") 4)
+checked_before : form_of (codes "bridge" ∷ codes "check" ∷ codes "--budget" ∷ codes "4" ∷ codes "a" ∷ []) ≡ Some (check false (codes "a") 4)
 checked_before = refl
 
-checked_behind : form_of (codes "bridge" ∷ codes "check" ∷ codes "a" ∷ codes "--budget=4" ∷ []) ≡ Some (check (codes "a") 4)
+checked_behind : form_of (codes "bridge" ∷ codes "check" ∷ codes "a" ∷ codes "--budget=4" ∷ []) ≡ Some (check false (codes "a") 4)
 checked_behind = refl
 
-greatest : form_of (codes "bridge" ∷ codes "check" ∷ codes "a" ∷ codes "--budget" ∷ codes "18446744073709551615" ∷ []) ≡ Some (check (codes "a") 18446744073709551615)
+-- a fast check, wherever `--fast` stands behind the word of its form
+verified_fast : form_of (codes "bridge" ∷ codes "verify" ∷ codes "a" ∷ codes "--fast" ∷ codes "b" ∷ []) ≡ Some (verify true (codes "a" ∷ codes "b" ∷ []))
+verified_fast = refl
+
+checked_fast : form_of (codes "bridge" ∷ codes "check" ∷ codes "--fast" ∷ codes "--budget" ∷ codes "4" ∷ codes "a" ∷ []) ≡ Some (check true (codes "a") 4)
+checked_fast = refl
+
+-- not before it, not twice, not in place of a budget's number, and not for any other form
+fast_first : form_of (codes "bridge" ∷ codes "--fast" ∷ codes "check" ∷ codes "a" ∷ []) ≡ None
+fast_first = refl
+
+fast_twice : form_of (codes "bridge" ∷ codes "check" ∷ codes "--fast" ∷ codes "a" ∷ codes "--fast" ∷ []) ≡ None
+fast_twice = refl
+
+fast_number : form_of (codes "bridge" ∷ codes "check" ∷ codes "a" ∷ codes "--budget" ∷ codes "--fast" ∷ codes "4" ∷ []) ≡ None
+fast_number = refl
+
+fast_alone : form_of (codes "bridge" ∷ codes "verify" ∷ codes "--fast" ∷ []) ≡ None
+fast_alone = refl
+
+fast_translation : form_of (codes "bridge" ∷ codes "translate" ∷ codes "--fast" ∷ codes "a" ∷ []) ≡ None
+fast_translation = refl
+
+greatest : form_of (codes "bridge" ∷ codes "check" ∷ codes "a" ∷ codes "--budget" ∷ codes "18446744073709551615" ∷ []) ≡ Some (check false (codes "a") 18446744073709551615)
 greatest = refl
 
 shown : form_of (codes "bridge" ∷ codes "show" ∷ codes "a" ∷ []) ≡ Some (show (codes "a" ∷ []))

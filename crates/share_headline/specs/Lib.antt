@@ -1,0 +1,2 @@
+pub mod FoldedHeadline
+pub mod FoldedHeadlines
