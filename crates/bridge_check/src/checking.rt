@@ -7,6 +7,10 @@ ghost use Rattle.bridge_spec.specs.Calls.{shelved};
 ghost use Rattle.bridge_spec.specs.Answers.{AnswersCheck};
 ghost use Rattle.bridge_spec.specs.Texts.{checked_of, accepted_line};
 ghost use Rattle.bridge_answer.specs.AnswerTexts.{status_of, text_of, note_of};
+ghost use Rattle.lp_spec.specs.Typing.{WellTyped};
+ghost use Rattle.lp_conv.specs.Growth.{Grows};
+ghost use Rattle.lp_kernel.specs.Checks.{IsJudged as is_judged_by};
+ghost use Rattle.lp_kernel.specs.declared.checks.Verdict.TheVariants as verdict;
 ghost use Rattle.bridge_check.specs.Verdicts.{IsAnswer, IsJudged};
 
 use bridge_answer::Answer;
@@ -14,19 +18,25 @@ use bridge_base::{Memory, Shelf};
 use bridge_module::{Stop, read_module};
 use holide_sig::Module;
 use itoa::Buffer;
-use lp_kernel::{Verdict, check_module};
+use lp_kernel::{Verdict, check_fast, check_module};
 use std::alloc::Global;
 
-/// What is to be answered for the module in a file, each declaration of which has the budget.
-pub fn checked<H: Shelf>(alloc: Global, file: &str, budget: u64, shelf: &mut H) -> Answer
-    ensures answers { AnswersCheck file.now budget (shelved H.told H.faults H.begun shelf.old shelf.new) (status_of result) (text_of result) (note_of result) }
+/// What is to be answered for the module in a file, each declaration of which has the budget, with rechecks of sorts or without.
+pub fn checked<H: Shelf>(
+    alloc: Global,
+    file: &str,
+    budget: u64,
+    rechecks: bool,
+    shelf: &mut H,
+) -> Answer
+    ensures answers { AnswersCheck rechecks file.now budget (shelved H.told H.faults H.begun shelf.old shelf.new) (status_of result) (text_of result) (note_of result) }
     ensures told_kept { H.told shelf.new ≡ H.told shelf.old }
     ensures begun { Begins (H.begun shelf.old) (file.now ∷ []) (H.begun shelf.new) }
     ensures count { H.faults shelf.old ≤ H.faults shelf.new }
 {
     match read_module(alloc, file, shelf) {
         Ok(mut module) => {
-            let answer = answered(alloc, &mut module, budget);
+            let answer = answered(alloc, &mut module, budget, rechecks);
             drop(module);
             answer
         }
@@ -37,12 +47,12 @@ pub fn checked<H: Shelf>(alloc: Global, file: &str, budget: u64, shelf: &mut H) 
 }
 
 /// What is to be answered for a module, each declaration of which has the budget.
-fn answered(alloc: Global, module: &mut Module, budget: u64) -> Answer
+fn answered(alloc: Global, module: &mut Module, budget: u64, rechecks: bool) -> Answer
     requires held { IsHeld module.old }
     requires is_module { IsModule (declarations_of module.old) }
-    ensures { IsAnswer (declarations_of module.old) budget result }
+    ensures { IsAnswer rechecks (declarations_of module.old) budget result }
 {
-    match judged(alloc, module, budget) {
+    match judged(alloc, module, budget, rechecks) {
         Ok(Verdict::Accepted) => match counts(alloc, module) {
             Ok(text) => Answer::Told(text),
             Err(Memory) => Answer::Memory,
@@ -54,14 +64,40 @@ fn answered(alloc: Global, module: &mut Module, budget: u64) -> Answer
 }
 
 /// The verdict on a module under one budget for each declaration.
-fn judged(alloc: Global, module: &mut Module, budget: u64) -> Result<Verdict, Memory>
+fn judged(
+    alloc: Global,
+    module: &mut Module,
+    budget: u64,
+    rechecks: bool,
+) -> Result<Verdict, Memory>
     requires held { IsHeld module.old }
     requires is_module { IsModule (declarations_of module.old) }
     ensures same { declarations_of module.new ≡ declarations_of module.old }
-    ensures judged { IfOk result (IsJudged (declarations_of module.old) budget) }
+    ensures judged { IfOk result (IsJudged rechecks (declarations_of module.old) budget) }
 {
     let budgets = vec![in alloc; u128::from(budget); module.decls.len()]?;
-    check_module(alloc, module, &budgets)
+    verdict_on(alloc, module, &budgets, rechecks)
+}
+
+/// The verdict of the kernel, with rechecks of sorts or without.
+fn verdict_on(
+    alloc: Global,
+    module: &mut Module,
+    budgets: &[u128],
+    rechecks: bool,
+) -> Result<Verdict, Memory>
+    requires held { IsHeld module.old }
+    requires is_module { IsModule (declarations_of module.old) }
+    requires budgets { length budgets.now ≡ length module.old.decls }
+    ensures grows { Grows module.old module.new }
+    ensures judged { IfOk result (is_judged_by rechecks (declarations_of module.old) budgets.now) }
+    ensures well_typed { IfOk result (λ v. v ≡ verdict.Accepted → WellTyped (declarations_of module.old)) }
+{
+    if rechecks {
+        check_module(alloc, module, budgets)
+    } else {
+        check_fast(alloc, module, budgets)
+    }
 }
 
 /// The line that counts the declarations of a module, and those without a body.

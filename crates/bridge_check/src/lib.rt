@@ -6,7 +6,7 @@
 //! It stands on `bridge_module` for the module in a file, on `lp_kernel` for its check, and on `bridge_answer` for what is written.
 //!
 //! ```text
-//! let status = check(alloc, "m.dk", 100_000_000, &mut shelf, &mut out, &mut note);
+//! let status = check(alloc, "m.dk", 100_000_000, false, &mut shelf, &mut out, &mut note);
 //! assert_eq!(status, Status::Done);
 //! ```
 #![tactic(auto)]

@@ -1,12 +1,12 @@
 -- A trial that words ask for has a number of blocks from 1 to the most.
-use Rattle.std.proofs.Common.{◌≡◌, ◌<◌, ◌≤◌, ◌+◌, ◌*◌, ◌-◌, ◌&&◌, ℕ, Bool, true, false, List, [], ◌∷◌, Option, None, Some, option_map, refl, arith}
-use Rattle.std.specs.Prelude.{◌==◌, nat_le, if◌then◌else◌, codes}
+use Rattle.std.proofs.Common.{◌≡◌, ◌<◌, ◌≤◌, ◌+◌, ◌*◌, ◌-◌, ◌&&◌, ℕ, Bool, true, false, List, [], ◌∷◌, Option, None, Some, option_map, refl, arith, ◌++◌, take, drop}
+use Rattle.std.specs.Prelude.{◌==◌, nat_le, is_some, if◌then◌else◌, codes}
 use Rattle.std.specs.List.{fold, list_all}
 use Rattle.std.specs.Str.{bytes_eq}
 use Rattle.std.proofs.lemmas.Bool.Decides.{nat_tests}
 use Rattle.article_spec.specs.Numbers.{is_digit, decimal}
 use Rattle.bridge_run.specs.Blocks.{HasBlocks}
-use Rattle.bridge_spec.specs.Forms.{verify, translate, check, show, decode, trial, greatest_trial, is_file, are_files, up_to, number_up_to, trial_of, check_with, check_form, named_budget, budget_after, default_budget, decode_form, trial_form, form_by, form_of}
+use Rattle.bridge_spec.specs.Forms.{Form, translate, show, decode, trial, greatest_trial, is_file, are_files, up_to, number_up_to, trial_of, budget_in, check_in, Checking, checking, check_after, check_form, verify_in, Verifying, verifying, verify_after, verify_form, decode_form, trial_form, form_by, form_of}
 
 -- what is asked of a number that a word says
 abbrev IsNumber : ℕ → Option ℕ → Type 0
@@ -39,28 +39,41 @@ number_up_to-IsNumber most (b ∷ bs) = go (b == 48) refl (is_digit b) refl (lis
     go false z true e false = tt
     go false z false e digits = tt
 
-check_with-HasBlocks : (name : List ℕ) (budget : Option ℕ) → HasBlocks (check_with name budget)
-check_with-HasBlocks name None = tt
-check_with-HasBlocks name (Some budget) = go (is_file name)
-  where
-    go : (b : Bool) → HasBlocks (if b then Some (check name budget) else None)
-    go true = tt
-    go false = tt
+-- whichever way it goes
+either : (b : Bool) (one two : Option Form) → HasBlocks one → HasBlocks two → HasBlocks (if b then one else two)
+either true one two h k = h
+either false one two h k = k
+
+check_in-HasBlocks : (fast : Bool) (file : Option (List ℕ)) (budget : Option ℕ) → HasBlocks (check_in fast file budget)
+check_in-HasBlocks fast None budget = tt
+check_in-HasBlocks fast (Some name) None = tt
+check_in-HasBlocks fast (Some name) (Some budget) = tt
+
+check_after-HasBlocks : (g : Checking) (b : Bool) (words : List (List ℕ)) → HasBlocks (check_after g b words)
+check_after-HasBlocks g true [] = tt
+check_after-HasBlocks g false [] = check_in-HasBlocks g.fast g.file (budget_in g.budget)
+check_after-HasBlocks g true (w ∷ ws) = either (is_file w) _ None (check_after-HasBlocks (record g { budget = Some w }) false ws) tt
+check_after-HasBlocks g false (w ∷ ws) =
+    either (bytes_eq w (codes "--fast")) _ _ (either g.fast None _ tt (check_after-HasBlocks (record g { fast = true }) false ws))
+    (either (bytes_eq w (codes "--budget")) _ _ (either (is_some g.budget) None _ tt (check_after-HasBlocks g true ws))
+    (either (bytes_eq (take 9 w) (codes "--budget=")) _ _ (either (is_some g.budget) None _ tt (check_after-HasBlocks (record g { budget = Some (drop 9 w) }) false ws))
+    (either (is_file w) _ None (either (is_some g.file) None _ tt (check_after-HasBlocks (record g { file = Some w }) false ws)) tt)))
 
 check_form-HasBlocks : (words : List (List ℕ)) → HasBlocks (check_form words)
-check_form-HasBlocks [] = tt
-check_form-HasBlocks (name ∷ []) = check_with-HasBlocks name (Some default_budget)
-check_form-HasBlocks (one ∷ two ∷ []) = go (is_file one)
-  where
-    go : (b : Bool) → HasBlocks (if b then check_with one (named_budget two) else check_with two (named_budget one))
-    go true = check_with-HasBlocks one (named_budget two)
-    go false = check_with-HasBlocks two (named_budget one)
-check_form-HasBlocks (one ∷ two ∷ three ∷ []) = go (is_file one)
-  where
-    go : (b : Bool) → HasBlocks (if b then check_with one (budget_after two three) else check_with three (budget_after one two))
-    go true = check_with-HasBlocks one (budget_after two three)
-    go false = check_with-HasBlocks three (budget_after one two)
-check_form-HasBlocks (one ∷ two ∷ three ∷ four ∷ words) = tt
+check_form-HasBlocks words = check_after-HasBlocks (checking None None false) false words
+
+verify_in-HasBlocks : (fast : Bool) (files : List (List ℕ)) → HasBlocks (verify_in fast files)
+verify_in-HasBlocks fast [] = tt
+verify_in-HasBlocks fast (name ∷ names) = tt
+
+verify_after-HasBlocks : (g : Verifying) (words : List (List ℕ)) → HasBlocks (verify_after g words)
+verify_after-HasBlocks g [] = verify_in-HasBlocks g.fast g.files
+verify_after-HasBlocks g (w ∷ ws) =
+    either (bytes_eq w (codes "--fast")) _ _ (either g.fast None _ tt (verify_after-HasBlocks (record g { fast = true }) ws))
+    (either (is_file w) _ None (verify_after-HasBlocks (record g { files = g.files ++ w ∷ [] }) ws) tt)
+
+verify_form-HasBlocks : (words : List (List ℕ)) → HasBlocks (verify_form words)
+verify_form-HasBlocks words = verify_after-HasBlocks (verifying [] false) words
 
 decode_form-HasBlocks : (words : List (List ℕ)) → HasBlocks (decode_form words)
 decode_form-HasBlocks [] = tt
@@ -84,9 +97,8 @@ form_by-HasBlocks : (word : List ℕ) (words : List (List ℕ)) → HasBlocks (f
 form_by-HasBlocks word words = go (bytes_eq word (codes "verify")) (bytes_eq word (codes "translate")) (bytes_eq word (codes "check")) (bytes_eq word (codes "show")) (bytes_eq word (codes "decode")) (bytes_eq word (codes "trial")) (are_files words)
   where
     go : (v t c s d r files : Bool)
-        → HasBlocks (if v then (if files then Some (verify words) else None) else if t then (if files then Some (translate words) else None) else if c then check_form words else if s then (if files then Some (show words) else None) else if d then decode_form words else if r then trial_form words else None)
-    go true t c s d r true = tt
-    go true t c s d r false = tt
+        → HasBlocks (if v then verify_form words else if t then (if files then Some (translate words) else None) else if c then check_form words else if s then (if files then Some (show words) else None) else if d then decode_form words else if r then trial_form words else None)
+    go true t c s d r files = verify_form-HasBlocks words
     go false true c s d r true = tt
     go false true c s d r false = tt
     go false false true s d r files = check_form-HasBlocks words

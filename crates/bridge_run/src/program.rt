@@ -54,9 +54,9 @@ fn answered<H: Shelf, O: Sink, N: Sink>(
     ensures { Promise (call (Some (asked form.now)) (shelved H.told H.faults H.begun shelf.old shelf.new) (sunk O.got O.faults out.old out.new) (sunk N.got N.faults note.old note.new)) result }
 {
     match form {
-        Form::Verify(files) => verify(alloc, files, shelf, out, note),
+        Form::Verify(fast, files) => verify(alloc, files, *fast, shelf, out, note),
         Form::Translate(files) => translate(alloc, files, shelf, out, note),
-        Form::Check(file, budget) => check(alloc, file, *budget, shelf, out, note),
+        Form::Check(fast, file, budget) => check(alloc, file, *budget, *fast, shelf, out, note),
         Form::Show(files) => show(alloc, files, shelf, out, note),
         Form::Decode(file) => decode(alloc, file, shelf, out, note),
         Form::Trial(n) => trial(alloc, *n, out, note),

@@ -1,13 +1,12 @@
 //! The module of the run of the generated article, checked.
-ghost use Rattle.std.specs.Prelude.{◌≡◌, ◌<◌, ◌≤◌, [], ◌∷◌, IfOk, IfErr, OnOk};
+ghost use Rattle.std.specs.Prelude.{◌≡◌, ◌<◌, ◌≤◌, [], ◌∷◌, IfOk, IfErr, OnOk, length, true};
 ghost use Rattle.hol_spec.specs.Proofs.{Accepted};
-ghost use Rattle.lp_kernel.specs.Checks.{IsJudged};
-ghost use Rattle.lp_kernel.specs.declared.checks.Verdict.TheVariants as verdict;
+ghost use Rattle.lp_kernel.specs.Checks.{PassBelow};
 ghost use Rattle.module_spec.specs.Image.{image};
 ghost use Rattle.bridge_spec.specs.Answers.{IsRunOfTrial};
 ghost use Rattle.bridge_spec.specs.Calls.{names_in};
 ghost use Rattle.bridge_spec.specs.Forms.{greatest_trial};
-ghost use Rattle.bridge_spec.specs.Texts.{counts_of, module_bounds};
+ghost use Rattle.bridge_spec.specs.Texts.{counts_of};
 ghost use Rattle.bridge_translate.specs.Translations.{counts_in, IsTranslationOf};
 ghost use Rattle.bridge_trial.specs.Articles.{article_name, article_files};
 
@@ -23,11 +22,11 @@ pub(crate) fn verified(alloc: Global, n: u64) -> Result<Counts, Answer>
     requires some { 0 < n }
     requires within { n ≤ greatest_trial }
     ensures counts { IfOk result (λ counts. (run : Accepted) × IsRunOfTrial n run × (counts_in counts ≡ counts_of 1 run)) }
-    ensures accepted { OnOk result ((run : Accepted) × IsRunOfTrial n run × IsJudged (image run) (module_bounds run) verdict.Accepted) }
+    ensures accepted { OnOk result ((run : Accepted) × IsRunOfTrial n run × PassBelow true (image run) (length (image run))) }
     ensures memory { IfErr result (λ answer. answer ≡ Answer.Memory) }
 {
     let translation = translated(alloc, n)?;
-    let checked = check_back(alloc, &translation);
+    let checked = check_back(alloc, &translation, false);
     let counts = translation.counts;
     drop(translation);
     match checked {

@@ -1,13 +1,14 @@
 -- The module of a run, read back and checked within its bounds: nothing is refused.
-use Rattle.std.proofs.Common.{◌≡◌, ℕ, List, length, sym, ap, subst, ◌∙◌}
+use Rattle.std.proofs.Common.{◌≡◌, ℕ, Bool, true, List, length, sym, ap, subst, ◌∙◌}
 use Rattle.std.specs.Prelude.{option_map}
 use Rattle.std.proofs.lemmas.List.{length-map}
 use Rattle.std.proofs.lemmas.Option.{slice_get-map}
 use Rattle.hol_spec.specs.Proofs.{Accepted}
+use Rattle.lp_spec.specs.Modules.{Declaration}
 use Rattle.lp_spec.specs.Reading.{Reads}
 use Rattle.lp_spec.specs.Text.{written}
 use Rattle.lp_spec.specs.Weight.{bound}
-use Rattle.lp_kernel.specs.Checks.{PassWithin}
+use Rattle.lp_kernel.specs.Checks.{IsJudged, PassBelow, PassWithin}
 use Rattle.lp_kernel.specs.declared.checks.Verdict.{Verdict}
 use Rattle.lp_kernel.specs.declared.checks.Verdict.TheVariants as verdict
 use Rattle.holide_sig.specs.declared.module.Module.{Module}
@@ -21,7 +22,7 @@ use Rattle.bridge_translate.specs.TranslationLaws.{written-module_text}
 use Rattle.bridge_translate.specs.declared.translation.Translation.{Translation}
 
 -- the check of each declaration says yes within its bound
-image-PassWithin : (run : Accepted) → Headline run → PassWithin (image run) (module_bounds run) (length (image run))
+image-PassWithin : (run : Accepted) → Headline run → PassWithin true (image run) (module_bounds run) (length (image run))
 image-PassWithin run h k l =
     let m = image run in
     let d = declaration-at m k l in
@@ -43,6 +44,12 @@ IllTyped-Accepted v i e f = absurd (cc)
 pub OverBudget-Accepted : (v : Verdict) (i : ℕ) → v ≡ verdict.OverBudget i → v ≡ verdict.Accepted → ⊥
 OverBudget-Accepted v i e f = absurd (cc)
 
+-- of the verdict that is accepted, what it says of the declarations
+pub accepted-PassBelow : (rechecks : Bool) (ds : List Declaration) (budgets : List ℕ) (v : Verdict) → IsJudged rechecks ds budgets v → v ≡ verdict.Accepted → PassBelow rechecks ds (length ds)
+accepted-PassBelow rechecks ds budgets verdict.Accepted h e = h
+accepted-PassBelow rechecks ds budgets (verdict.IllTyped i) h e = absurd (cc)
+accepted-PassBelow rechecks ds budgets (verdict.OverBudget i) h e = absurd (cc)
+
 module _ (articles : ℕ) (run : Accepted) (t : Translation) (h : IsTranslationOf articles run t) (good : Headline run) where
   -- the text that was gathered reads as the run's module
   pub gathered-Reads : (text : List ℕ) → text ≡ written (declarations_of t.module) t.bounds.items → Reads text (image run)
@@ -57,8 +64,8 @@ module _ (articles : ℕ) (run : Accepted) (t : Translation) (h : IsTranslationO
     length-budgets = ap length (are ∙ h.bounds) ∙ length-map (image run) (bound (image run)) ∙ sym length-back
 
     -- the check of each declaration of it says yes within its budget
-    pub back-PassWithin : PassWithin (declarations_of back) budgets (length back.decls)
+    pub back-PassWithin : PassWithin true (declarations_of back) budgets (length back.decls)
     back-PassWithin =
-        subst (λ m. PassWithin m budgets (length back.decls)) (sym same)
-        (subst (λ bounds. PassWithin (image run) bounds (length back.decls)) (sym (are ∙ h.bounds))
-        (subst (PassWithin (image run) (module_bounds run)) (sym length-back) (image-PassWithin run good)))
+        subst (λ m. PassWithin true m budgets (length back.decls)) (sym same)
+        (subst (λ bounds. PassWithin true (image run) bounds (length back.decls)) (sym (are ∙ h.bounds))
+        (subst (PassWithin true (image run) (module_bounds run)) (sym length-back) (image-PassWithin run good)))

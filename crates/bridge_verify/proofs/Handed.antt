@@ -1,5 +1,6 @@
 -- A text that reads as a module, handed to a reader line by line: nothing is refused.
 use Rattle.std.proofs.Common.{◌≡◌, ℕ, ◌+◌, List, [], ◌++◌, drop, length, Option, None, Result, Err, refl, sym, ap, subst, ◌∙◌}
+use Rattle.lp_spec.specs.ShortNames.{shortened_after}
 use Rattle.lp_spec.specs.Modules.{Declaration}
 use Rattle.lp_spec.specs.Reading.{Reads}
 use Rattle.lp_spec.specs.Text.{declarations_text, prelude, written}
@@ -24,9 +25,9 @@ judged-Memory old piece before rest m r fault.Memory e fed reads judges is = ref
 module _ (d : List Declaration) (bounds : List ℕ) where
   -- where the text of a module reads, so it does up to a declaration, with its line, and with the rest
   pub reads-line : (i : ℕ) (line : List ℕ) (m : List Declaration) → line ≡ line_at d bounds i → Reads (written d bounds) m
-      → Reads ((text_before d bounds i ++ line) ++ declarations_text d (drop (i + 1) d) (drop (i + 1) bounds)) m
+      → Reads ((text_before d bounds i ++ line) ++ declarations_text d (drop (i + 1) (shortened_after [] d)) (drop (i + 1) bounds)) m
   reads-line i line m e reads =
-      let rest = declarations_text d (drop (i + 1) d) (drop (i + 1) bounds) in
+      let rest = declarations_text d (drop (i + 1) (shortened_after [] d)) (drop (i + 1) bounds) in
       subst (λ text. Reads text m) (written-text_before d bounds (i + 1) ∙ ap (λ l. l ++ rest) (text_before-next d bounds i ∙ ap (λ l. text_before d bounds i ++ l) (sym e))) reads
 
   -- a reader that was fed the prelude was fed the text up to the first declaration

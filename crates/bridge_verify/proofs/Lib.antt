@@ -1,2 +1,3 @@
 mod Checked
+mod FastBounds
 mod Handed

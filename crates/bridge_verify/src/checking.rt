@@ -1,11 +1,11 @@
 //! A module read back from its text, and checked.
-ghost use Rattle.std.specs.Prelude.{◌≡◌, ◌<◌, ◌++◌, [], ℕ, List, None, length, IfOk, IfErr, OnOk};
+ghost use Rattle.std.specs.Prelude.{◌≡◌, ◌<◌, ◌++◌, [], ℕ, List, None, length, not, IfOk, IfErr, OnOk};
 ghost use Rattle.dk_read.specs.declared.faults.DkKind.{DkKind as AKind};
 ghost use Rattle.dk_read.specs.Readers.{Feeds, IsFed};
 ghost use Rattle.dk_write.specs.Lines.{line_at, text_before};
 ghost use Rattle.dk_write.specs.Shallow.{AreWithin};
 ghost use Rattle.hol_spec.specs.Proofs.{Accepted};
-ghost use Rattle.lp_kernel.specs.Checks.{IsJudged};
+ghost use Rattle.lp_kernel.specs.Checks.{PassBelow};
 ghost use Rattle.lp_kernel.specs.declared.checks.Verdict.TheVariants as verdict;
 ghost use Rattle.lp_spec.specs.Modules.{Declaration};
 ghost use Rattle.lp_spec.specs.ModuleOrder.{IsModule};
@@ -15,6 +15,7 @@ ghost use Rattle.holide_sig.specs.Modules.{declarations_of, IsHeld};
 ghost use Rattle.bridge_spec.specs.Headline.{Headline};
 ghost use Rattle.bridge_translate.specs.Translations.{IsTranslationOf};
 
+use crate::fast::checked_fast;
 use bridge_answer::Answer;
 use bridge_base::{MemSink, Memory};
 use bridge_translate::Translation;
@@ -24,34 +25,61 @@ use holide_sig::Module;
 use lp_kernel::{Verdict, check_module};
 use std::alloc::Global;
 
-/// Reads the text of a translation back, and checks the module that it reads as, each declaration within its bound. The yes is that of the
-/// check. Only want of memory is answered in place of it. The text of one declaration is held at a time.
-pub fn check_back(alloc: Global, translation: &Translation) -> Result<(), Answer>
+/// Reads the text of a translation back, and checks the module that it reads as, each declaration within its bound; a fast check is one
+/// without rechecks of sorts, within the bounds of such checks. The yes is that of the check. Only want of memory is answered in place of
+/// it. The text of one declaration is held at a time.
+pub fn check_back(alloc: Global, translation: &Translation, fast: bool) -> Result<(), Answer>
     requires { (articles : ℕ) × (run : Accepted) × IsTranslationOf articles run translation.now × Headline run }
-    ensures accepted { OnOk result (IsJudged (declarations_of translation.now.module) translation.now.bounds.items verdict.Accepted) }
+    ensures accepted { OnOk result (PassBelow (not fast) (declarations_of translation.now.module) (length (declarations_of translation.now.module))) }
     ensures memory { IfErr result (λ answer. answer ≡ Answer.Memory) }
 {
     let mut back = read_back(alloc, translation)?;
-    let checked = check_read(alloc, translation, &mut back);
+    let checked = check_read(alloc, translation, &mut back, fast);
     drop(back);
     checked
 }
 
 // Checks the module that the text of a translation reads as, each declaration within its bound. The yes is that of the check. Only want of
 // memory is answered in place of it.
-fn check_read(alloc: Global, translation: &Translation, back: &mut Module) -> Result<(), Answer>
+fn check_read(
+    alloc: Global,
+    translation: &Translation,
+    back: &mut Module,
+    fast: bool,
+) -> Result<(), Answer>
     requires made { (articles : ℕ) × (run : Accepted) × IsTranslationOf articles run translation.now × Headline run }
     requires read { (m : List Declaration) → Reads (written (declarations_of translation.now.module) translation.now.bounds.items) m → declarations_of back.old ≡ m }
     requires held { IsHeld back.old }
     requires is_module { IsModule (declarations_of back.old) }
-    ensures accepted { OnOk result (IsJudged (declarations_of back.old) translation.now.bounds.items verdict.Accepted) }
+    ensures accepted { OnOk result (PassBelow (not fast) (declarations_of back.old) (length (declarations_of back.old))) }
     ensures memory { IfErr result (λ answer. answer ≡ Answer.Memory) }
 {
-    match check_module(alloc, back, &translation.bounds) {
+    match verdict_on(alloc, translation, back, fast) {
         Ok(Verdict::Accepted) => Ok(()),
         Ok(Verdict::IllTyped(i)) => Err(Answer::IllTyped(i as u64)),
         Ok(Verdict::OverBudget(i)) => Err(Answer::OverBudget(i as u64)),
         Err(Memory) => Err(Answer::Memory),
+    }
+}
+
+// The verdict on the module that the text of a translation reads as: it is accepted, as the check of each declaration says yes.
+fn verdict_on(
+    alloc: Global,
+    translation: &Translation,
+    back: &mut Module,
+    fast: bool,
+) -> Result<Verdict, Memory>
+    requires made { (articles : ℕ) × (run : Accepted) × IsTranslationOf articles run translation.now × Headline run }
+    requires read { (m : List Declaration) → Reads (written (declarations_of translation.now.module) translation.now.bounds.items) m → declarations_of back.old ≡ m }
+    requires held { IsHeld back.old }
+    requires is_module { IsModule (declarations_of back.old) }
+    ensures accepts { IfOk result (λ v. v ≡ verdict.Accepted) }
+    ensures pass { IfOk result (λ v. v ≡ verdict.Accepted → PassBelow (not fast) (declarations_of back.old) (length (declarations_of back.old))) }
+{
+    if fast {
+        checked_fast(alloc, back)
+    } else {
+        check_module(alloc, back, &translation.bounds)
     }
 }
 

@@ -1,8 +1,7 @@
 //! The part of the program for the words `verify FILE..`.
-ghost use Rattle.std.specs.Prelude.{◌≡◌, ◌⊎◌, ◌≤◌, ◌++◌, Some, codes, length};
+ghost use Rattle.std.specs.Prelude.{◌≡◌, ◌⊎◌, ◌≤◌, ◌++◌, Bool, Some, codes, length};
 ghost use Rattle.holide_sig.specs.Modules.{declarations_of, IsHeld};
-ghost use Rattle.lp_kernel.specs.Checks.{IsJudged};
-ghost use Rattle.lp_kernel.specs.declared.checks.Verdict.TheVariants as verdict;
+ghost use Rattle.lp_kernel.specs.Checks.{PassBelow};
 ghost use Rattle.lp_spec.specs.Text.{written};
 ghost use Rattle.bridge_answer.specs.AnswerTexts.{note_of, status_of, text_of};
 ghost use Rattle.bridge_spec.specs.Forms.{verify};
@@ -21,18 +20,19 @@ use bridge_translate::{Translation, deliver_translation, translation_of};
 use std::alloc::Global;
 
 /// Writes the module of the run of the articles in these files to `out`, once it was read back from its text and checked, and the counts
-/// of the run to `note`; or where the run is refused to `note`.
+/// of the run to `note`; or where the run is refused to `note`. Where it is to be fast, the check is one without rechecks of sorts.
 pub fn verify<H: Shelf, O: Sink, N: Sink>(
     alloc: Global,
     files: &[String],
+    fast: bool,
     shelf: &mut H,
     out: &mut O,
     note: &mut N,
 ) -> Status
-    ensures { Promise (call (Some (verify (names_in files.now))) (shelved H.told H.faults H.begun shelf.old shelf.new) (sunk O.got O.faults out.old out.new) (sunk N.got N.faults note.old note.new)) result }
+    ensures { Promise (call (Some (verify fast (names_in files.now))) (shelved H.told H.faults H.begun shelf.old shelf.new) (sunk O.got O.faults out.old out.new) (sunk N.got N.faults note.old note.new)) result }
 {
     match translation_of(alloc, files, shelf) {
-        Ok(translation) => match check_back(alloc, &translation) {
+        Ok(translation) => match check_back(alloc, &translation, fast) {
             Ok(()) => deliver_verified(alloc, &translation, out, note),
             Err(answer) => deliver(answer, out, note),
         },
@@ -48,7 +48,7 @@ fn deliver_verified<O: Sink, N: Sink>(
     out: &mut O,
     note: &mut N,
 ) -> Status
-    requires accepted { IsJudged (declarations_of translation.now.module) translation.now.bounds.items verdict.Accepted }
+    requires accepted { (rechecks : Bool) × PassBelow rechecks (declarations_of translation.now.module) (length (declarations_of translation.now.module)) }
     requires held { IsHeld translation.now.module }
     requires bounds { length translation.now.bounds.items ≡ length translation.now.module.decls }
     ensures delivered { Delivers Done (written (declarations_of translation.now.module) translation.now.bounds.items) (five_lines (counts_in translation.now.counts) ++ codes "verified\n") (sunk O.got O.faults out.old out.new) (sunk N.got N.faults note.old note.new) result

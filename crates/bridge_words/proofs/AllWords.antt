@@ -10,13 +10,14 @@ use Rattle.clap.specs.Simple.{names_of, entered, subcommand_of}
 use Rattle.clap.specs.Kinds.{Kinds, or_else}
 use Rattle.clap.specs.Faults.{walk_fault, defaults_fault, settle_fault, check_fault, entered_fault, fault_of}
 use Rattle.clap.proofs.WalkLemmas.{walk_stopped}
-use Rattle.bridge_spec.specs.Forms.{Form, verify, translate, show, files_form, form_of}
+use Rattle.bridge_spec.specs.Forms.{Form, translate, show, files_form, form_of}
 use Rattle.bridge_words.specs.Commands.{bridge_app}
-use Rattle.bridge_words.specs.Matches.{read, read_files, read_check, read_decode, read_trial}
-use Rattle.bridge_words.proofs.WordKinds.{Kind, file, budget, named, other}
-use Rattle.bridge_words.proofs.BuiltCommand.{top_shape, built_app, files_leaf, check_leaf, decode_leaf, trial_leaf}
+use Rattle.bridge_words.specs.Matches.{read, read_files, read_verify, read_check, read_decode, read_trial}
+use Rattle.bridge_words.proofs.WordKinds.{Kind, file, budget, named, fast, valued, other}
+use Rattle.bridge_words.proofs.BuiltCommand.{top_shape, built_app, files_leaf, verify_leaf, check_leaf, decode_leaf, trial_leaf}
 use Rattle.bridge_words.proofs.Leaves.{taken, fault, decode-words, trial-words}
-use Rattle.bridge_words.proofs.CheckWords.{check-words}
+use Rattle.bridge_words.proofs.CheckWalk.{check-words}
+use Rattle.bridge_words.proofs.VerifyWalk.{verify-words}
 use Rattle.bridge_words.proofs.FilesWords.{files-words}
 
 abbrev names : Names
@@ -64,7 +65,7 @@ module _ (program : Text) (ws : List Text) (h : AllByRecursion Kind ws) where
 
   verify-asks : Asks (program ∷ codes "verify" ∷ ws)
   unfolding walked walk_fault defaults_fault
-  verify-asks = files-asks (codes "verify") verify refl
+  verify-asks = asked_at-name (codes "verify") ws ∙ or_else-nil (fault verify_leaf ws) (read_verify (rows_after verify_leaf.rules [] ws)) ∙ verify-words ws h
 
   translate-asks : Asks (program ∷ codes "translate" ∷ ws)
   unfolding walked walk_fault defaults_fault
@@ -100,7 +101,9 @@ module _ (program : Text) (ws : List Text) (h : AllByRecursion Kind ws) where
   unfolding walked walk_fault defaults_fault
   first-asks w budget = refl
   first-asks w (named number) = refl
-  first-asks w (other c cs e m o) = refl
+  first-asks w fast = refl
+  first-asks w (valued value) = refl
+  first-asks w (other c cs e n m o p) = refl
   first-asks w (file b bs e) = go (bytes_eq w (codes "verify")) refl (bytes_eq w (codes "translate")) refl (bytes_eq w (codes "check")) refl (bytes_eq w (codes "show")) refl (bytes_eq w (codes "decode")) refl (bytes_eq w (codes "trial")) refl
     where
       is : (name : Text) → bytes_eq (b ∷ bs) name ≡ true → Asks (program ∷ name ∷ ws) → Asks (program ∷ (b ∷ bs) ∷ ws)

@@ -1,20 +1,20 @@
--- The walk of `clap` over the words after `check`, step by step beside `scan`.
+-- The walk of `clap` over the words after `check`, step by step beside the definition, which reads them from left to right.
 use Rattle.std.proofs.Common.{◌≡◌, ◌∙◌, ◌++◌, ◌&&◌, ◌||◌, ℕ, Bool, true, false, List, [], ◌∷◌, Option, Some, None, option_map, codes, refl, sym, ap, ap₂, is_some}
-use Rattle.std.specs.Prelude.{◌==◌, if◌then◌else◌, option_and_then, slice_get}
+use Rattle.std.specs.Prelude.{◌==◌, if◌then◌else◌, option_and_then, unwrap_or, slice_get}
 use Rattle.std.specs.List.{AllByRecursion, fold}
-use Rattle.clap.specs.Walk.{Rule, Row, Text, Walk, Held, idle, option, rows_after, walked, settled, settled_rows, finished, reading_by, used, is_pending, has_row, with_values, with_default, default_rows}
+use Rattle.std.specs.Str.{bytes_eq}
+use Rattle.clap.specs.Walk.{Rule, Row, Text, Walk, Held, idle, option, rows_after, walked, settled, settled_rows, finished, reading_by, used, is_pending, has_row, first_of, with_values, with_default, default_rows}
 use Rattle.clap.specs.Kinds.{Kinds, or_else}
 use Rattle.clap.specs.Faults.{walk_fault, turn_fault, defaults_fault, settle_fault, check_fault}
-use Rattle.clap.specs.declared.parser.matches.ValueSource.TheVariants.{CommandLine}
+use Rattle.clap.specs.declared.parser.matches.ValueSource.TheVariants.{CommandLine, DefaultValue}
 use Rattle.clap.specs.declared.error.kind.ErrorKind.{ErrorKind}
-use Rattle.clap.specs.declared.error.kind.ErrorKind.TheVariants.{UnknownArgument, ArgumentConflict, InvalidValue}
-use Rattle.bridge_spec.specs.Forms.{Form}
+use Rattle.clap.specs.declared.error.kind.ErrorKind.TheVariants.{UnknownArgument, ArgumentConflict, InvalidValue, TooManyValues}
+use Rattle.bridge_spec.specs.Forms.{Form, Checking, checking, check_after, check_form, check_in, budget_in}
 use Rattle.bridge_words.specs.Commands.{file_rule, budget_rule}
-use Rattle.bridge_words.specs.Matches.{budget_in, check_in, read_check}
-use Rattle.bridge_words.proofs.WordKinds.{Kind, file, budget, named, other}
-use Rattle.bridge_words.proofs.BuiltCommand.{filled_rule, check_leaf}
+use Rattle.bridge_words.specs.Matches.{read_check}
+use Rattle.bridge_words.proofs.WordKinds.{Kind, file, budget, named, fast, valued, other}
+use Rattle.bridge_words.proofs.BuiltCommand.{filled_rule, fast_arg, check_leaf}
 use Rattle.bridge_words.proofs.Leaves.{taken, fault}
-use Rattle.bridge_words.proofs.CheckScan.{Got, got, asks, scan}
 use Rattle.bridge_words.proofs.Rows.{row_at, with_values-None, without-None, row_at-other, row_at-same, has_row-at}
 
 -- the command, as it is built
@@ -25,7 +25,7 @@ abbrev budget_arg : Rule
 budget_arg = filled_rule None budget_rule
 
 abbrev rules : List Rule
-rules = file_arg ∷ budget_arg ∷ []
+rules = file_arg ∷ budget_arg ∷ fast_arg ∷ []
 
 -- the row of a use
 abbrev row_of_use : Rule → List Text → Row
@@ -33,20 +33,30 @@ row_of_use a values = record { id = a.id; values = values; count = None; source 
 
 -- ---- the rows of what was read
 
-record Shows (g : Got) (rows : List Row) : Type 0 where
+record Shows (g : Checking) (rows : List Row) : Type 0 where
   file : row_at (codes "file") rows ≡ option_map (λ w. row_of_use file_arg (w ∷ [])) g.file
   budget : row_at (codes "budget") rows ≡ option_map (λ w. row_of_use budget_arg (w ∷ [])) g.budget
+  fast : row_at (codes "fast") rows ≡ (if g.fast then Some (row_of_use fast_arg (codes "true" ∷ [])) else None)
 
-Shows-file : (g : Got) (rows : List Row) (w : Text) → Shows (record g { file = None }) rows → Shows (record g { file = Some w }) (rows ++ row_of_use file_arg (w ∷ []) ∷ [])
+Shows-file : (g : Checking) (rows : List Row) (w : Text) → Shows (record g { file = None }) rows → Shows (record g { file = Some w }) (rows ++ row_of_use file_arg (w ∷ []) ∷ [])
 Shows-file g rows w h = record {
   file = row_at-same (codes "file") (row_of_use file_arg (w ∷ [])) rows refl h.file;
   budget = row_at-other (codes "budget") (row_of_use file_arg (w ∷ [])) rows refl ∙ h.budget;
+  fast = row_at-other (codes "fast") (row_of_use file_arg (w ∷ [])) rows refl ∙ h.fast;
 }
 
-Shows-budget : (g : Got) (rows : List Row) (w : Text) → Shows (record g { budget = None }) rows → Shows (record g { budget = Some w }) (rows ++ row_of_use budget_arg (w ∷ []) ∷ [])
+Shows-budget : (g : Checking) (rows : List Row) (w : Text) → Shows (record g { budget = None }) rows → Shows (record g { budget = Some w }) (rows ++ row_of_use budget_arg (w ∷ []) ∷ [])
 Shows-budget g rows w h = record {
   file = row_at-other (codes "file") (row_of_use budget_arg (w ∷ [])) rows refl ∙ h.file;
   budget = row_at-same (codes "budget") (row_of_use budget_arg (w ∷ [])) rows refl h.budget;
+  fast = row_at-other (codes "fast") (row_of_use budget_arg (w ∷ [])) rows refl ∙ h.fast;
+}
+
+Shows-fast : (g : Checking) (rows : List Row) → Shows (record g { fast = false }) rows → Shows (record g { fast = true }) (rows ++ row_of_use fast_arg (codes "true" ∷ []) ∷ [])
+Shows-fast g rows h = record {
+  file = row_at-other (codes "file") (row_of_use fast_arg (codes "true" ∷ [])) rows refl ∙ h.file;
+  budget = row_at-other (codes "budget") (row_of_use fast_arg (codes "true" ∷ [])) rows refl ∙ h.budget;
+  fast = row_at-same (codes "fast") (row_of_use fast_arg (codes "true" ∷ [])) rows refl h.fast;
 }
 
 -- a use that is the first puts its row last
@@ -55,6 +65,9 @@ used-file w rows h = ap (λ rs. with_values (codes "file") (reading_by file_arg)
 
 used-budget : (w : Text) (rows : List Row) → row_at (codes "budget") rows ≡ None → used budget_arg (w ∷ []) rows ≡ rows ++ row_of_use budget_arg (w ∷ []) ∷ []
 used-budget w rows h = ap (λ rs. with_values (codes "budget") (reading_by budget_arg) CommandLine (w ∷ []) rs) (without-None (codes "budget") rows h) ∙ with_values-None (codes "budget") _ _ (w ∷ []) rows h
+
+used-fast : (rows : List Row) → row_at (codes "fast") rows ≡ None → used fast_arg [] rows ≡ rows ++ row_of_use fast_arg (codes "true" ∷ []) ∷ []
+used-fast rows h = ap (λ rs. with_values (codes "fast") (reading_by fast_arg) CommandLine (codes "true" ∷ []) rs) (without-None (codes "fast") rows h) ∙ with_values-None (codes "fast") _ _ (codes "true" ∷ []) rows h
 
 -- ---- what is held
 
@@ -65,21 +78,21 @@ abbrev held : List Row → Pending → Held
 held rows pending = record { rows = rows; pending = pending; skip = 0 }
 
 -- what is held shows what was read, once it is settled: nothing is at fault then
-record Holds (g : Got) (rs : List Row) (p : Pending) : Type 0 where
+record Holds (g : Checking) (rs : List Row) (p : Pending) : Type 0 where
   rows : List Row
   settles : settle_fault rules false (held rs p) ≡ []
   are : settled_rows rules p rs ≡ rows
   shows : Shows g rows
 
-Holds-settled : (g : Got) (rows : List Row) → Shows g rows → Holds g rows None
+Holds-settled : (g : Checking) (rows : List Row) → Shows g rows → Holds g rows None
 Holds-settled g rows h = record { rows = rows; settles = refl; are = refl; shows = h }
 
-Holds-file : (g : Got) (rows : List Row) (w : Text) → Shows (record g { file = None }) rows → Holds (record g { file = Some w }) rows (Some (codes "file", w ∷ []))
+Holds-file : (g : Checking) (rows : List Row) (w : Text) → Shows (record g { file = None }) rows → Holds (record g { file = Some w }) rows (Some (codes "file", w ∷ []))
 Holds-file g rows w h =
     let none : has_row (codes "file") rows ≡ false = has_row-at (codes "file") rows ∙ ap is_some h.file in
     record { rows = rows ++ row_of_use file_arg (w ∷ []) ∷ []; settles = simp none refl; are = used-file w rows h.file; shows = Shows-file g rows w h }
 
-Holds-budget : (g : Got) (rows : List Row) (w : Text) → Shows (record g { budget = None }) rows → Holds (record g { budget = Some w }) rows (Some (codes "budget", w ∷ []))
+Holds-budget : (g : Checking) (rows : List Row) (w : Text) → Shows (record g { budget = None }) rows → Holds (record g { budget = Some w }) rows (Some (codes "budget", w ∷ []))
 Holds-budget g rows w h =
     let none : has_row (codes "budget") rows ≡ false = has_row-at (codes "budget") rows ∙ ap is_some h.budget in
     record { rows = rows ++ row_of_use budget_arg (w ∷ []) ∷ []; settles = simp none refl; are = used-budget w rows h.budget; shows = Shows-budget g rows w h }
@@ -112,6 +125,17 @@ module _ (rs : List Row) (p : Pending) (rows : List Row) (settles : settle_fault
   -- a second one
   file-again : (b : ℕ) (bs : Text) → (b == 45) ≡ false → turn (state rs p 2) (b ∷ bs) ≡ UnknownArgument ∷ []
   file-again b bs e = simp e refl
+
+  -- `--fast`
+  fast-walks : (position : ℕ) → row_at (codes "fast") rows ≡ None → walked rules [] (state rs p position) (codes "--fast") ≡ state (rows ++ row_of_use fast_arg (codes "true" ∷ []) ∷ []) None position
+  unfolding walked
+  fast-walks position none = ap (λ (rows : List Row). state rows None position) (ap (used fast_arg []) are ∙ used-fast rows none)
+
+  fast-turns : (position : ℕ) → has_row (codes "fast") rows ≡ false → turn (state rs p position) (codes "--fast") ≡ []
+  fast-turns position none = simp (settles, are, none) refl
+
+  fast-again : (position : ℕ) → has_row (codes "fast") rows ≡ true → turn (state rs p position) (codes "--fast") ≡ ArgumentConflict ∷ []
+  fast-again position there = simp (settles, are, there) refl
 
   -- `--budget=N`
   named-walks : (position : ℕ) (number : Text) → row_at (codes "budget") rows ≡ None → walked rules [] (state rs p position) (codes "--budget=" ++ number) ≡ state (rows ++ row_of_use budget_arg (number ∷ []) ∷ []) None position
@@ -149,11 +173,23 @@ abbrev asked_from : Kinds → Walk → List Text → Option Form
 asked_from step w ws =
     taken (or_else (or_else step (walk_fault check_leaf [] w ws)) (end_fault (fold (walked rules []) w ws))) (read_check (finished rules (fold (walked rules []) w ws).held))
 
+-- what was read asks for
+abbrev asks : Checking → Option Form
+asks g = check_in g.fast g.file (budget_in g.budget)
+
 -- ---- the end of the words
 
 or_true : (b : Bool) → (b || true) ≡ true
 or_true true = refl
 or_true false = refl
+
+abbrev default_row : Row
+default_row = record { id = codes "fast"; values = codes "false" ∷ []; count = None; source = Some DefaultValue; reading = reading_by fast_arg }
+
+-- the rows with the default of `--fast`
+abbrev final : Bool → List Row → List Row
+final true rows = rows
+final false rows = rows ++ default_row ∷ []
 
 no-default : (rows : List Row) (a : Rule) → a.defaults ≡ [] → with_default rows a ≡ rows
 no-default rows a e = go (has_row a.id rows)
@@ -162,34 +198,65 @@ no-default rows a e = go (has_row a.id rows)
     go true = refl
     go false = ap (λ ds. default_rows a.id (reading_by a) ds rows) e
 
-finishes : (rows : List Row) → fold with_default rows rules ≡ rows
-finishes rows = ap (λ rs. with_default rs budget_arg) (no-default rows file_arg refl) ∙ no-default rows budget_arg refl
+fast-default : (fast : Bool) (rows : List Row) → row_at (codes "fast") rows ≡ (if fast then Some (row_of_use fast_arg (codes "true" ∷ [])) else None) → with_default rows fast_arg ≡ final fast rows
+fast-default true rows h =
+    let there : has_row (codes "fast") rows ≡ true = has_row-at (codes "fast") rows ∙ ap is_some h in
+    rw there refl
+fast-default false rows h =
+    let none : has_row (codes "fast") rows ≡ false = has_row-at (codes "fast") rows ∙ ap is_some h in
+    rw none (with_values-None (codes "fast") (reading_by fast_arg) DefaultValue (codes "false" ∷ []) rows h)
+
+finishes : (g : Checking) (rows : List Row) → Shows g rows → fold with_default rows rules ≡ final g.fast rows
+finishes g rows h =
+    ap (λ rs. with_default (with_default rs budget_arg) fast_arg) (no-default rows file_arg refl) ∙ ap (λ rs. with_default rs fast_arg) (no-default rows budget_arg refl) ∙ fast-default g.fast rows h.fast
 
 defaults-pass : (rows : List Row) → defaults_fault rows rules ≡ []
 unfolding defaults_fault
-defaults-pass rows = simp (or_true (has_row (codes "file") rows), no-default rows file_arg refl, or_true (has_row (codes "budget") rows)) refl
+defaults-pass rows = simp (or_true (has_row (codes "file") rows), or_true (has_row (codes "budget") rows), no-default rows file_arg refl, no-default rows budget_arg refl) (go (has_row (codes "fast") rows))
+  where
+    go : (b : Bool) → or_else (if b || false then [] else []) [] ≡ []
+    go true = refl
+    go false = refl
+
+-- what is found at the end
+file-final : (fast : Bool) (rows : List Row) → row_at (codes "file") (final fast rows) ≡ row_at (codes "file") rows
+file-final true rows = refl
+file-final false rows = row_at-other (codes "file") default_row rows refl
+
+budget-final : (fast : Bool) (rows : List Row) → row_at (codes "budget") (final fast rows) ≡ row_at (codes "budget") rows
+budget-final true rows = refl
+budget-final false rows = row_at-other (codes "budget") default_row rows refl
+
+is_fast : (fast : Bool) (rows : List Row) → row_at (codes "fast") rows ≡ (if fast then Some (row_of_use fast_arg (codes "true" ∷ [])) else None)
+    → bytes_eq (unwrap_or (first_of (codes "fast") (final fast rows)) []) (codes "true") ≡ fast
+is_fast true rows h = rw h refl
+is_fast false rows h = rw (row_at-same (codes "fast") default_row rows refl h) refl
 
 first-value : (a : Rule) (word : Option Text) (row : Option Row) → row ≡ option_map (λ w. row_of_use a (w ∷ [])) word → option_and_then (λ r. slice_get r.values 0) row ≡ word
 first-value a None row h = rw h refl
 first-value a (Some w) row h = rw h refl
 
-reads : (g : Got) (rows : List Row) → Shows g rows → read_check rows ≡ asks g
-reads g rows h = ap₂ (λ f b. check_in f (budget_in b)) (first-value file_arg g.file (row_at (codes "file") rows) h.file) (first-value budget_arg g.budget (row_at (codes "budget") rows) h.budget)
+reads : (g : Checking) (rows : List Row) → Shows g rows → read_check (final g.fast rows) ≡ asks g
+reads g rows h =
+    let file = first-value file_arg g.file (row_at (codes "file") (final g.fast rows)) (file-final g.fast rows ∙ h.file) in
+    let budget = first-value budget_arg g.budget (row_at (codes "budget") (final g.fast rows)) (budget-final g.fast rows ∙ h.budget) in
+    let fast = is_fast g.fast rows h.fast in
+    λ i. check_in (fast i) (file i) (budget_in (budget i))
 
 -- a file is required
-check-passes : (g : Got) (rows : List Row) → Shows g rows → taken (check_fault check_leaf rows false) (asks g) ≡ asks g
-check-passes g rows h = go g.file h.file
+check-passes : (g : Checking) (rows : List Row) → Shows g rows → taken (check_fault check_leaf (final g.fast rows) false) (asks g) ≡ asks g
+check-passes g rows h = go g.file (file-final g.fast rows ∙ h.file)
   where
-    go : (f : Option Text) → row_at (codes "file") rows ≡ option_map (λ w. row_of_use file_arg (w ∷ [])) f → taken (check_fault check_leaf rows false) (check_in f (budget_in g.budget)) ≡ check_in f (budget_in g.budget)
+    go : (f : Option Text) → row_at (codes "file") (final g.fast rows) ≡ option_map (λ w. row_of_use file_arg (w ∷ [])) f → taken (check_fault check_leaf (final g.fast rows) false) (check_in g.fast f (budget_in g.budget)) ≡ check_in g.fast f (budget_in g.budget)
     go None e = rw e refl
     go (Some w) e = rw e refl
 
-ends : (g : Got) (rs : List Row) (p : Pending) (position : ℕ) → Holds g rs p → asked_from [] (state rs p position) [] ≡ asks g
+ends : (g : Checking) (rs : List Row) (p : Pending) (position : ℕ) → Holds g rs p → asked_from [] (state rs p position) [] ≡ asks g
 unfolding walk_fault
 ends g rs p position h =
     ap₂ (λ k r. taken (or_else k (or_else (defaults_fault r rules) (check_fault check_leaf (fold with_default r rules) false))) (read_check (fold with_default r rules))) h.settles h.are
-    ∙ ap₂ (λ k r. taken (or_else k (check_fault check_leaf r false)) (read_check r)) (defaults-pass h.rows) (finishes h.rows)
-    ∙ ap (taken (check_fault check_leaf h.rows false)) (reads g h.rows h.shows)
+    ∙ ap₂ (λ k r. taken (or_else k (check_fault check_leaf r false)) (read_check r)) (defaults-pass h.rows) (finishes g h.rows h.shows)
+    ∙ ap (taken (check_fault check_leaf (final g.fast h.rows) false)) (reads g h.rows h.shows)
     ∙ check-passes g h.rows h.shows
 
 -- ---- all words
@@ -219,7 +286,9 @@ module _ (rows : List Row) (there : has_row (codes "budget") rows ≡ true) wher
   second-turns (Some v) w x (file b bs e) = (UnknownArgument, simp e refl)
   second-turns f w x budget = (ArgumentConflict, simp there refl)
   second-turns f w x (named number) = (ArgumentConflict, simp there refl)
-  second-turns f w x (other c cs m n o) = (UnknownArgument, simp m refl)
+  second-turns f w x fast = (ArgumentConflict, simp there refl)
+  second-turns f w x (valued value) = (TooManyValues, refl)
+  second-turns f w x (other c cs m n o p q) = (UnknownArgument, simp (m, n) refl)
 
   second-after : (f : Option Text) (w : Text) (ws : List Text) → AllByRecursion Kind ws → asked_from [] (state rows (Some (codes "budget", w ∷ [])) (place f)) ws ≡ None
   unfolding walk_fault
@@ -241,63 +310,80 @@ module _ (rows : List Row) (there : has_row (codes "budget") rows ≡ true) wher
           ∙ second-after f (b ∷ bs) ws h.1
       go x budget = fails (waits rows (place f)) (codes "--budget") ws InvalidValue refl
       go x (named number) = fails (waits rows (place f)) (codes "--budget=" ++ number) ws InvalidValue refl
-      go x (other c cs m n o) = fails (waits rows (place f)) (45 ∷ 45 ∷ c ∷ cs) ws UnknownArgument (simp m refl)
+      go x fast = fails (waits rows (place f)) (codes "--fast") ws InvalidValue refl
+      go x (valued value) = fails (waits rows (place f)) (codes "--fast=" ++ value) ws TooManyValues refl
+      go x (other c cs m n o p q) = fails (waits rows (place f)) (45 ∷ 45 ∷ c ∷ cs) ws UnknownArgument (simp (m, n) refl)
 
--- what the walk asks for from where it stands is what `scan` reads
+-- what the walk asks for from where it stands is what the definition reads
 abbrev Goes : List Text → Type 0
-Goes ws = (f b : Option Text) (rs : List Row) (p : Pending) → Holds (got f b) rs p → asked_from [] (state rs p (place f)) ws ≡ scan (got f b) false ws
+Goes ws = (f b : Option Text) (x : Bool) (rs : List Row) (p : Pending) → Holds (checking f b x) rs p → asked_from [] (state rs p (place f)) ws ≡ check_after (checking f b x) false ws
 
 abbrev Awaits : List Text → Type 0
-Awaits ws = (f : Option Text) (rows : List Row) → Shows (got f None) rows → asked_from [] (waits rows (place f)) ws ≡ scan (got f None) true ws
+Awaits ws = (f : Option Text) (x : Bool) (rows : List Row) → Shows (checking f None x) rows → asked_from [] (waits rows (place f)) ws ≡ check_after (checking f None x) true ws
 
-has_budget : (g : Got) (rows : List Row) → Shows g rows → has_row (codes "budget") rows ≡ is_some g.budget
-has_budget g rows h = has_row-at (codes "budget") rows ∙ ap is_some h.budget ∙ some g.budget
+has : (g : Checking) (rs : List Row) (p : Pending) (h : Holds g rs p) → (has_row (codes "budget") h.rows ≡ is_some g.budget) × (has_row (codes "fast") h.rows ≡ g.fast)
+has g rs p h = (has_row-at (codes "budget") h.rows ∙ ap is_some h.shows.budget ∙ some g.budget, has_row-at (codes "fast") h.rows ∙ ap is_some h.shows.fast ∙ flag g.fast)
   where
     some : (o : Option Text) → is_some (option_map (λ w. row_of_use budget_arg (w ∷ [])) o) ≡ is_some o
     some None = refl
     some (Some w) = refl
 
+    flag : (x : Bool) → is_some (if x then Some (row_of_use fast_arg (codes "true" ∷ [])) else None) ≡ x
+    flag true = refl
+    flag false = refl
+
 goes-on : (w : Text) → Kind w → (ws : List Text) → AllByRecursion Kind ws → Goes ws → Awaits ws → Goes (w ∷ ws)
-goes-on w (file c cs e) ws ks goes awaits None b rs p h =
-    let right : scan (got None b) false ((c ∷ cs) ∷ ws) ≡ scan (got (Some (c ∷ cs)) b) false ws = simp e refl in
+goes-on w (file c cs e) ws ks goes awaits None b x rs p h =
+    let right : check_after (checking None b x) false ((c ∷ cs) ∷ ws) ≡ check_after (checking (Some (c ∷ cs)) b x) false ws = simp e refl in
     steps (state rs p 1) (state h.rows (Some (codes "file", (c ∷ cs) ∷ [])) 2) (c ∷ cs) ws (file-turns rs p h.rows h.settles h.are c cs e) (file-walks rs p h.rows h.settles h.are c cs e)
-    ∙ goes (Some (c ∷ cs)) b h.rows (Some (codes "file", (c ∷ cs) ∷ [])) (Holds-file (got None b) h.rows (c ∷ cs) h.shows) ∙ sym right
-goes-on w (file c cs e) ws ks goes awaits (Some v) b rs p h =
-    let right : scan (got (Some v) b) false ((c ∷ cs) ∷ ws) ≡ None = simp e refl in
+    ∙ goes (Some (c ∷ cs)) b x h.rows (Some (codes "file", (c ∷ cs) ∷ [])) (Holds-file (checking None b x) h.rows (c ∷ cs) h.shows) ∙ sym right
+goes-on w (file c cs e) ws ks goes awaits (Some v) b x rs p h =
+    let right : check_after (checking (Some v) b x) false ((c ∷ cs) ∷ ws) ≡ None = simp e refl in
     fails (state rs p 2) (c ∷ cs) ws UnknownArgument (file-again rs p h.rows h.settles h.are c cs e) ∙ sym right
-goes-on w budget ws ks goes awaits f None rs p h =
+goes-on w budget ws ks goes awaits f None x rs p h =
     steps (state rs p (place f)) (waits h.rows (place f)) (codes "--budget") ws (budget-turns rs p h.rows h.settles h.are (place f)) (budget-walks rs p h.rows h.settles h.are (place f))
-    ∙ awaits f h.rows h.shows
-goes-on w budget ws ks goes awaits f (Some v) rs p h =
+    ∙ awaits f x h.rows h.shows
+goes-on w budget ws ks goes awaits f (Some v) x rs p h =
     steps (state rs p (place f)) (waits h.rows (place f)) (codes "--budget") ws (budget-turns rs p h.rows h.settles h.are (place f)) (budget-walks rs p h.rows h.settles h.are (place f))
-    ∙ second h.rows (has_budget (got f (Some v)) h.rows h.shows) f ws ks
-goes-on w (named number) ws ks goes awaits f None rs p h =
-    let rows : List Row = h.rows ++ row_of_use budget_arg (number ∷ []) ∷ [] in
-    steps (state rs p (place f)) (state rows None (place f)) (codes "--budget=" ++ number) ws
-    (named-turns rs p h.rows h.settles h.are (place f) number (has_budget (got f None) h.rows h.shows)) (named-walks rs p h.rows h.settles h.are (place f) number h.shows.budget)
-    ∙ goes f (Some number) rows None (Holds-settled (got f (Some number)) rows (Shows-budget (got f None) h.rows number h.shows))
-goes-on w (named number) ws ks goes awaits f (Some v) rs p h =
-    fails (state rs p (place f)) (codes "--budget=" ++ number) ws ArgumentConflict (named-again rs p h.rows h.settles h.are (place f) number (has_budget (got f (Some v)) h.rows h.shows))
-goes-on w (other c cs m n o) ws ks goes awaits f b rs p h =
-    let right : scan (got f b) false ((45 ∷ 45 ∷ c ∷ cs) ∷ ws) ≡ None = simp (n, o) refl in
-    fails (state rs p (place f)) (45 ∷ 45 ∷ c ∷ cs) ws UnknownArgument (simp m refl) ∙ sym right
+    ∙ second h.rows (has (checking f (Some v) x) rs p h).0 f ws ks
+goes-on w (named number) ws ks goes awaits f None x rs p h =
+    steps (state rs p (place f)) (state (h.rows ++ row_of_use budget_arg (number ∷ []) ∷ []) None (place f)) (codes "--budget=" ++ number) ws
+    (named-turns rs p h.rows h.settles h.are (place f) number (has (checking f None x) rs p h).0) (named-walks rs p h.rows h.settles h.are (place f) number h.shows.budget)
+    ∙ goes f (Some number) x (h.rows ++ row_of_use budget_arg (number ∷ []) ∷ []) None (Holds-settled (checking f (Some number) x) (h.rows ++ row_of_use budget_arg (number ∷ []) ∷ []) (Shows-budget (checking f None x) h.rows number h.shows))
+goes-on w (named number) ws ks goes awaits f (Some v) x rs p h =
+    fails (state rs p (place f)) (codes "--budget=" ++ number) ws ArgumentConflict (named-again rs p h.rows h.settles h.are (place f) number (has (checking f (Some v) x) rs p h).0)
+goes-on w fast ws ks goes awaits f b false rs p h =
+    steps (state rs p (place f)) (state (h.rows ++ row_of_use fast_arg (codes "true" ∷ []) ∷ []) None (place f)) (codes "--fast") ws
+    (fast-turns rs p h.rows h.settles h.are (place f) (has (checking f b false) rs p h).1) (fast-walks rs p h.rows h.settles h.are (place f) h.shows.fast)
+    ∙ goes f b true (h.rows ++ row_of_use fast_arg (codes "true" ∷ []) ∷ []) None (Holds-settled (checking f b true) (h.rows ++ row_of_use fast_arg (codes "true" ∷ []) ∷ []) (Shows-fast (checking f b false) h.rows h.shows))
+goes-on w fast ws ks goes awaits f b true rs p h =
+    fails (state rs p (place f)) (codes "--fast") ws ArgumentConflict (fast-again rs p h.rows h.settles h.are (place f) (has (checking f b true) rs p h).1)
+goes-on w (valued value) ws ks goes awaits f b x rs p h = fails (state rs p (place f)) (codes "--fast=" ++ value) ws TooManyValues refl
+goes-on w (other c cs m n o q r) ws ks goes awaits f b x rs p h =
+    let right : check_after (checking f b x) false ((45 ∷ 45 ∷ c ∷ cs) ∷ ws) ≡ None = simp (o, q, r) refl in
+    fails (state rs p (place f)) (45 ∷ 45 ∷ c ∷ cs) ws UnknownArgument (simp (m, n) refl) ∙ sym right
 
 awaits-on : (w : Text) → Kind w → (ws : List Text) → Goes ws → Awaits (w ∷ ws)
-awaits-on w (file c cs e) ws goes f rows h =
-    let right : scan (got f None) true ((c ∷ cs) ∷ ws) ≡ scan (got f (Some (c ∷ cs))) false ws = simp e refl in
+awaits-on w (file c cs e) ws goes f x rows h =
+    let right : check_after (checking f None x) true ((c ∷ cs) ∷ ws) ≡ check_after (checking f (Some (c ∷ cs)) x) false ws = simp e refl in
     steps (waits rows (place f)) (state rows (Some (codes "budget", (c ∷ cs) ∷ [])) (place f)) (c ∷ cs) ws (awaited-turns rows (place f) c cs e) (awaited-walks rows (place f) c cs e)
-    ∙ goes f (Some (c ∷ cs)) rows (Some (codes "budget", (c ∷ cs) ∷ [])) (Holds-budget (got f None) rows (c ∷ cs) h) ∙ sym right
-awaits-on w budget ws goes f rows h = fails (waits rows (place f)) (codes "--budget") ws InvalidValue refl
-awaits-on w (named number) ws goes f rows h = fails (waits rows (place f)) (codes "--budget=" ++ number) ws InvalidValue refl
-awaits-on w (other c cs m n o) ws goes f rows h = fails (waits rows (place f)) (45 ∷ 45 ∷ c ∷ cs) ws UnknownArgument (simp m refl)
+    ∙ goes f (Some (c ∷ cs)) x rows (Some (codes "budget", (c ∷ cs) ∷ [])) (Holds-budget (checking f None x) rows (c ∷ cs) h) ∙ sym right
+awaits-on w budget ws goes f x rows h = fails (waits rows (place f)) (codes "--budget") ws InvalidValue refl
+awaits-on w (named number) ws goes f x rows h = fails (waits rows (place f)) (codes "--budget=" ++ number) ws InvalidValue refl
+awaits-on w fast ws goes f x rows h = fails (waits rows (place f)) (codes "--fast") ws InvalidValue refl
+awaits-on w (valued value) ws goes f x rows h = fails (waits rows (place f)) (codes "--fast=" ++ value) ws TooManyValues refl
+awaits-on w (other c cs m n o q r) ws goes f x rows h = fails (waits rows (place f)) (45 ∷ 45 ∷ c ∷ cs) ws UnknownArgument (simp (m, n) refl)
 
 all-words : (ws : List Text) → AllByRecursion Kind ws → Goes ws × Awaits ws
 unfolding walk_fault
-all-words [] h = (λ f b rs p holds. ends (got f b) rs p (place f) holds, λ f rows shows. refl)
+all-words [] h = (λ f b x rs p holds. ends (checking f b x) rs p (place f) holds, λ f x rows shows. waits-ends rows (place f))
+  where
+    waits-ends : (rows : List Row) (position : ℕ) → asked_from [] (waits rows position) [] ≡ None
+    waits-ends rows position = refl
 all-words (w ∷ ws) h =
     let more = all-words ws h.1 in
     (goes-on w h.0 ws h.1 more.0 more.1, awaits-on w h.0 ws more.0)
 
--- `clap` reads the words after `check` as `scan` does
-pub check-scans : (ws : List Text) → AllByRecursion Kind ws → taken (fault check_leaf ws) (read_check (rows_after check_leaf.rules [] ws)) ≡ scan (got None None) false ws
-check-scans ws h = (all-words ws h).0 None None [] None (Holds-settled (got None None) [] (record { file = refl; budget = refl }))
+-- the words after `check` ask for their form
+pub check-words : (ws : List Text) → AllByRecursion Kind ws → taken (fault check_leaf ws) (read_check (rows_after check_leaf.rules [] ws)) ≡ check_form ws
+check-words ws h = (all-words ws h).0 None None false [] None (Holds-settled (checking None None false) [] (record { file = refl; budget = refl; fast = refl }))

@@ -1,4 +1,4 @@
--- What `verify`, `translate` and `show` make of their words: one or more files.
+-- What `translate` and `show` make of their words: one or more files.
 use Rattle.std.proofs.Common.{◌≡◌, ◌∙◌, ◌++◌, ℕ, false, List, [], ◌∷◌, Option, Some, None, codes, refl, sym, ap, ap₂, append_assoc}
 use Rattle.std.specs.Prelude.{◌==◌, if◌then◌else◌}
 use Rattle.std.specs.List.{AllByRecursion, fold, list_all}
@@ -9,7 +9,7 @@ use Rattle.clap.specs.declared.parser.matches.ValueSource.TheVariants.{CommandLi
 use Rattle.bridge_spec.specs.Forms.{Form, files_form, are_files, is_file}
 use Rattle.bridge_words.specs.Commands.{files_rule}
 use Rattle.bridge_words.specs.Matches.{read_files}
-use Rattle.bridge_words.proofs.WordKinds.{Kind, file, budget, named, other}
+use Rattle.bridge_words.proofs.WordKinds.{Kind, file, budget, named, fast, valued, other}
 use Rattle.bridge_words.proofs.BuiltCommand.{files_leaf, filled_rule}
 use Rattle.bridge_words.proofs.Leaves.{taken, fault}
 
@@ -82,7 +82,9 @@ module _ (name : Text) (form : List Text → Form) where
           left ∙ ap (λ all. if all then Some (form (ws ++ w ∷ (b ∷ bs) ∷ rest)) else None) (sym right)
       go x budget more = refl
       go x (named number) more = refl
-      go x (other c cs e m o) more = refl
+      go x fast more = refl
+      go x (valued value) more = refl
+      go x (other c cs e n m o p) more = refl
 
   first : (b : ℕ) (bs : Text) (rest : List Text) → (b == 45) ≡ false
       → asked_from name form [] (walk_from nothing_held) ((b ∷ bs) ∷ rest) ≡ asked_from name form [] (after [] (b ∷ bs)) rest
@@ -104,4 +106,6 @@ module _ (name : Text) (form : List Text → Form) where
           first b bs rest e ∙ more [] (b ∷ bs) ∙ ap (λ all. if all then Some (form ((b ∷ bs) ∷ rest)) else None) (sym right)
       go x budget more = refl
       go x (named number) more = refl
-      go x (other c cs e m o) more = refl
+      go x fast more = refl
+      go x (valued value) more = refl
+      go x (other c cs e n m o p) more = refl

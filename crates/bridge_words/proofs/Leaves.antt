@@ -7,7 +7,7 @@ use Rattle.clap.specs.Kinds.{Kinds}
 use Rattle.clap.specs.Faults.{level_fault, walk_fault, defaults_fault}
 use Rattle.bridge_spec.specs.Forms.{Form, decode_form, trial_form}
 use Rattle.bridge_words.specs.Matches.{read_decode, read_trial}
-use Rattle.bridge_words.proofs.WordKinds.{Kind, file, budget, named, other}
+use Rattle.bridge_words.proofs.WordKinds.{Kind, file, budget, named, fast, valued, other}
 use Rattle.bridge_words.proofs.BuiltCommand.{decode_leaf, trial_leaf}
 
 -- what is asked for, where nothing is at fault
@@ -28,17 +28,23 @@ unfolding walked walk_fault defaults_fault
 decode-one w (file b bs e) = simp e refl
 decode-one w budget = refl
 decode-one w (named number) = refl
-decode-one w (other c cs e m o) = refl
+decode-one w fast = refl
+decode-one w (valued value) = refl
+decode-one w (other c cs e n m o p) = refl
 
 decode-many : (w x : Text) (ws : List Text) → Kind w → Kind x → Decodes (w ∷ x ∷ ws)
 unfolding walked walk_fault defaults_fault
 decode-many w x ws (file b bs e) (file c cs f) = simp (e, f) refl
 decode-many w x ws (file b bs e) budget = simp e refl
 decode-many w x ws (file b bs e) (named number) = simp e refl
-decode-many w x ws (file b bs e) (other c cs f m o) = simp e refl
+decode-many w x ws (file b bs e) fast = simp e refl
+decode-many w x ws (file b bs e) (valued value) = simp e refl
+decode-many w x ws (file b bs e) (other c cs f n m o p) = simp e refl
 decode-many w x ws budget k = refl
 decode-many w x ws (named number) k = refl
-decode-many w x ws (other c cs e m o) k = refl
+decode-many w x ws fast k = refl
+decode-many w x ws (valued value) k = refl
+decode-many w x ws (other c cs e n m o p) k = refl
 
 pub decode-words : (ws : List Text) → AllByRecursion Kind ws → Decodes ws
 unfolding walked walk_fault defaults_fault
@@ -55,17 +61,23 @@ unfolding walked walk_fault defaults_fault
 trial-one w (file b bs e) = simp e refl
 trial-one w budget = refl
 trial-one w (named number) = refl
-trial-one w (other c cs e m o) = refl
+trial-one w fast = refl
+trial-one w (valued value) = refl
+trial-one w (other c cs e n m o p) = refl
 
 trial-many : (w x : Text) (ws : List Text) → Kind w → Kind x → Tries (w ∷ x ∷ ws)
 unfolding walked walk_fault defaults_fault
 trial-many w x ws (file b bs e) (file c cs f) = simp (e, f) refl
 trial-many w x ws (file b bs e) budget = simp e refl
 trial-many w x ws (file b bs e) (named number) = simp e refl
-trial-many w x ws (file b bs e) (other c cs f m o) = simp e refl
+trial-many w x ws (file b bs e) fast = simp e refl
+trial-many w x ws (file b bs e) (valued value) = simp e refl
+trial-many w x ws (file b bs e) (other c cs f n m o p) = simp e refl
 trial-many w x ws budget k = refl
 trial-many w x ws (named number) k = refl
-trial-many w x ws (other c cs e m o) k = refl
+trial-many w x ws fast k = refl
+trial-many w x ws (valued value) k = refl
+trial-many w x ws (other c cs e n m o p) k = refl
 
 pub trial-words : (ws : List Text) → AllByRecursion Kind ws → Tries ws
 unfolding walked walk_fault defaults_fault

@@ -2,10 +2,9 @@ pub mod WordKinds
 pub mod BuiltCommand
 pub mod Leaves
 pub mod Rows
-pub mod CheckScan
 pub mod CheckWalk
-pub mod CheckWords
 pub mod FilesWords
+pub mod VerifyWalk
 pub mod AllWords
 pub mod ReadableWords
 pub mod Answering

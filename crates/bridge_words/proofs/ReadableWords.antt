@@ -1,13 +1,13 @@
--- Words that are handed to `clap` are of four kinds, and with any other word there is no form.
+-- Words that are handed to `clap` are of six kinds, and with any other word there is no form.
 use Rattle.std.proofs.Common.{◌≡◌, ◌∙◌, ◌++◌, ◌⊎◌, inl, inr, ℕ, Bool, true, false, List, [], ◌∷◌, Option, Some, None, option_map, codes, refl, sym, ap, subst, take, drop, take-append-drop, ◌+◌, suc, arith, true≢false}
-use Rattle.std.specs.Prelude.{◌==◌, ◌||◌, ◌&&◌, not, if◌then◌else◌}
+use Rattle.std.specs.Prelude.{◌==◌, ◌||◌, ◌&&◌, not, is_some, if◌then◌else◌}
 use Rattle.std.specs.List.{AllByRecursion, list_all, before_first, position_or_len}
 use Rattle.std.specs.Str.{bytes_eq}
 use Rattle.std.proofs.lemmas.Slice.Eq.{bytes_eq-Decides}
 use Rattle.std.proofs.lemmas.Bool.Decides.{Decides-eqb}
-use Rattle.bridge_spec.specs.Forms.{Form, verify, translate, show, trial, number_up_to, greatest_budget, greatest_trial, is_file, check_with, check_form, named_budget, budget_after, files_form, decode_form, trial_form, form_by, form_after}
+use Rattle.bridge_spec.specs.Forms.{Form, translate, show, trial, number_up_to, greatest_trial, is_file, Checking, check_after, check_form, checking, Verifying, verify_after, verify_form, verifying, files_form, decode_form, trial_form, form_by, form_after}
 use Rattle.bridge_words.specs.Readable.{is_readable, are_readable}
-use Rattle.bridge_words.proofs.WordKinds.{Kind, file, budget, named, other}
+use Rattle.bridge_words.proofs.WordKinds.{Kind, file, budget, named, fast, valued, other}
 
 -- what is not true is false
 not-true : {b : Bool} → not b ≡ true → b ≡ false
@@ -67,11 +67,13 @@ text-name_of (x ∷ xs) = go (x == 61) refl (text-name_of xs)
 
 -- two dashes and more
 dashes-Kind : (c : ℕ) (cs : List ℕ) → Kind (45 ∷ 45 ∷ c ∷ cs)
-dashes-Kind c cs = go (bytes_eq (codes "budget") (name_of (c ∷ cs))) refl
+dashes-Kind c cs = go (bytes_eq (codes "budget") (name_of (c ∷ cs))) refl (bytes_eq (codes "fast") (name_of (c ∷ cs))) refl
   where
-    is_budget : codes "budget" ≡ name_of (c ∷ cs) → ((c ∷ cs) ≡ name_of (c ∷ cs)) ⊎ ((rest : List ℕ) × ((c ∷ cs) ≡ name_of (c ∷ cs) ++ 61 ∷ rest)) → Kind (45 ∷ 45 ∷ c ∷ cs)
-    is_budget same (inl all) = subst (λ text. Kind (45 ∷ 45 ∷ text)) (same ∙ sym all) budget
-    is_budget same (inr p) = subst (λ text. Kind (45 ∷ 45 ∷ text)) (ap (λ name. name ++ 61 ∷ p.0) same ∙ sym p.1) (named p.0)
+    -- an option by its name, alone or with `=` and more
+    of_name : (name : List ℕ) → Kind (45 ∷ 45 ∷ name) → ((rest : List ℕ) → Kind (45 ∷ 45 ∷ name ++ 61 ∷ rest)) → name ≡ name_of (c ∷ cs)
+        → ((c ∷ cs) ≡ name_of (c ∷ cs)) ⊎ ((rest : List ℕ) × ((c ∷ cs) ≡ name_of (c ∷ cs) ++ 61 ∷ rest)) → Kind (45 ∷ 45 ∷ c ∷ cs)
+    of_name name alone more same (inl all) = subst (λ text. Kind (45 ∷ 45 ∷ text)) (same ∙ sym all) alone
+    of_name name alone more same (inr p) = subst (λ text. Kind (45 ∷ 45 ∷ text)) (ap (λ name. name ++ 61 ∷ p.0) same ∙ sym p.1) (more p.0)
 
     not_named : bytes_eq (codes "budget") (name_of (c ∷ cs)) ≡ false → (b : Bool) → bytes_eq (take 9 (45 ∷ 45 ∷ c ∷ cs)) (codes "--budget=") ≡ b → bytes_eq (take 9 (45 ∷ 45 ∷ c ∷ cs)) (codes "--budget=") ≡ false
     not_named e false m = m
@@ -81,16 +83,26 @@ dashes-Kind c cs = go (bytes_eq (codes "budget") (name_of (c ∷ cs))) refl
         let bad : true ≡ false = ap (λ word. bytes_eq (codes "budget") (name_of (drop 2 word))) (sym all) ∙ e in
         absurd (true≢false bad)
 
-    not_alone : bytes_eq (codes "budget") (name_of (c ∷ cs)) ≡ false → (b : Bool) → bytes_eq (45 ∷ 45 ∷ c ∷ cs) (codes "--budget") ≡ b → bytes_eq (45 ∷ 45 ∷ c ∷ cs) (codes "--budget") ≡ false
-    not_alone e false o = o
-    not_alone e true o =
+    not_budget : bytes_eq (codes "budget") (name_of (c ∷ cs)) ≡ false → (b : Bool) → bytes_eq (45 ∷ 45 ∷ c ∷ cs) (codes "--budget") ≡ b → bytes_eq (45 ∷ 45 ∷ c ∷ cs) (codes "--budget") ≡ false
+    not_budget e false o = o
+    not_budget e true o =
         let all = (bytes_eq-Decides (45 ∷ 45 ∷ c ∷ cs) (codes "--budget")).0 o in
         let bad : true ≡ false = ap (λ word. bytes_eq (codes "budget") (name_of (drop 2 word))) (sym all) ∙ e in
         absurd (true≢false bad)
 
-    go : (b : Bool) → bytes_eq (codes "budget") (name_of (c ∷ cs)) ≡ b → Kind (45 ∷ 45 ∷ c ∷ cs)
-    go true e = is_budget ((bytes_eq-Decides (codes "budget") (name_of (c ∷ cs))).0 e) (text-name_of (c ∷ cs))
-    go false e = other c cs e (not_named e (bytes_eq (take 9 (45 ∷ 45 ∷ c ∷ cs)) (codes "--budget=")) refl) (not_alone e (bytes_eq (45 ∷ 45 ∷ c ∷ cs) (codes "--budget")) refl)
+    not_fast : bytes_eq (codes "fast") (name_of (c ∷ cs)) ≡ false → (b : Bool) → bytes_eq (45 ∷ 45 ∷ c ∷ cs) (codes "--fast") ≡ b → bytes_eq (45 ∷ 45 ∷ c ∷ cs) (codes "--fast") ≡ false
+    not_fast e false o = o
+    not_fast e true o =
+        let all = (bytes_eq-Decides (45 ∷ 45 ∷ c ∷ cs) (codes "--fast")).0 o in
+        let bad : true ≡ false = ap (λ word. bytes_eq (codes "fast") (name_of (drop 2 word))) (sym all) ∙ e in
+        absurd (true≢false bad)
+
+    go : (b : Bool) → bytes_eq (codes "budget") (name_of (c ∷ cs)) ≡ b → (f : Bool) → bytes_eq (codes "fast") (name_of (c ∷ cs)) ≡ f → Kind (45 ∷ 45 ∷ c ∷ cs)
+    go true e f g = of_name (codes "budget") budget (λ rest. named rest) ((bytes_eq-Decides (codes "budget") (name_of (c ∷ cs))).0 e) (text-name_of (c ∷ cs))
+    go false e true g = of_name (codes "fast") fast (λ rest. valued rest) ((bytes_eq-Decides (codes "fast") (name_of (c ∷ cs))).0 g) (text-name_of (c ∷ cs))
+    go false e false g =
+        other c cs e g (not_named e (bytes_eq (take 9 (45 ∷ 45 ∷ c ∷ cs)) (codes "--budget=")) refl) (not_budget e (bytes_eq (45 ∷ 45 ∷ c ∷ cs) (codes "--budget")) refl)
+        (not_fast g (bytes_eq (45 ∷ 45 ∷ c ∷ cs) (codes "--fast")) refl)
 
 -- a word that is handed to `clap` is of one of the kinds
 is_readable-Kind : (word : List ℕ) → is_readable word ≡ true → Kind word
@@ -134,66 +146,60 @@ unreadable-Odd (b ∷ c ∷ d ∷ ds) h = go (b == 45) refl (c == 45) refl h
     go true e true f h = absurd (true≢false h)
     go false e y f h = absurd (true≢false h)
 
--- such a word is no file, no budget, no number and no name
+-- such a word is no file, no option, no number and no name
 record IsNothing (word : List ℕ) : Type 0 where
   file : is_file word ≡ false
   alone : bytes_eq word (codes "--budget") ≡ false
-  named : named_budget word ≡ None
+  named : bytes_eq (take 9 word) (codes "--budget=") ≡ false
+  fast : bytes_eq word (codes "--fast") ≡ false
   number : (most : ℕ) → number_up_to most word ≡ None
   asks : (words : List (List ℕ)) → form_by word words ≡ None
 
 Odd-IsNothing : (word : List ℕ) → Odd word → IsNothing word
-Odd-IsNothing word empty = record { file = refl; alone = refl; named = refl; number = λ most. refl; asks = λ words. refl }
-Odd-IsNothing word dash = record { file = refl; alone = refl; named = refl; number = λ most. refl; asks = λ words. refl }
-Odd-IsNothing word dashes = record { file = refl; alone = refl; named = refl; number = λ most. refl; asks = λ words. refl }
-Odd-IsNothing word (short c cs e) = record { file = refl; alone = simp e refl; named = simp e refl; number = λ most. refl; asks = λ words. refl }
+Odd-IsNothing word empty = record { file = refl; alone = refl; named = refl; fast = refl; number = λ most. refl; asks = λ words. refl }
+Odd-IsNothing word dash = record { file = refl; alone = refl; named = refl; fast = refl; number = λ most. refl; asks = λ words. refl }
+Odd-IsNothing word dashes = record { file = refl; alone = refl; named = refl; fast = refl; number = λ most. refl; asks = λ words. refl }
+Odd-IsNothing word (short c cs e) = record { file = refl; alone = simp e refl; named = simp e refl; fast = simp e refl; number = λ most. refl; asks = λ words. refl }
 
 unreadable-IsNothing : (word : List ℕ) → is_readable word ≡ false → IsNothing word
 unreadable-IsNothing word h = Odd-IsNothing word (unreadable-Odd word h)
 
--- there is no check of what is no file
-check_with-no_file : (name : List ℕ) (budget : Option ℕ) → is_file name ≡ false → check_with name budget ≡ None
-check_with-no_file name None h = refl
-check_with-no_file name (Some n) h = rw h refl
+-- whichever way it goes, there is none
+neither : {X : Type 0} (b : Bool) (one two : Option X) → one ≡ None → two ≡ None → (if b then one else two) ≡ None
+neither true one two e f = e
+neither false one two e f = f
 
--- `check` has no form with such a word among one, two or three
-check-one : (a : List ℕ) → is_readable a ≡ false → check_form (a ∷ []) ≡ None
-check-one a h = rw (unreadable-IsNothing a h).file refl
-
-check-two : (a b : List ℕ) → (is_readable a && is_readable b) ≡ false → check_form (a ∷ b ∷ []) ≡ None
-check-two a b h = go (is_readable a) refl (is_readable b) refl (is_file a) refl h
+-- with such a word among those after `check` there is no form
+check_after-unreadable : (g : Checking) (b : Bool) (words : List (List ℕ)) → are_readable words ≡ false → check_after g b words ≡ None
+check_after-unreadable g b [] h = absurd (true≢false h)
+check_after-unreadable g b (w ∷ ws) h = go (is_readable w) refl h b (λ g b. check_after-unreadable g b ws)
   where
-    go : (x : Bool) → is_readable a ≡ x → (y : Bool) → is_readable b ≡ y → (z : Bool) → is_file a ≡ z → (x && y) ≡ false → check_form (a ∷ b ∷ []) ≡ None
-    go false e y f z g h = rw ((unreadable-IsNothing a e).file, (unreadable-IsNothing a e).named) refl
-    go true e false f true g h = rw (g, (unreadable-IsNothing b f).named) refl
-    go true e false f false g h = rw g (check_with-no_file b (named_budget a) (unreadable-IsNothing b f).file)
-    go true e true f z g h = absurd (true≢false h)
-
-check-three : (a b c : List ℕ) → (is_readable a && (is_readable b && is_readable c)) ≡ false → check_form (a ∷ b ∷ c ∷ []) ≡ None
-check-three a b c h = go (is_readable a) refl (is_readable b) refl (is_readable c) refl (is_file a) refl (bytes_eq a (codes "--budget")) refl (bytes_eq b (codes "--budget")) refl h
-  where
-    go : (x : Bool) → is_readable a ≡ x → (y : Bool) → is_readable b ≡ y → (v : Bool) → is_readable c ≡ v → (z : Bool) → is_file a ≡ z
-        → (p : Bool) → bytes_eq a (codes "--budget") ≡ p → (q : Bool) → bytes_eq b (codes "--budget") ≡ q
-        → (x && (y && v)) ≡ false → check_form (a ∷ b ∷ c ∷ []) ≡ None
-    go false e y f v i z g p j q k h = rw ((unreadable-IsNothing a e).file, (unreadable-IsNothing a e).alone) refl
-    go true e false f v i true g p j q k h = rw (g, (unreadable-IsNothing b f).alone) refl
-    go true e false f v i false g true j q k h = rw (g, j, (unreadable-IsNothing b f).number greatest_budget) refl
-    go true e false f v i false g false j q k h = rw (g, j) refl
-    go true e true f false i true g p j true k h = rw (g, k, (unreadable-IsNothing c i).number greatest_budget) refl
-    go true e true f false i true g p j false k h = rw (g, k) refl
-    go true e true f false i false g p j q k h = rw g (check_with-no_file c (budget_after a b) (unreadable-IsNothing c i).file)
-    go true e true f true i z g p j q k h = absurd (true≢false h)
+    go : (x : Bool) → is_readable w ≡ x → (x && are_readable ws) ≡ false → (b : Bool) → ((g : Checking) (b : Bool) → are_readable ws ≡ false → check_after g b ws ≡ None) → check_after g b (w ∷ ws) ≡ None
+    go false e h true more = rw (unreadable-IsNothing w e).file refl
+    go false e h false more = let no = unreadable-IsNothing w e in rw (no.fast, no.alone, no.named, no.file) refl
+    go true e h true more = neither (is_file w) _ None (more (record g { budget = Some w }) false h) refl
+    go true e h false more =
+        neither (bytes_eq w (codes "--fast")) _ _ (neither g.fast None _ refl (more (record g { fast = true }) false h))
+        (neither (bytes_eq w (codes "--budget")) _ _ (neither (is_some g.budget) None _ refl (more g true h))
+        (neither (bytes_eq (take 9 w) (codes "--budget=")) _ _ (neither (is_some g.budget) None _ refl (more (record g { budget = Some (drop 9 w) }) false h))
+        (neither (is_file w) _ None (neither (is_some g.file) None _ refl (more (record g { file = Some w }) false h)) refl)))
 
 check_form-unreadable : (words : List (List ℕ)) → are_readable words ≡ false → check_form words ≡ None
-check_form-unreadable [] h = absurd (true≢false h)
-check_form-unreadable (a ∷ []) h = go (is_readable a) refl h
+check_form-unreadable words h = check_after-unreadable (checking None None false) false words h
+
+-- .. and neither is there after `verify`
+verify_after-unreadable : (g : Verifying) (words : List (List ℕ)) → are_readable words ≡ false → verify_after g words ≡ None
+verify_after-unreadable g [] h = absurd (true≢false h)
+verify_after-unreadable g (w ∷ ws) h = go (is_readable w) refl h (λ g. verify_after-unreadable g ws)
   where
-    go : (x : Bool) → is_readable a ≡ x → (x && true) ≡ false → check_form (a ∷ []) ≡ None
-    go false e h = check-one a e
-    go true e h = absurd (true≢false h)
-check_form-unreadable (a ∷ b ∷ []) h = check-two a b (ap (λ x. is_readable a && x) (sym (and_true (is_readable b))) ∙ h)
-check_form-unreadable (a ∷ b ∷ c ∷ []) h = check-three a b c (ap (λ x. is_readable a && (is_readable b && x)) (sym (and_true (is_readable c))) ∙ h)
-check_form-unreadable (a ∷ b ∷ c ∷ d ∷ words) h = refl
+    go : (x : Bool) → is_readable w ≡ x → (x && are_readable ws) ≡ false → ((g : Verifying) → are_readable ws ≡ false → verify_after g ws ≡ None) → verify_after g (w ∷ ws) ≡ None
+    go false e h more = let no = unreadable-IsNothing w e in rw (no.fast, no.file) refl
+    go true e h more =
+        neither (bytes_eq w (codes "--fast")) _ _ (neither g.fast None _ refl (more (record g { fast = true }) h))
+        (neither (is_file w) _ None (more (record g { files = g.files ++ w ∷ [] }) h) refl)
+
+verify_form-unreadable : (words : List (List ℕ)) → are_readable words ≡ false → verify_form words ≡ None
+verify_form-unreadable words h = verify_after-unreadable (verifying [] false) words h
 
 -- such a word is among no files
 are_files-unreadable : (words : List (List ℕ)) → are_readable words ≡ false → list_all is_file words ≡ false
@@ -238,5 +244,5 @@ form_after-unreadable (word ∷ words) h = go (is_readable word) refl h
     go false e h = (unreadable-IsNothing word e).asks words
     go true e h =
         none_of (bytes_eq word (codes "verify")) (bytes_eq word (codes "translate")) (bytes_eq word (codes "check")) (bytes_eq word (codes "show")) (bytes_eq word (codes "decode")) (bytes_eq word (codes "trial"))
-        (files_form verify words) (files_form translate words) (check_form words) (files_form show words) (decode_form words) (trial_form words)
-        (files_form-unreadable verify words h) (files_form-unreadable translate words h) (check_form-unreadable words h) (files_form-unreadable show words h) (decode_form-unreadable words h) (trial_form-unreadable words h)
+        (verify_form words) (files_form translate words) (check_form words) (files_form show words) (decode_form words) (trial_form words)
+        (verify_form-unreadable words h) (files_form-unreadable translate words h) (check_form-unreadable words h) (files_form-unreadable show words h) (decode_form-unreadable words h) (trial_form-unreadable words h)

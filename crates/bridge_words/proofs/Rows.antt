@@ -1,6 +1,7 @@
--- Where a row stands, after a use that puts it last.
-use Rattle.std.proofs.Common.{◌≡◌, ◌∙◌, ◌++◌, Bool, true, false, List, [], ◌∷◌, Option, Some, None, refl, ap, append-nil, true≢false}
+-- Where a row stands, after a use that puts it last or changes it.
+use Rattle.std.proofs.Common.{◌≡◌, ◌∙◌, ◌++◌, Bool, true, false, List, [], ◌∷◌, Option, Some, None, refl, sym, ap, append-nil, true≢false}
 use Rattle.std.specs.Prelude.{find, is_some, ◌||◌, if◌then◌else◌}
+use Rattle.std.proofs.lemmas.Option.{same_Some}
 use Rattle.std.specs.Str.{bytes_eq}
 use Rattle.clap.specs.Walk.{Row, Text, at_row, has_row, with_values, without, more_values}
 use Rattle.clap.specs.declared.builder.value_parser.Reading.{Reading}
@@ -50,3 +51,31 @@ has_row-at id (x ∷ rows) = go (bytes_eq x.id id) (has_row-at id rows)
     go : (b : Bool) → has_row id rows ≡ is_some (row_at id rows) → (b || has_row id rows) ≡ is_some (if b then Some x else row_at id rows)
     go true e = refl
     go false e = e
+
+-- a use of an argument that was used before changes its row
+pub row_at-changed : (id : Text) (change : Row → List Row) (missing rows : List Row) (r s : Row) → row_at id rows ≡ Some r → change r ≡ s ∷ [] → bytes_eq s.id id ≡ true → row_at id (at_row id change missing rows) ≡ Some s
+row_at-changed id change missing [] r s h c e = absurd (true≢false (sym (ap is_some h)))
+row_at-changed id change missing (x ∷ rows) r s h c e = go (bytes_eq x.id id) refl h (row_at-changed id change missing rows r s)
+  where
+    go : (b : Bool) → bytes_eq x.id id ≡ b → (if b then Some x else row_at id rows) ≡ Some r
+        → (row_at id rows ≡ Some r → change r ≡ s ∷ [] → bytes_eq s.id id ≡ true → row_at id (at_row id change missing rows) ≡ Some s)
+        → row_at id (if b then change x ++ rows else x ∷ at_row id change missing rows) ≡ Some s
+    go true b h more =
+        let changed : change x ≡ s ∷ [] = ap change (same_Some x r h) ∙ c in
+        rw (changed, e) refl
+    go false b h more = rw b (more h c e)
+
+pub row_at-kept : (id other : Text) (change : Row → List Row) (missing rows : List Row) (r s : Row) → row_at id rows ≡ Some r → change r ≡ s ∷ [] → bytes_eq r.id other ≡ false → bytes_eq s.id other ≡ false
+    → row_at other (at_row id change missing rows) ≡ row_at other rows
+row_at-kept id other change missing [] r s h c e f = absurd (true≢false (sym (ap is_some h)))
+row_at-kept id other change missing (x ∷ rows) r s h c e f = go (bytes_eq x.id id) refl h (row_at-kept id other change missing rows r s)
+  where
+    go : (b : Bool) → bytes_eq x.id id ≡ b → (if b then Some x else row_at id rows) ≡ Some r
+        → (row_at id rows ≡ Some r → change r ≡ s ∷ [] → bytes_eq r.id other ≡ false → bytes_eq s.id other ≡ false → row_at other (at_row id change missing rows) ≡ row_at other rows)
+        → row_at other (if b then change x ++ rows else x ∷ at_row id change missing rows) ≡ row_at other (x ∷ rows)
+    go true b h more =
+        let changed : change x ≡ s ∷ [] = ap change (same_Some x r h) ∙ c in
+        let left : row_at other (change x ++ rows) ≡ row_at other rows = rw (changed, f) refl in
+        let right : row_at other (x ∷ rows) ≡ row_at other rows = rw (same_Some x r h, e) refl in
+        left ∙ sym right
+    go false b h more = ap (λ o. if bytes_eq x.id other then Some x else o) (more h c e f)

@@ -6,9 +6,9 @@ use Rattle.bridge_words.specs.declared.form.Form.TheVariants.{Verify, Translate,
 
 -- it is the form of the same names and numbers
 abbrev pub asked : Form → forms.Form
-asked (Verify files) = forms.verify (names_in files.items)
+asked (Verify fast files) = forms.verify fast (names_in files.items)
 asked (Translate files) = forms.translate (names_in files.items)
-asked (Check file budget) = forms.check file.now budget
+asked (Check fast file budget) = forms.check fast file.now budget
 asked (Show files) = forms.show (names_in files.items)
 asked (Decode file) = forms.decode file.now
 asked (Trial n) = forms.trial n

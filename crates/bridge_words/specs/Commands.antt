@@ -3,7 +3,7 @@ use Rattle.std.specs.Prelude.{codes, [], Some, true, Bool}
 use Rattle.clap.specs.Words.{App, Rule, Text, new_app, new_rule, with_rule, with_subcommand}
 use Rattle.clap.specs.declared.builder.command.Command.{Command}
 use Rattle.clap.specs.declared.builder.command.Command.TheViews.{out-Command}
-use Rattle.clap.specs.declared.builder.ArgAction.TheVariants.{Append, Set}
+use Rattle.clap.specs.declared.builder.ArgAction.TheVariants.{Append, Set, SetTrue}
 
 -- an argument of the command, or of a subcommand, is global
 abbrev pub has_globals : Command → Bool
@@ -25,13 +25,21 @@ blocks_rule = record (new_rule (codes "blocks")) { action = Some Set; required =
 abbrev pub budget_rule : Rule
 budget_rule = record (new_rule (codes "budget")) { long = Some (codes "budget"); action = Some Set }
 
+-- `--fast`
+abbrev pub fast_rule : Rule
+fast_rule = record (new_rule (codes "fast")) { long = Some (codes "fast"); action = Some SetTrue }
+
 -- a command with one argument
 abbrev pub one : Text → Rule → App
 one name rule = with_rule (new_app name) rule
 
--- the command `check`: a file, and a budget
+-- the command `verify`: files, and `--fast`
+abbrev pub verify_app : App
+verify_app = with_rule (one (codes "verify") files_rule) fast_rule
+
+-- the command `check`: a file, a budget, and `--fast`
 abbrev pub check_app : App
-check_app = with_rule (one (codes "check") file_rule) budget_rule
+check_app = with_rule (with_rule (one (codes "check") file_rule) budget_rule) fast_rule
 
 -- the command without subcommands: it wants one, and has no help and no version
 abbrev pub plain_app : App
@@ -52,5 +60,5 @@ with_one app name rule = with_subcommand app (one name rule).top
 -- the command with its subcommands
 abbrev pub bridge_app : App
 bridge_app =
-    with_one (with_one (with_one (with_subcommand (with_one (with_one plain_app (codes "verify") files_rule) (codes "translate") files_rule)
+    with_one (with_one (with_one (with_subcommand (with_one (with_subcommand plain_app verify_app.top) (codes "translate") files_rule)
     check_app.top) (codes "show") files_rule) (codes "decode") file_rule) (codes "trial") blocks_rule

@@ -1,8 +1,8 @@
 -- What the matches of a command ask for.
-use Rattle.std.specs.Prelude.{codes, ℕ, List, [], Option, Some, None, option_map, option_and_then, unwrap_or, if◌then◌else◌}
+use Rattle.std.specs.Prelude.{codes, List, [], Option, Some, None, Bool, option_map, option_and_then, unwrap_or, if◌then◌else◌}
 use Rattle.std.specs.Str.{bytes_eq}
 use Rattle.clap.specs.Words.{Row, Text, all_of, first_of}
-use Rattle.bridge_spec.specs.Forms.{Form, verify, translate, check, show, decode, trial, budget_of, trial_of, default_budget}
+use Rattle.bridge_spec.specs.Forms.{Form, verify, translate, show, decode, trial, budget_in, check_in, trial_of}
 
 -- the files, none where the words give none
 abbrev pub files_in : List Row → List Text
@@ -20,25 +20,22 @@ read_decode rows = option_map decode (first_of (codes "file") rows)
 abbrev pub read_trial : List Row → Option Form
 read_trial rows = option_and_then (λ word. option_map trial (trial_of word)) (first_of (codes "blocks") rows)
 
--- a budget, where the words give none the default
-abbrev pub budget_in : Option Text → Option ℕ
-budget_in None = Some default_budget
-budget_in (Some word) = budget_of word
+-- whether a check is to be fast
+abbrev pub fast_in : List Row → Bool
+fast_in rows = bytes_eq (unwrap_or (first_of (codes "fast") rows) []) (codes "true")
 
--- a check of a file with a budget, where there are both
-abbrev pub check_in : Option Text → Option ℕ → Option Form
-check_in (Some file) (Some budget) = Some (check file budget)
-check_in (Some file) None = None
-check_in None budget = None
+-- .. files, and whether the check is to be fast
+abbrev pub read_verify : List Row → Option Form
+read_verify rows = Some (verify (fast_in rows) (files_in rows))
 
--- .. a file and a budget
+-- .. a file and a budget, and whether the check is to be fast
 abbrev pub read_check : List Row → Option Form
-read_check rows = check_in (first_of (codes "file") rows) (budget_in (first_of (codes "budget") rows))
+read_check rows = check_in (fast_in rows) (first_of (codes "file") rows) (budget_in (first_of (codes "budget") rows))
 
 -- the form that a subcommand of this name and its matches ask for
 abbrev pub read_named : Text → List Row → Option Form
 read_named name rows =
-    if bytes_eq name (codes "verify") then read_files verify rows
+    if bytes_eq name (codes "verify") then read_verify rows
     else if bytes_eq name (codes "translate") then read_files translate rows
     else if bytes_eq name (codes "check") then read_check rows
     else if bytes_eq name (codes "show") then read_files show rows

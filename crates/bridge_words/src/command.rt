@@ -1,7 +1,7 @@
 //! The command that `clap` reads the words by.
 ghost use Rattle.std.specs.Prelude.{◌≡◌, IfOk, false};
 ghost use Rattle.clap.specs.Words.{app_of, rule_of, with_subcommand};
-ghost use Rattle.bridge_words.specs.Commands.{has_globals, bridge_app, budget_rule, check_app, blocks_rule, file_rule, files_rule, one, plain_app, with_one};
+ghost use Rattle.bridge_words.specs.Commands.{has_globals, bridge_app, budget_rule, check_app, blocks_rule, fast_rule, file_rule, files_rule, one, plain_app, verify_app, with_one};
 
 use clap::{Arg, ArgAction, Command};
 use std::alloc::{AllocError, Global};
@@ -10,7 +10,7 @@ use std::alloc::{AllocError, Global};
 pub fn command<'a>(alloc: Global) -> Result<Command<'a>, AllocError>
     ensures { IfOk result (λ command. app_of command ≡ bridge_app) }
 {
-    let command = with_one(alloc, plain_command(alloc), "verify", files(alloc))?;
+    let command = with_verify(alloc, plain_command(alloc))?;
     let command = with_one(alloc, command, "translate", files(alloc))?;
     let command = with_check(alloc, command)?;
     let command = with_one(alloc, command, "show", files(alloc))?;
@@ -29,6 +29,13 @@ fn with_one<'a>(
     ensures { IfOk result (λ more. app_of more ≡ with_one (app_of command.entry) name.entry.now (rule_of arg.entry)) }
 {
     command.subcommand(one(alloc, name, arg)?)
+}
+
+/// The command with the subcommand `verify` too.
+fn with_verify<'a>(alloc: Global, command: Command<'a>) -> Result<Command<'a>, AllocError>
+    ensures { IfOk result (λ more. app_of more ≡ with_subcommand (app_of command.entry) verify_app.top) }
+{
+    command.subcommand(verify_command(alloc)?)
 }
 
 /// The command with the subcommand `check` too.
@@ -58,12 +65,22 @@ fn one<'a>(alloc: Global, name: &'a str, arg: Arg<'a>) -> Result<Command<'a>, Al
     Command::new(alloc, name).arg(arg)
 }
 
+/// The command `verify`.
+fn verify_command<'a>(alloc: Global) -> Result<Command<'a>, AllocError>
+    ensures app { IfOk result (λ command. app_of command ≡ verify_app) }
+    ensures local { IfOk result (λ command. has_globals command ≡ false) }
+{
+    one(alloc, "verify", files(alloc))?.arg(fast(alloc))
+}
+
 /// The command `check`.
 fn check_command<'a>(alloc: Global) -> Result<Command<'a>, AllocError>
     ensures app { IfOk result (λ command. app_of command ≡ check_app) }
     ensures local { IfOk result (λ command. has_globals command ≡ false) }
 {
-    one(alloc, "check", file(alloc))?.arg(budget(alloc))
+    one(alloc, "check", file(alloc))?
+        .arg(budget(alloc))?
+        .arg(fast(alloc))
 }
 
 /// One or more files.
@@ -104,4 +121,14 @@ fn budget<'a>(alloc: Global) -> Arg<'a>
     Arg::new(alloc, "budget")
         .long("budget")
         .action(ArgAction::Set)
+}
+
+/// `--fast`.
+fn fast<'a>(alloc: Global) -> Arg<'a>
+    ensures rule { rule_of result ≡ fast_rule }
+    ensures local { result.global ≡ false }
+{
+    Arg::new(alloc, "fast")
+        .long("fast")
+        .action(ArgAction::SetTrue)
 }

@@ -2,9 +2,10 @@
 ghost use Rattle.std.specs.Prelude.{◌≡◌, IfOk, map, option_map, string_bytes, drop};
 ghost use Rattle.std.specs.List.{list_all};
 ghost use Rattle.bridge_spec.specs.Calls.{form_in, names_in};
+ghost use Rattle.bridge_spec.specs.Forms.{budget_in};
 ghost use Rattle.clap.specs.Words.{found_of, rows_of, subcommand_rows_of};
 ghost use Rattle.bridge_words.specs.Asked.{asked};
-ghost use Rattle.bridge_words.specs.Matches.{read, read_named, read_check, read_decode, read_trial, files_in, budget_in};
+ghost use Rattle.bridge_words.specs.Matches.{read, read_named, read_check, read_decode, read_trial, files_in, fast_in};
 ghost use Rattle.bridge_words.specs.Refused.{refused};
 ghost use Rattle.bridge_words.specs.Readable.{is_readable, are_readable};
 
@@ -18,12 +19,12 @@ use std::alloc::{AllocError, Global};
 /// What the words ask for.
 #[derive(Drop)]
 pub enum Form<'a> {
-    /// The module of the run of the articles in these files, checked before it is written.
-    Verify(Vec<String>),
+    /// The module of the run of the articles in these files, checked before it is written: fast, that is without rechecks of sorts, or not.
+    Verify(bool, Vec<String>),
     /// The module of the run of the articles in these files.
     Translate(Vec<String>),
-    /// A check of the module in the file, with this budget for each declaration.
-    Check(&'a str, u64),
+    /// A check of the module in the file, fast or not, with this budget for each declaration.
+    Check(bool, &'a str, u64),
     /// What the articles in these files assume and export.
     Show(Vec<String>),
     /// What the exports of the module in the file say.
@@ -111,7 +112,7 @@ fn form_named<'a>(
     ensures { IfOk result (λ form. option_map asked form ≡ read_named name.now (rows_of (found_of found.now))) }
 {
     match name {
-        "verify" => Ok(Some(Form::Verify(files_in(alloc, found)?))),
+        "verify" => Ok(Some(Form::Verify(fast_in(found), files_in(alloc, found)?))),
         "translate" => Ok(Some(Form::Translate(files_in(alloc, found)?))),
         "check" => Ok(check_in(found)),
         "show" => Ok(Some(Form::Show(files_in(alloc, found)?))),
@@ -148,10 +149,20 @@ fn check_in<'a>(found: &ArgMatches<'a>) -> Option<Form<'a>>
 {
     match found.get_str("file") {
         Some(file) => match budget_in(found.get_str("budget")) {
-            Some(budget) => Some(Form::Check(file, budget)),
+            Some(budget) => Some(Form::Check(fast_in(found), file, budget)),
             None => None,
         },
         None => None,
+    }
+}
+
+/// Whether the words ask for a fast check.
+fn fast_in(found: &ArgMatches<'_>) -> bool
+    ensures { result ≡ fast_in (rows_of (found_of found.now)) }
+{
+    match found.get_str("fast") {
+        Some(word) => word == "true",
+        None => false,
     }
 }
 

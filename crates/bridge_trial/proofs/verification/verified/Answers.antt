@@ -1,7 +1,5 @@
-use Rattle.std.proofs.Common.{subst}
-use Rattle.lp_kernel.specs.Checks.{IsJudged}
-use Rattle.lp_kernel.specs.declared.checks.Verdict.TheVariants as verdict
-use Rattle.bridge_spec.specs.Texts.{module_bounds}
+use Rattle.std.proofs.Common.{subst, length, true}
+use Rattle.lp_kernel.specs.Checks.{PassBelow}
 use Rattle.bridge_answer.specs.Promised.{trial-headline}
 use Rattle.bridge_trial.proofs.verification.verified.Goals as goal
 
@@ -11,4 +9,4 @@ check_back-checked-requires c = let t = c.in_ok-translation.ensures.translated i
 pub returns-in-Ok-clause-accepted : goal.returns-in-Ok-clause-accepted
 returns-in-Ok-clause-accepted c =
     let t = c.in_ok-translation.ensures.translated in
-    (t.0, t.1, subst (λ m. IsJudged m (module_bounds t.0) verdict.Accepted) t.2.declared c.in-Ok.ensures.accepted)
+    (t.0, t.1, subst (λ m. PassBelow true m (length m)) t.2.declared c.in-Ok.ensures.accepted)

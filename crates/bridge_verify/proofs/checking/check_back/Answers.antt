@@ -1,7 +1,6 @@
-use Rattle.std.proofs.Common.{refl, sym, subst, ◌∙◌}
-use Rattle.std.specs.Prelude.{OnOk}
-use Rattle.lp_kernel.specs.Checks.{IsJudged}
-use Rattle.lp_kernel.specs.declared.checks.Verdict.TheVariants as verdict
+use Rattle.std.proofs.Common.{refl, sym, subst, ◌∙◌, length}
+use Rattle.std.specs.Prelude.{OnOk, not}
+use Rattle.lp_kernel.specs.Checks.{PassBelow}
 use Rattle.module_spec.specs.Image.{image}
 use Rattle.bridge_translate.specs.TranslationLaws.{length-bounds}
 use Rattle.bridge_verify.proofs.Checked.{gathered-Reads}
@@ -17,4 +16,4 @@ pub returns-clause-accepted : goal.returns-clause-accepted
 returns-clause-accepted c =
     let reads = gathered-Reads c.requires.0 c.requires.1 c.args.translation.now c.requires.2 c.requires.3 _ refl in
     let same = c.in_ok-back.ensures.read (image c.requires.1) reads ∙ sym c.requires.2.declared in
-    subst (λ m. OnOk c.check_read-checked.result (IsJudged m c.args.translation.now.bounds.items verdict.Accepted)) same c.check_read-checked.ensures.accepted
+    subst (λ m. OnOk c.check_read-checked.result (PassBelow (not c.args.fast) m (length m))) same c.check_read-checked.ensures.accepted

@@ -1,5 +1,6 @@
-use Rattle.std.proofs.Common.{◌≡◌, ◌∙◌, ◌+◌, drop, length, refl, arith}
+use Rattle.std.proofs.Common.{◌≡◌, ◌∙◌, ◌+◌, drop, length, refl, arith, []}
 use Rattle.std.proofs.lemmas.List.{length-map}
+use Rattle.lp_spec.specs.ShortNames.{shortened_after}
 use Rattle.lp_spec.specs.Text.{declarations_text, written}
 use Rattle.holide_sig.specs.Modules.{declaration_in, declarations_of}
 use Rattle.dk_write.specs.Lines.{text_before}
@@ -10,7 +11,7 @@ pub hand-requires-in-loop-i-clause-reads : goal.hand-requires-in-loop-i-clause-r
 hand-requires-in-loop-i-clause-reads c =
     let d = declarations_of c.args.translation.now.module in let bounds = c.args.translation.now.bounds.items in let i = c.loop-i.i in (
       text_before d bounds i,
-      declarations_text d (drop (i + 1) d) (drop (i + 1) bounds),
+      declarations_text d (drop (i + 1) (shortened_after [] d)) (drop (i + 1) bounds),
       c.requires.reads.0,
       c.loop-i.invariant.fed,
       reads-line d bounds i c.line_into.new.text.contents c.requires.reads.0 c.in_ok-line_into.ensures.text c.requires.reads.1,

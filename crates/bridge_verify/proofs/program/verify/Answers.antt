@@ -1,3 +1,4 @@
+use Rattle.std.specs.Prelude.{not}
 use Rattle.std.proofs.Common.{◌++◌, codes, length, Some, sym, ap, subst, refl, ⊎_elim}
 use Rattle.lp_spec.specs.Text.{written}
 use Rattle.holide_sig.specs.Modules.{declarations_of}
@@ -22,6 +23,9 @@ check_back-requires g c =
     let t = c.in-Ok.ensures.translated in
     (length (names_in c.args.files.now), t.0, t.2, each_run_carries t.1.texts t.0 t.1.bytes t.1.runs)
 
+pub deliver_verified-requires-clause-accepted : goal.deliver_verified-requires-clause-accepted
+deliver_verified-requires-clause-accepted g c = (not c.args.fast, c.in-Ok-check_back.ensures.accepted)
+
 pub deliver_verified-requires-clause-bounds : goal.deliver_verified-requires-clause-bounds
 deliver_verified-requires-clause-bounds g c =
     let t = c.in-Ok.ensures.translated in
@@ -32,7 +36,7 @@ returns-in-Ok-check_back g c =
     let t = c.in-Ok.ensures.translated in
     let names = names_in c.args.files.now in
     let made = c.in-Ok.translation in
-    let own = call (Some (verify names)) (shelved g.H.Shelf.told g.H.Shelf.faults g.H.Shelf.begun c.args.shelf.now c.translation_of.new.shelf) (sunk g.O.Sink.got g.O.Sink.faults c.args.out.now c.deliver_verified.new.out) (sunk g.N.Sink.got g.N.Sink.faults c.args.note.now c.deliver_verified.new.note) in
+    let own = call (Some (verify c.args.fast names)) (shelved g.H.Shelf.told g.H.Shelf.faults g.H.Shelf.begun c.args.shelf.now c.translation_of.new.shelf) (sunk g.O.Sink.got g.O.Sink.faults c.args.out.now c.deliver_verified.new.out) (sunk g.N.Sink.got g.N.Sink.faults c.args.note.now c.deliver_verified.new.note) in
     let outputs : Outputs own c.deliver_verified.result = ⊎_elim
     (λ done. record {
       answer = Done;
@@ -59,7 +63,7 @@ returns-in-Ok g c =
     let shelf = shelved g.H.Shelf.told g.H.Shelf.faults g.H.Shelf.begun c.args.shelf.now c.translation_of.new.shelf in
     let answer = c.in-Err-check_back.answer in
     outputs-Promise
-    (call (Some (verify names)) shelf (sunk g.O.Sink.got g.O.Sink.faults c.args.out.now c.deliver.new.out) (sunk g.N.Sink.got g.N.Sink.faults c.args.note.now c.deliver.new.note))
+    (call (Some (verify c.args.fast names)) shelf (sunk g.O.Sink.got g.O.Sink.faults c.args.out.now c.deliver.new.out) (sunk g.N.Sink.got g.N.Sink.faults c.args.note.now c.deliver.new.note))
     c.deliver.result
     (record {
       answer = status_of answer;
@@ -77,7 +81,7 @@ returns g c =
     let shelf = shelved g.H.Shelf.told g.H.Shelf.faults g.H.Shelf.begun c.args.shelf.now c.translation_of.new.shelf in
     let answer = c.into_answer.result in
     outputs-Promise
-    (call (Some (verify names)) shelf (sunk g.O.Sink.got g.O.Sink.faults c.args.out.now c.deliver-in-Err.new.out) (sunk g.N.Sink.got g.N.Sink.faults c.args.note.now c.deliver-in-Err.new.note))
+    (call (Some (verify c.args.fast names)) shelf (sunk g.O.Sink.got g.O.Sink.faults c.args.out.now c.deliver-in-Err.new.out) (sunk g.N.Sink.got g.N.Sink.faults c.args.note.now c.deliver-in-Err.new.note))
     c.deliver-in-Err.result
     (record {
       answer = status_of answer;

@@ -1,0 +1,7 @@
+use Rattle.std.proofs.Common.{◌≡◌, map, take}
+use Rattle.lp_fast.specs.FastCheck.{fast_bound}
+use Rattle.holide_sig.specs.Modules.{declarations_of}
+use Rattle.bridge_verify.proofs.fast.fast_bounds.Given as goal
+
+abbrev pub invariant-loop-i : goal.invariant-loop-i
+invariant-loop-i l = l.bounds.items ≡ map (fast_bound (declarations_of l.source)) (take l.i (declarations_of l.source))

@@ -1,0 +1,39 @@
+//! The check of a module that was read back, without rechecks of sorts.
+ghost use Rattle.std.specs.Prelude.{◌≡◌, IfOk, map, length, false};
+ghost use Rattle.hol_spec.specs.Proofs.{Accepted};
+ghost use Rattle.lp_spec.specs.ModuleOrder.{IsModule};
+ghost use Rattle.lp_fast.specs.FastCheck.{fast_bound};
+ghost use Rattle.lp_kernel.specs.Checks.{PassBelow};
+ghost use Rattle.lp_kernel.specs.declared.checks.Verdict.TheVariants as verdict;
+ghost use Rattle.holide_sig.specs.Modules.{declarations_of, IsHeld};
+ghost use Rattle.module_spec.specs.Image.{image};
+ghost use Rattle.bridge_spec.specs.Headline.{Headline};
+
+use bridge_base::Memory;
+use holide_sig::Module;
+use lp_kernel::{Verdict, bound_fast, check_fast};
+use std::alloc::Global;
+
+/// The verdict on the module of a run without rechecks of sorts, each declaration within its bound for that: it is accepted.
+pub(crate) fn checked_fast(alloc: Global, back: &mut Module) -> Result<Verdict, Memory>
+    requires run { (run : Accepted) × Headline run × (declarations_of back.old ≡ image run) }
+    requires held { IsHeld back.old }
+    requires is_module { IsModule (declarations_of back.old) }
+    ensures accepts { IfOk result (λ v. v ≡ verdict.Accepted) }
+    ensures pass { IfOk result (λ v. v ≡ verdict.Accepted → PassBelow false (declarations_of back.old) (length (declarations_of back.old))) }
+{
+    let bounds = fast_bounds(alloc, back)?;
+    check_fast(alloc, back, &bounds)
+}
+
+// The bound of each declaration for its check without rechecks of sorts.
+fn fast_bounds(alloc: Global, source: &Module) -> Result<Vec<u128>, Memory>
+    requires { IsHeld source.now }
+    ensures { IfOk result (λ bounds. bounds.items ≡ map (fast_bound (declarations_of source.now)) (declarations_of source.now)) }
+{
+    let mut bounds = Vec::new(alloc);
+    for i in 0..source.decls.len() {
+        bounds.push(bound_fast(alloc, source, i)?)?;
+    }
+    Ok(bounds)
+}
