@@ -1,0 +1,14 @@
+pub mod Article
+pub mod ArticleLength
+pub mod BinderNames
+pub mod Drafts
+pub mod ItemTexts
+pub mod Lengths
+pub mod Mentions
+pub mod ReachedSteps
+pub mod Retold
+pub mod TermLengths
+pub mod Versions
+pub mod WrittenSteps
+pub mod WrittenTerms
+pub mod WrittenTypes
