@@ -16,7 +16,7 @@ pub(crate) fn answer(
 ) -> Result<u8, Wrong> {
     match word(case, "by")? {
         "bridge" => Ok(number_of(bridge(alloc, words, shelf, out, note))),
-        "verify" => Ok(number_of(verify(alloc, words, shelf, out, note))),
+        "verify" => Ok(number_of(verify(alloc, words, false, shelf, out, note))),
         "translate" => Ok(number_of(translate(alloc, words, shelf, out, note))),
         "show" => Ok(number_of(show(alloc, words, shelf, out, note))),
         by => answer_of_a_module(alloc, case, by, words, shelf, out, note),
@@ -36,7 +36,7 @@ fn answer_of_a_module(
     match (by, words) {
         ("check", [file]) => {
             let budget = number(case, "budget")?;
-            Ok(number_of(check(alloc, file, budget, shelf, out, note)))
+            Ok(number_of(check(alloc, file, budget, false, shelf, out, note)))
         }
         ("decode", [file]) => Ok(number_of(decode(alloc, file, shelf, out, note))),
         _ => Err(Wrong("by")),

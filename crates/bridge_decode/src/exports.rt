@@ -2,7 +2,7 @@
 ghost use Rattle.std.specs.Prelude.{◌≡◌, ◌<◌, ◌++◌, IfOk, OnOk, length};
 ghost use Rattle.std.specs.List.{list_all};
 ghost use Rattle.holide_sig.specs.Modules.{declarations_of, IsHeld};
-ghost use Rattle.module_spec.specs.Numerals.{is_decimal_digit, is_numeral};
+ghost use Rattle.lp_spec.specs.Numerals.{is_decimal_digit, is_numeral};
 ghost use Rattle.module_spec.specs.Stands.{is_export_name};
 ghost use Rattle.sequent.specs.Closed.{closed_view};
 ghost use Rattle.bridge_spec.specs.Texts.{export_line};

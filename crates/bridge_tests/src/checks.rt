@@ -55,6 +55,38 @@ words = ["bridge", "check", "a", "--budget=4"]
 texts.lines = "x : term bool. y : term bool."
 out = "accepted 2, unproved 2\n"
 
+# Without rechecks of sorts the prices are 1, 4 and 3 too, and that of a no 5.
+[[test]]
+name = "accepts_by_a_fast_check"
+
+[[test.case]]
+words = ["bridge", "check", "--fast", "a"]
+text.a = ["$prelude", "$unfolded"]
+out = "accepted 2, unproved 0\n"
+
+[[test.case]]
+words = [["bridge", "check", "--fast", "a", "--budget", "4"], ["bridge", "check", "--budget=4", "a", "--fast"]]
+texts.lines = "x : term bool. y : term bool."
+out = "accepted 2, unproved 2\n"
+
+[[test.case]]
+words = ["bridge", "check", "a", "--budget", "3", "--fast"]
+texts.lines = "x : term bool."
+number = 8
+note = "declaration 0: over budget\n"
+
+[[test.case]]
+words = ["bridge", "check", "--fast", "a"]
+text.a = ["$prelude", "$not_unfolded"]
+number = 7
+note = "declaration 1: ill typed\n"
+
+[[test.case]]
+words = ["bridge", "check", "--budget=5", "--fast", "a"]
+texts.lines = "x : proof bool."
+number = 7
+note = "declaration 0: ill typed\n"
+
 [[test]]
 name = "stops_at_the_budget"
 

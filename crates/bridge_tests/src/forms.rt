@@ -6,7 +6,7 @@ const TESTS: &str = r#"
 article.a = ["$reflexivity"]
 number = 2
 begun = []
-note = "usage: bridge verify FILE.. | translate FILE.. | check FILE [--budget N] | decode FILE | show FILE.. | trial N\n"
+note = "usage: bridge verify [--fast] FILE.. | translate FILE.. | check FILE [--budget N] [--fast] | decode FILE | show FILE.. | trial N\n"
 
 [[test]]
 name = "answers_words_of_no_command"
@@ -63,6 +63,25 @@ case = [
     { words = ["bridge", "check", "a", "--budgets", "5"] },
     { words = ["bridge", "check", "a", "--bud=5"] },
     { words = ["bridge", "check", "a", "-b5"] },
+]
+
+[[test]]
+name = "answers_a_fast_check_where_there_is_none"
+case = [
+    { words = ["bridge", "--fast", "verify", "a"] },
+    { words = ["bridge", "--fast", "check", "a"] },
+    { words = ["bridge", "verify", "--fast"] },
+    { words = ["bridge", "verify", "--fast", "a", "--fast"] },
+    { words = ["bridge", "check", "--fast"] },
+    { words = ["bridge", "check", "--fast", "a", "--fast"] },
+    { words = ["bridge", "check", "a", "--budget", "--fast", "5"] },
+    { words = ["bridge", "check", "a", "--fast=true"] },
+    { words = ["bridge", "verify", "a", "--fast="] },
+    { words = ["bridge", "verify", "a", "--fas"] },
+    { words = ["bridge", "translate", "--fast", "a"] },
+    { words = ["bridge", "show", "a", "--fast"] },
+    { words = ["bridge", "decode", "a", "--fast"] },
+    { words = ["bridge", "trial", "1", "--fast"] },
 ]
 "#;
 

@@ -7,7 +7,7 @@ const TESTS: &str = r#"
 out = ["$prelude", "$lemmas", "$lines"]
 case = [
     { words = ["bridge", "translate", "a"], note = "$counts" },
-    { words = ["bridge", "verify", "a"], note = ["$counts", "verified\n"] },
+    { words = [["bridge", "verify", "a"], ["bridge", "verify", "--fast", "a"]], note = ["$counts", "verified\n"] },
 ]
 # The input n of type `a -> bool`, applied to the variable z of type a.
 texts.n_of_z = '"n" const "->" typeOp "a" varType "bool" typeOp nil opType nil cons cons opType constTerm "z" "a" varType var varTerm appTerm'

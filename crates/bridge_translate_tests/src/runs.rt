@@ -37,7 +37,7 @@ bounds 17138475520
 '''
 case = [
     { words = ["bridge", "translate", "a", "b"], note = "$counts" },
-    { words = ["bridge", "verify", "a", "b"], note = ["$counts", "verified\n"] },
+    { words = [["bridge", "verify", "a", "b"], ["bridge", "verify", "a", "--fast", "b"]], note = ["$counts", "verified\n"] },
 ]
 
 [[test]]

@@ -87,7 +87,8 @@ fn add_asked_of(
     requires is_module { IsModule (declarations_of module.old) }
 {
     match by {
-        "verdict" => add_verdict(alloc, case, module, came),
+        "verdict" => add_verdict(alloc, case, module, false, came),
+        "fast" => add_verdict(alloc, case, module, true, came),
         "step" => add_step(alloc, module, came),
         "weigh" => add_weights(alloc, module, came),
         "decode" => add_sequent(alloc, module, came),

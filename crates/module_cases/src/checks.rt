@@ -9,7 +9,7 @@ use case_files::{Case, Wrong, listed, number_of, numbers};
 use dk_read::Limit;
 use holide_sig::Module;
 use lp_conv::Answer;
-use lp_kernel::{Verdict, check_decl, check_module};
+use lp_kernel::{Verdict, check_decl, check_fast, check_module};
 use std::alloc::Global;
 use toml::Value;
 
@@ -77,18 +77,19 @@ fn answer_word(answer: Answer) -> &'static [u8] {
     }
 }
 
-/// Adds the verdict on a module under the budgets of the case, of which there are as many as declarations.
+/// Adds the verdict on a module, fast or not, under the budgets of the case, of which there are as many as declarations.
 pub(crate) fn add_verdict(
     alloc: Global,
     case: &Case<'_>,
     module: &mut Module,
+    fast: bool,
     came: &mut Vec<u8>,
 ) -> Result<(), Wrong>
     requires held { IsHeld module.old }
     requires is_module { IsModule (declarations_of module.old) }
 {
     let budgets = budgets(alloc, case)?;
-    let verdict = verdict(alloc, module, &budgets);
+    let verdict = verdict(alloc, module, fast, &budgets);
     drop(budgets);
     add_verdict_of(alloc, verdict?, came)
 }
@@ -112,14 +113,22 @@ fn add_budgets(numbers: &[u64], budgets: &mut Vec<u128>) -> Result<(), Wrong> {
 }
 
 // The verdict under these budgets.
-fn verdict(alloc: Global, module: &mut Module, budgets: &[u128]) -> Result<Verdict, Wrong>
+fn verdict(
+    alloc: Global,
+    module: &mut Module,
+    fast: bool,
+    budgets: &[u128],
+) -> Result<Verdict, Wrong>
     requires held { IsHeld module.old }
     requires is_module { IsModule (declarations_of module.old) }
 {
-    if budgets.len() == module.decls.len() {
-        check_module(alloc, module, budgets).map_err(|_| Wrong("out of memory"))
+    if budgets.len() != module.decls.len() {
+        return Err(Wrong("budgets"));
+    }
+    if fast {
+        check_fast(alloc, module, budgets).map_err(|_| Wrong("out of memory"))
     } else {
-        Err(Wrong("budgets"))
+        check_module(alloc, module, budgets).map_err(|_| Wrong("out of memory"))
     }
 }
 

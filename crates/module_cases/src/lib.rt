@@ -34,9 +34,10 @@
 //! | `find` | the symbol of each name of `names`, or `none` |
 //! | `check` | the answer to the check of the last declaration and the steps that are left, for each of `budgets` |
 //! | `verdict` | the verdict on the module under `budgets`, of which each declaration has one |
+//! | `fast` | the same of the check without rechecks of sorts |
 //! | `convert` | the answer to whether the bodies of `l` and `r` are convertible and the steps that are left, for each of `budgets` |
 //! | `step` | whether the head step of the body of `l` goes to the body of `r`, or elsewhere, or there is none |
-//! | `weigh` | the weight and the bound of each declaration |
+//! | `weigh` | the weight of each declaration, its bound, and its bound without rechecks of sorts |
 //! | `decode` | the closed sequent for which the type of the last declaration stands, or `none` |
 #![tactic(auto)]
 

@@ -5,10 +5,10 @@ ghost use Rattle.holide_sig.specs.Modules.{IsHeld};
 use crate::faults::{add_comma, add_number};
 use case_files::Wrong;
 use holide_sig::Module;
-use lp_weight::{bound, weight};
+use lp_weight::{bound, bound_fast, weight};
 use std::alloc::Global;
 
-/// Adds the weight and the bound of each declaration.
+/// Adds the weight of each declaration, its bound, and its bound without rechecks of sorts.
 pub(crate) fn add_weights(alloc: Global, module: &Module, came: &mut Vec<u8>) -> Result<(), Wrong>
     requires { IsHeld module.now }
 {
@@ -23,16 +23,29 @@ fn add_weight(alloc: Global, module: &Module, i: usize, came: &mut Vec<u8>) -> R
     requires held { IsHeld module.now }
     requires i { i < length module.now.decls }
 {
-    match (weight(alloc, module, i), bound(alloc, module, i)) {
-        (Ok(weighs), Ok(takes)) => add_numbers(alloc, came, weighs, takes),
+    let numbers = (
+        weight(alloc, module, i),
+        bound(alloc, module, i),
+        bound_fast(alloc, module, i),
+    );
+    match numbers {
+        (Ok(weighs), Ok(takes), Ok(fast)) => add_numbers(alloc, came, weighs, takes, fast),
         _ => Err(Wrong("out of memory")),
     }
 }
 
-// Adds a weight and a bound.
-fn add_numbers(alloc: Global, came: &mut Vec<u8>, weighs: u128, takes: u128) -> Result<(), Wrong> {
+// Adds a weight and two bounds.
+fn add_numbers(
+    alloc: Global,
+    came: &mut Vec<u8>,
+    weighs: u128,
+    takes: u128,
+    fast: u128,
+) -> Result<(), Wrong> {
     add_comma(came)?;
     add_number(alloc, came, weighs)?;
     came.push(b' ')?;
-    add_number(alloc, came, takes)
+    add_number(alloc, came, takes)?;
+    came.push(b' ')?;
+    add_number(alloc, came, fast)
 }

@@ -33,6 +33,8 @@ mod readings;
 #[cfg(test)]
 mod refusals;
 #[cfg(test)]
+mod short_names;
+#[cfg(test)]
 mod verdicts;
 #[cfg(test)]
 mod weights;

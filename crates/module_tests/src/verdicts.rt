@@ -19,6 +19,26 @@ comes = "Accepted"
 budgets = [10_764_582_912, 3]
 comes = "OverBudget 1"
 
+# The budgets are 64 times the squares of the weights.
+[[test.case]]
+by = "fast"
+budgets = [19_501_056, 12_390_400]
+comes = "Accepted"
+
+[[test]]
+name = "a_check_without_rechecks_has_these_prices"
+by = "fast"
+case = [
+    { texts.after = "x : type.", budgets = [1], comes = "Accepted" },
+    { texts.after = "x : type.", budgets = [0], comes = "OverBudget 0" },
+    { texts.after = "x : term bool.", budgets = [4], comes = "Accepted" },
+    { texts.after = "x : term bool.", budgets = [3], comes = "OverBudget 0" },
+    { texts.after = "def y : type := bool.", budgets = [3], comes = "Accepted" },
+    { texts.after = "def y : type := bool.", budgets = [2], comes = "OverBudget 0" },
+    { texts.after = "x : proof bool.", budgets = [5], comes = "IllTyped 0" },
+    { texts.after = "x : proof bool.", budgets = [4], comes = "OverBudget 0" },
+]
+
 [[test]]
 name = "a_theorem_does_not_unfold_and_a_definition_does"
 budgets = [10_000, 10_000]

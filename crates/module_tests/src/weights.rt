@@ -15,7 +15,7 @@ thm trans : v0 : type -> v1 : term v0 -> v2 : term v0 -> v3 : term v0 -> v4 : pr
 thm T0 : v0 : term bool -> proof (eq bool v0 v0) := v0 : term bool => refl bool v0.
 thm E0 : v0 : term bool -> proof (eq bool v0 v0) := v0 : term bool => T0 v0.
 '''
-comes = "552 10764582912, 440 5451776000, 59 13144256, 55 10648000"
+comes = "552 10764582912 19501056, 440 5451776000 12390400, 59 13144256 222784, 55 10648000 193600"
 
 # Each has its size, and the spread of each symbol in it: bool 1, term bool 2, arr a b 3, proof p 4, eq bool x y 12, and a declared one the
 # size of its type.
@@ -32,7 +32,7 @@ q : proof (eq bool c c).
 e : term (arr bool bool).
 def k : term (arr bool bool) := x : term bool => e x.
 '''
-comes = "2 512, 12 110592, 6 13824, 10 64000, 32 2097152, 14 175616, 31 1906624"
+comes = "2 512 256, 12 110592 9216, 6 13824 2304, 10 64000 6400, 32 2097152 65536, 14 175616 12544, 31 1906624 61504"
 
 # A chain of definitions, each of the one before it twice, weighs no more than its text.
 [[test]]
@@ -48,7 +48,7 @@ def d16 : type := arr d15 d15. def d17 : type := arr d16 d16. def d18 : type := 
 def d20 : type := arr d19 d19. def d21 : type := arr d20 d20. def d22 : type := arr d21 d21. def d23 : type := arr d22 d22. \
 def d24 : type := arr d23 d23. def d25 : type := arr d24 d24. def d26 : type := arr d25 d25. def d27 : type := arr d26 d26. \
 def d28 : type := arr d27 d27. def d29 : type := arr d28 d28. def d30 : type := arr d29 d29. """
-comes = ["4 4096", { times = 30, part = ", 12 110592" }]
+comes = ["4 4096 1024", { times = 30, part = ", 12 110592 9216" }]
 "#;
 
 #[test]
