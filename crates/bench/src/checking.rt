@@ -78,8 +78,12 @@ fn answer(alloc: Global, base: &mut Module, i: usize, budget: &mut Budget) -> Re
     check_decl(alloc, base, i, budget)
 }
 
-// How many declarations are accepted under the budget.
-fn checked(alloc: Global, base: &mut Module, budget: &mut Budget) -> Result<usize, Memory>
+/// How many declarations are accepted under the budget.
+pub(crate) fn checked(
+    alloc: Global,
+    base: &mut Module,
+    budget: &mut Budget,
+) -> Result<usize, Memory>
     requires held { IsHeld base.old }
     requires is_module { IsModule (declarations_of base.old) }
 {

@@ -9,10 +9,12 @@
 //! | `dk_read` | `make`, `read`, `write`, `run`, `open` or `deep` | `reading` |
 //! | `dk_write` | how many definitions | `writing` |
 //! | `lp_kernel` | `make`, `read` or `check` | `checking` |
+//! | `lp_kernel`, with a file's name in place of COUNT | `read`, `check`, `fast` or `steps` | `modules` |
 //! | `translate_term` | `make` or `tm` | `translating` |
 #![tactic(auto)]
 
 mod checking;
+mod modules;
 mod proving;
 mod reading;
 mod terms;
@@ -36,12 +38,20 @@ fn timed(rt: &HostRuntime, name: &str, call: &str, count: u32) -> io::Result<()>
     }
 }
 
+// Runs a call of this crate on a file.
+fn timed_on(rt: &HostRuntime, name: &str, call: &str, file: &str) -> io::Result<()> {
+    match name {
+        "lp_kernel" => modules::timed(rt, call, file),
+        _ => rt.println("COUNT is a number below 2^32"),
+    }
+}
+
 // The same of words.
 fn timed_by(rt: &HostRuntime, words: &[String]) -> io::Result<()> {
     match words {
         [name, call, count] => match count.parse::<u32>() {
             Ok(count) => timed(rt, name, call, count),
-            Err(_) => rt.println("COUNT is a number below 2^32"),
+            Err(_) => timed_on(rt, name, call, count),
         },
         _ => rt.println("use: bench CRATE CALL COUNT .."),
     }
