@@ -26,7 +26,7 @@ use Rattle.dk_read.specs.declared.terms.Head.{Head}
 use Rattle.dk_read.specs.Names.{Named, name_at, looked, bound, symbol_meaning, first_meaning, Puts}
 use Rattle.dk_read.specs.Names as naming
 use Rattle.dk_read.specs.States.{frame_in, frames_in, IsBinding, IsFrameKnown, AreFramesKnown, AreAtoms, IsHeadKnown, IsPlain, IsSoundIn, Binds, bound_frame}
-use Rattle.holide_sig.proofs.Positions.{first, position-first, first-append-Some, first-append-None}
+use Rattle.name_table.specs.Positions.{first, position-first, first-append-Some, first-append-None}
 use Rattle.dk_read.proofs.Named.{bytes_eq-refl, bytes_eq-symm}
 use Rattle.dk_read.proofs.Places.{not_any}
 use Rattle.dk_read.proofs.Grown.{frames_in-Keeps, AreFramesKnown-Keeps, IsHeadKnown-Keeps, IsBinding-Keeps}

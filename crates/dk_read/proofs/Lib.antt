@@ -1,5 +1,4 @@
 pub mod Named
-pub mod Packing
 pub mod Places
 pub mod Grown
 pub mod Meanings

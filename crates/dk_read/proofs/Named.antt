@@ -1,13 +1,14 @@
 -- Names by number: what stays where one is added, and where one gets another meaning.
-use Rattle.std.proofs.Common.{◌≡◌, ℕ, zero, suc, ◌<◌, Bool, true, false, refl, sym, ap, subst, ◌∙◌, List, [], ◌∷◌, ◌++◌, length, None, Some, slice_get, length-append, arith}
-use Rattle.std.specs.Prelude.{not, ◌||◌, if◌then◌else◌, slice_set}
-use Rattle.std.specs.List.{list_any, position_or_len}
+use Rattle.std.proofs.Common.{◌≡◌, ℕ, zero, suc, ◌<◌, ◌≤◌, Bool, true, false, refl, sym, ap, subst, ◌∙◌, List, [], ◌∷◌, ◌++◌, length, get_or, Some, slice_get, length-append, arith, ⊎_elim}
+use Rattle.std.specs.Prelude.{◌||◌, if◌then◌else◌, slice_set}
+use Rattle.std.specs.List.{list_any}
 use Rattle.std.specs.Str.{bytes_eq}
 use Rattle.std.specs.Cmp.Lexicographic.{same_text}
+use Rattle.std.proofs.Math.Path.{ap₂}
 use Rattle.std.proofs.lemmas.Cmp.{nat_list_eq_equiv}
-use Rattle.std.proofs.lemmas.Grind.{common_steps}
 use Rattle.std.proofs.lemmas.Option.{same_Some, slice_get_within}
-use Rattle.indexmap.specs.IndexSet.{insert_key}
+use Rattle.name_table.specs.Places.{with_name}
+use Rattle.name_table.specs.NameLaws.{push_at}
 use Rattle.dk_read.specs.declared.terms.Meaning.{Meaning}
 use Rattle.dk_read.specs.declared.terms.Meaning.TheVariants as meaning
 use Rattle.dk_read.specs.Names.{Named, names_of, name_at, looked, is_named, AreDistinct, AreNames, Keeps, Puts}
@@ -83,25 +84,12 @@ name_at-key (y ∷ xs) [] n x h e = absurd (omega (arith, h))
 name_at-key (y ∷ xs) (m ∷ ms) zero x h e = same_Some y x e
 name_at-key (y ∷ xs) (m ∷ ms) (suc n) x h e = name_at-key xs ms n x (omega (arith, h)) e
 
--- a number that no key has, has no name
-pub name_at-none : (xs : List (List ℕ)) (ms : List Meaning) (n : ℕ) → slice_get xs n ≡ None → [] ≡ name_at (names_of xs ms) n
-name_at-none [] ms n e = refl
-name_at-none (x ∷ xs) [] n e = refl
-name_at-none (x ∷ xs) (m ∷ ms) zero e = absurd (cc)
-name_at-none (x ∷ xs) (m ∷ ms) (suc n) e = name_at-none xs ms n e
-
--- a name that is put into a set of names, which has it or lacks it
-pub insert_key-old : (xs : List (List ℕ)) (x : List ℕ) → list_any (bytes_eq x) xs ≡ true → insert_key bytes_eq xs x ≡ xs
-insert_key-old xs x h = ap (λ b. if b then xs else xs ++ x ∷ []) h
-
-pub insert_key-new : (xs : List (List ℕ)) (x : List ℕ) → list_any (bytes_eq x) xs ≡ false → insert_key bytes_eq xs x ≡ xs ++ x ∷ []
-insert_key-new xs x h = ap (λ b. if b then xs else xs ++ x ∷ []) h
-
-pub position_or_len-new : (xs : List (List ℕ)) (x : List ℕ) → list_any (bytes_eq x) xs ≡ false → position_or_len (bytes_eq x) xs ≡ length xs
-position_or_len-new [] x h = refl
-position_or_len-new (y ∷ xs) x h =
-    let t = neither (bytes_eq x y) (list_any (bytes_eq x) xs) h in
-    grind (arith, common_steps, t.0, position_or_len-new xs x t.1)
+-- the name of a number is that of the table
+pub name_at-names_of : (xs : List (List ℕ)) (ms : List Meaning) (n : ℕ) → length ms ≡ length xs → name_at (names_of xs ms) n ≡ get_or xs n []
+name_at-names_of [] ms n h = refl
+name_at-names_of (x ∷ xs) [] n h = absurd (omega (arith, h))
+name_at-names_of (x ∷ xs) (m ∷ ms) zero h = refl
+name_at-names_of (x ∷ xs) (m ∷ ms) (suc n) h = name_at-names_of xs ms n (omega (arith, h))
 
 pub AreNames-push : (xs : List (List ℕ)) (ms : List Meaning) (x : List ℕ) (m : Meaning) → AreNames xs ms → list_any (bytes_eq x) xs ≡ false → AreNames (xs ++ x ∷ []) (ms ++ m ∷ [])
 AreNames-push xs ms x m n h = record {
@@ -109,20 +97,77 @@ AreNames-push xs ms x m n h = record {
   distinct = subst AreDistinct (sym (names_of-push xs ms x m n.each)) (AreDistinct-push (names_of xs ms) (x, m) n.distinct (is_named-names_of xs ms x n.each ∙ h));
 }
 
--- a set of names into which a new one was put: the set lacked it, and it goes last
+or_true : (b : Bool) → (b || true) ≡ true
+or_true true = refl
+or_true false = refl
+
+-- a name that stands in the table is found there
+any-at : (xs : List (List ℕ)) (n : ℕ) (x : List ℕ) → slice_get xs n ≡ Some x → list_any (bytes_eq x) xs ≡ true
+any-at [] n x e = absurd (cc)
+any-at (y ∷ xs) zero x e = ap (λ b. b || list_any (bytes_eq x) xs) (ap (bytes_eq x) (same_Some y x e) ∙ bytes_eq-refl x)
+any-at (y ∷ xs) (suc n) x e = ap (λ b. bytes_eq x y || b) (any-at xs n x e) ∙ or_true (bytes_eq x y)
+
+any-turned : (xs : List (List ℕ)) (x : List ℕ) → list_any (λ y. bytes_eq y x) xs ≡ list_any (bytes_eq x) xs
+any-turned [] x = refl
+any-turned (y ∷ xs) x = ap (λ b. b || list_any (λ z. bytes_eq z x) xs) (bytes_eq-symm y x) ∙ ap (λ b. bytes_eq x y || b) (any-turned xs x)
+
+-- a table in which a name has the number n: it has the name already, where n is below the length, and else the name is new and goes last
 pub record GoesLast (xs new : List (List ℕ)) (x : List ℕ) (n : ℕ) : Type 0 where
   pub lacks : list_any (bytes_eq x) xs ≡ false
   pub added : new ≡ xs ++ x ∷ []
   pub last : n ≡ length xs
 
-not-true : (b : Bool) → true ≡ not b → b ≡ false
-not-true true h = absurd (cc)
-not-true false h = refl
+module _ (xs new : List (List ℕ)) (x : List ℕ) (n : ℕ) (at : slice_get new n ≡ Some x) (made : new ≡ with_name xs x) where
+  with_name-by : (b : Bool) → list_any (bytes_eq x) xs ≡ b → new ≡ (if b then xs else xs ++ x ∷ [])
+  with_name-by b e = made ∙ ap (λ c. if c then xs else xs ++ x ∷ []) (any-turned xs x ∙ e)
 
-pub goes_last : (xs new : List (List ℕ)) (x : List ℕ) (n : ℕ) → true ≡ not (list_any (bytes_eq x) xs) → new ≡ insert_key bytes_eq xs x → n ≡ position_or_len (bytes_eq x) xs → GoesLast xs new x n
-goes_last xs new x n h k i =
-    let lacks = not-true (list_any (bytes_eq x) xs) h in
-    record { lacks = lacks; added = k ∙ insert_key-new xs x lacks; last = i ∙ position_or_len-new xs x lacks }
+  pub goes_last : length xs ≤ n → GoesLast xs new x n
+  goes_last h = go (list_any (bytes_eq x) xs) refl
+    where
+      go : (b : Bool) → list_any (bytes_eq x) xs ≡ b → GoesLast xs new x n
+      go true e = absurd (let within = slice_get_within xs n x (ap (λ l. slice_get l n) (sym (with_name-by true e)) ∙ at) in omega (arith, h, within))
+      go false e =
+          let added = with_name-by false e in
+          let within = slice_get_within new n x at in
+          record { lacks = e; added = added; last = omega (arith, h, within, ap length added, length-append xs (x ∷ [])) }
+
+  pub stays_same : n < length xs → new ≡ xs
+  stays_same h = go (list_any (bytes_eq x) xs) refl
+    where
+      go : (b : Bool) → list_any (bytes_eq x) xs ≡ b → new ≡ xs
+      go true e = with_name-by true e
+      go false e =
+          ⊎_elim
+          (λ f. absurd (let clash = sym (any-at xs n x f) ∙ e in cc))
+          (λ f. absurd (let last = f.0 in omega (arith, h, last)))
+          (push_at xs x x n (ap (λ l. slice_get l n) (sym (with_name-by false e)) ∙ at))
+
+-- the names with their meanings, where the table has the name x at n and each name a meaning
+module _ (xs new : List (List ℕ)) (ms more : List Meaning) (x : List ℕ) (n : ℕ) (names : AreNames xs ms) (at : slice_get new n ≡ Some x) (made : new ≡ with_name xs x) where
+  -- the name was there
+  pub names_of-old : n < length ms → more ≡ ms → names_of new more ≡ names_of xs ms
+  names_of-old h e = ap₂ names_of (stays_same xs new x n at made (omega (arith, h, names.each))) e
+
+  pub AreNames-old : n < length ms → more ≡ ms → AreNames new more
+  AreNames-old h e = subst (AreNames new) (sym e) (subst (λ l. AreNames l ms) (sym (stays_same xs new x n at made (omega (arith, h, names.each)))) names)
+
+  -- it was not
+  lacked : length ms ≤ n → GoesLast xs new x n
+  lacked h = goes_last xs new x n at made (omega (arith, h, names.each))
+
+  pub names_of-new : length ms ≤ n → more ≡ ms ++ meaning.Nothing ∷ [] → names_of new more ≡ names_of xs ms ++ (x, meaning.Nothing) ∷ []
+  names_of-new h e = ap₂ names_of (lacked h).added e ∙ names_of-push xs ms x meaning.Nothing names.each
+
+  pub AreNames-new : length ms ≤ n → more ≡ ms ++ meaning.Nothing ∷ [] → AreNames new more
+  AreNames-new h e =
+      subst (AreNames new) (sym e) (subst (λ l. AreNames l (ms ++ meaning.Nothing ∷ [])) (sym (lacked h).added) (AreNames-push xs ms x meaning.Nothing names (lacked h).lacks))
+
+  -- and either way it has the number n
+  pub number-known : AreNames new more → n < length (names_of new more)
+  number-known after = let within = slice_get_within new n x at in omega (arith, within, length-names_of new more after.each)
+
+  pub number-named : AreNames new more → name_at (names_of new more) n ≡ x
+  number-named after = name_at-key new more n x after.each at
 
 -- a number of a name is one of a meaning
 pub within_meanings : (xs : List (List ℕ)) (ms : List Meaning) (now : List Named) (n : ℕ) → names_of xs ms ≡ now → n < length now → length ms ≡ length xs → n < length ms

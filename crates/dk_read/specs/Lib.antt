@@ -1,5 +1,3 @@
-pub mod Spellings
-pub mod SpellingViews
 pub mod Names
 pub mod States
 pub mod ProgressCode

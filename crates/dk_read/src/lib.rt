@@ -14,7 +14,6 @@ mod faults;
 mod names;
 mod parser;
 mod reader;
-mod spelling;
 mod stage;
 mod terms;
 mod text;

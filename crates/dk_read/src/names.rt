@@ -4,18 +4,16 @@ ghost use Rattle.std.specs.Str.{bytes_eq};
 ghost use Rattle.dk_read.specs.declared.terms.Meaning.TheVariants as meaning;
 ghost use Rattle.dk_read.specs.Names.{name_at, looked, Keeps, Puts};
 
-use crate::spelling::Spelling;
 use crate::terms::Meaning;
 use bridge_base::Memory;
-use indexmap::IndexSet;
+use name_table::NameTable;
 use std::alloc::Global;
 use std::marker::Model;
 
 /// Names by number. Each has a meaning; the first is the empty one, of binders without a name.
 #[derive(Drop)]
 pub(crate) struct Names {
-    alloc: Global,
-    spellings: IndexSet<Spelling>,
+    table: NameTable,
     meanings: Vec<Meaning>,
 }
 
@@ -27,9 +25,9 @@ impl Model for Names {
 
     ghost coded = { coded_names };
 
-    ghost view = { λ n. names_of n.spellings.keys n.meanings.items };
+    ghost view = { λ n. names_of n.table n.meanings.items };
 
-    ghost invariant = { λ n. AreNames n.spellings.keys n.meanings.items };
+    ghost invariant = { λ n. AreNames n.table n.meanings.items };
 }
 
 impl Names {
@@ -38,8 +36,7 @@ impl Names {
         ensures { result ≡ [] }
     {
         Names {
-            alloc,
-            spellings: IndexSet::new(alloc),
+            table: NameTable::new(alloc),
             meanings: Vec::new(alloc),
         }
     }
@@ -51,28 +48,20 @@ impl Names {
         ensures keeps { Keeps self.old self.new }
         ensures same { (x : List ℕ) → looked self.new x ≡ looked self.old x }
     {
-        let spelling = Spelling::of(self.alloc, name)?;
-        let (number, is_new) = self.spellings.insert_full(spelling)?;
-        if !is_new {
+        self.meanings.reserve(1)?;
+        let number = self.table.number(name)?;
+        if number < self.meanings.len() {
             return Ok(number);
         }
-        match self.meanings.push(Meaning::Nothing) {
-            Ok(()) => Ok(number),
-            Err(_) => {
-                self.spellings.truncate(number);
-                Err(Memory)
-            }
-        }
+        self.meanings.push_reserved(Meaning::Nothing);
+        Ok(number)
     }
 
     /// The bytes of a name, copied: none for a number that no name has.
     pub(crate) fn copied(&self, number: usize) -> Result<Vec<u8>, Memory>
         ensures { IfOk result (λ bytes. bytes.items ≡ name_at self.now number) }
     {
-        match self.spellings.get_index(number) {
-            Some(spelling) => spelling.copied(self.alloc),
-            None => Ok(Vec::new(self.alloc)),
-        }
+        self.table.copied(number)
     }
 
     /// What a name means.

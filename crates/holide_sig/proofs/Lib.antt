@@ -1,4 +1,3 @@
-pub mod Positions
 pub mod Added
 pub mod Placed
 pub mod Pushed
@@ -6,3 +5,4 @@ pub mod SignatureNodes
 pub mod ShortBodies
 mod ShortSymbols
 mod ShortPlaced
+mod NamedDecls

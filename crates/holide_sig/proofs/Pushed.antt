@@ -11,7 +11,7 @@ use Rattle.lp_spec.specs.ModuleOrder.{MayFollow, AreDeclared, IsModule, is_decla
 use Rattle.holide_sig.specs.declared.decls.Decl.{Decl}
 use Rattle.holide_sig.specs.declared.module.Module.{Module}
 use Rattle.holide_sig.specs.Modules.{declaration_in, declarations_of, IsKnown, IsHeld, AreDeclsKnown}
-use Rattle.holide_sig.proofs.Positions.{position-first, first-append-Some, first-append-None, first-map}
+use Rattle.name_table.specs.Positions.{position-first, first-append-Some, first-append-None, first-map}
 
 -- one more known declaration
 pub AreDeclsKnown-push : (ts : List Tree) (ds : List Decl) (d : Decl) → AreDeclsKnown ts ds → IsKnown ts d → AreDeclsKnown ts (ds ++ d ∷ [])

@@ -7,8 +7,9 @@ use Rattle.lp_term.specs.declared.LpId.{LpId}
 use Rattle.holide_sig.specs.declared.decls.Decl.{Decl}
 use Rattle.holide_sig.specs.ShortIds.{is_id, short_id}
 use Rattle.holide_sig.specs.Places.{short_with, AreShortPlaced, IsShortAt}
-use Rattle.holide_sig.proofs.Positions.{position-first}
-use Rattle.holide_sig.proofs.Placed.{first-none, first-at, push_at, placed_with-old, placed_with-new, placed_with-within}
+use Rattle.name_table.specs.Positions.{position-first}
+use Rattle.name_table.specs.NameLaws.{push_at}
+use Rattle.holide_sig.proofs.Placed.{first-none, first-at, placed_with-old, placed_with-new, placed_with-within}
 
 -- a number that is that one
 is_id-true : (o : Option LpId) (id : LpId) → is_id o id ≡ true → (b : LpId) × (o ≡ Some b) × (b.0 ≡ id.0)

@@ -12,7 +12,7 @@ use Rattle.lp_term.specs.TableLaws.{tree_at-Holds}
 use Rattle.holide_sig.specs.declared.decls.Decl.{Decl}
 use Rattle.holide_sig.specs.Modules.{declaration_in, IsKnown, AreDeclsKnown}
 use Rattle.holide_sig.specs.ShortIds.{is_id, short_id}
-use Rattle.holide_sig.proofs.Positions.{first, position-first}
+use Rattle.name_table.specs.Positions.{first, position-first}
 use Rattle.holide_sig.proofs.ShortBodies.{short_id-tree, short_id-known}
 
 -- a tree is that of a number exactly where the numbers are one

@@ -1,21 +1,8 @@
--- Where a declaration is found by its name.
-use Rattle.std.specs.Prelude.{◌≡◌, true, None, ℕ, ◌+◌, ◌*◌, ◌%◌, ◌^◌, ◌≤◌, nat_eq, if◌then◌else◌, unwrap_or, List, [], ◌∷◌, length, Option, Some, slice_get}
+-- Where a declaration is found by the tree for which its name is short.
+use Rattle.std.specs.Prelude.{◌≡◌, true, None, ℕ, ◌≤◌, nat_eq, if◌then◌else◌, unwrap_or, List, length, Option, Some, slice_get}
 use Rattle.lp_term.specs.declared.LpId.{LpId}
 use Rattle.holide_sig.specs.ShortIds.{is_id, short_id}
 use Rattle.holide_sig.specs.declared.decls.Decl.{Decl}
-
--- the number of bytes behind those that gave this number
-abbrev pub fingerprint_from : ℕ → List ℕ → ℕ
-fingerprint_from n [] = n
-fingerprint_from n (b ∷ bytes) = fingerprint_from ((n * 1099511628211 % 2 ^ 64 + b) % 2 ^ 64) bytes
-
--- a number for a name
-abbrev pub fingerprint : List ℕ → ℕ
-fingerprint name = fingerprint_from 0 name
-
--- the declaration at a place has the name
-abbrev pub IsNamed : List Decl → ℕ → List ℕ → Type 0
-IsNamed decls place name = (d : Decl) × (slice_get decls place ≡ Some d) × (d.name ≡ name)
 
 -- the places of numbers, once the number n has one
 abbrev pub placed_with : (ℕ → Option ℕ) → ℕ → ℕ → ℕ → Option ℕ
@@ -34,8 +21,3 @@ IsShortAt decls place id = (d : Decl) × (slice_get decls place ≡ Some d) × (
 abbrev pub short_with : (ℕ → Option ℕ) → Option LpId → ℕ → ℕ → Option ℕ
 short_with placed None place m = placed m
 short_with placed (Some id) place m = placed_with placed id.0 place m
-
--- each name's number has a place, at most that of its declaration
-pub record ArePlaced (decls : List Decl) (placed : ℕ → Option ℕ) : Type 0 where
-  pub each : (n : ℕ) (d : Decl) → slice_get decls n ≡ Some d → (p : ℕ) × (placed (fingerprint d.name) ≡ Some p) × (p ≤ n)
-  pub within : (m p : ℕ) → placed m ≡ Some p → p ≤ length decls

@@ -6,7 +6,7 @@ ghost use Rattle.std.specs.Str.{bytes_eq};
 ghost use Rattle.lp_spec.specs.ShortNames.{is_short_name};
 ghost use Rattle.indexmap.specs.IndexMap.{get};
 ghost use Rattle.holide_sig.specs.ShortIds.{is_id, short_id};
-ghost use Rattle.holide_sig.specs.Places.{fingerprint as fingerprint_of, placed_with, short_with, IsNamed, IsShortAt};
+ghost use Rattle.holide_sig.specs.Places.{placed_with, short_with, IsShortAt};
 
 use crate::ident::Ident;
 use crate::shorts::is_short;
@@ -14,6 +14,7 @@ use bridge_base::Memory;
 use indexmap::IndexMap;
 use lp_spec::Form;
 use lp_term::LpId;
+use name_table::NameTable;
 use std::alloc::Global;
 use std::marker::Model;
 
@@ -31,24 +32,25 @@ pub struct Decl {
 #[derive(Drop)]
 pub struct Decls {
     decls: Vec<Decl>,
-    // By the fingerprint of a name, the place of the first declaration that has it.
-    places: IndexMap<u64, usize>,
-    // By the number of a tree, the place of the first declaration whose name is short for it.
+    // Their names, in order: the number of a name is the place of its declaration.
+    names: NameTable,
+    // By the number of a tree, the place of the first declaration whose name is short for it. Trees are numbered from 0 as they come, so numbers
+    // that meet in a table can't be had without the trees between them: for k that meet among k places, about k * k trees have to be made.
     shorts: IndexMap<usize, usize>,
 }
 
 impl Model for Decls {
-    ghost use Rattle.std.specs.Prelude.{List, nat_eq};
+    ghost use Rattle.std.specs.Prelude.{◌≡◌, List, nat_eq, map};
     ghost use Rattle.holide_sig.specs.declared.decls.Decl.{Decl as ADecl};
     ghost use Rattle.indexmap.specs.IndexMap.{get};
 
     ghost Value = { List ADecl };
 
-    ghost use Rattle.holide_sig.specs.Places.{ArePlaced, AreShortPlaced};
+    ghost use Rattle.holide_sig.specs.Places.{AreShortPlaced};
 
     ghost view = { λ d. d.decls.items };
 
-    ghost invariant = { λ d. ArePlaced d.decls.items (get nat_eq d.places) × AreShortPlaced d.decls.items (get nat_eq d.shorts) };
+    ghost invariant = { λ d. (d.names ≡ map (λ decl. decl.name) d.decls.items) × AreShortPlaced d.decls.items (get nat_eq d.shorts) };
 }
 
 impl Decls {
@@ -58,7 +60,7 @@ impl Decls {
     {
         Decls {
             decls: Vec::new(alloc),
-            places: IndexMap::new(alloc),
+            names: NameTable::new(alloc),
             shorts: IndexMap::new(alloc),
         }
     }
@@ -91,13 +93,7 @@ impl Decls {
         ensures small { IfSome result (λ place. place < 2 ^ 63) }
     {
         let _count = self.len();
-        let Some(place) = self.places.get(&fingerprint(name)) else {
-            return None;
-        };
-        if is_named(&self.decls, *place, name) {
-            return Some(*place);
-        }
-        position_of(&self.decls, name)
+        self.names.find(name)
     }
 
     /// The place of the first declaration whose name is short for the tree of that number.
@@ -121,50 +117,13 @@ impl Decls {
         ensures ok { OnOk result (self.new ≡ self.old ++ decl ∷ []) }
         ensures unchanged { OnErr result (self.new ≡ self.old) }
     {
-        let number = fingerprint(decl.name.as_bytes());
         let place = self.decls.len();
-        note(&mut self.places, number, place)?;
+        self.decls.reserve(1)?;
         note_short(&mut self.shorts, short_tree(&decl), place)?;
-        self.decls.push(decl)?;
+        self.names.number(decl.name.as_bytes())?;
+        self.decls.push_reserved(decl);
         Ok(())
     }
-}
-
-// What a fingerprint is multiplied by for each byte: the prime of the hash function FNV-1 for 64 bits.
-const PRIME: u64 = 1_099_511_628_211;
-
-// A number for a name. Two names may have one.
-fn fingerprint(name: &[u8]) -> u64
-    ensures { result ≡ fingerprint_of name.now }
-{
-    let mut number: u64 = 0;
-    let mut left = name;
-    while let [byte, more @ ..] = left {
-        number = number.wrapping_mul(PRIME).wrapping_add(u64::from(*byte));
-        left = more;
-    }
-    number
-}
-
-// Whether the declaration at a place has the name.
-fn is_named(decls: &[Decl], place: usize, name: &[u8]) -> bool
-    ensures { OnTrue result (IsNamed decls.now place name.now) }
-{
-    match decls.get(place) {
-        Some(decl) => decl.name.as_bytes() == name,
-        None => false,
-    }
-}
-
-// The place of the declaration of that name, where its fingerprint is another's too.
-fn position_of(decls: &[Decl], name: &[u8]) -> Option<usize>
-    ensures { result ≡ position (λ d. bytes_eq d.name name.now) decls.now }
-{
-    decls.iter().position(
-        |decl: &Decl| -> bool
-            ensures { result ≡ bytes_eq decl.now.name name.entry.now }
-        { decl.name.as_bytes() == name },
-    )
 }
 
 // The place of the first declaration whose name is short for the tree of that number.
@@ -226,17 +185,6 @@ fn is_short_of(decl: &Decl, id: LpId) -> bool
         Some(body) => body == id,
         None => false,
     }
-}
-
-// Notes a place for a fingerprint, unless it has one.
-fn note(places: &mut IndexMap<u64, usize>, number: u64, place: usize) -> Result<(), Memory>
-    ensures noted { OnOk result ((m : ℕ) → get nat_eq places.new m ≡ placed_with (get nat_eq places.old) number place m) }
-    ensures unchanged { OnErr result ((m : ℕ) → get nat_eq places.new m ≡ get nat_eq places.old m) }
-{
-    if places.get(&number).is_none() {
-        places.insert(number, place)?;
-    }
-    Ok(())
 }
 
 // The tree for which the name of a declaration is short.

@@ -7,11 +7,11 @@ use Rattle.dk_read.proofs.Named.{names_of-set, within_meanings, Keeps-put, Puts-
 use Rattle.dk_read.proofs.names.Names.put.Goals as goal
 
 pub index_mut-requires : goal.index_mut-requires
-index_mut-requires c = omega (arith, c.self.inside.meanings.ok, within_meanings c.self.inside.spellings.keys c.self.inside.meanings.items c.args.self.now c.args.number c.self.view_is c.requires c.self.invariant.each)
+index_mut-requires c = omega (arith, c.self.inside.meanings.ok, within_meanings c.self.inside.table c.self.inside.meanings.items c.args.self.now c.args.number c.self.view_is c.requires c.self.invariant.each)
 
 pub invariant_of-self : goal.invariant_of-self
 invariant_of-self c =
-    let xs = c.self.inside.spellings.keys in
+    let xs = c.self.inside.table in
     let ms = c.self.inside.meanings.items in
     let w = c.replace.new.dest in
     record {
@@ -21,7 +21,7 @@ invariant_of-self c =
 
 pub returns-clause-old : goal.returns-clause-old
 returns-clause-old c =
-    let xs = c.self.inside.spellings.keys in
+    let xs = c.self.inside.table in
     let ms = c.self.inside.meanings.items in
     let within = within_meanings xs ms c.args.self.now c.args.number c.self.view_is c.requires c.self.invariant.each in
     c.replace.ensures.value
@@ -30,14 +30,14 @@ returns-clause-old c =
 
 pub returns-clause-keeps : goal.returns-clause-keeps
 returns-clause-keeps c =
-    let xs = c.self.inside.spellings.keys in
+    let xs = c.self.inside.table in
     let ms = c.self.inside.meanings.items in
     let w = c.replace.new.dest in
     subst (λ l. Keeps l (names_of xs (slice_set ms c.args.number w))) c.self.view_is (subst (Keeps (names_of xs ms)) (sym (names_of-set xs ms c.args.number w)) (Keeps-put (names_of xs ms) c.args.number w))
 
 pub returns-clause-puts : goal.returns-clause-puts
 returns-clause-puts c =
-    let xs = c.self.inside.spellings.keys in
+    let xs = c.self.inside.table in
     let ms = c.self.inside.meanings.items in
     let w = c.replace.new.dest in
     let within : c.args.number < length (names_of xs ms) = subst (λ l. c.args.number < length l) (sym c.self.view_is) c.requires in

@@ -1,7 +1,7 @@
 use Rattle.std.proofs.Common.{◌≡◌, ℕ, List, ◌++◌}
-use Rattle.dk_read.specs.Spellings.{packed, unpacked}
-use Rattle.dk_read.proofs.Packing.{AreBytes}
-use Rattle.dk_read.proofs.spelling.unpacked.Given as goal
+use Rattle.name_table.specs.Spellings.{packed, unpacked}
+use Rattle.name_table.proofs.Packing.{AreBytes}
+use Rattle.name_table.proofs.spelling.unpacked.Given as goal
 
 -- what is left is the number of the bytes that are to come
 abbrev pub invariant-loop-left : goal.invariant-loop-left

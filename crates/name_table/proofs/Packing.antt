@@ -6,8 +6,8 @@ use Rattle.std.specs.Cmp.Lexicographic.{same_text}
 use Rattle.std.proofs.Math.Path.{ap₂}
 use Rattle.std.proofs.Math.Nat.{mod-lt, pow-le-pow_right}
 use Rattle.std.proofs.lemmas.Nat.{div-mul-add, mod-mul-add}
-use Rattle.dk_read.specs.Spellings.{packed, digits}
-use Rattle.dk_read.proofs.Named.{bytes_eq-refl}
+use Rattle.name_table.specs.Spellings.{packed, digits}
+use Rattle.std.proofs.lemmas.Cmp.{nat_list_eq_equiv}
 
 -- each number is that of a byte
 abbrev pub AreBytes : List ℕ → Type 0
@@ -47,7 +47,7 @@ tells-bytes_eq x y b f g = go (bytes_eq x y) refl b f g
   where
     go : (c : Bool) → bytes_eq x y ≡ c → (b : Bool) → (b ≡ true → x ≡ y) → (x ≡ y → b ≡ true) → b ≡ c
     go true h b f g = g (same_text x y (sym h))
-    go false h true f g = absurd (let e = subst (λ z. bytes_eq x z ≡ true) (f refl) (bytes_eq-refl x) in let w = sym e ∙ h in cc)
+    go false h true f g = absurd (let e = subst (λ z. bytes_eq x z ≡ true) (f refl) (nat_list_eq_equiv.refl x) in let w = sym e ∙ h in cc)
     go false h false f g = refl
 
 -- bytes that are read at each place are bytes

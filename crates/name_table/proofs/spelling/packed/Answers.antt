@@ -1,7 +1,7 @@
 use Rattle.std.proofs.Common.{◌≡◌, ◌<◌, ◌≤◌, ◌+◌, ◌*◌, ◌-◌, ◌^◌, ◌∙◌, [], ◌∷◌, ap, sym, refl, arith, length, get_or, append-nil}
-use Rattle.dk_read.specs.Spellings.{packed, unpacked}
-use Rattle.dk_read.proofs.Packing.{get_or-AreBytes, room, move_last, nothing_left, digits-packed}
-use Rattle.dk_read.proofs.spelling.packed.Goals as goal
+use Rattle.name_table.specs.Spellings.{packed, unpacked}
+use Rattle.name_table.proofs.Packing.{get_or-AreBytes, room, move_last, nothing_left, digits-packed}
+use Rattle.name_table.proofs.spelling.packed.Goals as goal
 
 -- what is known where one more byte is read
 known : (c : goal.After-row_known-1) → (255 * c.loop-left.number + 256 ≤ 2 ^ 120) × (get_or c.loop-left.left.now (length c.loop-left.left.now - 1) 0 < 256)

@@ -1,7 +1,7 @@
 use Rattle.std.proofs.Common.{◌∙◌, ◌++◌, ap, sym, arith}
-use Rattle.dk_read.specs.Spellings.{unpacked}
-use Rattle.dk_read.proofs.Packing.{digits_left, no_digits_left}
-use Rattle.dk_read.proofs.spelling.unpacked.Goals as goal
+use Rattle.name_table.specs.Spellings.{unpacked}
+use Rattle.name_table.proofs.Packing.{digits_left, no_digits_left}
+use Rattle.name_table.proofs.spelling.unpacked.Goals as goal
 
 pub loop-left-preserved : goal.loop-left-preserved
 loop-left-preserved c =

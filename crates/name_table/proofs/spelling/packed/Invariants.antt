@@ -1,6 +1,6 @@
 use Rattle.std.proofs.Common.{◌≡◌, ℕ, List, ◌++◌, length}
-use Rattle.dk_read.specs.Spellings.{packed}
-use Rattle.dk_read.proofs.spelling.packed.Given as goal
+use Rattle.name_table.specs.Spellings.{packed}
+use Rattle.name_table.proofs.spelling.packed.Given as goal
 
 -- the number is that of the bytes behind those that are left
 abbrev pub invariant-loop-left : goal.invariant-loop-left

@@ -1,0 +1,5 @@
+pub mod Spellings
+pub mod SpellingViews
+pub mod Places
+pub mod Positions
+pub mod NameLaws

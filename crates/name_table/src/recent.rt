@@ -1,0 +1,85 @@
+//! Numbers of names that were lately asked for. A number that is noted for a name is a guess: the name that has it may be another, so a guess
+//! is compared with the name that was asked for.
+ghost use Rattle.std.specs.Prelude.{◌≡◌, ◌<◌, length, slice_get, Some, IfSome};
+ghost use Rattle.name_table.specs.Spellings.{unpacked, IsShort};
+
+use crate::spelling::{SHORT, Spelling, packed};
+use std::alloc::Global;
+
+// The fewest places for guesses, once there are any.
+const FEWEST: usize = 1024;
+
+/// The number that is noted for the short name of a number, if that name has it.
+pub(crate) fn guess_short(names: &[Spelling], recent: &[usize], key: u128) -> Option<usize>
+    requires { IsShort key }
+    ensures { IfSome result (λ number. slice_get names.now number ≡ Some (unpacked key)) }
+{
+    let number = *recent.get(place(mix(key), recent.len()))?;
+    if names.get(number)?.is_short(key) {
+        Some(number)
+    } else {
+        None
+    }
+}
+
+/// The number that is noted for a name that is not short, if that name has it.
+pub(crate) fn guess_long(names: &[Spelling], recent: &[usize], name: &[u8]) -> Option<usize>
+    requires { 15 < length name.now }
+    ensures { IfSome result (λ number. slice_get names.now number ≡ Some name.now) }
+{
+    let number = *recent.get(place(mix_long(name), recent.len()))?;
+    if names.get(number)?.is_long(name) {
+        Some(number)
+    } else {
+        None
+    }
+}
+
+/// Notes the number of the short name of a number.
+pub(crate) fn note_short(recent: &mut Vec<usize>, key: u128, number: usize) {
+    let place = place(mix(key), recent.len());
+    note(recent, place, number);
+}
+
+/// Notes the number of a name that is not short.
+pub(crate) fn note_long(recent: &mut Vec<usize>, name: &[u8], number: usize)
+    requires { 15 < length name.now }
+{
+    let place = place(mix_long(name), recent.len());
+    note(recent, place, number);
+}
+
+/// Makes twice as many places as there are names, where there are fewer. Where no memory is left for them, they stay as they are.
+pub(crate) fn widen(recent: &mut Vec<usize>, count: usize) {
+    let len = recent.len();
+    if len < count.saturating_mul(2) {
+        let _ = recent.resize(len.saturating_mul(2).max(FEWEST), 0);
+    }
+}
+
+fn note(recent: &mut Vec<usize>, place: usize, number: usize) {
+    if let Some(noted) = recent.get_mut(place) {
+        *noted = number;
+    }
+}
+
+// The place of a name whose bytes are mixed to this number, among so many places, a power of two.
+fn place(mixed: u64, count: usize) -> usize {
+    mixed as usize & count.wrapping_sub(1)
+}
+
+// A number of which most bits depend on most bytes of a short name.
+fn mix(key: u128) -> u64 {
+    let low = (key % 18_446_744_073_709_551_616) as u64;
+    let high = (key / 18_446_744_073_709_551_616) as u64;
+    let mixed = (low ^ high.rotate_left(29)).wrapping_mul(0x9E37_79B9_7F4A_7C15);
+    mixed ^ (mixed >> 32)
+}
+
+// The same of the last bytes of a name that is not short.
+fn mix_long(name: &[u8]) -> u64
+    requires { 15 < length name.now }
+{
+    let end = &name[name.len() - SHORT..];
+    mix(packed(end))
+}
