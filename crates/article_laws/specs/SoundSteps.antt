@@ -130,9 +130,9 @@ second_word-sound s t word.Axiom g e = obey-sound (in_body Five s) t word.Axiom 
 second_word-sound s t word.Thm g e = obey-sound (in_body Five s) t word.Thm (in_body-sound Five s g) e
 
 step_at-sound : (s t : State) (p : Place) (i : Item) → IsSound s → step_at p s i ≡ Ok t → IsSound t
-step_at-sound s t start (item.Number z) g e = placed s _ t e g refl refl refl refl (tt {0}, g.stack)
-step_at-sound s t start (item.Name n) g e = obey_item-sound (in_body Five s) t (item.Name n) (in_body-sound Five s g) e
-step_at-sound s t start (item.Word w) g e = obey_item-sound (in_body Five s) t (item.Word w) (in_body-sound Five s g) e
+step_at-sound s t (start v) (item.Number z) g e = placed s _ t e g refl refl refl refl (tt {0}, g.stack)
+step_at-sound s t (start v) (item.Name n) g e = obey_item-sound (in_body Five s) t (item.Name n) (in_body-sound Five s g) e
+step_at-sound s t (start v) (item.Word w) g e = obey_item-sound (in_body Five s) t (item.Word w) (in_body-sound Five s g) e
 step_at-sound s t version (item.Number z) g e = obey_item-sound (in_body Five s) t (item.Number z) (in_body-sound Five s g) e
 step_at-sound s t version (item.Name n) g e = obey_item-sound (in_body Five s) t (item.Name n) (in_body-sound Five s g) e
 step_at-sound s t version (item.Word w) g e = second_word-sound s t w g e

@@ -52,22 +52,25 @@ abbrev pub coded_object : Coded Object
 coded_object = record { code = object_code; inj = object_inj }
 
 abbrev place_number : Place → ℕ
-place_number start = 0
-place_number version = 1
-place_number (body Five) = 2
-place_number (body Six) = 3
+place_number version = 0
+place_number (body Five) = 1
+place_number (body Six) = 2
+place_number (start Five) = 3
+place_number (start Six) = 4
 
 abbrev place_of : ℕ → Place
-place_of zero = start
-place_of (suc zero) = version
-place_of (suc (suc zero)) = body Five
-place_of (suc (suc (suc n))) = body Six
+place_of zero = version
+place_of (suc zero) = body Five
+place_of (suc (suc zero)) = body Six
+place_of (suc (suc (suc zero))) = start Five
+place_of (suc (suc (suc (suc n)))) = start Six
 
 pub place_of-number : (p : Place) → place_of (place_number p) ≡ p
-place_of-number start = refl
 place_of-number version = refl
 place_of-number (body Five) = refl
 place_of-number (body Six) = refl
+place_of-number (start Five) = refl
+place_of-number (start Six) = refl
 
 abbrev pub coded_place : Coded Place
 coded_place = code_by ℕ coded_ℕ place_number place_of place_of-number

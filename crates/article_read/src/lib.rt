@@ -1,4 +1,4 @@
-//! Reads the lines of an article, in pieces of any size (OpenTheory article format, version 6).
+//! Reads the lines of an article, in pieces of any size (OpenTheory article format, versions 5 and 6).
 //!
 //! [`Lines`] takes the bytes of an article piece by piece and gives its commands, each with its line.
 //! Whatever the pieces, they are the commands of the whole text, and the first faulty line is that of

@@ -21,7 +21,8 @@ use Rattle.article_spec.specs.declared.commands.Item.TheVariants as item
 use Rattle.article_spec.specs.declared.commands.Word.{Word}
 use Rattle.article_spec.specs.declared.commands.Word.TheVariants as word
 use Rattle.std.specs.FinMap as entries
-use Rattle.article_spec.specs.State.{Object, Objects, State, initial}
+use Rattle.hol_spec.specs.declared.Version.TheVariants.{Five}
+use Rattle.article_spec.specs.State.{Object, Objects, State, initial, start}
 use Rattle.article_spec.specs.Step.{step}
 use Rattle.article_spec.specs.Results.{◌>>=◌}
 use Rattle.article_spec.specs.Run.{machine, obey_article, at_line}
@@ -141,7 +142,7 @@ version_again = refl
 other_version : kinds initial (item.Number (pos 5) ∷ w word.Version ∷ []) ≡ Err (0, VersionPlace)
 other_version = refl
 
-six_alone : obey_article machine initial (lines 1 (item.Number (pos 6) ∷ [])) (End.ended 2) ≡ Ok initial
+six_alone : obey_article machine initial (lines 1 (item.Number (pos 6) ∷ [])) (End.ended 2) ≡ Ok (record initial { place = start Five })
 six_alone = refl
 
 -- what `def` keeps, `ref` gives back

@@ -1,5 +1,5 @@
 -- The conditions of the commands: each is met, or is refused with its kind.
--- Source: the OpenTheory article file format, version 6, "Commands". The limits are this machine's own.
+-- Source: the OpenTheory article file format, versions 5 and 6, "Commands". The limits are this machine's own.
 use Rattle.std.specs.Prelude.{ℕ, List, [], ◌∷◌, Bool, true, false, Option, None, Some, Result, Ok, Err, nat_le, nat_eq}
 use Rattle.std.specs.Option.{ok_or}
 use Rattle.std.specs.List.{list_all}

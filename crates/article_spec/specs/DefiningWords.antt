@@ -1,5 +1,5 @@
 -- The words that define constants and type operators.
--- Source: the OpenTheory article file format, version 6, "Commands".
+-- Source: the OpenTheory article file format, versions 5 and 6, "Commands".
 use Rattle.hol_spec.specs.declared.Version.{Version}
 use Rattle.std.specs.Prelude.{ℕ, List, [], ◌∷◌, map, length, not, ◌||◌, nat_eq, Option, None, Some, Result, Ok}
 use Rattle.std.specs.Option.{ok_or}

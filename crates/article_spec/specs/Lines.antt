@@ -1,5 +1,5 @@
 -- The lines of an article, and the commands that they give.
--- Source: the OpenTheory article file format, version 6, "Format". The limits are this reader's own.
+-- Source: the OpenTheory article file format, versions 5 and 6, "Format". The limits are this reader's own.
 use Rattle.std.specs.Prelude.{ℕ, ◌≡◌, ◌≢◌, ◌+◌, ◌<◌, ◌≤◌, List, [], ◌∷◌, ◌++◌, length}
 use Rattle.std.specs.List.{AllByRecursion}
 use Rattle.bridge_base.specs.declared.faults.Kind.{Kind}

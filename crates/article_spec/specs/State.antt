@@ -1,7 +1,7 @@
 -- The state of the stack machine.
--- Source: the OpenTheory article file format, version 6, "The Virtual Machine".
+-- Source: the OpenTheory article file format, versions 5 and 6, "The Virtual Machine".
 use Rattle.hol_spec.specs.declared.Version.{Version}
-use Rattle.hol_spec.specs.declared.Version.TheVariants.{Five}
+use Rattle.hol_spec.specs.declared.Version.TheVariants.{Five, Six}
 use Rattle.std.specs.Prelude.{ℕ, ℤ, List, []}
 use Rattle.std.specs.Ordering.{int_cmp}
 use Rattle.std.specs.FinMap.{FinMap, empty}
@@ -27,17 +27,24 @@ mutual
     none : Objects
     more : Object → Objects → Objects
 
--- Where an article is: before its first command, after the number 6 as its first, or later, in an article of version 5 or of version 6.
+-- Where an article is: before its first command, after an article of this version; after the number 6 as its first; or later, in an article of
+-- version 5 or of version 6. Before the first article it is as after one of version 6.
 pub data Place : Type 0 where
-  start : Place
+  start : Version → Place
   version : Place
   body : Version → Place
 
 -- The version of an article so far.
 abbrev pub version_at : Place → Version
-version_at start = Five
+version_at (start v) = Five
 version_at version = Five
 version_at (body v) = v
+
+-- The version of the last article that has begun, and 6 where none has.
+abbrev pub last_version : Place → Version
+last_version (start v) = v
+last_version version = Five
+last_version (body v) = v
 
 pub record State : Type 0 where
   -- of the article: the objects from the top, what the numbers stand for, and the place
@@ -51,4 +58,4 @@ pub record State : Type 0 where
   pub pool : List ℕ
 
 abbrev pub initial : State
-initial = record { stack = []; dictionary = empty; place = start; made = []; assumptions = []; exports = []; pool = [] }
+initial = record { stack = []; dictionary = empty; place = start Six; made = []; assumptions = []; exports = []; pool = [] }

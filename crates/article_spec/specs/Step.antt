@@ -1,5 +1,5 @@
 -- What one command of the stack machine does: it gives the next state, or is refused. Its operands and conditions are judged in the order in which they stand.
--- Source: the OpenTheory article file format, version 6, "Commands".
+-- Source: the OpenTheory article file format, versions 5 and 6, "Commands".
 use Rattle.hol_spec.specs.declared.Version.{Version}
 use Rattle.hol_spec.specs.declared.Version.TheVariants.{Five, Six}
 use Rattle.std.specs.Prelude.{pos, [], ◌∷◌, drop, if◌then◌else◌, Result, Ok, Err}
@@ -12,7 +12,7 @@ use Rattle.article_spec.specs.declared.commands.Item.{Item}
 use Rattle.article_spec.specs.declared.commands.Item.TheVariants as item
 use Rattle.article_spec.specs.declared.commands.Word.{Word}
 use Rattle.article_spec.specs.declared.commands.Word.TheVariants as word
-use Rattle.article_spec.specs.State.{number, name, Place, start, version, body, State}
+use Rattle.article_spec.specs.State.{number, name, Place, start, version, body, State, version_at}
 use Rattle.article_spec.specs.Changes.{with_stack}
 use Rattle.article_spec.specs.Building.{nil, cons, hd_tl, type_op, var_type, op_type, const, const_term, var, var_term, app_term, abs_term, def, ref, remove, drop_object}
 use Rattle.article_spec.specs.Inference.{refl_word, assume, eq_mp, abs_thm, app_thm, deduct_antisym, beta_conv, sym_word, trans_word, prove_hyp, subst_word}
@@ -72,9 +72,9 @@ second_word s w = obey (in_body Five s) w
 
 -- A command at a place. An article is of version 6 where its first two are the number 6 and `version`.
 abbrev pub step_at : Place → State → Item → Result State Kind
-step_at start s (item.Number z) = Ok (record s { stack = number z ∷ s.stack; place = if int_eq z (pos 6) then version else body Five })
-step_at start s (item.Name n) = obey_item (in_body Five s) (item.Name n)
-step_at start s (item.Word w) = obey_item (in_body Five s) (item.Word w)
+step_at (start v) s (item.Number z) = Ok (record s { stack = number z ∷ s.stack; place = if int_eq z (pos 6) then version else body Five })
+step_at (start v) s (item.Name n) = obey_item (in_body Five s) (item.Name n)
+step_at (start v) s (item.Word w) = obey_item (in_body Five s) (item.Word w)
 step_at version s (item.Number z) = obey_item (in_body Five s) (item.Number z)
 step_at version s (item.Name n) = obey_item (in_body Five s) (item.Name n)
 step_at version s (item.Word w) = second_word s w
@@ -86,4 +86,4 @@ step s command = step_at s.place s command.item
 
 -- The end of an article. The next one begins with an empty stack and an empty dictionary, and has all exports in its pool.
 abbrev pub finish : State → Result State Kind
-finish s = Ok (record s { stack = []; dictionary = entries.empty; place = start; pool = s.exports })
+finish s = Ok (record s { stack = []; dictionary = entries.empty; place = start (version_at s.place); pool = s.exports })

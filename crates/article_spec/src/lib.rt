@@ -1,4 +1,4 @@
-//! What an article says and does, as definitions (OpenTheory article format, version 6): its lines and
+//! What an article says and does, as definitions (OpenTheory article format, versions 5 and 6): its lines and
 //! their commands, the stack machine that obeys them, and a run over a list of articles.
 //!
 //! The crate has the types of commands and no other code, and no law. Its `specs/` hold the definitions that the contracts of

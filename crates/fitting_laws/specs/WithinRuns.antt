@@ -101,9 +101,9 @@ second_word-within s t word.Axiom g e = obey-within (in_body Five s) t word.Axio
 second_word-within s t word.Thm g e = obey-within (in_body Five s) t word.Thm g e
 
 step_at-within : (s t : State) (p : Place) (i : Item) → AreWithin s.made → step_at p s i ≡ Ok t → AreWithin t.made
-step_at-within s t start (item.Number z) g e = answers _ t e g
-step_at-within s t start (item.Name n) g e = obey_item-within (in_body Five s) t (item.Name n) g e
-step_at-within s t start (item.Word w) g e = obey_item-within (in_body Five s) t (item.Word w) g e
+step_at-within s t (start v) (item.Number z) g e = answers _ t e g
+step_at-within s t (start v) (item.Name n) g e = obey_item-within (in_body Five s) t (item.Name n) g e
+step_at-within s t (start v) (item.Word w) g e = obey_item-within (in_body Five s) t (item.Word w) g e
 step_at-within s t version (item.Number z) g e = obey_item-within (in_body Five s) t (item.Number z) g e
 step_at-within s t version (item.Name n) g e = obey_item-within (in_body Five s) t (item.Name n) g e
 step_at-within s t version (item.Word w) g e = second_word-within s t w g e

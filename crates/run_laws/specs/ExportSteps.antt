@@ -325,9 +325,9 @@ second_word-gives s t word.Axiom h e = obey-gives (in_body Five s) t word.Axiom 
 second_word-gives s t word.Thm h e = obey-gives (in_body Five s) t word.Thm h e
 
 step_at-gives : (s t : State) (p : Place) (i : Item) → HasRestated s → step_at p s i ≡ Ok t → HasRestated t
-step_at-gives s t start (item.Number z) h e = extended s t h (Keeps-same s _ refl refl t e)
-step_at-gives s t start (item.Name n) h e = obey_item-gives (in_body Five s) t (item.Name n) h e
-step_at-gives s t start (item.Word w) h e = obey_item-gives (in_body Five s) t (item.Word w) h e
+step_at-gives s t (start v) (item.Number z) h e = extended s t h (Keeps-same s _ refl refl t e)
+step_at-gives s t (start v) (item.Name n) h e = obey_item-gives (in_body Five s) t (item.Name n) h e
+step_at-gives s t (start v) (item.Word w) h e = obey_item-gives (in_body Five s) t (item.Word w) h e
 step_at-gives s t version (item.Number z) h e = obey_item-gives (in_body Five s) t (item.Number z) h e
 step_at-gives s t version (item.Name n) h e = obey_item-gives (in_body Five s) t (item.Name n) h e
 step_at-gives s t version (item.Word w) h e = second_word-gives s t w h e

@@ -27,7 +27,8 @@ pub fn runs_are_modules()
     ensures { RunsAreModules }
 {}
 
-/// The module of an accepted run is faithful to it: what has no body was given, what is defined the run defined, and its exports are the run's.
+/// The module of an accepted run is faithful to it: what has no body was given, what is defined the run defined, and its
+/// exports are the run's.
 pub fn runs_are_faithful()
     ensures { RunsAreFaithful }
 {}

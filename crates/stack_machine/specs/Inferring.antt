@@ -1,5 +1,5 @@
 -- What the words of inference do once their operands are off the stack.
--- Source: OpenTheory article file format, version 6, "Commands".
+-- Source: OpenTheory article file format, versions 5 and 6, "Commands".
 use Rattle.std.specs.Prelude.{◌≡◌, ℕ, List, ◌∷◌, [], ◌++◌, Option, Result, Ok, IfOk, IfErr, OnOk, OnErr}
 use Rattle.std.specs.Option.{option_or}
 use Rattle.std.specs.List.{find}

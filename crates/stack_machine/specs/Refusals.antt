@@ -1,5 +1,5 @@
 -- The conditions of what is made, as answers: each kind in its turn.
--- Source: OpenTheory article file format, version 6, "Commands". The limits are this machine's own.
+-- Source: OpenTheory article file format, versions 5 and 6, "Commands". The limits are this machine's own.
 use Rattle.std.specs.Prelude.{List, length, is_some, Result}
 use Rattle.hol_spec.specs.Names.{Name}
 use Rattle.hol_spec.specs.Types.{HolType, types_of}

@@ -71,7 +71,7 @@ abbrev pub AreEntriesKnown : Stored → List (ℤ × Object) → Type 0
 AreEntriesKnown m entries = AllByRecursion (λ e. IsKnown m e.1) entries
 
 abbrev pub place_view : Progress → state.Place
-place_view Begun = state.Place.start
+place_view (Begun before) = state.Place.start before
 place_view Numbered = state.Place.version
 place_view (Running version) = state.Place.body version
 

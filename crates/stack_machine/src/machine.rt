@@ -3,12 +3,12 @@ ghost use Rattle.std.specs.Prelude.{◌≡◌, ℕ, List, Ok, OnOk, OnErr, IfOk,
 ghost use Rattle.std.specs.List.{AllByRecursion};
 ghost use Rattle.hol_spec.specs.Derivations.{Derives};
 ghost use Rattle.hol_spec.specs.Proofs.{assumptions_of, definitions_of, sequents_of, symbols_of};
-ghost use Rattle.hol_spec.specs.declared.Version.TheVariants.{Five};
+ghost use Rattle.hol_spec.specs.declared.Version.TheVariants.{Five, Six};
 ghost use Rattle.article_spec.specs.declared.commands.Word.TheVariants as word;
 ghost use Rattle.article_spec.specs.Results.{Fails};
 ghost use Rattle.article_spec.specs.Run.{accepted, accepted_state, Run};
 ghost use Rattle.article_spec.specs.SoundRuns.{IsSoundRun};
-ghost use Rattle.article_spec.specs.State.{Place, initial, version_at};
+ghost use Rattle.article_spec.specs.State.{Place, initial, last_version, version_at};
 ghost use Rattle.article_spec.specs.Step.{finish, in_body, obey, obey_item, step, step_at};
 ghost use Rattle.hol_term.specs.Tables.{Trees};
 ghost use Rattle.hol_defs.specs.Symbols.{symbols_at, AreKnownSymbols};
@@ -34,8 +34,8 @@ use std::marker::Model;
 /// How far an article is.
 #[derive(Clone, Copy)]
 pub(crate) enum Progress {
-    /// No command yet.
-    Begun,
+    /// No command yet, after an article of this version; before the first article, of version 6.
+    Begun(Version),
     /// The number 6 alone, which `version` may follow.
     Numbered,
     /// In its body, in an article of this version.
@@ -48,8 +48,18 @@ impl Progress {
         ensures { result ≡ version_at (place_view self) }
     {
         match self {
-            Progress::Begun | Progress::Numbered => Version::Five,
+            Progress::Begun(_) | Progress::Numbered => Version::Five,
             Progress::Running(version) => version,
+        }
+    }
+
+    // The version of the last article that has begun.
+    fn last_version(self) -> Version
+        ensures { result ≡ last_version (place_view self) }
+    {
+        match self {
+            Progress::Begun(before) => before,
+            Progress::Numbered | Progress::Running(_) => self.version(),
         }
     }
 }
@@ -93,22 +103,22 @@ impl Machine {
             left: 0,
             stack: Stack::new(alloc),
             dictionary: BTreeMap::new(alloc),
-            progress: Progress::Begun,
+            progress: Progress::Begun(Version::Six),
         })
     }
 
     /// Obeys a command (OpenTheory article format, versions 5 and 6, "Commands"). An article is of version 6 where its
     /// first two commands are the number 6 and `version`; another is of version 5, and its first command is one of its
-    /// body. A command is refused for the first condition that fails: the place of `version`; the stack, each operand from the top first there and then of its kind; the
-    /// dictionary; the command's own conditions; the limits of size, of depth and of the number of parameters. After a
-    /// refusal or want of memory the machine is as before.
+    /// body. A command is refused for the first condition that fails: the place of `version`; the stack, each operand from
+    /// the top first there and then of its kind; the dictionary; the command's own conditions; the limits of size, of depth
+    /// and of the number of parameters. After a refusal or want of memory the machine is as before.
     pub fn step(&mut self, command: &Command) -> Result<(), Fault>
         ensures taken { OnOk result (step self.old command.now ≡ Ok self.new) }
         ensures refused { IfErr result (λ fault. Fails fault (step self.old command.now)) }
         ensures unchanged { OnErr result (self.new ≡ self.old) }
     {
         match self.progress {
-            Progress::Begun => self.begin(&command.item),
+            Progress::Begun(_) => self.begin(&command.item),
             Progress::Numbered => self.second(&command.item),
             Progress::Running(_) => self.body(&command.item),
         }
@@ -123,7 +133,15 @@ impl Machine {
         self.dictionary.clear();
         self.store.end_article();
         self.left = 0;
-        self.progress = Progress::Begun;
+        self.progress = Progress::Begun(self.progress.version());
+    }
+
+    /// The version of the last article that has begun, and 6 before the first. An article has begun with its first command, and has
+    /// come to its end without one by `finish`: it is of version 5 then. It takes no memory.
+    pub fn version(&self) -> Version
+        ensures { result ≡ last_version self.now.place }
+    {
+        self.progress.last_version()
     }
 
     /// The proof that the articles made: its table, its symbols and its steps.
@@ -173,8 +191,8 @@ impl Machine {
 
     // The first command: the number 6 is put on the stack, and may be that of the version.
     fn begin(&mut self, item: &Item) -> Result<(), Fault>
-        ensures taken { OnOk result (step_at Place.start self.old item.now ≡ Ok self.new) }
-        ensures refused { IfErr result (λ fault. Fails fault (step_at Place.start self.old item.now)) }
+        ensures taken { OnOk result (step_at (Place.start Six) self.old item.now ≡ Ok self.new) }
+        ensures refused { IfErr result (λ fault. Fails fault (step_at (Place.start Six) self.old item.now)) }
         ensures unchanged { OnErr result (self.new ≡ self.old) }
     {
         match item {

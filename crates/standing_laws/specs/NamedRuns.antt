@@ -127,9 +127,9 @@ second_word-named s t word.Axiom g e = obey-named (in_body Five s) t word.Axiom 
 second_word-named s t word.Thm g e = obey-named (in_body Five s) t word.Thm (in_body-named s g) e
 
 step_at-named : (s t : State) (p : Place) (i : Item) → IsNamedState s → IsNamedItem i → step_at p s i ≡ Ok t → IsNamedState t
-step_at-named s t start (item.Number z) g h e = placed s _ t e g refl refl (tt {0}, g.stack)
-step_at-named s t start (item.Name n) g h e = obey_item-named (in_body Five s) t (item.Name n) (in_body-named s g) h e
-step_at-named s t start (item.Word w) g h e = obey_item-named (in_body Five s) t (item.Word w) (in_body-named s g) h e
+step_at-named s t (start v) (item.Number z) g h e = placed s _ t e g refl refl (tt {0}, g.stack)
+step_at-named s t (start v) (item.Name n) g h e = obey_item-named (in_body Five s) t (item.Name n) (in_body-named s g) h e
+step_at-named s t (start v) (item.Word w) g h e = obey_item-named (in_body Five s) t (item.Word w) (in_body-named s g) h e
 step_at-named s t version (item.Number z) g h e = obey_item-named (in_body Five s) t (item.Number z) (in_body-named s g) h e
 step_at-named s t version (item.Name n) g h e = obey_item-named (in_body Five s) t (item.Name n) (in_body-named s g) h e
 step_at-named s t version (item.Word w) g h e = second_word-named s t w g e

@@ -41,8 +41,8 @@ pub fn bodies_typed()
     ensures { BodiesTyped }
 {}
 
-/// In the module of an accepted run each body applies a theorem, wherever it uses it, to exactly as many arguments as the theorem's closed
-/// form has parameters: what vanishes is filled, and a hypothesis is passed for each that became it.
+/// In the module of an accepted run each body applies a theorem, wherever it uses it, to exactly as many arguments as the
+/// theorem's closed form has parameters: what vanishes is filled, and a hypothesis is passed for each that became it.
 pub fn filled_and_merged()
     ensures { FilledAndMerged }
 {}

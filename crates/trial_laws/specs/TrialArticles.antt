@@ -7,7 +7,7 @@ use Rattle.hol_spec.specs.Proofs.{Accepted, Made}
 use Rattle.proof_laws.specs.ProofLaws.{symbols_of-push}
 use Rattle.article_spec.specs.declared.commands.Item.{Item}
 use Rattle.article_spec.specs.declared.commands.Item.TheVariants as item
-use Rattle.article_spec.specs.State.{State, initial, start}
+use Rattle.article_spec.specs.State.{State, initial, start, version_at}
 use Rattle.article_spec.specs.Lines.{max_article, ended}
 use Rattle.article_spec.specs.Results.{◌>>=◌}
 use Rattle.article_spec.specs.Run.{machine, obey_article, end_article, accepted_state, passed, finished}
@@ -138,7 +138,7 @@ accepts i h =
     let obeys : obeyed initial (trial_items (suc i)) ≡ Ok last =
     obeyed-then beginning_items (blocks_items (suc i) ++ ending_items) initial (state d_5 made_5 []) (Ok last) begins
     (obeyed-then (blocks_items (suc i)) ending_items (state d_5 made_5 []) (state a.dictionary a.made []) (Ok last) a.leads (ending_exports (suc i) a.dictionary a.made a.ready a.chained)) in
-    let ends : obey_article machine initial (numbered 1 (trial_items (suc i))) (ended read.0) ≡ Ok (record last { stack = []; dictionary = entries.empty; place = start; pool = last.exports }) =
+    let ends : obey_article machine initial (numbered 1 (trial_items (suc i))) (ended read.0) ≡ Ok (record last { stack = []; dictionary = entries.empty; place = start (version_at last.place); pool = last.exports }) =
     ap (λ r. r >>= (λ s. end_article machine s (ended read.0))) (obey_all-numbered (trial_items (suc i)) 1 initial last obeys) in (
       accepted_state last,
       record {

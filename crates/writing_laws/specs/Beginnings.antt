@@ -35,11 +35,11 @@ at_second s (item.Word w ∷ is) t e = elim (second-word (record s { place = ver
 ]
 
 -- what the body of an article of version 5 obeys is obeyed from its start
-pub start-EndsLike : (s : State) (items : List Item) (t : State) → obeyed (in_body Five s) items ≡ Ok t → EndsLike (record s { place = start }) items t
-start-EndsLike s [] t e = let f : in_body Five s ≡ t = cc in record { after = record s { place = start }; obeys = refl; ends = ap finish f }
-start-EndsLike s (item.Name n ∷ is) t e = record { after = t; obeys = e; ends = refl }
-start-EndsLike s (item.Word w ∷ is) t e = record { after = t; obeys = e; ends = refl }
-start-EndsLike s (item.Number z ∷ is) t e = let r = go (int_eq z (pos 6)) in record { after = r.after; obeys = r.obeys; ends = r.ends }
+pub start-EndsLike : (v : Version) (s : State) (items : List Item) (t : State) → obeyed (in_body Five s) items ≡ Ok t → EndsLike (record s { place = start v }) items t
+start-EndsLike v s [] t e = let f : in_body Five s ≡ t = cc in record { after = record s { place = start v }; obeys = refl; ends = ap finish f }
+start-EndsLike v s (item.Name n ∷ is) t e = record { after = t; obeys = e; ends = refl }
+start-EndsLike v s (item.Word w ∷ is) t e = record { after = t; obeys = e; ends = refl }
+start-EndsLike v s (item.Number z ∷ is) t e = let r = go (int_eq z (pos 6)) in record { after = r.after; obeys = r.obeys; ends = r.ends }
   where
     go : (b : Bool) → EndsLike (record s { stack = Object.number z ∷ s.stack; place = cond b version (body Five) }) is t
     go true = at_second (record s { stack = Object.number z ∷ s.stack }) is t e
@@ -52,7 +52,7 @@ version_of-Five s items t e = refl
 
 -- COMMANDS THAT LEAD TO A STATE, FROM THE START OF AN ARTICLE
 pub leads-EndsLike : (v : Version) (items : List Item) (t : State) → Leads v items t → EndsLike initial items t
-leads-EndsLike Five items t h = subst (λ l. EndsLike initial l t) (sym h.is) (start-EndsLike initial h.rest t h.obeys)
+leads-EndsLike Five items t h = subst (λ l. EndsLike initial l t) (sym h.is) (start-EndsLike Six initial h.rest t h.obeys)
 leads-EndsLike Six items t h = subst (λ l. EndsLike initial l t) (sym h.is) (record { after = t; obeys = h.obeys; ends = refl })
 
 pub leads-version : (v : Version) (items : List Item) (t : State) → Leads v items t → version_of items ≡ v

@@ -11,7 +11,7 @@ use Rattle.article_spec.specs.declared.commands.Item.{Item}
 use Rattle.article_spec.specs.declared.commands.Item.TheVariants as item
 use Rattle.article_spec.specs.declared.commands.Word.{Word}
 use Rattle.article_spec.specs.declared.commands.Word.TheVariants as word
-use Rattle.article_spec.specs.State.{Object, State, Place, initial, start, version, body}
+use Rattle.article_spec.specs.State.{Object, State, Place, initial, start, version, body, version_at}
 use Rattle.article_spec.specs.Step.{obey, in_body, obey_item, second_word, step_at, step, finish}
 use Rattle.article_spec.specs.Lines.{Lines, End, ended, refused}
 use Rattle.article_spec.specs.Run.{machine, at_line, obey_all, obey_article, accepted_state, Outcome, accepted, refused_at, RunsFrom, finished, passed, stopped, Run}
@@ -88,11 +88,11 @@ second_word-good s t w h g e = elim (second-word s w) [
 ]
 
 step_at-good : (s t : State) (p : Place) (i : Item) → IsSound s → IsGoodState s → IsGoodItem i → step_at p s i ≡ Ok t → IsGoodState t
-step_at-good s t start (item.Number z) h g n e =
+step_at-good s t (start v) (item.Number z) h g n e =
     let p = cond (int_eq z (pos 6)) version (body Five) in
     answered-good (record s { stack = Object.number z ∷ s.stack; place = p }) t e (placed s (Object.number z ∷ s.stack) p g (tt {0}, g.stack))
-step_at-good s t start (item.Name m) h g n e = obey_item-good (in_body Five s) t (item.Name m) (in_body-sound s h) (in_body-good s g) n e
-step_at-good s t start (item.Word w) h g n e = obey_item-good (in_body Five s) t (item.Word w) (in_body-sound s h) (in_body-good s g) n e
+step_at-good s t (start v) (item.Name m) h g n e = obey_item-good (in_body Five s) t (item.Name m) (in_body-sound s h) (in_body-good s g) n e
+step_at-good s t (start v) (item.Word w) h g n e = obey_item-good (in_body Five s) t (item.Word w) (in_body-sound s h) (in_body-good s g) n e
 step_at-good s t version (item.Number z) h g n e = obey_item-good (in_body Five s) t (item.Number z) (in_body-sound s h) (in_body-good s g) n e
 step_at-good s t version (item.Name m) h g n e = obey_item-good (in_body Five s) t (item.Name m) (in_body-sound s h) (in_body-good s g) n e
 step_at-good s t version (item.Word w) h g n e = second_word-good s t w h g e
@@ -103,7 +103,7 @@ nothing-kept k x e = let f : entries.get {K = ℤ} {X = Object} {R = int_cmp} en
 
 finish-good : (s t : State) → IsGoodState s → finish s ≡ Ok t → IsGoodState t
 finish-good s t g e =
-    answered-good (record s { stack = []; dictionary = entries.empty; place = start; pool = s.exports }) t e (record { history = g.history; pool = λ i h. h; stack = tt {0}; dictionary = nothing-kept })
+    answered-good (record s { stack = []; dictionary = entries.empty; place = start (version_at s.place); pool = s.exports }) t e (record { history = g.history; pool = λ i h. h; stack = tt {0}; dictionary = nothing-kept })
 
 initial-good : IsGoodState initial
 initial-good = record { history = histories.History.empty; pool = λ i h. h; stack = tt {0}; dictionary = nothing-kept }

@@ -7,7 +7,7 @@ use Rattle.hol_spec.specs.Proofs.{Made, Accepted, steps_of, definitions_of}
 use Rattle.article_spec.specs.declared.commands.Command.{Command}
 use Rattle.article_spec.specs.declared.commands.Item.{Item}
 use Rattle.article_spec.specs.Lines.{max_article, ended}
-use Rattle.article_spec.specs.State.{State, initial, start}
+use Rattle.article_spec.specs.State.{State, initial, start, version_at}
 use Rattle.article_spec.specs.Results.{◌>>=◌}
 use Rattle.article_spec.specs.Run.{machine, at_line, obey_article, end_article, accepted_state, accepted, passed, finished, Run}
 use Rattle.trial_laws.specs.TrialLines.{numbered}
@@ -45,7 +45,7 @@ module _ (q : ℕ) (version : Version) (flag is_export : ℕ → Bool) where
       let ended_state : State = body_state (scene q version flag is_export made ax ex) r.ready.dictionary r.after [] in
       let read = text-Lines items writable small in
       let begins = leads-EndsLike version items ended_state r.ready.leads in
-      let ends : obey_article machine initial (numbered 1 items) (ended read.0) ≡ Ok (record ended_state { stack = []; dictionary = entries.empty; place = start; pool = ended_state.exports }) =
+      let ends : obey_article machine initial (numbered 1 items) (ended read.0) ≡ Ok (record ended_state { stack = []; dictionary = entries.empty; place = start (version_at ended_state.place); pool = ended_state.exports }) =
       ap (λ z. z >>= (λ s. end_article machine s (ended read.0))) (obey_all-numbered items 1 initial begins.after begins.obeys) ∙ ap (at_line read.0) begins.ends in (
         accepted_state ended_state,
         record {

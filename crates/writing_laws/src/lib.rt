@@ -30,8 +30,8 @@ ghost use Rattle.writing_spec.specs.ArticleLength.{LengthsAreCounted};
 ghost use Rattle.writing_spec.specs.Retold.{RunsAreRetold};
 
 /// The law of articles: what the exports of an accepted run reach can be told by one article of a version, where one can say it and it
-/// isn't too long. It is accepted and of that version, its steps are exactly the reached ones, its definitions, assumptions and exports are
-/// those of the run that are reached, in order, and its own article is the same text.
+/// isn't too long. It is accepted and of that version, its steps are exactly the reached ones, its definitions, assumptions
+/// and exports are those of the run that are reached, in order, and its own article is the same text.
 pub fn runs_are_retold()
     ensures { RunsAreRetold }
 {}
