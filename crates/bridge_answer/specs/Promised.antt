@@ -1,5 +1,5 @@
 -- What a call promises comes of its outputs, of what the outside keeps, and of the headline of runs.
-use Rattle.std.proofs.Common.{◌≡◌, ◌≤◌, ℕ, List, [], ◌∷◌, Option, None, Some, refl, sym, subst}
+use Rattle.std.proofs.Common.{◌≡◌, ◌≤◌, ℕ, Bool, List, [], ◌∷◌, Option, None, Some, refl, sym, subst}
 use Rattle.bridge_base.specs.Outside.{Files, Begins}
 use Rattle.hol_spec.specs.Proofs.{Accepted}
 use Rattle.vectors.specs.Trial.{trial_text}
@@ -18,28 +18,28 @@ use Rattle.bridge_spec.specs.declared.status.Status.{Status}
 use Rattle.bridge_spec.specs.declared.status.Status.TheVariants.{Usage, Memory}
 
 -- THE HEADLINE, for the run that a form asks for
-run-headline : (told : Option Files) (names : List (List ℕ)) (run : Accepted) → IsRunOf told names run → Headline run
-run-headline told names run r = each_run_carries r.texts run r.bytes r.runs
+run-headline : (share : Bool) (told : Option Files) (names : List (List ℕ)) (run : Accepted) → IsRunOf told names run → Headline share run
+run-headline share told names run r = each_run_carries share r.texts run r.bytes r.runs
 
 -- so it is with the run of a generated article
-pub trial-headline : (n : ℕ) (run : Accepted) → IsRunOfTrial n run → Headline run
-trial-headline n run r = each_run_carries (trial_text n ∷ []) run (trial_text-bytes n, tt) r
+pub trial-headline : (share : Bool) (n : ℕ) (run : Accepted) → IsRunOfTrial n run → Headline share run
+trial-headline share n run r = each_run_carries share (trial_text n ∷ []) run (trial_text-bytes n, tt) r
 
-form-headline : (form : Option Form) (told : Option Files) (run : Accepted) → FormRun form told run → Headline run
-form-headline None told run h = absurd h
-form-headline (Some (verify fast names)) told run h = run-headline told names run h
-form-headline (Some (translate names)) told run h = run-headline told names run h
-form-headline (Some (check fast name budget)) told run h = absurd h
-form-headline (Some (show names)) told run h = run-headline told names run h
-form-headline (Some (decode name)) told run h = absurd h
-form-headline (Some (trial n)) told run h = trial-headline n run h
+form-headline : (share : Bool) (form : Option Form) (told : Option Files) (run : Accepted) → FormRun form told run → Headline share run
+form-headline share None told run h = absurd h
+form-headline share (Some (verify _ fast names)) told run h = run-headline share told names run h
+form-headline share (Some (translate _ names)) told run h = run-headline share told names run h
+form-headline share (Some (check fast name budget)) told run h = absurd h
+form-headline share (Some (show names)) told run h = run-headline share told names run h
+form-headline share (Some (decode name)) told run h = absurd h
+form-headline share (Some (trial n)) told run h = trial-headline share n run h
 
 -- All that a call promises comes of its outputs and of what the outside keeps.
 pub outputs-Promise : (call : Call) (result : Status) → Outputs call result → call.shelf.told ≡ call.shelf.told_before
     → call.shelf.faults_before ≤ call.shelf.faults → call.out.faults_before ≤ call.out.faults → call.note.faults_before ≤ call.note.faults → Promise call result
 outputs-Promise call result h told shelf_count out_count note_count = record {
   outputs = h;
-  headline = λ run has. form-headline call.form call.shelf.told_before run has;
+  headline = λ share run has. form-headline share call.form call.shelf.told_before run has;
   told_kept = told;
   shelf_count = shelf_count;
   out_count = out_count;
@@ -62,8 +62,8 @@ usage-Promise call result none d begun =
 -- Want of memory is an answer to any words.
 memory-answers : (form : Option Form) (shelf : Shelved) → FormAnswers form shelf Memory [] memory_line
 memory-answers None shelf = (refl, refl)
-memory-answers (Some (verify fast names)) shelf = (refl, refl)
-memory-answers (Some (translate names)) shelf = (refl, refl)
+memory-answers (Some (verify share fast names)) shelf = (refl, refl)
+memory-answers (Some (translate share names)) shelf = (refl, refl)
 memory-answers (Some (check fast name budget)) shelf = (refl, refl)
 memory-answers (Some (show names)) shelf = (refl, refl)
 memory-answers (Some (decode name)) shelf = (refl, refl)

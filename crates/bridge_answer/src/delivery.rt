@@ -16,7 +16,7 @@ use itoa::Buffer;
 
 /// The line that says which forms there are.
 const USAGE: &[u8] =
-    b"usage: bridge verify [--fast] FILE.. | translate FILE.. | check FILE [--budget N] [--fast] | decode FILE | show FILE.. | trial N\n";
+    b"usage: bridge verify [--share] [--fast] FILE.. | translate [--share] FILE.. | check FILE [--budget N] [--fast] | decode FILE | show FILE.. | trial N\n";
 
 /// Writes the texts of an answer, the output first, and gives its status. Where the output fails, the
 /// note says so; where either fails, the status is that of a write fault.

@@ -1,5 +1,5 @@
 -- When the program gives an answer, and the two texts that belong to it.
-use Rattle.std.specs.Prelude.{ℕ, ◌≡◌, Bool, not, List, [], ◌∷◌, map, length, Option, None, Some}
+use Rattle.std.specs.Prelude.{ℕ, ◌≡◌, Bool, false, not, List, [], ◌∷◌, map, length, Option, None, Some}
 use Rattle.std.specs.List.{AllByRecursion}
 use Rattle.lp_spec.specs.Modules.{Declaration}
 use Rattle.dk_read.specs.States.{fault_of}
@@ -46,8 +46,8 @@ IsRunOfTrial n run = Run (trial_text n ∷ []) (accepted run)
 -- the accepted run that a form asks for
 abbrev pub FormRun : Option Form → Option Files → Accepted → Type 0
 FormRun None told run = ⊥
-FormRun (Some (verify fast names)) told run = IsRunOf told names run
-FormRun (Some (translate names)) told run = IsRunOf told names run
+FormRun (Some (verify share fast names)) told run = IsRunOf told names run
+FormRun (Some (translate share names)) told run = IsRunOf told names run
 FormRun (Some (check fast name budget)) told run = ⊥
 FormRun (Some (show names)) told run = IsRunOf told names run
 FormRun (Some (decode name)) told run = ⊥
@@ -79,13 +79,16 @@ AnswersRun out_of note_of names shelf ReadFault out note = ReadFailed shelf × N
 AnswersRun out_of note_of names shelf Memory out note = NoteAlone memory_line out note
 AnswersRun out_of note_of names shelf _ out note = ⊥
 
--- `verify`: the module of the run, and its counts. The module is checked before it is written: that this changes no answer is part of the promise.
-abbrev pub AnswersVerify : List (List ℕ) → Shelved → Status → List ℕ → List ℕ → Type 0
-AnswersVerify names shelf status out note = AnswersRun module_text (λ run. six_lines (counts_of (length names) run)) names shelf status out note
+-- `verify`: the module of the run, with shared abbreviations or without, and its counts. The module is checked before it is written: that this
+-- changes no answer is part of the promise.
+abbrev pub AnswersVerify : Bool → List (List ℕ) → Shelved → Status → List ℕ → List ℕ → Type 0
+AnswersVerify share names shelf status out note =
+    AnswersRun (module_text share) (λ run. six_lines (counts_of share (length names) run)) names shelf status out note
 
 -- `translate`: the same without the check, and without its line.
-abbrev pub AnswersTranslate : List (List ℕ) → Shelved → Status → List ℕ → List ℕ → Type 0
-AnswersTranslate names shelf status out note = AnswersRun module_text (λ run. five_lines (counts_of (length names) run)) names shelf status out note
+abbrev pub AnswersTranslate : Bool → List (List ℕ) → Shelved → Status → List ℕ → List ℕ → Type 0
+AnswersTranslate share names shelf status out note =
+    AnswersRun (module_text share) (λ run. five_lines (counts_of share (length names) run)) names shelf status out note
 
 -- `show`: what the run assumes and exports.
 abbrev pub AnswersShow : List (List ℕ) → Shelved → Status → List ℕ → List ℕ → Type 0
@@ -120,15 +123,15 @@ AnswersDecode name shelf _ out note = ⊥
 -- `trial`: the counts of the accepted run of the generated article, whose module was checked; or want of memory. No file is read, and nothing is
 -- refused.
 abbrev pub AnswersTrial : ℕ → Status → List ℕ → List ℕ → Type 0
-AnswersTrial n Done out note = (run : Accepted) × IsRunOfTrial n run × (out ≡ six_lines (counts_of 1 run)) × (note ≡ [])
+AnswersTrial n Done out note = (run : Accepted) × IsRunOfTrial n run × (out ≡ six_lines (counts_of false 1 run)) × (note ≡ [])
 AnswersTrial n Memory out note = NoteAlone memory_line out note
 AnswersTrial n _ out note = ⊥
 
 -- The answers of each form, before anything is written.
 abbrev pub FormAnswers : Option Form → Shelved → Status → List ℕ → List ℕ → Type 0
 FormAnswers None shelf status out note = AnswersNoForm status out note
-FormAnswers (Some (verify fast names)) shelf status out note = AnswersVerify names shelf status out note
-FormAnswers (Some (translate names)) shelf status out note = AnswersTranslate names shelf status out note
+FormAnswers (Some (verify share fast names)) shelf status out note = AnswersVerify share names shelf status out note
+FormAnswers (Some (translate share names)) shelf status out note = AnswersTranslate share names shelf status out note
 FormAnswers (Some (check fast name budget)) shelf status out note = AnswersCheck (not fast) name budget shelf status out note
 FormAnswers (Some (show names)) shelf status out note = AnswersShow names shelf status out note
 FormAnswers (Some (decode name)) shelf status out note = AnswersDecode name shelf status out note

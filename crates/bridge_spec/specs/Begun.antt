@@ -7,8 +7,8 @@ use Rattle.bridge_spec.specs.declared.status.Status.TheVariants.{Refused, ReadFa
 
 -- the files that a form names, each as often as it is named
 abbrev pub names_of : Option Form → List (List ℕ)
-names_of (Some (verify fast names)) = names
-names_of (Some (translate names)) = names
+names_of (Some (verify share fast names)) = names
+names_of (Some (translate share names)) = names
 names_of (Some (check fast name budget)) = name ∷ []
 names_of (Some (show names)) = names
 names_of (Some (decode name)) = name ∷ []

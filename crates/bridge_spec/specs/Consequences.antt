@@ -86,8 +86,8 @@ IsDueOfDecode told name _ = ⊥
 -- The files of the form must be answered so, where they are read without a fault; a trial, which reads none, is done.
 abbrev pub IsDue : Option Form → Option Files → Status → Type 0
 IsDue None told status = status ≡ Usage
-IsDue (Some (verify fast names)) told status = IsAnswerOfRun told names status
-IsDue (Some (translate names)) told status = IsAnswerOfRun told names status
+IsDue (Some (verify share fast names)) told status = IsAnswerOfRun told names status
+IsDue (Some (translate share names)) told status = IsAnswerOfRun told names status
 IsDue (Some (check fast name budget)) told status = IsDueOfCheck (not fast) told name budget status
 IsDue (Some (show names)) told status = IsAnswerOfRun told names status
 IsDue (Some (decode name)) told status = IsDueOfDecode told name status
@@ -101,8 +101,8 @@ KeepsOut _ out = out.got ≡ out.got_before
 
 -- a form that writes the module of its run
 abbrev pub WritesModule : Option Form → Type 0
-WritesModule (Some (verify fast names)) = Unit {0}
-WritesModule (Some (translate names)) = Unit {0}
+WritesModule (Some (verify share fast names)) = Unit {0}
+WritesModule (Some (translate share names)) = Unit {0}
 WritesModule _ = ⊥
 
 -- the sink gained a text that reads as one module, which is well typed
@@ -111,14 +111,16 @@ pub record GainsModule (out : Sunk) : Type 0 where
   pub gained : Gained out text
   pub typed : ReadsWellTyped text
 
--- the file of that name has the text of the module of an accepted run of articles of bytes, within the limit of a file
+-- the file of that name has the text of the module of an accepted run of articles of bytes, with shared abbreviations or without, within the
+-- limit of a file
 pub record HasModule (told : Option Files) (name : List ℕ) : Type 0 where
+  pub share : Bool
   pub texts : List (List ℕ)
   pub run : Accepted
   pub bytes : AllByRecursion AreBytes texts
   pub runs : Run texts (accepted run)
-  pub read : IsReadOf told name (module_text run)
-  pub within : length (module_text run) ≤ max_file
+  pub read : IsReadOf told name (module_text share run)
+  pub within : length (module_text share run) ≤ max_file
 
 -- Of a call that keeps its promise:
 pub record Consequences (call : Call) (result : Status) : Type 0 where
@@ -129,7 +131,7 @@ pub record Consequences (call : Call) (result : Status) : Type 0 where
   -- Whatever the shelf tells, at Done what was written as the module of the run reads as one well-typed module.
   pub written : WritesModule call.form → result ≡ Done → GainsModule call.out
   -- A file with the module of a run passes under a budget of at least each of its bounds ..
-  pub passes : ReadWell call.shelf → (fast : Bool) (name : List ℕ) (budget : ℕ) → call.form ≡ Some (check fast name budget) → (file : HasModule call.shelf.told_before name) → AllByRecursion (λ bound. bound ≤ budget) (module_bounds file.run)
+  pub passes : ReadWell call.shelf → (fast : Bool) (name : List ℕ) (budget : ℕ) → call.form ≡ Some (check fast name budget) → (file : HasModule call.shelf.told_before name) → AllByRecursion (λ bound. bound ≤ budget) (module_bounds file.share file.run)
       → Aside result (result ≡ Done)
   -- .. and is ill typed under no budget.
   pub never_ill_typed : ReadWell call.shelf → (fast : Bool) (name : List ℕ) (budget i : ℕ) → call.form ≡ Some (check fast name budget) → HasModule call.shelf.told_before name → result ≡ IllTyped i → ⊥

@@ -1,15 +1,16 @@
 -- The forms of the command line.
-use Rattle.std.specs.Prelude.{ℕ, ◌==◌, not, nat_le, Bool, true, false, List, [], ◌∷◌, ◌++◌, take, drop, Option, None, Some, is_some, option_map, codes, if◌then◌else◌}
+use Rattle.std.specs.Prelude.{ℕ, ◌==◌, ◌&&◌, not, nat_le, Bool, true, false, List, [], ◌∷◌, ◌++◌, take, drop, Option, None, Some, is_some, option_map, codes, if◌then◌else◌}
 use Rattle.std.specs.List.{list_all}
 use Rattle.std.specs.Str.{bytes_eq}
 use Rattle.article_spec.specs.Numbers.{digits_value}
 
 -- what the words ask for: the module of the articles in these files, checked before it is written, or as it is; a check of the module in this
 -- file, with this budget for each declaration; what the articles in these files assume and export; what the exports of the module in this file
--- say; a trial with the generated article of so many blocks. A flag says of a check whether it is to be fast: without rechecks of sorts.
+-- say; a trial with the generated article of so many blocks. The flag before the files says whether the module is to have shared abbreviations;
+-- the last flag of `verify`, and that of `check`, whether the check is to be fast: without rechecks of sorts.
 pub data Form : Type 0 where
-  verify : Bool → List (List ℕ) → Form
-  translate : List (List ℕ) → Form
+  verify : Bool → Bool → List (List ℕ) → Form
+  translate : Bool → List (List ℕ) → Form
   check : Bool → List ℕ → ℕ → Form
   show : List (List ℕ) → Form
   decode : List ℕ → Form
@@ -86,37 +87,44 @@ check_after g false (w ∷ ws) =
 abbrev pub check_form : List (List ℕ) → Option Form
 check_form words = check_after (checking None None false) false words
 
--- what was read so far of the words after `verify`: files, and `--fast`
-pub record Verifying : Type 0 where
+-- what was read so far of the words after `verify` or `translate`: files, `--share` and `--fast`
+pub record Running : Type 0 where
   pub files : List (List ℕ)
+  pub share : Bool
   pub fast : Bool
 
-abbrev pub verifying : List (List ℕ) → Bool → Verifying
-verifying fs x = record { files = fs; fast = x }
+abbrev pub running : List (List ℕ) → Bool → Bool → Running
+running fs s x = record { files = fs; share = s; fast = x }
 
 -- a run of files, where there is one at least
-abbrev pub verify_in : Bool → List (List ℕ) → Option Form
-verify_in fast [] = None
-verify_in fast (name ∷ names) = Some (verify fast (name ∷ names))
+abbrev pub run_in : (Running → Form) → Running → List (List ℕ) → Option Form
+run_in form g [] = None
+run_in form g (name ∷ names) = Some (form g)
 
--- The form of the words that follow what was read of `verify`: files, and at any place among them `--fast` at most once.
-abbrev pub verify_after : Verifying → List (List ℕ) → Option Form
-verify_after g [] = verify_in g.fast g.files
-verify_after g (w ∷ ws) =
-    if bytes_eq w (codes "--fast") then (if g.fast then None else verify_after (record g { fast = true }) ws)
-    else if is_file w then verify_after (record g { files = g.files ++ w ∷ [] }) ws
+-- The form of the words that follow what was read of it: files, and at any place among them `--share` at most once, and `--fast` at most once
+-- where the flag says that it may stand there.
+abbrev pub run_after : Bool → (Running → Form) → Running → List (List ℕ) → Option Form
+run_after fast_too form g [] = run_in form g g.files
+run_after fast_too form g (w ∷ ws) =
+    if bytes_eq w (codes "--share") then (if g.share then None else run_after fast_too form (record g { share = true }) ws)
+    else if fast_too && bytes_eq w (codes "--fast") then (if g.fast then None else run_after fast_too form (record g { fast = true }) ws)
+    else if is_file w then run_after fast_too form (record g { files = g.files ++ w ∷ [] }) ws
     else None
 
 -- the form of the words after `verify`
 abbrev pub verify_form : List (List ℕ) → Option Form
-verify_form words = verify_after (verifying [] false) words
+verify_form words = run_after true (λ g. verify g.share g.fast g.files) (running [] false false) words
+
+-- the form of the words after `translate`
+abbrev pub translate_form : List (List ℕ) → Option Form
+translate_form words = run_after false (λ g. translate g.share g.files) (running [] false false) words
 
 -- one or more files, the articles of a run in order; a file may be named twice
 abbrev pub are_files : List (List ℕ) → Bool
 are_files [] = false
 are_files (name ∷ names) = list_all is_file (name ∷ names)
 
--- the form of the words after `translate` or `show`: files
+-- the form of the words after `show`: files
 abbrev pub files_form : (List (List ℕ) → Form) → List (List ℕ) → Option Form
 files_form form names = if are_files names then Some (form names) else None
 
@@ -134,7 +142,7 @@ trial_form words = None
 abbrev pub form_by : List ℕ → List (List ℕ) → Option Form
 form_by word words =
     if bytes_eq word (codes "verify") then verify_form words
-    else if bytes_eq word (codes "translate") then files_form translate words
+    else if bytes_eq word (codes "translate") then translate_form words
     else if bytes_eq word (codes "check") then check_form words
     else if bytes_eq word (codes "show") then files_form show words
     else if bytes_eq word (codes "decode") then decode_form words

@@ -1,5 +1,5 @@
 -- What the one call of the program promises. What follows from it stands in `Consequences`.
-use Rattle.std.specs.Prelude.{◌≡◌, ◌≤◌}
+use Rattle.std.specs.Prelude.{◌≡◌, ◌≤◌, Bool}
 use Rattle.hol_spec.specs.Proofs.{Accepted}
 use Rattle.bridge_spec.specs.Calls.{Call}
 use Rattle.bridge_spec.specs.Answers.{HasRun}
@@ -10,9 +10,9 @@ use Rattle.bridge_spec.specs.declared.status.Status.{Status}
 pub record Promise (call : Call) (result : Status) : Type 0 where
   -- Each answer comes only by its cause, and the sinks gain its texts; or a failing write replaced it.
   pub outputs : Outputs call result
-  -- The headline: the module of an accepted run of the files, or of the generated article of a trial, reads back, is well typed, is faithful to
-  -- its run and accepted within its bounds; what the run made is a proof, and its exports derive.
-  pub headline : (run : Accepted) → HasRun call run → Headline run
+  -- The headline: the module of an accepted run of the files, or of the generated article of a trial, with shared abbreviations or without, reads
+  -- back, is well typed, is faithful to its run and accepted within its bounds; what the run made is a proof, and its exports derive.
+  pub headline : (share : Bool) (run : Accepted) → HasRun call run → Headline share run
   -- The shelf tells the same files as before.
   pub told_kept : call.shelf.told ≡ call.shelf.told_before
   -- No count of faults falls.

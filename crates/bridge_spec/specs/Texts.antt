@@ -1,5 +1,5 @@
 -- What the program writes for an answer.
-use Rattle.std.specs.Prelude.{ℕ, suc, ◌++◌, List, [], ◌∷◌, map, length, min, sum_by, count_by, is_none, codes, decimal}
+use Rattle.std.specs.Prelude.{ℕ, suc, Bool, true, false, ◌++◌, List, [], ◌∷◌, map, length, min, sum_by, count_by, is_none, codes, decimal}
 use Rattle.bridge_base.specs.declared.faults.Kind.{Kind}
 use Rattle.bridge_base.specs.Kinds.{kind_name, kind_number}
 use Rattle.hol_spec.specs.ClosedForm.{ClosedSequent, closed_form}
@@ -11,6 +11,7 @@ use Rattle.lp_spec.specs.ReadingFaults.{Fault, NoPrelude, BadText, UnknownName, 
 use Rattle.lp_spec.specs.Text.{written}
 use Rattle.lp_spec.specs.Weight.{bound, greatest}
 use Rattle.module_spec.specs.Image.{image}
+use Rattle.share_spec.specs.Folded.{folded}
 use Rattle.decode_spec.specs.ClosedText.{closed_text}
 use Rattle.bridge_spec.specs.declared.status.Status.{Status}
 use Rattle.bridge_spec.specs.declared.status.Status.TheVariants.{Done, Refused, Usage, ReadFault, WriteFault, Memory, DkRefused, IllTyped, OverBudget, NotSequent}
@@ -28,13 +29,18 @@ status_number (IllTyped i) = 7
 status_number (OverBudget i) = 8
 status_number (NotSequent i) = 9
 
+-- a run's module: its image, or where the flag says so its image with shared abbreviations
+abbrev pub module_of : Bool → Accepted → List Declaration
+module_of false run = image run
+module_of true run = folded (image run)
+
 -- the bound of each declaration of a run's module
-abbrev pub module_bounds : Accepted → List ℕ
-module_bounds run = map (bound (image run)) (image run)
+abbrev pub module_bounds : Bool → Accepted → List ℕ
+module_bounds share run = map (bound (module_of share run)) (module_of share run)
 
 -- the text of a run's module
-abbrev pub module_text : Accepted → List ℕ
-module_text run = written (image run) (module_bounds run)
+abbrev pub module_text : Bool → Accepted → List ℕ
+module_text share run = written (module_of share run) (module_bounds share run)
 
 -- the bound that is written of a declaration: that of a theorem, and nothing of another
 abbrev pub written_bound : Form → ℕ → ℕ
@@ -54,13 +60,13 @@ pub record Counts : Type 0 where
   pub declarations : ℕ
   pub bounds : ℕ
 
-abbrev pub counts_of : ℕ → Accepted → Counts
-counts_of articles run = record {
+abbrev pub counts_of : Bool → ℕ → Accepted → Counts
+counts_of share articles run = record {
   articles = articles;
   assumptions = length run.assumptions;
   exports = length run.exports;
-  declarations = length (image run);
-  bounds = min (written_bounds (image run)) greatest;
+  declarations = length (module_of share run);
+  bounds = min (written_bounds (module_of share run)) greatest;
 }
 
 -- the five lines of an accepted run
@@ -77,7 +83,7 @@ abbrev pub six_lines : Counts → List ℕ
 six_lines counts = five_lines counts ++ codes "verified\n"
 
 abbrev pub usage_line : List ℕ
-usage_line = codes "usage: bridge verify [--fast] FILE.. | translate FILE.. | check FILE [--budget N] [--fast] | decode FILE | show FILE.. | trial N\n"
+usage_line = codes "usage: bridge verify [--share] [--fast] FILE.. | translate [--share] FILE.. | check FILE [--budget N] [--fast] | decode FILE | show FILE.. | trial N\n"
 
 abbrev pub refusal_line : ℕ → ℕ → Kind → List ℕ
 refusal_line article line kind =

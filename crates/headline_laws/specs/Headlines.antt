@@ -1,5 +1,5 @@
 -- The module of every accepted run: its text reads back, it stands for its run, and each check ends within its bound.
-use Rattle.std.proofs.Common.{◌≡◌, ◌<◌, ◌≤◌, ℕ, zero, suc, List, [], ◌∷◌, length, slice_get, Some, refl, arith}
+use Rattle.std.proofs.Common.{◌≡◌, ◌<◌, ◌≤◌, ℕ, zero, suc, true, false, List, [], ◌∷◌, length, slice_get, Some, refl, arith}
 use Rattle.std.specs.List.{AllByRecursion}
 use Rattle.std.proofs.lemmas.List.{length-map}
 use Rattle.hol_spec.specs.Mangling.{AreBytes}
@@ -19,16 +19,17 @@ use Rattle.run_laws.specs.RunModules.{runs_are_modules}
 use Rattle.standing_laws.specs.NamedRuns.{run-has_names, runs_of_bytes_stand}
 use Rattle.fitting_laws.specs.ShallowRuns.{runs_are_shallow}
 use Rattle.fitting_laws.specs.SmallRuns.{runs_are_bounded, runs_are_within_bounds}
-use Rattle.bridge_spec.specs.Headline.{EachRunCarries}
+use Rattle.bridge_spec.specs.Headline.{EachRunCarries, Headline}
 use Rattle.bridge_spec.specs.Texts.{module_bounds}
 use Rattle.headline_laws.specs.PlainNames.{image-ArePlain, image-NoneShort}
+use Rattle.headline_laws.specs.FoldedHeadlines.{each_folded_run_carries}
 use Rattle.text_laws.specs.ReadTrees.{unshort-AreLong}
 
 -- what is written of it reads as it, and as no other
-written-ReadsBack : (texts : List (List ℕ)) (run : Accepted) → AllByRecursion AreBytes texts → Run texts (accepted run) → ReadsBack (image run) (module_bounds run)
+written-ReadsBack : (texts : List (List ℕ)) (run : Accepted) → AllByRecursion AreBytes texts → Run texts (accepted run) → ReadsBack (image run) (module_bounds false run)
 written-ReadsBack texts run bytes r =
     let named = run-has_names texts run bytes r in
-    written_reads (image run) (module_bounds run) (runs_are_modules texts run r named) (unshort-AreLong (image run) (image-NoneShort run named (runs_are_sound texts run r))) (image-ArePlain run named (runs_are_sound texts run r)) (runs_are_shallow texts run r) (length-map (image run) (bound (image run)))
+    written_reads (image run) (module_bounds false run) (runs_are_modules texts run r named) (unshort-AreLong (image run) (image-NoneShort run named (runs_are_sound texts run r))) (image-ArePlain run named (runs_are_sound texts run r)) (runs_are_shallow texts run r) (length-map (image run) (bound (image run)))
 
 -- the check of a declaration without rechecks of sorts ends within its bound
 runs_are_fast : (texts : List (List ℕ)) (run : Accepted) → Run texts (accepted run) → (i : ℕ) (d : Declaration) → slice_get (image run) i ≡ Some d
@@ -37,8 +38,9 @@ runs_are_fast texts run r i d e =
     let f = priced-fast (image run) i d ((runs_are_carried (name_in run) texts run r).priced i d e) in
     (f.0, f.1, fast-within (image run) d f.0 f.2 (runs_are_bounded texts run r i d e))
 
-pub each_run_carries : EachRunCarries
-each_run_carries texts run bytes r =
+-- so it is with the image of every accepted run
+pub each_image_carries : (texts : List (List ℕ)) (run : Accepted) → AllByRecursion AreBytes texts → Run texts (accepted run) → Headline false run
+each_image_carries texts run bytes r =
     let back = written-ReadsBack texts run bytes r in
     record {
       reads = back.read;
@@ -46,9 +48,14 @@ each_run_carries texts run bytes r =
       stands = runs_of_bytes_stand texts run bytes r;
       within = λ i d e. let w = runs_are_within_bounds texts run r i d e in record { price = w.price; by = w.check; within = w.within };
       within_fast = λ i d e. let w = runs_are_fast texts run r i d e in record { price = w.0; by = w.1; within = w.2 };
+      once = tt;
       proof = (runs_are_sound texts run r).proof;
       derived = (runs_are_sound texts run r).exports;
     }
+
+pub each_run_carries : EachRunCarries
+each_run_carries false texts run bytes r = each_image_carries texts run bytes r
+each_run_carries true texts run bytes r = each_folded_run_carries texts run bytes r
 
 -- a declaration of each number that there is
 pub declaration-at : (m : List Declaration) (i : ℕ) → i < length m → (d : Declaration) × (slice_get m i ≡ Some d)

@@ -1,3 +1,4 @@
+pub mod FoldedHeadlines
 pub mod Headlines
 pub mod PlainNames
 pub mod TrialBytes

@@ -11,8 +11,8 @@
 
 ghost use Rattle.bridge_spec.specs.Headline.{EachRunCarries};
 
-/// The module of every accepted run over articles of bytes reads back from its text, is well typed and faithful to its run, and each of its
-/// declarations is accepted within its bound. What the run made is a proof, and its exports derive.
+/// The module of every accepted run over articles of bytes reads back from its text, is well typed and faithful to its run,
+/// and each of its declarations is accepted within its bound. What the run made is a proof, and its exports derive.
 pub fn each_run_carries()
     ensures { EachRunCarries }
 {}

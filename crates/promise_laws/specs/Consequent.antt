@@ -9,17 +9,17 @@ use Rattle.bridge_base.specs.declared.faults.Kind.{Kind}
 use Rattle.hol_spec.specs.Proofs.{Accepted}
 use Rattle.lp_spec.specs.Modules.{Declaration}
 use Rattle.lp_spec.specs.Reading.{Reads}
+use Rattle.lp_spec.specs.Typing.{WellTyped}
 use Rattle.lp_spec.specs.Weight.{bound}
 use Rattle.lp_shape.specs.Check.{Found, No}
 use Rattle.lp_fast.specs.FastCheck.{CheckBy}
 use Rattle.lp_fast.specs.FastPrices.{check-at, fast_passes}
 use Rattle.article_spec.specs.Run.{Outcome, machine, accepted, refused_at, Run}
 use Rattle.article_laws.specs.RunLaws.{one_outcome}
-use Rattle.module_spec.specs.Image.{image}
 use Rattle.bridge_spec.specs.Forms.{Form, verify, translate, check, show, decode, trial}
-use Rattle.bridge_spec.specs.Headline.{Headline}
+use Rattle.bridge_spec.specs.Headline.{Headline, ModuleStands}
 use Rattle.headline_laws.specs.Headlines.{declaration-at, each_run_carries}
-use Rattle.bridge_spec.specs.Texts.{counts_of, five_lines, six_lines, shown_text, module_bounds, module_text}
+use Rattle.bridge_spec.specs.Texts.{counts_of, five_lines, six_lines, shown_text, module_bounds, module_of, module_text}
 use Rattle.bridge_spec.specs.Calls.{Shelved, Sunk, Call}
 use Rattle.bridge_spec.specs.FileChecks.{ReadsAs, IsAccepted, IsIllTyped, EndsWithin}
 use Rattle.bridge_spec.specs.Answers.{RunsTo, IsRunOf, ReadFailed, AnswersRun, FormAnswers, articles}
@@ -134,22 +134,22 @@ run-quiet out_of note_of names shelf (IllTyped i) out note h differs = absurd h
 run-quiet out_of note_of names shelf (OverBudget i) out note h differs = absurd h
 run-quiet out_of note_of names shelf (NotSequent i) out note h differs = absurd h
 
-verify-answers : (fast : Bool) (names : List (List ℕ)) (shelf : Shelved) → AreAnswers (Some (verify fast names)) shelf
-verify-answers fast names shelf = record {
-  exact = run-exact module_text (λ run. six_lines (counts_of (length names) run)) names shelf;
+verify-answers : (share fast : Bool) (names : List (List ℕ)) (shelf : Shelved) → AreAnswers (Some (verify share fast names)) shelf
+verify-answers share fast names shelf = record {
+  exact = run-exact (module_text share) (λ run. six_lines (counts_of share (length names) run)) names shelf;
   usage = λ out note h. absurd h;
   read_fault = λ out note h. h.0;
   write_fault = λ out note h. h;
-  quiet = run-quiet module_text (λ run. six_lines (counts_of (length names) run)) names shelf;
+  quiet = run-quiet (module_text share) (λ run. six_lines (counts_of share (length names) run)) names shelf;
 }
 
-translate-answers : (names : List (List ℕ)) (shelf : Shelved) → AreAnswers (Some (translate names)) shelf
-translate-answers names shelf = record {
-  exact = run-exact module_text (λ run. five_lines (counts_of (length names) run)) names shelf;
+translate-answers : (share : Bool) (names : List (List ℕ)) (shelf : Shelved) → AreAnswers (Some (translate share names)) shelf
+translate-answers share names shelf = record {
+  exact = run-exact (module_text share) (λ run. five_lines (counts_of share (length names) run)) names shelf;
   usage = λ out note h. absurd h;
   read_fault = λ out note h. h.0;
   write_fault = λ out note h. h;
-  quiet = run-quiet module_text (λ run. five_lines (counts_of (length names) run)) names shelf;
+  quiet = run-quiet (module_text share) (λ run. five_lines (counts_of share (length names) run)) names shelf;
 }
 
 show-answers : (names : List (List ℕ)) (shelf : Shelved) → AreAnswers (Some (show names)) shelf
@@ -268,8 +268,8 @@ trial-answers n shelf = record {
 -- the answers of every form
 each-answers : (form : Option Form) (shelf : Shelved) → AreAnswers form shelf
 each-answers None shelf = no_form-answers shelf
-each-answers (Some (verify fast names)) shelf = verify-answers fast names shelf
-each-answers (Some (translate names)) shelf = translate-answers names shelf
+each-answers (Some (verify share fast names)) shelf = verify-answers share fast names shelf
+each-answers (Some (translate share names)) shelf = translate-answers share names shelf
 each-answers (Some (check fast name budget)) shelf = check-answers fast name budget shelf
 each-answers (Some (show names)) shelf = show-answers names shelf
 each-answers (Some (decode name)) shelf = decode-answers name shelf
@@ -342,18 +342,23 @@ outputs-KeepsOut call result h = by_cases result h
     by_cases (NotSequent i) h = same (NotSequent i) h (λ e. cc) (λ e. cc)
 
 -- THE HEADLINE, for the run that a form asks for
-run-headline : (told : Option Files) (names : List (List ℕ)) (run : Accepted) → IsRunOf told names run → Headline run
-run-headline told names run r = each_run_carries r.texts run r.bytes r.runs
+run-headline : (share : Bool) (told : Option Files) (names : List (List ℕ)) (run : Accepted) → IsRunOf told names run → Headline share run
+run-headline share told names run r = each_run_carries share r.texts run r.bytes r.runs
+
+-- what stands for its run is well typed
+stands-WellTyped : (share : Bool) (run : Accepted) → ModuleStands share run → WellTyped (module_of share run)
+stands-WellTyped false run h = h.typed
+stands-WellTyped true run h = h.typed
 
 -- The text of a run's module reads as one well-typed module.
-text-ReadsWellTyped : (run : Accepted) → Headline run → ReadsWellTyped (module_text run)
-text-ReadsWellTyped run h = record { m = image run; reads = h.reads; only = h.only; typed = h.stands.typed }
+text-ReadsWellTyped : (share : Bool) (run : Accepted) → Headline share run → ReadsWellTyped (module_text share run)
+text-ReadsWellTyped share run h = record { m = module_of share run; reads = h.reads; only = h.only; typed = stands-WellTyped share run h.stands }
 
 -- what is written at Done by a form that writes the module of its run
 module-written : (form : Option Form) (shelf : Shelved) (out note : List ℕ) → WritesModule form → FormAnswers form shelf Done out note → ReadsWellTyped out
 module-written None shelf out note w h = absurd w
-module-written (Some (verify fast names)) shelf out note w h = subst ReadsWellTyped (sym h.2) (text-ReadsWellTyped h.0 (run-headline shelf.told_before names h.0 h.1))
-module-written (Some (translate names)) shelf out note w h = subst ReadsWellTyped (sym h.2) (text-ReadsWellTyped h.0 (run-headline shelf.told_before names h.0 h.1))
+module-written (Some (verify share fast names)) shelf out note w h = subst ReadsWellTyped (sym h.2) (text-ReadsWellTyped share h.0 (run-headline share shelf.told_before names h.0 h.1))
+module-written (Some (translate share names)) shelf out note w h = subst ReadsWellTyped (sym h.2) (text-ReadsWellTyped share h.0 (run-headline share shelf.told_before names h.0 h.1))
 module-written (Some (check fast name budget)) shelf out note w h = absurd w
 module-written (Some (show names)) shelf out note w h = absurd w
 module-written (Some (decode name)) shelf out note w h = absurd w
@@ -367,10 +372,10 @@ delivered-Gained answer out_text note_text out note result d differs = elim d [
 ]
 
 -- A FILE WITH THE MODULE OF A RUN
-module-ReadsAs : (told : Option Files) (name : List ℕ) → (file : HasModule told name) → ReadsAs told name (image file.run)
+module-ReadsAs : (told : Option Files) (name : List ℕ) → (file : HasModule told name) → ReadsAs told name (module_of file.share file.run)
 module-ReadsAs told name file =
-    let h = each_run_carries file.texts file.run file.bytes file.runs in
-    record { text = module_text file.run; read = file.read; within = file.within; reads = h.reads; only = h.only }
+    let h = each_run_carries file.share file.texts file.run file.bytes file.runs in
+    record { text = module_text file.share file.run; read = file.read; within = file.within; reads = h.reads; only = h.only }
 
 -- each declaration passes within a budget of at least each bound
 bound-within : (m : List Declaration) (bounds : Declaration → ℕ) (budget i : ℕ) (d : Declaration) → slice_get m i ≡ Some d → AllByRecursion (λ bound. bound ≤ budget) (map bounds m) → bounds d ≤ budget
@@ -379,21 +384,22 @@ bound-within (x ∷ m) bounds budget zero d e h = subst (λ y. bounds y ≤ budg
 bound-within (x ∷ m) bounds budget (suc i) d e h = bound-within m bounds budget i d e h.1
 
 -- the check of each declaration ends within its bound, with rechecks of sorts or without
-within-bound : (rechecks : Bool) (run : Accepted) → Headline run → (i : ℕ) (d : Declaration) → slice_get (image run) i ≡ Some d → EndsWithin rechecks (image run) (bound (image run) d) i (Found d.ty)
-within-bound true run h i d e = h.within i d e
-within-bound false run h i d e =
+within-bound : (rechecks share : Bool) (run : Accepted) → Headline share run → (i : ℕ) (d : Declaration) → slice_get (module_of share run) i ≡ Some d
+    → EndsWithin rechecks (module_of share run) (bound (module_of share run) d) i (Found d.ty)
+within-bound true share run h i d e = h.within i d e
+within-bound false share run h i d e =
     let w = h.within i d e in
-    let f = fast_passes (image run) i d.ty w.price w.by in
+    let f = fast_passes (module_of share run) i d.ty w.price w.by in
     record { price = f.0; by = f.1; within = let short = w.within in omega (arith, f.2, short) }
 
-module-PassesWithin : (rechecks : Bool) (told : Option Files) (name : List ℕ) (budget : ℕ) → (file : HasModule told name) → AllByRecursion (λ bound. bound ≤ budget) (module_bounds file.run) → PassesWithin rechecks told name budget
+module-PassesWithin : (rechecks : Bool) (told : Option Files) (name : List ℕ) (budget : ℕ) → (file : HasModule told name) → AllByRecursion (λ bound. bound ≤ budget) (module_bounds file.share file.run) → PassesWithin rechecks told name budget
 module-PassesWithin rechecks told name budget file h = record {
-  m = image file.run;
+  m = module_of file.share file.run;
   file = module-ReadsAs told name file;
   pass = λ k l.
-      let d = declaration-at (image file.run) k l in
-      let e = within-bound rechecks file.run (each_run_carries file.texts file.run file.bytes file.runs) k d.0 d.1 in
-      let low = bound-within (image file.run) (bound (image file.run)) budget k d.0 d.1 h in
+      let d = declaration-at (module_of file.share file.run) k l in
+      let e = within-bound rechecks file.share file.run (each_run_carries file.share file.texts file.run file.bytes file.runs) k d.0 d.1 in
+      let low = bound-within (module_of file.share file.run) (bound (module_of file.share file.run)) budget k d.0 d.1 h in
       (d.0.ty, record { price = e.price; by = e.by; within = let short = e.within in omega (arith, short, low) });
 }
 
@@ -401,12 +407,12 @@ module-PassesWithin rechecks told name budget file h = record {
 module-passes : (rechecks : Bool) (told : Option Files) (name : List ℕ) (i : ℕ) → IsTrue (is_some told) → HasModule told name → IsIllTyped rechecks told name i → ⊥
 module-passes rechecks None name i tells file ill = absurd (cc)
 module-passes rechecks (Some files) name i tells file ill =
-    let h = each_run_carries file.texts file.run file.bytes file.runs in
-    let same : ill.m ≡ image file.run = h.only ill.m (subst (λ text. Reads text ill.m) (ill.file.read ∙ sym file.read) ill.file.reads) in
-    let no : CheckBy rechecks (image file.run) i No ill.price = subst (λ m. CheckBy rechecks m i No ill.price) same ill.no in
-    let d = check-at (image file.run) i rechecks No ill.price no in
-    let e = within-bound rechecks file.run h i d.0 d.1 in
-    checking.not-both rechecks (image file.run) i d.0.ty e.price ill.price e.by no
+    let h = each_run_carries file.share file.texts file.run file.bytes file.runs in
+    let same : ill.m ≡ module_of file.share file.run = h.only ill.m (subst (λ text. Reads text ill.m) (ill.file.read ∙ sym file.read) ill.file.reads) in
+    let no : CheckBy rechecks (module_of file.share file.run) i No ill.price = subst (λ m. CheckBy rechecks m i No ill.price) same ill.no in
+    let d = check-at (module_of file.share file.run) i rechecks No ill.price no in
+    let e = within-bound rechecks file.share file.run h i d.0 d.1 in
+    checking.not-both rechecks (module_of file.share file.run) i d.0.ty e.price ill.price e.by no
 
 -- All that follows from the promise of a call comes of its outputs.
 outputs-Consequences : (call : Call) (result : Status) → Outputs call result → Consequences call result

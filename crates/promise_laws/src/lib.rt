@@ -11,8 +11,8 @@
 
 ghost use Rattle.bridge_spec.specs.Consequences.{EachPromiseBears};
 
-/// A call that keeps its promise gives the answer that is due, where the shelf tells its files and doesn't fail; and the other consequences
-/// of what it promises.
+/// A call that keeps its promise gives the answer that is due, where the shelf tells its files and doesn't fail; and the
+/// other consequences of what it promises.
 pub fn each_promise_bears()
     ensures { EachPromiseBears }
 {}

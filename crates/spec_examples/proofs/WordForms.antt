@@ -9,10 +9,10 @@ use Rattle.bridge_spec.specs.Forms.{verify, translate, check, show, decode, form
 use Rattle.bridge_spec.specs.Texts.{checked_of, accepted_line, dk_refusal_line, ill_typed_line, over_budget_line, not_sequent_line}
 
 -- a file alone, and with a budget before it or behind it
-translated : form_of (codes "bridge" ∷ codes "translate" ∷ codes "a" ∷ []) ≡ Some (translate (codes "a" ∷ []))
+translated : form_of (codes "bridge" ∷ codes "translate" ∷ codes "a" ∷ []) ≡ Some (translate false (codes "a" ∷ []))
 translated = refl
 
-verified : form_of (codes "bridge" ∷ codes "verify" ∷ codes "a" ∷ codes "b" ∷ codes "a" ∷ []) ≡ Some (verify false (codes "a" ∷ codes "b" ∷ codes "a" ∷ []))
+verified : form_of (codes "bridge" ∷ codes "verify" ∷ codes "a" ∷ codes "b" ∷ codes "a" ∷ []) ≡ Some (verify false false (codes "a" ∷ codes "b" ∷ codes "a" ∷ []))
 verified = refl
 
 checked : form_of (codes "bridge" ∷ codes "check" ∷ codes "a" ∷ []) ≡ Some (check false (codes "a") 100000000)
@@ -25,7 +25,7 @@ checked_behind : form_of (codes "bridge" ∷ codes "check" ∷ codes "a" ∷ cod
 checked_behind = refl
 
 -- a fast check, wherever `--fast` stands behind the word of its form
-verified_fast : form_of (codes "bridge" ∷ codes "verify" ∷ codes "a" ∷ codes "--fast" ∷ codes "b" ∷ []) ≡ Some (verify true (codes "a" ∷ codes "b" ∷ []))
+verified_fast : form_of (codes "bridge" ∷ codes "verify" ∷ codes "a" ∷ codes "--fast" ∷ codes "b" ∷ []) ≡ Some (verify false true (codes "a" ∷ codes "b" ∷ []))
 verified_fast = refl
 
 checked_fast : form_of (codes "bridge" ∷ codes "check" ∷ codes "--fast" ∷ codes "--budget" ∷ codes "4" ∷ codes "a" ∷ []) ≡ Some (check true (codes "a") 4)
@@ -46,6 +46,26 @@ fast_alone = refl
 
 fast_translation : form_of (codes "bridge" ∷ codes "translate" ∷ codes "--fast" ∷ codes "a" ∷ []) ≡ None
 fast_translation = refl
+
+-- shared abbreviations, wherever `--share` stands behind the word of its form
+translated_shared : form_of (codes "bridge" ∷ codes "translate" ∷ codes "a" ∷ codes "--share" ∷ []) ≡ Some (translate true (codes "a" ∷ []))
+translated_shared = refl
+
+verified_shared : form_of (codes "bridge" ∷ codes "verify" ∷ codes "--fast" ∷ codes "a" ∷ codes "--share" ∷ codes "b" ∷ []) ≡ Some (verify true true (codes "a" ∷ codes "b" ∷ []))
+verified_shared = refl
+
+-- not before it, not twice, not alone, and not for any other form
+shared_first : form_of (codes "bridge" ∷ codes "--share" ∷ codes "translate" ∷ codes "a" ∷ []) ≡ None
+shared_first = refl
+
+shared_twice : form_of (codes "bridge" ∷ codes "verify" ∷ codes "--share" ∷ codes "a" ∷ codes "--share" ∷ []) ≡ None
+shared_twice = refl
+
+shared_alone : form_of (codes "bridge" ∷ codes "translate" ∷ codes "--share" ∷ []) ≡ None
+shared_alone = refl
+
+shared_check : form_of (codes "bridge" ∷ codes "check" ∷ codes "--share" ∷ codes "a" ∷ []) ≡ None
+shared_check = refl
 
 greatest : form_of (codes "bridge" ∷ codes "check" ∷ codes "a" ∷ codes "--budget" ∷ codes "18446744073709551615" ∷ []) ≡ Some (check false (codes "a") 18446744073709551615)
 greatest = refl

@@ -1,2 +1,0 @@
-pub mod FoldedHeadline
-pub mod FoldedHeadlines
