@@ -1,5 +1,5 @@
 -- What is answered for a stop comes by its cause, in each form that runs articles, and the files were begun that belong to it.
-use Rattle.std.proofs.Common.{◌≡◌, ℕ, List, Option, refl}
+use Rattle.std.proofs.Common.{◌≡◌, ℕ, Bool, List, Option, refl}
 use Rattle.bridge_base.specs.Outside.{BeginsFront}
 use Rattle.bridge_spec.specs.Answers.{AnswersVerify, AnswersTranslate, AnswersShow, ReadFailed}
 use Rattle.bridge_spec.specs.Begun.{BeginsFiles}
@@ -10,17 +10,17 @@ use Rattle.bridge_reading.specs.declared.articles.Stop.{Stop}
 use Rattle.bridge_reading.specs.declared.articles.Stop.TheVariants as stop
 
 module _ (names : List (List ℕ)) (shelf : Shelved) where
-  pub stop-AnswersVerify : (s : Stop) → Stops s shelf.told_before names → (s ≡ stop.ReadFault → ReadFailed shelf)
-      → AnswersVerify names shelf (status_of (answer_of_stop s)) (text_of (answer_of_stop s)) (note_of (answer_of_stop s))
-  stop-AnswersVerify (stop.Refused article line kind) h f = (h, (refl, refl))
-  stop-AnswersVerify stop.ReadFault h f = (f refl, (refl, refl))
-  stop-AnswersVerify stop.Memory h f = (refl, refl)
+  pub stop-AnswersVerify : (share : Bool) (s : Stop) → Stops s shelf.told_before names → (s ≡ stop.ReadFault → ReadFailed shelf)
+      → AnswersVerify share names shelf (status_of (answer_of_stop s)) (text_of (answer_of_stop s)) (note_of (answer_of_stop s))
+  stop-AnswersVerify share (stop.Refused article line kind) h f = (h, (refl, refl))
+  stop-AnswersVerify share stop.ReadFault h f = (f refl, (refl, refl))
+  stop-AnswersVerify share stop.Memory h f = (refl, refl)
 
-  pub stop-AnswersTranslate : (s : Stop) → Stops s shelf.told_before names → (s ≡ stop.ReadFault → ReadFailed shelf)
-      → AnswersTranslate names shelf (status_of (answer_of_stop s)) (text_of (answer_of_stop s)) (note_of (answer_of_stop s))
-  stop-AnswersTranslate (stop.Refused article line kind) h f = (h, (refl, refl))
-  stop-AnswersTranslate stop.ReadFault h f = (f refl, (refl, refl))
-  stop-AnswersTranslate stop.Memory h f = (refl, refl)
+  pub stop-AnswersTranslate : (share : Bool) (s : Stop) → Stops s shelf.told_before names → (s ≡ stop.ReadFault → ReadFailed shelf)
+      → AnswersTranslate share names shelf (status_of (answer_of_stop s)) (text_of (answer_of_stop s)) (note_of (answer_of_stop s))
+  stop-AnswersTranslate share (stop.Refused article line kind) h f = (h, (refl, refl))
+  stop-AnswersTranslate share stop.ReadFault h f = (f refl, (refl, refl))
+  stop-AnswersTranslate share stop.Memory h f = (refl, refl)
 
   pub stop-AnswersShow : (s : Stop) → Stops s shelf.told_before names → (s ≡ stop.ReadFault → ReadFailed shelf)
       → AnswersShow names shelf (status_of (answer_of_stop s)) (text_of (answer_of_stop s)) (note_of (answer_of_stop s))

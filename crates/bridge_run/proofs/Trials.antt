@@ -6,7 +6,7 @@ use Rattle.std.specs.Str.{bytes_eq}
 use Rattle.std.proofs.lemmas.Bool.Decides.{nat_tests}
 use Rattle.article_spec.specs.Numbers.{is_digit, decimal}
 use Rattle.bridge_run.specs.Blocks.{HasBlocks}
-use Rattle.bridge_spec.specs.Forms.{Form, translate, show, decode, trial, greatest_trial, is_file, are_files, up_to, number_up_to, trial_of, budget_in, check_in, Checking, checking, check_after, check_form, verify_in, Verifying, verifying, verify_after, verify_form, decode_form, trial_form, form_by, form_of}
+use Rattle.bridge_spec.specs.Forms.{Form, verify, translate, show, decode, trial, greatest_trial, is_file, are_files, up_to, number_up_to, trial_of, budget_in, check_in, Checking, checking, check_after, check_form, run_in, Running, running, run_after, verify_form, translate_form, decode_form, trial_form, form_by, form_of}
 
 -- what is asked of a number that a word says
 abbrev IsNumber : ℕ → Option ℕ → Type 0
@@ -62,18 +62,24 @@ check_after-HasBlocks g false (w ∷ ws) =
 check_form-HasBlocks : (words : List (List ℕ)) → HasBlocks (check_form words)
 check_form-HasBlocks words = check_after-HasBlocks (checking None None false) false words
 
-verify_in-HasBlocks : (fast : Bool) (files : List (List ℕ)) → HasBlocks (verify_in fast files)
-verify_in-HasBlocks fast [] = tt
-verify_in-HasBlocks fast (name ∷ names) = tt
+-- of a form that needs no number of blocks, whatever was read
+module _ (fast_too : Bool) (form : Running → Form) (none : (g : Running) → HasBlocks (Some (form g))) where
+  run_in-HasBlocks : (g : Running) (files : List (List ℕ)) → HasBlocks (run_in form g files)
+  run_in-HasBlocks g [] = tt
+  run_in-HasBlocks g (name ∷ names) = none g
 
-verify_after-HasBlocks : (g : Verifying) (words : List (List ℕ)) → HasBlocks (verify_after g words)
-verify_after-HasBlocks g [] = verify_in-HasBlocks g.fast g.files
-verify_after-HasBlocks g (w ∷ ws) =
-    either (bytes_eq w (codes "--fast")) _ _ (either g.fast None _ tt (verify_after-HasBlocks (record g { fast = true }) ws))
-    (either (is_file w) _ None (verify_after-HasBlocks (record g { files = g.files ++ w ∷ [] }) ws) tt)
+  run_after-HasBlocks : (g : Running) (words : List (List ℕ)) → HasBlocks (run_after fast_too form g words)
+  run_after-HasBlocks g [] = run_in-HasBlocks g g.files
+  run_after-HasBlocks g (w ∷ ws) =
+      either (bytes_eq w (codes "--share")) _ _ (either g.share None _ tt (run_after-HasBlocks (record g { share = true }) ws))
+      (either (fast_too && bytes_eq w (codes "--fast")) _ _ (either g.fast None _ tt (run_after-HasBlocks (record g { fast = true }) ws))
+      (either (is_file w) _ None (run_after-HasBlocks (record g { files = g.files ++ w ∷ [] }) ws) tt))
 
 verify_form-HasBlocks : (words : List (List ℕ)) → HasBlocks (verify_form words)
-verify_form-HasBlocks words = verify_after-HasBlocks (verifying [] false) words
+verify_form-HasBlocks words = run_after-HasBlocks true (λ g. verify g.share g.fast g.files) (λ g. tt) (running [] false false) words
+
+translate_form-HasBlocks : (words : List (List ℕ)) → HasBlocks (translate_form words)
+translate_form-HasBlocks words = run_after-HasBlocks false (λ g. translate g.share g.files) (λ g. tt) (running [] false false) words
 
 decode_form-HasBlocks : (words : List (List ℕ)) → HasBlocks (decode_form words)
 decode_form-HasBlocks [] = tt
@@ -97,10 +103,9 @@ form_by-HasBlocks : (word : List ℕ) (words : List (List ℕ)) → HasBlocks (f
 form_by-HasBlocks word words = go (bytes_eq word (codes "verify")) (bytes_eq word (codes "translate")) (bytes_eq word (codes "check")) (bytes_eq word (codes "show")) (bytes_eq word (codes "decode")) (bytes_eq word (codes "trial")) (are_files words)
   where
     go : (v t c s d r files : Bool)
-        → HasBlocks (if v then verify_form words else if t then (if files then Some (translate words) else None) else if c then check_form words else if s then (if files then Some (show words) else None) else if d then decode_form words else if r then trial_form words else None)
+        → HasBlocks (if v then verify_form words else if t then translate_form words else if c then check_form words else if s then (if files then Some (show words) else None) else if d then decode_form words else if r then trial_form words else None)
     go true t c s d r files = verify_form-HasBlocks words
-    go false true c s d r true = tt
-    go false true c s d r false = tt
+    go false true c s d r files = translate_form-HasBlocks words
     go false false true s d r files = check_form-HasBlocks words
     go false false false true d r true = tt
     go false false false true d r false = tt

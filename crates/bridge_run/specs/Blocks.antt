@@ -5,8 +5,8 @@ use Rattle.bridge_spec.specs.Forms.{Form, verify, translate, check, show, decode
 -- where a form asks for a trial, it has a block and no more than the most
 abbrev pub HasBlocks : Option Form → Type 0
 HasBlocks None = Unit {0}
-HasBlocks (Some (verify fast names)) = Unit {0}
-HasBlocks (Some (translate names)) = Unit {0}
+HasBlocks (Some (verify share fast names)) = Unit {0}
+HasBlocks (Some (translate share names)) = Unit {0}
 HasBlocks (Some (check fast name budget)) = Unit {0}
 HasBlocks (Some (show names)) = Unit {0}
 HasBlocks (Some (decode name)) = Unit {0}

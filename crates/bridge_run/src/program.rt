@@ -54,8 +54,8 @@ fn answered<H: Shelf, O: Sink, N: Sink>(
     ensures { Promise (call (Some (asked form.now)) (shelved H.told H.faults H.begun shelf.old shelf.new) (sunk O.got O.faults out.old out.new) (sunk N.got N.faults note.old note.new)) result }
 {
     match form {
-        Form::Verify(fast, files) => verify(alloc, files, *fast, shelf, out, note),
-        Form::Translate(files) => translate(alloc, files, shelf, out, note),
+        Form::Verify(share, fast, files) => verify(alloc, files, *share, *fast, shelf, out, note),
+        Form::Translate(share, files) => translate(alloc, files, *share, shelf, out, note),
         Form::Check(fast, file, budget) => check(alloc, file, *budget, *fast, shelf, out, note),
         Form::Show(files) => show(alloc, files, shelf, out, note),
         Form::Decode(file) => decode(alloc, file, shelf, out, note),

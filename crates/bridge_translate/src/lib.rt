@@ -1,15 +1,16 @@
-//! The part of the program for the words `translate FILE..`: the module of the run of some articles.
+//! The part of the program for the words `translate [--share] FILE..`: the module of the run of some articles.
 //!
 //! [`translate`] is the call of these words. Its contract is that of the program for them, in the words of `bridge_spec`: it answers
 //! Done exactly where the stack machine accepts the articles, one after another, and then standard output has the one text of the
-//! module of the run, with its bounds, and standard error the counts. [`translation_of`] is the part before anything is written, and
-//! [`deliver_translation`] writes: `verify` checks the module in between. [`write_counts`] writes the counts alone, for `trial`.
+//! module of the run, with shared abbreviations or without, and with its bounds, and standard error the counts. [`translation_of`] is
+//! the part before anything is written, and [`deliver_translation`] writes: `verify` checks the module in between. [`write_counts`]
+//! writes the counts alone, for `trial`.
 //!
-//! It stands on `bridge_reading` for the run, on `translate_rule` for the module, on `lp_weight` for the bounds and on `dk_write` for
-//! the text, which is never held whole.
+//! It stands on `bridge_reading` for the run, on `translate_rule` for the module, on `share` for its abbreviations, on `lp_weight` for
+//! the bounds and on `dk_write` for the text, which is never held whole.
 //!
 //! ```text
-//! let status = translate(alloc, &files, &mut shelf, &mut out, &mut note);
+//! let status = translate(alloc, &files, false, &mut shelf, &mut out, &mut note);
 //! assert_eq!(status, Status::Done);
 //! ```
 #![tactic(auto)]

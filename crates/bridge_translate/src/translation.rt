@@ -1,14 +1,13 @@
 //! The module of the run of some articles, before anything is written.
-ghost use Rattle.std.specs.Prelude.{◌≡◌, ◌≤◌, Option, OnOk, IfOk, IfErr, length, map, min};
+ghost use Rattle.std.specs.Prelude.{◌≡◌, ◌≤◌, ℕ, List, Option, OnOk, IfOk, IfErr, length, map, min};
 ghost use Rattle.bridge_base.specs.Outside.{Files, Rose, Begins, BeginsFront};
 ghost use Rattle.hol_spec.specs.Proofs.{Accepted};
 ghost use Rattle.article_spec.specs.Run.{accepted_state};
 ghost use Rattle.holide_sig.specs.Modules.{declarations_of, IsHeld};
 ghost use Rattle.lp_spec.specs.Weight.{bound as bound_of, greatest};
-ghost use Rattle.module_spec.specs.Image.{image};
 ghost use Rattle.bridge_spec.specs.Answers.{IsRunOf};
 ghost use Rattle.bridge_spec.specs.Calls.{names_in};
-ghost use Rattle.bridge_spec.specs.Texts.{written_bound, written_bounds};
+ghost use Rattle.bridge_spec.specs.Texts.{module_of, written_bound, written_bounds};
 ghost use Rattle.bridge_reading.specs.Stops.{Stops, StopsBegun};
 ghost use Rattle.bridge_translate.specs.Translations.{counts_in, IsTranslationOf};
 
@@ -16,6 +15,7 @@ use bridge_base::{Memory, Shelf};
 use bridge_reading::{Stop, read_articles};
 use holide_sig::{Form, Module};
 use lp_weight::bound;
+use share::fold;
 use stack_machine::Machine;
 use std::alloc::Global;
 use translate_rule::module;
@@ -43,13 +43,14 @@ pub struct Translation {
     pub counts: Counts,
 }
 
-/// The module of the run of the articles in these files; or why there is none.
+/// The module of the run of the articles in these files, with shared abbreviations or without; or why there is none.
 pub fn translation_of<H: Shelf>(
     alloc: Global,
     files: &[String],
+    share: bool,
     shelf: &mut H,
 ) -> Result<Translation, Stop>
-    ensures translated { IfOk result (λ translation. (run : Accepted) × IsRunOf (H.told shelf.old) (names_in files.now) run × IsTranslationOf (length (names_in files.now)) run translation) }
+    ensures translated { IfOk result (λ translation. (run : Accepted) × IsRunOf (H.told shelf.old) (names_in files.now) run × IsTranslationOf share (length (names_in files.now)) run translation) }
     ensures refused { IfErr result (λ stop. Stops stop (H.told shelf.old) (names_in files.now)) }
     ensures all_begun { OnOk result (Begins (H.begun shelf.old) (names_in files.now) (H.begun shelf.new)) }
     ensures refused_begun { IfErr result (λ stop. StopsBegun stop (H.begun shelf.old) (names_in files.now) (H.begun shelf.new)) }
@@ -59,7 +60,7 @@ pub fn translation_of<H: Shelf>(
     ensures count { H.faults shelf.old ≤ H.faults shelf.new }
 {
     let machine = read_articles(alloc, files, shelf)?;
-    let made = translated(alloc, files, &machine);
+    let made = translated(alloc, files, &machine, share);
     drop(machine);
     match made {
         Ok(translation) => Ok(translation),
@@ -68,19 +69,22 @@ pub fn translation_of<H: Shelf>(
 }
 
 // The module of the run at whose end the machine is, with its bounds and what is counted.
-fn translated(alloc: Global, files: &[String], machine: &Machine) -> Result<Translation, Memory>
+fn translated(
+    alloc: Global,
+    files: &[String],
+    machine: &Machine,
+    share: bool,
+) -> Result<Translation, Memory>
     requires { (told : Option Files) × IsRunOf told (names_in files.now) (accepted_state machine.now) }
-    ensures { IfOk result (IsTranslationOf (length (names_in files.now)) (accepted_state machine.now)) }
+    ensures { IfOk result (IsTranslationOf share (length (names_in files.now)) (accepted_state machine.now)) }
 {
-    let assumptions = machine.assumptions();
-    let exports = machine.exports();
-    let made = module(alloc, machine.proof(), assumptions, exports)?;
+    let made = module_of(alloc, machine, share)?;
     match bounds_of(alloc, &made) {
         Ok(bounds) => {
             let counts = Counts {
                 articles: files.len() as u64,
-                assumptions: assumptions.len() as u64,
-                exports: exports.len() as u64,
+                assumptions: machine.assumptions().len() as u64,
+                exports: machine.exports().len() as u64,
                 declarations: made.decls.len() as u64,
                 bounds: total(&made, &bounds),
             };
@@ -95,6 +99,24 @@ fn translated(alloc: Global, files: &[String], machine: &Machine) -> Result<Tran
             Err(Memory)
         }
     }
+}
+
+// The module of the run at whose end the machine is: its image, or where the flag says so its image with shared abbreviations.
+fn module_of(alloc: Global, machine: &Machine, share: bool) -> Result<Module, Memory>
+    requires { (told : Option Files) × (names : List (List ℕ)) × IsRunOf told names (accepted_state machine.now) }
+    ensures held { IfOk result IsHeld }
+    ensures module { IfOk result (λ made. declarations_of made ≡ module_of share (accepted_state machine.now)) }
+{
+    let image = module(
+        alloc,
+        machine.proof(),
+        machine.assumptions(),
+        machine.exports(),
+    )?;
+    if !share {
+        return Ok(image);
+    }
+    fold(alloc, image)
 }
 
 // The bound of each declaration.

@@ -1,5 +1,5 @@
 //! The module of the run of the generated article, checked.
-ghost use Rattle.std.specs.Prelude.{◌≡◌, ◌<◌, ◌≤◌, [], ◌∷◌, IfOk, IfErr, OnOk, length, true};
+ghost use Rattle.std.specs.Prelude.{◌≡◌, ◌<◌, ◌≤◌, [], ◌∷◌, IfOk, IfErr, OnOk, length, true, false};
 ghost use Rattle.hol_spec.specs.Proofs.{Accepted};
 ghost use Rattle.lp_kernel.specs.Checks.{PassBelow};
 ghost use Rattle.module_spec.specs.Image.{image};
@@ -21,7 +21,7 @@ use std::alloc::Global;
 pub(crate) fn verified(alloc: Global, n: u64) -> Result<Counts, Answer>
     requires some { 0 < n }
     requires within { n ≤ greatest_trial }
-    ensures counts { IfOk result (λ counts. (run : Accepted) × IsRunOfTrial n run × (counts_in counts ≡ counts_of 1 run)) }
+    ensures counts { IfOk result (λ counts. (run : Accepted) × IsRunOfTrial n run × (counts_in counts ≡ counts_of false 1 run)) }
     ensures accepted { OnOk result ((run : Accepted) × IsRunOfTrial n run × PassBelow true (image run) (length (image run))) }
     ensures memory { IfErr result (λ answer. answer ≡ Answer.Memory) }
 {
@@ -39,7 +39,7 @@ pub(crate) fn verified(alloc: Global, n: u64) -> Result<Counts, Answer>
 fn translated(alloc: Global, n: u64) -> Result<Translation, Answer>
     requires some { 0 < n }
     requires within { n ≤ greatest_trial }
-    ensures translated { IfOk result (λ translation. (run : Accepted) × IsRunOfTrial n run × IsTranslationOf 1 run translation) }
+    ensures translated { IfOk result (λ translation. (run : Accepted) × IsRunOfTrial n run × IsTranslationOf false 1 run translation) }
     ensures memory { IfErr result (λ answer. answer ≡ Answer.Memory) }
 {
     match article_words(alloc) {
@@ -57,7 +57,7 @@ fn translated_under(alloc: Global, n: u64, words: &[String]) -> Result<Translati
     requires some { 0 < n }
     requires within { n ≤ greatest_trial }
     requires name { names_in words.now ≡ article_name ∷ [] }
-    ensures translated { IfOk result (λ translation. (run : Accepted) × IsRunOfTrial n run × IsTranslationOf 1 run translation) }
+    ensures translated { IfOk result (λ translation. (run : Accepted) × IsRunOfTrial n run × IsTranslationOf false 1 run translation) }
     ensures memory { IfErr result (λ answer. answer ≡ Answer.Memory) }
 {
     match article_shelf(alloc, n) {
@@ -81,10 +81,10 @@ fn translated_from(
     requires within { n ≤ greatest_trial }
     requires name { names_in words.now ≡ article_name ∷ [] }
     requires files { shelf.old.files ≡ article_files n }
-    ensures translated { IfOk result (λ translation. (run : Accepted) × IsRunOfTrial n run × IsTranslationOf 1 run translation) }
+    ensures translated { IfOk result (λ translation. (run : Accepted) × IsRunOfTrial n run × IsTranslationOf false 1 run translation) }
     ensures memory { IfErr result (λ answer. answer ≡ Answer.Memory) }
 {
-    match translation_of(alloc, words, shelf) {
+    match translation_of(alloc, words, false, shelf) {
         Ok(translation) => Ok(translation),
         Err(stop) => Err(stop.into_answer()),
     }

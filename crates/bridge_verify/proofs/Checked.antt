@@ -13,18 +13,17 @@ use Rattle.lp_kernel.specs.declared.checks.Verdict.{Verdict}
 use Rattle.lp_kernel.specs.declared.checks.Verdict.TheVariants as verdict
 use Rattle.holide_sig.specs.declared.module.Module.{Module}
 use Rattle.holide_sig.specs.Modules.{declaration_in, declarations_of}
-use Rattle.module_spec.specs.Image.{image}
 use Rattle.bridge_spec.specs.Headline.{Headline}
-use Rattle.bridge_spec.specs.Texts.{module_bounds}
+use Rattle.bridge_spec.specs.Texts.{module_bounds, module_of}
 use Rattle.headline_laws.specs.Headlines.{declaration-at}
 use Rattle.bridge_translate.specs.Translations.{IsTranslationOf}
 use Rattle.bridge_translate.specs.TranslationLaws.{written-module_text}
 use Rattle.bridge_translate.specs.declared.translation.Translation.{Translation}
 
 -- the check of each declaration says yes within its bound
-image-PassWithin : (run : Accepted) → Headline run → PassWithin true (image run) (module_bounds run) (length (image run))
-image-PassWithin run h k l =
-    let m = image run in
+module-PassWithin : (share : Bool) (run : Accepted) → Headline share run → PassWithin true (module_of share run) (module_bounds share run) (length (module_of share run))
+module-PassWithin share run h k l =
+    let m = module_of share run in
     let d = declaration-at m k l in
     let e = h.within k d.0 d.1 in (
       d.0.ty,
@@ -50,22 +49,22 @@ accepted-PassBelow rechecks ds budgets verdict.Accepted h e = h
 accepted-PassBelow rechecks ds budgets (verdict.IllTyped i) h e = absurd (cc)
 accepted-PassBelow rechecks ds budgets (verdict.OverBudget i) h e = absurd (cc)
 
-module _ (articles : ℕ) (run : Accepted) (t : Translation) (h : IsTranslationOf articles run t) (good : Headline run) where
+module _ (share : Bool) (articles : ℕ) (run : Accepted) (t : Translation) (h : IsTranslationOf share articles run t) (good : Headline share run) where
   -- the text that was gathered reads as the run's module
-  pub gathered-Reads : (text : List ℕ) → text ≡ written (declarations_of t.module) t.bounds.items → Reads text (image run)
-  gathered-Reads text e = subst (λ text. Reads text (image run)) (sym (e ∙ written-module_text articles run t h)) good.reads
+  pub gathered-Reads : (text : List ℕ) → text ≡ written (declarations_of t.module) t.bounds.items → Reads text (module_of share run)
+  gathered-Reads text e = subst (λ text. Reads text (module_of share run)) (sym (e ∙ written-module_text share articles run t h)) good.reads
 
-  module _ (back : Module) (same : declarations_of back ≡ image run) (budgets : List ℕ) (are : budgets ≡ t.bounds.items) where
-    length-back : length back.decls ≡ length (image run)
+  module _ (back : Module) (same : declarations_of back ≡ module_of share run) (budgets : List ℕ) (are : budgets ≡ t.bounds.items) where
+    length-back : length back.decls ≡ length (module_of share run)
     length-back = sym (length-map back.decls (declaration_in back.table)) ∙ ap length same
 
     -- there is a budget for each declaration of what was read back
     pub length-budgets : length budgets ≡ length back.decls
-    length-budgets = ap length (are ∙ h.bounds) ∙ length-map (image run) (bound (image run)) ∙ sym length-back
+    length-budgets = ap length (are ∙ h.bounds) ∙ length-map (module_of share run) (bound (module_of share run)) ∙ sym length-back
 
     -- the check of each declaration of it says yes within its budget
     pub back-PassWithin : PassWithin true (declarations_of back) budgets (length back.decls)
     back-PassWithin =
         subst (λ m. PassWithin true m budgets (length back.decls)) (sym same)
-        (subst (λ bounds. PassWithin true (image run) bounds (length back.decls)) (sym (are ∙ h.bounds))
-        (subst (PassWithin true (image run) (module_bounds run)) (sym length-back) (image-PassWithin run good)))
+        (subst (λ bounds. PassWithin true (module_of share run) bounds (length back.decls)) (sym (are ∙ h.bounds))
+        (subst (PassWithin true (module_of share run) (module_bounds share run)) (sym length-back) (module-PassWithin share run good)))

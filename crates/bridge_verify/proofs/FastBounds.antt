@@ -1,5 +1,5 @@
 -- Bounds one after another, and that each declaration of a run's module passes within its bound without rechecks of sorts.
-use Rattle.std.proofs.Common.{◌≡◌, ℕ, zero, suc, ◌+◌, ◌<◌, ◌≤◌, false, List, [], ◌∷◌, ◌++◌, map, length, take, slice_get, refl, sym, ap, subst, ◌∙◌, arith}
+use Rattle.std.proofs.Common.{◌≡◌, ℕ, Bool, zero, suc, ◌+◌, ◌<◌, ◌≤◌, false, List, [], ◌∷◌, ◌++◌, map, length, take, slice_get, refl, sym, ap, subst, ◌∙◌, arith}
 use Rattle.std.specs.Prelude.{option_map}
 use Rattle.std.specs.Option.{option_map_or}
 use Rattle.std.proofs.lemmas.List.{length-map}
@@ -10,8 +10,8 @@ use Rattle.lp_fast.specs.FastCheck.{fast_bound}
 use Rattle.lp_kernel.specs.Checks.{PassWithin}
 use Rattle.holide_sig.specs.declared.module.Module.{Module}
 use Rattle.holide_sig.specs.Modules.{declaration_in, declarations_of}
-use Rattle.module_spec.specs.Image.{image}
 use Rattle.bridge_spec.specs.Headline.{Headline}
+use Rattle.bridge_spec.specs.Texts.{module_of}
 use Rattle.headline_laws.specs.Headlines.{declaration-at}
 
 -- what a function gives of the elements so far, and of the next
@@ -31,9 +31,9 @@ front-whole (x ∷ xs) zero l = absurd (omega (arith, l))
 front-whole (x ∷ xs) (suc i) l = ap (λ ys. x ∷ ys) (front-whole xs i (omega (arith, l)))
 
 -- the check of each declaration of a run's module without rechecks of sorts says yes within its bound
-image-PassWithin : (run : Accepted) → Headline run → PassWithin false (image run) (map (fast_bound (image run)) (image run)) (length (image run))
-image-PassWithin run h k l =
-    let m = image run in
+module-PassWithin : (share : Bool) (run : Accepted) → Headline share run → PassWithin false (module_of share run) (map (fast_bound (module_of share run)) (module_of share run)) (length (module_of share run))
+module-PassWithin share run h k l =
+    let m = module_of share run in
     let d = declaration-at m k l in
     let e = h.within_fast k d.0 d.1 in (
       d.0.ty,
@@ -46,8 +46,8 @@ image-PassWithin run h k l =
       },
     )
 
-module _ (run : Accepted) (good : Headline run) (back : Module) (same : declarations_of back ≡ image run) (budgets : List ℕ) (are : budgets ≡ map (fast_bound (declarations_of back)) (declarations_of back)) where
-  length-back : length back.decls ≡ length (image run)
+module _ (share : Bool) (run : Accepted) (good : Headline share run) (back : Module) (same : declarations_of back ≡ module_of share run) (budgets : List ℕ) (are : budgets ≡ map (fast_bound (declarations_of back)) (declarations_of back)) where
+  length-back : length back.decls ≡ length (module_of share run)
   length-back = sym (length-map back.decls (declaration_in back.table)) ∙ ap length same
 
   -- there is a budget for each declaration
@@ -58,5 +58,5 @@ module _ (run : Accepted) (good : Headline run) (back : Module) (same : declarat
   pub back-PassWithin : PassWithin false (declarations_of back) budgets (length back.decls)
   back-PassWithin =
       subst (λ m. PassWithin false m budgets (length back.decls)) (sym same)
-      (subst (λ bounds. PassWithin false (image run) bounds (length back.decls)) (sym (are ∙ ap (λ m. map (fast_bound m) m) same))
-      (subst (PassWithin false (image run) (map (fast_bound (image run)) (image run))) (sym length-back) (image-PassWithin run good)))
+      (subst (λ bounds. PassWithin false (module_of share run) bounds (length back.decls)) (sym (are ∙ ap (λ m. map (fast_bound m) m) same))
+      (subst (PassWithin false (module_of share run) (map (fast_bound (module_of share run)) (module_of share run))) (sym length-back) (module-PassWithin share run good)))

@@ -1,5 +1,5 @@
 //! A module read back from its text, and checked.
-ghost use Rattle.std.specs.Prelude.{◌≡◌, ◌<◌, ◌++◌, [], ℕ, List, None, length, not, IfOk, IfErr, OnOk};
+ghost use Rattle.std.specs.Prelude.{◌≡◌, ◌<◌, ◌++◌, [], ℕ, Bool, List, None, length, not, IfOk, IfErr, OnOk};
 ghost use Rattle.dk_read.specs.declared.faults.DkKind.{DkKind as AKind};
 ghost use Rattle.dk_read.specs.Readers.{Feeds, IsFed};
 ghost use Rattle.dk_write.specs.Lines.{line_at, text_before};
@@ -29,7 +29,7 @@ use std::alloc::Global;
 /// without rechecks of sorts, within the bounds of such checks. The yes is that of the check. Only want of memory is answered in place of
 /// it. The text of one declaration is held at a time.
 pub fn check_back(alloc: Global, translation: &Translation, fast: bool) -> Result<(), Answer>
-    requires { (articles : ℕ) × (run : Accepted) × IsTranslationOf articles run translation.now × Headline run }
+    requires { (share : Bool) × (articles : ℕ) × (run : Accepted) × IsTranslationOf share articles run translation.now × Headline share run }
     ensures accepted { OnOk result (PassBelow (not fast) (declarations_of translation.now.module) (length (declarations_of translation.now.module))) }
     ensures memory { IfErr result (λ answer. answer ≡ Answer.Memory) }
 {
@@ -47,7 +47,7 @@ fn check_read(
     back: &mut Module,
     fast: bool,
 ) -> Result<(), Answer>
-    requires made { (articles : ℕ) × (run : Accepted) × IsTranslationOf articles run translation.now × Headline run }
+    requires made { (share : Bool) × (articles : ℕ) × (run : Accepted) × IsTranslationOf share articles run translation.now × Headline share run }
     requires read { (m : List Declaration) → Reads (written (declarations_of translation.now.module) translation.now.bounds.items) m → declarations_of back.old ≡ m }
     requires held { IsHeld back.old }
     requires is_module { IsModule (declarations_of back.old) }
@@ -69,7 +69,7 @@ fn verdict_on(
     back: &mut Module,
     fast: bool,
 ) -> Result<Verdict, Memory>
-    requires made { (articles : ℕ) × (run : Accepted) × IsTranslationOf articles run translation.now × Headline run }
+    requires made { (share : Bool) × (articles : ℕ) × (run : Accepted) × IsTranslationOf share articles run translation.now × Headline share run }
     requires read { (m : List Declaration) → Reads (written (declarations_of translation.now.module) translation.now.bounds.items) m → declarations_of back.old ≡ m }
     requires held { IsHeld back.old }
     requires is_module { IsModule (declarations_of back.old) }

@@ -1,13 +1,13 @@
 //! The check of a module that was read back, without rechecks of sorts.
-ghost use Rattle.std.specs.Prelude.{◌≡◌, IfOk, map, length, false};
+ghost use Rattle.std.specs.Prelude.{◌≡◌, Bool, IfOk, map, length, false};
 ghost use Rattle.hol_spec.specs.Proofs.{Accepted};
 ghost use Rattle.lp_spec.specs.ModuleOrder.{IsModule};
 ghost use Rattle.lp_fast.specs.FastCheck.{fast_bound};
 ghost use Rattle.lp_kernel.specs.Checks.{PassBelow};
 ghost use Rattle.lp_kernel.specs.declared.checks.Verdict.TheVariants as verdict;
 ghost use Rattle.holide_sig.specs.Modules.{declarations_of, IsHeld};
-ghost use Rattle.module_spec.specs.Image.{image};
 ghost use Rattle.bridge_spec.specs.Headline.{Headline};
+ghost use Rattle.bridge_spec.specs.Texts.{module_of};
 
 use bridge_base::Memory;
 use holide_sig::Module;
@@ -16,7 +16,7 @@ use std::alloc::Global;
 
 /// The verdict on the module of a run without rechecks of sorts, each declaration within its bound for that: it is accepted.
 pub(crate) fn checked_fast(alloc: Global, back: &mut Module) -> Result<Verdict, Memory>
-    requires run { (run : Accepted) × Headline run × (declarations_of back.old ≡ image run) }
+    requires run { (share : Bool) × (run : Accepted) × Headline share run × (declarations_of back.old ≡ module_of share run) }
     requires held { IsHeld back.old }
     requires is_module { IsModule (declarations_of back.old) }
     ensures accepts { IfOk result (λ v. v ≡ verdict.Accepted) }

@@ -1,4 +1,5 @@
-//! The part of the program for the words `verify FILE..`: the module of the run of some articles, checked before it is written.
+//! The part of the program for the words `verify [--share] [--fast] FILE..`: the module of the run of some articles, checked before it is
+//! written.
 //!
 //! [`verify`] is the call of these words. Its contract is that of the program for these words, in the words of `bridge_spec`: it answers Done
 //! exactly where the stack machine accepts the articles. Before anything is written the text of the module is read again, declaration by
@@ -10,7 +11,7 @@
 //! It stands on `bridge_translate` for the module, on `dk_write` and `dk_read` for its text, and on `lp_kernel` for the check.
 //!
 //! ```text
-//! let status = verify(alloc, &files, false, &mut shelf, &mut out, &mut note);
+//! let status = verify(alloc, &files, false, false, &mut shelf, &mut out, &mut note);
 //! assert_eq!(status, Status::Done);
 //! ```
 #![tactic(auto)]

@@ -19,19 +19,21 @@ use bridge_spec::Status;
 use bridge_translate::{Translation, deliver_translation, translation_of};
 use std::alloc::Global;
 
-/// Writes the module of the run of the articles in these files to `out`, once it was read back from its text and checked, and the counts
-/// of the run to `note`; or where the run is refused to `note`. Where it is to be fast, the check is one without rechecks of sorts.
+/// Writes the module of the run of the articles in these files, with shared abbreviations or without, to `out`, once it was read back from
+/// its text and checked, and the counts of the run to `note`; or where the run is refused to `note`. Where it is to be fast, the check is
+/// one without rechecks of sorts.
 pub fn verify<H: Shelf, O: Sink, N: Sink>(
     alloc: Global,
     files: &[String],
+    share: bool,
     fast: bool,
     shelf: &mut H,
     out: &mut O,
     note: &mut N,
 ) -> Status
-    ensures { Promise (call (Some (verify fast (names_in files.now))) (shelved H.told H.faults H.begun shelf.old shelf.new) (sunk O.got O.faults out.old out.new) (sunk N.got N.faults note.old note.new)) result }
+    ensures { Promise (call (Some (verify share fast (names_in files.now))) (shelved H.told H.faults H.begun shelf.old shelf.new) (sunk O.got O.faults out.old out.new) (sunk N.got N.faults note.old note.new)) result }
 {
-    match translation_of(alloc, files, shelf) {
+    match translation_of(alloc, files, share, shelf) {
         Ok(translation) => match check_back(alloc, &translation, fast) {
             Ok(()) => deliver_verified(alloc, &translation, out, note),
             Err(answer) => deliver(answer, out, note),

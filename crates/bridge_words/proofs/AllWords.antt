@@ -10,14 +10,14 @@ use Rattle.clap.specs.Simple.{names_of, entered, subcommand_of}
 use Rattle.clap.specs.Kinds.{Kinds, or_else}
 use Rattle.clap.specs.Faults.{walk_fault, defaults_fault, settle_fault, check_fault, entered_fault, fault_of}
 use Rattle.clap.proofs.WalkLemmas.{walk_stopped}
-use Rattle.bridge_spec.specs.Forms.{Form, translate, show, files_form, form_of}
+use Rattle.bridge_spec.specs.Forms.{Form, show, form_of}
 use Rattle.bridge_words.specs.Commands.{bridge_app}
-use Rattle.bridge_words.specs.Matches.{read, read_files, read_verify, read_check, read_decode, read_trial}
-use Rattle.bridge_words.proofs.WordKinds.{Kind, file, budget, named, fast, valued, other}
-use Rattle.bridge_words.proofs.BuiltCommand.{top_shape, built_app, files_leaf, verify_leaf, check_leaf, decode_leaf, trial_leaf}
+use Rattle.bridge_words.specs.Matches.{read, read_files, read_verify, read_translate, read_check, read_decode, read_trial}
+use Rattle.bridge_words.proofs.WordKinds.{Kind, file, budget, named, fast, share, fast_valued, share_valued, other}
+use Rattle.bridge_words.proofs.BuiltCommand.{top_shape, built_app, files_leaf, verify_leaf, translate_leaf, check_leaf, decode_leaf, trial_leaf}
 use Rattle.bridge_words.proofs.Leaves.{taken, fault, decode-words, trial-words}
 use Rattle.bridge_words.proofs.CheckWalk.{check-words}
-use Rattle.bridge_words.proofs.VerifyWalk.{verify-words}
+use Rattle.bridge_words.proofs.RunWalk.{verify-words, translate-words}
 use Rattle.bridge_words.proofs.FilesWords.{files-words}
 
 abbrev names : Names
@@ -59,21 +59,17 @@ bytes_eq-turned xs ys n = one_answer (bytes_eq ys xs) (bytes_eq xs ys) (bytes_eq
 
 module _ (program : Text) (ws : List Text) (h : AllByRecursion Kind ws) where
   -- so it is with each subcommand
-  files-asks : (name : Text) (form : List Text → Form) → asked_at [] (at name ws) ≡ taken (or_else (fault (files_leaf name) ws) []) (read_files form (rows_after (files_leaf name).rules [] ws))
-      → asked_at (walk_fault top_shape names (at name []) ws) (fold (walked [] names) (at name []) ws) ≡ files_form form ws
-  files-asks name form top = asked_at-name name ws ∙ top ∙ or_else-nil (fault (files_leaf name) ws) (read_files form (rows_after (files_leaf name).rules [] ws)) ∙ files-words name form ws h
-
   verify-asks : Asks (program ∷ codes "verify" ∷ ws)
   unfolding walked walk_fault defaults_fault
   verify-asks = asked_at-name (codes "verify") ws ∙ or_else-nil (fault verify_leaf ws) (read_verify (rows_after verify_leaf.rules [] ws)) ∙ verify-words ws h
 
   translate-asks : Asks (program ∷ codes "translate" ∷ ws)
   unfolding walked walk_fault defaults_fault
-  translate-asks = files-asks (codes "translate") translate refl
+  translate-asks = asked_at-name (codes "translate") ws ∙ or_else-nil (fault translate_leaf ws) (read_translate (rows_after translate_leaf.rules [] ws)) ∙ translate-words ws h
 
   show-asks : Asks (program ∷ codes "show" ∷ ws)
   unfolding walked walk_fault defaults_fault
-  show-asks = files-asks (codes "show") show refl
+  show-asks = asked_at-name (codes "show") ws ∙ or_else-nil (fault (files_leaf (codes "show")) ws) (read_files show (rows_after (files_leaf (codes "show")).rules [] ws)) ∙ files-words (codes "show") show ws h
 
   check-asks : Asks (program ∷ codes "check" ∷ ws)
   unfolding walked walk_fault defaults_fault
@@ -102,8 +98,10 @@ module _ (program : Text) (ws : List Text) (h : AllByRecursion Kind ws) where
   first-asks w budget = refl
   first-asks w (named number) = refl
   first-asks w fast = refl
-  first-asks w (valued value) = refl
-  first-asks w (other c cs e n m o p) = refl
+  first-asks w share = refl
+  first-asks w (fast_valued value) = refl
+  first-asks w (share_valued value) = refl
+  first-asks w (other c cs o) = refl
   first-asks w (file b bs e) = go (bytes_eq w (codes "verify")) refl (bytes_eq w (codes "translate")) refl (bytes_eq w (codes "check")) refl (bytes_eq w (codes "show")) refl (bytes_eq w (codes "decode")) refl (bytes_eq w (codes "trial")) refl
     where
       is : (name : Text) → bytes_eq (b ∷ bs) name ≡ true → Asks (program ∷ name ∷ ws) → Asks (program ∷ (b ∷ bs) ∷ ws)

@@ -4,15 +4,15 @@ use Rattle.clap.specs.Walk.{Rule}
 use Rattle.clap.specs.Simple.{App, Shape, built}
 use Rattle.clap.specs.Faults.{is_simple_and_free}
 use Rattle.clap.specs.declared.builder.value_parser.ValueParser.TheVariants as vp
-use Rattle.bridge_words.specs.Commands.{files_rule, file_rule, blocks_rule, budget_rule, fast_rule, bridge_app}
+use Rattle.bridge_words.specs.Commands.{files_rule, file_rule, blocks_rule, budget_rule, flag_rule, bridge_app}
 
 -- an argument with what it left out
 abbrev pub filled_rule : Option ℕ → Rule → Rule
 filled_rule index rule = record rule { index = index; parser = Some vp.String; range = Some (record { start_inclusive = 1; end_inclusive = 1 }) }
 
--- `--fast` with what it left out
-abbrev pub fast_arg : Rule
-fast_arg = record fast_rule {
+-- a flag with what it left out
+abbrev pub flag_arg : List ℕ → Rule
+flag_arg name = record (flag_rule name) {
   defaults = codes "false" ∷ [];
   missing = codes "true" ∷ [];
   parser = Some vp.Bool;
@@ -45,7 +45,10 @@ abbrev pub files_leaf : List ℕ → Shape
 files_leaf name = leaf name (filled_rule (Some 1) files_rule ∷ [])
 
 abbrev pub verify_leaf : Shape
-verify_leaf = leaf (codes "verify") (filled_rule (Some 1) files_rule ∷ fast_arg ∷ [])
+verify_leaf = leaf (codes "verify") (filled_rule (Some 1) files_rule ∷ flag_arg (codes "share") ∷ flag_arg (codes "fast") ∷ [])
+
+abbrev pub translate_leaf : Shape
+translate_leaf = leaf (codes "translate") (filled_rule (Some 1) files_rule ∷ flag_arg (codes "share") ∷ [])
 
 abbrev pub decode_leaf : Shape
 decode_leaf = leaf (codes "decode") (filled_rule (Some 1) file_rule ∷ [])
@@ -54,7 +57,7 @@ abbrev pub trial_leaf : Shape
 trial_leaf = leaf (codes "trial") (filled_rule (Some 1) blocks_rule ∷ [])
 
 abbrev pub check_leaf : Shape
-check_leaf = leaf (codes "check") (filled_rule (Some 1) file_rule ∷ filled_rule None budget_rule ∷ fast_arg ∷ [])
+check_leaf = leaf (codes "check") (filled_rule (Some 1) file_rule ∷ filled_rule None budget_rule ∷ flag_arg (codes "fast") ∷ [])
 
 -- the command, as it is built
 abbrev pub top_shape : Shape
@@ -63,7 +66,7 @@ top_shape = record (leaf (codes "bridge") []) { is_leaf = false; subcommand_requ
 abbrev pub built_app : App
 built_app = record {
   top = top_shape;
-  subs = verify_leaf ∷ files_leaf (codes "translate") ∷ check_leaf ∷ files_leaf (codes "show") ∷ decode_leaf ∷ trial_leaf ∷ [];
+  subs = verify_leaf ∷ translate_leaf ∷ check_leaf ∷ files_leaf (codes "show") ∷ decode_leaf ∷ trial_leaf ∷ [];
 }
 
 -- this is what building makes

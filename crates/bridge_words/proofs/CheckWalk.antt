@@ -1,21 +1,21 @@
 -- The walk of `clap` over the words after `check`, step by step beside the definition, which reads them from left to right.
 use Rattle.std.proofs.Common.{◌≡◌, ◌∙◌, ◌++◌, ◌&&◌, ◌||◌, ℕ, Bool, true, false, List, [], ◌∷◌, Option, Some, None, option_map, codes, refl, sym, ap, ap₂, is_some}
-use Rattle.std.specs.Prelude.{◌==◌, if◌then◌else◌, option_and_then, unwrap_or, slice_get}
+use Rattle.std.specs.Prelude.{◌==◌, if◌then◌else◌, option_and_then, slice_get}
 use Rattle.std.specs.List.{AllByRecursion, fold}
-use Rattle.std.specs.Str.{bytes_eq}
-use Rattle.clap.specs.Walk.{Rule, Row, Text, Walk, Held, idle, option, rows_after, walked, settled, settled_rows, finished, reading_by, used, is_pending, has_row, first_of, with_values, with_default, default_rows}
+use Rattle.clap.specs.Walk.{Rule, Row, Text, Walk, Held, idle, option, rows_after, walked, settled, settled_rows, finished, reading_by, used, is_pending, has_row, with_values, with_default}
 use Rattle.clap.specs.Kinds.{Kinds, or_else}
 use Rattle.clap.specs.Faults.{walk_fault, turn_fault, defaults_fault, settle_fault, check_fault}
-use Rattle.clap.specs.declared.parser.matches.ValueSource.TheVariants.{CommandLine, DefaultValue}
+use Rattle.clap.specs.declared.parser.matches.ValueSource.TheVariants.{CommandLine}
 use Rattle.clap.specs.declared.error.kind.ErrorKind.{ErrorKind}
 use Rattle.clap.specs.declared.error.kind.ErrorKind.TheVariants.{UnknownArgument, ArgumentConflict, InvalidValue, TooManyValues}
 use Rattle.bridge_spec.specs.Forms.{Form, Checking, checking, check_after, check_form, check_in, budget_in}
 use Rattle.bridge_words.specs.Commands.{file_rule, budget_rule}
 use Rattle.bridge_words.specs.Matches.{read_check}
-use Rattle.bridge_words.proofs.WordKinds.{Kind, file, budget, named, fast, valued, other}
-use Rattle.bridge_words.proofs.BuiltCommand.{filled_rule, fast_arg, check_leaf}
+use Rattle.bridge_words.proofs.WordKinds.{Kind, file, budget, named, fast, share, fast_valued, share_valued, other}
+use Rattle.bridge_words.proofs.BuiltCommand.{filled_rule, flag_arg, check_leaf}
 use Rattle.bridge_words.proofs.Leaves.{taken, fault}
 use Rattle.bridge_words.proofs.Rows.{row_at, with_values-None, without-None, row_at-other, row_at-same, has_row-at}
+use Rattle.bridge_words.proofs.Flags.{row_of_use, flag_row, row_if, with_flag, used-flag, has_flag, no-default, flag-default, row_at-with_flag, flag_in-with_flag, or_true}
 
 -- the command, as it is built
 abbrev file_arg : Rule
@@ -24,19 +24,21 @@ file_arg = filled_rule (Some 1) file_rule
 abbrev budget_arg : Rule
 budget_arg = filled_rule None budget_rule
 
+abbrev fast_arg : Rule
+fast_arg = flag_arg (codes "fast")
+
+abbrev fast_row : Row
+fast_row = flag_row (codes "fast")
+
 abbrev rules : List Rule
 rules = file_arg ∷ budget_arg ∷ fast_arg ∷ []
-
--- the row of a use
-abbrev row_of_use : Rule → List Text → Row
-row_of_use a values = record { id = a.id; values = values; count = None; source = Some CommandLine; reading = reading_by a }
 
 -- ---- the rows of what was read
 
 record Shows (g : Checking) (rows : List Row) : Type 0 where
   file : row_at (codes "file") rows ≡ option_map (λ w. row_of_use file_arg (w ∷ [])) g.file
   budget : row_at (codes "budget") rows ≡ option_map (λ w. row_of_use budget_arg (w ∷ [])) g.budget
-  fast : row_at (codes "fast") rows ≡ (if g.fast then Some (row_of_use fast_arg (codes "true" ∷ [])) else None)
+  fast : row_at (codes "fast") rows ≡ row_if g.fast fast_row
 
 Shows-file : (g : Checking) (rows : List Row) (w : Text) → Shows (record g { file = None }) rows → Shows (record g { file = Some w }) (rows ++ row_of_use file_arg (w ∷ []) ∷ [])
 Shows-file g rows w h = record {
@@ -52,11 +54,11 @@ Shows-budget g rows w h = record {
   fast = row_at-other (codes "fast") (row_of_use budget_arg (w ∷ [])) rows refl ∙ h.fast;
 }
 
-Shows-fast : (g : Checking) (rows : List Row) → Shows (record g { fast = false }) rows → Shows (record g { fast = true }) (rows ++ row_of_use fast_arg (codes "true" ∷ []) ∷ [])
+Shows-fast : (g : Checking) (rows : List Row) → Shows (record g { fast = false }) rows → Shows (record g { fast = true }) (rows ++ fast_row ∷ [])
 Shows-fast g rows h = record {
-  file = row_at-other (codes "file") (row_of_use fast_arg (codes "true" ∷ [])) rows refl ∙ h.file;
-  budget = row_at-other (codes "budget") (row_of_use fast_arg (codes "true" ∷ [])) rows refl ∙ h.budget;
-  fast = row_at-same (codes "fast") (row_of_use fast_arg (codes "true" ∷ [])) rows refl h.fast;
+  file = row_at-other (codes "file") fast_row rows refl ∙ h.file;
+  budget = row_at-other (codes "budget") fast_row rows refl ∙ h.budget;
+  fast = row_at-same (codes "fast") fast_row rows refl h.fast;
 }
 
 -- a use that is the first puts its row last
@@ -65,9 +67,6 @@ used-file w rows h = ap (λ rs. with_values (codes "file") (reading_by file_arg)
 
 used-budget : (w : Text) (rows : List Row) → row_at (codes "budget") rows ≡ None → used budget_arg (w ∷ []) rows ≡ rows ++ row_of_use budget_arg (w ∷ []) ∷ []
 used-budget w rows h = ap (λ rs. with_values (codes "budget") (reading_by budget_arg) CommandLine (w ∷ []) rs) (without-None (codes "budget") rows h) ∙ with_values-None (codes "budget") _ _ (w ∷ []) rows h
-
-used-fast : (rows : List Row) → row_at (codes "fast") rows ≡ None → used fast_arg [] rows ≡ rows ++ row_of_use fast_arg (codes "true" ∷ []) ∷ []
-used-fast rows h = ap (λ rs. with_values (codes "fast") (reading_by fast_arg) CommandLine (codes "true" ∷ []) rs) (without-None (codes "fast") rows h) ∙ with_values-None (codes "fast") _ _ (codes "true" ∷ []) rows h
 
 -- ---- what is held
 
@@ -127,9 +126,9 @@ module _ (rs : List Row) (p : Pending) (rows : List Row) (settles : settle_fault
   file-again b bs e = simp e refl
 
   -- `--fast`
-  fast-walks : (position : ℕ) → row_at (codes "fast") rows ≡ None → walked rules [] (state rs p position) (codes "--fast") ≡ state (rows ++ row_of_use fast_arg (codes "true" ∷ []) ∷ []) None position
+  fast-walks : (position : ℕ) → row_at (codes "fast") rows ≡ None → walked rules [] (state rs p position) (codes "--fast") ≡ state (rows ++ fast_row ∷ []) None position
   unfolding walked
-  fast-walks position none = ap (λ (rows : List Row). state rows None position) (ap (used fast_arg []) are ∙ used-fast rows none)
+  fast-walks position none = ap (λ (rows : List Row). state rows None position) (ap (used fast_arg []) are ∙ used-flag (codes "fast") rows none)
 
   fast-turns : (position : ℕ) → has_row (codes "fast") rows ≡ false → turn (state rs p position) (codes "--fast") ≡ []
   fast-turns position none = simp (settles, are, none) refl
@@ -179,36 +178,9 @@ asks g = check_in g.fast g.file (budget_in g.budget)
 
 -- ---- the end of the words
 
-or_true : (b : Bool) → (b || true) ≡ true
-or_true true = refl
-or_true false = refl
-
-abbrev default_row : Row
-default_row = record { id = codes "fast"; values = codes "false" ∷ []; count = None; source = Some DefaultValue; reading = reading_by fast_arg }
-
--- the rows with the default of `--fast`
-abbrev final : Bool → List Row → List Row
-final true rows = rows
-final false rows = rows ++ default_row ∷ []
-
-no-default : (rows : List Row) (a : Rule) → a.defaults ≡ [] → with_default rows a ≡ rows
-no-default rows a e = go (has_row a.id rows)
-  where
-    go : (b : Bool) → (if b then rows else default_rows a.id (reading_by a) a.defaults rows) ≡ rows
-    go true = refl
-    go false = ap (λ ds. default_rows a.id (reading_by a) ds rows) e
-
-fast-default : (fast : Bool) (rows : List Row) → row_at (codes "fast") rows ≡ (if fast then Some (row_of_use fast_arg (codes "true" ∷ [])) else None) → with_default rows fast_arg ≡ final fast rows
-fast-default true rows h =
-    let there : has_row (codes "fast") rows ≡ true = has_row-at (codes "fast") rows ∙ ap is_some h in
-    rw there refl
-fast-default false rows h =
-    let none : has_row (codes "fast") rows ≡ false = has_row-at (codes "fast") rows ∙ ap is_some h in
-    rw none (with_values-None (codes "fast") (reading_by fast_arg) DefaultValue (codes "false" ∷ []) rows h)
-
-finishes : (g : Checking) (rows : List Row) → Shows g rows → fold with_default rows rules ≡ final g.fast rows
+finishes : (g : Checking) (rows : List Row) → Shows g rows → fold with_default rows rules ≡ with_flag (codes "fast") g.fast rows
 finishes g rows h =
-    ap (λ rs. with_default (with_default rs budget_arg) fast_arg) (no-default rows file_arg refl) ∙ ap (λ rs. with_default rs fast_arg) (no-default rows budget_arg refl) ∙ fast-default g.fast rows h.fast
+    ap (λ rs. with_default (with_default rs budget_arg) fast_arg) (no-default rows file_arg refl) ∙ ap (λ rs. with_default rs fast_arg) (no-default rows budget_arg refl) ∙ flag-default (codes "fast") g.fast rows h.fast
 
 defaults-pass : (rows : List Row) → defaults_fault rows rules ≡ []
 unfolding defaults_fault
@@ -219,35 +191,22 @@ defaults-pass rows = simp (or_true (has_row (codes "file") rows), or_true (has_r
     go false = refl
 
 -- what is found at the end
-file-final : (fast : Bool) (rows : List Row) → row_at (codes "file") (final fast rows) ≡ row_at (codes "file") rows
-file-final true rows = refl
-file-final false rows = row_at-other (codes "file") default_row rows refl
-
-budget-final : (fast : Bool) (rows : List Row) → row_at (codes "budget") (final fast rows) ≡ row_at (codes "budget") rows
-budget-final true rows = refl
-budget-final false rows = row_at-other (codes "budget") default_row rows refl
-
-is_fast : (fast : Bool) (rows : List Row) → row_at (codes "fast") rows ≡ (if fast then Some (row_of_use fast_arg (codes "true" ∷ [])) else None)
-    → bytes_eq (unwrap_or (first_of (codes "fast") (final fast rows)) []) (codes "true") ≡ fast
-is_fast true rows h = rw h refl
-is_fast false rows h = rw (row_at-same (codes "fast") default_row rows refl h) refl
-
 first-value : (a : Rule) (word : Option Text) (row : Option Row) → row ≡ option_map (λ w. row_of_use a (w ∷ [])) word → option_and_then (λ r. slice_get r.values 0) row ≡ word
 first-value a None row h = rw h refl
 first-value a (Some w) row h = rw h refl
 
-reads : (g : Checking) (rows : List Row) → Shows g rows → read_check (final g.fast rows) ≡ asks g
+reads : (g : Checking) (rows : List Row) → Shows g rows → read_check (with_flag (codes "fast") g.fast rows) ≡ asks g
 reads g rows h =
-    let file = first-value file_arg g.file (row_at (codes "file") (final g.fast rows)) (file-final g.fast rows ∙ h.file) in
-    let budget = first-value budget_arg g.budget (row_at (codes "budget") (final g.fast rows)) (budget-final g.fast rows ∙ h.budget) in
-    let fast = is_fast g.fast rows h.fast in
+    let file = first-value file_arg g.file (row_at (codes "file") (with_flag (codes "fast") g.fast rows)) (row_at-with_flag (codes "fast") (codes "file") g.fast rows refl ∙ h.file) in
+    let budget = first-value budget_arg g.budget (row_at (codes "budget") (with_flag (codes "fast") g.fast rows)) (row_at-with_flag (codes "fast") (codes "budget") g.fast rows refl ∙ h.budget) in
+    let fast = flag_in-with_flag (codes "fast") g.fast rows refl h.fast in
     λ i. check_in (fast i) (file i) (budget_in (budget i))
 
 -- a file is required
-check-passes : (g : Checking) (rows : List Row) → Shows g rows → taken (check_fault check_leaf (final g.fast rows) false) (asks g) ≡ asks g
-check-passes g rows h = go g.file (file-final g.fast rows ∙ h.file)
+check-passes : (g : Checking) (rows : List Row) → Shows g rows → taken (check_fault check_leaf (with_flag (codes "fast") g.fast rows) false) (asks g) ≡ asks g
+check-passes g rows h = go g.file (row_at-with_flag (codes "fast") (codes "file") g.fast rows refl ∙ h.file)
   where
-    go : (f : Option Text) → row_at (codes "file") (final g.fast rows) ≡ option_map (λ w. row_of_use file_arg (w ∷ [])) f → taken (check_fault check_leaf (final g.fast rows) false) (check_in g.fast f (budget_in g.budget)) ≡ check_in g.fast f (budget_in g.budget)
+    go : (f : Option Text) → row_at (codes "file") (with_flag (codes "fast") g.fast rows) ≡ option_map (λ w. row_of_use file_arg (w ∷ [])) f → taken (check_fault check_leaf (with_flag (codes "fast") g.fast rows) false) (check_in g.fast f (budget_in g.budget)) ≡ check_in g.fast f (budget_in g.budget)
     go None e = rw e refl
     go (Some w) e = rw e refl
 
@@ -256,7 +215,7 @@ unfolding walk_fault
 ends g rs p position h =
     ap₂ (λ k r. taken (or_else k (or_else (defaults_fault r rules) (check_fault check_leaf (fold with_default r rules) false))) (read_check (fold with_default r rules))) h.settles h.are
     ∙ ap₂ (λ k r. taken (or_else k (check_fault check_leaf r false)) (read_check r)) (defaults-pass h.rows) (finishes g h.rows h.shows)
-    ∙ ap (taken (check_fault check_leaf (final g.fast h.rows) false)) (reads g h.rows h.shows)
+    ∙ ap (taken (check_fault check_leaf (with_flag (codes "fast") g.fast h.rows) false)) (reads g h.rows h.shows)
     ∙ check-passes g h.rows h.shows
 
 -- ---- all words
@@ -287,8 +246,10 @@ module _ (rows : List Row) (there : has_row (codes "budget") rows ≡ true) wher
   second-turns f w x budget = (ArgumentConflict, simp there refl)
   second-turns f w x (named number) = (ArgumentConflict, simp there refl)
   second-turns f w x fast = (ArgumentConflict, simp there refl)
-  second-turns f w x (valued value) = (TooManyValues, refl)
-  second-turns f w x (other c cs m n o p q) = (UnknownArgument, simp (m, n) refl)
+  second-turns f w x (fast_valued value) = (TooManyValues, refl)
+  second-turns f w x share = (UnknownArgument, refl)
+  second-turns f w x (share_valued value) = (UnknownArgument, refl)
+  second-turns f w x (other c cs o) = (UnknownArgument, simp (o.budget_name, o.fast_name) refl)
 
   second-after : (f : Option Text) (w : Text) (ws : List Text) → AllByRecursion Kind ws → asked_from [] (state rows (Some (codes "budget", w ∷ [])) (place f)) ws ≡ None
   unfolding walk_fault
@@ -311,8 +272,10 @@ module _ (rows : List Row) (there : has_row (codes "budget") rows ≡ true) wher
       go x budget = fails (waits rows (place f)) (codes "--budget") ws InvalidValue refl
       go x (named number) = fails (waits rows (place f)) (codes "--budget=" ++ number) ws InvalidValue refl
       go x fast = fails (waits rows (place f)) (codes "--fast") ws InvalidValue refl
-      go x (valued value) = fails (waits rows (place f)) (codes "--fast=" ++ value) ws TooManyValues refl
-      go x (other c cs m n o p q) = fails (waits rows (place f)) (45 ∷ 45 ∷ c ∷ cs) ws UnknownArgument (simp (m, n) refl)
+      go x (fast_valued value) = fails (waits rows (place f)) (codes "--fast=" ++ value) ws TooManyValues refl
+      go x share = fails (waits rows (place f)) (codes "--share") ws UnknownArgument refl
+      go x (share_valued value) = fails (waits rows (place f)) (codes "--share=" ++ value) ws UnknownArgument refl
+      go x (other c cs o) = fails (waits rows (place f)) (45 ∷ 45 ∷ c ∷ cs) ws UnknownArgument (simp (o.budget_name, o.fast_name) refl)
 
 -- what the walk asks for from where it stands is what the definition reads
 abbrev Goes : List Text → Type 0
@@ -322,15 +285,11 @@ abbrev Awaits : List Text → Type 0
 Awaits ws = (f : Option Text) (x : Bool) (rows : List Row) → Shows (checking f None x) rows → asked_from [] (waits rows (place f)) ws ≡ check_after (checking f None x) true ws
 
 has : (g : Checking) (rs : List Row) (p : Pending) (h : Holds g rs p) → (has_row (codes "budget") h.rows ≡ is_some g.budget) × (has_row (codes "fast") h.rows ≡ g.fast)
-has g rs p h = (has_row-at (codes "budget") h.rows ∙ ap is_some h.shows.budget ∙ some g.budget, has_row-at (codes "fast") h.rows ∙ ap is_some h.shows.fast ∙ flag g.fast)
+has g rs p h = (has_row-at (codes "budget") h.rows ∙ ap is_some h.shows.budget ∙ some g.budget, has_flag (codes "fast") g.fast h.rows h.shows.fast)
   where
     some : (o : Option Text) → is_some (option_map (λ w. row_of_use budget_arg (w ∷ [])) o) ≡ is_some o
     some None = refl
     some (Some w) = refl
-
-    flag : (x : Bool) → is_some (if x then Some (row_of_use fast_arg (codes "true" ∷ [])) else None) ≡ x
-    flag true = refl
-    flag false = refl
 
 goes-on : (w : Text) → Kind w → (ws : List Text) → AllByRecursion Kind ws → Goes ws → Awaits ws → Goes (w ∷ ws)
 goes-on w (file c cs e) ws ks goes awaits None b x rs p h =
@@ -353,15 +312,17 @@ goes-on w (named number) ws ks goes awaits f None x rs p h =
 goes-on w (named number) ws ks goes awaits f (Some v) x rs p h =
     fails (state rs p (place f)) (codes "--budget=" ++ number) ws ArgumentConflict (named-again rs p h.rows h.settles h.are (place f) number (has (checking f (Some v) x) rs p h).0)
 goes-on w fast ws ks goes awaits f b false rs p h =
-    steps (state rs p (place f)) (state (h.rows ++ row_of_use fast_arg (codes "true" ∷ []) ∷ []) None (place f)) (codes "--fast") ws
+    steps (state rs p (place f)) (state (h.rows ++ fast_row ∷ []) None (place f)) (codes "--fast") ws
     (fast-turns rs p h.rows h.settles h.are (place f) (has (checking f b false) rs p h).1) (fast-walks rs p h.rows h.settles h.are (place f) h.shows.fast)
-    ∙ goes f b true (h.rows ++ row_of_use fast_arg (codes "true" ∷ []) ∷ []) None (Holds-settled (checking f b true) (h.rows ++ row_of_use fast_arg (codes "true" ∷ []) ∷ []) (Shows-fast (checking f b false) h.rows h.shows))
+    ∙ goes f b true (h.rows ++ fast_row ∷ []) None (Holds-settled (checking f b true) (h.rows ++ fast_row ∷ []) (Shows-fast (checking f b false) h.rows h.shows))
 goes-on w fast ws ks goes awaits f b true rs p h =
     fails (state rs p (place f)) (codes "--fast") ws ArgumentConflict (fast-again rs p h.rows h.settles h.are (place f) (has (checking f b true) rs p h).1)
-goes-on w (valued value) ws ks goes awaits f b x rs p h = fails (state rs p (place f)) (codes "--fast=" ++ value) ws TooManyValues refl
-goes-on w (other c cs m n o q r) ws ks goes awaits f b x rs p h =
-    let right : check_after (checking f b x) false ((45 ∷ 45 ∷ c ∷ cs) ∷ ws) ≡ None = simp (o, q, r) refl in
-    fails (state rs p (place f)) (45 ∷ 45 ∷ c ∷ cs) ws UnknownArgument (simp (m, n) refl) ∙ sym right
+goes-on w (fast_valued value) ws ks goes awaits f b x rs p h = fails (state rs p (place f)) (codes "--fast=" ++ value) ws TooManyValues refl
+goes-on w share ws ks goes awaits f b x rs p h = fails (state rs p (place f)) (codes "--share") ws UnknownArgument refl
+goes-on w (share_valued value) ws ks goes awaits f b x rs p h = fails (state rs p (place f)) (codes "--share=" ++ value) ws UnknownArgument refl
+goes-on w (other c cs o) ws ks goes awaits f b x rs p h =
+    let right : check_after (checking f b x) false ((45 ∷ 45 ∷ c ∷ cs) ∷ ws) ≡ None = simp (o.named, o.budget, o.fast) refl in
+    fails (state rs p (place f)) (45 ∷ 45 ∷ c ∷ cs) ws UnknownArgument (simp (o.budget_name, o.fast_name) refl) ∙ sym right
 
 awaits-on : (w : Text) → Kind w → (ws : List Text) → Goes ws → Awaits (w ∷ ws)
 awaits-on w (file c cs e) ws goes f x rows h =
@@ -371,8 +332,10 @@ awaits-on w (file c cs e) ws goes f x rows h =
 awaits-on w budget ws goes f x rows h = fails (waits rows (place f)) (codes "--budget") ws InvalidValue refl
 awaits-on w (named number) ws goes f x rows h = fails (waits rows (place f)) (codes "--budget=" ++ number) ws InvalidValue refl
 awaits-on w fast ws goes f x rows h = fails (waits rows (place f)) (codes "--fast") ws InvalidValue refl
-awaits-on w (valued value) ws goes f x rows h = fails (waits rows (place f)) (codes "--fast=" ++ value) ws TooManyValues refl
-awaits-on w (other c cs m n o q r) ws goes f x rows h = fails (waits rows (place f)) (45 ∷ 45 ∷ c ∷ cs) ws UnknownArgument (simp (m, n) refl)
+awaits-on w (fast_valued value) ws goes f x rows h = fails (waits rows (place f)) (codes "--fast=" ++ value) ws TooManyValues refl
+awaits-on w share ws goes f x rows h = fails (waits rows (place f)) (codes "--share") ws UnknownArgument refl
+awaits-on w (share_valued value) ws goes f x rows h = fails (waits rows (place f)) (codes "--share=" ++ value) ws UnknownArgument refl
+awaits-on w (other c cs o) ws goes f x rows h = fails (waits rows (place f)) (45 ∷ 45 ∷ c ∷ cs) ws UnknownArgument (simp (o.budget_name, o.fast_name) refl)
 
 all-words : (ws : List Text) → AllByRecursion Kind ws → Goes ws × Awaits ws
 unfolding walk_fault

@@ -1,4 +1,4 @@
--- What `translate` and `show` make of their words: one or more files.
+-- What `show` makes of its words: one or more files.
 use Rattle.std.proofs.Common.{◌≡◌, ◌∙◌, ◌++◌, ℕ, false, List, [], ◌∷◌, Option, Some, None, codes, refl, sym, ap, ap₂, append_assoc}
 use Rattle.std.specs.Prelude.{◌==◌, if◌then◌else◌}
 use Rattle.std.specs.List.{AllByRecursion, fold, list_all}
@@ -9,7 +9,7 @@ use Rattle.clap.specs.declared.parser.matches.ValueSource.TheVariants.{CommandLi
 use Rattle.bridge_spec.specs.Forms.{Form, files_form, are_files, is_file}
 use Rattle.bridge_words.specs.Commands.{files_rule}
 use Rattle.bridge_words.specs.Matches.{read_files}
-use Rattle.bridge_words.proofs.WordKinds.{Kind, file, budget, named, fast, valued, other}
+use Rattle.bridge_words.proofs.WordKinds.{Kind, file, budget, named, fast, share, fast_valued, share_valued, other}
 use Rattle.bridge_words.proofs.BuiltCommand.{files_leaf, filled_rule}
 use Rattle.bridge_words.proofs.Leaves.{taken, fault}
 
@@ -83,8 +83,10 @@ module _ (name : Text) (form : List Text → Form) where
       go x budget more = refl
       go x (named number) more = refl
       go x fast more = refl
-      go x (valued value) more = refl
-      go x (other c cs e n m o p) more = refl
+      go x share more = refl
+      go x (fast_valued value) more = refl
+      go x (share_valued value) more = refl
+      go x (other c cs o) more = refl
 
   first : (b : ℕ) (bs : Text) (rest : List Text) → (b == 45) ≡ false
       → asked_from name form [] (walk_from nothing_held) ((b ∷ bs) ∷ rest) ≡ asked_from name form [] (after [] (b ∷ bs)) rest
@@ -107,5 +109,7 @@ module _ (name : Text) (form : List Text → Form) where
       go x budget more = refl
       go x (named number) more = refl
       go x fast more = refl
-      go x (valued value) more = refl
-      go x (other c cs e n m o p) more = refl
+      go x share more = refl
+      go x (fast_valued value) more = refl
+      go x (share_valued value) more = refl
+      go x (other c cs o) more = refl

@@ -7,7 +7,7 @@ use Rattle.clap.specs.Kinds.{Kinds}
 use Rattle.clap.specs.Faults.{level_fault, walk_fault, defaults_fault}
 use Rattle.bridge_spec.specs.Forms.{Form, decode_form, trial_form}
 use Rattle.bridge_words.specs.Matches.{read_decode, read_trial}
-use Rattle.bridge_words.proofs.WordKinds.{Kind, file, budget, named, fast, valued, other}
+use Rattle.bridge_words.proofs.WordKinds.{Kind, file, budget, named, fast, share, fast_valued, share_valued, other}
 use Rattle.bridge_words.proofs.BuiltCommand.{decode_leaf, trial_leaf}
 
 -- what is asked for, where nothing is at fault
@@ -29,8 +29,10 @@ decode-one w (file b bs e) = simp e refl
 decode-one w budget = refl
 decode-one w (named number) = refl
 decode-one w fast = refl
-decode-one w (valued value) = refl
-decode-one w (other c cs e n m o p) = refl
+decode-one w share = refl
+decode-one w (fast_valued value) = refl
+decode-one w (share_valued value) = refl
+decode-one w (other c cs o) = refl
 
 decode-many : (w x : Text) (ws : List Text) → Kind w → Kind x → Decodes (w ∷ x ∷ ws)
 unfolding walked walk_fault defaults_fault
@@ -38,13 +40,17 @@ decode-many w x ws (file b bs e) (file c cs f) = simp (e, f) refl
 decode-many w x ws (file b bs e) budget = simp e refl
 decode-many w x ws (file b bs e) (named number) = simp e refl
 decode-many w x ws (file b bs e) fast = simp e refl
-decode-many w x ws (file b bs e) (valued value) = simp e refl
-decode-many w x ws (file b bs e) (other c cs f n m o p) = simp e refl
+decode-many w x ws (file b bs e) share = simp e refl
+decode-many w x ws (file b bs e) (fast_valued value) = simp e refl
+decode-many w x ws (file b bs e) (share_valued value) = simp e refl
+decode-many w x ws (file b bs e) (other c cs o) = simp e refl
 decode-many w x ws budget k = refl
 decode-many w x ws (named number) k = refl
 decode-many w x ws fast k = refl
-decode-many w x ws (valued value) k = refl
-decode-many w x ws (other c cs e n m o p) k = refl
+decode-many w x ws share k = refl
+decode-many w x ws (fast_valued value) k = refl
+decode-many w x ws (share_valued value) k = refl
+decode-many w x ws (other c cs o) k = refl
 
 pub decode-words : (ws : List Text) → AllByRecursion Kind ws → Decodes ws
 unfolding walked walk_fault defaults_fault
@@ -62,8 +68,10 @@ trial-one w (file b bs e) = simp e refl
 trial-one w budget = refl
 trial-one w (named number) = refl
 trial-one w fast = refl
-trial-one w (valued value) = refl
-trial-one w (other c cs e n m o p) = refl
+trial-one w share = refl
+trial-one w (fast_valued value) = refl
+trial-one w (share_valued value) = refl
+trial-one w (other c cs o) = refl
 
 trial-many : (w x : Text) (ws : List Text) → Kind w → Kind x → Tries (w ∷ x ∷ ws)
 unfolding walked walk_fault defaults_fault
@@ -71,13 +79,17 @@ trial-many w x ws (file b bs e) (file c cs f) = simp (e, f) refl
 trial-many w x ws (file b bs e) budget = simp e refl
 trial-many w x ws (file b bs e) (named number) = simp e refl
 trial-many w x ws (file b bs e) fast = simp e refl
-trial-many w x ws (file b bs e) (valued value) = simp e refl
-trial-many w x ws (file b bs e) (other c cs f n m o p) = simp e refl
+trial-many w x ws (file b bs e) share = simp e refl
+trial-many w x ws (file b bs e) (fast_valued value) = simp e refl
+trial-many w x ws (file b bs e) (share_valued value) = simp e refl
+trial-many w x ws (file b bs e) (other c cs o) = simp e refl
 trial-many w x ws budget k = refl
 trial-many w x ws (named number) k = refl
 trial-many w x ws fast k = refl
-trial-many w x ws (valued value) k = refl
-trial-many w x ws (other c cs e n m o p) k = refl
+trial-many w x ws share k = refl
+trial-many w x ws (fast_valued value) k = refl
+trial-many w x ws (share_valued value) k = refl
+trial-many w x ws (other c cs o) k = refl
 
 pub trial-words : (ws : List Text) → AllByRecursion Kind ws → Tries ws
 unfolding walked walk_fault defaults_fault

@@ -2,9 +2,10 @@ pub mod WordKinds
 pub mod BuiltCommand
 pub mod Leaves
 pub mod Rows
+pub mod Flags
 pub mod CheckWalk
 pub mod FilesWords
-pub mod VerifyWalk
+pub mod RunWalk
 pub mod AllWords
 pub mod ReadableWords
 pub mod Answering

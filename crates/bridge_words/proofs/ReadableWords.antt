@@ -1,13 +1,13 @@
--- Words that are handed to `clap` are of six kinds, and with any other word there is no form.
+-- Words that are handed to `clap` are of nine kinds, and with any other word there is no form.
 use Rattle.std.proofs.Common.{◌≡◌, ◌∙◌, ◌++◌, ◌⊎◌, inl, inr, ℕ, Bool, true, false, List, [], ◌∷◌, Option, Some, None, option_map, codes, refl, sym, ap, subst, take, drop, take-append-drop, ◌+◌, suc, arith, true≢false}
 use Rattle.std.specs.Prelude.{◌==◌, ◌||◌, ◌&&◌, not, is_some, if◌then◌else◌}
 use Rattle.std.specs.List.{AllByRecursion, list_all, before_first, position_or_len}
 use Rattle.std.specs.Str.{bytes_eq}
 use Rattle.std.proofs.lemmas.Slice.Eq.{bytes_eq-Decides}
 use Rattle.std.proofs.lemmas.Bool.Decides.{Decides-eqb}
-use Rattle.bridge_spec.specs.Forms.{Form, translate, show, trial, number_up_to, greatest_trial, is_file, Checking, check_after, check_form, checking, Verifying, verify_after, verify_form, verifying, files_form, decode_form, trial_form, form_by, form_after}
+use Rattle.bridge_spec.specs.Forms.{Form, verify, translate, show, trial, number_up_to, greatest_trial, is_file, Checking, check_after, check_form, checking, Running, running, run_after, verify_form, translate_form, files_form, decode_form, trial_form, form_by, form_after}
 use Rattle.bridge_words.specs.Readable.{is_readable, are_readable}
-use Rattle.bridge_words.proofs.WordKinds.{Kind, file, budget, named, fast, valued, other}
+use Rattle.bridge_words.proofs.WordKinds.{Kind, file, budget, named, fast, share, fast_valued, share_valued, other}
 
 -- what is not true is false
 not-true : {b : Bool} → not b ≡ true → b ≡ false
@@ -67,7 +67,7 @@ text-name_of (x ∷ xs) = go (x == 61) refl (text-name_of xs)
 
 -- two dashes and more
 dashes-Kind : (c : ℕ) (cs : List ℕ) → Kind (45 ∷ 45 ∷ c ∷ cs)
-dashes-Kind c cs = go (bytes_eq (codes "budget") (name_of (c ∷ cs))) refl (bytes_eq (codes "fast") (name_of (c ∷ cs))) refl
+dashes-Kind c cs = go (bytes_eq (codes "budget") (name_of (c ∷ cs))) refl (bytes_eq (codes "fast") (name_of (c ∷ cs))) refl (bytes_eq (codes "share") (name_of (c ∷ cs))) refl
   where
     -- an option by its name, alone or with `=` and more
     of_name : (name : List ℕ) → Kind (45 ∷ 45 ∷ name) → ((rest : List ℕ) → Kind (45 ∷ 45 ∷ name ++ 61 ∷ rest)) → name ≡ name_of (c ∷ cs)
@@ -83,26 +83,27 @@ dashes-Kind c cs = go (bytes_eq (codes "budget") (name_of (c ∷ cs))) refl (byt
         let bad : true ≡ false = ap (λ word. bytes_eq (codes "budget") (name_of (drop 2 word))) (sym all) ∙ e in
         absurd (true≢false bad)
 
-    not_budget : bytes_eq (codes "budget") (name_of (c ∷ cs)) ≡ false → (b : Bool) → bytes_eq (45 ∷ 45 ∷ c ∷ cs) (codes "--budget") ≡ b → bytes_eq (45 ∷ 45 ∷ c ∷ cs) (codes "--budget") ≡ false
-    not_budget e false o = o
-    not_budget e true o =
-        let all = (bytes_eq-Decides (45 ∷ 45 ∷ c ∷ cs) (codes "--budget")).0 o in
-        let bad : true ≡ false = ap (λ word. bytes_eq (codes "budget") (name_of (drop 2 word))) (sym all) ∙ e in
+    -- a word whose name is another is not that option
+    not_option : (name : List ℕ) → bytes_eq name (name_of (c ∷ cs)) ≡ false → name_of name ≡ name → (b : Bool) → bytes_eq (45 ∷ 45 ∷ c ∷ cs) (45 ∷ 45 ∷ name) ≡ b → bytes_eq (45 ∷ 45 ∷ c ∷ cs) (45 ∷ 45 ∷ name) ≡ false
+    not_option name e own false o = o
+    not_option name e own true o =
+        let all = (bytes_eq-Decides (45 ∷ 45 ∷ c ∷ cs) (45 ∷ 45 ∷ name)).0 o in
+        let bad : true ≡ false = sym ((bytes_eq-Decides name name).1 refl) ∙ ap (λ text. bytes_eq name text) (sym own) ∙ ap (λ word. bytes_eq name (name_of (drop 2 word))) (sym all) ∙ e in
         absurd (true≢false bad)
 
-    not_fast : bytes_eq (codes "fast") (name_of (c ∷ cs)) ≡ false → (b : Bool) → bytes_eq (45 ∷ 45 ∷ c ∷ cs) (codes "--fast") ≡ b → bytes_eq (45 ∷ 45 ∷ c ∷ cs) (codes "--fast") ≡ false
-    not_fast e false o = o
-    not_fast e true o =
-        let all = (bytes_eq-Decides (45 ∷ 45 ∷ c ∷ cs) (codes "--fast")).0 o in
-        let bad : true ≡ false = ap (λ word. bytes_eq (codes "fast") (name_of (drop 2 word))) (sym all) ∙ e in
-        absurd (true≢false bad)
-
-    go : (b : Bool) → bytes_eq (codes "budget") (name_of (c ∷ cs)) ≡ b → (f : Bool) → bytes_eq (codes "fast") (name_of (c ∷ cs)) ≡ f → Kind (45 ∷ 45 ∷ c ∷ cs)
-    go true e f g = of_name (codes "budget") budget (λ rest. named rest) ((bytes_eq-Decides (codes "budget") (name_of (c ∷ cs))).0 e) (text-name_of (c ∷ cs))
-    go false e true g = of_name (codes "fast") fast (λ rest. valued rest) ((bytes_eq-Decides (codes "fast") (name_of (c ∷ cs))).0 g) (text-name_of (c ∷ cs))
-    go false e false g =
-        other c cs e g (not_named e (bytes_eq (take 9 (45 ∷ 45 ∷ c ∷ cs)) (codes "--budget=")) refl) (not_budget e (bytes_eq (45 ∷ 45 ∷ c ∷ cs) (codes "--budget")) refl)
-        (not_fast g (bytes_eq (45 ∷ 45 ∷ c ∷ cs) (codes "--fast")) refl)
+    go : (b : Bool) → bytes_eq (codes "budget") (name_of (c ∷ cs)) ≡ b → (f : Bool) → bytes_eq (codes "fast") (name_of (c ∷ cs)) ≡ f → (s : Bool) → bytes_eq (codes "share") (name_of (c ∷ cs)) ≡ s → Kind (45 ∷ 45 ∷ c ∷ cs)
+    go true e f g s k = of_name (codes "budget") budget (λ rest. named rest) ((bytes_eq-Decides (codes "budget") (name_of (c ∷ cs))).0 e) (text-name_of (c ∷ cs))
+    go false e true g s k = of_name (codes "fast") fast (λ rest. fast_valued rest) ((bytes_eq-Decides (codes "fast") (name_of (c ∷ cs))).0 g) (text-name_of (c ∷ cs))
+    go false e false g true k = of_name (codes "share") share (λ rest. share_valued rest) ((bytes_eq-Decides (codes "share") (name_of (c ∷ cs))).0 k) (text-name_of (c ∷ cs))
+    go false e false g false k = other c cs (record {
+      budget_name = e;
+      fast_name = g;
+      share_name = k;
+      named = not_named e (bytes_eq (take 9 (45 ∷ 45 ∷ c ∷ cs)) (codes "--budget=")) refl;
+      budget = not_option (codes "budget") e refl (bytes_eq (45 ∷ 45 ∷ c ∷ cs) (codes "--budget")) refl;
+      fast = not_option (codes "fast") g refl (bytes_eq (45 ∷ 45 ∷ c ∷ cs) (codes "--fast")) refl;
+      share = not_option (codes "share") k refl (bytes_eq (45 ∷ 45 ∷ c ∷ cs) (codes "--share")) refl;
+    })
 
 -- a word that is handed to `clap` is of one of the kinds
 is_readable-Kind : (word : List ℕ) → is_readable word ≡ true → Kind word
@@ -150,16 +151,17 @@ unreadable-Odd (b ∷ c ∷ d ∷ ds) h = go (b == 45) refl (c == 45) refl h
 record IsNothing (word : List ℕ) : Type 0 where
   file : is_file word ≡ false
   alone : bytes_eq word (codes "--budget") ≡ false
+  share : bytes_eq word (codes "--share") ≡ false
   named : bytes_eq (take 9 word) (codes "--budget=") ≡ false
   fast : bytes_eq word (codes "--fast") ≡ false
   number : (most : ℕ) → number_up_to most word ≡ None
   asks : (words : List (List ℕ)) → form_by word words ≡ None
 
 Odd-IsNothing : (word : List ℕ) → Odd word → IsNothing word
-Odd-IsNothing word empty = record { file = refl; alone = refl; named = refl; fast = refl; number = λ most. refl; asks = λ words. refl }
-Odd-IsNothing word dash = record { file = refl; alone = refl; named = refl; fast = refl; number = λ most. refl; asks = λ words. refl }
-Odd-IsNothing word dashes = record { file = refl; alone = refl; named = refl; fast = refl; number = λ most. refl; asks = λ words. refl }
-Odd-IsNothing word (short c cs e) = record { file = refl; alone = simp e refl; named = simp e refl; fast = simp e refl; number = λ most. refl; asks = λ words. refl }
+Odd-IsNothing word empty = record { file = refl; alone = refl; share = refl; named = refl; fast = refl; number = λ most. refl; asks = λ words. refl }
+Odd-IsNothing word dash = record { file = refl; alone = refl; share = refl; named = refl; fast = refl; number = λ most. refl; asks = λ words. refl }
+Odd-IsNothing word dashes = record { file = refl; alone = refl; share = refl; named = refl; fast = refl; number = λ most. refl; asks = λ words. refl }
+Odd-IsNothing word (short c cs e) = record { file = refl; alone = simp e refl; share = simp e refl; named = simp e refl; fast = simp e refl; number = λ most. refl; asks = λ words. refl }
 
 unreadable-IsNothing : (word : List ℕ) → is_readable word ≡ false → IsNothing word
 unreadable-IsNothing word h = Odd-IsNothing word (unreadable-Odd word h)
@@ -187,19 +189,23 @@ check_after-unreadable g b (w ∷ ws) h = go (is_readable w) refl h b (λ g b. c
 check_form-unreadable : (words : List (List ℕ)) → are_readable words ≡ false → check_form words ≡ None
 check_form-unreadable words h = check_after-unreadable (checking None None false) false words h
 
--- .. and neither is there after `verify`
-verify_after-unreadable : (g : Verifying) (words : List (List ℕ)) → are_readable words ≡ false → verify_after g words ≡ None
-verify_after-unreadable g [] h = absurd (true≢false h)
-verify_after-unreadable g (w ∷ ws) h = go (is_readable w) refl h (λ g. verify_after-unreadable g ws)
+-- .. and neither is there after `verify` or `translate`
+run_after-unreadable : (z : Bool) (form : Running → Form) (g : Running) (words : List (List ℕ)) → are_readable words ≡ false → run_after z form g words ≡ None
+run_after-unreadable z form g [] h = absurd (true≢false h)
+run_after-unreadable z form g (w ∷ ws) h = go (is_readable w) refl h (λ g. run_after-unreadable z form g ws)
   where
-    go : (x : Bool) → is_readable w ≡ x → (x && are_readable ws) ≡ false → ((g : Verifying) → are_readable ws ≡ false → verify_after g ws ≡ None) → verify_after g (w ∷ ws) ≡ None
-    go false e h more = let no = unreadable-IsNothing w e in rw (no.fast, no.file) refl
+    go : (x : Bool) → is_readable w ≡ x → (x && are_readable ws) ≡ false → ((g : Running) → are_readable ws ≡ false → run_after z form g ws ≡ None) → run_after z form g (w ∷ ws) ≡ None
+    go false e h more = let no = unreadable-IsNothing w e in rw (no.share, no.fast, and_false z, no.file) refl
     go true e h more =
-        neither (bytes_eq w (codes "--fast")) _ _ (neither g.fast None _ refl (more (record g { fast = true }) h))
-        (neither (is_file w) _ None (more (record g { files = g.files ++ w ∷ [] }) h) refl)
+        neither (bytes_eq w (codes "--share")) _ _ (neither g.share None _ refl (more (record g { share = true }) h))
+        (neither (z && bytes_eq w (codes "--fast")) _ _ (neither g.fast None _ refl (more (record g { fast = true }) h))
+        (neither (is_file w) _ None (more (record g { files = g.files ++ w ∷ [] }) h) refl))
 
 verify_form-unreadable : (words : List (List ℕ)) → are_readable words ≡ false → verify_form words ≡ None
-verify_form-unreadable words h = verify_after-unreadable (verifying [] false) words h
+verify_form-unreadable words h = run_after-unreadable true (λ g. verify g.share g.fast g.files) (running [] false false) words h
+
+translate_form-unreadable : (words : List (List ℕ)) → are_readable words ≡ false → translate_form words ≡ None
+translate_form-unreadable words h = run_after-unreadable false (λ g. translate g.share g.files) (running [] false false) words h
 
 -- such a word is among no files
 are_files-unreadable : (words : List (List ℕ)) → are_readable words ≡ false → list_all is_file words ≡ false
@@ -244,5 +250,5 @@ form_after-unreadable (word ∷ words) h = go (is_readable word) refl h
     go false e h = (unreadable-IsNothing word e).asks words
     go true e h =
         none_of (bytes_eq word (codes "verify")) (bytes_eq word (codes "translate")) (bytes_eq word (codes "check")) (bytes_eq word (codes "show")) (bytes_eq word (codes "decode")) (bytes_eq word (codes "trial"))
-        (verify_form words) (files_form translate words) (check_form words) (files_form show words) (decode_form words) (trial_form words)
-        (verify_form-unreadable words h) (files_form-unreadable translate words h) (check_form-unreadable words h) (files_form-unreadable show words h) (decode_form-unreadable words h) (trial_form-unreadable words h)
+        (verify_form words) (translate_form words) (check_form words) (files_form show words) (decode_form words) (trial_form words)
+        (verify_form-unreadable words h) (translate_form-unreadable words h) (check_form-unreadable words h) (files_form-unreadable show words h) (decode_form-unreadable words h) (trial_form-unreadable words h)

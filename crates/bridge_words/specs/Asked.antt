@@ -6,8 +6,8 @@ use Rattle.bridge_words.specs.declared.form.Form.TheVariants.{Verify, Translate,
 
 -- it is the form of the same names and numbers
 abbrev pub asked : Form → forms.Form
-asked (Verify fast files) = forms.verify fast (names_in files.items)
-asked (Translate files) = forms.translate (names_in files.items)
+asked (Verify share fast files) = forms.verify share fast (names_in files.items)
+asked (Translate share files) = forms.translate share (names_in files.items)
 asked (Check fast file budget) = forms.check fast file.now budget
 asked (Show files) = forms.show (names_in files.items)
 asked (Decode file) = forms.decode file.now

@@ -25,21 +25,29 @@ blocks_rule = record (new_rule (codes "blocks")) { action = Some Set; required =
 abbrev pub budget_rule : Rule
 budget_rule = record (new_rule (codes "budget")) { long = Some (codes "budget"); action = Some Set }
 
--- `--fast`
-abbrev pub fast_rule : Rule
-fast_rule = record (new_rule (codes "fast")) { long = Some (codes "fast"); action = Some SetTrue }
+-- a flag, `--` and its name
+abbrev pub flag_rule : Text → Rule
+flag_rule name = record (new_rule name) { long = Some name; action = Some SetTrue }
 
 -- a command with one argument
 abbrev pub one : Text → Rule → App
 one name rule = with_rule (new_app name) rule
 
--- the command `verify`: files, and `--fast`
+-- a command for a run of files: files, and `--share`
+abbrev pub run_app : Text → App
+run_app name = with_rule (one name files_rule) (flag_rule (codes "share"))
+
+-- the command `verify`: files, `--share`, and `--fast`
 abbrev pub verify_app : App
-verify_app = with_rule (one (codes "verify") files_rule) fast_rule
+verify_app = with_rule (run_app (codes "verify")) (flag_rule (codes "fast"))
+
+-- the command `translate`: files, and `--share`
+abbrev pub translate_app : App
+translate_app = run_app (codes "translate")
 
 -- the command `check`: a file, a budget, and `--fast`
 abbrev pub check_app : App
-check_app = with_rule (with_rule (one (codes "check") file_rule) budget_rule) fast_rule
+check_app = with_rule (with_rule (one (codes "check") file_rule) budget_rule) (flag_rule (codes "fast"))
 
 -- the command without subcommands: it wants one, and has no help and no version
 abbrev pub plain_app : App
@@ -60,5 +68,5 @@ with_one app name rule = with_subcommand app (one name rule).top
 -- the command with its subcommands
 abbrev pub bridge_app : App
 bridge_app =
-    with_one (with_one (with_one (with_subcommand (with_one (with_subcommand plain_app verify_app.top) (codes "translate") files_rule)
+    with_one (with_one (with_one (with_subcommand (with_subcommand (with_subcommand plain_app verify_app.top) translate_app.top)
     check_app.top) (codes "show") files_rule) (codes "decode") file_rule) (codes "trial") blocks_rule

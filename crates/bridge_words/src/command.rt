@@ -1,7 +1,7 @@
 //! The command that `clap` reads the words by.
 ghost use Rattle.std.specs.Prelude.{◌≡◌, IfOk, false};
 ghost use Rattle.clap.specs.Words.{app_of, rule_of, with_subcommand};
-ghost use Rattle.bridge_words.specs.Commands.{has_globals, bridge_app, budget_rule, check_app, blocks_rule, fast_rule, file_rule, files_rule, one, plain_app, verify_app, with_one};
+ghost use Rattle.bridge_words.specs.Commands.{has_globals, bridge_app, budget_rule, check_app, blocks_rule, file_rule, files_rule, flag_rule, one, plain_app, run_app, translate_app, verify_app, with_one};
 
 use clap::{Arg, ArgAction, Command};
 use std::alloc::{AllocError, Global};
@@ -11,7 +11,7 @@ pub fn command<'a>(alloc: Global) -> Result<Command<'a>, AllocError>
     ensures { IfOk result (λ command. app_of command ≡ bridge_app) }
 {
     let command = with_verify(alloc, plain_command(alloc))?;
-    let command = with_one(alloc, command, "translate", files(alloc))?;
+    let command = with_translate(alloc, command)?;
     let command = with_check(alloc, command)?;
     let command = with_one(alloc, command, "show", files(alloc))?;
     let command = with_one(alloc, command, "decode", file(alloc))?;
@@ -36,6 +36,13 @@ fn with_verify<'a>(alloc: Global, command: Command<'a>) -> Result<Command<'a>, A
     ensures { IfOk result (λ more. app_of more ≡ with_subcommand (app_of command.entry) verify_app.top) }
 {
     command.subcommand(verify_command(alloc)?)
+}
+
+/// The command with the subcommand `translate` too.
+fn with_translate<'a>(alloc: Global, command: Command<'a>) -> Result<Command<'a>, AllocError>
+    ensures { IfOk result (λ more. app_of more ≡ with_subcommand (app_of command.entry) translate_app.top) }
+{
+    command.subcommand(run_command(alloc, "translate")?)
 }
 
 /// The command with the subcommand `check` too.
@@ -70,7 +77,15 @@ fn verify_command<'a>(alloc: Global) -> Result<Command<'a>, AllocError>
     ensures app { IfOk result (λ command. app_of command ≡ verify_app) }
     ensures local { IfOk result (λ command. has_globals command ≡ false) }
 {
-    one(alloc, "verify", files(alloc))?.arg(fast(alloc))
+    run_command(alloc, "verify")?.arg(flag(alloc, "fast"))
+}
+
+/// A command of this name for a run of files, with the flag `--share`.
+fn run_command<'a>(alloc: Global, name: &'a str) -> Result<Command<'a>, AllocError>
+    ensures app { IfOk result (λ command. app_of command ≡ run_app name.entry.now) }
+    ensures local { IfOk result (λ command. has_globals command ≡ false) }
+{
+    one(alloc, name, files(alloc))?.arg(flag(alloc, "share"))
 }
 
 /// The command `check`.
@@ -80,7 +95,7 @@ fn check_command<'a>(alloc: Global) -> Result<Command<'a>, AllocError>
 {
     one(alloc, "check", file(alloc))?
         .arg(budget(alloc))?
-        .arg(fast(alloc))
+        .arg(flag(alloc, "fast"))
 }
 
 /// One or more files.
@@ -123,12 +138,10 @@ fn budget<'a>(alloc: Global) -> Arg<'a>
         .action(ArgAction::Set)
 }
 
-/// `--fast`.
-fn fast<'a>(alloc: Global) -> Arg<'a>
-    ensures rule { rule_of result ≡ fast_rule }
+/// A flag, `--` and its name.
+fn flag<'a>(alloc: Global, name: &'a str) -> Arg<'a>
+    ensures rule { rule_of result ≡ flag_rule name.entry.now }
     ensures local { result.global ≡ false }
 {
-    Arg::new(alloc, "fast")
-        .long("fast")
-        .action(ArgAction::SetTrue)
+    Arg::new(alloc, name).long(name).action(ArgAction::SetTrue)
 }

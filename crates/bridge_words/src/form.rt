@@ -5,7 +5,7 @@ ghost use Rattle.bridge_spec.specs.Calls.{form_in, names_in};
 ghost use Rattle.bridge_spec.specs.Forms.{budget_in};
 ghost use Rattle.clap.specs.Words.{found_of, rows_of, subcommand_rows_of};
 ghost use Rattle.bridge_words.specs.Asked.{asked};
-ghost use Rattle.bridge_words.specs.Matches.{read, read_named, read_check, read_decode, read_trial, files_in, fast_in};
+ghost use Rattle.bridge_words.specs.Matches.{read, read_named, read_check, read_decode, read_trial, files_in, flag_in};
 ghost use Rattle.bridge_words.specs.Refused.{refused};
 ghost use Rattle.bridge_words.specs.Readable.{is_readable, are_readable};
 
@@ -19,10 +19,11 @@ use std::alloc::{AllocError, Global};
 /// What the words ask for.
 #[derive(Drop)]
 pub enum Form<'a> {
-    /// The module of the run of the articles in these files, checked before it is written: fast, that is without rechecks of sorts, or not.
-    Verify(bool, Vec<String>),
-    /// The module of the run of the articles in these files.
-    Translate(Vec<String>),
+    /// The module of the run of the articles in these files, checked before it is written. With shared abbreviations or without,
+    /// and checked fast, that is without rechecks of sorts, or not.
+    Verify(bool, bool, Vec<String>),
+    /// The module of the run of the articles in these files, with shared abbreviations or without.
+    Translate(bool, Vec<String>),
     /// A check of the module in the file, fast or not, with this budget for each declaration.
     Check(bool, &'a str, u64),
     /// What the articles in these files assume and export.
@@ -112,8 +113,12 @@ fn form_named<'a>(
     ensures { IfOk result (λ form. option_map asked form ≡ read_named name.now (rows_of (found_of found.now))) }
 {
     match name {
-        "verify" => Ok(Some(Form::Verify(fast_in(found), files_in(alloc, found)?))),
-        "translate" => Ok(Some(Form::Translate(files_in(alloc, found)?))),
+        "verify" => Ok(Some(Form::Verify(
+            flag_in(found, "share"),
+            flag_in(found, "fast"),
+            files_in(alloc, found)?,
+        ))),
+        "translate" => Ok(Some(Form::Translate(flag_in(found, "share"), files_in(alloc, found)?))),
         "check" => Ok(check_in(found)),
         "show" => Ok(Some(Form::Show(files_in(alloc, found)?))),
         "decode" => Ok(decode_in(found)),
@@ -149,18 +154,18 @@ fn check_in<'a>(found: &ArgMatches<'a>) -> Option<Form<'a>>
 {
     match found.get_str("file") {
         Some(file) => match budget_in(found.get_str("budget")) {
-            Some(budget) => Some(Form::Check(fast_in(found), file, budget)),
+            Some(budget) => Some(Form::Check(flag_in(found, "fast"), file, budget)),
             None => None,
         },
         None => None,
     }
 }
 
-/// Whether the words ask for a fast check.
-fn fast_in(found: &ArgMatches<'_>) -> bool
-    ensures { result ≡ fast_in (rows_of (found_of found.now)) }
+/// Whether the flag of this name is among the words.
+fn flag_in(found: &ArgMatches<'_>, name: &str) -> bool
+    ensures { result ≡ flag_in name.now (rows_of (found_of found.now)) }
 {
-    match found.get_str("fast") {
+    match found.get_str(name) {
         Some(word) => word == "true",
         None => false,
     }

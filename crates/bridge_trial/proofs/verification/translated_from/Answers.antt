@@ -1,4 +1,4 @@
-use Rattle.std.proofs.Common.{subst, ◌∙◌}
+use Rattle.std.proofs.Common.{false, subst, ◌∙◌}
 use Rattle.bridge_spec.specs.Calls.{names_in}
 use Rattle.bridge_translate.specs.Translations.{IsTranslationOf}
 use Rattle.bridge_trial.proofs.TrialRuns.{length-names, run-IsRunOfTrial, stop-Memory}
@@ -12,7 +12,7 @@ returns-in-Ok-clause-translated c =
     let names = names_in c.args.words.now in (
       t.0,
       run-IsRunOfTrial n files names c.requires.files c.requires.name t.0 t.1,
-      subst (λ articles. IsTranslationOf articles t.0 c.in-Ok.translation) (length-names n files names c.requires.files c.requires.name) t.2,
+      subst (λ articles. IsTranslationOf false articles t.0 c.in-Ok.translation) (length-names n files names c.requires.files c.requires.name) t.2,
     )
 
 pub returns-in-Err-clause-memory : goal.returns-in-Err-clause-memory

@@ -1,10 +1,10 @@
-use Rattle.std.proofs.Common.{subst, length, true}
+use Rattle.std.proofs.Common.{subst, length, true, false}
 use Rattle.lp_kernel.specs.Checks.{PassBelow}
 use Rattle.bridge_answer.specs.Promised.{trial-headline}
 use Rattle.bridge_trial.proofs.verification.verified.Goals as goal
 
 pub check_back-checked-requires : goal.check_back-checked-requires
-check_back-checked-requires c = let t = c.in_ok-translation.ensures.translated in (1, t.0, t.2, trial-headline c.args.n t.0 t.1)
+check_back-checked-requires c = let t = c.in_ok-translation.ensures.translated in (false, 1, t.0, t.2, trial-headline false c.args.n t.0 t.1)
 
 pub returns-in-Ok-clause-accepted : goal.returns-in-Ok-clause-accepted
 returns-in-Ok-clause-accepted c =

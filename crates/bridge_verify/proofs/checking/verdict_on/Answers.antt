@@ -1,27 +1,27 @@
 use Rattle.std.proofs.Common.{refl}
 use Rattle.std.proofs.lemmas.Result.{IfOk-weaker}
-use Rattle.module_spec.specs.Image.{image}
+use Rattle.bridge_spec.specs.Texts.{module_of}
 use Rattle.bridge_verify.proofs.Checked.{accepted-PassBelow, gathered-Reads, length-budgets, back-PassWithin}
 use Rattle.bridge_verify.proofs.checking.verdict_on.Goals as goal
 
 pub checked_fast-requires-clause-run : goal.checked_fast-requires-clause-run
 checked_fast-requires-clause-run c =
-    let reads = gathered-Reads c.requires.made.0 c.requires.made.1 c.args.translation.now c.requires.made.2 c.requires.made.3 _ refl in
-    (c.requires.made.1, c.requires.made.3, c.requires.read (image c.requires.made.1) reads)
+    let reads = gathered-Reads c.requires.made.0 c.requires.made.1 c.requires.made.2 c.args.translation.now c.requires.made.3 c.requires.made.4 _ refl in
+    (c.requires.made.0, c.requires.made.2, c.requires.made.4, c.requires.read (module_of c.requires.made.0 c.requires.made.2) reads)
 
 pub check_module-requires-clause-budgets : goal.check_module-requires-clause-budgets
 check_module-requires-clause-budgets c =
-    let reads = gathered-Reads c.requires.made.0 c.requires.made.1 c.args.translation.now c.requires.made.2 c.requires.made.3 _ refl in
-    length-budgets c.requires.made.0 c.requires.made.1 c.args.translation.now c.requires.made.2 c.requires.made.3 c.args.back.now (c.requires.read (image c.requires.made.1) reads) c.deref.result.now c.deref.ensures.value
+    let reads = gathered-Reads c.requires.made.0 c.requires.made.1 c.requires.made.2 c.args.translation.now c.requires.made.3 c.requires.made.4 _ refl in
+    length-budgets c.requires.made.0 c.requires.made.1 c.requires.made.2 c.args.translation.now c.requires.made.3 c.requires.made.4 c.args.back.now (c.requires.read (module_of c.requires.made.0 c.requires.made.2) reads) c.deref.result.now c.deref.ensures.value
 
 pub returns-then-fast-clause-pass : goal.returns-then-fast-clause-pass
 returns-then-fast-clause-pass c = rw c.if-fast.true c.checked_fast.ensures.pass
 
 pub returns-else-fast-clause-accepts : goal.returns-else-fast-clause-accepts
 returns-else-fast-clause-accepts c =
-    let reads = gathered-Reads c.requires.made.0 c.requires.made.1 c.args.translation.now c.requires.made.2 c.requires.made.3 _ refl in
+    let reads = gathered-Reads c.requires.made.0 c.requires.made.1 c.requires.made.2 c.args.translation.now c.requires.made.3 c.requires.made.4 _ refl in
     IfOk-weaker c.check_module.result _ _
-    (λ v h. h (back-PassWithin c.requires.made.0 c.requires.made.1 c.args.translation.now c.requires.made.2 c.requires.made.3 c.args.back.now (c.requires.read (image c.requires.made.1) reads) c.deref.result.now c.deref.ensures.value))
+    (λ v h. h (back-PassWithin c.requires.made.0 c.requires.made.1 c.requires.made.2 c.args.translation.now c.requires.made.3 c.requires.made.4 c.args.back.now (c.requires.read (module_of c.requires.made.0 c.requires.made.2) reads) c.deref.result.now c.deref.ensures.value))
     c.check_module.ensures.accepts
 
 pub returns-else-fast-clause-pass : goal.returns-else-fast-clause-pass

@@ -21,7 +21,7 @@ use Rattle.bridge_verify.proofs.program.verify.Goals as goal
 pub check_back-requires : goal.check_back-requires
 check_back-requires g c =
     let t = c.in-Ok.ensures.translated in
-    (length (names_in c.args.files.now), t.0, t.2, each_run_carries t.1.texts t.0 t.1.bytes t.1.runs)
+    (c.args.share, length (names_in c.args.files.now), t.0, t.2, each_run_carries c.args.share t.1.texts t.0 t.1.bytes t.1.runs)
 
 pub deliver_verified-requires-clause-accepted : goal.deliver_verified-requires-clause-accepted
 deliver_verified-requires-clause-accepted g c = (not c.args.fast, c.in-Ok-check_back.ensures.accepted)
@@ -29,20 +29,20 @@ deliver_verified-requires-clause-accepted g c = (not c.args.fast, c.in-Ok-check_
 pub deliver_verified-requires-clause-bounds : goal.deliver_verified-requires-clause-bounds
 deliver_verified-requires-clause-bounds g c =
     let t = c.in-Ok.ensures.translated in
-    length-bounds (length (names_in c.args.files.now)) t.0 c.in-Ok.translation t.2
+    length-bounds c.args.share (length (names_in c.args.files.now)) t.0 c.in-Ok.translation t.2
 
 pub returns-in-Ok-check_back : goal.returns-in-Ok-check_back
 returns-in-Ok-check_back g c =
     let t = c.in-Ok.ensures.translated in
     let names = names_in c.args.files.now in
     let made = c.in-Ok.translation in
-    let own = call (Some (verify c.args.fast names)) (shelved g.H.Shelf.told g.H.Shelf.faults g.H.Shelf.begun c.args.shelf.now c.translation_of.new.shelf) (sunk g.O.Sink.got g.O.Sink.faults c.args.out.now c.deliver_verified.new.out) (sunk g.N.Sink.got g.N.Sink.faults c.args.note.now c.deliver_verified.new.note) in
+    let own = call (Some (verify c.args.share c.args.fast names)) (shelved g.H.Shelf.told g.H.Shelf.faults g.H.Shelf.begun c.args.shelf.now c.translation_of.new.shelf) (sunk g.O.Sink.got g.O.Sink.faults c.args.out.now c.deliver_verified.new.out) (sunk g.N.Sink.got g.N.Sink.faults c.args.note.now c.deliver_verified.new.note) in
     let outputs : Outputs own c.deliver_verified.result = ⊎_elim
     (λ done. record {
       answer = Done;
       out_text = written (declarations_of made.module) made.bounds.items;
       note_text = five_lines (counts_in made.counts) ++ codes "verified\n";
-      answers = (t.0, t.1, written-module_text (length names) t.0 made t.2, ap (λ counts. five_lines counts ++ codes "verified\n") t.2.counts);
+      answers = (t.0, t.1, written-module_text c.args.share (length names) t.0 made t.2, ap (λ counts. five_lines counts ++ codes "verified\n") t.2.counts);
       begins = c.in-Ok.ensures.all_begun;
       delivered = done;
     })
@@ -63,13 +63,13 @@ returns-in-Ok g c =
     let shelf = shelved g.H.Shelf.told g.H.Shelf.faults g.H.Shelf.begun c.args.shelf.now c.translation_of.new.shelf in
     let answer = c.in-Err-check_back.answer in
     outputs-Promise
-    (call (Some (verify c.args.fast names)) shelf (sunk g.O.Sink.got g.O.Sink.faults c.args.out.now c.deliver.new.out) (sunk g.N.Sink.got g.N.Sink.faults c.args.note.now c.deliver.new.note))
+    (call (Some (verify c.args.share c.args.fast names)) shelf (sunk g.O.Sink.got g.O.Sink.faults c.args.out.now c.deliver.new.out) (sunk g.N.Sink.got g.N.Sink.faults c.args.note.now c.deliver.new.note))
     c.deliver.result
     (record {
       answer = status_of answer;
       out_text = text_of answer;
       note_text = note_of answer;
-      answers = subst (λ answer. AnswersVerify names shelf (status_of answer) (text_of answer) (note_of answer)) (sym c.in-Err-check_back.ensures.memory) (refl, refl);
+      answers = subst (λ answer. AnswersVerify c.args.share names shelf (status_of answer) (text_of answer) (note_of answer)) (sym c.in-Err-check_back.ensures.memory) (refl, refl);
       begins = subst (λ answer. BeginsFiles (status_of answer) shelf.begun_before names shelf.begun) (sym c.in-Err-check_back.ensures.memory) c.translation_of.ensures.front_begun;
       delivered = c.deliver.ensures.delivered;
     })
@@ -81,13 +81,13 @@ returns g c =
     let shelf = shelved g.H.Shelf.told g.H.Shelf.faults g.H.Shelf.begun c.args.shelf.now c.translation_of.new.shelf in
     let answer = c.into_answer.result in
     outputs-Promise
-    (call (Some (verify c.args.fast names)) shelf (sunk g.O.Sink.got g.O.Sink.faults c.args.out.now c.deliver-in-Err.new.out) (sunk g.N.Sink.got g.N.Sink.faults c.args.note.now c.deliver-in-Err.new.note))
+    (call (Some (verify c.args.share c.args.fast names)) shelf (sunk g.O.Sink.got g.O.Sink.faults c.args.out.now c.deliver-in-Err.new.out) (sunk g.N.Sink.got g.N.Sink.faults c.args.note.now c.deliver-in-Err.new.note))
     c.deliver-in-Err.result
     (record {
       answer = status_of answer;
       out_text = text_of answer;
       note_text = note_of answer;
-      answers = subst (λ answer. AnswersVerify names shelf (status_of answer) (text_of answer) (note_of answer)) (sym c.into_answer.ensures) (stop-AnswersVerify names shelf c.in-Err.stop c.in-Err.ensures.refused c.in-Err.ensures.read_fault);
+      answers = subst (λ answer. AnswersVerify c.args.share names shelf (status_of answer) (text_of answer) (note_of answer)) (sym c.into_answer.ensures) (stop-AnswersVerify names shelf c.args.share c.in-Err.stop c.in-Err.ensures.refused c.in-Err.ensures.read_fault);
       begins = subst (λ answer. BeginsFiles (status_of answer) shelf.begun_before names shelf.begun) (sym c.into_answer.ensures)
           (stop-BeginsFiles c.in-Err.stop shelf.begun_before shelf.begun names c.in-Err.ensures.refused_begun c.translation_of.ensures.front_begun);
       delivered = c.deliver-in-Err.ensures.delivered;
