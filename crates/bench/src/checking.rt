@@ -46,23 +46,23 @@ fn push_step(text: &mut Vec<u8>, number: u32) -> Result<(), Memory> {
     Ok(())
 }
 
-// The text of a module of so many steps.
-fn made(alloc: Global, count: u32) -> Result<Vec<u8>, Memory> {
-    let mut text = Vec::from_slice(alloc, PRELUDE)?;
+// A module of so many steps behind the text.
+fn push_module(text: &mut Vec<u8>, count: u32) -> Result<(), Memory> {
+    text.extend_from_slice(PRELUDE)?;
     text.extend_from_slice(OPENING)?;
     for number in 0..count {
-        push_step(&mut text, number)?;
+        push_step(text, number)?;
     }
-    Ok(text)
+    Ok(())
 }
 
-// The module of a text.
+// The module of a text. A fault of what is fed is told at the end too.
 fn read(alloc: Global, text: &[u8]) -> Result<Module, DkFault>
     ensures held { IfOk result IsHeld }
     ensures is_module { IfOk result (λ m. IsModule (declarations_of m)) }
 {
     let mut reader = Reader::new(alloc, Limit::Free);
-    reader.feed(text)?;
+    let _fed = reader.feed(text);
     reader.finish()
 }
 
@@ -78,12 +78,8 @@ fn answer(alloc: Global, base: &mut Module, i: usize, budget: &mut Budget) -> Re
     check_decl(alloc, base, i, budget)
 }
 
-/// How many declarations are accepted under the budget.
-pub(crate) fn checked(
-    alloc: Global,
-    base: &mut Module,
-    budget: &mut Budget,
-) -> Result<usize, Memory>
+// How many declarations are accepted under the budget.
+fn checked(alloc: Global, base: &mut Module, budget: &mut Budget) -> Result<usize, Memory>
     requires held { IsHeld base.old }
     requires is_module { IsModule (declarations_of base.old) }
 {
@@ -96,23 +92,49 @@ pub(crate) fn checked(
     Ok(count)
 }
 
-// The steps that checking took of a budget as large as there is, and how many declarations were accepted.
-fn priced(alloc: Global, text: &[u8]) -> Result<(usize, u128), DkFault> {
-    let mut base = read(alloc, text)?;
+/// How many declarations are accepted, each checked by itself, and the steps that they take of a budget as large as there is.
+pub(crate) fn counted(alloc: Global, base: &mut Module) -> Result<(usize, u128), Memory>
+    requires held { IsHeld base.old }
+    requires is_module { IsModule (declarations_of base.old) }
+{
     let mut budget = Budget { left: u128::MAX };
-    let count = checked(alloc, &mut base, &mut budget)?;
+    let count = checked(alloc, base, &mut budget)?;
     Ok((count, u128::MAX.saturating_sub(budget.left)))
 }
 
-// How many bytes the text has that is made, how many declarations are read in it, or how many are accepted, and the steps
-// that they took.
-fn run(alloc: Global, call: &str, count: u32) -> Result<(usize, u128), DkFault> {
-    let text = made(alloc, count)?;
+// How many declarations of a text are read, or accepted, and the steps that they took.
+fn answered(alloc: Global, text: &[u8], checks: bool) -> Result<(usize, u128), DkFault> {
+    let mut base = read(alloc, text)?;
+    let found = if checks {
+        counted(alloc, &mut base)
+    } else {
+        Ok((base.decls.len(), 0))
+    };
+    drop(base);
+    found.map_err(DkFault::from)
+}
+
+// How many bytes the text has that is made, or what is answered of it.
+fn told(
+    alloc: Global,
+    text: &mut Vec<u8>,
+    call: &str,
+    count: u32,
+) -> Result<(usize, u128), DkFault> {
+    push_module(text, count)?;
     match call {
-        "read" => Ok((read(alloc, &text)?.decls.len(), 0)),
-        "check" => priced(alloc, &text),
+        "read" => answered(alloc, text, false),
+        "check" => answered(alloc, text, true),
         _ => Ok((text.len(), 0)),
     }
+}
+
+// The same of a text of its own.
+fn run(alloc: Global, call: &str, count: u32) -> Result<(usize, u128), DkFault> {
+    let mut text = Vec::new(alloc);
+    let found = told(alloc, &mut text, call, count);
+    drop(text);
+    found
 }
 
 /// Runs a call, and tells how many bytes were made, or how many declarations were read or accepted, and the steps that it took.

@@ -7,8 +7,8 @@ ghost use Rattle.lp_spec.specs.ModuleOrder.{IsModule};
 ghost use Rattle.holide_sig.specs.Modules.{declarations_of, IsHeld};
 ghost use Rattle.dk_read.specs.Readers.{IsFed};
 
-use crate::checking::checked;
-use bridge_base::{Budget, Memory};
+use crate::checking::counted;
+use bridge_base::Memory;
 use dk_read::{DkFault, Limit, Reader};
 use holide_sig::Module;
 use lp_kernel::{Verdict, check_fast, check_module};
@@ -44,29 +44,24 @@ fn read_file(alloc: Global, file: &mut File) -> Result<Module, DkFault>
     reader.finish()
 }
 
-// So many of the greatest budget there is.
-fn budgets(alloc: Global, count: usize) -> Result<Vec<u128>, Memory>
+/// So many of a number.
+pub(crate) fn numbers(alloc: Global, each: u128, count: usize) -> Result<Vec<u128>, Memory>
     ensures { IfOk result (λ v. length v.items ≡ count) }
 {
-    Ok(vec![in alloc; u128::MAX; count]?)
+    Ok(vec![in alloc; each; count]?)
 }
 
-// The verdict on a module.
-fn judged(alloc: Global, mut base: Module) -> Result<Verdict, Memory>
-    requires held { IsHeld base }
-    requires is_module { IsModule (declarations_of base) }
+// The verdict on a module, with rechecks of sorts or without.
+fn judged(alloc: Global, base: &mut Module, fast: bool) -> Result<Verdict, Memory>
+    requires held { IsHeld base.old }
+    requires is_module { IsModule (declarations_of base.old) }
 {
-    let budgets = budgets(alloc, base.decls.len())?;
-    check_module(alloc, &mut base, &budgets)
-}
-
-// The verdict on a module without rechecks of sorts.
-fn judged_fast(alloc: Global, mut base: Module) -> Result<Verdict, Memory>
-    requires held { IsHeld base }
-    requires is_module { IsModule (declarations_of base) }
-{
-    let budgets = budgets(alloc, base.decls.len())?;
-    check_fast(alloc, &mut base, &budgets)
+    let budgets = numbers(alloc, u128::MAX, base.decls.len())?;
+    if fast {
+        check_fast(alloc, base, &budgets)
+    } else {
+        check_module(alloc, base, &budgets)
+    }
 }
 
 // Tells a verdict.
@@ -77,28 +72,23 @@ fn tell_verdict(rt: &HostRuntime, verdict: Result<Verdict, Memory>) -> io::Resul
     }
 }
 
-// How many declarations are accepted, each checked by itself, and the steps that they take.
-fn counted(alloc: Global, mut base: Module) -> Result<(usize, u128), Memory>
-    requires held { IsHeld base }
-    requires is_module { IsModule (declarations_of base) }
-{
-    let mut budget = Budget { left: u128::MAX };
-    let count = checked(alloc, &mut base, &mut budget)?;
-    Ok((count, u128::MAX.saturating_sub(budget.left)))
+// Tells how many declarations are accepted, each checked by itself, and the steps that they take.
+fn tell_steps(rt: &HostRuntime, counted: Result<(usize, u128), Memory>) -> io::Result<()> {
+    match counted {
+        Ok((count, steps)) => println!(rt; "{count} accepted, {steps} steps"),
+        Err(Memory) => rt.println("out of memory"),
+    }
 }
 
 // Tells what a call comes to.
-fn tell(rt: &HostRuntime, call: &str, base: Module) -> io::Result<()>
-    requires held { IsHeld base }
-    requires is_module { IsModule (declarations_of base) }
+fn tell(rt: &HostRuntime, call: &str, base: &mut Module) -> io::Result<()>
+    requires held { IsHeld base.old }
+    requires is_module { IsModule (declarations_of base.old) }
 {
     match call {
-        "check" => tell_verdict(rt, judged(rt.alloc(), base)),
-        "fast" => tell_verdict(rt, judged_fast(rt.alloc(), base)),
-        "steps" => match counted(rt.alloc(), base) {
-            Ok((count, steps)) => println!(rt; "{count} accepted, {steps} steps"),
-            Err(Memory) => rt.println("out of memory"),
-        },
+        "check" => tell_verdict(rt, judged(rt.alloc(), base, false)),
+        "fast" => tell_verdict(rt, judged(rt.alloc(), base, true)),
+        "steps" => tell_steps(rt, counted(rt.alloc(), base)),
         _ => {
             let count = base.decls.len();
             println!(rt; "{count} declarations")
@@ -110,7 +100,11 @@ fn tell(rt: &HostRuntime, call: &str, base: Module) -> io::Result<()>
 pub(crate) fn timed(rt: &HostRuntime, call: &str, name: &str) -> io::Result<()> {
     let mut file = fs::open(rt, name)?;
     match read_file(rt.alloc(), &mut file) {
-        Ok(base) => tell(rt, call, base),
+        Ok(mut base) => {
+            let told = tell(rt, call, &mut base);
+            drop(base);
+            told
+        }
         Err(fault) => println!(rt; "{fault}"),
     }
 }

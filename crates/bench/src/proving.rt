@@ -97,27 +97,44 @@ impl Work {
         self.proof.ty_op(&name, &[])
     }
 
+    // The type of functions from truth values.
+    fn function(&mut self, codomain: TypeId) -> Result<TypeId, Fault>
+        ensures { IfOk result (λ id. id.0 < length self.new.proof.trees.types) }
+    {
+        let truth = self.boolean()?;
+        if !self.is_type(codomain) {
+            return Err(UNKNOWN);
+        }
+        let name = self.name(b"->")?;
+        self.proof.ty_op(&name, &[truth, codomain])
+    }
+
     // The type of functions of one truth value.
     fn predicate(&mut self) -> Result<TypeId, Fault>
         ensures { IfOk result (λ id. id.0 < length self.new.proof.trees.types) }
     {
-        let name = self.name(b"->")?;
         let truth = self.boolean()?;
-        self.proof.ty_op(&name, &[truth, truth])
+        self.function(truth)
+    }
+
+    // A variable.
+    fn free(&mut self, text: &[u8], ty: TypeId) -> Result<TermId, Fault>
+        requires { ty.0 < length self.old.proof.trees.types }
+    {
+        let name = self.name(text)?;
+        self.proof.free(&name, ty)
     }
 
     // A variable, a truth value.
     fn truth(&mut self, text: &[u8]) -> Result<TermId, Fault> {
-        let name = self.name(text)?;
         let ty = self.boolean()?;
-        self.proof.free(&name, ty)
+        self.free(text, ty)
     }
 
     // A variable, a function of one truth value.
     fn unary(&mut self, text: &[u8]) -> Result<TermId, Fault> {
-        let name = self.name(text)?;
         let ty = self.predicate()?;
-        self.proof.free(&name, ty)
+        self.free(text, ty)
     }
 
     fn app(&mut self, f: TermId, x: TermId) -> Result<TermId, Fault> {
@@ -173,8 +190,8 @@ impl Work {
     fn p(&mut self) -> Result<Variable, Fault>
         ensures { IfOk result (λ var. var.ty.0 < length self.new.proof.trees.types) }
     {
-        let name = self.name(b"p")?;
         let ty = self.boolean()?;
+        let name = self.name(b"p")?;
         Ok(Variable { name, ty })
     }
 
@@ -188,17 +205,17 @@ impl Work {
         }
     }
 
+    // Equality of truth values.
+    fn equality(&mut self) -> Result<TermId, Fault> {
+        let predicate = self.predicate()?;
+        let relation = self.function(predicate)?;
+        let name = self.name(b"=")?;
+        self.proof.constant(&name, relation)
+    }
+
     // The equation of two truth values.
     fn equation(&mut self, left: TermId, right: TermId) -> Result<TermId, Fault> {
-        let name = self.name(b"=")?;
-        let arrow = self.name(b"->")?;
-        let predicate = self.predicate()?;
-        let truth = self.boolean()?;
-        if !self.is_type(predicate) {
-            return Err(UNKNOWN);
-        }
-        let relation = self.proof.ty_op(&arrow, &[truth, predicate])?;
-        let equality = self.proof.constant(&name, relation)?;
+        let equality = self.equality()?;
         let half = self.app(equality, left)?;
         self.app(half, right)
     }

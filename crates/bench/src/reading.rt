@@ -11,47 +11,37 @@ use itoa::Buffer;
 use std::alloc::Global;
 use std::io;
 
-// The text of a module of so many lines after the signature's.
-fn made(alloc: Global, count: u32) -> Result<Vec<u8>, Memory> {
-    let mut text = Vec::from_slice(alloc, PRELUDE)?;
+// So many lines behind the text of a module.
+fn push_lines(text: &mut Vec<u8>, count: u32) -> Result<(), Memory> {
     for line in 0..count {
-        let mut buffer = Buffer::new();
-        let number = buffer.format(1000000 + u64::from(line)).as_bytes();
-        for part in [
-            b"(; two declarations. ;) x".as_slice(),
-            number,
-            b" : type -> term bool. def d",
-            number,
-            b" : type -> type := a : type => a.\n",
-        ] {
-            text.extend_from_slice(part)?;
-        }
+        push_number(text, b"(; two declarations. ;) x", line)?;
+        push_number(text, b" : type -> term bool. def d", line)?;
+        text.extend_from_slice(b" : type -> type := a : type => a.\n")?;
     }
-    Ok(text)
+    Ok(())
 }
 
 // How many types the text of `open` has.
 const TYPES: u32 = 40;
 
-// The text of a module with types of so many binders, each of which looks the outermost up.
-fn nested(alloc: Global, count: u32) -> Result<Vec<u8>, Memory> {
-    let mut text = Vec::from_slice(alloc, PRELUDE)?;
+// Types of so many binders behind the text of a module, each of which looks the outermost up.
+fn push_types(text: &mut Vec<u8>, count: u32) -> Result<(), Memory> {
     for number in 0..TYPES {
-        push_number(&mut text, b"q", number)?;
+        push_number(text, b"q", number)?;
         text.extend_from_slice(b" : v : type -> ")?;
         for binder in 0..count {
-            push_number(&mut text, b"w", binder)?;
+            push_number(text, b"w", binder)?;
             text.extend_from_slice(b" : term v -> ")?;
         }
         text.extend_from_slice(b"type.\n")?;
     }
-    Ok(text)
+    Ok(())
 }
 
-// A name of this letter and number, of eight bytes.
-fn push_number(text: &mut Vec<u8>, letter: &[u8], number: u32) -> Result<(), Memory> {
+// A text that ends with the letter of a name, and the number of seven digits.
+fn push_number(text: &mut Vec<u8>, front: &[u8], number: u32) -> Result<(), Memory> {
     let mut buffer = Buffer::new();
-    text.extend_from_slice(letter)?;
+    text.extend_from_slice(front)?;
     text.extend_from_slice(buffer.format(1000000 + u64::from(number)).as_bytes())?;
     Ok(())
 }
@@ -114,20 +104,19 @@ const BLOCK: [(&[u8], Name); 30] = [
     (b" v0) (", Name::LastTheorem),
 ];
 
-// The text of a module of so many blocks.
-fn generated(alloc: Global, count: u32) -> Result<Vec<u8>, Memory> {
-    let mut text = Vec::from_slice(alloc, PRELUDE)?;
+// So many blocks behind the text of a module.
+fn push_blocks(text: &mut Vec<u8>, count: u32) -> Result<(), Memory> {
     text.extend_from_slice(
         b"trans : type.\ni_f : term (arr bool bool).\nT0 : type.\nc1000000 : type.\nT1000004 : type.\n",
     )?;
     for block in 1..count {
         for (part, name) in &BLOCK {
             text.extend_from_slice(*part)?;
-            push_name(&mut text, *name, block)?;
+            push_name(text, *name, block)?;
         }
         text.extend_from_slice(b" v0).\n")?;
     }
-    Ok(text)
+    Ok(())
 }
 
 // A name of a block.
@@ -145,27 +134,47 @@ fn push_name(text: &mut Vec<u8>, name: Name, block: u32) -> Result<(), Memory> {
     }
 }
 
-// How many declarations the text has.
-fn declarations(alloc: Global, text: &[u8]) -> Result<usize, DkFault> {
-    let mut reader = Reader::new(alloc, Limit::Free);
+// Feeds a text in pieces.
+fn feed(reader: &mut Reader, text: &[u8]) -> Result<(), DkFault> {
     for piece in text.chunks(4096) {
         reader.feed(piece)?;
     }
+    Ok(())
+}
+
+// How many declarations the text has. A fault of what is fed is told at the end too.
+fn declarations(alloc: Global, text: &[u8]) -> Result<usize, DkFault> {
+    let mut reader = Reader::new(alloc, Limit::Free);
+    let _fed = feed(&mut reader, text);
     let module = reader.finish()?;
     Ok(module.decls.len())
 }
 
-// How many bytes the text has that is made, or how many declarations are read in it.
-fn run(alloc: Global, call: &str, count: u32) -> Result<usize, DkFault> {
-    let text = match call {
-        "open" | "deep" => nested(alloc, count)?,
-        "write" | "run" => generated(alloc, count)?,
-        _ => made(alloc, count)?,
-    };
+// The text of a module.
+fn push_module(text: &mut Vec<u8>, call: &str, count: u32) -> Result<(), Memory> {
+    text.extend_from_slice(PRELUDE)?;
     match call {
-        "read" | "run" | "deep" => declarations(alloc, &text),
+        "open" | "deep" => push_types(text, count),
+        "write" | "run" => push_blocks(text, count),
+        _ => push_lines(text, count),
+    }
+}
+
+// How many bytes the text has that is made, or how many declarations are read in it.
+fn told(alloc: Global, text: &mut Vec<u8>, call: &str, count: u32) -> Result<usize, DkFault> {
+    push_module(text, call, count)?;
+    match call {
+        "read" | "run" | "deep" => declarations(alloc, text),
         _ => Ok(text.len()),
     }
+}
+
+// The same of a text of its own.
+fn run(alloc: Global, call: &str, count: u32) -> Result<usize, DkFault> {
+    let mut text = Vec::new(alloc);
+    let found = told(alloc, &mut text, call, count);
+    drop(text);
+    found
 }
 
 /// Runs a call, and tells how many bytes were made or how many declarations were read.

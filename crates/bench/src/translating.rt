@@ -242,15 +242,31 @@ fn one(
 }
 
 // So many of them: how many terms there are, and how many nodes the last tree has.
+fn each(
+    target: &mut Module,
+    table: &mut TermTable,
+    alloc: Global,
+    translates: bool,
+    count: u32,
+) -> Result<(usize, u128), Fault>
+    requires { IsHeld target.old }
+{
+    let shared = variables(table, alloc)?;
+    let mut size = 0u128;
+    for number in 0..count {
+        size = one(target, table, alloc, shared, number, translates)?;
+    }
+    Ok((table.count(), size))
+}
+
+// The same over a module and a table of its own.
 fn run(alloc: Global, translates: bool, count: u32) -> Result<(usize, u128), Fault> {
     let mut target = Module::new(alloc)?;
     let mut table = TermTable::new(alloc);
-    let shared = variables(&mut table, alloc)?;
-    let mut size = 0u128;
-    for number in 0..count {
-        size = one(&mut target, &mut table, alloc, shared, number, translates)?;
-    }
-    Ok((table.count(), size))
+    let found = each(&mut target, &mut table, alloc, translates, count);
+    drop(table);
+    drop(target);
+    found
 }
 
 /// Runs a call, and tells how many terms there are and how many nodes the last tree has.

@@ -1,13 +1,14 @@
 //! Makes a module and writes its text to standard output: `bench dk_write COUNT TIMES`, where each of COUNT definitions adds a line of
 //! some 600 bytes, and the text is written TIMES times. What writing takes is the time of a run less that of one with TIMES 0.
 
-ghost use Rattle.std.specs.Prelude.{◌≡◌, ◌<◌, ◌+◌, ◌++◌, length, IsFalse, IfOk, OnOk};
+ghost use Rattle.std.specs.Prelude.{◌≡◌, ◌<◌, length, IfOk, OnOk};
 ghost use Rattle.lp_spec.specs.Modules.{signature};
-ghost use Rattle.lp_spec.specs.ModuleOrder.{is_declared, IsOver};
+ghost use Rattle.lp_spec.specs.ModuleOrder.{IsOver};
 ghost use Rattle.lp_term.specs.Tables.{tree_at, Keeps};
-ghost use Rattle.holide_sig.specs.Modules.{declarations_of, IsHeld};
+ghost use Rattle.holide_sig.specs.Modules.{IsHeld};
 ghost use Rattle.dk_write.specs.Shallow.{AreWithin};
 
+use crate::modules::numbers;
 use bridge_base::{Failed, Memory, Sink, StdSink};
 use dk_write::{Path, write};
 use holide_sig::{Decl, Form, Ident, Module};
@@ -54,12 +55,11 @@ fn named(alloc: Global, number: usize) -> Result<Vec<u8>, Memory> {
 // Defines a new name as such a tree.
 fn push_nest(alloc: Global, into: &mut Module, number: usize, depth: usize) -> Result<(), Memory>
     requires held { IsHeld into.old }
-    ensures held { OnOk result (IsHeld into.new) }
-    ensures count { OnOk result (length into.new.decls ≡ length into.old.decls + 1) }
+    ensures { OnOk result (IsHeld into.new) }
 {
-    let name = named(alloc, number)?;
     let ty = into.table.node(LpNode::Sym(0))?;
     let body = nest(&mut into.table, depth)?;
+    let name = named(alloc, number)?;
     if into.find(&name).is_some() {
         return Err(Memory);
     }
@@ -73,16 +73,15 @@ fn push_nest(alloc: Global, into: &mut Module, number: usize, depth: usize) -> R
     into.push(decl)
 }
 
-// A module of so many definitions.
-fn made(alloc: Global, count: usize) -> Result<Module, Memory>
-    ensures held { IfOk result IsHeld }
-    ensures count { IfOk result (λ m. length m.decls ≡ count) }
+// So many definitions behind those of a module.
+fn push_nests(alloc: Global, into: &mut Module, count: usize) -> Result<(), Memory>
+    requires { IsHeld into.old }
+    ensures { OnOk result (IsHeld into.new) }
 {
-    let mut module = Module::new(alloc)?;
     for number in 0..count {
-        push_nest(alloc, &mut module, number, 40)?;
+        push_nest(alloc, into, number, 40)?;
     }
-    Ok(module)
+    Ok(())
 }
 
 // Writes a module so many times.
@@ -103,23 +102,28 @@ fn write_often<S: Sink>(
     Ok(())
 }
 
-// So many bounds.
-fn bounds_of(alloc: Global, count: usize) -> Result<Vec<u128>, Memory>
-    ensures { IfOk result (λ bounds. length bounds.items ≡ count) }
+// Whether a module was made and written.
+fn is_written<S: Sink>(
+    alloc: Global,
+    module: &mut Module,
+    count: usize,
+    times: u32,
+    sink: &mut S,
+) -> Result<bool, Memory>
+    requires { IsHeld module.old }
 {
-    let mut bounds = Vec::new(alloc);
-    for _ in 0..count {
-        bounds.push(0)?;
-    }
-    Ok(bounds)
+    push_nests(alloc, module, count)?;
+    let bounds = numbers(alloc, 0, module.decls.len())?;
+    let mut path = Path::new(alloc, module)?;
+    Ok(write_often(module, &bounds, times, &mut path, sink).is_ok())
 }
 
-// Whether a module was made and written.
+// The same of a module of its own.
 fn run<S: Sink>(alloc: Global, count: usize, times: u32, sink: &mut S) -> Result<bool, Memory> {
-    let module = made(alloc, count)?;
-    let bounds = bounds_of(alloc, count)?;
-    let mut path = Path::new(alloc, &module)?;
-    Ok(write_often(&module, &bounds, times, &mut path, sink).is_ok())
+    let mut module = Module::new(alloc)?;
+    let written = is_written(alloc, &mut module, count, times, sink);
+    drop(module);
+    written
 }
 
 /// Writes a module of so many definitions so many times to standard output.

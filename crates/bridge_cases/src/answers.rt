@@ -16,8 +16,8 @@ pub(crate) fn answer(
 ) -> Result<u8, Wrong> {
     match word(case, "by")? {
         "bridge" => Ok(number_of(bridge(alloc, words, shelf, out, note))),
-        "verify" => Ok(number_of(verify(alloc, words, false, shelf, out, note))),
-        "translate" => Ok(number_of(translate(alloc, words, shelf, out, note))),
+        "verify" => Ok(number_of(verify(alloc, words, false, false, shelf, out, note))),
+        "translate" => Ok(number_of(translate(alloc, words, false, shelf, out, note))),
         "show" => Ok(number_of(show(alloc, words, shelf, out, note))),
         by => answer_of_a_module(alloc, case, by, words, shelf, out, note),
     }

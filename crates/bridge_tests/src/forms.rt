@@ -6,7 +6,7 @@ const TESTS: &str = r#"
 article.a = ["$reflexivity"]
 number = 2
 begun = []
-note = "usage: bridge verify [--fast] FILE.. | translate FILE.. | check FILE [--budget N] [--fast] | decode FILE | show FILE.. | trial N\n"
+note = "usage: bridge verify [--share] [--fast] FILE.. | translate [--share] FILE.. | check FILE [--budget N] [--fast] | decode FILE | show FILE.. | trial N\n"
 
 [[test]]
 name = "answers_words_of_no_command"
@@ -82,6 +82,24 @@ case = [
     { words = ["bridge", "show", "a", "--fast"] },
     { words = ["bridge", "decode", "a", "--fast"] },
     { words = ["bridge", "trial", "1", "--fast"] },
+]
+
+[[test]]
+name = "answers_shared_abbreviations_where_there_are_none"
+case = [
+    { words = ["bridge", "--share", "verify", "a"] },
+    { words = ["bridge", "--share", "translate", "a"] },
+    { words = ["bridge", "verify", "--share"] },
+    { words = ["bridge", "translate", "--share"] },
+    { words = ["bridge", "verify", "--share", "--fast"] },
+    { words = ["bridge", "verify", "--share", "a", "--share"] },
+    { words = ["bridge", "translate", "a", "--share", "--share"] },
+    { words = ["bridge", "translate", "a", "--share=true"] },
+    { words = ["bridge", "verify", "a", "--shar"] },
+    { words = ["bridge", "check", "--share", "a"] },
+    { words = ["bridge", "show", "a", "--share"] },
+    { words = ["bridge", "decode", "a", "--share"] },
+    { words = ["bridge", "trial", "1", "--share"] },
 ]
 "#;
 

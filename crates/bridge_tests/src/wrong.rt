@@ -7,7 +7,7 @@ const USUAL: &str = r#"
 [usual]
 words = ["bridge", "help"]
 number = 2
-note = "usage: bridge verify [--fast] FILE.. | translate FILE.. | check FILE [--budget N] [--fast] | decode FILE | show FILE.. | trial N\n"
+note = "usage: bridge verify [--share] [--fast] FILE.. | translate [--share] FILE.. | check FILE [--budget N] [--fast] | decode FILE | show FILE.. | trial N\n"
 "#;
 
 // Behind that, a test that holds.

@@ -25,7 +25,7 @@ bounds 16216358912
 '''
 
 [[test.case]]
-words = ["bridge", "translate", "a"]
+words = [["bridge", "translate", "a"], ["bridge", "translate", "a", "--share"]]
 article.a = ["$version"]
 note = "$counts"
 

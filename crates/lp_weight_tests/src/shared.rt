@@ -1,5 +1,5 @@
 //! Weights of trees that share their parts.
-ghost use Rattle.std.specs.Prelude.{◌≡◌, ℕ, ◌<◌, ◌≤◌, ◌++◌, length, codes, IsFalse, IfOk};
+ghost use Rattle.std.specs.Prelude.{◌≡◌, ℕ, ◌<◌, ◌≤◌, ◌++◌, [], length, codes, IsFalse, IfOk, OnOk};
 ghost use Rattle.lp_spec.specs.Modules.{signature};
 ghost use Rattle.lp_spec.specs.ModuleOrder.{is_declared};
 ghost use Rattle.lp_term.specs.Tables.{Keeps};
@@ -28,12 +28,13 @@ fn doubled(table: &mut LpTable, leaf: LpId, times: u32) -> Result<LpId, Memory>
     Ok(id)
 }
 
-// `def d : type := t.`, where t is `bool` so many times doubled.
-fn shared_definition(alloc: Global, times: u32) -> Result<Module, Memory>
-    ensures held { IfOk result (λ m. IsHeld m) }
-    ensures one { IfOk result (λ m. length m.decls ≡ 1) }
+// Adds `def d : type := t.`, where t is `bool` so many times doubled.
+fn define_shared(alloc: Global, into: &mut Module, times: u32) -> Result<(), Memory>
+    requires held { IsHeld into.old }
+    requires none { into.old.decls ≡ [] }
+    ensures held { OnOk result (IsHeld into.new) }
+    ensures one { OnOk result (length into.new.decls ≡ 1) }
 {
-    let mut into = Module::new(alloc)?;
     let ty = into.table.node(LpNode::Sym(0))?;
     let leaf = into.table.node(LpNode::Sym(1))?;
     let body = doubled(&mut into.table, leaf, times)?;
@@ -44,8 +45,24 @@ fn shared_definition(alloc: Global, times: u32) -> Result<Module, Memory>
         ty,
         body: Some(body),
     };
-    into.push(decl)?;
-    Ok(into)
+    into.push(decl)
+}
+
+// The weight and the bound of this definition, which is added to an empty module.
+fn definition_weighs(alloc: Global, into: &mut Module, times: u32) -> Result<(u128, u128), Memory>
+    requires held { IsHeld into.old }
+    requires none { into.old.decls ≡ [] }
+{
+    define_shared(alloc, into, times)?;
+    Ok((weight(alloc, into, 0)?, bound(alloc, into, 0)?))
+}
+
+// The same of a module of its own.
+fn shared_definition(alloc: Global, times: u32) -> Result<(u128, u128), Memory> {
+    let mut into = Module::new(alloc)?;
+    let weights = definition_weighs(alloc, &mut into, times);
+    drop(into);
+    weights
 }
 
 // The sizes and the spreads of n doublings are 4 * 2^n - 3 each.
@@ -58,19 +75,23 @@ fn weighs_a_shared_tree_by_its_places(rt: HostRuntime) -> Result<(), Fail> {
         (100, (1 << 103) - 4, u128::MAX),
         (130, u128::MAX, u128::MAX),
     ] {
-        let base = shared_definition(alloc, times)?;
-        assert_eq!(rt; weight(alloc, &base, 0)?, weighs, "doubled {times} times");
-        assert_eq!(rt; bound(alloc, &base, 0)?, takes, "doubled {times} times");
+        assert_eq!(rt;
+            shared_definition(alloc, times)?,
+            (weighs, takes),
+            "doubled {times} times"
+        );
     }
     Ok(())
 }
 
-// `c : type -> t. def d : type := c bool.`, where t is the product's variable so many times doubled.
-fn shared_type(alloc: Global, times: u32) -> Result<Module, Memory>
-    ensures held { IfOk result (λ m. IsHeld m) }
-    ensures two { IfOk result (λ m. length m.decls ≡ 2) }
+// Adds `c : type -> t.`, where t is the product's variable so many times doubled.
+fn declare_shared(alloc: Global, into: &mut Module, times: u32) -> Result<(), Memory>
+    requires held { IsHeld into.old }
+    requires none { into.old.decls ≡ [] }
+    ensures held { OnOk result (IsHeld into.new) }
+    ensures one { OnOk result (length into.new.decls ≡ 1) }
+    ensures new_name { OnOk result (IsFalse (is_declared (signature ++ declarations_of into.new) (codes "d"))) }
 {
-    let mut into = Module::new(alloc)?;
     let simple = into.table.node(LpNode::Sym(0))?;
     let leaf = into.table.node(LpNode::Var(0))?;
     let result = doubled(&mut into.table, leaf, times)?;
@@ -81,19 +102,17 @@ fn shared_type(alloc: Global, times: u32) -> Result<Module, Memory>
         ty,
         body: None,
     };
-    into.push(decl)?;
-    call(alloc, into)
+    into.push(decl)
 }
 
-// The definition of `d : type` as the first declaration at `bool`, added.
-fn call(alloc: Global, into: Module) -> Result<Module, Memory>
-    requires held { IsHeld into }
-    requires one { length into.decls ≡ 1 }
-    requires new_name { IsFalse (is_declared (signature ++ declarations_of into) (codes "d")) }
-    ensures held { IfOk result (λ m. IsHeld m) }
-    ensures two { IfOk result (λ m. length m.decls ≡ 2) }
+// Adds the definition of `d : type` as the first declaration at `bool`.
+fn define_call(alloc: Global, into: &mut Module) -> Result<(), Memory>
+    requires held { IsHeld into.old }
+    requires one { length into.old.decls ≡ 1 }
+    requires new_name { IsFalse (is_declared (signature ++ declarations_of into.old) (codes "d")) }
+    ensures held { OnOk result (IsHeld into.new) }
+    ensures two { OnOk result (length into.new.decls ≡ 2) }
 {
-    let mut into = into;
     let simple = into.table.node(LpNode::Sym(0))?;
     let function = into.table.node(LpNode::Sym(SIGNATURE))?;
     let argument = into.table.node(LpNode::Sym(1))?;
@@ -104,8 +123,25 @@ fn call(alloc: Global, into: Module) -> Result<Module, Memory>
         ty: simple,
         body: Some(body),
     };
-    into.push(decl)?;
-    Ok(into)
+    into.push(decl)
+}
+
+// The weights of the two, which are added to an empty module.
+fn call_weighs(alloc: Global, into: &mut Module, times: u32) -> Result<(u128, u128), Memory>
+    requires held { IsHeld into.old }
+    requires none { into.old.decls ≡ [] }
+{
+    declare_shared(alloc, into, times)?;
+    define_call(alloc, into)?;
+    Ok((weight(alloc, into, 0)?, weight(alloc, into, 1)?))
+}
+
+// The same of a module of its own.
+fn shared_type(alloc: Global, times: u32) -> Result<(u128, u128), Memory> {
+    let mut into = Module::new(alloc)?;
+    let weights = call_weighs(alloc, &mut into, times);
+    drop(into);
+    weights
 }
 
 // The type is 4 * 2^n - 1 in size, and spreads 3 * 2^n - 2; at `bool` it spreads 4 * 2^n - 2.
@@ -118,11 +154,9 @@ fn weighs_a_call_by_the_places_of_its_type(rt: HostRuntime) -> Result<(), Fail> 
         (100, (7 << 100) - 3, (1 << 102) + 4),
         (130, u128::MAX, u128::MAX),
     ] {
-        let base = shared_type(alloc, times)?;
-        assert_eq!(rt; weight(alloc, &base, 0)?, symbol, "doubled {times} times");
         assert_eq!(rt;
-            weight(alloc, &base, 1)?,
-            definition,
+            shared_type(alloc, times)?,
+            (symbol, definition),
             "doubled {times} times"
         );
     }

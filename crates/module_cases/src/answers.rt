@@ -8,8 +8,9 @@ use crate::conversions::{add_conversions, add_step};
 use crate::faults::add_fault;
 use crate::modules::{Reading, read};
 use crate::readings::{add_cuts, add_feeding, add_finds, add_reading, add_steps};
-use crate::sequents::add_sequent;
+use crate::sequents::{add_sequent, add_whether};
 use crate::weights::add_weights;
+use crate::writing::add_written;
 use case_files::{Case, Wrong, number, text_at, word};
 use dk_read::Limit;
 use holide_sig::Module;
@@ -92,6 +93,7 @@ fn add_asked_of(
         "step" => add_step(alloc, module, came),
         "weigh" => add_weights(alloc, module, came),
         "decode" => add_sequent(alloc, module, came),
-        _ => Err(Wrong("by")),
+        "decodes" => add_whether(alloc, module, came),
+        by => add_written(alloc, case, by, module, came),
     }
 }

@@ -94,8 +94,8 @@ pub(crate) fn add_verdict(
     add_verdict_of(alloc, verdict?, came)
 }
 
-// The budgets of a case.
-fn budgets(alloc: Global, case: &Case<'_>) -> Result<Vec<u128>, Wrong> {
+/// The budgets of a case.
+pub(crate) fn budgets(alloc: Global, case: &Case<'_>) -> Result<Vec<u128>, Wrong> {
     let numbers = numbers(alloc, case, "budgets")?;
     let mut budgets = Vec::new(alloc);
     let added = add_budgets(&numbers, &mut budgets);

@@ -39,6 +39,11 @@
 //! | `step` | whether the head step of the body of `l` goes to the body of `r`, or elsewhere, or there is none |
 //! | `weigh` | the weight of each declaration, its bound, and its bound without rechecks of sorts |
 //! | `decode` | the closed sequent for which the type of the last declaration stands, or `none` |
+//! | `decodes` | `some` where it stands for one, or `none` |
+//! | `write` | the text that is written, with `budgets` as bounds; where the sink fails at its call `fails`, `failed ` and what it holds |
+//! | `pieces` | how many bytes each piece has that the sink gets |
+//! | `last` | the prelude, and what the last declaration adds, each written by itself |
+//! | `discard` | `written`, where what is written is dropped |
 #![tactic(auto)]
 
 mod answers;
@@ -51,5 +56,6 @@ mod sequents;
 mod tries;
 mod usual;
 mod weights;
+mod writing;
 
 pub use crate::tries::all_hold;

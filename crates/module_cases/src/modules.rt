@@ -26,7 +26,7 @@ pub(crate) fn feed(reader: &mut Reader, text: &[u8], size: usize) -> Result<(), 
     Ok(())
 }
 
-/// The module of a text, which is read in pieces.
+/// The module of a text, which is read in pieces. A fault of what is fed is told at the end too.
 pub(crate) fn read_in_pieces(
     alloc: Global,
     reading: Reading,
@@ -35,17 +35,17 @@ pub(crate) fn read_in_pieces(
     requires { 0 < reading.size }
 {
     let mut reader = Reader::new(alloc, reading.limit);
-    feed(&mut reader, text, reading.size)?;
+    let _fed = feed(&mut reader, text, reading.size);
     reader.finish()
 }
 
-/// The module of a text.
+/// The module of a text. A fault of what is fed is told at the end too.
 pub(crate) fn read(alloc: Global, limit: Limit, text: &[u8]) -> Result<Module, DkFault>
     ensures held { IfOk result IsHeld }
     ensures is_module { IfOk result (λ m. IsModule (declarations_of m)) }
 {
     let mut reader = Reader::new(alloc, limit);
-    reader.feed(text)?;
+    let _fed = reader.feed(text);
     reader.finish()
 }
 

@@ -11,7 +11,7 @@ use toml::Value;
 
 // The keys that a case may have beside its name.
 const KEYS: &[&str] = &[
-    "text", "limits", "pieces", "start", "by", "names", "budgets", "comes",
+    "text", "limits", "pieces", "start", "by", "names", "budgets", "fails", "comes",
 ];
 
 /// Whether the file has a test and each of its tests holds. What doesn't hold is told on standard output, by the name of the test

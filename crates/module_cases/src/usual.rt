@@ -6,6 +6,7 @@ text = ["$prelude", "$after"]
 limits = ["free"]
 pieces = [4096]
 start = 1470
+fails = 0
 
 [texts]
 after = ""
