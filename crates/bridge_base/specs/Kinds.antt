@@ -1,5 +1,5 @@
 -- Why an article is refused: the number and the name of each kind.
--- Source: the conditions of the commands of the OpenTheory article format, version 6.
+-- Source: the conditions of the commands of the OpenTheory article format, versions 5 and 6.
 use Rattle.std.specs.Prelude.{ℕ, List, codes}
 use Rattle.bridge_base.specs.declared.faults.Kind.{Kind}
 use Rattle.bridge_base.specs.declared.faults.Kind.TheVariants.{BadLine, StackShort, WrongKind, NoSuchKey, VersionPlace, NotBool, TypeMismatch, NotEquation, NotAlike, VarInHyps, NotRedex, BadArity, BadConstType, NameTaken, NotClosed, ExtraTypeVars, BadDefinitionList, BadTypeVars, BadSubst, NotTheSequent, NumberRange, LineTooLong, TooLarge, TooDeep, TooManyParams, InputTooLong, EmptyList}

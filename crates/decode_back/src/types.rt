@@ -24,8 +24,8 @@ use holide_sig::{Module, SIGNATURE};
 use lp_term::{LpId, LpNode};
 use std::alloc::Global;
 
-/// What is still to be done on the way through a type: to decode this tree, applied to so many of the types that were made last, the first
-/// of them last, into a type no deeper than the level.
+/// What is still to be done on the way through a type: to decode this tree, applied to so many of the types that were made
+/// last, the first of them last, into a type no deeper than the level.
 #[derive(Clone, Copy)]
 struct TypeTask {
     head: LpId,

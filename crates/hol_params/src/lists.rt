@@ -79,7 +79,8 @@ impl Lists {
         self.push(numbers)
     }
 
-    /// The first of two lists, followed by what is new of the second, where both are kept and their union has no more numbers than a list has.
+    /// The first of two lists, followed by what is new of the second, where both are kept and their union has no more
+    /// numbers than a list has.
     pub(crate) fn unite(
         &mut self,
         first: Option<ListId>,

@@ -1,5 +1,5 @@
 -- The step that each rule makes of its premises and of what else it is given, or the first of its conditions that fails.
--- Source: HOL Light's kernel; the OpenTheory article file format, version 6, "Commands".
+-- Source: HOL Light's kernel; the OpenTheory article file format, versions 5 and 6, "Commands".
 use Rattle.std.specs.Prelude.{ℕ, List, [], ◌∷◌, length, map, not, nat_eq, Some, Result, Ok}
 use Rattle.std.specs.List.{list_all, list_any}
 use Rattle.std.specs.Option.{ok_or}

@@ -259,7 +259,7 @@ pub(crate) fn second_law(
     made
 }
 
-// The second law over this variable, `f r = (rep (abs r) = r)`.
+// The second law over this variable r, `f r = (rep (abs r) = r)`: nothing binds it, so it is free in the law.
 fn second_law_free(
     alloc: Global,
     terms: &mut TermTable,

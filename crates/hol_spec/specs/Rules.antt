@@ -1,5 +1,5 @@
 -- The inference rules. A rule says which sequent follows from which premises, for the parameters that its command is given beside the premises.
--- Source: HOL Light's kernel; the OpenTheory article file format, version 6, "Commands".
+-- Source: HOL Light's kernel; the OpenTheory article file format, versions 5 and 6, "Commands".
 use Rattle.std.specs.Prelude.{◌≡◌, List, [], ◌∷◌, map, Bool, false, IsTrue}
 use Rattle.std.specs.List.{AllByRecursion, flat_map}
 use Rattle.hol_spec.specs.Names.{Name}

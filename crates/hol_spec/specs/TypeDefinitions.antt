@@ -1,5 +1,5 @@
 -- Definitions of type operators, and the two laws that each gives.
--- Source: HOL Light's kernel, `new_basic_type_definition`; the OpenTheory article file format, version 6, `defineTypeOp`.
+-- Source: HOL Light's kernel, `new_basic_type_definition`; the OpenTheory article file format, versions 5 and 6, `defineTypeOp`.
 use Rattle.std.specs.Prelude.{◌≡◌, List, [], ◌∷◌, codes, Bool, ◌&&◌, IsTrue}
 use Rattle.std.specs.List.{list_all}
 use Rattle.hol_spec.specs.Names.{Name}

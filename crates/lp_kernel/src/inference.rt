@@ -28,8 +28,8 @@ pub enum Inferred {
 
 /// The type of a tree in a context, by the directed rules, each step taking one of the budget.
 ///
-/// The context is the types of the loose variables, the innermost first, each over those after it. A variable that is not of the context and
-/// a symbol that is not of the module have no type.
+/// The context is the types of the loose variables, the innermost first, each over those after it. A variable that is not
+/// of the context and a symbol that is not of the module have no type.
 pub fn infer(
     alloc: Global,
     base: &mut Module,

@@ -31,7 +31,7 @@ definition name ty body = record { name = name; form = Def; ty = ty; body = Some
 abbrev functions : Tree
 functions = arr_of bools bools
 
--- THE ROW: a short name in a definition of another reads as its body
+-- a short name in a definition of another reads as its body
 both : read_end (read_bytes (Inside 1000 Nothing [] Between) (codes "def X0 : type := arr bool bool.\ndef X1 : type := arr X0 X0.\n")) ≡ reads (definition (codes "X0") types functions ∷ definition (codes "X1") types (arr_of functions functions) ∷ [])
 both = refl
 
@@ -46,7 +46,7 @@ hidden = refl
 twice : read_end (read_bytes (Inside 1000 Nothing [] Between) (codes "def X0 : type := bool. X0 : type.")) ≡ refused (refusal 1023 (NameTwice (codes "X0")))
 twice = refl
 
--- ROW 1 with short names: each p equals itself, and the export of that
+-- with short names: each p equals itself, and the export of that
 abbrev equation : Tree
 equation = App (Sym 5) bools
 

@@ -34,7 +34,8 @@ use std::alloc::Global;
 // How many times the cube of its weight the steps of a declaration's check may be, and the square without rechecks of sorts.
 const FACTOR: u128 = 64;
 
-/// How many steps the check of this declaration may take: 64 times the cube of its weight, or the greatest number of the type if that is more.
+/// How many steps the check of this declaration may take: 64 times the cube of its weight, or the greatest number of the
+/// type if that is more.
 pub fn bound(alloc: Global, base: &Module, i: usize) -> Result<u128, Memory>
     requires held { IsHeld base.now }
     requires i { i < length base.now.decls }
@@ -45,8 +46,8 @@ pub fn bound(alloc: Global, base: &Module, i: usize) -> Result<u128, Memory>
     Ok(square.saturating_mul(weight).saturating_mul(FACTOR))
 }
 
-/// How many steps the check of this declaration without rechecks of sorts may take: 64 times the square of its weight, or the greatest number
-/// of the type if that is more.
+/// How many steps the check of this declaration without rechecks of sorts may take: 64 times the square of its weight, or
+/// the greatest number of the type if that is more.
 pub fn bound_fast(alloc: Global, base: &Module, i: usize) -> Result<u128, Memory>
     requires held { IsHeld base.now }
     requires i { i < length base.now.decls }

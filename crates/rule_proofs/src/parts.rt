@@ -91,8 +91,8 @@ pub fn type_part(
     part_call(target, proof, env, part.symbol(), one)
 }
 
-/// From a theorem by which a type operator is defined: abs (rep a) = a, as the equation of two functions that the step's own conclusion is. The
-/// inner environment is that under one binder more, which stands for nothing.
+/// From a theorem by which a type operator is defined: abs (rep a) = a, as the equation of two functions that the step's
+/// own conclusion is. The inner environment is that under one binder more, which stands for nothing.
 pub fn first_law(
     target: &mut Module,
     proof: &Proof,

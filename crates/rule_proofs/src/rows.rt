@@ -201,7 +201,8 @@ pub fn abs_thm(
     call(&mut target.table, FUN_EXT, &args)
 }
 
-/// From p and q, each proved where the other is: `p = q`. The first environment is that in which p is proved by a binder, the second that in which q is.
+/// From p and q, each proved where the other is: `p = q`. The first environment is that in which p is proved by a binder,
+/// the second that in which q is.
 pub fn deduct_antisym(
     target: &mut Module,
     proof: &Proof,

@@ -20,8 +20,9 @@
 
 ghost use Rattle.telling_laws.specs.Making.{NextTells, NextFollows, NextMade, NextPremises, ItemsGrow, ItemsStay, KeptStays, OthersGo, NextStepKept, NextStepGone, NextSymbolKept, NextSymbolGone, NextDefinitionKept, NextDefinitionGone, NextDefinition, SoundCarried};
 
-/// What is declared so far of the module of a run that is sound and has names tells the symbol of each operator and each constant that the
-/// next item mentions, and declares each such constant at its generic type, of which the constant's type is an instance.
+/// What is declared so far of the module of a run that is sound and has names tells the symbol of each operator and each
+/// constant that the next item mentions, and declares each such constant at its generic type, of which the constant's type
+/// is an instance.
 pub fn next_tells()
     ensures { NextTells }
 {}
@@ -36,8 +37,8 @@ pub fn next_made()
     ensures { NextMade }
 {}
 
-/// In the module the premises of a step have the symbols of what earlier steps say; and where a step with a proof is kept, each premise that
-/// its proof needs is.
+/// In the module the premises of a step have the symbols of what earlier steps say; and where a step with a proof is kept,
+/// each premise that its proof needs is.
 pub fn next_premises()
     ensures { NextPremises }
 {}

@@ -39,9 +39,9 @@ const ENDING: &[u8] =
     b"7\nref\nnil\n\"=\"\nconst\n\"->\"\ntypeOp\n0\nref\n1\nref\nnil\ncons\ncons\nopType\nconstTerm\n\
 5\nref\n2\nref\nappTerm\nappTerm\n\"f\"\nconst\n1\nref\nconstTerm\n2\nref\nappTerm\nappTerm\nthm\n";
 
-/// Writes the article of `n` blocks, one command a line, each line with its end. Block i defines `ci` as `\x. t x`, where `t` is the constant
-/// before it, or the input constant `f`, and proves `|- ci p = f p`; the article exports this of the last. So with no block it refers to a
-/// theorem that isn't there. It fails only where the sink's count of faults rose.
+/// Writes the article of `n` blocks, one command a line, each line with its end. Block i defines `ci` as `\x. t x`, where
+/// `t` is the constant before it, or the input constant `f`, and proves `|- ci p = f p`; the article exports this of the
+/// last. So with no block it refers to a theorem that isn't there. It fails only where the sink's count of faults rose.
 pub fn trial<S: Sink>(n: u64, sink: &mut S) -> Result<(), Failed>
     ensures ok { OnOk result (Gains (S.got sink.old) (trial_text n) (S.got sink.new)) }
     ensures err { OnErr result (GainsFront (S.got sink.old) (trial_text n) (S.got sink.new)) }
