@@ -1,5 +1,6 @@
 pub mod LineLaws
 pub mod NoPhantoms
+pub mod PlacesKept
 pub mod ReadingLaws
 pub mod RunLaws
 pub mod SoundBuilding

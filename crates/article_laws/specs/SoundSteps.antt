@@ -205,7 +205,7 @@ sound-run s g =
     let all = proof-derives s.made g.proof in
     record { proof = g.proof; over = g.over; assumptions = g.assumptions; steps = all; ascend = g.exports; exports = exports-derive (accepted_state s) all s.exports (below 0 (length (steps_of s.made)) s.exports g.exports) }
 
--- THE LAW OF RUNS.
+-- The law of runs.
 pub runs_are_sound : RunsAreSound
 runs_are_sound articles a r =
     runs-have machine IsSound (record { command = step-sound; end = finish-sound }) IsSoundRun sound-run 1 initial articles (accepted a) a initial-sound refl r

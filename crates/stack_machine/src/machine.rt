@@ -136,8 +136,8 @@ impl Machine {
         self.progress = Progress::Begun(self.progress.version());
     }
 
-    /// The version of the last article that has begun, and 6 before the first. An article has begun with its first command, and has
-    /// come to its end without one by `finish`: it is of version 5 then. It takes no memory.
+    /// The version of the article that is read, once its first command has come, and until then that of the article
+    /// before it, 6 where there is none. An article that ends without a command is of version 5. It takes no memory.
     pub fn version(&self) -> Version
         ensures { result ≡ last_version self.now.place }
     {

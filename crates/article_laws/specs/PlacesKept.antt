@@ -1,0 +1,217 @@
+-- A word of the body of an article leaves the place where the machine is in it.
+use Rattle.hol_spec.specs.declared.Version.{Version}
+use Rattle.std.proofs.Common.{◌≡◌, ℕ, List, [], ◌∷◌, ◌++◌, map, length, Result, Ok, Err, Option, Some, None, refl, subst}
+use Rattle.bridge_base.specs.declared.faults.Kind.{Kind}
+use Rattle.hol_spec.specs.Proofs.{Step, sequent_at, symbols_of}
+use Rattle.article_spec.specs.State.{State, Object, version, body, version_at, list, constant, variable}
+use Rattle.article_spec.specs.Results.{◌>>=◌, ◌>>◌}
+use Rattle.article_spec.specs.Changes.{with_stack, conclude, next_step, with_symbols}
+use Rattle.article_spec.specs.Conditions.{sequent_in_limits, all_bool, follows, demand, in_limits, typed, type_in_limits, term_in_limits, arity_fits, generic_fits, is_of_type, equation_of}
+use Rattle.article_spec.specs.Inference.{eq_mp, refl_word, step_by, assume, abs_thm, app_thm, deduct_antisym, contracted, beta_conv, sym_word, trans_word, prove_hyp, subst_word}
+use Rattle.article_spec.specs.Operands.{as_name, as_names, as_term, as_theorem, as_constant_pairs, pop, as_number, as_list, as_type_operator, as_type, as_types, as_constant, as_variable, any_object, head_and_tail, as_terms, as_substitution}
+use Rattle.bridge_base.specs.declared.faults.Kind.TheVariants.{NameTaken, NotClosed, ExtraTypeVars, BadDefinitionList, NotTheSequent, NoSuchKey, TypeMismatch, NotBool, NotAlike, VarInHyps, NotRedex, BadSubst}
+use Rattle.hol_spec.specs.Defining.{is_closed, has_type_variables_of}
+use Rattle.hol_spec.specs.DefinitionLists.{names_of, defining_equations, is_definition_list, definitions_in, constants_put}
+use Rattle.hol_spec.specs.Definitions.{Definition, TypeNames}
+use Rattle.hol_spec.specs.Lists.{distinct}
+use Rattle.hol_spec.specs.Measures.{type_measure, sequent_measure}
+use Rattle.hol_spec.specs.NewTypes.{new_type, abstraction_type, representation_type}
+use Rattle.hol_spec.specs.Primitives.{bool, function}
+use Rattle.hol_spec.specs.Rules.{Parameters, constants, derived, nothing, variable, substitution, joined, removed, abstraction, is_free_in}
+use Rattle.hol_spec.specs.Sequents.{Sequent}
+use Rattle.hol_spec.specs.Symbols.{defined, is_taken_constant, generic_type, operator_arity}
+use Rattle.hol_spec.specs.TermSubstitution.{sub}
+use Rattle.hol_spec.specs.Terms.{Term, app, equation, term_eq, application_type, type_of}
+use Rattle.hol_spec.specs.TypeDefinitions.{first_law_of, second_law_of}
+use Rattle.hol_spec.specs.Types.{HolType, types_of}
+use Rattle.hol_spec.specs.declared.StepKind.TheVariants as by_rule
+use Rattle.std.specs.FinMap as entries
+use Rattle.std.specs.List.{list_all, list_any}
+use Rattle.std.specs.Option.{ok_or}
+use Rattle.std.specs.Prelude.{not, nat_eq, is_some}
+use Rattle.article_spec.specs.Building.{nil, cons, hd_tl, type_op, var_type, op_type, const, const_term, var, var_term, app_term, abs_term, def, ref, remove, drop_object}
+use Rattle.article_spec.specs.DefiningWords.{define_const, constant_objects, define_const_list, application_parts, predicate_fits, are_new_names, make_type, define_type, define_type_op}
+use Rattle.article_spec.specs.Stating.{stated, restatement, assume_or_meet, axiom_word, export, thm}
+use Rattle.article_spec.specs.Step.{obey}
+use Rattle.article_spec.specs.Run.{machine}
+use Rattle.article_spec.specs.declared.commands.Word.{Word}
+use Rattle.article_spec.specs.declared.commands.Word.TheVariants as word
+
+-- what a word answers has the place of the state before it
+abbrev Keeps : State → Result State Kind → Type 0
+Keeps s r = (t : State) → r ≡ Ok t → t.place ≡ s.place
+
+bind : {A : Type 0} (s : State) (o : Result A Kind) (f : A → Result State Kind) → ((a : A) → Keeps s (f a)) → Keeps s (o >>= f)
+bind s (Ok a) f h t e = h a t e
+bind s (Err k) f h t e = absurd (cc)
+
+Keeps-bind : {A : Type 0} (s : State) (o : Result A Kind) (r : Result State Kind) → Keeps s r → Keeps s (o >> r)
+Keeps-bind s (Ok a) r h t e = h t e
+Keeps-bind s (Err k) r h t e = absurd (cc)
+
+same : (s u : State) → u.place ≡ s.place → Keeps s (Ok u)
+same s u h t e = let f : u ≡ t = cc in subst (λ (v : State). v.place ≡ s.place) f h
+
+concluded : (s u : State) (x : Step) → u.place ≡ s.place → Keeps s (conclude u x)
+concluded s u x h = Keeps-bind s (sequent_in_limits x.sequent) _ (same s _ h)
+
+nil-keeps : (s : State) → Keeps s (nil s)
+nil-keeps s = same s _ refl
+
+cons-keeps : (s : State) → Keeps s (cons s)
+cons-keeps s = bind s (pop as_list s.stack) _ (λ p1. let tail = p1.0 in let below = p1.1 in bind s (pop any_object below) _ (λ p2. let head = p2.0 in let rest = p2.1 in same s _ refl))
+
+hd_tl-keeps : (s : State) → Keeps s (hd_tl s)
+hd_tl-keeps s = bind s (pop as_list s.stack) _ (λ p1. let xs = p1.0 in let rest = p1.1 in bind s (head_and_tail xs) _ (λ p2. let head = p2.0 in let tail = p2.1 in same s _ refl))
+
+type_op-keeps : (s : State) → Keeps s (type_op s)
+type_op-keeps s = bind s (pop as_name s.stack) _ (λ p1. let n = p1.0 in let rest = p1.1 in same s _ refl)
+
+var_type-keeps : (s : State) → Keeps s (var_type s)
+var_type-keeps s = bind s (pop as_name s.stack) _ (λ p1. let n = p1.0 in let rest = p1.1 in same s _ refl)
+
+op_type-keeps : (s : State) → Keeps s (op_type s)
+op_type-keeps s = bind s (pop as_types s.stack) _ (λ p1. let arguments = p1.0 in let below = p1.1 in bind s (pop as_type_operator below) _ (λ p2. let n = p2.0 in let rest = p2.1 in Keeps-bind s (arity_fits (operator_arity (symbols_of s.made) n) (length arguments)) _ (Keeps-bind s (type_in_limits (HolType.operator n (types_of arguments))) _ (same s _ refl))))
+
+const-keeps : (s : State) → Keeps s (const s)
+const-keeps s = bind s (pop as_name s.stack) _ (λ p1. let n = p1.0 in let rest = p1.1 in same s _ refl)
+
+const_term-keeps : (s : State) → Keeps s (const_term s)
+const_term-keeps s = bind s (pop as_type s.stack) _ (λ p1. let a = p1.0 in let below = p1.1 in bind s (pop as_constant below) _ (λ p2. let n = p2.0 in let rest = p2.1 in Keeps-bind s (generic_fits (generic_type (symbols_of s.made) n) a) _ (Keeps-bind s (term_in_limits (Term.constant n a)) _ (same s _ refl))))
+
+var-keeps : (s : State) → Keeps s (var s)
+var-keeps s = bind s (pop as_type s.stack) _ (λ p1. let a = p1.0 in let below = p1.1 in bind s (pop as_name below) _ (λ p2. let n = p2.0 in let rest = p2.1 in same s _ refl))
+
+var_term-keeps : (s : State) → Keeps s (var_term s)
+var_term-keeps s = bind s (pop as_variable s.stack) _ (λ p1. let v = p1.0 in let rest = p1.1 in Keeps-bind s (term_in_limits (Term.free v.0 v.1)) _ (same s _ refl))
+
+app_term-keeps : (s : State) → Keeps s (app_term s)
+app_term-keeps s = bind s (pop as_term s.stack) _ (λ p1. let x = p1.0 in let below = p1.1 in bind s (pop as_term below) _ (λ p2. let f = p2.0 in let rest = p2.1 in Keeps-bind s (demand (is_some (type_of (Term.app f x))) TypeMismatch) _ (Keeps-bind s (term_in_limits (Term.app f x)) _ (same s _ refl))))
+
+abs_term-keeps : (s : State) → Keeps s (abs_term s)
+abs_term-keeps s = bind s (pop as_term s.stack) _ (λ p1. let t = p1.0 in let below = p1.1 in bind s (pop as_variable below) _ (λ p2. let v = p2.0 in let rest = p2.1 in Keeps-bind s (term_in_limits (abstraction v t)) _ (same s _ refl)))
+
+def-keeps : (s : State) → Keeps s (def s)
+def-keeps s = bind s (pop as_number s.stack) _ (λ p1. let k = p1.0 in let below = p1.1 in bind s (pop any_object below) _ (λ p2. let x = p2.0 in let rest = p2.1 in same s _ refl))
+
+ref-keeps : (s : State) → Keeps s (ref s)
+ref-keeps s = bind s (pop as_number s.stack) _ (λ p1. let k = p1.0 in let rest = p1.1 in bind s (ok_or (entries.get s.dictionary k) NoSuchKey) _ (λ p2. let x = p2 in same s _ refl))
+
+remove-keeps : (s : State) → Keeps s (remove s)
+remove-keeps s = bind s (pop as_number s.stack) _ (λ p1. let k = p1.0 in let rest = p1.1 in bind s (ok_or (entries.get s.dictionary k) NoSuchKey) _ (λ p2. let x = p2 in same s _ refl))
+
+drop_object-keeps : (s : State) → Keeps s (drop_object s)
+drop_object-keeps s = bind s (pop any_object s.stack) _ (λ p1. let x = p1.0 in let rest = p1.1 in same s _ refl)
+
+refl_word-keeps : (s : State) → Keeps s (refl_word s)
+refl_word-keeps s = bind s (pop as_term s.stack) _ (λ p1. let t = p1.0 in let rest = p1.1 in bind s (typed t) _ (λ p2. let a = p2 in concluded s (with_stack s rest) (step_by by_rule.Refl [] (Parameters.term t) (derived [] (equation a t t))) refl))
+
+assume-keeps : (s : State) → Keeps s (assume s)
+assume-keeps s = bind s (pop as_term s.stack) _ (λ p1. let p = p1.0 in let rest = p1.1 in Keeps-bind s (demand (is_of_type bool p) NotBool) _ (concluded s (with_stack s rest) (step_by by_rule.Assume [] (Parameters.term p) (derived (p ∷ []) p)) refl))
+
+eq_mp-keeps : (s : State) → Keeps s (eq_mp s)
+eq_mp-keeps s = bind s (pop as_theorem s.stack) _ (λ p1. let j = p1.0 in let below = p1.1 in bind s (pop as_theorem below) _ (λ p2. let i = p2.0 in let rest = p2.1 in let one = sequent_at s.made i in let two = sequent_at s.made j in bind s (equation_of one) _ (λ p3. let e = p3 in Keeps-bind s (demand (term_eq two.conclusion e.left) NotAlike) _ (concluded s (with_stack s rest) (step_by by_rule.EqMp (i ∷ j ∷ []) nothing (derived (joined one.hypotheses two.hypotheses) e.right)) refl))))
+
+abs_thm-keeps : (s : State) → Keeps s (abs_thm s)
+abs_thm-keeps s = bind s (pop as_theorem s.stack) _ (λ p1. let i = p1.0 in let below = p1.1 in bind s (pop as_variable below) _ (λ p2. let v = p2.0 in let rest = p2.1 in let one = sequent_at s.made i in bind s (equation_of one) _ (λ p3. let e = p3 in Keeps-bind s (demand (not (is_free_in v one.hypotheses)) VarInHyps) _ (concluded s (with_stack s rest) (step_by by_rule.AbsThm (i ∷ []) (variable v) (derived one.hypotheses (equation (function v.1 e.ty) (abstraction v e.left) (abstraction v e.right)))) refl))))
+
+app_thm-keeps : (s : State) → Keeps s (app_thm s)
+app_thm-keeps s = bind s (pop as_theorem s.stack) _ (λ p1. let j = p1.0 in let below = p1.1 in bind s (pop as_theorem below) _ (λ p2. let i = p2.0 in let rest = p2.1 in let one = sequent_at s.made i in let two = sequent_at s.made j in bind s (equation_of one) _ (λ p3. let f = p3 in bind s (equation_of two) _ (λ p4. let x = p4 in bind s (ok_or (application_type (Some f.ty) (Some x.ty)) TypeMismatch) _ (λ p5. let b = p5 in concluded s (with_stack s rest) (step_by by_rule.AppThm (i ∷ j ∷ []) nothing (derived (joined one.hypotheses two.hypotheses) (equation b (app f.left x.left) (app f.right x.right)))) refl)))))
+
+deduct_antisym-keeps : (s : State) → Keeps s (deduct_antisym s)
+deduct_antisym-keeps s = bind s (pop as_theorem s.stack) _ (λ p1. let j = p1.0 in let below = p1.1 in bind s (pop as_theorem below) _ (λ p2. let i = p2.0 in let rest = p2.1 in let one = sequent_at s.made i in let two = sequent_at s.made j in concluded s (with_stack s rest) (step_by by_rule.DeductAntisym (i ∷ j ∷ []) nothing (derived (joined (removed one.hypotheses two.conclusion) (removed two.hypotheses one.conclusion)) (equation bool one.conclusion two.conclusion))) refl))
+
+beta_conv-keeps : (s : State) → Keeps s (beta_conv s)
+beta_conv-keeps s = bind s (pop as_term s.stack) _ (λ p1. let t = p1.0 in let rest = p1.1 in bind s (ok_or (contracted t) NotRedex) _ (λ p2. let u = p2 in bind s (typed t) _ (λ p3. let a = p3 in concluded s (with_stack s rest) (step_by by_rule.BetaConv [] (Parameters.term t) (derived [] (equation a t u))) refl)))
+
+sym_word-keeps : (s : State) → Keeps s (sym_word s)
+sym_word-keeps s = bind s (pop as_theorem s.stack) _ (λ p1. let i = p1.0 in let rest = p1.1 in let one = sequent_at s.made i in bind s (equation_of one) _ (λ p2. let e = p2 in concluded s (with_stack s rest) (step_by by_rule.Sym (i ∷ []) nothing (derived one.hypotheses (equation e.ty e.right e.left))) refl))
+
+trans_word-keeps : (s : State) → Keeps s (trans_word s)
+trans_word-keeps s = bind s (pop as_theorem s.stack) _ (λ p1. let j = p1.0 in let below = p1.1 in bind s (pop as_theorem below) _ (λ p2. let i = p2.0 in let rest = p2.1 in let one = sequent_at s.made i in let two = sequent_at s.made j in bind s (equation_of one) _ (λ p3. let e = p3 in bind s (equation_of two) _ (λ p4. let f = p4 in Keeps-bind s (demand (term_eq f.left e.right) NotAlike) _ (concluded s (with_stack s rest) (step_by by_rule.Trans (i ∷ j ∷ []) nothing (derived (joined one.hypotheses two.hypotheses) (equation e.ty e.left f.right))) refl)))))
+
+prove_hyp-keeps : (s : State) → Keeps s (prove_hyp s)
+prove_hyp-keeps s = bind s (pop as_theorem s.stack) _ (λ p1. let j = p1.0 in let below = p1.1 in bind s (pop as_theorem below) _ (λ p2. let i = p2.0 in let rest = p2.1 in let one = sequent_at s.made i in let two = sequent_at s.made j in concluded s (with_stack s rest) (step_by by_rule.ProveHyp (i ∷ j ∷ []) nothing (derived (joined one.hypotheses (removed two.hypotheses one.conclusion)) two.conclusion)) refl))
+
+subst_word-keeps : (s : State) → Keeps s (subst_word s)
+subst_word-keeps s = bind s (pop as_theorem s.stack) _ (λ p1. let i = p1.0 in let below = p1.1 in bind s (pop as_substitution below) _ (λ p2. let types = p2.0.0 in let terms = p2.0.1 in let rest = p2.1 in let one = sequent_at s.made i in Keeps-bind s (demand (list_all (λ p. is_of_type p.0.1 p.1) terms) BadSubst) _ (concluded s (with_stack s rest) (step_by by_rule.Subst (i ∷ []) (substitution types terms) (derived (distinct term_eq (map (sub types terms) one.hypotheses)) (sub types terms one.conclusion))) refl)))
+
+define_const-keeps : (s : State) → Keeps s (define_const s)
+define_const-keeps s = bind s (pop as_term s.stack) _ (λ p1. let t = p1.0 in let below = p1.1 in bind s (pop as_name below) _ (λ p2. let n = p2.0 in let rest = p2.1 in Keeps-bind s (demand (not (is_taken_constant (symbols_of s.made) n)) NameTaken) _ (Keeps-bind s (demand (is_closed t) NotClosed) _ (bind s (typed t) _ (λ p3. let a = p3 in Keeps-bind s (demand (has_type_variables_of a t) ExtraTypeVars) _ (concluded s (with_symbols (with_stack s (constant n ∷ rest)) (defined (Definition.constant n t) ∷ [])) (step_by by_rule.DefineConst [] (Parameters.constant n t) (derived [] (equation a (Term.constant n a) t))) refl))))))
+
+define_const_list-keeps : (s : State) → Keeps s (define_const_list s)
+define_const_list-keeps s = bind s (pop as_theorem s.stack) _ (λ p1. let i = p1.0 in let below = p1.1 in bind s (pop as_constant_pairs below) _ (λ p2. let pairs = p2.0 in let rest = p2.1 in let one = sequent_at s.made i in let equations = defining_equations pairs one.hypotheses in Keeps-bind s (demand (not (list_any (is_taken_constant (symbols_of s.made)) (names_of pairs))) NameTaken) _ (Keeps-bind s (demand (list_all (λ e. is_closed e.1) equations) NotClosed) _ (Keeps-bind s (demand (list_all (λ e. has_type_variables_of e.0.1 e.1) equations) ExtraTypeVars) _ (Keeps-bind s (demand (is_definition_list pairs one) BadDefinitionList) _ (concluded s (with_symbols (with_stack s (list (constant_objects (names_of pairs)) ∷ rest)) (map defined (definitions_in pairs one.hypotheses))) (step_by by_rule.DefineConstList (i ∷ []) (constants pairs) (derived [] (sub [] (constants_put pairs) one.conclusion))) refl))))))
+
+restacked : (s t : State) (stack : List Object) → t.place ≡ (with_stack s stack).place → t.place ≡ s.place
+restacked s t stack h = h
+
+make_type-keeps : (edition : Version) (s : State) (names : TypeNames) (i : ℕ) (c : HolType) (f : Term) → Keeps s (make_type edition s names i c f)
+make_type-keeps edition s names i c f =
+    Keeps-bind s (in_limits (type_measure (new_type names) ∷ type_measure (abstraction_type names c) ∷ type_measure (representation_type names c) ∷ sequent_measure (first_law_of edition names c) ∷ sequent_measure (second_law_of edition names c f) ∷ [])) _
+    (same s _ refl)
+
+define_type-keeps : (s : State) (names : TypeNames) (i : ℕ) → Keeps s (define_type s names i)
+define_type-keeps s names i =
+    let one = sequent_at s.made i in
+    Keeps-bind s (are_new_names (symbols_of s.made) names) _ (Keeps-bind s (predicate_fits names.variables (application_parts one.conclusion)) _ (Keeps-bind s (demand (nat_eq (length one.hypotheses) 0) NotTheSequent) _
+    (bind s (ok_or (application_parts one.conclusion) NotTheSequent) _ (λ p. bind s (typed p.1) _ (λ c. make_type-keeps (version_at s.place) s names i c p.0)))))
+
+define_type_op-keeps : (s : State) → Keeps s (define_type_op s)
+define_type_op-keeps s =
+    bind s (pop as_theorem s.stack) _ (λ p. bind s (pop as_names p.1) _ (λ q. bind s (pop as_name q.1) _ (λ r. bind s (pop as_name r.1) _ (λ v. bind s (pop as_name v.1) _
+    (λ w t e. restacked s t w.1 (define_type-keeps (with_stack s w.1) (record { operator = w.0; abstraction = v.0; representation = r.0; variables = q.0 }) p.0 t e))))))
+
+assume_or_meet-keeps : (s : State) (sequent : Sequent) (o : Option ℕ) → Keeps s (assume_or_meet s sequent o)
+assume_or_meet-keeps s sequent (Some i) = concluded s s (restatement i sequent) refl
+assume_or_meet-keeps s sequent None = concluded s (record s { assumptions = s.assumptions ++ next_step s ∷ [] }) (step_by by_rule.Axiom [] (Parameters.sequent sequent) sequent) refl
+
+axiom_word-keeps : (s : State) → Keeps s (axiom_word s)
+axiom_word-keeps s =
+    bind s (pop as_term s.stack) _ (λ p. bind s (pop as_terms p.1) _ (λ q. Keeps-bind s (all_bool (p.0 ∷ q.0)) _
+    (λ t e. restacked s t q.1 (assume_or_meet-keeps (with_stack s q.1) (stated q.0 p.0) _ t e))))
+
+export-keeps : (s : State) (i : ℕ) (sequent : Sequent) (o : Option ℕ) → Keeps s (export s i sequent o)
+export-keeps s i sequent (Some j) = same s s refl
+export-keeps s i sequent None = Keeps-bind s (sequent_in_limits sequent) _ (same s _ refl)
+
+thm-keeps : (s : State) → Keeps s (thm s)
+thm-keeps s =
+    bind s (pop as_term s.stack) _ (λ p. bind s (pop as_terms p.1) _ (λ q. bind s (pop as_theorem q.1) _ (λ r. Keeps-bind s (all_bool (p.0 ∷ q.0)) _
+    (Keeps-bind s (follows (sequent_at s.made r.0) (stated q.0 p.0)) _ (export-keeps (with_stack s r.1) r.0 (stated q.0 p.0) _)))))
+
+-- A word keeps the place.
+pub obey-keeps : (s : State) (w : Word) → Keeps s (obey s w)
+obey-keeps s word.Version = λ t e. absurd (cc)
+obey-keeps s word.Nil = nil-keeps s
+obey-keeps s word.Cons = cons-keeps s
+obey-keeps s word.HdTl = hd_tl-keeps s
+obey-keeps s word.TypeOp = type_op-keeps s
+obey-keeps s word.VarType = var_type-keeps s
+obey-keeps s word.OpType = op_type-keeps s
+obey-keeps s word.Const = const-keeps s
+obey-keeps s word.ConstTerm = const_term-keeps s
+obey-keeps s word.Var = var-keeps s
+obey-keeps s word.VarTerm = var_term-keeps s
+obey-keeps s word.AppTerm = app_term-keeps s
+obey-keeps s word.AbsTerm = abs_term-keeps s
+obey-keeps s word.Def = def-keeps s
+obey-keeps s word.Ref = ref-keeps s
+obey-keeps s word.Remove = remove-keeps s
+obey-keeps s word.Pop = drop_object-keeps s
+obey-keeps s word.Pragma = drop_object-keeps s
+obey-keeps s word.Refl = refl_word-keeps s
+obey-keeps s word.Assume = assume-keeps s
+obey-keeps s word.EqMp = eq_mp-keeps s
+obey-keeps s word.AbsThm = abs_thm-keeps s
+obey-keeps s word.AppThm = app_thm-keeps s
+obey-keeps s word.DeductAntisym = deduct_antisym-keeps s
+obey-keeps s word.BetaConv = beta_conv-keeps s
+obey-keeps s word.Sym = sym_word-keeps s
+obey-keeps s word.Trans = trans_word-keeps s
+obey-keeps s word.ProveHyp = prove_hyp-keeps s
+obey-keeps s word.Subst = subst_word-keeps s
+obey-keeps s word.DefineConst = define_const-keeps s
+obey-keeps s word.DefineConstList = define_const_list-keeps s
+obey-keeps s word.DefineTypeOp = define_type_op-keeps s
+obey-keeps s word.Axiom = axiom_word-keeps s
+obey-keeps s word.Thm = thm-keeps s
