@@ -1,0 +1,12 @@
+mod EachCounted
+mod EarlierPremises
+mod GivenWalks
+mod NotedPlaces
+mod SparedKeys
+mod StepParts
+mod StepWalks
+mod Tallies
+mod TermLaws
+mod TermWalks
+mod TypeWalks
+mod UsesWalks

@@ -1,0 +1,20 @@
+-- What the pairs of a list add that a rule was given.
+use Rattle.std.specs.Prelude.{ℕ}
+use Rattle.hol_spec.specs.Names.{Name}
+use Rattle.hol_spec.specs.Types.{HolType}
+use Rattle.hol_spec.specs.Terms.{Term, Variable}
+use Rattle.writing_spec.specs.Lengths.{name_length, Tally, add}
+use Rattle.writing_spec.specs.TermLengths.{count_type, count_variable, count_under}
+use Rattle.writing_spec.specs.ArticleLength.{count_pair}
+
+-- a type variable, and the type that is put for it
+abbrev pub type_pair : Name × HolType → Tally → Tally
+type_pair p = count_pair (add (name_length p.0)) (count_type p.1)
+
+-- a free variable, and the term that is put for it
+abbrev pub term_pair : ℕ → Variable × Term → Tally → Tally
+term_pair q p = count_pair (count_variable p.0.0 p.0.1) (count_under q 0 p.1)
+
+-- a constant, and the variable for which it is put
+abbrev pub constant_pair : Name × Variable → Tally → Tally
+constant_pair p = count_pair (add (name_length p.0)) (count_variable p.1.0 p.1.1)

@@ -1,0 +1,4 @@
+mod BinderTexts
+mod NameTexts
+mod NumberedTexts
+mod SlotLaws

@@ -1,0 +1,8 @@
+use Rattle.article_lines.specs.WritingLaws.{writes_stop, writes_then}
+use Rattle.article_lines.proofs.lines.write_behind.Goals as goal
+
+pub returns-in_err-put : goal.returns-in_err-put
+returns-in_err-put g c = writes_stop _ _ _ _ _ _ _ _ _ c.in_err-put.was c.from_residual.ensures.0 c.put.ensures
+
+pub returns : goal.returns
+returns g c = writes_then _ _ _ _ _ _ _ _ _ _ _ c.in_ok-put.was c.put.ensures c.write_component.ensures

@@ -1,0 +1,9 @@
+pub mod Flagged
+pub mod Greatest
+pub mod KeptThings
+pub mod NewSteps
+pub mod Numbered
+pub mod Slots
+pub mod Things
+pub mod Writing
+pub mod WritingLaws

@@ -1,0 +1,21 @@
+use Rattle.std.proofs.Common.{[], ◌∷◌, refl, subst}
+use Rattle.std.proofs.lemmas.List.{append-nil}
+use Rattle.std.proofs.lemmas.Result.{on_ok_weaker}
+use Rattle.hol_term.specs.Tables.{type_at}
+use Rattle.article_reach.specs.declared.walk.Task.TheVariants as task
+use Rattle.article_reach.specs.declared.walk.Walk.{Walk}
+use Rattle.article_reach.specs.Found.{type_found}
+use Rattle.article_reach.specs.Looked.{WalksOn}
+use Rattle.article_reach.proofs.Parts.{marks-none}
+use Rattle.article_reach.proofs.Wanted.{gains-WalksOn}
+use Rattle.article_reach.proofs.walk.Walk.want_type.Goals as goal
+
+pub returns : goal.returns
+returns c = on_ok_weaker c.push.result
+    (λ put.
+    let p = c.args.proof.now in
+    let w = c.args.self.now in
+    let v : Walk = record w { tasks = c.push.new.self } in
+    subst (λ fs. WalksOn p fs w v) (append-nil (type_found (type_at p.trees c.args.ty.0)))
+    (gains-WalksOn p w v [] (task.Type c.args.ty ∷ []) c.requires.walk (marks-none p.trees _ w v refl refl refl refl) (c.requires.known, tt {0}) refl refl put))
+    c.push.ensures.pushed

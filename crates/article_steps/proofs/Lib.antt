@@ -1,0 +1,14 @@
+mod AddsLaws
+mod AgendaLaws
+mod ArgumentLaws
+mod ArticleTexts
+mod ClosedSteps
+mod EachLaws
+mod GivenLaws
+mod JobSteps
+mod NewTheorems
+mod ReadyLaws
+mod RunLaws
+mod SaidLaws
+mod SelectedLaws
+mod StepWriters

@@ -1,0 +1,11 @@
+use Rattle.article_steps.specs.Given.{term_pair_writer, term_pair_at}
+use Rattle.std.proofs.Common.{Ok, take}
+use Rattle.article_steps.specs.Left.{Adds}
+use Rattle.writing_spec.specs.Drafts.{write_each}
+use Rattle.article_steps.proofs.given.write_term_pairs.Given as goal
+
+-- those up to here are written
+abbrev pub invariant-loop-variable : goal.invariant-loop-variable
+invariant-loop-variable g l = record {
+  adds : Adds {T = Unit {0}} {E = Unit {0}} l.terms (write_each (λ p. term_pair_writer l.number (term_pair_at l.terms p)) (take l.variable-index l.pairs)) l.fn.keys (g.S.Sink.got l.fn.sink) (g.S.Sink.faults l.fn.sink) l.keys l.room.room (g.S.Sink.got l.sink) (g.S.Sink.faults l.sink) (Ok tt);
+}

@@ -1,0 +1,52 @@
+-- Writers of pairs, and what is asked of terms that are written.
+use Rattle.std.specs.Prelude.{ℕ}
+use Rattle.hol_spec.specs.Names.{Name}
+use Rattle.hol_spec.specs.Types.{HolType}
+use Rattle.hol_spec.specs.Terms.{Term, Variable, IsTerm}
+use Rattle.std.specs.List.{AllByRecursion}
+use Rattle.hol_spec.specs.Substitution.{TypePairs}
+use Rattle.hol_spec.specs.TermSubstitution.{TermPairs}
+use Rattle.hol_spec.specs.Rules.{Parameters}
+use Rattle.hol_spec.specs.Sequents.{Sequent}
+use Rattle.hol_type.specs.declared.table.TypeId.{TypeId}
+use Rattle.hol_term.specs.declared.TermId.{TermId}
+use Rattle.hol_term.specs.declared.Variable.{Variable as AVariable}
+use Rattle.hol_term.specs.Tables.{Trees, term_at, type_at}
+use Rattle.writing_spec.specs.Drafts.{Draft, say_name, write_list, write_pair}
+use Rattle.writing_spec.specs.WrittenTypes.{write_type, write_variable}
+use Rattle.writing_spec.specs.WrittenTerms.{write_term}
+
+abbrev pub type_pair_writer : Name × HolType → Draft → Draft
+type_pair_writer p = write_pair (say_name p.0) (write_type p.1)
+
+abbrev pub term_pair_writer : ℕ → Variable × Term → Draft → Draft
+term_pair_writer q p = write_pair (write_variable p.0) (write_term q p.1)
+
+abbrev pub constant_pair_writer : Name × Variable → Draft → Draft
+constant_pair_writer p = write_pair (say_name p.0) (write_variable p.1)
+
+abbrev pub substitution_writer : ℕ → TypePairs → TermPairs → Draft → Draft
+substitution_writer q types terms = write_pair (write_list type_pair_writer types) (write_list (term_pair_writer q) terms)
+
+-- a pair, a term and a constant by their numbers
+module _ (trees : Trees) where
+  abbrev pub type_pair_at : Name × TypeId → Name × HolType
+  type_pair_at p = (p.0, type_at trees p.1.0)
+
+  abbrev pub term_pair_at : AVariable × TermId → Variable × Term
+  term_pair_at p = ((p.0.name, type_at trees p.0.ty.0), term_at trees p.1.0)
+
+-- the terms of a sequent, and those that a rule was given, are well typed, and no number is loose in them
+pub record IsClosed (s : Sequent) : Type 0 where
+  pub hypotheses : AllByRecursion IsTerm s.hypotheses
+  pub conclusion : IsTerm s.conclusion
+
+abbrev pub AreClosed : Parameters → Type 0
+AreClosed Parameters.nothing = Unit {0}
+AreClosed (Parameters.term t) = IsTerm t
+AreClosed (Parameters.variable v) = Unit {0}
+AreClosed (Parameters.substitution types terms) = AllByRecursion (λ p. IsTerm p.1) terms
+AreClosed (Parameters.sequent s) = IsClosed s
+AreClosed (Parameters.constant n t) = IsTerm t
+AreClosed (Parameters.constants pairs) = Unit {0}
+AreClosed (Parameters.type_operator names version) = Unit {0}
