@@ -1,11 +1,11 @@
 -- The texts of an answer.
 use Rattle.std.specs.Prelude.{ℕ, List, []}
 use Rattle.dk_read.specs.States.{fault_of}
-use Rattle.bridge_spec.specs.Texts.{refusal_line, usage_line, read_fault_line, memory_line, dk_refusal_line, ill_typed_line, over_budget_line, not_sequent_line}
+use Rattle.bridge_spec.specs.Texts.{refusal_line, usage_line, read_fault_line, memory_line, dk_refusal_line, ill_typed_line, over_budget_line, not_sequent_line, unwritable_line}
 use Rattle.bridge_spec.specs.declared.status.Status.{Status}
 use Rattle.bridge_spec.specs.declared.status.Status.TheVariants as status
 use Rattle.bridge_answer.specs.declared.answer.Answer.{Answer}
-use Rattle.bridge_answer.specs.declared.answer.Answer.TheVariants.{Told, Refused, Usage, ReadFault, Memory, DkRefused, IllTyped, OverBudget, NotSequent}
+use Rattle.bridge_answer.specs.declared.answer.Answer.TheVariants.{Told, Refused, Usage, ReadFault, Memory, DkRefused, IllTyped, OverBudget, NotSequent, Unwritable}
 
 -- the status of an answer
 abbrev pub status_of : Answer → Status
@@ -18,6 +18,7 @@ status_of (DkRefused place kind) = status.DkRefused place kind
 status_of (IllTyped i) = status.IllTyped i
 status_of (OverBudget i) = status.OverBudget i
 status_of (NotSequent i) = status.NotSequent i
+status_of Unwritable = status.Unwritable
 
 -- its text on standard output
 abbrev pub text_of : Answer → List ℕ
@@ -35,3 +36,4 @@ note_of (DkRefused place kind) = dk_refusal_line place (fault_of kind)
 note_of (IllTyped i) = ill_typed_line i
 note_of (OverBudget i) = over_budget_line i
 note_of (NotSequent i) = not_sequent_line i
+note_of Unwritable = unwritable_line

@@ -24,6 +24,8 @@ pub enum Answer {
     OverBudget(u64),
     /// The type of this declaration, which is named as an export, stands for no closed sequent.
     NotSequent(u64),
+    /// One article cannot say what the articles export.
+    Unwritable,
 }
 
 impl Answer {
@@ -45,6 +47,7 @@ impl Answer {
             Answer::IllTyped(i) => Status::IllTyped(i),
             Answer::OverBudget(i) => Status::OverBudget(i),
             Answer::NotSequent(i) => Status::NotSequent(i),
+            Answer::Unwritable => Status::Unwritable,
         }
     }
 

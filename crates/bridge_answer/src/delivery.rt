@@ -16,7 +16,7 @@ use itoa::Buffer;
 
 /// The line that says which forms there are.
 const USAGE: &[u8] =
-    b"usage: bridge verify [--share] [--fast] FILE.. | translate [--share] FILE.. | check FILE [--budget N] [--fast] | decode FILE | show FILE.. | trial N\n";
+    b"usage: bridge verify [--share] [--fast] FILE.. | translate [--share] FILE.. | check FILE [--budget N] [--fast] | decode FILE | show FILE.. | trial N | article FILE..\n";
 
 /// Writes the texts of an answer, the output first, and gives its status. Where the output fails, the
 /// note says so; where either fails, the status is that of a write fault.
@@ -79,6 +79,7 @@ fn write_note<N: Sink>(note: &mut N, answer: &Answer) -> Result<(), Failed>
         Answer::IllTyped(i) => write_declaration(note, *i, b": ill typed\n"),
         Answer::OverBudget(i) => write_declaration(note, *i, b": over budget\n"),
         Answer::NotSequent(i) => write_declaration(note, *i, b": not a sequent\n"),
+        Answer::Unwritable => write_all(note, b"article not writable\n"),
     }
 }
 

@@ -7,15 +7,19 @@ use Rattle.bridge_base.specs.Outside.{Files, file, Rose}
 use Rattle.hol_spec.specs.ClosedForm.{ClosedSequent}
 use Rattle.hol_spec.specs.Proofs.{Accepted}
 use Rattle.hol_spec.specs.Mangling.{AreBytes}
+use Rattle.hol_spec.specs.declared.Version.{Version}
 use Rattle.article_spec.specs.Run.{Outcome, accepted, refused_at, Run}
 use Rattle.vectors.specs.Trial.{trial_text}
+use Rattle.writing_spec.specs.Article.{article as article_of}
+use Rattle.writing_spec.specs.Versions.{IsLastVersion}
 use Rattle.bridge_spec.specs.Forms.{Form, verify, translate, check, show, decode, trial}
 use Rattle.bridge_spec.specs.Calls.{Shelved, Call}
+use Rattle.bridge_spec.specs.Articles.{IsWritable, IsUnwritable}
 use Rattle.bridge_spec.specs.FileChecks.{IsRefusedAt, IsAccepted, IsIllTyped, IsOverBudget}
 use Rattle.bridge_spec.specs.FileExports.{exports_of, Says, IsNotSequent}
-use Rattle.bridge_spec.specs.Texts.{module_text, counts_of, five_lines, six_lines, shown_text, refusal_line, usage_line, read_fault_line, memory_line, checked_of, accepted_line, dk_refusal_line, ill_typed_line, over_budget_line, export_lines, not_sequent_line}
+use Rattle.bridge_spec.specs.Texts.{module_text, counts_of, five_lines, six_lines, shown_text, refusal_line, usage_line, read_fault_line, memory_line, checked_of, accepted_line, dk_refusal_line, ill_typed_line, over_budget_line, export_lines, not_sequent_line, unwritable_line}
 use Rattle.bridge_spec.specs.declared.status.Status.{Status}
-use Rattle.bridge_spec.specs.declared.status.Status.TheVariants.{Done, Refused, Usage, ReadFault, Memory, DkRefused, IllTyped, OverBudget, NotSequent}
+use Rattle.bridge_spec.specs.declared.status.Status.TheVariants.{Done, Refused, Usage, ReadFault, Memory, DkRefused, IllTyped, OverBudget, NotSequent, Unwritable}
 
 -- the bytes of the articles of these names
 abbrev pub articles : Files → List (List ℕ) → List (List ℕ)
@@ -39,6 +43,11 @@ pub record IsRunOf (told : Option Files) (names : List (List ℕ)) (run : Accept
   pub bytes : AllByRecursion AreBytes texts
   pub runs : Run texts (accepted run)
 
+-- the accepted run of what was read of these files, to their ends, and the version of the last
+pub record IsRunOfVersion (told : Option Files) (names : List (List ℕ)) (version : Version) (run : Accepted) : Type 0 where
+  pub of : IsRunOf told names run
+  pub last : IsLastVersion of.texts version
+
 -- the accepted run of the generated article of so many blocks
 abbrev pub IsRunOfTrial : ℕ → Accepted → Type 0
 IsRunOfTrial n run = Run (trial_text n ∷ []) (accepted run)
@@ -52,9 +61,18 @@ FormRun (Some (check fast name budget)) told run = ⊥
 FormRun (Some (show names)) told run = IsRunOf told names run
 FormRun (Some (decode name)) told run = ⊥
 FormRun (Some (trial n)) told run = IsRunOfTrial n run
+FormRun (Some (Form.article names)) told run = IsRunOf told names run
 
 abbrev pub HasRun : Call → Accepted → Type 0
 HasRun call run = FormRun call.form call.shelf.told_before run
+
+-- the accepted run of which a form writes one article, of this version
+abbrev pub FormArticle : Option Form → Option Files → Version → Accepted → Type 0
+FormArticle (Some (Form.article names)) told version run = IsRunOfVersion told names version run × IsWritable version run
+FormArticle form told version run = ⊥
+
+abbrev pub HasArticle : Call → Version → Accepted → Type 0
+HasArticle call version run = FormArticle call.form call.shelf.told_before version run
 
 -- the shelf failed
 abbrev pub ReadFailed : Shelved → Type 0
@@ -127,6 +145,19 @@ AnswersTrial n Done out note = (run : Accepted) × IsRunOfTrial n run × (out �
 AnswersTrial n Memory out note = NoteAlone memory_line out note
 AnswersTrial n _ out note = ⊥
 
+-- `article`: one article of what the run exports, of the version of the last that was read; or where the run is refused, or one article can't
+-- say it; or what failed.
+abbrev pub AnswersArticle : List (List ℕ) → Shelved → Status → List ℕ → List ℕ → Type 0
+AnswersArticle names shelf Done out note =
+    (version : Version) × (run : Accepted) × IsRunOfVersion shelf.told_before names version run × IsWritable version run × (out ≡ article_of version run) × (note ≡ [])
+AnswersArticle names shelf (Refused article line kind) out note =
+    RunsTo shelf.told_before names (refused_at article line kind) × NoteAlone (refusal_line article line kind) out note
+AnswersArticle names shelf ReadFault out note = ReadFailed shelf × NoteAlone read_fault_line out note
+AnswersArticle names shelf Memory out note = NoteAlone memory_line out note
+AnswersArticle names shelf Unwritable out note =
+    (version : Version) × (run : Accepted) × IsRunOfVersion shelf.told_before names version run × IsUnwritable version run × NoteAlone unwritable_line out note
+AnswersArticle names shelf _ out note = ⊥
+
 -- The answers of each form, before anything is written.
 abbrev pub FormAnswers : Option Form → Shelved → Status → List ℕ → List ℕ → Type 0
 FormAnswers None shelf status out note = AnswersNoForm status out note
@@ -136,6 +167,7 @@ FormAnswers (Some (check fast name budget)) shelf status out note = AnswersCheck
 FormAnswers (Some (show names)) shelf status out note = AnswersShow names shelf status out note
 FormAnswers (Some (decode name)) shelf status out note = AnswersDecode name shelf status out note
 FormAnswers (Some (trial n)) shelf status out note = AnswersTrial n status out note
+FormAnswers (Some (Form.article names)) shelf status out note = AnswersArticle names shelf status out note
 
 -- The answer comes by its cause, with these texts on standard output and on standard error.
 abbrev pub Answers : Call → Status → List ℕ → List ℕ → Type 0

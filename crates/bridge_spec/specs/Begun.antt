@@ -12,6 +12,7 @@ names_of (Some (translate share names)) = names
 names_of (Some (check fast name budget)) = name ∷ []
 names_of (Some (show names)) = names
 names_of (Some (decode name)) = name ∷ []
+names_of (Some (Form.article names)) = names
 names_of _ = []
 
 -- Of these files a call with this answer begins, in order: at a refusal those up to the refused article, where the shelf or memory failed a

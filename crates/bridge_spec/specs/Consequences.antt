@@ -10,17 +10,21 @@ use Rattle.bridge_base.specs.Outside.{Files, file}
 use Rattle.hol_spec.specs.ClosedForm.{ClosedSequent}
 use Rattle.hol_spec.specs.Mangling.{AreBytes}
 use Rattle.hol_spec.specs.Proofs.{Accepted}
+use Rattle.hol_spec.specs.declared.Version.{Version}
 use Rattle.article_spec.specs.Run.{Outcome, accepted, refused_at, Run}
+use Rattle.writing_spec.specs.Article.{article as article_of}
+use Rattle.writing_spec.specs.Versions.{IsLastVersion}
 use Rattle.bridge_spec.specs.Forms.{Form, verify, translate, check, show, decode, trial}
 use Rattle.bridge_spec.specs.Calls.{Shelved, Sunk, Call}
 use Rattle.bridge_spec.specs.FileChecks.{IsReadOf, ReadsAs, IsRefusedAt, EndsWithin, max_file}
 use Rattle.bridge_spec.specs.FileExports.{Says, IsNotSequent}
-use Rattle.bridge_spec.specs.Answers.{RunsTo, ReadFailed}
+use Rattle.bridge_spec.specs.Answers.{RunsTo, IsRunOfVersion, ReadFailed}
 use Rattle.bridge_spec.specs.Outputs.{Failed, Gained}
+use Rattle.bridge_spec.specs.Articles.{IsWritable, IsUnwritable, IsRetold}
 use Rattle.bridge_spec.specs.Promises.{Promise}
 use Rattle.bridge_spec.specs.Texts.{module_bounds, module_text}
 use Rattle.bridge_spec.specs.declared.status.Status.{Status}
-use Rattle.bridge_spec.specs.declared.status.Status.TheVariants.{Done, Refused, Usage, ReadFault, WriteFault, Memory, DkRefused, IllTyped, NotSequent}
+use Rattle.bridge_spec.specs.declared.status.Status.TheVariants.{Done, Refused, Usage, ReadFault, WriteFault, Memory, DkRefused, IllTyped, NotSequent, Unwritable}
 
 -- the check of each of the first declarations says yes, each at a price within the budget
 abbrev pub PassWithin : Bool → List Declaration → ℕ → ℕ → Type 0
@@ -83,6 +87,18 @@ IsDueOfDecode told name (DkRefused place kind) = IsRefusedAt told name place kin
 IsDueOfDecode told name (NotSequent i) = IsNotSequent told name i
 IsDueOfDecode told name _ = ⊥
 
+-- these files run to their ends, and the last is of this version
+pub record RunsToVersion (told : Option Files) (names : List (List ℕ)) (version : Version) (run : Accepted) : Type 0 where
+  pub to : RunsTo told names (accepted run)
+  pub last : IsLastVersion to.texts version
+
+-- The article of what these files export must be answered so: the run is accepted and its article can be written, or cannot, or the run is refused.
+abbrev pub IsDueOfArticle : Option Files → List (List ℕ) → Status → Type 0
+IsDueOfArticle told names Done = (version : Version) × (run : Accepted) × RunsToVersion told names version run × IsWritable version run
+IsDueOfArticle told names (Refused place line kind) = RunsTo told names (refused_at place line kind)
+IsDueOfArticle told names Unwritable = (version : Version) × (run : Accepted) × RunsToVersion told names version run × IsUnwritable version run
+IsDueOfArticle told names _ = ⊥
+
 -- The files of the form must be answered so, where they are read without a fault; a trial, which reads none, is done.
 abbrev pub IsDue : Option Form → Option Files → Status → Type 0
 IsDue None told status = status ≡ Usage
@@ -92,6 +108,7 @@ IsDue (Some (check fast name budget)) told status = IsDueOfCheck (not fast) told
 IsDue (Some (show names)) told status = IsAnswerOfRun told names status
 IsDue (Some (decode name)) told status = IsDueOfDecode told name status
 IsDue (Some (trial n)) told status = status ≡ Done
+IsDue (Some (Form.article names)) told status = IsDueOfArticle told names status
 
 -- standard output is as before at every answer but Done and a write fault
 abbrev pub KeepsOut : Status → Sunk → Type 0
@@ -122,14 +139,32 @@ pub record HasModule (told : Option Files) (name : List ℕ) : Type 0 where
   pub read : IsReadOf told name (module_text share run)
   pub within : length (module_text share run) ≤ max_file
 
+-- the sink gained the article of the accepted run of these files, of the version of the last, which tells the run again
+pub record GainsArticle (told : Option Files) (names : List (List ℕ)) (out : Sunk) : Type 0 where
+  pub version : Version
+  pub run : Accepted
+  pub of : IsRunOfVersion told names version run
+  pub gained : Gained out (article_of version run)
+  pub retold : IsRetold version run
+
+-- the form writes an article, and one cannot say what the run of its files exports
+abbrev pub FormUnwritable : Option Form → Option Files → Type 0
+FormUnwritable (Some (Form.article names)) told = (version : Version) × (run : Accepted) × IsRunOfVersion told names version run × IsUnwritable version run
+FormUnwritable form told = ⊥
+
 -- Of a call that keeps its promise:
 pub record Consequences (call : Call) (result : Status) : Type 0 where
   -- Where the shelf tells its files and didn't fail, the answer is the one that is due: that of the run of the articles, for `verify`,
-  -- `translate` and `show`; of the check of a file that is refused, or whose declarations pass, or fail at the first that doesn't pass, within the budget; or of what
-  -- the exports of a file that `decode` is given say; or Done, for `trial`.
+  -- `translate` and `show`, and for `article` too, but Unwritable where one article cannot say what the run exports; of the check of a file that is
+  -- refused, or whose declarations pass, or fail at the first that doesn't pass, within the budget; or of what the exports of a file that `decode` is
+  -- given say; or Done, for `trial`.
   pub exact : ReadWell call.shelf → (status : Status) → IsDue call.form call.shelf.told_before status → Aside result (result ≡ status)
   -- Whatever the shelf tells, at Done what was written as the module of the run reads as one well-typed module.
   pub written : WritesModule call.form → result ≡ Done → GainsModule call.out
+  -- At Done of `article` what was written is the article of the run, whatever the shelf tells, and it tells the run again.
+  pub retold : (names : List (List ℕ)) → call.form ≡ Some (Form.article names) → result ≡ Done → GainsArticle call.shelf.told_before names call.out
+  -- Unwritable is answered only where `article` was asked for, and one article cannot say what the run of its files exports.
+  pub unwritable : result ≡ Unwritable → FormUnwritable call.form call.shelf.told_before
   -- A file with the module of a run passes under a budget of at least each of its bounds ..
   pub passes : ReadWell call.shelf → (fast : Bool) (name : List ℕ) (budget : ℕ) → call.form ≡ Some (check fast name budget) → (file : HasModule call.shelf.told_before name) → AllByRecursion (λ bound. bound ≤ budget) (module_bounds file.share file.run)
       → Aside result (result ≡ Done)

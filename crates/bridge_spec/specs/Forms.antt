@@ -6,8 +6,9 @@ use Rattle.article_spec.specs.Numbers.{digits_value}
 
 -- what the words ask for: the module of the articles in these files, checked before it is written, or as it is; a check of the module in this
 -- file, with this budget for each declaration; what the articles in these files assume and export; what the exports of the module in this file
--- say; a trial with the generated article of so many blocks. The flag before the files says whether the module is to have shared abbreviations;
--- the last flag of `verify`, and that of `check`, whether the check is to be fast: without rechecks of sorts.
+-- say; a trial with the generated article of so many blocks; one article of what the articles in these files export. The flag before the files
+-- says whether the module is to have shared abbreviations; the last flag of `verify`, and that of `check`, whether the check is to be fast:
+-- without rechecks of sorts.
 pub data Form : Type 0 where
   verify : Bool → Bool → List (List ℕ) → Form
   translate : Bool → List (List ℕ) → Form
@@ -15,6 +16,7 @@ pub data Form : Type 0 where
   show : List (List ℕ) → Form
   decode : List ℕ → Form
   trial : ℕ → Form
+  article : List (List ℕ) → Form
 
 -- a file is named by a word that isn't empty and doesn't begin with `-`
 abbrev pub is_file : List ℕ → Bool
@@ -124,7 +126,7 @@ abbrev pub are_files : List (List ℕ) → Bool
 are_files [] = false
 are_files (name ∷ names) = list_all is_file (name ∷ names)
 
--- the form of the words after `show`: files
+-- the form of the words after `show` or `article`: files
 abbrev pub files_form : (List (List ℕ) → Form) → List (List ℕ) → Option Form
 files_form form names = if are_files names then Some (form names) else None
 
@@ -147,6 +149,7 @@ form_by word words =
     else if bytes_eq word (codes "show") then files_form show words
     else if bytes_eq word (codes "decode") then decode_form words
     else if bytes_eq word (codes "trial") then trial_form words
+    else if bytes_eq word (codes "article") then files_form article words
     else None
 
 -- the form of the words after the program's name, if they have one

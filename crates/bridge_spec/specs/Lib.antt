@@ -1,4 +1,5 @@
 pub mod Answers
+pub mod Articles
 pub mod Begun
 pub mod Calls
 pub mod Consequences

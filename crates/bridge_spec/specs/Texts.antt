@@ -14,7 +14,7 @@ use Rattle.module_spec.specs.Image.{image}
 use Rattle.share_spec.specs.Folded.{folded}
 use Rattle.decode_spec.specs.ClosedText.{closed_text}
 use Rattle.bridge_spec.specs.declared.status.Status.{Status}
-use Rattle.bridge_spec.specs.declared.status.Status.TheVariants.{Done, Refused, Usage, ReadFault, WriteFault, Memory, DkRefused, IllTyped, OverBudget, NotSequent}
+use Rattle.bridge_spec.specs.declared.status.Status.TheVariants.{Done, Refused, Usage, ReadFault, WriteFault, Memory, DkRefused, IllTyped, OverBudget, NotSequent, Unwritable}
 
 -- the number with which the program ends
 abbrev pub status_number : Status → ℕ
@@ -28,6 +28,7 @@ status_number (DkRefused place kind) = 6
 status_number (IllTyped i) = 7
 status_number (OverBudget i) = 8
 status_number (NotSequent i) = 9
+status_number Unwritable = 10
 
 -- a run's module: its image, or where the flag says so its image with shared abbreviations
 abbrev pub module_of : Bool → Accepted → List Declaration
@@ -83,7 +84,7 @@ abbrev pub six_lines : Counts → List ℕ
 six_lines counts = five_lines counts ++ codes "verified\n"
 
 abbrev pub usage_line : List ℕ
-usage_line = codes "usage: bridge verify [--share] [--fast] FILE.. | translate [--share] FILE.. | check FILE [--budget N] [--fast] | decode FILE | show FILE.. | trial N\n"
+usage_line = codes "usage: bridge verify [--share] [--fast] FILE.. | translate [--share] FILE.. | check FILE [--budget N] [--fast] | decode FILE | show FILE.. | trial N | article FILE..\n"
 
 abbrev pub refusal_line : ℕ → ℕ → Kind → List ℕ
 refusal_line article line kind =
@@ -152,6 +153,9 @@ over_budget_line i = declaration_line i (codes ": over budget\n")
 
 abbrev pub not_sequent_line : ℕ → List ℕ
 not_sequent_line i = declaration_line i (codes ": not a sequent\n")
+
+abbrev pub unwritable_line : List ℕ
+unwritable_line = codes "article not writable\n"
 
 -- the line for a theorem: what it is, its number, and its closed text
 abbrev pub theorem_line : List ℕ → ℕ → ClosedSequent → List ℕ

@@ -14,6 +14,7 @@
 //! | `Outputs` | what the sinks hold afterwards, and which files were begun |
 //! | `Begun` | which files a call begins, in which order |
 //! | `Headline` | what the module of an accepted run is good for |
+//! | `Articles` | whether one article can say what a run exports, and what it tells |
 //! | `Consequences` | what follows from what a call promises |
 //!
 //! The module of an accepted run, and what it is for it to stand for its run, are defined in `module_spec`.

@@ -29,6 +29,8 @@ pub enum Status {
     /// The type of this declaration, counted from 0 and named as an export, stands for no closed sequent within the limits, and
     /// those of the exports before it do.
     NotSequent(u64),
+    /// One article cannot say what the articles export, or not in as many bytes as an article may have.
+    Unwritable,
 }
 
 impl Status {
@@ -47,6 +49,7 @@ impl Status {
             Status::IllTyped(_) => 7,
             Status::OverBudget(_) => 8,
             Status::NotSequent(_) => 9,
+            Status::Unwritable => 10,
         }
     }
 }

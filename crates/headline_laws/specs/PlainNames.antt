@@ -32,7 +32,7 @@ use Rattle.run_laws.specs.NewNames.{IsSymbolName, symbol_name-high}
 use Rattle.run_laws.specs.Origins.{made-origins}
 use Rattle.run_laws.specs.RunModules.{HaveNames, IsItemName, items-named}
 
--- BYTES OF WORDS
+-- Bytes of words
 -- a digit is one, and so is an ASCII letter
 digit-word : (b : ℕ) → is_decimal_digit b ≡ true → is_word_byte b ≡ true
 digit-word b e = ap (λ d. is_letter b || (d || (b == 95))) e ∙ or-true (is_letter b)
@@ -62,7 +62,7 @@ hex_digit-word n h = elim (cases_lt n 10) [
     letter : (upper lower other : Bool) → lower ≡ true → ((upper || lower) || other) ≡ true
     letter upper lower other e = ap (λ b. (upper || b) || other) e ∙ ap (λ b. b || other) (or-true upper)
 
--- TEXTS OF WORD BYTES
+-- Texts of word bytes
 abbrev AreWordBytes : List ℕ → Type 0
 AreWordBytes bytes = list_all is_word_byte bytes ≡ true
 
@@ -108,7 +108,7 @@ mangled-words : (name : Name) → IsName name → AreWordBytes (mangled name)
 mangled-words [] h = absurd h
 mangled-words (bytes ∷ name) h = component-words bytes (mangled_more name) h.0 (more-words name h.1)
 
--- NAMES
+-- Names
 -- a name that begins with a letter other than `v`, and whose second byte is no small letter, is plain
 other-word : (name word : List ℕ) → second_byte name ≤ 95 → 96 < second_byte word → bytes_eq name word ≡ false
 other-word name word low high = go (bytes_eq name word) (bytes_eq-Decides name word)
@@ -176,7 +176,7 @@ declared-plain symbols number keep (x ∷ xs) h = go (keep x.symbol) (declared-p
     go true rest = (subst IsPlainName (sym (declared-name symbols (renumbered number x))) h.0, rest)
     go false rest = rest
 
--- EVERY DECLARED NAME OF A RUN'S MODULE CAN BE WRITTEN
+-- Every declared name of a run's module can be written
 pub image-ArePlain : (run : Accepted) → HasNames run → IsSoundRun run → ArePlain (image run)
 image-ArePlain run named sound =
     let items = items_of (name_in run) run.made in
@@ -189,7 +189,7 @@ image-ArePlain run named sound =
       ),
     )
 
--- NO NAME OF A RUN'S MODULE IS SHORT
+-- No name of a run's module is short
 unshort : (first : ℕ) (more name : List ℕ) → name ≡ first ∷ more → (first ≡ 88 → ⊥) → is_short_name name ≡ false
 unshort first more name is other = ap is_short_name is ∙ go (nat_eq first 88) refl
   where

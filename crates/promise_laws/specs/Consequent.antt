@@ -7,6 +7,7 @@ use Rattle.std.proofs.lemmas.List.{append-nil}
 use Rattle.bridge_base.specs.Outside.{Files, Gains, file}
 use Rattle.bridge_base.specs.declared.faults.Kind.{Kind}
 use Rattle.hol_spec.specs.Proofs.{Accepted}
+use Rattle.hol_spec.specs.declared.Version.{Version}
 use Rattle.lp_spec.specs.Modules.{Declaration}
 use Rattle.lp_spec.specs.Reading.{Reads}
 use Rattle.lp_spec.specs.Typing.{WellTyped}
@@ -14,21 +15,23 @@ use Rattle.lp_spec.specs.Weight.{bound}
 use Rattle.lp_shape.specs.Check.{Found, No}
 use Rattle.lp_fast.specs.FastCheck.{CheckBy}
 use Rattle.lp_fast.specs.FastPrices.{check-at, fast_passes}
-use Rattle.article_spec.specs.Run.{Outcome, machine, accepted, refused_at, Run}
-use Rattle.article_laws.specs.RunLaws.{one_outcome}
+use Rattle.article_spec.specs.Run.{Outcome, accepted, refused_at, Run}
 use Rattle.bridge_spec.specs.Forms.{Form, verify, translate, check, show, decode, trial}
 use Rattle.bridge_spec.specs.Headline.{Headline, ModuleStands}
+use Rattle.bridge_spec.specs.Articles.{IsRetold}
 use Rattle.headline_laws.specs.Headlines.{declaration-at, each_run_carries}
 use Rattle.bridge_spec.specs.Texts.{counts_of, five_lines, six_lines, shown_text, module_bounds, module_of, module_text}
 use Rattle.bridge_spec.specs.Calls.{Shelved, Sunk, Call}
 use Rattle.bridge_spec.specs.FileChecks.{ReadsAs, IsAccepted, IsIllTyped, EndsWithin}
-use Rattle.bridge_spec.specs.Answers.{RunsTo, IsRunOf, ReadFailed, AnswersRun, FormAnswers, articles}
+use Rattle.bridge_spec.specs.Answers.{RunsTo, IsRunOf, FormArticle, HasArticle, ReadFailed, AnswersRun, FormAnswers}
 use Rattle.bridge_spec.specs.Outputs.{Gained, Failed, Delivers, Outputs}
-use Rattle.bridge_spec.specs.Consequences.{PassesWithin, ReadsWellTyped, IsAnswerOfRun, answer_of, IsDue, ReadWell, Aside, KeepsOut, WritesModule, HasModule, Consequences, EachPromiseBears}
+use Rattle.bridge_spec.specs.Consequences.{PassesWithin, ReadsWellTyped, IsAnswerOfRun, answer_of, IsDue, ReadWell, Aside, KeepsOut, WritesModule, HasModule, FormUnwritable, Consequences, EachPromiseBears}
 use Rattle.bridge_spec.specs.declared.status.Status.{Status}
-use Rattle.bridge_spec.specs.declared.status.Status.TheVariants.{Done, Refused, Usage, ReadFault, WriteFault, Memory, DkRefused, IllTyped, OverBudget, NotSequent}
+use Rattle.bridge_spec.specs.declared.status.Status.TheVariants.{Done, Refused, Usage, ReadFault, WriteFault, Memory, DkRefused, IllTyped, OverBudget, NotSequent, Unwritable}
 use Rattle.promise_laws.specs.OneDue as checking
 use Rattle.promise_laws.specs.OneDecoding as decoding
+use Rattle.promise_laws.specs.OneRun.{RunsTo-unique}
+use Rattle.promise_laws.specs.OneRun as running
 
 -- What is asked of the answers of a form, before anything is written.
 pub record AreAnswers (form : Option Form) (shelf : Shelved) : Type 0 where
@@ -40,6 +43,8 @@ pub record AreAnswers (form : Option Form) (shelf : Shelved) : Type 0 where
   pub read_fault : (out note : List ℕ) → FormAnswers form shelf ReadFault out note → ReadFailed shelf
   -- a write fault is no answer before anything is written
   pub write_fault : (out note : List ℕ) → FormAnswers form shelf WriteFault out note → ⊥
+  -- Unwritable has its cause
+  pub unwritable : (out note : List ℕ) → FormAnswers form shelf Unwritable out note → FormUnwritable form shelf.told_before
   -- any answer but Done writes nothing to standard output
   pub quiet : (answer : Status) (out note : List ℕ) → FormAnswers form shelf answer out note → (answer ≡ Done → ⊥) → out ≡ []
 
@@ -55,6 +60,7 @@ aside (DkRefused place kind) fact h = h
 aside (IllTyped i) fact h = h
 aside (OverBudget i) fact h = h
 aside (NotSequent i) fact h = h
+aside Unwritable fact h = h
 
 -- No form: one answer, want of memory aside.
 no_form-usage : (shelf : Shelved) (answer : Status) (out note : List ℕ) → FormAnswers None shelf answer out note → Aside answer (answer ≡ Usage)
@@ -68,6 +74,7 @@ no_form-usage shelf (DkRefused place kind) out note h = absurd h
 no_form-usage shelf (IllTyped i) out note h = absurd h
 no_form-usage shelf (OverBudget i) out note h = absurd h
 no_form-usage shelf (NotSequent i) out note h = absurd h
+no_form-usage shelf Unwritable out note h = absurd h
 
 no_form-quiet : (shelf : Shelved) (answer : Status) (out note : List ℕ) → FormAnswers None shelf answer out note → out ≡ []
 no_form-quiet shelf Done out note h = absurd h
@@ -80,6 +87,7 @@ no_form-quiet shelf (DkRefused place kind) out note h = absurd h
 no_form-quiet shelf (IllTyped i) out note h = absurd h
 no_form-quiet shelf (OverBudget i) out note h = absurd h
 no_form-quiet shelf (NotSequent i) out note h = absurd h
+no_form-quiet shelf Unwritable out note h = absurd h
 
 no_form-answers : (shelf : Shelved) → AreAnswers None shelf
 no_form-answers shelf = record {
@@ -87,17 +95,11 @@ no_form-answers shelf = record {
   usage = λ out note h. refl;
   read_fault = λ out note h. absurd h;
   write_fault = λ out note h. h;
+  unwritable = λ out note h. absurd h;
   quiet = λ answer out note h differs. no_form-quiet shelf answer out note h;
 }
 
--- Files that are told have one outcome.
-RunsTo-unique : (told : Option Files) (names : List (List ℕ)) (a b : Outcome) → IsTrue (is_some told) → RunsTo told names a → RunsTo told names b → a ≡ b
-RunsTo-unique None names a b h p q = absurd (cc)
-RunsTo-unique (Some files) names a b h p q =
-    let one = one_outcome machine (articles files names) in
-    one.only a (subst (λ texts. Run texts a) p.read p.runs) ∙ sym (one.only b (subst (λ texts. Run texts b) q.read q.runs))
-
--- So the answer that is due is that of the outcome.
+-- Files that are told have one outcome, so the answer that is due is that of it.
 run-due : (told : Option Files) (names : List (List ℕ)) → IsTrue (is_some told) → (outcome : Outcome) → RunsTo told names outcome → (due : Status) → IsAnswerOfRun told names due → answer_of outcome ≡ due
 run-due told names tells outcome r due d = ap answer_of (RunsTo-unique told names outcome d.outcome tells r d.runs) ∙ sym d.is
 
@@ -121,6 +123,7 @@ run-exact out_of note_of names shelf well (DkRefused place kind) due out note h 
 run-exact out_of note_of names shelf well (IllTyped i) due out note h d = absurd h
 run-exact out_of note_of names shelf well (OverBudget i) due out note h d = absurd h
 run-exact out_of note_of names shelf well (NotSequent i) due out note h d = absurd h
+run-exact out_of note_of names shelf well Unwritable due out note h d = absurd h
 
 run-quiet : (out_of note_of : Accepted → List ℕ) (names : List (List ℕ)) (shelf : Shelved) (answer : Status) (out note : List ℕ) → AnswersRun out_of note_of names shelf answer out note → (answer ≡ Done → ⊥) → out ≡ []
 run-quiet out_of note_of names shelf Done out note h differs = absurd (differs refl)
@@ -133,6 +136,7 @@ run-quiet out_of note_of names shelf (DkRefused place kind) out note h differs =
 run-quiet out_of note_of names shelf (IllTyped i) out note h differs = absurd h
 run-quiet out_of note_of names shelf (OverBudget i) out note h differs = absurd h
 run-quiet out_of note_of names shelf (NotSequent i) out note h differs = absurd h
+run-quiet out_of note_of names shelf Unwritable out note h differs = absurd h
 
 verify-answers : (share fast : Bool) (names : List (List ℕ)) (shelf : Shelved) → AreAnswers (Some (verify share fast names)) shelf
 verify-answers share fast names shelf = record {
@@ -140,6 +144,7 @@ verify-answers share fast names shelf = record {
   usage = λ out note h. absurd h;
   read_fault = λ out note h. h.0;
   write_fault = λ out note h. h;
+  unwritable = λ out note h. absurd h;
   quiet = run-quiet (module_text share) (λ run. six_lines (counts_of share (length names) run)) names shelf;
 }
 
@@ -149,6 +154,7 @@ translate-answers share names shelf = record {
   usage = λ out note h. absurd h;
   read_fault = λ out note h. h.0;
   write_fault = λ out note h. h;
+  unwritable = λ out note h. absurd h;
   quiet = run-quiet (module_text share) (λ run. five_lines (counts_of share (length names) run)) names shelf;
 }
 
@@ -158,7 +164,46 @@ show-answers names shelf = record {
   usage = λ out note h. absurd h;
   read_fault = λ out note h. h.0;
   write_fault = λ out note h. h;
+  unwritable = λ out note h. absurd h;
   quiet = run-quiet shown_text (λ run. []) names shelf;
+}
+
+-- `article`: files that are told have at most one answer that is due.
+article-exact : (names : List (List ℕ)) (shelf : Shelved) → ReadWell shelf → (answer due : Status) (out note : List ℕ) → FormAnswers (Some (Form.article names)) shelf answer out note
+    → IsDue (Some (Form.article names)) shelf.told_before due → Aside answer (answer ≡ due)
+article-exact names shelf well Done due out note h d = running.written-due shelf.told_before names well.tells h.0 h.1 h.2 h.3 due d
+article-exact names shelf well (Refused article line kind) due out note h d = running.refused_article-due shelf.told_before names well.tells article line kind h.0 due d
+article-exact names shelf well Usage due out note h d = absurd h
+article-exact names shelf well ReadFault due out note h d = absurd (well.no_fault h.0)
+article-exact names shelf well WriteFault due out note h d = tt
+article-exact names shelf well Memory due out note h d = tt
+article-exact names shelf well (DkRefused place kind) due out note h d = absurd h
+article-exact names shelf well (IllTyped i) due out note h d = absurd h
+article-exact names shelf well (OverBudget i) due out note h d = absurd h
+article-exact names shelf well (NotSequent i) due out note h d = absurd h
+article-exact names shelf well Unwritable due out note h d = running.unwritable-due shelf.told_before names well.tells h.0 h.1 h.2 h.3 due d
+
+article-quiet : (names : List (List ℕ)) (shelf : Shelved) (answer : Status) (out note : List ℕ) → FormAnswers (Some (Form.article names)) shelf answer out note → (answer ≡ Done → ⊥) → out ≡ []
+article-quiet names shelf Done out note h differs = absurd (differs refl)
+article-quiet names shelf (Refused article line kind) out note h differs = h.1.0
+article-quiet names shelf Usage out note h differs = absurd h
+article-quiet names shelf ReadFault out note h differs = h.1.0
+article-quiet names shelf WriteFault out note h differs = absurd h
+article-quiet names shelf Memory out note h differs = h.0
+article-quiet names shelf (DkRefused place kind) out note h differs = absurd h
+article-quiet names shelf (IllTyped i) out note h differs = absurd h
+article-quiet names shelf (OverBudget i) out note h differs = absurd h
+article-quiet names shelf (NotSequent i) out note h differs = absurd h
+article-quiet names shelf Unwritable out note h differs = h.4.0
+
+article-answers : (names : List (List ℕ)) (shelf : Shelved) → AreAnswers (Some (Form.article names)) shelf
+article-answers names shelf = record {
+  exact = article-exact names shelf;
+  usage = λ out note h. absurd h;
+  read_fault = λ out note h. h.0;
+  write_fault = λ out note h. h;
+  unwritable = λ out note h. (h.0, h.1, h.2, h.3);
+  quiet = article-quiet names shelf;
 }
 
 -- `check`: a file that is told has at most one answer that is due, and one of another cause is not due.
@@ -174,6 +219,7 @@ check-exact fast name budget shelf well (DkRefused place kind) due out note h d 
 check-exact fast name budget shelf well (IllTyped i) due out note h d = checking.ill_typed-due (not fast) shelf.told_before name budget well.tells i h.0 due d
 check-exact fast name budget shelf well (OverBudget i) due out note h d = absurd (checking.over_budget-due (not fast) shelf.told_before name budget well.tells i h.0 due d)
 check-exact fast name budget shelf well (NotSequent i) due out note h d = absurd h
+check-exact fast name budget shelf well Unwritable due out note h d = absurd h
 
 check-quiet : (fast : Bool) (name : List ℕ) (budget : ℕ) (shelf : Shelved) (answer : Status) (out note : List ℕ) → FormAnswers (Some (check fast name budget)) shelf answer out note → (answer ≡ Done → ⊥) → out ≡ []
 check-quiet fast name budget shelf Done out note h differs = absurd (differs refl)
@@ -186,6 +232,7 @@ check-quiet fast name budget shelf (DkRefused place kind) out note h differs = h
 check-quiet fast name budget shelf (IllTyped i) out note h differs = h.1.0
 check-quiet fast name budget shelf (OverBudget i) out note h differs = h.1.0
 check-quiet fast name budget shelf (NotSequent i) out note h differs = absurd h
+check-quiet fast name budget shelf Unwritable out note h differs = absurd h
 
 check-answers : (fast : Bool) (name : List ℕ) (budget : ℕ) (shelf : Shelved) → AreAnswers (Some (check fast name budget)) shelf
 check-answers fast name budget shelf = record {
@@ -193,6 +240,7 @@ check-answers fast name budget shelf = record {
   usage = λ out note h. absurd h;
   read_fault = λ out note h. h.0;
   write_fault = λ out note h. h;
+  unwritable = λ out note h. absurd h;
   quiet = check-quiet fast name budget shelf;
 }
 
@@ -209,6 +257,7 @@ decode-exact name shelf well (DkRefused place kind) due out note h d = decoding.
 decode-exact name shelf well (IllTyped i) due out note h d = absurd h
 decode-exact name shelf well (OverBudget i) due out note h d = absurd h
 decode-exact name shelf well (NotSequent i) due out note h d = decoding.not_sequent-due shelf.told_before name well.tells i h.0 due d
+decode-exact name shelf well Unwritable due out note h d = absurd h
 
 decode-quiet : (name : List ℕ) (shelf : Shelved) (answer : Status) (out note : List ℕ) → FormAnswers (Some (decode name)) shelf answer out note → (answer ≡ Done → ⊥) → out ≡ []
 decode-quiet name shelf Done out note h differs = absurd (differs refl)
@@ -221,6 +270,7 @@ decode-quiet name shelf (DkRefused place kind) out note h differs = h.1.0
 decode-quiet name shelf (IllTyped i) out note h differs = absurd h
 decode-quiet name shelf (OverBudget i) out note h differs = absurd h
 decode-quiet name shelf (NotSequent i) out note h differs = h.1.0
+decode-quiet name shelf Unwritable out note h differs = absurd h
 
 decode-answers : (name : List ℕ) (shelf : Shelved) → AreAnswers (Some (decode name)) shelf
 decode-answers name shelf = record {
@@ -228,6 +278,7 @@ decode-answers name shelf = record {
   usage = λ out note h. absurd h;
   read_fault = λ out note h. h.0;
   write_fault = λ out note h. h;
+  unwritable = λ out note h. absurd h;
   quiet = decode-quiet name shelf;
 }
 
@@ -243,6 +294,7 @@ trial-done n shelf (DkRefused place kind) out note h = absurd h
 trial-done n shelf (IllTyped i) out note h = absurd h
 trial-done n shelf (OverBudget i) out note h = absurd h
 trial-done n shelf (NotSequent i) out note h = absurd h
+trial-done n shelf Unwritable out note h = absurd h
 
 trial-quiet : (n : ℕ) (shelf : Shelved) (answer : Status) (out note : List ℕ) → FormAnswers (Some (trial n)) shelf answer out note → (answer ≡ Done → ⊥) → out ≡ []
 trial-quiet n shelf Done out note h differs = absurd (differs refl)
@@ -255,6 +307,7 @@ trial-quiet n shelf (DkRefused place kind) out note h differs = absurd h
 trial-quiet n shelf (IllTyped i) out note h differs = absurd h
 trial-quiet n shelf (OverBudget i) out note h differs = absurd h
 trial-quiet n shelf (NotSequent i) out note h differs = absurd h
+trial-quiet n shelf Unwritable out note h differs = absurd h
 
 trial-answers : (n : ℕ) (shelf : Shelved) → AreAnswers (Some (trial n)) shelf
 trial-answers n shelf = record {
@@ -262,6 +315,7 @@ trial-answers n shelf = record {
   usage = λ out note h. absurd h;
   read_fault = λ out note h. absurd h;
   write_fault = λ out note h. h;
+  unwritable = λ out note h. absurd h;
   quiet = trial-quiet n shelf;
 }
 
@@ -274,6 +328,7 @@ each-answers (Some (check fast name budget)) shelf = check-answers fast name bud
 each-answers (Some (show names)) shelf = show-answers names shelf
 each-answers (Some (decode name)) shelf = decode-answers name shelf
 each-answers (Some (trial n)) shelf = trial-answers n shelf
+each-answers (Some (Form.article names)) shelf = article-answers names shelf
 
 -- The checker's law: what is accepted is well typed.
 accepted-well_typed : (rechecks : Bool) (told : Option Files) (name : List ℕ) (files : Files) (m : List Declaration) → told ≡ Some files → IsAccepted rechecks told name m → ReadsWellTyped (file files name)
@@ -340,8 +395,9 @@ outputs-KeepsOut call result h = by_cases result h
     by_cases (IllTyped i) h = same (IllTyped i) h (λ e. cc) (λ e. cc)
     by_cases (OverBudget i) h = same (OverBudget i) h (λ e. cc) (λ e. cc)
     by_cases (NotSequent i) h = same (NotSequent i) h (λ e. cc) (λ e. cc)
+    by_cases Unwritable h = same Unwritable h (λ e. cc) (λ e. cc)
 
--- THE HEADLINE, for the run that a form asks for
+-- The headline, for the run that a form asks for
 run-headline : (share : Bool) (told : Option Files) (names : List (List ℕ)) (run : Accepted) → IsRunOf told names run → Headline share run
 run-headline share told names run r = each_run_carries share r.texts run r.bytes r.runs
 
@@ -363,6 +419,7 @@ module-written (Some (check fast name budget)) shelf out note w h = absurd w
 module-written (Some (show names)) shelf out note w h = absurd w
 module-written (Some (decode name)) shelf out note w h = absurd w
 module-written (Some (trial n)) shelf out note w h = absurd w
+module-written (Some (Form.article names)) shelf out note w h = absurd w
 
 delivered-Gained : (answer : Status) (out_text note_text : List ℕ) (out note : Sunk) (result : Status) → Delivers answer out_text note_text out note result
     → (result ≡ WriteFault → ⊥) → Gained out out_text
@@ -371,7 +428,7 @@ delivered-Gained answer out_text note_text out note result d differs = elim d [
   | inr f ↦ absurd (differs f.0)
 ]
 
--- A FILE WITH THE MODULE OF A RUN
+-- A file with the module of a run
 module-ReadsAs : (told : Option Files) (name : List ℕ) → (file : HasModule told name) → ReadsAs told name (module_of file.share file.run)
 module-ReadsAs told name file =
     let h = each_run_carries file.share file.texts file.run file.bytes file.runs in
@@ -414,15 +471,26 @@ module-passes rechecks (Some files) name i tells file ill =
     let e = within-bound rechecks file.share file.run h i d.0 d.1 in
     checking.not-both rechecks (module_of file.share file.run) i d.0.ty e.price ill.price e.by no
 
--- All that follows from the promise of a call comes of its outputs.
-outputs-Consequences : (call : Call) (result : Status) → Outputs call result → Consequences call result
-outputs-Consequences call result h = record {
+-- All that follows from the promise of a call comes of its outputs, and of the law of articles.
+outputs-Consequences : (call : Call) (result : Status) → Outputs call result → ((version : Version) (run : Accepted) → HasArticle call version run → IsRetold version run) → Consequences call result
+outputs-Consequences call result h law = record {
   exact = exact;
   written = λ writes done. record {
     text = h.out_text;
     gained = delivered-Gained h.answer h.out_text h.note_text call.out call.note result h.delivered (λ f. differ done f);
     typed = module-written call.form call.shelf h.out_text h.note_text writes (subst (λ status. FormAnswers call.form call.shelf status h.out_text h.note_text) (is done (λ f. cc)) h.answers);
   };
+  retold = λ names form done.
+      let a = subst (λ f. FormAnswers f call.shelf Done h.out_text h.note_text) form (subst (λ status. FormAnswers call.form call.shelf status h.out_text h.note_text) (is done (λ f. cc)) h.answers) in
+      let gained = delivered-Gained h.answer h.out_text h.note_text call.out call.note result h.delivered (λ f. differ done f) in
+      record {
+        version = a.0;
+        run = a.1;
+        of = a.2;
+        gained = subst (Gained call.out) a.4 gained;
+        retold = law a.0 a.1 (subst (λ f. FormArticle f call.shelf.told_before a.0 a.1) (sym form) (a.2, a.3));
+      };
+  unwritable = λ e. facts.unwritable h.out_text h.note_text (subst (λ status. FormAnswers call.form call.shelf status h.out_text h.note_text) (is e (λ f. cc)) h.answers);
   passes = λ well fast name budget form file bounds.
       exact well Done (subst (λ f. IsDue f call.shelf.told_before Done) (sym form) (module-PassesWithin (not fast) call.shelf.told_before name budget file bounds));
   never_ill_typed = λ well fast name budget i form file ill.
@@ -460,4 +528,4 @@ outputs-Consequences call result h = record {
 
 -- What follows from a promise.
 pub each_promise_bears : EachPromiseBears
-each_promise_bears call result p = outputs-Consequences call result p.outputs
+each_promise_bears call result p = outputs-Consequences call result p.outputs p.retold

@@ -1,3 +1,4 @@
 pub mod Consequent
 pub mod OneDecoding
 pub mod OneDue
+pub mod OneRun

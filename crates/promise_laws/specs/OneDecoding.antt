@@ -13,7 +13,7 @@ use Rattle.bridge_spec.specs.FileChecks.{max_file, IsRefusedAt}
 use Rattle.bridge_spec.specs.FileExports.{exports_of, AreDecoded, Says, SaysNothing, SayBefore, IsNotSequent}
 use Rattle.bridge_spec.specs.Consequences.{IsDueOfDecode}
 use Rattle.bridge_spec.specs.declared.status.Status.{Status}
-use Rattle.bridge_spec.specs.declared.status.Status.TheVariants.{Done, Refused, Usage, ReadFault, WriteFault, Memory, DkRefused, IllTyped, OverBudget, NotSequent}
+use Rattle.bridge_spec.specs.declared.status.Status.TheVariants.{Done, Refused, Usage, ReadFault, WriteFault, Memory, DkRefused, IllTyped, OverBudget, NotSequent, Unwritable}
 use Rattle.promise_laws.specs.OneDue.{neither-below, one_refusal, one_module, read_or_refused}
 
 -- Of the declarations that are decoded, one that is an export says a closed sequent.
@@ -54,6 +54,7 @@ module _ (files : Files) (name : List ℕ) where
   decoded_due m ss h Memory d = absurd d
   decoded_due m ss h (IllTyped i) d = absurd d
   decoded_due m ss h (OverBudget i) d = absurd d
+  decoded_due m ss h Unwritable d = absurd d
 
   refused_due : (p : ℕ) (k : DkKind) → IsRefusedAt (Some files) name p k → (due : Status) → IsDueOfDecode (Some files) name due → DkRefused p k ≡ due
   refused_due p k h Done d = read_or_refused files name d.0 p k d.2.file h
@@ -66,6 +67,7 @@ module _ (files : Files) (name : List ℕ) where
   refused_due p k h Memory d = absurd d
   refused_due p k h (IllTyped i) d = absurd d
   refused_due p k h (OverBudget i) d = absurd d
+  refused_due p k h Unwritable d = absurd d
 
   not_sequent_due : (i : ℕ) → IsNotSequent (Some files) name i → (due : Status) → IsDueOfDecode (Some files) name due → NotSequent i ≡ due
   not_sequent_due i h Done d = not_nothing d.0 d.1 i d.2.decoded (subst (λ n. SaysNothing n i) (one_module files name h.m d.0 h.file d.2.file) h.nothing)
@@ -82,6 +84,7 @@ module _ (files : Files) (name : List ℕ) where
   not_sequent_due i h Memory d = absurd d
   not_sequent_due i h (IllTyped j) d = absurd d
   not_sequent_due i h (OverBudget j) d = absurd d
+  not_sequent_due i h Unwritable d = absurd d
 
 -- Over a shelf that tells its files.
 module _ (told : Option Files) (name : List ℕ) (tells : IsTrue (is_some told)) where

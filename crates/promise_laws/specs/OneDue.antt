@@ -21,7 +21,7 @@ use Rattle.dk_read.specs.declared.faults.DkKind.TheVariants as kind
 use Rattle.bridge_spec.specs.FileChecks.{max_file, ReadsAs, IsRefusedAt, IsAccepted, IsIllTyped, IsOverBudget}
 use Rattle.bridge_spec.specs.Consequences.{IsDueOfCheck}
 use Rattle.bridge_spec.specs.declared.status.Status.{Status}
-use Rattle.bridge_spec.specs.declared.status.Status.TheVariants.{Done, Refused, Usage, ReadFault, WriteFault, Memory, DkRefused, IllTyped, OverBudget, NotSequent}
+use Rattle.bridge_spec.specs.declared.status.Status.TheVariants.{Done, Refused, Usage, ReadFault, WriteFault, Memory, DkRefused, IllTyped, OverBudget, NotSequent, Unwritable}
 
 -- A declaration that passes doesn't fail.
 pub not-both : (rechecks : Bool) (m : List Declaration) (i : ℕ) (t : Tree) (n k : ℕ) {X : Type 0} → CheckBy rechecks m i (Found t) n → CheckBy rechecks m i No k → X
@@ -95,6 +95,7 @@ module _ (files : Files) (name : List ℕ) where
     accepted_due m h Memory d = absurd d
     accepted_due m h (OverBudget i) d = absurd d
     accepted_due m h (NotSequent i) d = absurd d
+    accepted_due m h Unwritable d = absurd d
 
     refused_due : (p : ℕ) (k : DkKind) → IsRefusedAt (Some files) name p k → (due : Status) → IsDueOfCheck rechecks (Some files) name budget due → DkRefused p k ≡ due
     refused_due p k h Done d = read_or_refused d.m p k d.file h
@@ -107,6 +108,7 @@ module _ (files : Files) (name : List ℕ) where
     refused_due p k h Memory d = absurd d
     refused_due p k h (OverBudget i) d = absurd d
     refused_due p k h (NotSequent i) d = absurd d
+    refused_due p k h Unwritable d = absurd d
 
     ill_typed_due : (i : ℕ) → IsIllTyped rechecks (Some files) name i → (due : Status) → IsDueOfCheck rechecks (Some files) name budget due → IllTyped i ≡ due
     ill_typed_due i h Done d =
@@ -127,6 +129,7 @@ module _ (files : Files) (name : List ℕ) where
     ill_typed_due i h Memory d = absurd d
     ill_typed_due i h (OverBudget j) d = absurd d
     ill_typed_due i h (NotSequent j) d = absurd d
+    ill_typed_due i h Unwritable d = absurd d
 
     over_budget_due : (i : ℕ) → IsOverBudget rechecks (Some files) name budget i → (due : Status) → IsDueOfCheck rechecks (Some files) name budget due → ⊥
     over_budget_due i h Done d =
@@ -147,6 +150,7 @@ module _ (files : Files) (name : List ℕ) where
     over_budget_due i h Memory d = absurd d
     over_budget_due i h (OverBudget j) d = absurd d
     over_budget_due i h (NotSequent j) d = absurd d
+    over_budget_due i h Unwritable d = absurd d
 
 -- Over a shelf that tells its files.
 module _ (rechecks : Bool) (told : Option Files) (name : List ℕ) (budget : ℕ) (tells : IsTrue (is_some told)) where

@@ -6,6 +6,7 @@
 //! |---|---|
 //! | `OneDue` | a check of a file that is told has at most one answer that is due |
 //! | `OneDecoding` | so has a decoding |
+//! | `OneRun` | so has an article of what files export |
 //! | `Consequent` | what follows from the promise of a call comes of its outputs |
 #![tactic(auto)]
 

@@ -5,8 +5,8 @@ use Rattle.std.specs.Fmt.{digits}
 use Rattle.lp_spec.specs.Modules.{types, bools, symbol}
 use Rattle.lp_spec.specs.declared.form.Form.TheVariants.{Def}
 use Rattle.lp_spec.specs.ReadingFaults.{NoPrelude, UnknownName}
-use Rattle.bridge_spec.specs.Forms.{verify, translate, check, show, decode, form_of}
-use Rattle.bridge_spec.specs.Texts.{checked_of, accepted_line, dk_refusal_line, ill_typed_line, over_budget_line, not_sequent_line}
+use Rattle.bridge_spec.specs.Forms.{verify, translate, check, show, decode, article, form_of}
+use Rattle.bridge_spec.specs.Texts.{checked_of, accepted_line, dk_refusal_line, ill_typed_line, over_budget_line, not_sequent_line, unwritable_line}
 
 -- a file alone, and with a budget before it or behind it
 translated : form_of (codes "bridge" ∷ codes "translate" ∷ codes "a" ∷ []) ≡ Some (translate false (codes "a" ∷ []))
@@ -76,6 +76,29 @@ shown = refl
 decoded : form_of (codes "bridge" ∷ codes "decode" ∷ codes "a" ∷ []) ≡ Some (decode (codes "a"))
 decoded = refl
 
+-- an article of what files export: one file or more, of which one may be named twice
+article_of_one : form_of (codes "bridge" ∷ codes "article" ∷ codes "a" ∷ []) ≡ Some (article (codes "a" ∷ []))
+article_of_one = refl
+
+article_of_three : form_of (codes "bridge" ∷ codes "article" ∷ codes "a" ∷ codes "b" ∷ codes "a" ∷ []) ≡ Some (article (codes "a" ∷ codes "b" ∷ codes "a" ∷ []))
+article_of_three = refl
+
+-- not without a file, and with no option, whether before its file or behind it
+article_of_nothing : form_of (codes "bridge" ∷ codes "article" ∷ []) ≡ None
+article_of_nothing = refl
+
+article_shared : form_of (codes "bridge" ∷ codes "article" ∷ codes "--share" ∷ codes "a" ∷ []) ≡ None
+article_shared = refl
+
+article_fast : form_of (codes "bridge" ∷ codes "article" ∷ codes "a" ∷ codes "--fast" ∷ []) ≡ None
+article_fast = refl
+
+article_budget : form_of (codes "bridge" ∷ codes "article" ∷ codes "a" ∷ codes "--budget" ∷ codes "4" ∷ []) ≡ None
+article_budget = refl
+
+article_budget_behind : form_of (codes "bridge" ∷ codes "article" ∷ codes "a" ∷ codes "--budget=4" ∷ []) ≡ None
+article_budget_behind = refl
+
 -- words that are no form: a budget that is too great, nothing, zero, with a zero before it or with a sign; two files of a check; no file
 too_great : form_of (codes "bridge" ∷ codes "check" ∷ codes "a" ∷ codes "--budget" ∷ codes "18446744073709551616" ∷ []) ≡ None
 too_great = refl
@@ -128,3 +151,6 @@ over_budget = refl
 not_sequent : not_sequent_line 0 ≡ codes "declaration 0: not a sequent\n"
 unfolding digits
 not_sequent = refl
+
+unwritable : unwritable_line ≡ codes "article not writable\n"
+unwritable = refl

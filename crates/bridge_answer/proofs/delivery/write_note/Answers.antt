@@ -72,3 +72,13 @@ pub returns-in-NotSequent-clause-err : goal.returns-in-NotSequent-clause-err
 returns-in-NotSequent-clause-err g c =
     subst (λ text. OnErr c.write_declaration-in-NotSequent.result (GainsFront (g.N.Sink.got c.args.note.now) text (g.N.Sink.got c.write_declaration-in-NotSequent.new.note)))
     (ap note_of (sym c.in-NotSequent.is)) c.write_declaration-in-NotSequent.ensures.err
+
+pub returns-in-Unwritable-clause-ok : goal.returns-in-Unwritable-clause-ok
+returns-in-Unwritable-clause-ok g c =
+    subst (λ text. OnOk c.write_all-in-Unwritable.result (Gains (g.N.Sink.got c.args.note.now) text (g.N.Sink.got c.write_all-in-Unwritable.new.sink)))
+    (ap note_of (sym c.in-Unwritable.is)) c.write_all-in-Unwritable.ensures.ok
+
+pub returns-in-Unwritable-clause-err : goal.returns-in-Unwritable-clause-err
+returns-in-Unwritable-clause-err g c =
+    subst (λ text. OnErr c.write_all-in-Unwritable.result (GainsFront (g.N.Sink.got c.args.note.now) text (g.N.Sink.got c.write_all-in-Unwritable.new.sink)))
+    (ap note_of (sym c.in-Unwritable.is)) c.write_all-in-Unwritable.ensures.err
