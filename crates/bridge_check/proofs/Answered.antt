@@ -20,3 +20,4 @@ IsAnswer-AnswersCheck rechecks shelf name m budget (answer.DkRefused place kind)
 IsAnswer-AnswersCheck rechecks shelf name m budget (answer.IllTyped i) reads h = (record { m = m; file = reads; before = h.before; price = h.price; no = h.no }, (refl, refl))
 IsAnswer-AnswersCheck rechecks shelf name m budget (answer.OverBudget i) reads h = (record { m = m; file = reads; is = h.is; before = h.before; over = h.over }, (refl, refl))
 IsAnswer-AnswersCheck rechecks shelf name m budget (answer.NotSequent i) reads h = absurd h
+IsAnswer-AnswersCheck rechecks shelf name m budget answer.Unwritable reads h = absurd h

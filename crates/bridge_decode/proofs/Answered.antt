@@ -19,3 +19,4 @@ IsAnswer-AnswersDecode shelf name m (answer.DkRefused place kind) reads h = absu
 IsAnswer-AnswersDecode shelf name m (answer.IllTyped i) reads h = absurd h
 IsAnswer-AnswersDecode shelf name m (answer.OverBudget i) reads h = absurd h
 IsAnswer-AnswersDecode shelf name m (answer.NotSequent i) reads h = (record { m = m; file = reads; nothing = h.nothing; before = h.before }, (refl, refl))
+IsAnswer-AnswersDecode shelf name m answer.Unwritable reads h = absurd h

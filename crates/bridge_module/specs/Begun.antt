@@ -24,3 +24,4 @@ whole-BeginsFiles Is never (status.DkRefused place kind) is before now names beg
 whole-BeginsFiles Is never (status.IllTyped i) is before now names begun = begun
 whole-BeginsFiles Is never (status.OverBudget i) is before now names begun = begun
 whole-BeginsFiles Is never (status.NotSequent i) is before now names begun = begun
+whole-BeginsFiles Is never status.Unwritable is before now names begun = begun

@@ -2,3 +2,4 @@ pub mod PassedArticles
 pub mod Outcomes
 pub mod Readings
 pub mod BegunArticles
+pub mod LastVersions

@@ -8,14 +8,18 @@ use Rattle.bridge_base.specs.Outside.{Files}
 use Rattle.bridge_base.specs.declared.faults.Kind.{Kind}
 use Rattle.hol_spec.specs.Mangling.{AreBytes}
 use Rattle.hol_laws.specs.Members.{All-append}
-use Rattle.article_spec.specs.State.{State, initial}
+use Rattle.hol_spec.specs.declared.Version.{Version}
+use Rattle.hol_spec.specs.declared.Version.TheVariants.{Six}
+use Rattle.article_spec.specs.State.{State, Place, start, last_version, initial}
 use Rattle.article_spec.specs.Run.{Outcome, RunsFrom, machine, accepted, accepted_state, refused_at, finished, passed, stopped}
-use Rattle.bridge_spec.specs.Answers.{AreRead, IsRunOf, RunsTo, articles}
+use Rattle.bridge_spec.specs.Answers.{AreRead, IsRunOf, IsRunOfVersion, RunsTo, articles}
+use Rattle.writing_spec.specs.Versions.{version_of, IsLastVersion, no_article, last}
 use Rattle.bridge_spec.specs.Calls.{names_in}
 use Rattle.bridge_reading.specs.Halts.{HaltsText, Passes, IsRefused, OfText, bytes_told}
 use Rattle.bridge_reading.specs.Stops.{Stops, stop_of_halt}
 use Rattle.bridge_reading.specs.declared.reading.Halt.{Halt}
 use Rattle.bridge_reading.specs.declared.reading.Halt.TheVariants as halt
+use Rattle.bridge_reading.proofs.LastVersions.{article-version}
 
 -- The articles in these files passed, from the first state to this one.
 pub record HavePassed (told : Option Files) (names : List (List ℕ)) (s : State) : Type 0 where
@@ -23,11 +27,14 @@ pub record HavePassed (told : Option Files) (names : List (List ℕ)) (s : State
   pub read : AreRead told names texts
   pub bytes : AllByRecursion AreBytes texts
   pub runs : (rest : List (List ℕ)) (o : Outcome) → RunsFrom machine (1 + length names) s rest o → RunsFrom machine 1 initial (texts ++ rest) o
+  pub version : Version
+  pub place : s.place ≡ start version
+  pub last : IsLastVersion texts version
 
 -- At first none did.
 pub none-passed : (told : Option Files) → HavePassed told [] initial
-none-passed None = record { texts = []; read = (refl, tt); bytes = tt; runs = λ rest o r. r }
-none-passed (Some files) = record { texts = []; read = refl; bytes = tt; runs = λ rest o r. r }
+none-passed None = record { texts = []; read = (refl, tt); bytes = tt; runs = λ rest o r. r; version = Six; place = refl; last = no_article }
+none-passed (Some files) = record { texts = []; read = refl; bytes = tt; runs = λ rest o r. r; version = Six; place = refl; last = no_article }
 
 -- What was read of some files, and of others.
 reads-append : (told : Option Files) (names others : List (List ℕ)) (texts more : List (List ℕ)) → AreRead told names texts → AreRead told others more → AreRead told (names ++ others) (texts ++ more)
@@ -66,6 +73,9 @@ more-passed told names name s next h one = record {
   runs = λ rest o r.
       subst (λ texts. RunsFrom machine 1 initial texts o) (sym (append_assoc h.texts (one.text ∷ []) rest))
       (h.runs (one.text ∷ rest) o (passed one.holds.lines one.holds.passed (subst (λ k. RunsFrom machine k next rest o) (longer names) r)));
+  version = version_of (map (λ c. c.item) one.holds.commands);
+  place = article-version one.holds.commands one.holds.end h.version s next h.place one.holds.passed;
+  last = last one.text one.holds.commands one.holds.end h.texts refl one.holds.lines refl;
 }
   where
     longer : (names : List (List ℕ)) → 1 + length (names ++ name ∷ []) ≡ (1 + length names) + 1
@@ -81,6 +91,11 @@ passed-IsRunOf told names s h = record {
   runs = subst (λ texts. RunsFrom machine 1 initial texts (accepted (accepted_state s))) (append-nil h.texts) (h.runs [] (accepted (accepted_state s)) (finished refl));
 }
 
+-- and the machine has the version of the last
+pub passed-IsRunOfVersion : (told : Option Files) (names : List (List ℕ)) (s : State) → HavePassed told names s → IsRunOfVersion told names (last_version s.place) (accepted_state s)
+unfolding passed-IsRunOf
+passed-IsRunOfVersion told names s h = record { of = passed-IsRunOf told names s h; last = subst (IsLastVersion h.texts) (sym (ap last_version h.place)) h.last }
+
 -- The next is refused: so is the run.
 pub refused-RunsTo : (told : Option Files) (names : List (List ℕ)) (name : List ℕ) (others : List (List ℕ)) (s : State) (line : ℕ) (kind : Kind) → HavePassed told names s
     → OfText (bytes_told told name) (λ text. IsRefused text s line kind) → RunsTo told (names ++ name ∷ others) (refused_at (1 + length names) line kind)
@@ -91,7 +106,7 @@ refused-RunsTo told names name others s line kind h one = record {
   runs = h.runs (one.text ∷ unread told others) (refused_at (1 + length names) line kind) (stopped one.holds.lines one.holds.refused refl);
 }
 
--- THE FILES ONE AFTER ANOTHER
+-- The files one after another
 -- the names of one more file
 pub names-next : (files : List (String Global)) (i : ℕ) (d : String Global) → i < length files → take (suc i) (names_in files) ≡ take i (names_in files) ++ string_bytes (get_or files i d) ∷ []
 names-next [] i d l = absurd (omega (arith, l))
@@ -138,3 +153,6 @@ names-whole (file ∷ files) (suc i) l = ap (λ names. string_bytes file ∷ nam
 -- No file is left.
 pub all-passed : (told : Option Files) (files : List (String Global)) (i : ℕ) (s : State) → length files ≤ i → HavePassed told (take i (names_in files)) s → IsRunOf told (names_in files) (accepted_state s)
 all-passed told files i s l h = passed-IsRunOf told (names_in files) s (subst (λ names. HavePassed told names s) (names-whole files i l) h)
+
+pub all-passed-version : (told : Option Files) (files : List (String Global)) (i : ℕ) (s : State) → length files ≤ i → HavePassed told (take i (names_in files)) s → IsRunOfVersion told (names_in files) (last_version s.place) (accepted_state s)
+all-passed-version told files i s l h = passed-IsRunOfVersion told (names_in files) s (subst (λ names. HavePassed told names s) (names-whole files i l) h)

@@ -2,8 +2,8 @@
 ghost use Rattle.std.specs.Prelude.{◌≡◌, ◌≤◌, IfOk, IfErr, OnOk};
 ghost use Rattle.bridge_base.specs.Outside.{Rose, Begins, BeginsFront};
 ghost use Rattle.article_spec.specs.Run.{accepted_state};
-ghost use Rattle.article_spec.specs.State.{initial};
-ghost use Rattle.bridge_spec.specs.Answers.{IsRunOf};
+ghost use Rattle.article_spec.specs.State.{initial, last_version};
+ghost use Rattle.bridge_spec.specs.Answers.{IsRunOf, IsRunOfVersion};
 ghost use Rattle.bridge_spec.specs.Calls.{names_in};
 ghost use Rattle.bridge_reading.specs.Stops.{Stops, StopsBegun, answer_of_stop, stop_of_halt};
 
@@ -42,13 +42,14 @@ impl Stop {
 }
 
 /// The machine at the end of the articles in these files, in order: of their bytes, where the shelf tells them, and else of the bytes
-/// that were read. The first article that is refused, or the first fault, ends the run, and no further file is begun.
+/// that were read. It has the version of the last. The first article that is refused, or the first fault, ends the run, and no further file is begun.
 pub fn read_articles<H: Shelf>(
     alloc: Global,
     files: &[String],
     shelf: &mut H,
 ) -> Result<Machine, Stop>
     ensures accepted { IfOk result (λ machine. IsRunOf (H.told shelf.old) (names_in files.now) (accepted_state machine)) }
+    ensures version { IfOk result (λ machine. IsRunOfVersion (H.told shelf.old) (names_in files.now) (last_version machine.place) (accepted_state machine)) }
     ensures refused { IfErr result (λ stop. Stops stop (H.told shelf.old) (names_in files.now)) }
     ensures all_begun { OnOk result (Begins (H.begun shelf.old) (names_in files.now) (H.begun shelf.new)) }
     ensures refused_begun { IfErr result (λ stop. StopsBegun stop (H.begun shelf.old) (names_in files.now) (H.begun shelf.new)) }
@@ -79,6 +80,7 @@ fn run_articles<H: Shelf>(
 ) -> Result<(), Stop>
     requires begun { machine.old ≡ initial }
     ensures accepted { OnOk result (IsRunOf (H.told shelf.old) (names_in files.now) (accepted_state machine.new)) }
+    ensures version { OnOk result (IsRunOfVersion (H.told shelf.old) (names_in files.now) (last_version machine.new.place) (accepted_state machine.new)) }
     ensures refused { IfErr result (λ stop. Stops stop (H.told shelf.old) (names_in files.now)) }
     ensures all_begun { OnOk result (Begins (H.begun shelf.old) (names_in files.now) (H.begun shelf.new)) }
     ensures refused_begun { IfErr result (λ stop. StopsBegun stop (H.begun shelf.old) (names_in files.now) (H.begun shelf.new)) }

@@ -6,7 +6,7 @@ use Rattle.std.specs.Str.{bytes_eq}
 use Rattle.std.proofs.lemmas.Bool.Decides.{nat_tests}
 use Rattle.article_spec.specs.Numbers.{is_digit, decimal}
 use Rattle.bridge_run.specs.Blocks.{HasBlocks}
-use Rattle.bridge_spec.specs.Forms.{Form, verify, translate, show, decode, trial, greatest_trial, is_file, are_files, up_to, number_up_to, trial_of, budget_in, check_in, Checking, checking, check_after, check_form, run_in, Running, running, run_after, verify_form, translate_form, decode_form, trial_form, form_by, form_of}
+use Rattle.bridge_spec.specs.Forms.{Form, verify, translate, show, decode, trial, greatest_trial, is_file, are_files, up_to, number_up_to, trial_of, budget_in, check_in, Checking, checking, check_after, check_form, run_in, Running, running, run_after, verify_form, translate_form, decode_form, trial_form, files_form, form_by, form_of}
 
 -- what is asked of a number that a word says
 abbrev IsNumber : ℕ → Option ℕ → Type 0
@@ -99,19 +99,19 @@ trial_form-HasBlocks (word ∷ []) = go (trial_of word) (number_up_to-IsNumber g
     go (Some n) h = h
 trial_form-HasBlocks (one ∷ two ∷ words) = tt
 
+-- files, or no form
+files_form-HasBlocks : (form : List (List ℕ) → Form) → ((names : List (List ℕ)) → HasBlocks (Some (form names))) → (words : List (List ℕ)) → HasBlocks (files_form form words)
+files_form-HasBlocks form none words = either (are_files words) (Some (form words)) None (none words) tt
+
 form_by-HasBlocks : (word : List ℕ) (words : List (List ℕ)) → HasBlocks (form_by word words)
-form_by-HasBlocks word words = go (bytes_eq word (codes "verify")) (bytes_eq word (codes "translate")) (bytes_eq word (codes "check")) (bytes_eq word (codes "show")) (bytes_eq word (codes "decode")) (bytes_eq word (codes "trial")) (are_files words)
-  where
-    go : (v t c s d r files : Bool)
-        → HasBlocks (if v then verify_form words else if t then translate_form words else if c then check_form words else if s then (if files then Some (show words) else None) else if d then decode_form words else if r then trial_form words else None)
-    go true t c s d r files = verify_form-HasBlocks words
-    go false true c s d r files = translate_form-HasBlocks words
-    go false false true s d r files = check_form-HasBlocks words
-    go false false false true d r true = tt
-    go false false false true d r false = tt
-    go false false false false true r files = decode_form-HasBlocks words
-    go false false false false false true files = trial_form-HasBlocks words
-    go false false false false false false files = tt
+form_by-HasBlocks word words =
+    either (bytes_eq word (codes "verify")) _ _ (verify_form-HasBlocks words)
+    (either (bytes_eq word (codes "translate")) _ _ (translate_form-HasBlocks words)
+    (either (bytes_eq word (codes "check")) _ _ (check_form-HasBlocks words)
+    (either (bytes_eq word (codes "show")) _ _ (files_form-HasBlocks show (λ names. tt) words)
+    (either (bytes_eq word (codes "decode")) _ _ (decode_form-HasBlocks words)
+    (either (bytes_eq word (codes "trial")) _ _ (trial_form-HasBlocks words)
+    (either (bytes_eq word (codes "article")) _ None (files_form-HasBlocks Form.article (λ names. tt) words) tt))))))
 
 -- the number of blocks of a trial that words ask for
 pub form_of-HasBlocks : (words : List (List ℕ)) → HasBlocks (form_of words)

@@ -11,3 +11,4 @@ HasBlocks (Some (check fast name budget)) = Unit {0}
 HasBlocks (Some (show names)) = Unit {0}
 HasBlocks (Some (decode name)) = Unit {0}
 HasBlocks (Some (trial n)) = (0 < n) × (n ≤ greatest_trial)
+HasBlocks (Some (Form.article names)) = Unit {0}

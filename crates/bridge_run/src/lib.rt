@@ -4,8 +4,8 @@
 //!   the number of a status that keeps the promise of [`bridge`].
 //! - [`bridge`] is all that the program does for words. Its contract is stated in the words of `bridge_spec`: the words decide the
 //!   form, each answer comes only by its cause, and the outputs then hold its texts.
-//! - [`verify`], [`translate`], [`check`], [`show`], [`decode`] and [`trial`] are its parts for the words `verify FILE..`,
-//!   `translate FILE..`, `check FILE`, `show FILE..`, `decode FILE` and `trial N`, each proved in a crate of its own.
+//! - [`verify`], [`translate`], [`check`], [`show`], [`decode`], [`trial`] and [`article`] are its parts for the words `verify FILE..`,
+//!   `translate FILE..`, `check FILE`, `show FILE..`, `decode FILE`, `trial N` and `article FILE..`, each proved in a crate of its own.
 //!
 //! `program` has the first, `command_line` what a process does round it.
 //!
@@ -22,6 +22,7 @@ mod program;
 
 pub use crate::command_line::run;
 pub use crate::program::bridge;
+pub use bridge_article::article;
 pub use bridge_check::check;
 pub use bridge_decode::decode;
 pub use bridge_show::show;

@@ -6,6 +6,7 @@ ghost use Rattle.bridge_words.specs.Asked.{asked};
 ghost use Rattle.bridge_run.specs.Blocks.{HasBlocks};
 
 use bridge_answer::{Answer, deliver};
+use bridge_article::article;
 use bridge_base::{Memory, Shelf, Sink};
 use bridge_check::check;
 use bridge_decode::decode;
@@ -60,5 +61,6 @@ fn answered<H: Shelf, O: Sink, N: Sink>(
         Form::Show(files) => show(alloc, files, shelf, out, note),
         Form::Decode(file) => decode(alloc, file, shelf, out, note),
         Form::Trial(n) => trial(alloc, *n, out, note),
+        Form::Article(files) => article(alloc, files, shelf, out, note),
     }
 }

@@ -83,14 +83,18 @@ module _ (program : Text) (ws : List Text) (h : AllByRecursion Kind ws) where
   unfolding walked walk_fault defaults_fault
   trial-asks = asked_at-name (codes "trial") ws ∙ or_else-nil (fault trial_leaf ws) (read_trial (rows_after trial_leaf.rules [] ws)) ∙ trial-words ws h
 
+  article-asks : Asks (program ∷ codes "article" ∷ ws)
+  unfolding walked walk_fault defaults_fault
+  article-asks = asked_at-name (codes "article") ws ∙ or_else-nil (fault (files_leaf (codes "article")) ws) (read_files Form.article (rows_after (files_leaf (codes "article")).rules [] ws)) ∙ files-words (codes "article") Form.article ws h
+
   -- a word that is no subcommand's name
   no-name : (b : ℕ) (bs : Text) → (b == 45) ≡ false
       → bytes_eq (b ∷ bs) (codes "verify") ≡ false → bytes_eq (b ∷ bs) (codes "translate") ≡ false → bytes_eq (b ∷ bs) (codes "check") ≡ false
       → bytes_eq (b ∷ bs) (codes "show") ≡ false → bytes_eq (b ∷ bs) (codes "decode") ≡ false → bytes_eq (b ∷ bs) (codes "trial") ≡ false
-      → Asks (program ∷ (b ∷ bs) ∷ ws)
+      → bytes_eq (b ∷ bs) (codes "article") ≡ false → Asks (program ∷ (b ∷ bs) ∷ ws)
   unfolding walked walk_fault defaults_fault
-  no-name b bs e v t c s d r =
-      simp (e, v, t, c, s, d, r, bytes_eq-turned (b ∷ bs) (codes "verify") v, bytes_eq-turned (b ∷ bs) (codes "translate") t, bytes_eq-turned (b ∷ bs) (codes "check") c, bytes_eq-turned (b ∷ bs) (codes "show") s, bytes_eq-turned (b ∷ bs) (codes "decode") d, bytes_eq-turned (b ∷ bs) (codes "trial") r) refl
+  no-name b bs e v t c s d r a =
+      simp (e, v, t, c, s, d, r, a, bytes_eq-turned (b ∷ bs) (codes "verify") v, bytes_eq-turned (b ∷ bs) (codes "translate") t, bytes_eq-turned (b ∷ bs) (codes "check") c, bytes_eq-turned (b ∷ bs) (codes "show") s, bytes_eq-turned (b ∷ bs) (codes "decode") d, bytes_eq-turned (b ∷ bs) (codes "trial") r, bytes_eq-turned (b ∷ bs) (codes "article") a) refl
 
   -- a first word, whatever it is
   first-asks : (w : Text) → Kind w → Asks (program ∷ w ∷ ws)
@@ -102,21 +106,22 @@ module _ (program : Text) (ws : List Text) (h : AllByRecursion Kind ws) where
   first-asks w (fast_valued value) = refl
   first-asks w (share_valued value) = refl
   first-asks w (other c cs o) = refl
-  first-asks w (file b bs e) = go (bytes_eq w (codes "verify")) refl (bytes_eq w (codes "translate")) refl (bytes_eq w (codes "check")) refl (bytes_eq w (codes "show")) refl (bytes_eq w (codes "decode")) refl (bytes_eq w (codes "trial")) refl
+  first-asks w (file b bs e) = go (bytes_eq w (codes "verify")) refl (bytes_eq w (codes "translate")) refl (bytes_eq w (codes "check")) refl (bytes_eq w (codes "show")) refl (bytes_eq w (codes "decode")) refl (bytes_eq w (codes "trial")) refl (bytes_eq w (codes "article")) refl
     where
       is : (name : Text) → bytes_eq (b ∷ bs) name ≡ true → Asks (program ∷ name ∷ ws) → Asks (program ∷ (b ∷ bs) ∷ ws)
       is name same asks = subst (λ x. Asks (program ∷ x ∷ ws)) (sym ((bytes_eq-Decides (b ∷ bs) name).0 same)) asks
 
       go : (v : Bool) → bytes_eq (b ∷ bs) (codes "verify") ≡ v → (t : Bool) → bytes_eq (b ∷ bs) (codes "translate") ≡ t → (c : Bool) → bytes_eq (b ∷ bs) (codes "check") ≡ c
           → (s : Bool) → bytes_eq (b ∷ bs) (codes "show") ≡ s → (d : Bool) → bytes_eq (b ∷ bs) (codes "decode") ≡ d → (r : Bool) → bytes_eq (b ∷ bs) (codes "trial") ≡ r
-          → Asks (program ∷ (b ∷ bs) ∷ ws)
-      go true v t t2 c c2 s s2 d d2 r r2 = is (codes "verify") v verify-asks
-      go false v true t c c2 s s2 d d2 r r2 = is (codes "translate") t translate-asks
-      go false v false t true c s s2 d d2 r r2 = is (codes "check") c check-asks
-      go false v false t false c true s d d2 r r2 = is (codes "show") s show-asks
-      go false v false t false c false s true d r r2 = is (codes "decode") d decode-asks
-      go false v false t false c false s false d true r = is (codes "trial") r trial-asks
-      go false v false t false c false s false d false r = no-name b bs e v t c s d r
+          → (a : Bool) → bytes_eq (b ∷ bs) (codes "article") ≡ a → Asks (program ∷ (b ∷ bs) ∷ ws)
+      go true v t t2 c c2 s s2 d d2 r r2 a a2 = is (codes "verify") v verify-asks
+      go false v true t c c2 s s2 d d2 r r2 a a2 = is (codes "translate") t translate-asks
+      go false v false t true c s s2 d d2 r r2 a a2 = is (codes "check") c check-asks
+      go false v false t false c true s d d2 r r2 a a2 = is (codes "show") s show-asks
+      go false v false t false c false s true d r r2 a a2 = is (codes "decode") d decode-asks
+      go false v false t false c false s false d true r a a2 = is (codes "trial") r trial-asks
+      go false v false t false c false s false d false r true a = is (codes "article") a article-asks
+      go false v false t false c false s false d false r false a = no-name b bs e v t c s d r a
 
 -- all words
 pub words-ask : (words : List Text) → AllByRecursion Kind (drop 1 words) → Asks words

@@ -66,7 +66,7 @@ top_shape = record (leaf (codes "bridge") []) { is_leaf = false; subcommand_requ
 abbrev pub built_app : App
 built_app = record {
   top = top_shape;
-  subs = verify_leaf ∷ translate_leaf ∷ check_leaf ∷ files_leaf (codes "show") ∷ decode_leaf ∷ trial_leaf ∷ [];
+  subs = verify_leaf ∷ translate_leaf ∷ check_leaf ∷ files_leaf (codes "show") ∷ decode_leaf ∷ trial_leaf ∷ files_leaf (codes "article") ∷ [];
 }
 
 -- this is what building makes

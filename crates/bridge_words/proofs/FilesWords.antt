@@ -1,4 +1,4 @@
--- What `show` makes of its words: one or more files.
+-- What `show` and `article` make of their words: one or more files.
 use Rattle.std.proofs.Common.{◌≡◌, ◌∙◌, ◌++◌, ℕ, false, List, [], ◌∷◌, Option, Some, None, codes, refl, sym, ap, ap₂, append_assoc}
 use Rattle.std.specs.Prelude.{◌==◌, if◌then◌else◌}
 use Rattle.std.specs.List.{AllByRecursion, fold, list_all}

@@ -231,15 +231,16 @@ trial_form-unreadable (a ∷ []) h = ap (option_map trial) ((unreadable-IsNothin
 trial_form-unreadable (a ∷ b ∷ words) h = refl
 
 -- whichever name the first word is, there is no form
-none_of : (v t c s d r : Bool) (verifies translates checks shows decodes tries : Option Form) → verifies ≡ None → translates ≡ None → checks ≡ None → shows ≡ None → decodes ≡ None → tries ≡ None
-    → (if v then verifies else if t then translates else if c then checks else if s then shows else if d then decodes else if r then tries else None) ≡ None
-none_of true t c s d r f1 f2 f3 f4 f5 f6 h1 h2 h3 h4 h5 h6 = h1
-none_of false true c s d r f1 f2 f3 f4 f5 f6 h1 h2 h3 h4 h5 h6 = h2
-none_of false false true s d r f1 f2 f3 f4 f5 f6 h1 h2 h3 h4 h5 h6 = h3
-none_of false false false true d r f1 f2 f3 f4 f5 f6 h1 h2 h3 h4 h5 h6 = h4
-none_of false false false false true r f1 f2 f3 f4 f5 f6 h1 h2 h3 h4 h5 h6 = h5
-none_of false false false false false true f1 f2 f3 f4 f5 f6 h1 h2 h3 h4 h5 h6 = h6
-none_of false false false false false false f1 f2 f3 f4 f5 f6 h1 h2 h3 h4 h5 h6 = refl
+none_of : (v t c s d r a : Bool) (verifies translates checks shows decodes tries writes : Option Form) → verifies ≡ None → translates ≡ None → checks ≡ None → shows ≡ None → decodes ≡ None → tries ≡ None → writes ≡ None
+    → (if v then verifies else if t then translates else if c then checks else if s then shows else if d then decodes else if r then tries else if a then writes else None) ≡ None
+none_of true t c s d r a f1 f2 f3 f4 f5 f6 f7 h1 h2 h3 h4 h5 h6 h7 = h1
+none_of false true c s d r a f1 f2 f3 f4 f5 f6 f7 h1 h2 h3 h4 h5 h6 h7 = h2
+none_of false false true s d r a f1 f2 f3 f4 f5 f6 f7 h1 h2 h3 h4 h5 h6 h7 = h3
+none_of false false false true d r a f1 f2 f3 f4 f5 f6 f7 h1 h2 h3 h4 h5 h6 h7 = h4
+none_of false false false false true r a f1 f2 f3 f4 f5 f6 f7 h1 h2 h3 h4 h5 h6 h7 = h5
+none_of false false false false false true a f1 f2 f3 f4 f5 f6 f7 h1 h2 h3 h4 h5 h6 h7 = h6
+none_of false false false false false false true f1 f2 f3 f4 f5 f6 f7 h1 h2 h3 h4 h5 h6 h7 = h7
+none_of false false false false false false false f1 f2 f3 f4 f5 f6 f7 h1 h2 h3 h4 h5 h6 h7 = refl
 
 -- words of which one is not handed to `clap` have no form
 pub form_after-unreadable : (words : List (List ℕ)) → are_readable words ≡ false → form_after words ≡ None
@@ -249,6 +250,6 @@ form_after-unreadable (word ∷ words) h = go (is_readable word) refl h
     go : (x : Bool) → is_readable word ≡ x → (x && are_readable words) ≡ false → form_by word words ≡ None
     go false e h = (unreadable-IsNothing word e).asks words
     go true e h =
-        none_of (bytes_eq word (codes "verify")) (bytes_eq word (codes "translate")) (bytes_eq word (codes "check")) (bytes_eq word (codes "show")) (bytes_eq word (codes "decode")) (bytes_eq word (codes "trial"))
-        (verify_form words) (translate_form words) (check_form words) (files_form show words) (decode_form words) (trial_form words)
-        (verify_form-unreadable words h) (translate_form-unreadable words h) (check_form-unreadable words h) (files_form-unreadable show words h) (decode_form-unreadable words h) (trial_form-unreadable words h)
+        none_of (bytes_eq word (codes "verify")) (bytes_eq word (codes "translate")) (bytes_eq word (codes "check")) (bytes_eq word (codes "show")) (bytes_eq word (codes "decode")) (bytes_eq word (codes "trial")) (bytes_eq word (codes "article"))
+        (verify_form words) (translate_form words) (check_form words) (files_form show words) (decode_form words) (trial_form words) (files_form Form.article words)
+        (verify_form-unreadable words h) (translate_form-unreadable words h) (check_form-unreadable words h) (files_form-unreadable show words h) (decode_form-unreadable words h) (trial_form-unreadable words h) (files_form-unreadable Form.article words h)

@@ -2,7 +2,7 @@
 use Rattle.bridge_spec.specs.Forms as forms
 use Rattle.bridge_spec.specs.Calls.{names_in}
 use Rattle.bridge_words.specs.declared.form.Form.{Form}
-use Rattle.bridge_words.specs.declared.form.Form.TheVariants.{Verify, Translate, Check, Show, Decode, Trial}
+use Rattle.bridge_words.specs.declared.form.Form.TheVariants.{Verify, Translate, Check, Show, Decode, Trial, Article}
 
 -- it is the form of the same names and numbers
 abbrev pub asked : Form → forms.Form
@@ -12,3 +12,4 @@ asked (Check fast file budget) = forms.check fast file.now budget
 asked (Show files) = forms.show (names_in files.items)
 asked (Decode file) = forms.decode file.now
 asked (Trial n) = forms.trial n
+asked (Article files) = forms.article (names_in files.items)

@@ -68,5 +68,5 @@ with_one app name rule = with_subcommand app (one name rule).top
 -- the command with its subcommands
 abbrev pub bridge_app : App
 bridge_app =
-    with_one (with_one (with_one (with_subcommand (with_subcommand (with_subcommand plain_app verify_app.top) translate_app.top)
-    check_app.top) (codes "show") files_rule) (codes "decode") file_rule) (codes "trial") blocks_rule
+    with_one (with_one (with_one (with_one (with_subcommand (with_subcommand (with_subcommand plain_app verify_app.top) translate_app.top)
+    check_app.top) (codes "show") files_rule) (codes "decode") file_rule) (codes "trial") blocks_rule) (codes "article") files_rule

@@ -47,6 +47,7 @@ read_named name rows =
     else if bytes_eq name (codes "show") then read_files show rows
     else if bytes_eq name (codes "decode") then read_decode rows
     else if bytes_eq name (codes "trial") then read_trial rows
+    else if bytes_eq name (codes "article") then read_files Form.article rows
     else None
 
 -- .. and where there is no subcommand, none

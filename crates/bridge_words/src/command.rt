@@ -6,7 +6,7 @@ ghost use Rattle.bridge_words.specs.Commands.{has_globals, bridge_app, budget_ru
 use clap::{Arg, ArgAction, Command};
 use std::alloc::{AllocError, Global};
 
-/// The command with its six subcommands.
+/// The command with its seven subcommands.
 pub fn command<'a>(alloc: Global) -> Result<Command<'a>, AllocError>
     ensures { IfOk result (λ command. app_of command ≡ bridge_app) }
 {
@@ -15,7 +15,8 @@ pub fn command<'a>(alloc: Global) -> Result<Command<'a>, AllocError>
     let command = with_check(alloc, command)?;
     let command = with_one(alloc, command, "show", files(alloc))?;
     let command = with_one(alloc, command, "decode", file(alloc))?;
-    with_one(alloc, command, "trial", blocks(alloc))
+    let command = with_one(alloc, command, "trial", blocks(alloc))?;
+    with_one(alloc, command, "article", files(alloc))
 }
 
 /// The command with one more subcommand, of this name and with one argument.

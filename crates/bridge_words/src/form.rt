@@ -32,6 +32,8 @@ pub enum Form<'a> {
     Decode(&'a str),
     /// A trial with the generated article of so many blocks.
     Trial(u64),
+    /// One article of what the articles in these files export.
+    Article(Vec<String>),
 }
 
 /// The budget of a declaration where the words give none.
@@ -123,6 +125,7 @@ fn form_named<'a>(
         "show" => Ok(Some(Form::Show(files_in(alloc, found)?))),
         "decode" => Ok(decode_in(found)),
         "trial" => Ok(trial_in(found)),
+        "article" => Ok(Some(Form::Article(files_in(alloc, found)?))),
         _ => Ok(None),
     }
 }

@@ -7,7 +7,7 @@
 //!
 //! | File | What it does |
 //! |---|---|
-//! | `command` | the command of `clap`: six subcommands, without help and version |
+//! | `command` | the command of `clap`: seven subcommands, without help and version |
 //! | `form` | the words that are handed to it, and the form that its matches ask for |
 //! | `number` | the number that a word says |
 //!

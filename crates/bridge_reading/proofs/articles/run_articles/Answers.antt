@@ -7,7 +7,7 @@ use Rattle.bridge_reading.specs.Stops.{Stops, StopsBegun}
 use Rattle.bridge_spec.specs.Calls.{names_in}
 use Rattle.bridge_answer.specs.Beginning.{begins_front_of_all}
 use Rattle.bridge_reading.proofs.BegunArticles.{file-begun, halted-StopsBegun, first-begun, all-begun}
-use Rattle.bridge_reading.proofs.PassedArticles.{HavePassed, none-passed, file-passed, file-stopped, all-passed}
+use Rattle.bridge_reading.proofs.PassedArticles.{HavePassed, none-passed, file-passed, file-stopped, all-passed, all-passed-version}
 use Rattle.bridge_reading.proofs.articles.run_articles.Goals as goal
 
 pub loop-file-init : goal.loop-file-init
@@ -57,3 +57,6 @@ returns-clause-all_begun g c = all-begun _ _ c.args.files.now c.loop-file.file-i
 
 pub returns-clause-front_begun : goal.returns-clause-front_begun
 returns-clause-front_begun g c = begins_front_of_all _ _ (names_in c.args.files.now) (all-begun _ _ c.args.files.now c.loop-file.file-index c.loop-file-test.false c.loop-file.invariant.begun)
+
+pub returns-clause-version : goal.returns-clause-version
+returns-clause-version g c = all-passed-version (g.H.Shelf.told c.args.shelf.now) c.args.files.now c.loop-file.file-index c.loop-file.machine c.loop-file-test.false c.loop-file.invariant.passed
