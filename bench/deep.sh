@@ -52,6 +52,7 @@ for case in terms types binders parameters lists; do
     needs 0 show "$folder/$case.art"
     needs 0 translate "$folder/$case.art"
     needs 0 verify "$folder/$case.art"
+    needs 0 article "$folder/$case.art"
     [ "$case" = lists ] && continue
     "$program" translate "$folder/$case.art" >"$folder/$case.dk" 2>/dev/null
     needs 0 check "$folder/$case.dk" --budget 1000000000000

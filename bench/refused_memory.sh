@@ -1,6 +1,6 @@
 #!/bin/sh
 # Refuses one request for memory of a call, the first, the second and so on until a run meets no refusal: of `verify` with one article and
-# with two, of `translate`, `show`, `check`, `decode` and `trial`. Each run is to give what the call gives where nothing is refused, or to
+# with two, of `translate`, `show`, `article`, `check`, `decode` and `trial`. Each run is to give what the call gives where nothing is refused, or to
 # end with status 5, nothing on standard output and `out of memory` on standard error. For each call it tells how many runs met a refusal
 # and how many of them ended so, and prints each that did otherwise. It needs a C compiler, for the few lines that stand before the C
 # library's `malloc` and `realloc`. Run `./bridge show` on any article first. What it gave docs/SPEED.md tells.
@@ -61,6 +61,9 @@ tried verify "$examples/exporting.art" "$examples/assuming.art"
 tried translate "$examples/exporting.art" "$examples/assuming.art"
 tried show "$examples/exporting.art" "$examples/assuming.art"
 tried show "$examples/reflexivity.art"
+tried article "$examples/reflexivity.art"
+tried article "$examples/assuming.art" "$examples/exporting.art"
+tried article "$examples/exporting.art" "$examples/assuming.art"
 tried check "$folder/reflexivity.dk"
 tried check --fast "$folder/reflexivity.dk"
 tried decode "$folder/reflexivity.dk"

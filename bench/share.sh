@@ -3,22 +3,6 @@
 # `trial` with so many blocks and on one with twice as many. The ratios of twice as many are to be at most 2.2. Run `./bridge translate`
 # on any article first.
 . "$(dirname "$0")/chain.sh"
-# The article of a trial with so many blocks: each constant is defined by the one before it, and the last one is f at p.
-trial() {
-    awk -v blocks="$1" '
-        function say(words) { gsub(/ /, "\n", words); print words }
-        BEGIN {
-            say("6 version \"bool\" typeOp nil opType 0 def pop \"->\" typeOp 0 ref 0 ref nil cons cons opType 1 def pop")
-            say("\"p\" 0 ref var varTerm 2 def refl 3 def pop \"x\" 0 ref var 4 def pop \"f\" const 1 ref constTerm 5 def pop")
-            for (i = 1; i <= blocks; i++) {
-                say("\"c" i "\" 4 ref 5 ref 4 ref varTerm appTerm absTerm 6 def defineConst 3 ref appThm 6 ref 2 ref appTerm betaConv trans")
-                if (i > 1) say("7 ref trans")
-                say("7 def pop 1 ref constTerm 5 def pop")
-            }
-            say("7 ref nil \"=\" const \"->\" typeOp 0 ref 1 ref nil cons cons opType constTerm")
-            say("5 ref 2 ref appTerm appTerm \"f\" const 1 ref constTerm 2 ref appTerm appTerm thm")
-        }'
-}
 # Figures of both on the article of so many blocks, in a line.
 report() {
     trial "$1" >"$folder/article"

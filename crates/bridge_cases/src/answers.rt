@@ -2,7 +2,7 @@
 use crate::cases::{Case, Wrong, number, word};
 use crate::recorded::RecordedShelf;
 use bridge_base::MemSink;
-use bridge_run::{Status, bridge, check, decode, show, translate, verify};
+use bridge_run::{Status, article, bridge, check, decode, show, translate, verify};
 use std::alloc::Global;
 
 /// The number of the answer to these words, by the call that the case says.
@@ -19,6 +19,7 @@ pub(crate) fn answer(
         "verify" => Ok(number_of(verify(alloc, words, false, false, shelf, out, note))),
         "translate" => Ok(number_of(translate(alloc, words, false, shelf, out, note))),
         "show" => Ok(number_of(show(alloc, words, shelf, out, note))),
+        "article" => Ok(number_of(article(alloc, words, shelf, out, note))),
         by => answer_of_a_module(alloc, case, by, words, shelf, out, note),
     }
 }

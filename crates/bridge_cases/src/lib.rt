@@ -24,12 +24,12 @@
 //!
 //! What is given:
 //! - `words`, the command line, or a list of command lines, of which each is tried.
-//! - `by`, the public call that is made, usually `bridge`. `verify`, `translate`, `show`, `check` and `decode` have their files for
-//!   words, and `check` a `budget` too.
+//! - `by`, the public call that is made, usually `bridge`. `verify`, `translate`, `show`, `article`, `check` and `decode` have
+//!   their files for words, and `check` a `budget` too.
 //! - `text.NAME`, a file on the shelf: a text, or a list of parts that are joined. `article.NAME`, a file that is an article:
 //!   in its parts a blank stands for the end of a line, and each part ends one.
 //! - A part is a text; or `$` and the name of a text of `texts`, of the case, its test, what is usual in the file or in all files;
-//!   or `{ times = 3, part = ".." }`, a part that comes so often.
+//!   or `{ times = 3, part = ".." }`, a part that comes so often; or `{ commands = ".." }`, commands of an article, each on a line of its own.
 //! - `pieces`, how many bytes the shelf gives at most a read: each number is tried.
 //! - `shelf_fails`, `out_fails` and `note_fails`, the calls, counted from 1, at which the shelf, standard output and standard
 //!   error fail.

@@ -55,12 +55,28 @@ fn append_each(
     Ok(())
 }
 
-// Adds a part: a text, or one that comes so often.
+// Adds a part: a text, commands of an article, or a text that comes so often.
 fn append_part(case: &Case<'_>, part: &Value, sort: Sort, text: &mut Vec<u8>) -> Result<(), Wrong> {
     match part {
         Value::String(part) => append(text_of(case, part)?, sort, text),
-        Value::Table(repeated) => append_repeated(case, repeated, sort, text),
+        Value::Table(part) => append_table(case, part, sort, text),
         _ => Err(Wrong("part")),
+    }
+}
+
+// Adds the commands of a part that says some, else a part that comes so often.
+fn append_table(
+    case: &Case<'_>,
+    part: &Table,
+    sort: Sort,
+    text: &mut Vec<u8>,
+) -> Result<(), Wrong> {
+    match part.get("commands") {
+        Some(commands) => {
+            let commands = text_of(case, word_of(commands, "commands")?)?;
+            append(commands, Sort::Article, text)
+        }
+        None => append_repeated(case, part, sort, text),
     }
 }
 

@@ -216,6 +216,28 @@ case = [
 ]
 
 [[test]]
+name = "article_where_no_call_fails"
+words = ["bridge", "article", "a"]
+unsaid = "out"
+case = [
+    { pieces = [1], shelf_fails = [211] },
+    { pieces = [4096], shelf_fails = [4] },
+    { note_fails = [1] },
+]
+
+[[test]]
+name = "article_where_the_shelf_fails"
+pieces = [4096]
+words = ["bridge", "article", "a"]
+number = 3
+note = "read fault\n"
+case = [
+    { shelf_fails = [1] },
+    { shelf_fails = [2] },
+    { shelf_fails = [3] },
+]
+
+[[test]]
 name = "check_where_no_call_fails"
 words = ["bridge", "check", "b"]
 out = "accepted 4, unproved 0\n"
@@ -414,7 +436,7 @@ shelf_fails = [1]
 note_fails = [1]
 number = 4
 case = [
-    { words = [["bridge", "verify", "a"], ["bridge", "translate", "a"], ["bridge", "show", "a"]] },
+    { words = [["bridge", "verify", "a"], ["bridge", "translate", "a"], ["bridge", "show", "a"], ["bridge", "article", "a"]] },
     { words = [["bridge", "check", "b"], ["bridge", "decode", "b"]] },
 ]
 "#;
@@ -426,7 +448,7 @@ fn devices(rt: HostRuntime) {
 
 const ARTICLE: &str = r#"
 [usual]
-words = [["bridge", "verify", "a"], ["bridge", "translate", "a"], ["bridge", "show", "a"]]
+words = [["bridge", "verify", "a"], ["bridge", "translate", "a"], ["bridge", "show", "a"], ["bridge", "article", "a"]]
 pieces = [1]
 article.a = ["$reflexivity"]
 

@@ -21,6 +21,7 @@ case = [
     { words = ["bridge", "check", "a"], article = {}, text.a = ["$prelude", "$lemmas"], shelf_fails = [1], begun = ["a"] },
     { words = ["bridge", "check", "a"], article = {}, text.a = ["$prelude", "$lemmas"], shelf_fails = [2] },
     { words = ["bridge", "decode", "a"], article = {}, text.a = ["$prelude", "$lemmas"], shelf_fails = [2] },
+    { words = ["bridge", "article", "a", "a"], shelf_fails = [2], begun = ["a"] },
     { words = ["bridge", "translate", "b"], shelf_fails = [9] },
     { words = ["bridge", "check", "b"], article = {}, text.a = ["$prelude", "$lemmas"], shelf_fails = [9] },
     { words = ["bridge", "decode", "b"], article = {}, text.a = ["$prelude", "$lemmas"], shelf_fails = [9] },

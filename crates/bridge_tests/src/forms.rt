@@ -6,7 +6,7 @@ const TESTS: &str = r#"
 article.a = ["$reflexivity"]
 number = 2
 begun = []
-note = "usage: bridge verify [--share] [--fast] FILE.. | translate [--share] FILE.. | check FILE [--budget N] [--fast] | decode FILE | show FILE.. | trial N\n"
+note = "usage: bridge verify [--share] [--fast] FILE.. | translate [--share] FILE.. | check FILE [--budget N] [--fast] | decode FILE | show FILE.. | trial N | article FILE..\n"
 
 [[test]]
 name = "answers_words_of_no_command"
@@ -16,6 +16,7 @@ case = [
     { words = ["bridge", "help"] },
     { words = ["bridge", "verify"] },
     { words = ["bridge", "trial", "0"] },
+    { words = ["bridge", "article"] },
     { words = ["bridge", "--help"] },
     { words = ["bridge", "-h"] },
     { words = ["bridge", "--version"] },
@@ -24,6 +25,9 @@ case = [
     { words = ["bridge", "--budget=5", "check", "a"] },
     { words = ["bridge", "--", "decode", "a"] },
     { words = ["bridge", "veri", "a"] },
+    { words = ["bridge", "articles", "a"] },
+    { words = ["bridge", "artic", "a"] },
+    { words = ["bridge", "Article", "a"] },
 ]
 
 [[test]]
@@ -45,6 +49,13 @@ case = [
     { words = ["bridge", "verify", "--", "a"] },
     { words = ["bridge", "decode", "-"] },
     { words = ["bridge", "trial", "1", "2"] },
+    { words = ["bridge", "article", ""] },
+    { words = ["bridge", "article", "-a"] },
+    { words = ["bridge", "article", "-"] },
+    { words = ["bridge", "article", "a", "-b"] },
+    { words = ["bridge", "article", "a", "--"] },
+    { words = ["bridge", "article", "--", "a"] },
+    { words = ["bridge", "article", "a", "--help"] },
 ]
 
 [[test]]
@@ -63,6 +74,8 @@ case = [
     { words = ["bridge", "check", "a", "--budgets", "5"] },
     { words = ["bridge", "check", "a", "--bud=5"] },
     { words = ["bridge", "check", "a", "-b5"] },
+    { words = ["bridge", "article", "a", "--budget=5"] },
+    { words = ["bridge", "article", "--budget", "5", "a"] },
 ]
 
 [[test]]
@@ -82,6 +95,8 @@ case = [
     { words = ["bridge", "show", "a", "--fast"] },
     { words = ["bridge", "decode", "a", "--fast"] },
     { words = ["bridge", "trial", "1", "--fast"] },
+    { words = ["bridge", "article", "--fast", "a"] },
+    { words = ["bridge", "article", "a", "--fast"] },
 ]
 
 [[test]]
@@ -100,6 +115,8 @@ case = [
     { words = ["bridge", "show", "a", "--share"] },
     { words = ["bridge", "decode", "a", "--share"] },
     { words = ["bridge", "trial", "1", "--share"] },
+    { words = ["bridge", "article", "--share", "a"] },
+    { words = ["bridge", "article", "a", "--share"] },
 ]
 "#;
 

@@ -7,7 +7,7 @@ const USUAL: &str = r#"
 [usual]
 words = ["bridge", "help"]
 number = 2
-note = "usage: bridge verify [--share] [--fast] FILE.. | translate [--share] FILE.. | check FILE [--budget N] [--fast] | decode FILE | show FILE.. | trial N\n"
+note = "usage: bridge verify [--share] [--fast] FILE.. | translate [--share] FILE.. | check FILE [--budget N] [--fast] | decode FILE | show FILE.. | trial N | article FILE..\n"
 "#;
 
 // Behind that, a test that holds.
@@ -26,7 +26,7 @@ case = [
 "#;
 
 // And what doesn't hold.
-const WRONG: [&str; 26] = [
+const WRONG: [&str; 27] = [
     "",
     "test",
     "[test]",
@@ -41,6 +41,7 @@ const WRONG: [&str; 26] = [
     "[[test]]\ncase = [{ out = \"a\" }]",
     "[[test]]\ncase = [{ note = \"\" }]",
     "[[test]]\ncase = [{ note = \"$nothing\" }]",
+    "[[test]]\ncase = [{ out = { commands = \"\" } }]",
     "[[test]]\ncase = [{ cut = \"note\" }]",
     "[[test]]\ncase = [{ cut = \"out\" }]",
     "[[test]]\ncase = [{ out_calls = 1 }]",

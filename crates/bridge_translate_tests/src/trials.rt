@@ -24,7 +24,7 @@ verified
 [[test]]
 name = "no_number_of_blocks"
 number = 2
-note = "usage: bridge verify [--share] [--fast] FILE.. | translate [--share] FILE.. | check FILE [--budget N] [--fast] | decode FILE | show FILE.. | trial N\n"
+note = "usage: bridge verify [--share] [--fast] FILE.. | translate [--share] FILE.. | check FILE [--budget N] [--fast] | decode FILE | show FILE.. | trial N | article FILE..\n"
 case = [
     { words = ["bridge", "trial", "0"] },
     { words = ["bridge", "trial", "007"] },

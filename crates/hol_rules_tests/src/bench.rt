@@ -13,22 +13,66 @@ use hol_type::TypeId;
 use std::alloc::Global;
 
 /// What the bench answers where a number is of no term and of no step. No rule answers so.
-const UNKNOWN: Fault = Fault::Refused(Kind::WrongKind);
+pub(crate) const UNKNOWN: Fault = Fault::Refused(Kind::WrongKind);
 
 /// How a name is taken, as an operator and as a constant.
 pub(crate) type Kinds = (Option<SymbolKind>, Option<SymbolKind>);
 
-/// A proof.
+/// A proof, the terms that were made last, and those that are kept.
 #[derive(Drop)]
 pub(crate) struct Bench {
     pub(crate) proof: Proof,
+    made: Vec<TermId>,
+    kept: Vec<TermId>,
     alloc: Global,
 }
 
 impl Bench {
     pub(crate) fn new(alloc: Global) -> Result<Bench, Memory> {
         let proof = Proof::new(alloc)?;
-        Ok(Bench { proof, alloc })
+        Ok(Bench {
+            proof,
+            made: Vec::new(alloc),
+            kept: Vec::new(alloc),
+            alloc,
+        })
+    }
+
+    /// Forgets the terms that were made.
+    pub(crate) fn clear(&mut self) {
+        self.made.clear();
+    }
+
+    /// Puts a term behind them.
+    pub(crate) fn push(&mut self, term: TermId) -> Result<(), Fault> {
+        match self.made.push(term) {
+            Ok(()) => Ok(()),
+            Err(_) => Err(Fault::Memory),
+        }
+    }
+
+    /// Keeps a term.
+    pub(crate) fn keep(&mut self, term: TermId) -> Result<(), Fault> {
+        match self.kept.push(term) {
+            Ok(()) => Ok(()),
+            Err(_) => Err(Fault::Memory),
+        }
+    }
+
+    /// The term of this number of those that are kept.
+    pub(crate) fn kept(&self, index: u32) -> Result<TermId, Fault> {
+        match self.kept.get(index as usize) {
+            Some(term) => Ok(*term),
+            None => Err(UNKNOWN),
+        }
+    }
+
+    /// Takes the last of them.
+    pub(crate) fn pop(&mut self) -> Result<TermId, Fault> {
+        match self.made.pop() {
+            Some(term) => Ok(term),
+            None => Err(UNKNOWN),
+        }
     }
 
     fn name(&self, text: &[u8]) -> Result<Name, Fault> {
@@ -63,23 +107,29 @@ impl Bench {
         id < self.proof.len()
     }
 
+    // The type that an operator of no arguments makes.
+    fn nullary(&mut self, operator: &[u8]) -> Result<TypeId, Fault>
+        ensures { IfOk result (λ id. id.0 < length self.new.proof.trees.types) }
+    {
+        let name = self.name(operator)?;
+        self.proof.ty_op(&name, &[])
+    }
+
     // The type of truth values.
     fn boolean(&mut self) -> Result<TypeId, Fault>
         ensures { IfOk result (λ id. id.0 < length self.new.proof.trees.types) }
     {
-        let name = self.name(b"bool")?;
-        self.proof.ty_op(&name, &[])
+        self.nullary(b"bool")
     }
 
     fn function(&mut self, domain: TypeId, codomain: TypeId) -> Result<TypeId, Fault>
         ensures { IfOk result (λ id. id.0 < length self.new.proof.trees.types) }
     {
-        let name = self.name(b"->")?;
-        if self.is_type(domain) && self.is_type(codomain) {
-            self.proof.ty_op(&name, &[domain, codomain])
-        } else {
-            Err(UNKNOWN)
+        if !self.is_type(domain) || !self.is_type(codomain) {
+            return Err(UNKNOWN);
         }
+        let name = self.name(b"->")?;
+        self.proof.ty_op(&name, &[domain, codomain])
     }
 
     // bool -> bool
@@ -90,25 +140,46 @@ impl Bench {
         self.function(truth, truth)
     }
 
-    /// The variable of this letter, a truth value.
-    pub(crate) fn truth(&mut self, letter: u8) -> Result<TermId, Fault> {
-        let name = self.name(&[letter])?;
-        let ty = self.boolean()?;
+    // The variable of a name and a type.
+    fn free(&mut self, text: &[u8], ty: TypeId) -> Result<TermId, Fault>
+        requires { ty.0 < length self.old.proof.trees.types }
+    {
+        let name = self.name(text)?;
         self.proof.free(&name, ty)
     }
 
-    /// The variable f, a function from truth values to truth values.
-    pub(crate) fn f(&mut self) -> Result<TermId, Fault> {
-        let name = self.name(b"f")?;
-        let ty = self.predicate()?;
-        self.proof.free(&name, ty)
+    // The constant of a name and a type.
+    fn constant(&mut self, text: &[u8], ty: TypeId) -> Result<TermId, Fault>
+        requires { ty.0 < length self.old.proof.trees.types }
+    {
+        let name = self.name(text)?;
+        self.proof.constant(&name, ty)
+    }
+
+    // The input constant of a name and a type, which is used and made.
+    fn used(&mut self, text: &[u8], ty: TypeId) -> Result<TermId, Fault>
+        requires { ty.0 < length self.old.proof.trees.types }
+    {
+        let name = self.name(text)?;
+        self.proof.use_const(&name, ty)?;
+        self.proof.constant(&name, ty)
     }
 
     // The variable of a name, a truth value.
     fn named(&mut self, text: &[u8]) -> Result<TermId, Fault> {
-        let name = self.name(text)?;
         let ty = self.boolean()?;
-        self.proof.free(&name, ty)
+        self.free(text, ty)
+    }
+
+    /// The variable of this letter, a truth value.
+    pub(crate) fn truth(&mut self, letter: u8) -> Result<TermId, Fault> {
+        self.named(&[letter])
+    }
+
+    /// The variable f, a function from truth values to truth values.
+    pub(crate) fn f(&mut self) -> Result<TermId, Fault> {
+        let ty = self.predicate()?;
+        self.free(b"f", ty)
     }
 
     /// The variable of this number, a truth value.
@@ -116,23 +187,26 @@ impl Bench {
         self.named(&number.to_le_bytes())
     }
 
+    // Equality of what has this type.
+    fn equality_of(&mut self, ty: TypeId) -> Result<TermId, Fault> {
+        let truth = self.boolean()?;
+        let predicate = self.function(ty, truth)?;
+        let relation = self.function(ty, predicate)?;
+        self.constant(b"=", relation)
+    }
+
     // Equality of truth values.
     fn equality(&mut self) -> Result<TermId, Fault> {
-        let name = self.name(b"=")?;
         let truth = self.boolean()?;
-        let predicate = self.function(truth, truth)?;
-        let relation = self.function(truth, predicate)?;
-        self.proof.constant(&name, relation)
+        self.equality_of(truth)
     }
 
     // The input constant u, of predicates of truth values.
     fn u(&mut self) -> Result<TermId, Fault> {
-        let name = self.name(b"u")?;
         let truth = self.boolean()?;
-        let predicate = self.function(truth, truth)?;
+        let predicate = self.predicate()?;
         let ty = self.function(predicate, truth)?;
-        self.proof.use_const(&name, ty)?;
-        self.proof.constant(&name, ty)
+        self.used(b"u", ty)
     }
 
     /// u of a predicate.
@@ -191,15 +265,6 @@ impl Bench {
         Ok(term)
     }
 
-    /// Takes an operator, then a constant, a truth value.
-    pub(crate) fn take(&mut self, operator: &[u8], constant: &[u8]) -> Result<(), Fault> {
-        let op = self.name(operator)?;
-        self.proof.use_op(&op, 1)?;
-        let name = self.name(constant)?;
-        let ty = self.boolean()?;
-        self.proof.use_const(&name, ty)
-    }
-
     /// The use of an operator with so many arguments.
     pub(crate) fn use_op(&mut self, text: &[u8], arity: usize) -> Result<(), Fault> {
         let name = self.name(text)?;
@@ -208,8 +273,8 @@ impl Bench {
 
     /// The use of a constant as a truth value.
     pub(crate) fn use_const(&mut self, text: &[u8]) -> Result<(), Fault> {
-        let name = self.name(text)?;
         let ty = self.boolean()?;
+        let name = self.name(text)?;
         self.proof.use_const(&name, ty)
     }
 
@@ -266,43 +331,49 @@ impl Bench {
         self.app(half, right)
     }
 
-    // The variable of this letter, of truth values.
-    fn variable(&mut self, letter: u8) -> Result<Variable, Fault>
-        ensures { IfOk result (λ var. var.ty.0 < length self.new.proof.trees.types) }
+    // The abstraction of a term over the variable of this letter and type.
+    fn bind(&mut self, letter: u8, ty: TypeId, body: TermId) -> Result<TermId, Fault>
+        requires ty { ty.0 < length self.old.proof.trees.types }
     {
+        if !self.is_term(body) {
+            return Err(UNKNOWN);
+        }
         let name = self.name(&[letter])?;
-        let ty = self.boolean()?;
-        Ok(Variable { name, ty })
+        self.proof.abs(&Variable { name, ty }, body)
     }
 
     /// The abstraction of a term over the truth value of this letter.
     pub(crate) fn abs(&mut self, letter: u8, body: TermId) -> Result<TermId, Fault> {
-        let var = self.variable(letter)?;
-        if self.is_term(body) {
-            self.proof.abs(&var, body)
+        let ty = self.boolean()?;
+        self.bind(letter, ty, body)
+    }
+
+    /// Whether a step has this conclusion.
+    pub(crate) fn concludes(&self, id: StepId, concl: TermId) -> bool {
+        self.is_step(id) && self.proof.sequent(id).concl == concl
+    }
+
+    /// Whether a step says that these, of whatever type, are equal.
+    pub(crate) fn concludes_equal(&self, id: StepId, left: TermId, right: TermId) -> bool {
+        if !self.is_step(id) {
+            return false;
+        }
+        let concl = self.proof.sequent(id).concl;
+        self.is_term(concl) && self.proof.terms().dest_eq(concl) == Some((left, right))
+    }
+
+    /// How many hypotheses a step has.
+    pub(crate) fn hyp_count(&self, id: StepId) -> Option<usize> {
+        if self.is_step(id) {
+            Some(self.proof.sequent(id).hyps.ids().len())
         } else {
-            Err(UNKNOWN)
+            None
         }
     }
 
-    /// Whether a step says that this follows from these hypotheses, in this order.
-    pub(crate) fn says(&self, id: StepId, hyps: &[TermId], concl: TermId) -> bool {
-        if !self.is_step(id) {
-            return false;
-        }
-        let sequent = self.proof.sequent(id);
-        sequent.hyps.ids() == hyps && sequent.concl == concl
-    }
-
-    /// Whether a step says that these, of whatever type, are equal under these hypotheses, in this order.
-    pub(crate) fn equates(&self, id: StepId, hyps: &[TermId], left: TermId, right: TermId) -> bool {
-        if !self.is_step(id) {
-            return false;
-        }
-        let sequent = self.proof.sequent(id);
-        sequent.hyps.ids() == hyps
-            && self.is_term(sequent.concl)
-            && self.proof.terms().dest_eq(sequent.concl) == Some((left, right))
+    /// Whether the hypothesis of this number is this.
+    pub(crate) fn is_hyp(&self, id: StepId, place: usize, hyp: TermId) -> bool {
+        self.is_step(id) && self.proof.sequent(id).hyps.ids().get(place) == Some(&hyp)
     }
 
     /// Whether a step was made by this rule of these steps.
@@ -329,15 +400,27 @@ impl Bench {
         )
     }
 
-    /// Whether its rule was given a sequent of these hypotheses and this conclusion.
-    pub(crate) fn has_sequent(&self, id: StepId, hyps: &[TermId], concl: TermId) -> bool {
+    /// Whether its rule was given a sequent of this conclusion.
+    pub(crate) fn is_given_concl(&self, id: StepId, concl: TermId) -> bool {
+        self.is_step(id)
+            && matches!(self.proof.params(id), Parameters::Sequent(own) if own.concl == concl)
+    }
+
+    /// How many hypotheses the sequent has that its rule was given.
+    pub(crate) fn given_count(&self, id: StepId) -> Option<usize> {
         if !self.is_step(id) {
-            return false;
+            return None;
         }
         match self.proof.params(id) {
-            Parameters::Sequent(own) => own.hyps.ids() == hyps && own.concl == concl,
-            _ => false,
+            Parameters::Sequent(own) => Some(own.hyps.ids().len()),
+            _ => None,
         }
+    }
+
+    /// Whether the hypothesis of this number in it is this.
+    pub(crate) fn is_given_hyp(&self, id: StepId, place: usize, hyp: TermId) -> bool {
+        self.is_step(id)
+            && matches!(self.proof.params(id), Parameters::Sequent(own) if own.hyps.ids().get(place) == Some(&hyp))
     }
 
     pub(crate) fn refl(&mut self, t: TermId) -> Result<StepId, Fault> {
@@ -358,35 +441,39 @@ impl Bench {
 
     /// The variable of this letter, of type a.
     pub(crate) fn of_type_a(&mut self, letter: u8) -> Result<TermId, Fault> {
+        let ty = self.a()?;
+        self.free(&[letter], ty)
+    }
+
+    // The type variable a.
+    fn a(&mut self) -> Result<TypeId, Fault>
+        ensures { IfOk result (λ id. id.0 < length self.new.proof.trees.types) }
+    {
         let name = self.name(b"a")?;
-        let ty = self.proof.ty_var(&name)?;
-        let own = self.name(&[letter])?;
-        self.proof.free(&own, ty)
+        self.proof.ty_var(&name)
     }
 
     /// The input constant k, a relation, of two terms.
     pub(crate) fn k_of(&mut self, x: TermId, y: TermId) -> Result<TermId, Fault> {
-        let name = self.name(b"k")?;
         let predicate = self.predicate()?;
         if !self.is_term(x) {
             return Err(UNKNOWN);
         }
         let domain = self.proof.terms().type_of(x);
         let ty = self.function(domain, predicate)?;
-        self.proof.use_const(&name, ty)?;
-        let k = self.proof.constant(&name, ty)?;
+        let k = self.used(b"k", ty)?;
         let half = self.app(k, x)?;
         self.app(half, y)
     }
 
     /// A step with a term for the truth value of this letter.
     pub(crate) fn subst(&mut self, letter: u8, t: TermId, one: StepId) -> Result<StepId, Fault> {
-        let var = self.variable(letter)?;
-        if self.is_step(one) && self.is_term(t) {
-            self.proof.subst(&[], &[(var, t)], one)
-        } else {
-            Err(UNKNOWN)
+        let ty = self.boolean()?;
+        if !self.is_step(one) || !self.is_term(t) {
+            return Err(UNKNOWN);
         }
+        let name = self.name(&[letter])?;
+        self.proof.subst(&[], &[(Variable { name, ty }, t)], one)
     }
 
     /// A step with terms for the truth values of two letters.
@@ -396,15 +483,17 @@ impl Bench {
         second: (u8, TermId),
         one: StepId,
     ) -> Result<StepId, Fault> {
-        let front = self.variable(first.0)?;
-        let back = self.variable(second.0)?;
-        let known = self.is_type(front.ty) && self.is_term(first.1) && self.is_term(second.1);
-        if known && self.is_step(one) {
-            let pairs = [(front, first.1), (back, second.1)];
-            self.proof.subst(&[], &pairs, one)
-        } else {
-            Err(UNKNOWN)
+        let ty = self.boolean()?;
+        if !self.is_step(one) || !self.is_term(first.1) || !self.is_term(second.1) {
+            return Err(UNKNOWN);
         }
+        let front = self.name(&[first.0])?;
+        let back = self.name(&[second.0])?;
+        let pairs = [
+            (Variable { name: front, ty }, first.1),
+            (Variable { name: back, ty }, second.1),
+        ];
+        self.proof.subst(&[], &pairs, one)
     }
 
     /// A step with truth values for the type variable a, and then a term for the truth value of this letter.
@@ -414,14 +503,14 @@ impl Bench {
         t: TermId,
         one: StepId,
     ) -> Result<StepId, Fault> {
-        let name = self.name(b"a")?;
-        let var = self.variable(letter)?;
-        let ty = var.ty;
-        if self.is_step(one) && self.is_term(t) {
-            self.proof.subst(&[(name, ty)], &[(var, t)], one)
-        } else {
-            Err(UNKNOWN)
+        let ty = self.boolean()?;
+        if !self.is_step(one) || !self.is_term(t) {
+            return Err(UNKNOWN);
         }
+        let a = self.name(b"a")?;
+        let name = self.name(&[letter])?;
+        self.proof
+            .subst(&[(a, ty)], &[(Variable { name, ty }, t)], one)
     }
 
     pub(crate) fn eq_mp(&mut self, one: StepId, two: StepId) -> Result<StepId, Fault> {
@@ -450,12 +539,12 @@ impl Bench {
 
     /// Both sides under an abstraction over the truth value of this letter.
     pub(crate) fn abs_thm(&mut self, letter: u8, one: StepId) -> Result<StepId, Fault> {
-        let var = self.variable(letter)?;
-        if self.is_step(one) {
-            self.proof.abs_thm(&var, one)
-        } else {
-            Err(UNKNOWN)
+        let ty = self.boolean()?;
+        if !self.is_step(one) {
+            return Err(UNKNOWN);
         }
+        let name = self.name(&[letter])?;
+        self.proof.abs_thm(&Variable { name, ty }, one)
     }
 
     pub(crate) fn app_thm(&mut self, one: StepId, two: StepId) -> Result<StepId, Fault> {
@@ -537,37 +626,30 @@ impl Bench {
 
     /// The equation of two terms of one type.
     pub(crate) fn equal(&mut self, left: TermId, right: TermId) -> Result<TermId, Fault> {
-        let name = self.name(b"=")?;
-        let truth = self.boolean()?;
         if !self.is_term(left) {
             return Err(UNKNOWN);
         }
         let ty = self.proof.terms().type_of(left);
-        let predicate = self.function(ty, truth)?;
-        let relation = self.function(ty, predicate)?;
-        let equality = self.proof.constant(&name, relation)?;
-        let half = self.app(equality, left)?;
-        self.app(half, right)
+        let equality = self.equality_of(ty)?;
+        self.equated(equality, left, right)
     }
 
     /// The constant of a name, of the type of a term.
     pub(crate) fn constant_like(&mut self, text: &[u8], t: TermId) -> Result<TermId, Fault> {
-        let name = self.name(text)?;
         if !self.is_term(t) {
             return Err(UNKNOWN);
         }
         let ty = self.proof.terms().type_of(t);
-        self.proof.constant(&name, ty)
+        self.constant(text, ty)
     }
 
     /// The abstraction of a term over the variable of this letter, of the term's type.
     pub(crate) fn abs_like(&mut self, letter: u8, body: TermId) -> Result<TermId, Fault> {
-        let name = self.name(&[letter])?;
         if !self.is_term(body) {
             return Err(UNKNOWN);
         }
         let ty = self.proof.terms().type_of(body);
-        self.proof.abs(&Variable { name, ty }, body)
+        self.bind(letter, ty, body)
     }
 
     /// Whether the thing of this number that was made is a constant that was defined.
@@ -578,12 +660,11 @@ impl Bench {
     }
 
     pub(crate) fn define_const(&mut self, text: &[u8], t: TermId) -> Result<StepId, Fault> {
-        let name = self.name(text)?;
-        if self.is_term(t) {
-            self.proof.define_const(&name, t)
-        } else {
-            Err(UNKNOWN)
+        if !self.is_term(t) {
+            return Err(UNKNOWN);
         }
+        let name = self.name(text)?;
+        self.proof.define_const(&name, t)
     }
 
     /// Whether the thing of this number that was made is an operator that was defined from this step.
@@ -600,32 +681,28 @@ impl Bench {
 
     /// The variable of this letter, of the type that an operator of no arguments makes.
     pub(crate) fn of_operator(&mut self, letter: u8, operator: &[u8]) -> Result<TermId, Fault> {
-        let op = self.name(operator)?;
-        let ty = self.proof.ty_op(&op, &[])?;
-        let name = self.name(&[letter])?;
-        self.proof.free(&name, ty)
+        let ty = self.nullary(operator)?;
+        self.free(&[letter], ty)
     }
 
     /// The variable of this letter, of the type of a term.
     pub(crate) fn variable_like(&mut self, letter: u8, t: TermId) -> Result<TermId, Fault> {
-        let name = self.name(&[letter])?;
         if !self.is_term(t) {
             return Err(UNKNOWN);
         }
         let ty = self.proof.terms().type_of(t);
-        self.proof.free(&name, ty)
+        self.free(&[letter], ty)
     }
 
     /// The constant of a name, a function to the type of another term, of a term.
     pub(crate) fn mapped(&mut self, text: &[u8], x: TermId, like: TermId) -> Result<TermId, Fault> {
-        let name = self.name(text)?;
         if !self.is_term(x) || !self.is_term(like) {
             return Err(UNKNOWN);
         }
         let from = self.proof.terms().type_of(x);
         let to = self.proof.terms().type_of(like);
         let ty = self.function(from, to)?;
-        let constant = self.proof.constant(&name, ty)?;
+        let constant = self.constant(text, ty)?;
         self.app(constant, x)
     }
 
@@ -649,19 +726,13 @@ impl Bench {
         one: StepId,
         version: Version,
     ) -> Result<(StepId, StepId), Fault> {
+        if !self.is_step(one) {
+            return Err(UNKNOWN);
+        }
         let op = self.name(operator)?;
         let abs = self.name(abs)?;
         let rep = self.name(rep)?;
-        if self.is_step(one) {
-            self.proof
-                .define_type_op(&op, &abs, &rep, &[], one, version)
-        } else {
-            Err(UNKNOWN)
-        }
+        self.proof
+            .define_type_op(&op, &abs, &rep, &[], one, version)
     }
-}
-
-/// Whether a rule was refused for this reason.
-pub(crate) fn is_refused(answer: Result<StepId, Fault>, kind: Kind) -> bool {
-    answer == Err(Fault::Refused(kind))
 }

@@ -1,5 +1,6 @@
 //! Tests of the inference rules by the public calls of a proof: the sequent that each rule makes of its premises, what
-//! it refuses and in which order, and what a proof keeps.
+//! it refuses and in which order, and what a proof keeps. A case is data: `turns` says what can stand in it, and `terms` how a term is
+//! written.
 #![tactic(auto)]
 
 #[cfg(test)]
@@ -22,3 +23,7 @@ mod stating;
 mod steps;
 #[cfg(test)]
 mod substitution;
+#[cfg(test)]
+mod terms;
+#[cfg(test)]
+mod turns;

@@ -1,76 +1,72 @@
 //! Substitution.
-use crate::bench::{Bench, is_refused};
-use bridge_base::{Fault, Kind};
+use crate::turns::{Case, Rule, Turn};
+use bridge_base::Kind;
 use hol_spec::StepKind;
 
-/// q for p in p = r.
-pub(crate) fn subst(bench: &mut Bench) -> Result<bool, Fault> {
-    let p = bench.truth(b'p')?;
-    let q = bench.truth(b'q')?;
-    let r = bench.truth(b'r')?;
-    let one = bench.given_equation(p, r)?;
-    let step = bench.subst(b'p', q, one)?;
-    Ok(bench.is_by(step, StepKind::Subst, &[one]) && bench.equates(step, &[], q, r))
-}
-
-/// Of {p, q} and r, p for q: one hypothesis is left.
-pub(crate) fn hypotheses_merge(bench: &mut Bench) -> Result<bool, Fault> {
-    let p = bench.truth(b'p')?;
-    let q = bench.truth(b'q')?;
-    let r = bench.truth(b'r')?;
-    let one = bench.axiom(p, q, r)?;
-    let step = bench.subst(b'q', p, one)?;
-    Ok(bench.says(step, &[p], r))
-}
-
-/// Of u (\y. x), the free y for x: the binder does not bind it.
-pub(crate) fn capture(bench: &mut Bench) -> Result<bool, Fault> {
-    let x = bench.truth(b'x')?;
-    let y = bench.truth(b'y')?;
-    let of_x = bench.abs(b'y', x)?;
-    let of_y = bench.abs(b'z', y)?;
-    let given = bench.u_of(of_x)?;
-    let wanted = bench.u_of(of_y)?;
-    let one = bench.given(given)?;
-    let step = bench.subst(b'x', y, one)?;
-    Ok(bench.says(step, &[], wanted))
-}
-
-/// Of k x x', where x has the type a and x' the same name and is a truth value: truth values for a, then q for x'. By then
-/// both are one variable.
-pub(crate) fn types_first(bench: &mut Bench) -> Result<bool, Fault> {
-    let q = bench.truth(b'q')?;
-    let other = bench.truth(b'x')?;
-    let x = bench.of_type_a(b'x')?;
-    let given = bench.k_of(x, other)?;
-    let wanted = bench.k_of(q, q)?;
-    let one = bench.given(given)?;
-    let step = bench.subst_after_types(b'x', q, one)?;
-    Ok(bench.says(step, &[], wanted))
-}
-
-/// Of p = q, q for p and p for q at once; and q for p, where r for p stands behind it.
-pub(crate) fn at_once(bench: &mut Bench) -> Result<bool, Fault> {
-    let p = bench.truth(b'p')?;
-    let q = bench.truth(b'q')?;
-    let r = bench.truth(b'r')?;
-    let one = bench.given_equation(p, q)?;
-    let step = bench.subst_two((b'p', q), (b'q', p), one)?;
-    let first = bench.subst_two((b'p', q), (b'p', r), one)?;
-    Ok(bench.equates(step, &[], q, p) && bench.equates(first, &[], q, q))
-}
-
-/// A function for a truth value, also where the variable does not occur, and beside a term that makes too much.
-pub(crate) fn subst_refused(bench: &mut Bench) -> Result<bool, Fault> {
-    let p = bench.truth(b'p')?;
-    let q = bench.truth(b'q')?;
-    let f = bench.f()?;
-    let large = bench.doubled(16, q)?;
-    let one = bench.refl(p)?;
-    let unfit = is_refused(bench.subst(b'p', f, one), Kind::BadSubst);
-    let absent = is_refused(bench.subst(b'q', f, one), Kind::BadSubst);
-    let both = bench.subst_two((b'p', large), (b'q', f), one);
-    let first = is_refused(both, Kind::BadSubst);
-    let size = is_refused(bench.subst(b'p', large, one), Kind::TooLarge);
-    Ok(unfit && absent && first && size && bench.proof.len() == 1)
-}
+/// The cases.
+pub(crate) const CASES: [Case; 6] = [
+    // q for p in p = r.
+    Case {
+        name: "subst",
+        turns: &[
+            Turn::Makes(0, Rule::Given("p r =")),
+            Turn::Makes(1, Rule::Subst(b'p', "q", 0)),
+            Turn::By(1, StepKind::Subst, &[0]),
+            Turn::Equates(1, &[], "q", "r"),
+        ],
+    },
+    // Of {p, q} and r, p for q: one hypothesis is left.
+    Case {
+        name: "hypotheses_merge",
+        turns: &[
+            Turn::Makes(0, Rule::Axiom("p", "q", "r")),
+            Turn::Makes(1, Rule::Subst(b'q', "p", 0)),
+            Turn::Says(1, &["p"], "r"),
+        ],
+    },
+    // Of u (\y. x), the free y for x: the binder does not bind it.
+    Case {
+        name: "capture",
+        turns: &[
+            Turn::Makes(0, Rule::Given("x \\y U")),
+            Turn::Makes(1, Rule::Subst(b'x', "y", 0)),
+            Turn::Says(1, &[], "y \\z U"),
+        ],
+    },
+    // Of k x x', where x has the type a and x' the same name and is a truth value: truth values for a, then q for x'. By then
+    // both are one variable.
+    Case {
+        name: "types_first",
+        turns: &[
+            Turn::Makes(0, Rule::Given(":x x K")),
+            Turn::Makes(1, Rule::SubstAfterTypes(b'x', "q", 0)),
+            Turn::Says(1, &[], "q q K"),
+        ],
+    },
+    // Of p = q, q for p and p for q at once; and q for p, where r for p stands behind it.
+    Case {
+        name: "at_once",
+        turns: &[
+            Turn::Makes(0, Rule::Given("p q =")),
+            Turn::Makes(1, Rule::SubstTwo((b'p', "q"), (b'q', "p"), 0)),
+            Turn::Makes(2, Rule::SubstTwo((b'p', "q"), (b'p', "r"), 0)),
+            Turn::Equates(1, &[], "q", "p"),
+            Turn::Equates(2, &[], "q", "q"),
+        ],
+    },
+    // A function for a truth value, also where the variable does not occur, and beside a term that makes too much.
+    Case {
+        name: "subst_refused",
+        turns: &[
+            Turn::Makes(0, Rule::Refl("p")),
+            Turn::Refused(Rule::Subst(b'p', "f", 0), Kind::BadSubst),
+            Turn::Refused(Rule::Subst(b'q', "f", 0), Kind::BadSubst),
+            Turn::Refused(
+                Rule::SubstTwo((b'p', "q *16"), (b'q', "f"), 0),
+                Kind::BadSubst,
+            ),
+            Turn::Refused(Rule::Subst(b'p', "q *16", 0), Kind::TooLarge),
+            Turn::Steps(1),
+        ],
+    },
+];

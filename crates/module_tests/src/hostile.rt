@@ -1,4 +1,4 @@
-//! Types of great depth, and constants of many type variables: what is deeper than the limit stands for no sequent.
+//! Types of great depth, constants of many type variables, and large hypotheses: what is past a limit stands for no sequent.
 use module_cases::all_hold;
 
 const TESTS: &str = r##"
@@ -59,6 +59,68 @@ text = [
     { times = 8189, part = ")" }, "). E0 : proof (eq ", "(", { times = 8189, part = "arr bool (" }, "bool",
     { times = 8189, part = ")" }, ")", " (c_k", { times = 8189, part = " bool" }, ") (c_k", { times = 8189, part = " bool" },
     ")).",
+]
+comes = "none"
+# As many types as a text can have.
+[[test]]
+name = "a_constant_of_types_that_its_own_lacks_is_none"
+
+[[test.case]]
+text = [
+    "$prelude", "c_k :", { count = 262142, part = " v# : type ->" }, " term bool. E0 : proof (c_k",
+    { times = 262142, part = " bool" }, ").",
+]
+comes = "none"
+
+# A doubled formula has at least two nodes for one, of which the table has but a few more.
+[[test]]
+name = "large_hypotheses_are_decoded_up_to_the_size"
+by = "decodes"
+texts.formulas = """
+c_p : term bool.
+def X0 : term bool := eq bool c_p c_p.
+def X1 : term bool := eq bool X0 X0.
+def X2 : term bool := eq bool X1 X1.
+def X3 : term bool := eq bool X2 X2.
+def X4 : term bool := eq bool X3 X3.
+def X5 : term bool := eq bool X4 X4.
+def X6 : term bool := eq bool X5 X5.
+def X7 : term bool := eq bool X6 X6.
+def X8 : term bool := eq bool X7 X7.
+def X9 : term bool := eq bool X8 X8.
+def X10 : term bool := eq bool X9 X9.
+def X11 : term bool := eq bool X10 X10.
+def X12 : term bool := eq bool X11 X11.
+def X13 : term bool := eq bool X12 X12.
+def X14 : term bool := eq bool X13 X13.
+def X15 : term bool := eq bool X14 X14.
+"""
+
+[[test.case]]
+text = [
+    "$prelude", "$formulas", "E0 : proof (eq bool (eq bool (eq bool (eq bool c_p c_p) c_p) c_p) X12) -> ",
+    "proof (eq bool (eq bool (eq bool c_p c_p) c_p) X12) -> proof (eq bool (eq bool c_p c_p) X12) -> proof c_p.",
+]
+comes = "some"
+
+[[test.case]]
+text = [
+    "$prelude", "$formulas", "E0 : proof (eq bool (eq bool (eq bool (eq bool c_p c_p) c_p) c_p) X15) -> ",
+    "proof (eq bool (eq bool (eq bool c_p c_p) c_p) X15) -> proof (eq bool (eq bool c_p c_p) X15) -> proof c_p.",
+]
+comes = "none"
+
+[[test.case]]
+text = [
+    "$prelude", "$formulas", { count = 3, part = "c_h# : term bool. " }, "E0 : ",
+    { count = 3, part = "proof (eq bool c_h# X12) -> " }, "proof c_p.",
+]
+comes = "some"
+
+[[test.case]]
+text = [
+    "$prelude", "$formulas", { count = 16000, part = "c_h# : term bool. " }, "E0 : ",
+    { count = 16000, part = "proof (eq bool c_h# X15) -> " }, "proof c_p.",
 ]
 comes = "none"
 "##;

@@ -24,23 +24,6 @@ const TERMS: &[u8] =
 /// How a name is taken, as a constant and as an operator.
 pub(crate) type Kinds = (Option<SymbolKind>, Option<SymbolKind>);
 
-/// What articles made: the assumptions, the exports, and how many steps.
-#[derive(Clone, Copy)]
-pub(crate) struct Made<'a>(
-    pub(crate) &'a [StepId],
-    pub(crate) &'a [StepId],
-    pub(crate) usize,
-);
-
-/// A step: its number, the rule that made it, the steps of which, and how many hypotheses it has.
-#[derive(Clone, Copy)]
-pub(crate) struct By<'a>(
-    pub(crate) StepId,
-    pub(crate) StepKind,
-    pub(crate) &'a [StepId],
-    pub(crate) usize,
-);
-
 /// A text, and how often it stands.
 pub(crate) type Part<'a> = (u32, &'a [u8]);
 
@@ -95,6 +78,14 @@ impl Bench {
         obey_all(&mut self.machine, &self.commands)
     }
 
+    /// Obeys commands so many times.
+    pub(crate) fn repeat(&mut self, times: u32, words: &[u8]) -> Result<(), LineFault> {
+        for _ in 0..times {
+            self.obey(words)?;
+        }
+        Ok(())
+    }
+
     /// Ends the article.
     pub(crate) fn end(&mut self) -> Result<(), LineFault> {
         self.commands.clear();
@@ -132,13 +123,6 @@ impl Bench {
             4096,
         );
         Ok(Ran { lines, end })
-    }
-
-    /// Whether the rest of an article makes this, and this step.
-    pub(crate) fn makes(&mut self, words: &[u8], made: Made, by: By) -> Result<bool, LineFault> {
-        self.obey(words)?;
-        self.end()?;
-        Ok(self.has_made(made.0, made.1, made.2) && self.is_by(by.0, by.1, by.2, by.3))
     }
 
     /// Whether the assumptions and the exports are these, and there are so many steps.

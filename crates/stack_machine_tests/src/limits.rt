@@ -61,135 +61,147 @@ const GROW_TERM: Part = (
 
 const TWICE: Part = (1, b"2\nref\n3\nref\nappTerm\n3\nref\nappTerm\n");
 
-// Whether an article is obeyed.
-fn passes(alloc: Global, parts: &[Part]) -> Result<bool, LineFault> {
-    comes_out(alloc, Trial::Passes(parts))
+/// An article of these parts, and why its last line is refused, if it is.
+#[derive(Clone, Copy)]
+struct Limit {
+    name: &'static str,
+    parts: &'static [Part<'static>],
+    refused: Option<Kind>,
 }
 
-// Whether the last line of an article is refused for this reason.
-fn ends(alloc: Global, parts: &[Part], kind: Kind) -> Result<bool, LineFault> {
-    comes_out(alloc, Trial::Ends(parts, kind))
+// The largest and the deepest.
+const WITHIN: [Limit; 3] = [
+    Limit {
+        name: "largest_type",
+        parts: &[BEGIN, BOOL, KEEP, GROW, OPEN, KEPT, CLOSE],
+        refused: None,
+    },
+    Limit {
+        name: "deepest_type",
+        parts: &[BEGIN, OPEN_ALL, BOOL, CLOSE_ALL],
+        refused: None,
+    },
+    Limit {
+        name: "deepest_term",
+        parts: &[
+            BEGIN,
+            BOOL,
+            KEEP,
+            UNARY,
+            ATOM,
+            (16380, b"1\nref\n"),
+            ATOM_KEPT,
+            (16380, b"appTerm\n"),
+        ],
+        refused: None,
+    },
+];
+
+// Types past a limit.
+const TYPES: [Limit; 6] = [
+    Limit {
+        name: "large_type",
+        parts: &[BEGIN, BOOL, KEEP, GROW, OPEN, OPEN, KEPT, CLOSE, CLOSE],
+        refused: Some(Kind::TooLarge),
+    },
+    Limit {
+        name: "deep_type",
+        parts: &[BEGIN, OPEN, OPEN_ALL, BOOL, CLOSE_ALL, CLOSE],
+        refused: Some(Kind::TooDeep),
+    },
+    Limit {
+        name: "large_constant",
+        parts: &[
+            BEGIN, BOOL, KEEP, GROW, CONST, OPEN, KEPT, CLOSE, CONST_TERM,
+        ],
+        refused: Some(Kind::TooLarge),
+    },
+    Limit {
+        name: "deep_constant",
+        parts: &[BEGIN, CONST, OPEN_ALL, BOOL, CLOSE_ALL, CONST_TERM],
+        refused: Some(Kind::TooDeep),
+    },
+    Limit {
+        name: "large_variable",
+        parts: &[BEGIN, BOOL, KEEP, GROW, NAME, OPEN, KEPT, CLOSE, VAR_TERM],
+        refused: Some(Kind::TooLarge),
+    },
+    Limit {
+        name: "deep_variable",
+        parts: &[BEGIN, NAME, OPEN_ALL, BOOL, CLOSE_ALL, VAR_TERM],
+        refused: Some(Kind::TooDeep),
+    },
+];
+
+// Terms past a limit.
+const TERMS: [Limit; 4] = [
+    Limit {
+        name: "large_abstraction",
+        parts: &[
+            BEGIN, BOOL, KEEP, GROW, NAME, KEPT, VAR, NAME, BOOL, VAR_TERM, ABS_TERM,
+        ],
+        refused: Some(Kind::TooLarge),
+    },
+    Limit {
+        name: "deep_abstraction",
+        parts: &[
+            BEGIN, NAME, OPEN_ALL, BOOL, CLOSE_ALL, VAR, NAME, BOOL, VAR_TERM, ABS_TERM,
+        ],
+        refused: Some(Kind::TooDeep),
+    },
+    Limit {
+        name: "large_application",
+        parts: &[BEGIN, BOOL, KEEP, BINARY, ATOM, GROW_TERM, TWICE],
+        refused: Some(Kind::TooLarge),
+    },
+    Limit {
+        name: "deep_application",
+        parts: &[
+            BEGIN,
+            BOOL,
+            KEEP,
+            UNARY,
+            ATOM,
+            (16381, b"1\nref\n"),
+            ATOM_KEPT,
+            (16381, b"appTerm\n"),
+        ],
+        refused: Some(Kind::TooDeep),
+    },
+];
+
+// What is tried of an article.
+fn trial(limit: Limit) -> Trial<'static> {
+    match limit.refused {
+        Some(kind) => Trial::Ends(limit.parts, kind),
+        None => Trial::Passes(limit.parts),
+    }
 }
 
-fn largest_type(alloc: Global) -> Result<bool, LineFault> {
-    passes(alloc, &[BEGIN, BOOL, KEEP, GROW, OPEN, KEPT, CLOSE])
-}
-
-fn deepest_type(alloc: Global) -> Result<bool, LineFault> {
-    passes(alloc, &[BEGIN, OPEN_ALL, BOOL, CLOSE_ALL])
-}
-
-fn deepest_term(alloc: Global) -> Result<bool, LineFault> {
-    let functions: Part = (16380, b"1\nref\n");
-    let applications: Part = (16380, b"appTerm\n");
-    let parts = [
-        BEGIN,
-        BOOL,
-        KEEP,
-        UNARY,
-        ATOM,
-        functions,
-        ATOM_KEPT,
-        applications,
-    ];
-    passes(alloc, &parts)
-}
-
-fn large_type(alloc: Global) -> Result<bool, LineFault> {
-    let parts = [BEGIN, BOOL, KEEP, GROW, OPEN, OPEN, KEPT, CLOSE, CLOSE];
-    ends(alloc, &parts, Kind::TooLarge)
-}
-
-fn deep_type(alloc: Global) -> Result<bool, LineFault> {
-    let parts = [BEGIN, OPEN, OPEN_ALL, BOOL, CLOSE_ALL, CLOSE];
-    ends(alloc, &parts, Kind::TooDeep)
-}
-
-fn large_constant(alloc: Global) -> Result<bool, LineFault> {
-    let parts = [
-        BEGIN, BOOL, KEEP, GROW, CONST, OPEN, KEPT, CLOSE, CONST_TERM,
-    ];
-    ends(alloc, &parts, Kind::TooLarge)
-}
-
-fn deep_constant(alloc: Global) -> Result<bool, LineFault> {
-    let parts = [BEGIN, CONST, OPEN_ALL, BOOL, CLOSE_ALL, CONST_TERM];
-    ends(alloc, &parts, Kind::TooDeep)
-}
-
-fn large_variable(alloc: Global) -> Result<bool, LineFault> {
-    let parts = [BEGIN, BOOL, KEEP, GROW, NAME, OPEN, KEPT, CLOSE, VAR_TERM];
-    ends(alloc, &parts, Kind::TooLarge)
-}
-
-fn deep_variable(alloc: Global) -> Result<bool, LineFault> {
-    let parts = [BEGIN, NAME, OPEN_ALL, BOOL, CLOSE_ALL, VAR_TERM];
-    ends(alloc, &parts, Kind::TooDeep)
-}
-
-fn large_abstraction(alloc: Global) -> Result<bool, LineFault> {
-    let parts = [
-        BEGIN, BOOL, KEEP, GROW, NAME, KEPT, VAR, NAME, BOOL, VAR_TERM, ABS_TERM,
-    ];
-    ends(alloc, &parts, Kind::TooLarge)
-}
-
-fn deep_abstraction(alloc: Global) -> Result<bool, LineFault> {
-    let parts = [
-        BEGIN, NAME, OPEN_ALL, BOOL, CLOSE_ALL, VAR, NAME, BOOL, VAR_TERM, ABS_TERM,
-    ];
-    ends(alloc, &parts, Kind::TooDeep)
-}
-
-fn large_application(alloc: Global) -> Result<bool, LineFault> {
-    let parts = [BEGIN, BOOL, KEEP, BINARY, ATOM, GROW_TERM, TWICE];
-    ends(alloc, &parts, Kind::TooLarge)
-}
-
-fn deep_application(alloc: Global) -> Result<bool, LineFault> {
-    let functions: Part = (16381, b"1\nref\n");
-    let applications: Part = (16381, b"appTerm\n");
-    let parts = [
-        BEGIN,
-        BOOL,
-        KEEP,
-        UNARY,
-        ATOM,
-        functions,
-        ATOM_KEPT,
-        applications,
-    ];
-    ends(alloc, &parts, Kind::TooDeep)
+// The name of the first article that comes out otherwise.
+fn first_wrong(alloc: Global, limits: &[Limit]) -> Result<Option<&'static str>, LineFault> {
+    for limit in limits {
+        if !comes_out(alloc, trial(*limit))? {
+            return Ok(Some(limit.name));
+        }
+    }
+    Ok(None)
 }
 
 #[test]
 fn the_largest_and_the_deepest_are_made(rt: HostRuntime) -> Result<(), Fail> {
-    let alloc = rt.alloc();
-    assert!(rt; largest_type(alloc)?);
-    assert!(rt; deepest_type(alloc)?);
-    assert!(rt; deepest_term(alloc)?);
+    assert_eq!(rt; first_wrong(rt.alloc(), &WITHIN)?, None);
     Ok(())
 }
 
-// The last line of each article is refused for the limit that it passes.
 #[test]
 fn types_past_a_limit_are_refused(rt: HostRuntime) -> Result<(), Fail> {
-    let alloc = rt.alloc();
-    assert!(rt; large_type(alloc)?);
-    assert!(rt; deep_type(alloc)?);
-    assert!(rt; large_constant(alloc)?);
-    assert!(rt; deep_constant(alloc)?);
-    assert!(rt; large_variable(alloc)?);
-    assert!(rt; deep_variable(alloc)?);
+    assert_eq!(rt; first_wrong(rt.alloc(), &TYPES)?, None);
     Ok(())
 }
 
 #[test]
 fn terms_past_a_limit_are_refused(rt: HostRuntime) -> Result<(), Fail> {
-    let alloc = rt.alloc();
-    assert!(rt; large_abstraction(alloc)?);
-    assert!(rt; deep_abstraction(alloc)?);
-    assert!(rt; large_application(alloc)?);
-    assert!(rt; deep_application(alloc)?);
+    assert_eq!(rt; first_wrong(rt.alloc(), &TERMS)?, None);
     Ok(())
 }
