@@ -207,6 +207,6 @@ sequent_from declarations p =
     bind (proof_part p.end) (λ C.
     option_map (closed_sequent p.type_variables variables hypotheses) (term_from declarations C (place p.type_variables (length p.variables) (length p.hypotheses) 0)))))
 
--- THE CLOSED SEQUENT THAT A TYPE STANDS FOR
+-- The closed sequent that a type stands for
 abbrev pub decode : List Declaration → Tree → Option ClosedSequent
 decode declarations A = bind (sequent_from declarations (parts A)) (λ s. provided (is_closed_form own_name s) (Some s))

@@ -411,7 +411,7 @@ module _ (symbols : Symbols) (few : HasFewArguments symbols) where
   of_two-depth d row (j ∷ k ∷ []) one two l f = f j k
   of_two-depth d row (j ∷ k ∷ i ∷ js) one two l f = l
 
-  -- THE PROOF OF A STEP: by its rule, in a shallow scope
+  -- The proof of a step: by its rule, in a shallow scope
   module _ (scope : Scope) (h : IsShallowScope scope) where
     pub proof_tree-depth : (kind : StepKind) (js : List ℕ) (premises : List Sequent) (given : Parameters) (s : Sequent) → Rule kind premises given s → AllByRecursion SequentWithin premises → SequentWithin s
         → depth (proof_tree symbols scope kind js premises given) ≤ deepest_proof

@@ -1,4 +1,4 @@
--- THE MODULE OF EVERY ACCEPTED RUN IS SHALLOW: the type and the body of each declaration are no deeper than a text allows.
+-- The module of every accepted run is shallow: the type and the body of each declaration are no deeper than a text allows.
 use Rattle.std.proofs.Common.{ℕ, zero, suc, ◌+◌, ◌*◌, ◌≤◌, List, [], ◌∷◌, map, length, arith}
 use Rattle.std.specs.Prelude.{replicate}
 use Rattle.std.proofs.lemmas.List.{length-map}

@@ -156,7 +156,7 @@ module _ (m : List Declaration) (lemmas : HasLemmas m) (symbols : Symbols) (scop
       let same = ap term_size e in
       record { over = parts.ty.1.0; size = omega (arith, own, same) }
 
-  -- THE PROOF OF A STEP: by its rule, in a plain scope
+  -- The proof of a step: by its rule, in a plain scope
   pub proof_tree-cost : (kind : StepKind) (js : List ℕ) (premises : List Sequent) (given : Parameters) (s : Sequent) → Rule kind premises given s → ArePremises m symbols js premises → Defined m symbols kind js premises given → SequentOver m symbols s
       → AllByRecursion SequentWithin premises → SequentWithin s → cost m [] (proof_tree symbols scope kind js premises given) ≤ row_cost
   proof_tree-cost kind js premises given s (rule.refl {t = t} {a = a} typed e) p d over ws w =

@@ -1,4 +1,4 @@
--- THE MODULE OF EVERY ACCEPTED RUN IS SMALL: no declaration weighs more than 2^40, so no bound is cut off, and the check of each ends within
+-- The module of every accepted run is small: no declaration weighs more than 2^40, so no bound is cut off, and the check of each ends within
 -- its bound.
 use Rattle.std.proofs.Common.{◌≡◌, ℕ, zero, suc, ◌+◌, ◌*◌, ◌≤◌, ◌^◌, List, [], ◌∷◌, ◌++◌, append_assoc, map, length, Some, refl, sym, ap, subst, ◌∙◌, arith}
 use Rattle.std.specs.Prelude.{replicate, slice_get}
@@ -135,7 +135,7 @@ module _ (m : List Declaration) (symbols : Symbols) where
       let front = types-total m ns in
       omega (arith, own, whole, front, l)
 
-  -- THE DECLARATION OF AN ITEM
+  -- The declaration of an item
   module _ (has : HasLemmas m) (before : List Item) (holds : AllByRecursion (HoldsItem m symbols) before) where
     premise-here : (j : ℕ) (one : Sequent) → ArePremisesAmong before (j ∷ []) (one ∷ []) → SequentWithin one → IsSmallPremise m symbols j one
     premise-here j one a w = record { is = (ArePremises-among m symbols before holds (j ∷ []) (one ∷ []) a).0; within = w }
@@ -225,7 +225,7 @@ cube w l =
     let three = mul-le (w * w) w (2 ^ 80) (2 ^ 40) two l in
     omega (arith, three)
 
--- THE LAW: NO BOUND IS CUT OFF
+-- The law: no bound is cut off
 abbrev pub RunsAreBounded : Type 0
 RunsAreBounded = (articles : List (List ℕ)) (run : Accepted) → Run articles (accepted run) → (i : ℕ) (d : Declaration) → slice_get (image run) i ≡ Some d
     → 64 * (weight (image run) d * weight (image run) d * weight (image run) d) ≤ greatest
@@ -239,7 +239,7 @@ pub record IsWithinBound (m : List Declaration) (i : ℕ) (d : Declaration) : Ty
   pub check : Check m i (Found d.ty) price
   pub within : price ≤ bound m d
 
--- THE LAW: EACH CHECK ENDS WITHIN ITS BOUND
+-- The law: each check ends within its bound
 abbrev pub RunsAreWithinBounds : Type 0
 RunsAreWithinBounds = (articles : List (List ℕ)) (run : Accepted) → Run articles (accepted run) → (i : ℕ) (d : Declaration) → slice_get (image run) i ≡ Some d → IsWithinBound (image run) i d
 

@@ -240,7 +240,7 @@ stands-cost m symbols args v t o (filling scope h) =
     let whole = filler-cost m args (type_tree symbols scope v.1) (4 * type_size v.1) own (omega (arith, under, lifted)) in
     omega (arith, whole, most)
 
--- A TERM
+-- A term
 pub term_tree-cost : (m : List Declaration) (symbols : Symbols) (args : List Tree) (scope : Scope) → IsPlainScope symbols scope → (t : Term) → TermOver m symbols t → cost m args (term_tree symbols scope t) ≤ 24 * term_size t
 term_tree-cost m symbols args scope h (free n t) o = let l = stands-cost m symbols args (n, t) (scope.terms (n, t)) o (h.terms (n, t)) in omega (arith, l)
 term_tree-cost m symbols args scope h (bound k) o = let l = plain-cost m args (scope.bounds k) (h.bounds k) in omega (arith, l)

@@ -70,7 +70,7 @@ module _ (m : List Declaration) (G : List Tree) (symbols : Symbols) (other : Sco
       let rest = proofs-sizes ps (under_proof p scope) (cons (other.proofs p) s) (TypesAgree-under m G symbols other P Q s (other.proofs p) scope a) (TermsAgree-under m G symbols other P Q s (other.proofs p) scope b) f.1 in
       omega (arith, same, rest)
 
--- A THEOREM IN A SCOPE
+-- A theorem in a scope
 pub theorem_tree-cost : (m : List Declaration) (symbols : Symbols) (scope : Scope) (s : Sequent) (symbol : ℕ) → symbol_type m symbol ≡ Some (sequent_tree symbols s) → IsSequent s → HasInstances symbols s
     → cost m [] (theorem_tree scope symbol s) ≤ argument_cost symbols scope m s + total m (map scope.proofs s.hypotheses) + 2 * parameter_count s + 3
 theorem_tree-cost m symbols scope s symbol declared is instances =

@@ -21,7 +21,7 @@ use Rattle.fitting_laws.specs.WithinBuilding.{nil-within, cons-within, hd_tl-wit
 use Rattle.fitting_laws.specs.WithinInference.{refl-within, assume-within, eq_mp-within, abs_thm-within, app_thm-within, deduct_antisym-within, beta_conv-within, sym-within, trans-within, prove_hyp-within, subst-within, axiom-within, thm-within}
 use Rattle.fitting_laws.specs.WithinDefining.{define_const-within, define_const_list-within, define_type_op-within}
 
--- WORDS
+-- Words
 obey-within : (s t : State) (w : Word) → AreWithin s.made → obey s w ≡ Ok t → AreWithin t.made
 obey-within s t word.Version g e = absurd (cc)
 obey-within s t word.Nil g e = nil-within s t g e
@@ -58,7 +58,7 @@ obey-within s t word.DefineTypeOp g e = define_type_op-within s t g e
 obey-within s t word.Axiom g e = axiom-within s t g e
 obey-within s t word.Thm g e = thm-within s t g e
 
--- COMMANDS
+-- Commands
 obey_item-within : (s t : State) (i : Item) → AreWithin s.made → obey_item s i ≡ Ok t → AreWithin t.made
 obey_item-within s t (item.Number z) g e = answers _ t e g
 obey_item-within s t (item.Name n) g e = answers _ t e g
@@ -115,7 +115,7 @@ step-within s t c g e = step_at-within s t s.place c.item g e
 finish-within : (s t : State) → AreWithin s.made → finish s ≡ Ok t → AreWithin t.made
 finish-within s t g e = answers _ t e g
 
--- WHAT AN ACCEPTED RUN MADE IS WITHIN THE LIMITS
+-- What an accepted run made is within the limits
 pub run-within : (articles : List (List ℕ)) (a : Accepted) → Run articles (accepted a) → AreWithin a.made
 run-within articles a r =
     runs-have machine (λ s. AreWithin s.made) (record { command = step-within; end = finish-within }) (λ b. AreWithin b.made) (λ s g. g) 1 initial articles (accepted a) a (tt {0}) refl r

@@ -90,7 +90,7 @@ module _ (root : Option HolType) (b g : Trees) (k : Keeps b g) (ls : List (List 
     ends = Ends-later b g k ls ls (KeepsLists-refl ls) typings.known root steps (o ∷ os) ends;
   }
 
--- A VISIT
+-- A visit
 pub visit_less : (b : Trees) (s : Seat) (steps : List Step) → count b.terms steps < count b.terms (Visit s ∷ steps)
 visit_less b s steps = let l = size-positive (term_at b s.id.0) in omega (arith, l)
 
@@ -174,7 +174,7 @@ module _ (root : Option HolType) (b : Trees) (ls : List (List TypeId)) (found : 
           );
         }
 
--- A TYPE THAT COMES BACK
+-- A type that comes back
 module _ (root : Option HolType) (b : Trees) (ls : List (List TypeId)) (found : List (Seat × Option TypeId)) (s : Seat) (steps : List Step) where
   -- what is taken up is there, and is a type's number
   pub apply_two : (types : List (Option TypeId)) → IsInferring root b ls found (Apply s ∷ steps) types → NotEmpty types

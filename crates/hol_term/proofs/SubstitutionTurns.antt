@@ -86,7 +86,7 @@ size-positive (constant n t) = omega arith
 size-positive (app f x) = omega arith
 size-positive (lam t b) = omega arith
 
--- A VISIT
+-- A visit
 module _ (a b : Trees) (root : Term) (types : List (Name × TypeId)) (terms : List (Variable × TermId)) (id : TermId) (tasks : List Turn) (made : List TermId) (images : List (TermId × TermId)) where
   pub visit_less : steps a tasks < steps a (Visit id ∷ tasks)
   visit_less = let l = size-positive (term_at a id.0) in omega (arith, l)
@@ -162,7 +162,7 @@ module _ (a b : Trees) (root : Term) (types : List (Name × TypeId)) (terms : Li
       pub abstraction_less : steps a (Visit x ∷ Abstract id binder ∷ tasks) < steps a (Visit id ∷ tasks)
       abstraction_less = let e = ap term_size at_abstraction in omega (arith, e)
 
--- A TREE THAT COMES BACK
+-- A tree that comes back
 module _ (a b : Trees) (root : Term) (types : List (Name × TypeId)) (terms : List (Variable × TermId)) (id : TermId) (tasks : List Turn) (images : List (TermId × TermId)) where
   pub apply_two : (made : List TermId) → IsSubstituting a root b types terms (Apply id ∷ tasks) made images → NotEmpty made
   apply_two made w = go made w.values w.held w.ends

@@ -143,7 +143,7 @@ came trees id old ids e c = c.terms ∙ ap (λ l. union term_eq (terms_at trees 
 pub same_tour : (trees : Trees) (root : TermId) (before next others seen more : List TermId) → others ≡ next → more ≡ seen → IsOnTour trees root before next seen → IsOnTour trees root before others more
 same_tour trees root before next others seen more e f h = subst (λ l. IsOnTour trees root before l more) (sym e) (subst (IsOnTour trees root before next) (sym f) h)
 
--- A STEP OF A TOUR
+-- A step of a tour
 module _ (trees : Trees) (root : TermId) (before next : List TermId) (id : TermId) (old : List TermId) (tour : IsOnTour trees root before (id ∷ next) old) where
   pub tour_again : IsAmong old id → IsOnTour trees root before next old
   tour_again h = tour.2 old (come_again trees id old tour.1 h)

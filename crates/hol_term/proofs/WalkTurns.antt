@@ -106,7 +106,7 @@ turns-positive more (constant n t) = omega arith
 turns-positive more (app f x) = omega arith
 turns-positive more (lam t b) = omega arith
 
--- A VISIT
+-- A visit
 module _ (a b : Trees) (root : Term) (ids : List TermId) (p : Place) (tasks : List Task) (made : List TermId) (memo : List (Place × TermId)) where
   pub visit_less : work a ids tasks < work a ids (Visit p ∷ tasks)
   visit_less = let l = turns-positive (lifting (terms_at a ids) p.change) (term_at a p.id.0) in omega (arith, l)
@@ -232,7 +232,7 @@ module _ (a b : Trees) (root : Term) (ids : List TermId) (p : Place) (tasks : Li
           let own = ap (turns (lifting (terms_at a ids) p.change)) at_abstraction in
           omega (arith, first, own)
 
--- A TREE THAT COMES BACK
+-- A tree that comes back
 module _ (a b : Trees) (root : Term) (ids : List TermId) (p : Place) (tasks : List Task) (memo : List (Place × TermId)) where
   -- what is taken up is there, and holds a tree
   pub apply_two : (made : List TermId) → IsWalk a root b ids (Apply p ∷ tasks) made memo → NotEmpty made

@@ -77,7 +77,7 @@ module _ (m more : List Declaration) where
   spine_step-longer SortType args l = refl
   spine_step-longer SortKind args l = refl
 
-  -- THE HEAD STEP of a tree over the symbols of the module is that over more declarations.
+  -- The head step of a tree over the symbols of the module is that over more declarations.
   pub head_step-longer : (t : Tree) → symbols t ≤ length (signature ++ m) → head_step (m ++ more) t ≡ head_step m t
   head_step-longer t l = spine_step-longer t [] l
 
@@ -292,7 +292,7 @@ module _ (m : List Declaration) (own : IsSelfContained m) (more : List Declarati
   ends-both : {p q : Plan} → Alike m p q → (reply : Reply) (n : ℕ) → Ends (m ++ more) r p reply n ↔ Ends m r q reply n
   ends-both a reply n = (λ h. (ends-shorter h a).0, λ h. (ends-longer h a).0)
 
-  -- EARLIER DECLARATIONS ALONE: the type of a tree over the symbols of the module
+  -- Earlier declarations alone: the type of a tree over the symbols of the module
   pub infer-longer : (G : List Tree) (t : Tree) → IsContextOver m G → IsTreeOver m t → (reply : Reply) (n : ℕ) → Ends (m ++ more) r (infer (m ++ more) r G t) reply n ↔ Ends m r (infer m r G t) reply n
   infer-longer G t c h = ends-both (infer-alike G t c h)
 
@@ -322,7 +322,7 @@ declaration-alike m d h = ask_alike (over_infer tt h.ty) (λ s l. if_type-alike 
     body None k = found_alike h.ty
     body (Some t) k = ask_alike (over_infer tt k) (λ F l. ask_alike (over_convert h.ty l) (λ v n. found_alike h.ty))
 
--- THE CHECK OF A DECLARATION over the symbols of the module
+-- The check of a declaration over the symbols of the module
 pub declaration_plan-longer : (m : List Declaration) (own : IsSelfContained m) (more : List Declaration) (r : Bool) (d : Declaration) → IsDeclarationOver m d → (reply : Reply) (n : ℕ)
     → Ends (m ++ more) r (declaration_plan d) reply n ↔ Ends m r (declaration_plan d) reply n
 declaration_plan-longer m own more r d h = ends-both m own more r (declaration-alike m d h)
@@ -412,7 +412,7 @@ body-over m Thm (Some t) h = h.known
 pub IsModule-take : (m : List Declaration) (count : ℕ) → IsModule m → IsModule (take count m)
 IsModule-take m count a = AreDeclared-take signature m count a
 
--- THE CHECK OF A DECLARATION OF A MODULE, over those before it, is its check over the whole module.
+-- The check of a declaration of a module, over those before it, is its check over the whole module.
 pub declaration_plan-whole : (m : List Declaration) → IsModule m → (i : ℕ) (d : Declaration) → slice_get m i ≡ Some d → (r : Bool) (reply : Reply) (n : ℕ)
     → Ends m r (declaration_plan d) reply n ↔ Ends (take i m) r (declaration_plan d) reply n
 declaration_plan-whole m a i d e r reply n =

@@ -1,4 +1,4 @@
--- THE CHECK OF A SHAPED MODULE: each declaration is found its type, at a price of at most 64 times the square of its weight in the module.
+-- The check of a shaped module: each declaration is found its type, at a price of at most 64 times the square of its weight in the module.
 use Rattle.std.proofs.Common.{◌≡◌, inl, inr, ℕ, zero, suc, ◌+◌, ◌*◌, ◌≤◌, List, [], ◌∷◌, ◌++◌, append_assoc, length, Bool, true, Option, Some, None, refl, sym, ap, subst, ◌∙◌, arith}
 use Rattle.std.specs.Prelude.{slice_get, take}
 use Rattle.std.specs.Option.{option_map_or}
@@ -149,7 +149,7 @@ priced m i d h =
       within = subst (λ n. p.price ≤ 64 * (n * n)) w p.within;
     }
 
--- KERNEL SAYS YES, WITHIN THE PRICE: each declaration of a shaped module
+-- Kernel says yes, within the price: each declaration of a shaped module
 pub shaped-priced : (m : List Declaration) → AreShaped [] m → (i : ℕ) (d : Declaration) → slice_get m i ≡ Some d → IsPriced m i d
 shaped-priced m h i d e = let zero_first : 0 + i ≡ i = omega arith in priced m i d (subst (λ n. Placed m n d) zero_first (placed [] m signature_sound h i d e))
 

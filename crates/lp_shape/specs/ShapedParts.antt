@@ -98,7 +98,7 @@ module _ (m : List Declaration) {G : List Tree} (C F W H : Tree) (p : IsPartAt m
       last_call (at_a_term sub_rep_abs-call hx
       (λ i. proof_of (eq_of bools (eq_of (put-lift x C i) (App (put-part sub_rep_symbol x i) (App (put-part sub_abs_symbol x i) (x0 i))) (x0 i)) (App (put-lift x F i) (x0 i)))))
 
--- THE DEFINITIONS of a type definition: its operator, and its constants, whose types have the operator where the part is found
+-- The definitions of a type definition: its operator, and its constants, whose types have the operator where the part is found
 module _ (m : List Declaration) {G : List Tree} (C F W H : Tree) (p : IsPartAt m G C F W H) where
   pub operator-definition : IsCallDefinition m G (part_of sub_symbol C F W H) types
   operator-definition = by_type (sub-call m C F W H p)
@@ -128,7 +128,7 @@ module _ (m : List Declaration) {G : List Tree} {a b t u : Tree} (ha : IsSimple 
   concluded : (h : Tree) → put h (proof_of (eq_of (arr_of (lift 1 a) (lift 1 b)) (lift 1 (Lam (term_of a) t)) (lift 1 (Lam (term_of a) u)))) ≡ proof_of (eq_of (arr_of a b) (Lam (term_of a) t) (Lam (term_of a) u))
   concluded h i = proof_of (eq_of (arr_of (put-lift h a i) (put-lift h b i)) (put-lift h (Lam (term_of a) t) i) (put-lift h (Lam (term_of a) u) i))
 
--- THE FIRST LAW: abs undoes rep at each term of the new type, where the type and both constants become those of the part by head steps
+-- The first law: abs undoes rep at each term of the new type, where the type and both constants become those of the part by head steps
 pub first_law-shaped : (m : List Declaration) {G : List Tree} (N C F W H A R : Tree) → IsSimple m G N → IsSimple m (term_of N ∷ G) (lift 1 N) → IsPartAt m (term_of N ∷ G) C F W H
     → IsTerm m (term_of N ∷ G) A (arr_of C (lift 1 N)) → IsTerm m (term_of N ∷ G) R (arr_of (lift 1 N) C) → head_step m (lift 1 N) ≡ Some (part_of sub_symbol C F W H)
     → ((y : Tree) → head_step m (App A y) ≡ Some (App (part_of sub_abs_symbol C F W H) y)) → ((y : Tree) → head_step m (App R y) ≡ Some (App (part_of sub_rep_symbol C F W H) y))
@@ -147,7 +147,7 @@ first_law-shaped m {G = G} N C F W H A R hN hN' p hA hR stepN stepA stepR =
     (close_step refl close_same)))
     (concluded m hN hN t x h)
 
--- THE SECOND LAW: rep undoes abs exactly where the predicate holds
+-- The second law: rep undoes abs exactly where the predicate holds
 pub second_law-shaped : (m : List Declaration) {G : List Tree} (B N C F W H A R : Tree) → IsSimple m G B → lift 1 B ≡ C → IsPartAt m (term_of B ∷ G) C F W H
     → IsTerm m (term_of B ∷ G) A (arr_of C N) → IsTerm m (term_of B ∷ G) R (arr_of N C)
     → ((y : Tree) → head_step m (App A y) ≡ Some (App (part_of sub_abs_symbol C F W H) y)) → ((y : Tree) → head_step m (App R y) ≡ Some (App (part_of sub_rep_symbol C F W H) y))
@@ -171,7 +171,7 @@ second_law-shaped m {G = G} B N C F W H A R hB same p hA hR stepA stepR =
     (close_step (ap Some (put-lift_at (App F (Var 0)))) close_same)))
     (concluded m hB bool t u h)
 
--- IN VERSION 5: abs undoes rep at a term of the new type
+-- In version 5: abs undoes rep at a term of the new type
 pub first_law_free-shaped : (m : List Declaration) {G : List Tree} (N C F W H x : Tree) → IsPartAt m G C F W H → IsTerm m G x N → head_step m N ≡ Some (part_of sub_symbol C F W H)
     → IsLaw m G (App (part_of sub_abs_rep_symbol C F W H) x) (proof_of (eq_of (part_of sub_symbol C F W H) (App (part_of sub_abs_symbol C F W H) (App (part_of sub_rep_symbol C F W H) x)) x))
 first_law_free-shaped m N C F W H x p hx stepN = law_last (omega arith) (first-last m C F W H p N x hx stepN)

@@ -459,7 +459,7 @@ module _ (named : Naming) where
       subst (λ l. Joined l (items_after named ps (x ∷ xs))) (append_assoc before (x ∷ []) xs)
       (joined-after (before ++ x ∷ []) (ps ++ numbered (named (length (said_by ps)) x) (length ps) (contents ps x)) (made.Each.more x proof h.0 refl) (joined-next (named (length (said_by ps)) x) before ps proof j x h.0 k.0) xs h.1 k.1)
 
-  -- THE JOIN: what was made is, as items, made in order
+  -- The join: what was made is, as items, made in order
   pub made-joined : (xs : List Made) → IsProof xs → IsOver xs → Joined xs (items_of named xs)
   made-joined xs proof over =
       joined-after [] [] made.Each.empty (record { order = tt {0}; said = refl; held = tt {0}; names = tt {0}; parts = tt {0} }) xs (each-after IsMade xs proof) (each-after IsMadeOver xs over)

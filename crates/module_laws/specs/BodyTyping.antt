@@ -1,4 +1,4 @@
--- BODIES TYPED: the proof of a step, by its rule, has the type that its sequent says.
+-- Bodies typed: the proof of a step, by its rule, has the type that its sequent says.
 use Rattle.std.proofs.Common.{◌≡◌, ℕ, List, [], ◌∷◌, map, Bool, true, false, cond, not, ◌⊎◌, inl, inr, refl, sym, ap, subst, ◌∙◌}
 use Rattle.std.specs.Prelude.{IsTrue}
 use Rattle.std.specs.List.{AllByRecursion, filter, list_all}

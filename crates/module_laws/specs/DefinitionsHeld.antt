@@ -170,7 +170,7 @@ some-value : {A : Type 0} (o : Option A) → is_some o ≡ true → (x : A) × (
 some-value None e = absurd (cc)
 some-value (Some x) e = (x, refl)
 
--- WHAT AN ACCEPTED LIST DEFINES
+-- What an accepted list defines
 pub list-defines : (ps : List Item) (pairs : ConstantPairs) (one : Sequent) → IsSequent one → AllByRecursion (λ (e : Variable × Term). IsDefining e.0.1 e.1) (defining_equations pairs one.hypotheses)
     → is_definition_list pairs one ≡ true → AllByRecursion (IsDefinitionHeld ps) (filter_map (λ p. option_map (Definition.constant p.0) (definiens pairs one.hypotheses p.1)) pairs)
     → AllByRecursion (IsDefiningEquation ps (constants_put pairs)) one.hypotheses × AllByRecursion (λ v. (t : Term) × IsDefinedBy ps (constants_put pairs) v t) (free_variables_of one)

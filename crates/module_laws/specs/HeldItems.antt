@@ -33,6 +33,6 @@ module _ (symbols : Symbols) where
       (subst (AllByRecursion (HoldsItem ((m ++ d ∷ []) ++ map D xs) symbols)) (append_assoc before (x ∷ []) xs)
       (items-hold (m ++ d ∷ []) (before ++ x ∷ []) xs longer (All-append (HoldsItem (m ++ d ∷ []) symbols) before (x ∷ []) old (new, tt {0})) h.3))
 
-  -- THE MODULE OF ITEMS HOLDS THEM
+  -- The module of items holds them
   pub module-holds : (xs : List Item) → AreItems symbols [] xs → AllByRecursion (HoldsItem (module_of symbols xs) symbols) xs
   module-holds xs h = items-hold lemmas [] xs refl (tt {0}) h

@@ -1,4 +1,4 @@
--- THE MODULE IS SHAPED: by induction on its items, each declaration is shaped over those before it.
+-- The module is shaped: by induction on its items, each declaration is shaped over those before it.
 use Rattle.std.proofs.Common.{◌≡◌, ◌⊎◌, inl, ℕ, zero, suc, ◌+◌, List, [], ◌∷◌, ◌++◌, append_assoc, map, length, false, Some, refl, sym, ap, subst, ◌∙◌, arith, inr}
 use Rattle.std.specs.Prelude.{replicate}
 use Rattle.std.specs.List.{AllByRecursion}
@@ -118,7 +118,7 @@ module _ (m : List Declaration) (symbols : Symbols) (before : List Item) (holds 
   part-premise names c u j one h =
       record { f = u; defines = h.defines; premise = (ArePremises-among m symbols before holds (j ∷ []) (one ∷ []) h.among).0; ty = TypeOver-taken m symbols before holds c h.ty }
 
-  -- THE DECLARATION OF AN ITEM IS SHAPED
+  -- The declaration of an item is shaped
   pub content-shaped : (name : List ℕ) (c : Content) → IsContent before c → IsShaped m (declaration_of symbols name c)
   content-shaped name (operator n k) h = record { ty = operator_type-shaped m k; body = refl }
   content-shaped name (item.Content.constant n a) h = record { ty = generic_tree-shaped a (TypeOver-taken m symbols before holds a h); body = refl }
@@ -193,13 +193,13 @@ module _ (symbols : Symbols) where
             longer (All-append (HoldsItem (m ++ d ∷ []) symbols) before (x ∷ []) old (new, tt {0})) h.3,
       )
 
-  -- THE MODULE OF ITEMS IS SHAPED
+  -- The module of items is shaped
   pub module-shaped : (xs : List Item) → AreItems symbols [] xs → AreShaped [] (module_of symbols xs)
   module-shaped xs h =
       AreShaped-append [] lemmas (map (declaration symbols) xs) (sym_lemma-shaped [], (trans_lemma-shaped _, tt {0}))
       (items-shaped lemmas [] xs (WellTyped-IsSound lemmas lemmas_typed) (record { symmetry = refl; transitivity = refl }) refl (tt {0}) h)
 
--- THE MODULE OF WHAT WAS MADE IS SHAPED
+-- The module of what was made is shaped
 pub made-shaped : (xs : List Item) → AreMade [] xs → AreShaped [] (module_of (symbols_of xs) xs)
 made-shaped xs h = module-shaped (symbols_of xs) xs (items-made [] xs h)
 
@@ -207,6 +207,6 @@ made-shaped xs h = module-shaped (symbols_of xs) xs (items-made [] xs h)
 pub reached-shaped : (roots : List Key) (made : List Item) → AreMadeInOrder [] made → AreShaped [] (reached roots made)
 reached-shaped roots made h = made-shaped (image_items (keep_of roots made) made) (image-made (keep_of roots made) [] made refl (made-numbered roots [] made (tt {0}) h))
 
--- WELL TYPED, by the shapes alone
+-- Well typed, by the shapes alone
 pub reached-WellTyped : (roots : List Key) (made : List Item) → AreMadeInOrder [] made → WellTyped (reached roots made)
 reached-WellTyped roots made h = shaped-WellTyped (reached roots made) (reached-shaped roots made h)

@@ -85,7 +85,7 @@ generic-in_order g =
     ∙ sym (union-map (at vs) name_eq nat_eq (IsIn vs) (at-agrees vs) (variable_places g) [] (tt {0}) (All-each _ (variable_places g) (λ n i. IsIn-distinct name_eq name_eq-Decides (variable_places g) n i)))
     ∙ in-order vs (distinct-IsDistinct name_eq (symmetric name_eq name_eq-Decides) (variable_places g))
 
--- A SYMBOL MEANS ITS CONSTANT: named by `c_` and the name, and declared at its generic type
+-- A symbol means its constant: named by `c_` and the name, and declared at its generic type
 pub constant-means : (d : List Declaration) (symbols : Symbols) (n : Name) → DeclaresConstant d symbols n → IsName n → primitive_type n ≡ None → symbol_name d (constant_symbol symbols n) ≡ codes "c_" ++ mangled n → TypeMeant d symbols (generic_type symbols n)
     → MeansConstant d (constant_symbol symbols n) n (length (type_variables (generic_type symbols n))) (close_type (type_variables (generic_type symbols n)) (generic_type symbols n))
 constant-means d symbols n declared is not_primitive text meant =

@@ -1,4 +1,4 @@
--- THE MODULE IS WELL TYPED: by induction on its items, each declaration is typed after those before it.
+-- The module is well typed: by induction on its items, each declaration is typed after those before it.
 use Rattle.std.proofs.Common.{◌≡◌, ℕ, suc, ◌+◌, List, [], ◌∷◌, ◌++◌, length, Bool, true, false, None, Some, refl, sym, ap, subst, ◌∙◌, arith}
 use Rattle.std.specs.Prelude.{replicate, slice_get, unwrap_or, option_map, option_and_then}
 use Rattle.std.specs.List.{AllByRecursion}

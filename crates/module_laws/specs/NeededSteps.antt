@@ -80,7 +80,7 @@ fewer-premises sequents (n ∷ ns) (s ∷ ss) h = h.1
 fewer-premises sequents [] (s ∷ ss) h = absurd h
 fewer-premises sequents (n ∷ ns) [] h = absurd h
 
--- A STEP WITH THE PREMISES THAT IT NEEDS IS A STEP
+-- A step with the premises that it needs is a step
 pub needed-IsStep : (before : List Made) (x : Step) (h : IsStep before x) → AllByRecursion IsSequent h.premises → IsStep before (needed h.premises x)
 needed-IsStep before x h are = go (proves_nothing x.kind h.premises) refl
   where

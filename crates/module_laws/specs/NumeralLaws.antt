@@ -66,11 +66,11 @@ value_after-last n (e ∷ ds) d = value_after-last (10 * n + (e - 48)) ds d
 value_after-numeral : (n : ℕ) → value_after 0 (numeral n) ≡ n
 value_after-numeral = numeral-by_digits (λ n ds. value_after 0 ds ≡ n) (λ n l. omega arith) (λ n ds l e. let last = value_after-last 0 ds (48 + n % 10) in omega (arith, last, e))
 
--- DIFFERENT NUMBERS ARE WRITTEN DIFFERENTLY
+-- Different numbers are written differently
 pub numeral-injective : (m n : ℕ) → numeral m ≡ numeral n → m ≡ n
 numeral-injective m n e = sym (value_after-numeral m) ∙ ap (value_after 0) e ∙ value_after-numeral n
 
--- NUMBERS OF AT MOST 64 DIGITS ARE WRITTEN AS `{}` WRITES THEM
+-- Numbers of at most 64 digits are written as `{}` writes them
 length-decimal : (n : ℕ) → n < 10 ^ 64 → length (decimal n) ≤ suc n
 length-decimal = decimal_by_steps_wide (λ m ds. length ds ≤ suc m) (λ m l. omega arith) (λ m ds l h. omega (arith, length-append ds ((48 + m % 10) ∷ [])))
 

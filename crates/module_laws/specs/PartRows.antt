@@ -1,4 +1,4 @@
--- TYPE DEFINITIONS ARE SHAPED: the definitions of the operator and of the two constants, and the two laws, in the scope of their sequents.
+-- Type definitions are shaped: the definitions of the operator and of the two constants, and the two laws, in the scope of their sequents.
 use Rattle.std.proofs.Common.{◌≡◌, ◌≤◌, ℕ, zero, suc, List, [], ◌∷◌, ◌++◌, map, length, Bool, true, false, Option, Some, inl, inr, refl, sym, ap, subst, ◌∙◌, arith, flat_map, nat_eq, codes}
 use Rattle.std.specs.Prelude.{slice_get, replicate, unwrap_or, not, IsTrue}
 use Rattle.std.specs.List.{AllByRecursion, IsDistinct, list_all}
@@ -92,7 +92,7 @@ part-shut m symbols names c j one d =
 pub part-type : (names : TypeNames) (c : HolType) (f : Term) (one : Sequent) → IsTypeDefinition names c f one → type_or (witness one.conclusion) ≡ c
 part-type names c f one d = ap (λ p. type_or (witness p)) d.holds ∙ ap (λ (o : Option HolType). unwrap_or o bool) d.typed
 
--- THE TYPE VARIABLES OF A TERM'S TYPE are among those of the term
+-- The type variables of a term's type are among those of the term
 pub type-places : (P : Name → Type 0) (binders : List HolType) → ((k : ℕ) (a : HolType) → slice_get binders k ≡ Some a → AllByRecursion P (variable_places a)) → (t : Term) (a : HolType)
     → AllByRecursion P (type_variable_places t) → type_under binders t ≡ Some a → AllByRecursion P (variable_places a)
 type-places P binders b (term.Term.free n t) a h e = subst (λ u. AllByRecursion P (variable_places u)) (same_Some _ _ e) h
@@ -193,7 +193,7 @@ module _ (m : List Declaration) (closed : IsClosed m) (symbols : Symbols) (names
   shut : IsShut one
   shut = part-shut m symbols names c j one d
 
-  -- THE ARGUMENTS OF A PART in a shaped scope
+  -- The arguments of a part in a shaped scope
   pub part-at : (G : List Tree) (scope : Scope) → ShapedScope m symbols G scope
       → IsPartAt m G (type_tree symbols scope.types c) (term_tree symbols scope (predicate one.conclusion)) (term_tree symbols scope (witness one.conclusion)) (theorem_tree scope j one)
   part-at G scope is = record {
@@ -234,7 +234,7 @@ module _ (m : List Declaration) (closed : IsClosed m) (symbols : Symbols) (names
         ap (head_step m) (type_tree-lift symbols other (new_type names)) ∙ new-head (lifted_types other) (Covers-lifted names.variables other covers)
         ∙ ap Some (sym (part_tree-lifted symbols other sub_symbol c (j, one) shut) ∙ sym (part_tree-lift symbols (filled symbols other) sub_symbol c (j, one)))
 
-    -- THE DEFINITIONS
+    -- The definitions
     pub abstraction-called : (ns : List Name) → ((n : Name) → IsIn ns n → IsIn names.variables n) → IsCallDefinition m (under [] (map (λ n. types) ns)) (part_tree symbols (filled symbols (under_types ns unfilled)) sub_abs_symbol c (j, one))
         (term_of (type_tree symbols (under_types ns unfilled) (abstraction_type names c)))
     abstraction-called ns h =
@@ -253,7 +253,7 @@ module _ (m : List Declaration) (closed : IsClosed m) (symbols : Symbols) (names
         let is = filled-shaped m closed symbols G other (under_types-shaped m closed symbols ns [] unfilled (λ n. shape.IsConstant.constant refl tt)) in
         representation-definition m _ _ _ _ (part-at G (filled symbols other) is) (type_tree symbols other (new_type names)) (new-head other covers)
 
-    -- THE CONSTANTS, at their generic types, under a binder of a filled scope
+    -- The constants, at their generic types, under a binder of a filled scope
     module _ (abs : IsPartConstant m symbols names.abstraction (abstraction_type names c) sub_abs_symbol c j one) (rep : IsPartConstant m symbols names.representation (representation_type names c) sub_rep_symbol c j one)
         (G : List Tree) (other : TypeScope) (is : ShapedScope m symbols G (filled symbols other)) (covers : Covers names.variables other) where
       inner_scope : Scope
@@ -290,7 +290,7 @@ module _ (m : List Declaration) (closed : IsClosed m) (symbols : Symbols) (names
           (Covers-lifted (type_variables (representation_type names c)) other (Covers-more names.variables (type_variables (representation_type names c)) other (representation-own names c) covers)) y
           ∙ ap (λ t. Some (App t y)) (part-same sub_rep_symbol)
 
-      -- THE FIRST LAW
+      -- The first law
       pub first-shaped : IsLaw m G (first_law_tree symbols (filled symbols other) names c (j, one)) (proof_of (term_tree symbols (filled symbols other) (first_law names c).conclusion))
       first-shaped =
           let A : Tree = term_of (type_tree symbols other (new_type names)) in
@@ -305,7 +305,7 @@ module _ (m : List Declaration) (closed : IsClosed m) (symbols : Symbols) (names
           (new-head-lifted other covers ∙ ap Some (part_tree-lift symbols (filled symbols other) sub_symbol c (j, one)))
           abs-head rep-head
 
-      -- THE SECOND LAW
+      -- The second law
       pub second-shaped : IsLaw m G (second_law_tree symbols (filled symbols other) names c (j, one)) (proof_of (term_tree symbols (filled symbols other) (second_law names c (predicate one.conclusion)).conclusion))
       second-shaped =
           let B = type_tree symbols other c in
@@ -322,7 +322,7 @@ module _ (m : List Declaration) (closed : IsClosed m) (symbols : Symbols) (names
           (own-shaped A names.representation (representation_type names c) sub_rep_symbol rep representation-over)
           abs-head rep-head)
 
-    -- IN VERSION 5: the laws at a variable of a shaped scope, with the premise where nothing is put for its free variables
+    -- In version 5: the laws at a variable of a shaped scope, with the premise where nothing is put for its free variables
     module _ (abs : IsPartConstant m symbols names.abstraction (abstraction_type names c) sub_abs_symbol c j one) (rep : IsPartConstant m symbols names.representation (representation_type names c) sub_rep_symbol c j one)
         (G : List Tree) (scope : Scope) (is : ShapedScope m symbols G scope) (covers : Covers names.variables scope.types) where
       abbrev K : ℕ → Tree
@@ -390,7 +390,7 @@ module _ (m : List Declaration) (closed : IsClosed m) (symbols : Symbols) (names
             close = close_same;
           }
 
--- THE SCOPE OF A LAW: it has type variables alone
+-- The scope of a law: it has type variables alone
 law-scope : (symbols : Symbols) (s : Sequent) → free_variables_of s ≡ [] → s.hypotheses ≡ [] → scope_of symbols s ≡ filled symbols (under_types (type_variables_of s) unfilled)
 law-scope symbols s e h i = under_proofs (h i) (under_terms (e i) (scope_of_types symbols s))
 
@@ -476,7 +476,7 @@ module _ (m : List Declaration) (closed : IsClosed m) (symbols : Symbols) (names
   own_definition : IsTypeDefinition names part.c (predicate one.conclusion) one
   own_definition = subst (λ f. IsTypeDefinition names part.c f one) (same_predicate part.c part.f part.defines) part.defines
 
-  -- THE FIRST LAW IN THE SCOPE OF ITS SEQUENT
+  -- The first law in the scope of its sequent
   pub first_law-row : (c : HolType) (f : Term) → IsTypeDefinition names c f one → s ≡ first_law names c
       → ShownLaw m (context_of symbols s) (first_law_tree symbols (scope_of symbols s) names (type_or (witness one.conclusion)) (j, one)) (term_tree symbols (scope_of symbols s) s.conclusion)
   first_law-row c f d e =
@@ -497,7 +497,7 @@ module _ (m : List Declaration) (closed : IsClosed m) (symbols : Symbols) (names
         close = close_same;
       }
 
-  -- THE SECOND LAW IN THE SCOPE OF ITS SEQUENT
+  -- The second law in the scope of its sequent
   pub second_law-row : (c : HolType) (f : Term) → IsTypeDefinition names c f one → s ≡ second_law names c f
       → ShownLaw m (context_of symbols s) (second_law_tree symbols (scope_of symbols s) names (type_or (witness one.conclusion)) (j, one)) (term_tree symbols (scope_of symbols s) s.conclusion)
   second_law-row c f d e =
@@ -525,7 +525,7 @@ module _ (m : List Declaration) (closed : IsClosed m) (symbols : Symbols) (names
       (Covers-terms names.variables (free_variables_of s) (scope_of_types symbols s)
       (Covers-more (type_variables_of s) names.variables (under_types (type_variables_of s) unfilled) (law-listed names s none places) (Covers-under (type_variables_of s))))
 
-  -- THE LAWS IN VERSION 5
+  -- The laws in version 5
   pub first_law_free-row : (c : HolType) (f : Term) → IsTypeDefinition names c f one → s ≡ first_law_free names c
       → ShownLaw m (context_of symbols s) (first_law_free_tree symbols (scope_of symbols s) names (type_or (witness one.conclusion)) (j, one)) (term_tree symbols (scope_of symbols s) s.conclusion)
   first_law_free-row c f d e =
@@ -549,7 +549,7 @@ module _ (m : List Declaration) (closed : IsClosed m) (symbols : Symbols) (names
       (second_free m closed symbols names part.c j one premise part.operator part.abstraction part.representation (context_of symbols s) (scope_of symbols s) own.scope (law-covers none places) lemma
       (shut-places (free_places (predicate one.conclusion)) own_definition.closed))
 
--- THE DEFINITIONS UNDER THEIR BINDERS
+-- The definitions under their binders
 call-abstractions : (m : List Declaration) {G : List Tree} (ns : List Name) {t A : Tree} → IsCallDefinition m (under G (map (λ n. types) ns)) t A → IsCallDefinition m G (abstractions (map (λ n. types) ns) t) (products (map (λ n. types) ns) A)
 call-abstractions m [] h = h
 call-abstractions m (n ∷ ns) h = call_under (call-abstractions m ns h)

@@ -1,4 +1,4 @@
--- THE CHECK OF THE MODULE OF WHAT ROOTS REACH: each declaration is found its type, at a price of at most 64 times the square of its weight.
+-- The check of the module of what roots reach: each declaration is found its type, at a price of at most 64 times the square of its weight.
 use Rattle.std.proofs.Common.{◌≡◌, ℕ, ◌*◌, List, [], true, Some, sym, subst, ◌∙◌, arith}
 use Rattle.std.specs.Prelude.{slice_get, take}
 use Rattle.lp_spec.specs.Modules.{Declaration}

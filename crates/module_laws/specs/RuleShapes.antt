@@ -1,4 +1,4 @@
--- EVERY ROW IS SHAPED: the proof of a step, by its rule, is a shaped proof in the scope of its sequent, or a shaped law there.
+-- Every row is shaped: the proof of a step, by its rule, is a shaped proof in the scope of its sequent, or a shaped law there.
 use Rattle.std.proofs.Common.{Bool, true, false, ◌⊎◌, ◌∙◌, ◌≡◌, ℕ, List, [], ◌∷◌, map, inl, inr, ⊎_elim, refl, sym, ap, subst}
 use Rattle.std.specs.Prelude.{unwrap_or}
 use Rattle.std.specs.List.{AllByRecursion, list_all, list_any, flat_map}
@@ -167,7 +167,7 @@ module _ (m : List Declaration) (closed : IsClosed m) (lemmas : HasLemmas m) (sy
   rule-shaped kind js premises given s (rule.second_law defining e) row lawless p d is over = absurd (cc)
   rule-shaped kind js premises given s (rule.second_law_free defining e) row lawless p d is over = absurd (cc)
 
-  -- THE LAWS: a law of a type definition has a law's body
+  -- The laws: a law of a type definition has a law's body
   pub law-shaped : (kind : StepKind) (js : List ℕ) (premises : List Sequent) (given : Parameters) (s : Sequent) → Rule kind premises given s → is_law kind ≡ true → ArePremises m symbols js premises → Defined m symbols kind js premises given → IsSequent s → SequentOver m symbols s
       → ShownLaw m (context_of symbols s) (proof_tree symbols (scope_of symbols s) kind js premises given) (term_tree symbols (scope_of symbols s) s.conclusion)
   law-shaped kind [] premises given s (rule.first_law defining e) law p d is over = absurd p
@@ -198,7 +198,7 @@ module _ (m : List Declaration) (closed : IsClosed m) (lemmas : HasLemmas m) (sy
   law-shaped kind js premises given s (rule.define_const h e) law p d is over = absurd (cc)
   law-shaped kind js premises given s (rule.define_const_list h l e) law p d is over = absurd (cc)
 
-  -- EVERY STEP WITH A BODY
+  -- Every step with a body
   pub step-shaped : (kind : StepKind) (js : List ℕ) (premises : List Sequent) (given : Parameters) (s : Sequent) → Rule kind premises given s → has_row kind ≡ true → ArePremises m symbols js premises → Defined m symbols kind js premises given → IsSequent s → SequentOver m symbols s
       → HasShapedBody m symbols (λ scope. proof_tree symbols scope kind js premises given) s
       ⊎ ShownLaw m (context_of symbols s) (proof_tree symbols (scope_of symbols s) kind js premises given) (term_tree symbols (scope_of symbols s) s.conclusion)

@@ -331,7 +331,7 @@ module _ (d : List Declaration) (symbols : Symbols) (names : List Name) where
         subst (λ k. StandsForTerm d (close_term names variables c) (place (length names) (length variables) k 0) (term_tree symbols (under_proofs (h ∷ hs) scope) c)) z
         (conclusion_stands hs (suc l) (under_proof h scope) c (under-types l h scope told) (under-terms l h scope terms) m f)
 
--- THE TREE OF A SEQUENT STANDS FOR ITS CLOSED FORM
+-- The tree of a sequent stands for its closed form
 pub sequent_tree-Enc : (d : List Declaration) (symbols : Symbols) (s : Sequent) → IsSequent s → SequentWithin s → HasInstances symbols s → AllByRecursion (TermMeant d symbols) (terms_of s) → Enc d (closed_form s) (sequent_tree symbols s)
 sequent_tree-Enc d symbols s is within instances meant =
     let names = type_variables_of s in

@@ -105,7 +105,7 @@ module _ (m : List Declaration) (closed : IsClosed m) (symbols : Symbols) where
       ∙ ap (map (type_tree symbols scope)) (sym (type_arguments-filled_in (image pairs) generic) ∙ ap (type_arguments generic) own) in
       subst₂ (λ xs a. IsConstant m G (applied (Sym (constant_symbol symbols n)) xs) (term_of a)) arguments result call
 
-  -- TRANSLATED TERMS ARE SHAPED
+  -- Translated terms are shaped
   pub term_tree-shaped : (G : List Tree) (scope : Scope) (binders : List HolType) → ShapedScope m symbols G scope → ShapedBounds m symbols G scope binders → ((k : ℕ) (a : HolType) → slice_get binders k ≡ Some a → TypeOver m symbols a)
       → (t : Term) (a : HolType) → TermOver m symbols t → type_under binders t ≡ Some a → IsTerm m G (term_tree symbols scope t) (type_tree symbols scope.types a)
   term_tree-shaped G scope binders is b o (free n t) a h e = subst (λ u. IsTerm m G (scope.terms (n, t)) (type_tree symbols scope.types u)) (same_Some _ _ e) (is.terms (n, t) h)

@@ -140,7 +140,7 @@ module _ (m : List Declaration) (closed : IsClosed m) where
     under_proofs-HasEntry (p ∷ ps) G scope h (inl (inr k)) = under_proofs-HasEntry ps (proof_of (term_tree symbols scope p) ∷ G) (under_proof p scope) h (inl k)
     under_proofs-HasEntry (p ∷ ps) G scope h (inr k) = under_proofs-HasEntry ps (proof_of (term_tree symbols scope p) ∷ G) (under_proof p scope) h (inr (under_proof-HasEntry G p scope h (inr k)))
 
-    -- THE SEQUENT'S TELESCOPE
+    -- The sequent's telescope
     pub own_shape : (s : Sequent) → IsSequent s → SequentOver m symbols s → OwnShape m symbols s
     own_shape s is over =
         let vs = free_variables_of s in

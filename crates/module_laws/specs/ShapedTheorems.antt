@@ -1,4 +1,4 @@
--- THE LEMMA OF ALL ROWS: a theorem in a scope that fits its sequent is a shaped proof of what its conclusion is in that scope.
+-- The lemma of all rows: a theorem in a scope that fits its sequent is a shaped proof of what its conclusion is in that scope.
 use Rattle.std.proofs.Common.{◌≡◌, ℕ, true, false, List, [], ◌∷◌, ◌++◌, map, Some, inl, refl, sym, ap, subst, ◌∙◌}
 use Rattle.std.specs.List.{AllByRecursion}
 use Rattle.hol_spec.specs.Names.{Name}

@@ -100,7 +100,7 @@ module _ (m : List Declaration) where
     not_kind (hypothesis at lifted) e = let k = lifted ∙ e in cc
     not_kind (under_binder a h) e = cc
 
-    -- WHAT IS A SHAPED PROOF IS TYPED
+    -- What is a shaped proof is typed
     pub proof-typed : {b : Bool} {G : List Tree} {t A : Tree} → IsContext m G → IsProof m b G t A → Typed m G t A
     proof-typed c (call e s) = of_symbol e
     proof-typed c (at_a_type f a e) = of_application (proof-typed c f) (constant-typed a) e
@@ -181,7 +181,7 @@ module _ (m : List Declaration) where
     call-typed c (call_under h) (of_products k l) =
         of_abstraction (of_product (Typed-types m) (declared-typed (IsSound-closed m sound) l) is_type) is_type (call-typed (entry c (Typed-types m)) h l)
 
-    -- WHAT IS SHAPED IS TYPED, by no check
+    -- What is shaped is typed, by no check
     shaped-body : (f : Form) (b : Option Tree) (A : Tree) → IsDeclared m [] A → IsBodyShaped m f b A → IsBodyOf m f b A
     shaped-body Symbol b A d h = h
     shaped-body Def None A d h = h
@@ -198,7 +198,7 @@ module _ (m : List Declaration) where
     declared-context [] c h = c
     declared-context (a ∷ domains) c h = declared-context domains (entry c (declared-typed (IsSound-closed m sound) h.0)) h.1
 
-    -- BODIES TYPED, by the shapes
+    -- Bodies typed, by the shapes
     pub body-typed : HasLemmas m → (symbols : Symbols) (kind : StepKind) (js : List ℕ) (premises : List Sequent) (given : Parameters) (s : Sequent)
         → Rule kind premises given s → has_row kind ≡ true → ArePremises m symbols js premises → Defined m symbols kind js premises given → IsSequent s → SequentOver m symbols s
         → HasBody m symbols (λ scope. proof_tree symbols scope kind js premises given) s

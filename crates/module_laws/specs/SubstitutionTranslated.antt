@@ -99,7 +99,7 @@ substituted-statement symbols pairs terms closed (h ∷ hs) c scope i j =
     ap₂ (λ x y. Pi (proof_of x) y) (sym (term_tree-substitution symbols pairs terms closed scope h i.0))
     (ap (statement_tree symbols hs c) (images-lifted symbols pairs terms scope) ∙ substituted-statement symbols pairs terms closed hs c (lifted scope) i.1 j)
 
--- TRANSLATION OF SUBSTITUTION for a sequent: what follows its products over type variables and free variables, with the translated images put
+-- Translation of substitution for a sequent: what follows its products over type variables and free variables, with the translated images put
 -- in, is the product over the proofs of the substituted hypotheses, one for each also where two become equal, which ends in the proofs of the
 -- substituted conclusion.
 pub sequent-substitution : (m : List Declaration) (symbols : Symbols) (pairs : TypePairs) (terms : TermPairs) → AreClosed terms → (scope : Scope) (s : Sequent) → IsSequent s → HasInstances symbols s
@@ -109,7 +109,7 @@ sequent-substitution m symbols pairs terms closed scope s is instances =
     rest-put_all m symbols (images symbols pairs terms scope) s is instances
     ∙ substituted-statement symbols pairs terms closed s.hypotheses s.conclusion scope instances.hypotheses instances.conclusion
 
--- TRANSLATION OF SUBSTITUTION for a type and for a term under the binders of their variables: to put the translated images in its tree is to
+-- Translation of substitution for a type and for a term under the binders of their variables: to put the translated images in its tree is to
 -- translate what was substituted.
 pub type-put_all : (symbols : Symbols) (pairs : TypePairs) (scope : TypeScope) (names : List Name) (t : HolType) → AllByRecursion (IsIn names) (variable_places t)
     → put_all (map (λ n. type_tree symbols scope (image pairs n)) names) (type_tree symbols (under_types names unfilled) t) ≡ type_tree symbols scope (substitute pairs t)

@@ -49,7 +49,7 @@ module _ (symbols : Symbols) where
   pub term_tree-inside : (scope : Scope) (t : Term) → loose t ≤ 0 → lift 1 (term_tree symbols scope t) ≡ term_tree symbols (inside scope) t
   term_tree-inside scope t h = term_tree-lift symbols scope t ∙ term_tree-bounds 0 (lifted scope) (inside scope).bounds (λ k l. absurd (omega (arith, l))) t h
 
-  -- TRANSLATION OF SUBSTITUTION: the tree of a term with types and terms substituted is the tree of the term in the scope of the images
+  -- Translation of substitution: the tree of a term with types and terms substituted is the tree of the term in the scope of the images
   pub term_tree-substitution : (pairs : TypePairs) (terms : TermPairs) → AreClosed terms → (scope : Scope) (t : Term) → AreInstances symbols t → term_tree symbols scope (sub pairs terms t) ≡ term_tree symbols (images symbols pairs terms scope) t
   term_tree-substitution pairs terms c scope (free n t) h = refl
   term_tree-substitution pairs terms c scope (bound k) h = refl

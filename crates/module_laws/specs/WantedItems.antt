@@ -51,7 +51,7 @@ pub needs-wanted : (wanted : List Key) (x : Item) (earlier : List Item) → is_w
 needs-wanted wanted x earlier h k i =
     all-still (wanted_after wanted x) earlier k (subst (λ b. IsIn (cond b (wanted ++ needs x.content) wanted) k) (sym h) (IsIn-right wanted (needs x.content) k i))
 
--- THE LAW OF WANTED ITEMS: what gives a key that a wanted item needs is wanted in the end
+-- The law of wanted items: what gives a key that a wanted item needs is wanted in the end
 pub needed-is_wanted : (wanted : List Key) (x y : Item) (earlier : List Item) → is_wanted wanted x ≡ true → IsIn (needs x.content) (gives y) → is_wanted (all_wanted wanted (x ∷ earlier)) y ≡ true
 needed-is_wanted wanted x y earlier h i = wanted-in (all_wanted wanted (x ∷ earlier)) (gives y) (needs-wanted wanted x earlier h (gives y) i)
 

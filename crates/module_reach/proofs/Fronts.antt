@@ -154,7 +154,7 @@ needed-earlier n ss x h = go (proves_nothing x.kind ss)
     go true = drop-All (λ k. k < n) x.premises h
     go false = h
 
--- WHAT A STEP SHOWS IS TOLD BY THE WHOLE
+-- What a step shows is told by the whole
 pub step_content-front : (named : Naming) (front rest : List Made) (x : Step) → IsProof (front ++ Made.step x ∷ rest)
     → (let made = front ++ Made.step x ∷ rest in
     let y = needed (map (sequent_at made) x.premises) x in

@@ -170,7 +170,7 @@ module _ (p : Kept) (list : List Item) (x : Item) (old new : Items) (h : AreList
   known-more : (what : Need) → new.needs.items ≡ old.needs.items ++ what ∷ [] → IsNeedKnown p what → AllByRecursion (IsNeedKnown p) new.needs.items
   known-more what e k = subst (AllByRecursion (IsNeedKnown p)) (sym e) (All-append (IsNeedKnown p) old.needs.items (what ∷ []) h.known (k, tt {0}))
 
-  -- A CONSTANT MORE
+  -- A constant more
   pub constant-AreListed : (n : Name) (what : Need) → AddsConstant p list n what x → new.steps.items ≡ old.steps.items → new.needs.items ≡ old.needs.items ++ what ∷ []
       → ((q : Key) → found new.index q ≡ cond (key_eq (constant_key n) q) (Some (length old.needs.items)) (found old.index q)) → AreListed p (list ++ x ∷ []) new
   constant-AreListed n what a steps needs f = record {
@@ -181,7 +181,7 @@ module _ (p : Kept) (list : List Item) (x : Item) (old new : Items) (h : AreList
     known = known-more what needs a.known;
   }
 
-  -- AN OPERATOR MORE
+  -- An operator more
   pub operator-AreListed : (n : Name) (k : ℕ) (what : Need) → AddsOperator p list n k what x → new.steps.items ≡ old.steps.items → new.needs.items ≡ old.needs.items ++ what ∷ []
       → ((q : Key) → found new.index q ≡ cond (key_eq (operator_key n k) q) (Some (length old.needs.items)) (found old.index q)) → AreListed p (list ++ x ∷ []) new
   operator-AreListed n k what a steps needs f = record {
@@ -210,14 +210,14 @@ steps-count front =
     length-map (said_by (made_items front)) (λ (p : ℕ × Sequent). p.0) ∙ sym (length-map (said_by (made_items front)) (λ (p : ℕ × Sequent). p.1))
     ∙ ap length (said-sequents unnamed front) ∙ length-map (steps_of front) (λ (x : Step). x.sequent)
 
--- WHAT A STEP SHOWS
+-- What a step shows
 pub content-there : (front rest : List Made) (x : Step) → IsProof (front ++ Made.step x ∷ rest)
     → step_content (made_items front) x ≡ content_at (numbers_of (made_items (front ++ Made.step x ∷ rest))) (front ++ Made.step x ∷ rest) (length (steps_of front))
 content-there front rest x proof =
     let made = front ++ Made.step x ∷ rest in
     step_content-front unnamed front rest x proof ∙ sym (ap (λ y. let z = needed (map (sequent_at made) y.premises) y in shown_at (numbers_of (made_items made)) made z) (step-there front rest x))
 
--- ONE MORE STEP
+-- One more step
 module _ (p : Kept) (front rest : List Made) (x : Step) (proof : IsProof p.made) (whole : p.made ≡ front ++ Made.step x ∷ rest) (old new : Items) (h : AreListed p (made_items front) old) where
   next_step : Item
   next_step = record { symbol = length (made_items front); name = []; content = step_content (made_items front) x }

@@ -95,11 +95,11 @@ module _ (m n : Naming) (made : List Made) where
   items-alike : AreAlike (items_of m made) (items_of n made)
   items-alike = after-alike m n [] [] made (tt {0})
 
-  -- THERE ARE AS MANY ITEMS, WHATEVER THE NAMES
+  -- There are as many items, whatever the names
   pub count-unnamed : length (items_of m made) ≡ length (items_of n made)
   count-unnamed = length-alike (items_of m made) (items_of n made) items-alike
 
-  -- AND THE SAME ARE REACHED
+  -- And the same are reached
   pub keep-unnamed : (exports : List ℕ) (i : ℕ) → keep_of (roots_of m made exports) (items_of m made) i ≡ keep_of (roots_of n made exports) (items_of n made) i
   keep-unnamed exports i =
       ap (λ said. keep_of (map (λ k. number_key (said_at said k).0) exports) (items_of m made) i) (said-alike (items_of m made) (items_of n made) items-alike)

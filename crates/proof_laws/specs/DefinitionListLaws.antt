@@ -101,7 +101,7 @@ of_parts h (Some q) is typed v t e =
     let ty : v.1 ≡ q.ty = same_Some _ _ (subst (λ u. HasType u q.ty) sides.0 left) in
     whole ∙ (λ i. equation (sym ty i) (sides.0 i) (sides.1 i))
 
--- EVERY HYPOTHESIS of an accepted list is an equation v = t of a variable of the list.
+-- Every hypothesis of an accepted list is an equation v = t of a variable of the list.
 pub every-hypothesis : (pairs : ConstantPairs) (one : Sequent) → IsSequent one → is_definition_list pairs one ≡ true
     → AllByRecursion (λ h. (e : Variable × Term) × ((variable_equation h ≡ Some e) × (is_in variable_eq e.0 (variables_of pairs) ≡ true))) one.hypotheses
 every-hypothesis pairs one is good =

@@ -111,7 +111,7 @@ second_law_free-typed names c f h =
     type_of-equation bool (app f v) (equation c back v) (type_under-app [] f v c bool h refl)
     (type_of-equation c back v (represented-typed names c (abstracted names c v) [] (abstracted-typed names c v [] refl)) refl)
 
--- THE LAW OF RULES.
+-- The law of rules.
 pub rule-IsSequent : (kind : StepKind) (premises : List Sequent) (given : Parameters) (s : Sequent) → Rule kind premises given s → AllByRecursion IsSequent premises → IsSequent s
 rule-IsSequent kind premises given s (rule.refl {t = t} {a = a} h e) p = made [] (equation a t t) s e IsDistinct-none (tt {0}) (type_of-equation a t t h h)
 rule-IsSequent kind premises given s (rule.assume {p = q} h e) p = made (q ∷ []) q s e (IsDistinct-alone q) (h, tt {0}) h

@@ -115,7 +115,7 @@ module _ (symbols : List Symbol) where
   abstracted-taken : (names : TypeNames) (c : HolType) (f t : Term) → TypeDefinitionParts names c f → TermTaken symbols t → TermTaken symbols (abstracted names c t)
   abstracted-taken names c f t p h = ((p.abstraction, function-taken symbols c (new_type names) p.whole p.part), h)
 
-  -- THE LAW OF SYMBOLS.
+  -- The law of symbols.
   pub rule-taken : (kind : StepKind) (premises : List Sequent) (given : Parameters) (s : Sequent) → Rule kind premises given s → AllByRecursion (TermsTaken symbols) premises → ParametersTaken symbols given
       → AllByRecursion (DefinitionTaken symbols) (definitions_used kind premises given) → TermsTaken symbols s
   rule-taken kind premises given s (rule.refl {t = t} {a = a} h e) p g d = concludes [] (equation a t t) s e (tt {0}) (equation-taken symbols a t t (type_of-taken symbols t a g h) g g)

@@ -60,7 +60,7 @@ new before x all h false e =
     last : filter_map assumed_by (x ∷ []) ≡ x.sequent ∷ []
     last = rw e refl
 
--- THE LAW OF PROOFS.
+-- The law of proofs.
 pub proof-derives : (made : List Made) → IsProof made → AllByRecursion (Derives (definitions_of made) (assumptions_of made)) (sequents_of made)
 proof-derives m made.Each.empty = tt
 proof-derives m (made.Each.more {made = before} x p h is) =

@@ -36,7 +36,7 @@ use Rattle.rule_proofs.specs.Told.{TellsStep}
 use Rattle.rule_proofs.proofs.ConclusionLaws.{conclusion-same}
 use Rattle.rule_proofs.proofs.SequentLaws.{typed-closed, equated-type, equated-left, equated-right, type-told}
 
--- AN APPLICATION is no other kind of term, and its argument is seen
+-- An application is no other kind of term, and its argument is seen
 module _ (trees : Trees) (id : ℕ) (p t : Term) (is : term_at trees id ≡ app p t) where
   pub application-view : (v : TermView) → Holds trees id (tree_of_view trees v) → ((f x : TermId) → v ≡ view.App f x → ⊥) → ⊥
   application-view (view.Free n t) h other = absurd (let e = Some-term_in trees.terms id _ h in cc)
@@ -57,7 +57,7 @@ argument-told given f x t e h =
     let closed : max (loose f) (loose x) ≤ 0 = subst (λ t. loose t ≤ 0) e h.closed in
     record { told = (subst (TellsTerm given.declarations given.symbols) e h.told).1; closed = omega (arith, closed) }
 
--- WHAT A STEP SAYS IS THAT A PREDICATE HOLDS IN A TERM
+-- What a step says is that a predicate holds in a term
 module _ (k : Kept) (id : ℕ) (l : id < step_count k) (p : IsProof k.made) (s : NumberSequent) (is : numbers.sequent_at k.trees s ≡ sequent_at k.made id) (known : numbers.IsKnown k.trees s) (d : IsDefiningStep k id) where
   conclusion-holds : term_at k.trees s.concl.0 ≡ app d.predicate d.defines.witness
   conclusion-holds = conclusion-same k id s is ∙ d.defines.holds
@@ -114,7 +114,7 @@ module _ (k : Kept) (id : ℕ) (h : Holding) (is : IsHolding k id h) where
       pub witness-told : IsTold given (term_at k.trees h.witness.0)
       witness-told = record { told = both-told.1; closed = omega (arith, both-closed) }
 
--- AN EQUATION OF TWO FUNCTIONS
+-- An equation of two functions
 module _ (k : Kept) (id : ℕ) (e : Equated) (h : IsEquated k id e) (a b : HolType) (t u : Term) (is : (sequent_at k.made id).conclusion ≡ equation (function a b) t u) where
   functions-type : type_at k.trees e.ty.0 ≡ function a b
   functions-type = equated-type k id e h ∙ ap equated_type is
@@ -173,7 +173,7 @@ module _ (k : Kept) (id : ℕ) (f : Functions) (is : AreFunctions k id f) where
     pub functions-right : term_at k.trees f.sides.right.0 ≡ u
     functions-right = equated-right k id f.sides is.sides ∙ ap right_side e
 
--- THE PROOF OF A LAW, by what its arguments are
+-- The proof of a law, by what its arguments are
 pub law-made : (symbols : Symbols) (scope : Scope) (from a to b : HolType) (left right t u : Term) (s : ℕ) (c : HolType) (one : Premise) (domain : Tree) → from ≡ a → to ≡ b → left ≡ Term.lam a t → right ≡ Term.lam a u → domain ≡ type_tree symbols scope.types from
     → applied (Sym fun_ext_symbol) (type_tree symbols scope.types from ∷ type_tree symbols scope.types to ∷ term_tree symbols scope left ∷ term_tree symbols scope right
     ∷ Lam (term_of domain) (App (part_tree symbols (lifted scope) s c one) (Var 0)) ∷ [])
@@ -182,7 +182,7 @@ law-made symbols scope from a to b left right t u s c one domain p q l r d = λ 
     applied (Sym fun_ext_symbol) (type_tree symbols scope.types (p i) ∷ type_tree symbols scope.types (q i) ∷ term_tree symbols scope (l i) ∷ term_tree symbols scope (r i)
     ∷ Lam (term_of ((d ∙ ap (type_tree symbols scope.types) p) i)) (App (part_tree symbols (lifted scope) s c one) (Var 0)) ∷ [])
 
--- WHAT A PART STANDS FOR, by what its arguments are
+-- What a part stands for, by what its arguments are
 pub part-made : (symbols : Symbols) (scope : Scope) (s : ℕ) (a c : HolType) (f x : Term) (one : Premise) → a ≡ c → f ≡ predicate one.1.conclusion → x ≡ witness one.1.conclusion
     → applied (Sym s) (type_tree symbols scope.types a ∷ term_tree symbols scope f ∷ term_tree symbols scope x ∷ theorem_tree scope one.0 one.1 ∷ []) ≡ part_tree symbols scope s c one
 part-made symbols scope s a c f x one p q r = λ i. applied (Sym s) (type_tree symbols scope.types (p i) ∷ term_tree symbols scope (q i) ∷ term_tree symbols scope (r i) ∷ theorem_tree scope one.0 one.1 ∷ [])

@@ -249,6 +249,6 @@ module _ (run : Accepted) (sound : IsSoundRun run) (rows : HaveRows run) where
             other (IsStepName.a_law e k w) out h = subst (AreExports (image run) run (length done) rest) (sym (unexported z zs (other_first 76 _ z.name refl w))) h
             other (IsStepName.a_theorem e k w) out h = subst (AreExports (image run) run (length done) rest) (sym (unexported z zs (other_first 84 _ z.name refl w))) h
 
-    -- THE EXPORTS OF THE MODULE ARE THE RUN'S
+    -- The exports of the module are the run's
     pub exports-are : HaveNames run [] items → AreExports (image run) run 0 run.exports (filter (λ (d : Declaration). is_export_name d.name) (image run))
     exports-are names = exports-left [] items [] run.exports refl refl (tt {0}) sound.ascend names

@@ -339,7 +339,7 @@ finish-gives s t h e = extended s t h (Keeps-same s _ refl refl t e)
 abbrev RestatesExports : Accepted → Type 0
 RestatesExports a = AllByRecursion (IsRestated a.made) a.exports
 
--- EACH EXPORT OF AN ACCEPTED RUN RESTATES A THEOREM
+-- Each export of an accepted run restates a theorem
 pub exports-restated : (articles : List (List ℕ)) (a : Accepted) → Run articles (accepted a) → AllByRecursion (IsRestated a.made) a.exports
 exports-restated articles a r =
     runs-have machine HasRestated (record { command = λ s t c h e. step_at-gives s t s.place c.item h e; end = finish-gives }) RestatesExports (λ s h. h) 1 initial articles (accepted a) a (tt {0}) refl r

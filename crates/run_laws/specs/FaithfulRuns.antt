@@ -51,7 +51,7 @@ module _ (run : Accepted) (named : HasNames run) (sound : IsSoundRun run) (carri
         (items-named run named sound [] (items_of (name_in run) run.made) (made-origins run run.made));
   }
 
--- THE LAW OF FAITHFUL MODULES
+-- The law of faithful modules
 pub runs_are_faithful : RunsAreFaithful
 runs_are_faithful articles run r named =
     image-faithful run named (runs_are_sound articles run r) (runs_are_carried (name_in run) articles run r) (exports-proved articles run r)

@@ -304,7 +304,7 @@ module _ (run : Accepted) (named : HasNames run) (sound : IsSoundRun run) (rows 
   named-step j x at =
       step_name-is run j x.kind (λ idle. ap (is_one_of j) sound.assumptions ∙ subst (λ k. is_one_of k (assumed_from 0 (steps_of run.made)) ≡ true) (zero-plus j) (is-assumed 0 (steps_of run.made) j x at idle))
 
-  -- WHAT HAS NO BODY WAS GIVEN
+  -- What has no body was given
   pub item-given : (z : Item) → IsIn (items run named sound) z → keep run named sound z.symbol ≡ true → (declared run named sound z).body ≡ None → IsGiven (image run) run (declared run named sound z)
   item-given z i k none = go (All-at (Origin run run.made Always) (items run named sound) z origins i)
     where
@@ -366,7 +366,7 @@ module _ (run : Accepted) (named : HasNames run) (sound : IsSoundRun run) (rows 
       (subst (λ d. Holds (image run) (symbols run named sound) (number run named sound z.symbol) (renumbered_content (number run named sound) d)) e (held-at z i k)).0
   premise-of z i k names c f one (inr (inr (inr n))) = absurd n
 
-  -- WHAT IS DEFINED THE RUN DEFINED
+  -- What is defined the run defined
   pub item-defined : (z : Item) → IsIn (items run named sound) z → keep run named sound z.symbol ≡ true → (declared run named sound z).form ≡ Def → IsDefined (image run) run (declared run named sound z)
   item-defined z i k def = go (All-at (Origin run run.made Always) (items run named sound) z origins i)
     where
@@ -380,7 +380,7 @@ module _ (run : Accepted) (named : HasNames run) (sound : IsSoundRun run) (rows 
           absurd (no_definition (symbols run named sound) (number run named sound) z.name (has_row x.kind) kind js ss g x.sequent
           (ap (λ c. (declaration_of (symbols run named sound) z.name (renumbered_content (number run named sound) c)).form) (sym e) ∙ def))
 
-  -- WHAT IS PROVED HAS THE NAME OF A THEOREM
+  -- What is proved has the name of a theorem
   pub item-theorem : (z : Item) → IsIn (items run named sound) z → (declared run named sound z).form ≡ Thm → IsTheoremName (declared run named sound z).name
   item-theorem z i thm =
       subst IsTheoremName (sym (declaration-name (symbols run named sound) z.name (renumbered_content (number run named sound) z.content))) (go (All-at (Origin run run.made Always) (items run named sound) z origins i))

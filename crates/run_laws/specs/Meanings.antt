@@ -37,7 +37,7 @@ use Rattle.module_laws.specs.MeaningLaws.{constant-means}
 use Rattle.run_laws.specs.NewNames.{IsSymbolName}
 use Rattle.run_laws.specs.RunModules.{declaration-name}
 
--- THE TYPE OF A TERM whose symbols mean what they stand for has such symbols
+-- The type of a term whose symbols mean what they stand for has such symbols
 module _ (m : List Declaration) (symbols : Symbols) where
   pub TypeMeant-type_under : (binders : List HolType) → ((k : ℕ) (a : HolType) → slice_get binders k ≡ Some a → TypeMeant m symbols a) → (t : Term) (a : HolType) → TermMeant m symbols t → type_under binders t ≡ Some a → TypeMeant m symbols a
   TypeMeant-type_under binders b (term.Term.free n t) a h e = subst (TypeMeant m symbols) (same_Some _ _ e) h
@@ -194,7 +194,7 @@ module _ (m : List Declaration) (symbols : Symbols) where
       is = g;
     }
 
-    -- THE SYMBOL OF AN ITEM MEANS WHAT IT STANDS FOR
+    -- The symbol of an item means what it stands for
     pub symbol-meant : (before : List Item) (c : Content) → IsSymbolName ss c name → IsNew before c → Tells symbols i c → ContentMeant c → Declares c → ItemMeant c
     symbol-meant before c (IsSymbolName.an_input n is e w) new tells meant d =
         let t = subst (Tells symbols i) e tells in

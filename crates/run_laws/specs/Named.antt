@@ -78,7 +78,7 @@ is-assumed k (y ∷ xs) (suc i) x at idle =
     go true rest = rest
     go false rest = more-one (k + suc i) k (assumed_from (k + 1) xs) rest
 
--- THE NAME OF A STEP: `E` and its place among the exports, `A` and its place among the assumptions, or `L` or `T` and its number
+-- The name of a step: `E` and its place among the exports, `A` and its place among the assumptions, or `L` or `T` and its number
 pub data IsStepName (run : Accepted) (i : ℕ) (kind : StepKind) (name : List ℕ) : Type 0 where
   an_export : is_one_of i run.exports ≡ true → name ≡ codes "E" ++ numeral (position_or_len (nat_eq i) run.exports) → IsStepName run i kind name
   an_assumption : is_one_of i run.exports ≡ false → is_one_of i run.assumptions ≡ true → kind ≡ kinds.Axiom → name ≡ codes "A" ++ numeral (position_or_len (nat_eq i) run.assumptions) → IsStepName run i kind name
@@ -121,7 +121,7 @@ other_byte a b r s name h e f =
 pub one_byte : (a : ℕ) (r s name : List ℕ) → name ≡ a ∷ r → name ≡ a ∷ s → r ≡ s
 one_byte a r s name e f = let g : a ∷ r ≡ a ∷ s = sym e ∙ f in cc
 
--- NO TWO STEPS HAVE ONE NAME
+-- No two steps have one name
 pub same-step : (run : Accepted) (i j : ℕ) (k l : StepKind) (name : List ℕ) → IsStepName run i k name → IsStepName run j l name → i ≡ j
 same-step run i j k l name (IsStepName.an_export e n) (IsStepName.an_export f m) =
     same-place i j run.exports e f (numeral-injective _ _ (one_byte 69 _ _ name n m))

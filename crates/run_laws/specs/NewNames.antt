@@ -41,7 +41,7 @@ constant_named (type_abstraction names c u j one) = Some names.abstraction
 constant_named (type_representation names c u j one) = Some names.representation
 constant_named c = None
 
--- THE NAME OF A SYMBOL'S ITEM
+-- The name of a symbol's item
 pub data IsSymbolName (symbols : List Symbol) (c : Content) (name : List ℕ) : Type 0 where
   an_input : (n : Name) → IsName n → c ≡ constant n generic → name ≡ codes "i_" ++ mangled n → IsSymbolName symbols c name
   an_input_operator : (n : Name) (k : ℕ) → IsName n → c ≡ operator n k → name ≡ codes "t" ++ (numeral k ++ (codes "_" ++ mangled n)) → IsSymbolName symbols c name
@@ -206,7 +206,7 @@ other_front a b r s name h e f =
 two_fronts : (a b : ℕ) (r s name : List ℕ) → name ≡ a ∷ b ∷ r → name ≡ a ∷ b ∷ s → r ≡ s
 two_fronts a b r s name e f = let g : a ∷ b ∷ r ≡ a ∷ b ∷ s = sym e ∙ f in cc
 
--- NO TWO ITEMS OF SYMBOLS HAVE ONE NAME
+-- No two items of symbols have one name
 pub symbols-apart : (made : List Made) → IsProof made → (before : List Item) (y : Item) (c : Content) (name : List ℕ) → IsNew before c → IsIn before y → IsSymbolName (symbols_of made) y.content name → IsSymbolName (symbols_of made) c name → ⊥
 symbols-apart made p before y c name new i (IsSymbolName.an_input n is e w) (IsSymbolName.an_input m js f v) =
     one-constant m n c y.content before y new i refl (ap constant_named e) (ap constant_named f) (mangled-injective n m is js (two_fronts 105 95 _ _ name w v))

@@ -100,6 +100,6 @@ module _ (run : Accepted) (made : List Made) where
       origins-after (before ++ Made.step x ∷ []) xs (ps ++ new) (whole ∙ sym (append_assoc before (Made.step x ∷ []) xs)) longer
       (origins-append [] ps new h (Origin.of_step n x y.kind js ss y.parameters refl at content refl, tt {0}))
 
--- EACH ITEM HAS ITS ORIGIN
+-- Each item has its origin
 pub made-origins : (run : Accepted) (made : List Made) → HaveOrigins run made [] (items_of (name_in run) made)
 made-origins run made = origins-after run made [] made [] refl refl (tt {0})

@@ -111,7 +111,7 @@ module _ (j : ℕ) where
         (type_tree symbols scope.types bool ∷ term_tree symbols scope (equation c (represented names c (abstracted names c (old_variable c))) (old_variable c)) ∷ term_tree symbols scope (app (predicate one.conclusion) (old_variable c)) ∷ last ∷ [])
         last (inr (inr (inr (inl refl)))) (ap (λ b. b || occurs j x) (part-used (filled symbols scope.types) sub_rep_abs_symbol c a one same))
 
-    -- THE PROOF OF A STEP USES ITS PREMISES
+    -- The proof of a step uses its premises
     pub premises-used : (before : List Item) (kind : StepKind) (js : List ℕ) (premises : List Sequent) (given : Parameters) (s : Sequent) → Rule kind premises given s → ArePremisesAmong before js premises → ProvesHypothesis kind premises → Uses kind premises given js
     premises-used before kind js premises given s (rule.refl h e) among used = none before kind given js among
     premises-used before kind js premises given s (rule.assume h e) among used = none before kind given js among

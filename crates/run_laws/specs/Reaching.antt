@@ -84,7 +84,7 @@ module _ (roots : List Key) (items : List Item) where
     split-at (x ∷ xs) z (inl e) = ([], xs, ap (λ y. y ∷ xs) (sym e))
     split-at (x ∷ xs) z (inr i) = let r = split-at xs z i in (x ∷ r.0, r.1, ap (λ l. x ∷ l) r.2)
 
-    -- WHAT IS KEPT IS REACHED
+    -- What is kept is reached
     pub kept-reached : (z : Item) → IsIn items z → keep_of roots items z.symbol ≡ true → IsReachedItem z
     kept-reached z i k =
         let s = split-at items z i in

@@ -1,4 +1,4 @@
--- THE MODULE OF AN ACCEPTED RUN IS A MODULE: its declarations have new names, and are over what is declared before.
+-- The module of an accepted run is a module: its declarations have new names, and are over what is declared before.
 use Rattle.std.proofs.Common.{◌≡◌, ℕ, ◌<◌, ◌≤◌, inl, List, [], ◌∷◌, ◌++◌, map, length, Bool, true, false, ◌||◌, cond, Some, slice_get, refl, sym, ap, subst, ◌∙◌, append_assoc, arith}
 use Rattle.std.specs.Prelude.{nat_le, bytes_eq}
 use Rattle.std.specs.List.{AllByRecursion}
@@ -255,7 +255,7 @@ module _ (run : Accepted) (named : HasNames run) (sound : IsSoundRun run) where
       (names-append signature lemmas ds (refl, (refl, tt {0}))
       (new-names (signature ++ lemmas) ds (All-weaker (λ (d : Declaration). second_byte d.name ≤ 95) _ (λ d l. reserved-other d.name l) ds low) other))
 
--- THE LAW: of a run whose names are of bytes
+-- The law: of a run whose names are of bytes
 abbrev pub RunsAreModules : Type 0
 RunsAreModules = (articles : List (List ℕ)) (run : Accepted) → Run articles (accepted run) → HasNames run → IsModule (image run)
 

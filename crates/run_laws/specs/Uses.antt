@@ -215,7 +215,7 @@ module _ (symbols : Symbols) (k : Key) where
         TreeUses.it (variable-occurs v (IsIn-distinct variable_eq variable_eq-Decides (flat_map free_places (terms_of q)) v (IsIn-flat_map free_places (terms_of q) t v i j)) h)
     formula-uses t i (TermUses.by_constant n f h) = TreeUses.constant_of n (formula-occurs (constant_symbol symbols n) t i f) h
 
-    -- THE TREE OF A SEQUENT USES WHAT THE SEQUENT MENTIONS
+    -- The tree of a sequent uses what the sequent mentions
     pub sequent-uses : IsIn (sequent_keys q) k → TreeUses (sequent_tree symbols q)
     sequent-uses i = elim (IsIn-either (flat_map term_keys q.hypotheses) (term_keys q.conclusion) k i) [
       | inl j ↦

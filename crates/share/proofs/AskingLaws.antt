@@ -56,7 +56,7 @@ answers-more m ts noted noted' q r l t f a = record { each = λ n s e. go n s (n
         subst (λ k. (k < length ts) × Tells ts s (answer m (tree_at ts k))) same (l, subst (λ o. Tells ts o (answer m (tree_at ts q))) told t)
     go n s false i e = a.each n s (sym (ap (λ b. if b then Some r else noted n) i) ∙ e)
 
--- A TURN THAT KNOWS THE ANSWER
+-- A turn that knows the answer
 pub asking-known : (old new : Module) (noted noted' : ℕ → Option (Option LpId)) (qs : List LpId) (q : LpId) (r : Option LpId) (t : Turn) → new.decls ≡ old.decls → Keeps old.table new.table → IsAsking old noted qs → q.0 < length old.table
     → t ≡ turn.Known r → Turns (declarations_of old) new.table t (answer (declarations_of old) (tree_at old.table q.0)) → ((n : ℕ) → noted' n ≡ (if nat_eq q.0 n then Some r else noted n)) → IsAsking new noted' qs
 asking-known old new noted noted' qs q r t e k a l s h f =
@@ -65,7 +65,7 @@ asking-known old new noted noted' qs q r t e k a l s h f =
     let here : Tells new.table r (answer (declarations_of new) (tree_at new.table q.0)) = subst (λ m. Tells new.table r (answer m (tree_at new.table q.0))) (sym (declarations-after old new e k a.held)) (subst (λ y. Tells new.table r (answer (declarations_of old) y)) (tree_at-Stays k.stays q.0 l) told) in
     record { held = b.held; answers = answers-more (declarations_of new) new.table noted noted' q.0 r (let w = k.longer in omega (arith, w, l)) here f b.answers; waiting = b.waiting }
 
--- A TURN THAT ASKS A FURTHER QUESTION
+-- A turn that asks a further question
 pub asking-needs : (old new : Module) (noted : ℕ → Option (Option LpId)) (qs qs' : List LpId) (q p : LpId) (t : Turn) → new.decls ≡ old.decls → Keeps old.table new.table → IsAsking old noted qs → IsQuestion (declarations_of old) old.table q
     → t ≡ turn.Needs p → Turns (declarations_of old) new.table t (answer (declarations_of old) (tree_at old.table q.0)) → qs' ≡ p ∷ q ∷ qs → IsAsking new noted qs'
 asking-needs old new noted qs qs' q p t e k a h s v w =

@@ -21,7 +21,7 @@ use Rattle.share_laws.specs.NumberedTrees.{counted-places, down}
 use Rattle.share.specs.NodeParts.{parts_of}
 use Rattle.share.specs.Counts.{Agrees, AreBelow, AreCounted, AreLower, IsBelow, IsBodyBelow, IsLower, IsMore}
 
--- A NUMBER ABOVE THOSE OF DECLARATIONS
+-- A number above those of declarations
 abbrev pub FirstBelow : ℕ → ℕ → List Decl → Type 0
 FirstBelow count top ds = (j : ℕ) (d : Decl) → j < count → slice_get ds j ≡ Some d → IsBelow top d
 
@@ -45,7 +45,7 @@ one_below count a b ds d e h l first j x lt f = go (cases j count lt)
 pub all_below : (count top : ℕ) (ds : List Decl) → length ds ≤ count → FirstBelow count top ds → AreBelow top ds
 all_below count top ds l h i d e = let w = slice_get_within ds i d e in h i d (omega (arith, w, l)) e
 
--- ONE MORE
+-- One more
 module _ (ts : List Tree) (distinct : IsDistinct ts) where
   -- a count that a number is handed is that of its tree
   pub hand_at : (counts : List ℕ) (id n i : ℕ) (t : Tree) → id < length counts → length counts ≤ length ts → Holds ts i t → i < length counts
@@ -79,7 +79,7 @@ module _ (ts : List Tree) (distinct : IsDistinct ts) where
       go true = omega (arith, e)
       go false = omega (arith, e)
 
--- COUNTS OF DECLARATIONS
+-- Counts of declarations
 abbrev pub roots_of : List Tree → List Decl → List Tree
 roots_of ts ds = flat_map roots_in (map (declaration_in ts) ds)
 
@@ -142,7 +142,7 @@ slice_get-drop (x ∷ xs) zero i j e = ap (slice_get (x ∷ xs)) (let s : i ≡ 
 slice_get-drop (x ∷ xs) (suc n) i zero e = absurd (omega arith)
 slice_get-drop (x ∷ xs) (suc n) i (suc j) e = slice_get-drop xs n i j (omega arith)
 
--- A PASS over the numbers, downwards, makes counts of places of counts of roots
+-- A pass over the numbers, downwards, makes counts of places of counts of roots
 pub places_counted : (ts : List Tree) (ds : List Decl) (first : ℕ) (counts : List ℕ) → IsDistinct ts → length counts ≤ length ts → AreBelow (length counts) ds → AreLower ts (length counts)
     → (new : List ℕ) → Agrees ts new (passed (down ts (length counts)) (λ t. min 2 (places t (roots_of ts (drop first ds))))) → AreCounted ts (drop first ds) new
 places_counted ts ds first counts distinct l below lower new a i t h m =
@@ -151,7 +151,7 @@ places_counted ts ds first counts distinct l below lower new a i t h m =
     (λ r e. roots-below ts (length counts) (drop first ds) r l (λ j d f. below (first + j) d (sym (slice_get-drop ds first j (first + j) refl) ∙ f)) e) t
     ∙ ap (λ xs. min 2 (places t xs)) (roots-parts (map (declaration_in ts) (drop first ds)))
 
--- THE PASS, as far as it has come: what it makes of the first counts is what the rest of it makes of these
+-- The pass, as far as it has come: what it makes of the first counts is what the rest of it makes of these
 pub record IsPassing (ts : List Tree) (top left : ℕ) (old new : List ℕ) : Type 0 where
   pub within : left ≤ top
   pub length : length new ≡ top
@@ -180,7 +180,7 @@ pass_step ts top left next old counts new e l lower hand p = record {
     go i m n (inl s) = subst (IsLower ts) (sym s) lower
     go i m n (inr k) = p.lower i k n
 
--- THE PARTS of a node
+-- The parts of a node
 part-lower : (ts : List Tree) (t f x p : Tree) (i a b : ℕ) → direct t ≡ f ∷ x ∷ [] → a < i → b < i → Holds ts a f → Holds ts b x → is_in p (direct t) ≡ true → (j : ℕ) × (j < i) × Holds ts j p
 part-lower ts t f x p i a b d l m h k e = go (in-either p (f ∷ []) (x ∷ []) (subst (λ xs. is_in p xs ≡ true) d e))
   where
@@ -242,7 +242,7 @@ two_handed ts counts one two c i f x t distinct l h d m k n e g a =
 pub none_handed : (ts : List Tree) (counts : List ℕ) (c : Tree → ℕ) (t : Tree) → direct t ≡ [] → Agrees ts counts c → Agrees ts counts (handed (direct t) (c t) c)
 none_handed ts counts c t d a = subst (λ xs. Agrees ts counts (handed xs (c t) c)) (sym d) a
 
--- A DECLARATION'S ROOTS have one place more
+-- A declaration's roots have one place more
 abbrev roots_with : List Tree → Decl → Option LpId → List Tree
 roots_with ts d body = tree_at ts d.ty.0 ∷ option_map_or (λ t. t ∷ []) (option_map (λ (id : LpId). tree_at ts id.0) body) []
 

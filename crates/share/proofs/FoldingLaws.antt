@@ -35,7 +35,7 @@ asking-none source noted waits h none e = subst (IsAsking source noted) (sym e) 
 pub AreBelow-more : (a b : ℕ) (ds : List Decl) → a ≤ b → AreBelow a ds → AreBelow b ds
 AreBelow-more a b ds l h i d e = below-more a b d l (h i d e)
 
--- WHAT IS LISTED: the declarations that nothing is abbreviated in, and the others
+-- What is listed: the declarations that nothing is abbreviated in, and the others
 map-drop : {X Y : Type 0} (f : X → Y) (n : ℕ) (xs : List X) → map f (drop n xs) ≡ drop n (map f xs)
 map-drop f zero [] = refl
 map-drop f (suc n) [] = refl
@@ -75,7 +75,7 @@ all-listed source new first counts start listing is c s more =
     ∙ ap₂ (λ x k. x ++ listed_from m all k) (s (omega (arith, n)) ∙ ap (map kept) (ap (λ k. take k m) n ∙ take-min 2 m)) n
     ∙ ap₂ (λ b r. map kept (take 2 m) ++ entries b all [] r) (take-min 2 m) (drop-min 2 m)
 
--- WHAT IS MADE of it, with the places that it tells
+-- What is made of it, with the places that it tells
 pub all-made : (source : Module) (target : List Tree) (es : List Listed) (places : List ℕ) (more : ℕ) (made : List LpId) → entries_in (declarations_of source) source.table es ≡ entries_of (declarations_of source) → places ≡ kept_places 0 es → more + length source.decls ≡ length es
     → AreMade (place_by places more) source.table target made → AreMade (place_in (entries_of (declarations_of source))) source.table target made
 all-made source target es places more made e p n a =

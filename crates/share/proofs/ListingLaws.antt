@@ -53,7 +53,7 @@ take-past [] (suc i) l = refl
 take-past (x ∷ xs) zero l = absurd (omega (arith, l))
 take-past (x ∷ xs) (suc i) l = ap (λ ys. x ∷ ys) (take-past xs i (omega (arith, l)))
 
--- NUMBERS OF ENTRIES
+-- Numbers of entries
 listed-wider : (count n a b : ℕ) (e : Listed) → a ≤ b → IsListed count n a e → IsListed count n b e
 listed-wider count n a b (listed.Kept i) l h = h
 listed-wider count n a b (listed.Abbreviated body ty) l h = (h.0, omega (arith, l, h.1))
@@ -91,7 +91,7 @@ AreIdsBelow-at n [] i id h f = absurd (cc)
 AreIdsBelow-at n (x ∷ xs) zero id h f = subst (λ (y : LpId). y.0 < n) (same_Some _ _ f) h.0
 AreIdsBelow-at n (x ∷ xs) (suc i) id h f = AreIdsBelow-at n xs i id h.1 f
 
--- A GROWN TABLE
+-- A grown table
 entry-stays : (m : List Declaration) (old new : List Tree) (count n : ℕ) (e : Listed) → Keeps old new → n ≤ length old → IsListed count n (length old) e → entry_in m new e ≡ entry_in m old e
 entry-stays m old new count n (listed.Kept i) k l h = refl
 entry-stays m old new count n (listed.Abbreviated body ty) k l h = ap₂ abbreviated (sym (tree_at-Stays k.stays body.0 (omega (arith, h.0, l)))) (sym (tree_at-Stays k.stays ty.0 h.1))
@@ -106,7 +106,7 @@ Agrees-Keeps old new counts c k l a i t h m =
     let same : tree_at old i ≡ t = same_Some _ _ (sym (k.stays.each i (tree_at old i) here) ∙ h) in
     a i (tree_at old i) here m ∙ ap c same
 
--- ONE TREE
+-- One tree
 two-counted : (n : ℕ) → nat_le 2 (min 2 n) ≡ nat_le 2 n
 two-counted zero = refl
 two-counted (suc zero) = refl
@@ -181,7 +181,7 @@ listing-after old new n before after id a e k l h asking adds = record {
   known = subst (λ ds. AreListed (length ds) n (length new.table) after.entries.items) (sym e) (listed-one (length old.decls) n old.table new.table before.entries.items after.entries.items id a k l h.known adds);
 }
 
--- TREES IN ORDER
+-- Trees in order
 pub shared-append : (m : List Declaration) (all xs ys : List Tree) → shared_in m all (xs ++ ys) ≡ shared_in m all xs ++ shared_in m all ys
 shared-append m all xs ys = ap (abbreviations m) (filter-append (is_shared m all) xs ys) ∙ map-append (λ t. abbreviated t (unwrap_or (abbreviation m t) types)) (filter (is_shared m all) xs) (filter (is_shared m all) ys)
 
@@ -272,7 +272,7 @@ listed-last first now start listing counts order from i l h a all g =
     let none : drop i m ≡ [] = drop-past m i (omega (arith, l, length-map first.decls (declaration_in first.table))) in
     sym (append-nil (entries_in m now.table listing)) ∙ ap (λ x. entries_in m now.table listing ++ entries (take i m) all so_far.0 x) (sym none) ∙ so_far.3
 
--- A DECLARATION: its trees, and itself
+-- A declaration: its trees, and itself
 pub declaration-listed : (first new : Module) (start before after : List Listed) (all met : List Tree) (order order' : List LpId) (number from : ℕ) (d : Declaration) (x : Decl)
     → slice_get first.decls number ≡ Some x → slice_get (declarations_of first) number ≡ Some d → Alike (trees_at first.table order) met → IsClosed met → from ≡ length order → trees_at first.table order' ≡ visited_in (trees_at first.table order) (declaration_in first.table x)
     → ListsMore first new start before (shared_in (declarations_of first) all (trees_at first.table (drop from order'))) → after ≡ before ++ listed.Kept number ∷ [] → ListsMore first new start after (shared_in (declarations_of first) all (firsts met (parts_in d)) ++ kept d ∷ [])
@@ -311,7 +311,7 @@ declaration-met first new met n order order' number d x e f h c v k l b =
     let same : declaration_in ts x ≡ d = same_Some _ _ (sym (slice_get-map (declaration_in ts) first.decls number ∙ ap (option_map (declaration_in ts)) e) ∙ f) in
     subst (λ w. Alike w (met ++ parts_in d)) (sym (trees-stay ts new n order' k l b ∙ v ∙ ap (visited_in (trees_at ts order)) same)) (alike-declaration (trees_at ts order) met d h c)
 
--- THE FIRST DECLARATIONS
+-- The first declarations
 pub kept-next : (m : List Declaration) (ts : List Tree) (i : ℕ) (es es' : List Listed) → es' ≡ es ++ listed.Kept i ∷ [] → i + 1 ≤ length m → entries_in m ts es ≡ map kept (take i m) → entries_in m ts es' ≡ map kept (take (i + 1) m)
 kept-next m ts i es es' e l h =
     let at = slice_get-get_or m i (symbol [] SortType) (omega (arith, l)) in

@@ -113,7 +113,7 @@ any-default (x ∷ xs) (suc i) d e l = any-default xs i d e (omega arith)
 pub flag-met : (ts : List Tree) (met : List Bool) (order : List LpId) (i : ℕ) (b r : Bool) → IsMeeting ts met order → i < length met → r ≡ get_or met i r → r ≡ b → is_in (tree_at ts i) (trees_at ts order) ≡ b
 flag-met ts met order i b r m l e f = sym (m.flags i (tree_at ts i) (tree_at-Holds ts i (let w = m.within in omega (arith, l, w))) l) ∙ any-default met i false r l ∙ sym e ∙ f
 
--- A DECLARATION'S TREES
+-- A declaration's trees
 pub visited-declaration : (done met : List Tree) (d : Declaration) → Alike done met → IsClosed met → visited_in done d ≡ done ++ firsts met (parts_in d)
 visited-declaration done met d h c = body d.body ∙ refl
   where
@@ -142,7 +142,7 @@ closed-declaration met d c = body d.body
     body None = subst (λ l. IsClosed (met ++ l)) (sym (append-nil (parts d.ty))) (closed-more met d.ty c)
     body (Some t) = subst IsClosed (append_assoc met (parts d.ty) (parts t)) (closed-more (met ++ parts d.ty) t (closed-more met d.ty c))
 
--- A GROWN TABLE
+-- A grown table
 pub trees-stay : (old new : List Tree) (n : ℕ) (ids : List LpId) → Keeps old new → n ≤ length old → AreIdsBelow n ids → trees_at new ids ≡ trees_at old ids
 trees-stay old new n [] k l h = refl
 trees-stay old new n (id ∷ ids) k l h = ap₂ (λ x xs. x ∷ xs) (sym (tree_at-Stays k.stays id.0 (omega (arith, h.0, l)))) (trees-stay old new n ids k l h.1)
@@ -158,7 +158,7 @@ meeting-after old new met order k m = record {
       m.flags i t (subst (Holds old i) same here) l ∙ ap (is_in t) (sym (trees-stay old new (length met) order k m.within m.known));
 }
 
--- NOTHING IS MET at first
+-- Nothing is met at first
 pub none-met : (ts : List Tree) (met : List Bool) (order : List LpId) → IsDistinct ts → length met ≤ length ts → met ≡ replicate (length met) false → order ≡ [] → IsMeeting ts met order
 none-met ts met order d l e f = subst (λ o. IsMeeting ts met o) (sym f) record {
   distinct = d;
@@ -170,7 +170,7 @@ none-met ts met order d l e f = subst (λ o. IsMeeting ts met o) (sym f) record 
 pub none-closed : IsClosed []
 none-closed u w h k = absurd (cc)
 
--- NOTHING GOES
+-- Nothing goes
 longer-one : (done : List Tree) (t : Tree) → length done ≤ length (if is_in t done then done else done ++ t ∷ [])
 longer-one done t = go (is_in t done)
   where

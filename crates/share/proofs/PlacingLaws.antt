@@ -15,7 +15,7 @@ use Rattle.share.specs.Moving.{place_by, AreMade}
 use Rattle.share.specs.Placings.{kept_places}
 use Rattle.share.proofs.CountLaws.{drop-next, drop-past}
 
--- THE LOOP
+-- The loop
 places-split : (es : List Listed) (i : ℕ) (e : Listed) → slice_get es i ≡ Some e → kept_places i (drop i es) ≡ kept_places i (e ∷ drop (i + 1) es)
 places-split es i e f = ap (kept_places i) (drop-next es i e f ∙ (let n : suc i ≡ i + 1 = omega arith in ap (λ j. e ∷ drop j es) n))
 
@@ -38,7 +38,7 @@ places-abbreviated es i body ty e places all f is h =
 pub places-last : (es : List Listed) (i : ℕ) (places all : List ℕ) → length es ≤ i → places ++ kept_places i (drop i es) ≡ all → places ≡ all
 places-last es i places all l h = sym (append-nil places) ∙ ap (λ x. places ++ kept_places i x) (sym (drop-past es i l)) ∙ h
 
--- THE PLACES ARE THOSE that the entries tell
+-- The places are those that the entries tell
 module _ (m : List Declaration) (ts : List Tree) where
   place-known : (es : List Listed) (n i : ℕ) → i < length (kept_places n es) → get_or (kept_places n es) i 0 ≡ n + place_in (entries_in m ts es) i
   place-known [] n i l = absurd (omega (arith, l))
@@ -76,7 +76,7 @@ module _ (m : List Declaration) (ts : List Tree) where
       go true h = let e = place-known es 0 i (ltb-true i (length (kept_places 0 es)) h) in omega (arith, e)
       go false h = let p = place-beyond es 0 i (ltb-false i (length (kept_places 0 es)) h) in omega (arith, p, g, count)
 
--- THE SAME PLACES
+-- The same places
 symbol-same : (g h : ℕ → ℕ) → ((i : ℕ) → g i ≡ h i) → (s : ℕ) → moved_symbol g s ≡ moved_symbol h s
 symbol-same g h e s = go (nat_lt s (length signature))
   where

@@ -55,7 +55,7 @@ term-noted ts new q c t noted r e k i m a =
     tells-more None o h = (tt, h.1)
     tells-more (Some id) o h = ((let l = k.longer in omega (arith, l, h.0)), ap Some (sym (tree_at-Stays k.stays id.0 h.0)) ∙ h.1)
 
--- THE VALUE of functions at an argument
+-- The value of functions at an argument
 pub value-told : (m : List Declaration) (ts new : List Tree) (c fs x : ℕ) (ty : LpId) (turn' : Turn) (r : Option LpId) → Keeps ts new → fs < length ts → turn' ≡ turn.Known (Some ty) → Turns m new turn' (term_type m (context (tree_at ts c)) (tree_at ts x))
     → Tells new r (value_type (tree_at new fs) (tree_at new ty.0)) → Tells new r (value_of m (tree_at ts c) (tree_at ts fs) (tree_at ts x))
 value-told m ts new c fs x ty turn' r k l e h v =
@@ -104,7 +104,7 @@ same-number ts d a b l n = go (nat_eq a b) (tree_eq (tree_at ts a) (tree_at ts b
         let w : a ≡ b = d.each a b (tree_at ts a) (tree_at-Holds ts a l) (tree_at-Holds ts b n ∙ ap Some (sym (tree_eq-true (tree_at ts a) (tree_at ts b) f))) in
         absurd (grind (arith, e, w))
 
--- AN ABSTRACTION over the terms of a type
+-- An abstraction over the terms of a type
 pub abstraction-told : (m : List Declaration) (ts new : List Tree) (c d b : ℕ) (ty : LpId) (turn' result : Turn) → turn' ≡ turn.Known (Some ty) → Turns m ts turn' (simple_part m [] (tree_at ts d)) → IsContext m (tree_at ts c)
     → Turns m new result (under_type m (tree_at ts ty.0) (tree_at ts c) (tree_at ts b)) → Turns m new result (term_type m (context (tree_at ts c)) (Lam (tree_at ts d) (tree_at ts b)))
 abstraction-told m ts new c d b ty turn' result e h k v =
@@ -124,7 +124,7 @@ pub abstraction-none : (m : List Declaration) (ts new : List Tree) (c d b : ℕ)
     → Tells new None (term_type m (context (tree_at ts c)) (Lam (tree_at ts d) (tree_at ts b)))
 abstraction-none m ts new c d b h k = (tt, ap (option_and_then (λ a. under_type m a (tree_at ts c) (tree_at ts b))) h.1 ∙ sym (term-abstraction m (tree_at ts c) (tree_at ts d) (tree_at ts b) k))
 
--- AN APPLICATION
+-- An application
 pub application-constant : (m : List Declaration) (ts : List Tree) (c t f x : ℕ) (ty : LpId) → Holds ts t (App (tree_at ts f) (tree_at ts x)) → Tells ts (Some ty) (constant_part m (tree_at ts t)) → Tells ts (Some ty) (term_type m (context (tree_at ts c)) (tree_at ts t))
 application-constant m ts c t f x ty e h =
     let s = Holds-tree_at ts t (App (tree_at ts f) (tree_at ts x)) e in
@@ -136,7 +136,7 @@ application-function m ts new c t f x result e h v =
     let s = Holds-tree_at ts t (App (tree_at ts f) (tree_at ts x)) e in
     subst (Turns m new result) (ap (λ o. or_else o (values_of m (tree_at ts c) (tree_at ts f) (tree_at ts x))) (h.1 ∙ ap (constant_part m) s) ∙ sym (ap (term_type m (context (tree_at ts c))) s ∙ term-application m (tree_at ts c) (tree_at ts f) (tree_at ts x))) v
 
--- UNDER A BINDER of the terms of a type
+-- Under a binder of the terms of a type
 pub under-ready : (ts new : List Tree) (ty c inner : ℕ) (noted : ℕ → Option (Option LpId)) → Keeps ts new → Holds new inner (Pi (tree_at ts ty) (tree_at ts c)) → (m : List Declaration) × (is_simple m [] (tree_at ts ty) ≡ true) × IsContext m (tree_at ts c) × AreAnswers m ts noted
     → (m : List Declaration) × IsContext m (tree_at new inner) × AreAnswers m new noted
 under-ready ts new ty c inner noted k e h = (h.0, subst (IsContext h.0) (sym (Holds-tree_at new inner _ e)) (h.1, h.2), AreAnswers-Keeps h.0 ts new noted k h.3)
@@ -174,7 +174,7 @@ known-none m ts o t e h = subst (λ y. Turns m ts y o) e h
 pub known-some : (m : List Declaration) (ts : List Tree) (o : Option Tree) (t : Turn) (ty : LpId) → t ≡ turn.Known (Some ty) → Turns m ts t o → Tells ts (Some ty) o
 known-some m ts o t ty e h = subst (λ y. Turns m ts y o) e h
 
--- A VARIABLE, and a symbol
+-- A variable, and a symbol
 pub variable-told : (m : List Declaration) (ts : List Tree) (c t n : ℕ) (r : Option LpId) → Holds ts t (Var n) → IsContext m (tree_at ts c) → Tells ts r (entry (tree_at ts c) n) → Tells ts r (term_type m (context (tree_at ts c)) (tree_at ts t))
 variable-told m ts c t n r e h v = (v.0, v.1 ∙ sym (ap (term_type m (context (tree_at ts c))) (Holds-tree_at ts t (Var n) e) ∙ term-variable m (tree_at ts c) n h))
 
@@ -183,7 +183,7 @@ symbol-told m ts c t s r e v =
     let p = Holds-tree_at ts t (Sym s) e in
     subst (Turns m ts r) (ap (constant_part m) p ∙ sym (ap (term_type m (context (tree_at ts c))) p ∙ constant_part-plain m (tree_at ts c) (Sym s))) v
 
--- A CONTEXT in which a tree has the same type
+-- A context in which a tree has the same type
 pub same-closed : (m : List Declaration) (new : List Tree) (c t : Tree) (r : ℕ) (b : Bool) → OnTrue b (0 < 2 ^ 64 → loose t ≤ 0) → b ≡ true → Holds new r SortType → IsContext m c → IsSameFor m c t (tree_at new r)
 same-closed m new c t r b l e h i = let z : 0 < 2 ^ 64 = omega arith in subst (IsSameFor m c t) (sym (Holds-tree_at new r SortType h)) (tt, term-closed m c t i (subst (λ d. OnTrue d (0 < 2 ^ 64 → loose t ≤ 0)) e l z))
 

@@ -142,7 +142,7 @@ module _ (m : List Declaration) where
       ap (λ g. App (App g a) x) (tree_eq-true f (Sym arr_symbol) q.0) ∙ ap (λ g. arr_of g x) (tree_eq-true a c q.1) ∙ ap (arr_of c) p.1
   value_type-arr _ c b e = absurd (cc)
 
-  -- THE TYPE OF A VARIABLE
+  -- The type of a variable
   pub term-variable : (c : Tree) (n : ℕ) → IsContext m c → term_type m (context c) (Var n) ≡ entry c n
   term-variable c n h = go c n (suc n) h
     where
@@ -172,7 +172,7 @@ module _ (m : List Declaration) where
   constant_part-simple : (t a : Tree) → constant_part m t ≡ Some a → is_simple m [] a ≡ true
   constant_part-simple t a e = let b = and_then-Some (simple_part m []) (constant_type m [] t) a e in simple_part-simple b.0 a b.2
 
-  -- THE TYPE OF A TERM IS SIMPLE
+  -- The type of a term is simple
   pub term-simple : (c t a : Tree) → IsContext m c → term_type m (context c) t ≡ Some a → is_simple m [] a ≡ true
   term-simple c (Var n) a h e = entry-simple c a n h (sym (term-variable c n h) ∙ e)
   term-simple c (Sym s) a h e = constant_part-simple (Sym s) a (sym (constant_part-plain c (Sym s)) ∙ e)
@@ -196,11 +196,11 @@ module _ (m : List Declaration) where
   term-simple c SortKind a h e = absurd (cc)
   term-simple c (Pi d b) a h e = absurd (cc)
 
-  -- THE TYPE OF AN APPLICATION
+  -- The type of an application
   pub term-application : (c f x : Tree) → term_type m (context c) (App f x) ≡ or_else (constant_part m (App f x)) (option_and_then (λ t. option_and_then (value_type t) (term_type m (context c) x)) (term_type m (context c) f))
   term-application c f x = ap (λ o. or_else o (option_and_then (λ t. option_and_then (value_type t) (term_type m (context c) x)) (term_type m (context c) f))) (constant_part-plain c (App f x))
 
-  -- THE TYPE OF AN ABSTRACTION
+  -- The type of an abstraction
   function-arr : (c a v : Tree) → is_simple m [] v ≡ true → function_type m (context c) a v ≡ Some (arr_of a v)
   function-arr c a v e =
       let p = simple-put v a e in
@@ -219,7 +219,7 @@ module _ (m : List Declaration) where
       go None i = refl
       go (Some a) i = under a (simple_part-simple d a i) (term_type m (context (Pi a c)) t) refl
 
-  -- A CLOSED TREE is in each context of the type that it has in none
+  -- A closed tree is in each context of the type that it has in none
   abbrev Agree : ℕ → Tree → Tree → Type 0
   Agree k c d = (n : ℕ) → n < k → entry c n ≡ entry d n
 

@@ -129,7 +129,7 @@ module _ (m : List Declaration) where
       let p = simple_part-Some G b.0 a b.2 in
       of_constant (constant_type-IsConstant G t (term_of a) (b.1 ∙ ap Some p.0)) p.1
 
-  -- WHAT HAS A TYPE OF TERMS IS A TERM OF IT
+  -- What has a type of terms is a term of it
   pub term_type-IsTerm : (G : List Tree) (t a : Tree) → term_type m G t ≡ Some a → IsTerm m G t a
   term_type-IsTerm G (Var n) a e =
       let b = and_then-Some (λ t. simple_part m G (lift (suc n) t)) (slice_get G n) a e in
@@ -191,7 +191,7 @@ module _ (m : List Declaration) where
   abbreviation-Some (Sym s) A e = absurd (cc)
   abbreviation-Some (Pi a b) A e = absurd (cc)
 
-  -- AN ABBREVIATION IS SHAPED
+  -- An abbreviation is shaped
   pub abbreviation-IsShaped : (name : List ℕ) (t A : Tree) → abbreviation m t ≡ Some A → IsShaped m (record { name = name; form = Def; ty = A; body = Some t })
   abbreviation-IsShaped name t A e = let w = abbreviation-Some t A e in abbreviation_of-IsShaped name t A w.0 w.1
 

@@ -173,7 +173,7 @@ module _ (before more : List Declaration) (two : 2 ≤ length (signature ++ befo
   term-below G SortKind a g h e = absurd (cc)
   term-below G (Pi c b) a g h e = absurd (cc)
 
-  -- THE TYPE OF A TERM is the same
+  -- The type of a term is the same
   variable-kept : (o : Option Tree) (G : List Tree) (k : ℕ) → ((A : Tree) → o ≡ Some A → IsBelow A) → option_and_then (λ t. simple_part m G (lift (suc k) t)) o ≡ option_and_then (λ t. simple_part before G (lift (suc k) t)) o
   variable-kept None G k h = refl
   variable-kept (Some A) G k h = let l = h A refl in part-kept G (lift (suc k) A) (omega (arith, l, symbols-lift_at 0 (suc k) A))
@@ -207,7 +207,7 @@ module _ (before more : List Declaration) (two : 2 ≤ length (signature ++ befo
   term-kept G SortKind g h = refl
   term-kept G (Pi c b) g h = refl
 
-  -- WHAT CAN BE ABBREVIATED over these declarations can be over more, and the other way round.
+  -- What can be abbreviated over these declarations can be over more, and the other way round.
   of_abbreviation-kept : (t : Tree) → IsBelow t → type_of_abbreviation m t ≡ type_of_abbreviation before t
   of_abbreviation-kept t h = ap₂ (λ b o. if b then Some types else option_map term_of o) (simple-kept [] t h) (term-kept [] t tt h)
 

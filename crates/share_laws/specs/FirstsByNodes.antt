@@ -8,7 +8,7 @@ use Rattle.lp_binding.specs.TreeEquality.{tree_eq-refl, tree_eq-true}
 use Rattle.share_spec.specs.Folded.{parts, places, is_in, firsts}
 use Rattle.share_laws.specs.WrittenOnceLaws.{in-left, in-right, in-either, in-one, is_in-append, larger-places}
 
--- THE WALK: what was met, and then what is first met in a tree
+-- The walk: what was met, and then what is first met in a tree
 abbrev pub visit : List Tree → Tree → List Tree
 visit met (App f x) = if is_in (App f x) met then met else visit (visit met f) x ++ App f x ∷ []
 visit met (Lam a b) = if is_in (Lam a b) met then met else visit (visit met a) b ++ Lam a b ∷ []
@@ -166,7 +166,7 @@ leaf t done met e h = ap (λ b. if b then done else done ++ t ∷ []) (h t) ∙ 
     go true i = sym (append-nil done)
     go false i = refl
 
--- THE WALK MEETS THE FIRSTS, in order, where the parts of what was met were met.
+-- The walk meets the firsts, in order, where the parts of what was met were met.
 pub visited : (t : Tree) (done met : List Tree) → Alike done met → IsClosed met → visit done t ≡ done ++ firsts met (parts t)
 visited (App f x) done met h c = by_met (App f x) f x done met refl (omega arith) (omega arith) h c (visited f done met h c) (λ one k. visited x one (met ++ parts f) k (closed-more met f c))
 visited (Lam a b) done met h c = by_met (Lam a b) a b done met refl (omega arith) (omega arith) h c (visited a done met h c) (λ one k. visited b one (met ++ parts a) k (closed-more met a c))

@@ -47,7 +47,7 @@ firsts-within t met (u ∷ us) h = go (is_in u met) (tree_eq t u) h (λ i. first
       | inr i ↦ in-right t (u ∷ []) us (q i)
     ]
 
--- WHAT IS SHARED and first met in a declaration
+-- What is shared and first met in a declaration
 pub shared-whole : (before more : List Declaration) (d : Declaration) (all met : List Tree) → IsModule (before ++ d ∷ more)
     → abbreviations (before ++ d ∷ more) (filter (is_shared (before ++ d ∷ more) all) (firsts met (parts_in d))) ≡ abbreviations before (filter (is_shared before all) (firsts met (parts_in d)))
 shared-whole before more d all met a = shared-same (before ++ d ∷ more) before all (firsts met (parts_in d)) (λ t i. abbreviation-whole before more d t a (firsts-within t met (parts_in d) i))

@@ -38,7 +38,7 @@ tail_is a b e = cc
 pub abbreviation_name-injective : (j k : ℕ) → abbreviation_name j ≡ abbreviation_name k → j ≡ k
 abbreviation_name-injective j k e = numeral-injective j k (tail_is (numeral j) (numeral k) e)
 
--- NAMES
+-- Names
 other_bytes : (a b : List ℕ) → (a ≡ b → ⊥) → bytes_eq a b ≡ false
 other_bytes a b h = false_from_ne_true (bytes_eq a b) (λ e. h ((bytes_eq-Decides a b).0 e))
 
@@ -82,7 +82,7 @@ kept_of [] = []
 kept_of (kept d ∷ es) = d ∷ kept_of es
 kept_of (abbreviated t a ∷ es) = kept_of es
 
--- THEY ARE A MODULE
+-- They are a module
 module _ (g : ℕ → ℕ) where
   entries-AreDeclared : (before after : List Declaration) (es : List Entry) (k : ℕ) → HaveNames (signature ++ before) (signature ++ after) k → NoneShort (signature ++ before) → NoneShort (kept_of es) → AreDeclared (signature ++ before) (kept_of es) → IsSound after → AreShaped after (declarations g k es)
       → AreDeclared (signature ++ after) (declarations g k es)
@@ -140,13 +140,13 @@ kept_of-entries_of m =
     ∙ ap₂ (λ x y. x ++ y) (kept_of-kept (take n m)) (kept_of-entries (take n m) (flat_map parts_in (drop n m)) [] (drop n m))
     ∙ take-append-drop n m
 
--- A FOLDED MODULE IS A MODULE
+-- A folded module is a module
 pub folded-IsModule : (m : List Declaration) → IsModule m → NoneShort m → AreShaped [] m → IsModule (folded m)
 folded-IsModule m h u s =
     let es = entries_of m in
     entries-AreDeclared (place_in es) [] [] es 0 (λ name e f. e) signature_unshort (subst NoneShort (sym (kept_of-entries_of m)) u) (subst (AreDeclared signature) (sym (kept_of-entries_of m)) h) signature_sound (folded-AreShaped m s)
 
--- NO TREE OF IT NAMES AN ABBREVIATION
+-- No tree of it names an abbreviation
 module _ (g : ℕ → ℕ) (before after : List Declaration) (h : IsMoved g before after) (u : NoneShort (signature ++ before)) where
   moved-short_for : (s : ℕ) → short_for after (moved_symbol g s) ≡ None
   moved-short_for s = ap (option_and_then short_body) (moved-symbol_declaration g before after h s) ∙ go (symbol_declaration before s) refl

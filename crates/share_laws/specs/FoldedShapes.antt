@@ -83,7 +83,7 @@ AreEntries before [] = Unit {0}
 AreEntries before (kept d ∷ es) = IsShaped before d × AreEntries (before ++ d ∷ []) es
 AreEntries before (abbreviated t a ∷ es) = (abbreviation before t ≡ Some a) × AreEntries before es
 
--- WHAT ENTRIES BECOME IS SHAPED
+-- What entries become is shaped
 pub entries-AreShaped : (g : ℕ → ℕ) (before after : List Declaration) (es : List Entry) (k : ℕ) → IsPlaced g before after es → AreEntries before es → AreShaped after (declarations g k es)
 entries-AreShaped g before after [] k p h = tt
 entries-AreShaped g before after (kept d ∷ es) k p h = (
@@ -126,7 +126,7 @@ entries_of-AreEntries m h =
     let k = AreShaped-front [] (take n m) (drop n m) (subst (AreShaped []) (sym (take-append-drop n m)) h) in
     first-AreEntries [] (take n m) (entries (take n m) (flat_map parts_in (drop n m)) [] (drop n m)) k.0 (after-AreEntries (take n m) (flat_map parts_in (drop n m)) [] (drop n m) k.1)
 
--- A FOLDED MODULE IS SHAPED, so well typed, and checks within 64 times the squares of its weights
+-- A folded module is shaped, so well typed, and checks within 64 times the squares of its weights
 pub folded-AreShaped : (m : List Declaration) → AreShaped [] m → AreShaped [] (folded m)
 folded-AreShaped m h = let es = entries_of m in entries-AreShaped (place_in es) [] [] es 0 (IsPlaced-first es) (entries_of-AreEntries m h)
 

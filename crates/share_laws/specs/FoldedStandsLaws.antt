@@ -209,7 +209,7 @@ no_body : (g : ℕ → ℕ) (o : Option Tree) → option_map (moved g) o ≡ Non
 no_body g None e = refl
 no_body g (Some t) e = absurd (cc)
 
--- WHAT A MODULE STANDS FOR, ITS FOLDED MODULE STANDS FOR
+-- What a module stands for, its folded module stands for
 pub folded-FoldedStands : (m : List Declaration) (run : Accepted) → NoneShort m → AreShaped [] m → Stands m run → FoldedStands (folded m) run
 folded-FoldedStands m run u s h =
     let es = entries_of m in

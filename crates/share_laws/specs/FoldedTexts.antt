@@ -25,7 +25,7 @@ use Rattle.share_laws.specs.AbbreviationLaws.{abbreviation-Some, is_some-Some}
 use Rattle.share_laws.specs.MovedLaws.{depth-moved}
 use Rattle.share_laws.specs.FoldedModules.{abbreviation_name, kept_of, kept_of-entries_of, folded-IsModule, folded-AreLong}
 
--- NAMES
+-- Names
 digit-word : (b : ℕ) → is_decimal_digit b ≡ true → is_word_byte b ≡ true
 digit-word b e = grind (arith, common_steps, e)
 
@@ -51,7 +51,7 @@ declarations-ArePlain g k (abbreviated t a ∷ es) h = (abbreviation_name-IsPlai
 pub folded-ArePlain : (m : List Declaration) → ArePlain m → ArePlain (folded m)
 folded-ArePlain m h = let es = entries_of m in declarations-ArePlain (place_in es) 0 es (subst ArePlain (sym (kept_of-entries_of m)) h)
 
--- DEPTHS
+-- Depths
 abbrev Shallow : List Tree → Type 0
 Shallow ts = AllByRecursion (λ (t : Tree). depth t ≤ max_depth) ts
 
@@ -125,6 +125,6 @@ folded-AreShallow m h =
     declarations-AreShallow (place_in (entries_of m)) 0 (entries_of m)
     (first-shallow (take n m) (drop n m) (flat_map parts_in (drop n m)) (take n m) (subst AreShallow (sym (take-append-drop n m)) h))
 
--- THE TEXT OF A FOLDED MODULE READS AS IT
+-- The text of a folded module reads as it
 pub folded-ReadsBack : (m : List Declaration) (bounds : List ℕ) → IsModule m → NoneShort m → AreShaped [] m → ArePlain m → AreShallow m → length bounds ≡ length (folded m) → ReadsBack (folded m) bounds
 folded-ReadsBack m bounds h u s p d n = written_reads (folded m) bounds (folded-IsModule m h u s) (folded-AreLong m u) (folded-ArePlain m p) (folded-AreShallow m d) n

@@ -162,7 +162,7 @@ entries_of-AreLight w m h =
     let k = AreWeighed-front w [] (take n m) (drop n m) (subst (AreWeighed w []) (sym (take-append-drop n m)) h) in
     first-AreLight w [] (take n m) (entries (take n m) (flat_map parts_in (drop n m)) [] (drop n m)) k.0 (entries-AreLight w (take n m) (flat_map parts_in (drop n m)) [] (drop n m) k.1)
 
--- WHAT THEY BECOME weighs at most five times that and four
+-- What they become weighs at most five times that and four
 module _ (g : ℕ → ℕ) (w : ℕ) where
   moved-tree_weight : (m n : List Declaration) → IsMoved g m n → (t : Tree) → tree_weight n (moved g t) ≡ tree_weight m t
   moved-tree_weight m n h t = ap₂ (λ a b. a + b) (size-moved g t) (spreads-moved g m n h [] t)
@@ -197,7 +197,7 @@ weighed-all w m before (d ∷ ds) e s h =
     let same : weight m d ≡ weight before d = ap (λ l. weight l d) e ∙ weight-more before (d ∷ ds) d s.0 in
     (omega (arith, same, h.0), weighed-all w m (before ++ d ∷ []) ds (e ∙ sym (append_assoc before (d ∷ []) ds)) s.1 h.1)
 
--- NO DECLARATION OF A FOLDED MODULE WEIGHS MORE THAN FIVE TIMES WHAT THE HEAVIEST OF THE MODULE WEIGHS, and four
+-- No declaration of a folded module weighs more than five times what the heaviest of the module weighs, and four
 pub folded-weights : (w : ℕ) (m : List Declaration) → AreShaped [] m → AllByRecursion (λ d. weight m d ≤ w) m → AllByRecursion (λ d. weight (folded m) d ≤ 5 * w + 4) (folded m)
 folded-weights w m s h =
     let es = entries_of m in

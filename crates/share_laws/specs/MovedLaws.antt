@@ -133,7 +133,7 @@ module _ (g : ℕ → ℕ) where
       go true i j = j
       go false i j = absurd (omega (arith, h, j))
 
-  -- THE SECOND MODULE HAS WHAT THE FIRST HAS, each declaration at its place
+  -- The second module has what the first has, each declaration at its place
   pub record IsMoved (m n : List Declaration) : Type 0 where
     pub each : (i : ℕ) → slice_get n (g i) ≡ option_map (moved_declaration g) (slice_get m i)
 
@@ -168,7 +168,7 @@ slice_get-back [] ys i = let e : 0 + i ≡ i = omega arith in ap (slice_get ys) 
 slice_get-back (x ∷ xs) ys i = let e : length (x ∷ xs) + i ≡ suc (length xs + i) = omega arith in ap (slice_get (x ∷ xs ++ ys)) e ∙ slice_get-back xs ys i
 
 module _ (g : ℕ → ℕ) (m n : List Declaration) (h : IsMoved g m n) where
-  -- EACH SYMBOL HAS ITS DECLARATION
+  -- Each symbol has its declaration
   pub moved-symbol_declaration : (s : ℕ) → symbol_declaration n (moved_symbol g s) ≡ option_map (moved_declaration g) (symbol_declaration m s)
   moved-symbol_declaration s = go (nat_lt s (length signature)) refl
     where

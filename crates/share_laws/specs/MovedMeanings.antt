@@ -119,7 +119,7 @@ module _ (g : ℕ → ℕ) (m n : List Declaration) (h : IsMoved g m n) where
   hypotheses-moved (p ∷ ps) k l j [] r = absurd r
   hypotheses-moved (p ∷ ps) k l j (A ∷ As) r = (term-moved p (place k l j 0) A r.0, hypotheses-moved ps k l (suc j) As r.1)
 
-  -- A TYPE STANDS FOR THE SAME CLOSED SEQUENT
+  -- A type stands for the same closed sequent
   pub Enc-moved : (s : ClosedSequent) (A : Tree) → Enc m s A → Enc n s (moved g A)
   Enc-moved s A r =
       let count : length (map (moved g) r.variables) ≡ length r.variables = length-map r.variables (moved g) in

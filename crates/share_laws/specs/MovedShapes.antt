@@ -145,6 +145,6 @@ module _ (g : ℕ → ℕ) (m n : List Declaration) (h : IsMoved g m n) where
   body-moved Thm (Some t) A (inl k) = inl (record { found = moved g k.found; proof = proof-moved k.proof; near = near-moved k.near })
   body-moved Thm (Some t) A (inr k) = inr (record { found = moved g k.found; law = law-moved k.law; close = close-moved k.close })
 
-  -- A MOVED DECLARATION IS SHAPED where the declaration is
+  -- A moved declaration is shaped where the declaration is
   pub shaped-moved : (d : Declaration) → IsShaped m d → IsShaped n (moved_declaration g d)
   shaped-moved d k = record { ty = declared-moved k.ty; body = body-moved d.form d.body d.ty k.body }

@@ -116,7 +116,7 @@ module _ (g : ℕ → ℕ) (m n : List Declaration) (h : IsMoved g m n) where
   spine_step-moved SortType args = refl
   spine_step-moved SortKind args = refl
 
-  -- A HEAD STEP OF THE MOVED TREE is that of the tree
+  -- A head step of the moved tree is that of the tree
   pub head_step-moved : (t : Tree) → head_step n (moved g t) ≡ option_map (moved g) (head_step m t)
   head_step-moved t = spine_step-moved t []
 

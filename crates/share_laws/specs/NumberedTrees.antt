@@ -120,7 +120,7 @@ module _ (ts : List Tree) (top : ℕ) (numbered : AreNumbered ts top) where
       go (inl i) p = let n = h r (in-left r (r ∷ []) rs (ap (λ b. b || false) (tree_eq-refl r))) in has_number r w n.0 n.1 n.2 i
       go (inr i) p = p i
 
-  -- ONE PASS OVER THE NUMBERS, downwards, counts places up to two.
+  -- One pass over the numbers, downwards, counts places up to two.
   pub counted-places : (roots : List Tree) → ((r : Tree) → is_in r roots ≡ true → (i : ℕ) × (i < top) × (slice_get ts i ≡ Some r)) → (t : Tree)
       → passed (down ts top) (λ u. min 2 (places u roots)) t ≡ min 2 (places t (flat_map parts roots))
   counted-places roots h t = passed-places roots (down ts top) (descending top (omega arith)) (λ w k. all_numbered roots w h k) t

@@ -24,7 +24,7 @@ abbrev pub handed : List Tree → ℕ → (Tree → ℕ) → Tree → ℕ
 handed [] n c = c
 handed (k ∷ ks) n c = handed ks n (λ t. if tree_eq t k then min 2 (c t + n) else c t)
 
--- THE PASS
+-- The pass
 abbrev pub passed : List Tree → (Tree → ℕ) → Tree → ℕ
 passed [] c = c
 passed (v ∷ vs) c = passed vs (handed (direct v) (c v) c)
@@ -173,7 +173,7 @@ module _ (roots : List Tree) where
       (λ u. handed-is (direct v) (c v) (count v) c (λ w. places w roots + from w ps) (h v ∙ ap (λ k. min 2 k) (sym own)) h u
       ∙ ap (λ k. min 2 k) (omega (arith, sum-append (λ w. count w * places u (direct w)) ps (v ∷ []), mul_comm (count v) (places u (direct v))))) t
 
--- THE PASS COUNTS PLACES, up to two: over the roots' parts, each once, from those that are parts of others no more.
+-- The pass counts places, up to two: over the roots' parts, each once, from those that are parts of others no more.
 pub passed-places : (roots vs : List Tree) → AreDescending vs → ((w : Tree) → is_in w (flat_map parts roots) ≡ true → is_in w vs ≡ true)
     → (t : Tree) → passed vs (λ u. min 2 (places u roots)) t ≡ min 2 (places t (flat_map parts roots))
 passed-places roots vs d h t =

@@ -144,7 +144,7 @@ module _ (m : List Declaration) (t : Tree) where
       go true = refl
       go false = h
 
--- OTHER NUMBERS
+-- Other numbers
 place_in-injective : (es : List Entry) (i j : ℕ) → place_in es i ≡ place_in es j → i ≡ j
 place_in-injective [] i j e = e
 place_in-injective (kept d ∷ es) zero zero e = refl
@@ -265,7 +265,7 @@ body-AreOrdered met (Some t) = parts-AreOrdered met t
 parts_in-AreOrdered : (met : List Tree) (d : Declaration) → AreOrdered met (parts_in d)
 parts_in-AreOrdered met d = AreOrdered-append met (parts d.ty) (option_map_or parts d.body []) (parts-AreOrdered met d.ty) (body-AreOrdered (met ++ parts d.ty) d.body)
 
--- A NAME STAYS SHORT with further declarations
+-- A name stays short with further declarations
 position-any : {X : Type 0} (p : X → Bool) (xs : List X) → is_some (position p xs) ≡ list_any p xs
 position-any p [] = refl
 position-any p (x ∷ xs) = go (p x) (position p xs) refl refl (position-any p xs)
@@ -303,7 +303,7 @@ short-last m d t e = short-append m d t ∙ ap (λ o. is_some (short m t) || is_
     go true = refl
     go false = refl
 
--- THE WALK
+-- The walk
 module _ (g : ℕ → ℕ) (apart : (i j : ℕ) → g i ≡ g j → i ≡ j) (t : Tree) where
   -- at how many places the tree is written out in what entries become
   abbrev written_places : List Declaration → ℕ → List Entry → ℕ
@@ -532,7 +532,7 @@ two-in t us h = go (is_in t us) refl
     go true e = refl
     go false e = absurd (let z = in-places t us e in omega (arith, h, z))
 
--- NO SHARED TREE IS WRITTEN OUT TWICE
+-- No shared tree is written out twice
 pub written_once : WrittenOnce
 written_once rest t a h =
     let s = and_parts (is_some (abbreviation (lemmas ++ rest) t)) (nat_le 2 (places t (flat_map parts_in rest))) h in

@@ -35,7 +35,7 @@ components-name (dotted {text = text} {more = more} {name = name} c e rest) h =
     let k = subst AreBytes e h in
     (component-bytes c (All-left _ text (dot ∷ more) k), name-all name (components-name rest (All-right _ text (dot ∷ more) k).1))
 
--- THE NAME OF A LINE OF BYTES
+-- The name of a line of bytes
 name_of-name : (line : List ℕ) (name : Name) → AreBytes line → name_of line ≡ Some name → IsName name
 name_of-name line name h e =
     let l = (name_of-IsNameLine line name).0 e in
@@ -100,7 +100,7 @@ said-named (b ∷ text) h = go (b == number_sign)
     go true = tt
     go false = item_content-named (b ∷ text) h
 
--- THE ITEM OF A LINE OF BYTES
+-- The item of a line of bytes
 content-named : (line : List ℕ) (i : Item) → AreBytes line → content line ≡ command i → IsNamedItem i
 content-named line i h e = subst IsNamedContent e (said-named (trimmed line) (trimmed-bytes line h))
 
@@ -127,7 +127,7 @@ abbrev pub IsEnded : End → Type 0
 IsEnded (ended n) = Unit {0}
 IsEnded (refused n k) = ⊥
 
--- THE COMMANDS OF A TEXT OF BYTES
+-- The commands of a text of bytes
 pub lines-named : (text : List ℕ) (commands : List Command) (end : End) → Lines text commands end → IsEnded end → AreBytes text → AreNamedCommands commands
 lines-named text commands end (last_skipped {line = line} {n = n} {o = o} l e) h k = (opens-named 1 0 text commands n o line l k).0
 lines-named text commands end (last_gives {line = line} {commands = cs} {n = n} {o = o} {i = i} l e all) h k =

@@ -213,7 +213,7 @@ module _ (xs : List Item) (made : AreMade [] xs) (j : ℕ) (e : Declaration) (cl
       (abstracted-applied s n (domains_of symbols q) (proof_tree symbols (scope_of symbols q) kind js qs g) (lacking-all s n (domains_of symbols q) (domains_of-lack symbols s apart n q))
       (proof-right symbols s n counted (scope_of symbols q) (scope_of-applies symbols s apart n q) kind js qs g (premises-fit before among js qs h.0.among)))
 
-  -- EACH BODY APPLIES IT TO SO MANY ARGUMENTS
+  -- Each body applies it to so many arguments
   pub body-applied : (i : ℕ) (d : Declaration) (t : Tree) → slice_get m i ≡ Some d → d.body ≡ Some t → IsAppliedTo s n 0 t
   body-applied i d t there b = elim (declared-of xs i d there) [
     | IsOf.first_lemma is ↦
@@ -225,7 +225,7 @@ module _ (xs : List Item) (made : AreMade [] xs) (j : ℕ) (e : Declaration) (cl
         content-applied asked.before asked.among z.name z.content asked.content t (ap (λ (d : Declaration). d.body) is ∙ b)
   ]
 
--- THE LAW: WHEREVER A BODY USES A THEOREM, IT APPLIES IT TO AS MANY ARGUMENTS AS THE THEOREM'S CLOSED FORM HAS PARAMETERS
+-- The law: wherever a body uses a theorem, it applies it to as many arguments as the theorem's closed form has parameters
 -- (for the type of what is used is the product over these, in their order: type variables, free variables, hypotheses)
 abbrev pub FilledAndMerged : Type 0
 FilledAndMerged =

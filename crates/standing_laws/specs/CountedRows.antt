@@ -61,7 +61,7 @@ module _ (symbols : Symbols) (s n : ℕ) (counted : IsCounted symbols s n) where
   pub refl-right : (scope : Scope) → Applies scope → (a : HolType) (t : Term) → Right (refl_tree symbols scope a t)
   refl-right scope h a t = (((λ e. absurd (unlike symbols s counted.apart 8 (omega arith) e)), ty-right scope h a), tm-right scope h t)
 
-  -- A PREMISE
+  -- A premise
   pub premise-right : (scope : Scope) → Applies scope → (one : Premise) → Fits s n one → Right (premise_tree scope one)
   premise-right scope h one fits =
       let q = one.1 in
@@ -85,7 +85,7 @@ module _ (symbols : Symbols) (s n : ℕ) (counted : IsCounted symbols s n) where
   other-right : (r k : ℕ) → r < length signature → IsAppliedTo s n k (Sym r)
   other-right r k l e = absurd (unlike symbols s counted.apart r l e)
 
-  -- A PART, at so many arguments more
+  -- A part, at so many arguments more
   pub part-right : (scope : Scope) → Applies scope → (k r : ℕ) → r < length signature → (c : HolType) (one : Premise) → Fits s n one → IsAppliedTo s n k (part_tree symbols scope r c one)
   part-right scope h k r l c one fits =
       applied-applied s n k (Sym r) (part_arguments_of symbols scope c one) (other-right r _ l)
@@ -164,7 +164,7 @@ module _ (symbols : Symbols) (s n : ℕ) (counted : IsCounted symbols s n) where
     constants-apply terms =
         let i = images-applies symbols s counted.apart n [] terms scope h in record { types = i.types; terms = i.terms; proofs = self-right; bounds = i.bounds }
 
-    -- A LAW
+    -- A law
     law-right : (a b : HolType) (t u : Term) (r : ℕ) → r < length signature → (c : HolType) (one : Premise) → Fits s n one → Right (law_tree symbols scope a b t u r c one)
     law-right a b t u r l c one fits =
         let A = type_tree symbols scope.types a in
@@ -204,7 +204,7 @@ module _ (symbols : Symbols) (s n : ℕ) (counted : IsCounted symbols s n) where
     two-right row f (j ∷ k ∷ []) (q ∷ r ∷ []) fit = f (j, q) (k, r) fit.0 fit.1.0
     two-right row f js qs fit = no_row
 
-    -- EACH ROW
+    -- Each row
     pub proof-right : (kind : StepKind) (js : List ℕ) (qs : List Sequent) (g : Parameters) → AllFit s n js qs → Right (proof_tree symbols scope kind js qs g)
     proof-right kinds.Refl js qs (Parameters.term t) fit = refl-right scope h (type_or t) t
     proof-right kinds.Refl js qs g fit = no_row

@@ -283,7 +283,7 @@ module _ (xs : List Item) (made : AreMade [] xs) (before : List Item) (among : (
   premise-use d names s c j one is e =
       KeyUses.it (part-use d names s c j one is (symbol_of_key symbols k) (part-used (symbol_of_key symbols k) symbols (filled symbols (under_types names unfilled)) (filled symbols (under_types names unfilled)) s c j one (ap (symbol_of_key symbols) e)))
 
-  -- THE DECLARATION OF AN ITEM USES WHAT THE ITEM NEEDS
+  -- The declaration of an item uses what the item needs
   pub content-uses : (name : List ℕ) (c : Content) → IsContent before c → IsUsing c → IsIn (needs c) k → KeyUses symbols k (declaration_of symbols name c)
   content-uses name (operator n j) h u i = absurd i
   content-uses name (constant n a) h u i = KeyUses.it (type-use (declaration_of symbols name (constant n a)) (symbol_of_key symbols k) (generic-uses symbols k a i))

@@ -65,7 +65,7 @@ equation-free : (h : Term) (o : Option Equation) → equation_parts h ≡ o → 
 equation-free h None is e f = absurd (cc)
 equation-free h (Some q) is e f = subst (λ t. IsIn (free_places t) e.0) (sym (equation_parts-is h q is)) (side-free q.left q.right q.ty e f)
 
--- EACH VARIABLE OF THE LIST IS FREE IN THE PREMISE
+-- Each variable of the list is free in the premise
 pub listed-free : (pairs : ConstantPairs) (one : Sequent) → is_definition_list pairs one ≡ true → (v : Variable) → IsIn (variables_of pairs) v → IsIn (free_variables_of one) v
 listed-free pairs one good v i =
     let found = passes (λ w. is_some (definiens pairs one.hypotheses w)) (variables_of pairs) (list_parts pairs one good).defined v (in-list (variables_of pairs) v i) in
@@ -96,7 +96,7 @@ put-at p (q ∷ qs) h (inr i) =
     go true e f new rest = absurd (both_ways (is_in variable_eq q.1 (variables_of qs)) new (in-list (variables_of qs) q.1 (subst (IsIn (variables_of qs)) (f e) (listed-variable qs p i))))
     go false e f new rest = ap (λ b. cond b (Some (constant q.0 q.1.1)) (lookup (variable_eq p.1) (constants_put qs))) e ∙ rest
 
--- AND ITS CONSTANT IS PUT FOR IT
+-- And its constant is put for it
 pub constant-put : (pairs : ConstantPairs) → no_repeats variable_eq (variables_of pairs) ≡ true → (p : Name × Variable) → IsIn pairs p → term_image (constants_put pairs) p.1 ≡ constant p.0 p.1.1
 constant-put pairs h p i = ap (λ o. unwrap_or o (free p.1.0 p.1.1)) (put-at p pairs h i)
 

@@ -66,7 +66,7 @@ module _ (xs : List Item) where
   told-after symbols before (y ∷ ys) h = (h.1, told-after symbols (before ++ y ∷ []) ys h.3)
 
 module _ (xs : List Item) (made : AreMade [] xs) where
-  -- EACH ITEM IS DECLARED
+  -- Each item is declared
   pub item-placed : (z : Item) → IsIn xs z → IsPlaced xs z
   item-placed z i = placed-after xs [] xs refl made z i
 

@@ -31,7 +31,7 @@ use Rattle.standing_laws.specs.NamedDefining.{define_const-named, define_const_l
 use Rattle.standing_laws.specs.StandingRuns.{runs_stand}
 use Rattle.article_laws.specs.SoundSteps.{on_line}
 
--- WORDS
+-- Words
 obey-named : (s t : State) (w : Word) → IsNamedState s → obey s w ≡ Ok t → IsNamedState t
 obey-named s t word.Version g e = absurd (cc)
 obey-named s t word.Nil g e = nil-named s t g e
@@ -81,7 +81,7 @@ dropped : (xs : List Object) → AreNamedStacked xs → AreNamedStacked (drop 1 
 dropped [] h = tt
 dropped (x ∷ xs) h = h.1
 
--- COMMANDS
+-- Commands
 in_body-named : (s : State) → IsNamedState s → IsNamedState (in_body Five s)
 in_body-named s g = record { stack = g.stack; dictionary = g.dictionary; made = g.made }
 
@@ -170,7 +170,7 @@ article-named bytes commands end s t h l g e =
     let over = end_article-ended end last.0 t last.2 in
     end_article-named end last.0 t (obey_all-named commands s last.0 g (lines-named bytes commands end l over h) last.1) last.2
 
--- RUNS
+-- Runs
 the_accepted : Accepted → Outcome → Accepted
 the_accepted a (accepted b) = b
 the_accepted a (refused_at k line kind) = a
@@ -189,11 +189,11 @@ symbols-named (Made.symbol x ∷ made) h = (h.0, symbols-named made h.1)
 symbols-named (Made.type_definition names c f i ∷ made) h = (h.0, symbols-named made h.1)
 symbols-named (Made.step x ∷ made) h = symbols-named made h.1
 
--- EVERY ACCEPTED RUN OVER ARTICLES OF BYTES HAS NAMES
+-- Every accepted run over articles of bytes has names
 pub run-has_names : (articles : List (List ℕ)) (run : Accepted) → AllByRecursion AreBytes articles → Run articles (accepted run) → HasNames run
 run-has_names articles run bytes r = record { symbols = symbols-named run.made (run-named 1 initial articles (accepted run) run initial-named bytes refl r) }
 
--- THE LAW: THE MODULE OF AN ACCEPTED RUN OVER ARTICLES OF BYTES STANDS FOR IT
+-- The law: the module of an accepted run over articles of bytes stands for it
 abbrev pub RunsOfBytesStand : Type 0
 RunsOfBytesStand = (articles : List (List ℕ)) (run : Accepted) → AllByRecursion AreBytes articles → Run articles (accepted run) → Stands (image run) run
 

@@ -84,7 +84,7 @@ after-using named before (x ∷ xs) h =
     after-using named (before ++ numbered name (length before) (contents before x)) xs
     (All-append IsUsingItem before (numbered name (length before) (contents before x)) h (numbered-using name (length before) (contents before x) (made-using before x)))
 
--- EACH ITEM OF A RUN NEEDS ITS PREMISES
+-- Each item of a run needs its premises
 pub items-using : (named : Naming) (made : List Made) → AllByRecursion (λ (z : Item). IsUsing z.content) (items_of named made)
 items-using named made = after-using named [] made (tt {0})
 

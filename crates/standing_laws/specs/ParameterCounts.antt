@@ -83,7 +83,7 @@ pub record SaysCounted (c : Content) (n : ℕ) : Type 0 where
   pub said : says c ≡ Some sequent
   pub count : parameter_count sequent ≡ n
 
--- WHAT IS DECLARED AT A TYPE THAT STANDS FOR A CLOSED SEQUENT SAYS A SEQUENT OF AS MANY PARAMETERS
+-- What is declared at a type that stands for a closed sequent says a sequent of as many parameters
 pub declared-says : (m : List Declaration) (symbols : Symbols) (closed : ClosedSequent) (name : List ℕ) (c : Content) → Enc m closed (declaration_of symbols name c).ty
     → SaysCounted c (closed_parameter_count closed)
 declared-says m symbols closed name (operator n k) h =

@@ -111,7 +111,7 @@ module _ (run : Accepted) (named : HasNames run) (sound : IsSoundRun run) where
       let same : z ≡ q.item = one-number 0 items (numbered-from [] items order) z q.item i there number in
       ap (λ (u : Item). is_export_name u.name) same ∙ said-name run j q.before q.item q.sequent q.said q.place (in-one_of j run.exports exported) q.name
 
-  -- WHAT GIVES A ROOT IS NAMED AS AN EXPORT
+  -- What gives a root is named as an export
   pub root-named : AreMadeInOrder [] items → (z : Item) → IsIn items z → (k : Key) → IsIn (roots_of (name_in run) run.made run.exports) k → key_eq (gives z) k ≡ true → is_export_name z.name ≡ true
   root-named order z i k root e =
       let w = IsIn-map_of (λ j. number_key (premise_at items j).0) run.exports k root in

@@ -41,7 +41,7 @@ module _ (xs : List Item) (made : AreMade [] xs) where
       let p = item-placed xs made y i in
       IsReached.used p.number (declaration (symbols_of xs) y) (reached p.number (sym p.symbol)) p.at (ap (λ r. uses (declaration (symbols_of xs) y) r) (at ∙ sym is) ∙ used)
 
-  -- WHAT AN ITEM NEEDS IS REACHED WITH IT
+  -- What an item needs is reached with it
   needed-reached : (y z : Item) → IsIn xs y → IsIn xs z → IsItemReached xs y → IsUsing y.content → IsIn (needs y.content) (gives z) → IsItemReached xs z
   needed-reached y z iy iz reached using need =
       let asked = item-asked xs made y iy in
@@ -94,7 +94,7 @@ module _ (run : Accepted) (named : HasNames run) (sound : IsSoundRun run) where
         subst (IsIn (needs (renumbered_content number y.content))) (ap (renumbered_key number) (sym (key_eq-is (gives z) k e)) ∙ gives-renumbered number z.symbol z.content)
         (needs-renumbered number y.content k i)
 
-    -- EACH KEPT ITEM IS REACHED
+    -- Each kept item is reached
     item-reached : (z : Item) → IsReachedItem roots items z → IsIn items z → keep z.symbol ≡ true → IsItemReached stays (renumbered number z)
     item-reached z (IsReachedItem.root k root e) i kz = export-reached stays made (renumbered number z) (staying z i kz) (root-named run named sound order z i k root e)
     item-reached z (IsReachedItem.needed y k h iy ky i e) iz kz =
@@ -105,7 +105,7 @@ module _ (run : Accepted) (named : HasNames run) (sound : IsSoundRun run) where
         each-declaration run named sound order (origins-all run [] items (made-origins run run.made)) (λ i d. d.body ≡ None → IsReached (image run) i) (λ e. absurd (cc)) (λ e. absurd (cc))
         (λ z i k l at none. item-reached z (made-reached roots items order z i k) i k l at)
 
--- THE LAW: THE MODULE OF AN ACCEPTED RUN STANDS FOR IT
+-- The law: the module of an accepted run stands for it
 abbrev pub RunsStand : Type 0
 RunsStand = (articles : List (List ℕ)) (run : Accepted) → Run articles (accepted run) → HasNames run → Stands (image run) run
 

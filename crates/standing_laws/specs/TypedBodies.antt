@@ -96,7 +96,7 @@ module _ (run : Accepted) (named : HasNames run) (sound : IsSoundRun run) (carri
   abbrev origins : AllByRecursion (Origin run run.made Always) (items run named sound)
   origins = origins-all run [] (items run named sound) (made-origins run run.made)
 
-  -- THE THEOREM OF A KEPT ITEM
+  -- The theorem of a kept item
   item-theorem : (z : Item) → IsIn (items run named sound) z → keep run named sound z.symbol ≡ true → (declared run named sound z).form ≡ Thm → IsStepTheorem run (declared run named sound z)
   item-theorem z i kept f = by_name (item_name-is run named sound.assumptions Always z (All-at (Origin run run.made Always) (items run named sound) z origins i))
     where
@@ -119,7 +119,7 @@ module _ (run : Accepted) (named : HasNames run) (sound : IsSoundRun run) (carri
       each-declaration run named sound carried.in_order origins (λ i d. length lemmas ≤ i → d.form ≡ Thm → IsStepTheorem run d) (λ l. absurd (omega (arith, l))) (λ l. absurd (omega (arith, l)))
       (λ z i kept k at l f. item-theorem z i kept f)
 
--- THE LAW: THE BODIES OF THE MODULE OF AN ACCEPTED RUN ARE TYPED, AND WHERE THE RUN HAS NAMES ITS THEOREMS ARE THOSE OF STEPS
+-- The law: the bodies of the module of an accepted run are typed, and where the run has names its theorems are those of steps
 abbrev pub BodiesTyped : Type 0
 BodiesTyped = (articles : List (List ℕ)) (run : Accepted) → Run articles (accepted run) → HaveTypedBodies (image run) × (HasNames run → AreStepTheorems run)
 

@@ -76,7 +76,7 @@ module _ (symbols : Symbols) where
     none-has name low ps apart =
         All-append (λ (d : Declaration). bytes_eq d.name name ≡ false) (signature ++ lemmas) (map D ps) (no-reserved name low) (not-named name (map D ps) (not-declared name ps apart))
 
-    -- THE NAME OF A SYMBOL'S ITEM HAS THE ITEM'S NUMBER
+    -- The name of a symbol's item has the item's number
     pub item-number : (xs : List Item) → AreMade [] xs → Named xs → (z : Item) → IsIn xs z → (name : List ℕ) → IsSymbolName ss z.content name → z.name ≡ name → symbol_number (module_of symbols xs) name ≡ Some z.symbol
     item-number xs order named z i name own is = go (member-split xs z i)
       where
@@ -93,7 +93,7 @@ module _ (symbols : Symbols) where
             ap (λ l. symbol_number (module_of symbols l) name) s.whole ∙ sym (ap (position (λ (d : Declaration). bytes_eq d.name name)) (declared-split ps bs z))
             ∙ position-after (λ (d : Declaration). bytes_eq d.name name) (reserved ps) (map D bs) (D z) none it ∙ ap Some long
 
-    -- A NAME THAT NO OTHER ITEM COULD HAVE WITHOUT BEING THIS ONE, WHICH HASN'T IT, HAS NO NUMBER
+    -- A name that no other item could have without being this one, which hasn't it, has no number
     pub other-number : (xs : List Item) → AreMade [] xs → Named xs → (z : Item) → IsIn xs z → (name other : List ℕ) → IsSymbolName ss z.content name
         → ((y : Item) → HasItemName ss y → y.name ≡ other → IsSymbolName ss y.content name) → (z.name ≡ other → ⊥) → second_byte other ≤ 95 → symbol_number (module_of symbols xs) other ≡ None
     other-number xs order named z i name other own could differs low = go (member-split xs z i)
@@ -110,7 +110,7 @@ module _ (symbols : Symbols) where
             let apart : AllByRecursion (λ (y : Item). y.name ≡ other → ⊥) xs = subst (AllByRecursion (λ (y : Item). y.name ≡ other → ⊥)) (sym s.whole) (All-append (λ (y : Item). y.name ≡ other → ⊥) ps (z ∷ bs) fronts (differs, backs)) in
             sym (ap (position (λ (d : Declaration). bytes_eq d.name other)) (declared-items xs)) ∙ position-none (λ (d : Declaration). bytes_eq d.name other) (reserved xs) (none-has other low xs apart)
 
-    -- A NAME THAT ONLY THE SAME OPERATOR COULD HAVE, WHICH HASN'T IT, HAS NO NUMBER
+    -- A name that only the same operator could have, which hasn't it, has no number
     pub other-operator : (xs : List Item) → AreMade [] xs → Named xs → (z : Item) → IsIn xs z → (n : Name) (k : ℕ) (other : List ℕ) → is_operator n k z.content ≡ true
         → ((y : Item) → HasItemName ss y → y.name ≡ other → is_operator n k y.content ≡ true) → (z.name ≡ other → ⊥) → second_byte other ≤ 95 → symbol_number (module_of symbols xs) other ≡ None
     other-operator xs order named z i n k other own could differs low = go (member-split xs z i)

@@ -139,7 +139,7 @@ module _ (made : List Made) (proof : IsProof made) where
   input-operator n k is y (HasItemName.of_symbol (IsSymbolName.a_constant m js f w)) e = other_byte 116 99 _ _ y.name refl e w
   input-operator n k is y (HasItemName.of_symbol (IsSymbolName.an_operator names a f j one js among g w)) e = other_byte 116 111 _ _ y.name refl e w
 
-  -- NO OTHER ITEM IS THE SAME OPERATOR
+  -- No other item is the same operator
   module _ (Q : Item → Type 0) (z : Item) (n : Name) (k : ℕ) (own : is_operator n k z.content ≡ true) (could : (y : Item) → HasItemName ss y → Q y → is_operator n k y.content ≡ true) where
     pub operator-before : (before : List Item) → IsNew before z.content → AllByRecursion (HasItemName ss) before → AllByRecursion (λ (y : Item). Q y → ⊥) before
     operator-before before new named =
@@ -152,7 +152,7 @@ module _ (made : List Made) (proof : IsProof made) where
       operator-after (before ++ y ∷ []) ys (IsIn-left before (y ∷ []) z i) h.3 named.1,
     )
 
-  -- NO OTHER ITEM COULD HAVE THE NAME OF A SYMBOL'S
+  -- No other item could have the name of a symbol's
   module _ (Q : Item → Type 0) (z : Item) (name : List ℕ) (own : IsSymbolName ss z.content name) (could : (y : Item) → HasItemName ss y → Q y → IsSymbolName ss y.content name) where
     pub before-apart : (before : List Item) → IsNew before z.content → AllByRecursion (HasItemName ss) before → AllByRecursion (λ (y : Item). Q y → ⊥) before
     before-apart before new named =

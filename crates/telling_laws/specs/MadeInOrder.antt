@@ -33,7 +33,7 @@ use Rattle.run_laws.specs.RunModules.{image-IsModule}
 use Rattle.telling_laws.specs.DeclaredNumbers.{made-back}
 use Rattle.telling_laws.specs.Making.{items_made, made_items, is_kept, module_number, kept_of, kept_items, kept_symbols, NextFollows, NextMade, ItemsGrow, ItemsStay, KeptStays, OthersGo, SoundCarried}
 
--- A RUN THAT IS SOUND IS CARRIED
+-- A run that is sound is carried
 pub sound-carried : SoundCarried
 sound-carried named run sound =
     let ordered = (made-joined named run.made sound.proof sound.over).order in
@@ -52,7 +52,7 @@ kept-made run sound =
     image-made (is_kept run) [] (made_items run) refl
     (made-numbered (roots_of (name_in run) run.made run.exports) [] (made_items run) (tt {0}) (made-joined (name_in run) run.made sound.proof sound.over).order)
 
--- THE NEXT ITEM IS MADE IN ORDER
+-- The next item is made in order
 pub next-made : NextMade
 next-made run sound before after x whole =
     let h : AreMade before (x ∷ after) = made-back [] before (x ∷ after) (subst (AreMade []) whole (kept-made run sound)) in
@@ -67,7 +67,7 @@ module-split : (symbols : Symbols) (before after : List Item) (x : Item) → mod
 module-split symbols before after x =
     let D = declaration symbols in ap (λ l. lemmas ++ l) (map-append D before (x ∷ after)) ∙ sym (append_assoc lemmas (map D before) (D x ∷ map D after))
 
--- AND ITS DECLARATION MAY FOLLOW
+-- And its declaration may follow
 pub next-follows : NextFollows
 next-follows run sound named before after x whole =
     let symbols = kept_symbols run in
@@ -97,7 +97,7 @@ module _ (run : Accepted) where
   other-item : (z : Item) (xs : List Item) → is_kept run z.symbol ≡ false → kept_of run (z ∷ xs) ≡ kept_of run xs
   other-item z xs e = ap (λ b. map number (cond b (z ∷ kept (is_kept run) xs) (kept (is_kept run) xs))) e
 
--- A KEPT ITEM STANDS IN THE MODULE AFTER THOSE OF WHAT WAS MADE BEFORE IT
+-- A kept item stands in the module after those of what was made before it
 pub kept-stays : KeptStays
 kept-stays run earlier later z whole e = (
   ap (kept_of run) whole ∙ kept_of-append run earlier (z ∷ later) ∙ ap (λ l. kept_of run earlier ++ l) (kept-item run z later e),
@@ -154,13 +154,13 @@ module _ (named : Naming) where
   pub said-steps : (made : List Made) → length (said_by (items_of named made)) ≡ length (steps_of made)
   said-steps made = said-after [] [] made refl
 
--- THE ITEMS OF ONE THING MORE
+-- The items of one thing more
 pub items-grow : ItemsGrow
 items-grow run earlier y =
     let items = items_made run earlier in
     items_after-append (name_in run) [] earlier (y ∷ []) ∙ ap (λ n. items ++ numbered (name_in run n y) (length items) (contents items y)) (said-steps (name_in run) earlier)
 
--- AND WHAT WAS MADE KEEPS ITS ITEMS
+-- And what was made keeps its items
 pub items-stay : ItemsStay
 items-stay run earlier later whole =
     let r = items_after-rest (name_in run) (items_made run earlier) later in

@@ -51,7 +51,7 @@ kept_symbols run = symbols_of (kept_items run)
 abbrev pub declared : Accepted → List Item → List Declaration
 declared run before = module_of (kept_symbols run) before
 
--- THE STATEMENTS ABOUT THE NEXT ITEM OF ITS MODULE: what is declared so far tells what it mentions
+-- The statements about the next item of its module: what is declared so far tells what it mentions
 abbrev pub NextTells : Type 0
 NextTells = (run : Accepted) → IsSoundRun run → HasNames run → (before after : List Item) (x : Item) → kept_items run ≡ before ++ x ∷ after → TellsContent (declared run before) (kept_symbols run) x.content
 
@@ -83,7 +83,7 @@ used_step run x = needed (map (sequent_at run.made) x.premises) x
 abbrev pub module_content : Accepted → Step → Content
 module_content run x = content_by (has_row x.kind) x.kind (map (step_symbol run) x.premises) (map (sequent_at run.made) x.premises) x.parameters x.sequent
 
--- THE NEXT STEP: its item is the next one, and in the module has for premises what was said under these symbols; where it is kept, each premise of its proof is
+-- The next step: its item is the next one, and in the module has for premises what was said under these symbols; where it is kept, each premise of its proof is
 pub record IsNextStep (run : Accepted) (earlier : List Made) (x : Step) : Type 0 where
   pub item : step_item run (length (steps_of earlier)) ≡ length (items_made run earlier)
   pub content : renumbered_content (module_number run) (step_content (items_made run earlier) x) ≡ module_content run (used_step run x)
@@ -93,7 +93,7 @@ pub record IsNextStep (run : Accepted) (earlier : List Made) (x : Step) : Type 0
 abbrev pub NextPremises : Type 0
 NextPremises = (run : Accepted) → IsSoundRun run → (earlier later : List Made) (x : Step) → run.made ≡ earlier ++ Made.step x ∷ later → IsNextStep run earlier x
 
--- THE ITEMS OF WHAT WAS MADE, IN ORDER: those of one thing stand after those of what was made before it
+-- The items of what was made, in order: those of one thing stand after those of what was made before it
 abbrev pub new_items : Accepted → List Made → Made → List Item
 new_items run earlier y = numbered (name_in run (length (steps_of earlier)) y) (length (items_made run earlier)) (contents (items_made run earlier) y)
 
@@ -125,7 +125,7 @@ step_in_module run earlier x = record {
   content = module_content run (used_step run x);
 }
 
--- WHAT THE NEXT STEP ADDS TO THE MODULE: its item, where that is kept, else nothing
+-- What the next step adds to the module: its item, where that is kept, else nothing
 abbrev pub NextStepKept : Type 0
 NextStepKept = (run : Accepted) → IsSoundRun run → (earlier later : List Made) (x : Step) → run.made ≡ earlier ++ Made.step x ∷ later → is_kept run (length (items_made run earlier)) ≡ true
     → IsNextKept run (items_made run earlier) (items_made run (earlier ++ Made.step x ∷ [])) (step_in_module run earlier x)
@@ -144,7 +144,7 @@ content_number run earlier front = length (items_made run earlier) + length fron
 abbrev pub symbol_in_module : Accepted → List Made → Symbol → List Content → Content → Item
 symbol_in_module run earlier s front c = record { symbol = module_number run (content_number run earlier front); name = symbol_name s; content = c }
 
--- WHAT EACH CONTENT OF THE NEXT SYMBOL ADDS: its item, where that is kept, else nothing
+-- What each content of the next symbol adds: its item, where that is kept, else nothing
 abbrev pub NextSymbolKept : Type 0
 NextSymbolKept = (run : Accepted) (earlier later : List Made) (s : Symbol) → run.made ≡ earlier ++ Made.symbol s ∷ later → (front back : List Content) (c : Content) → contents_of s ≡ front ++ c ∷ back
     → is_kept run (content_number run earlier front) ≡ true → IsNextKept run (items_up_to run earlier s front) (items_up_to run earlier s (front ++ c ∷ [])) (symbol_in_module run earlier s front c)
@@ -164,7 +164,7 @@ definition_in_module run earlier front c = record { symbol = module_number run (
 abbrev pub AreDefinitionContents : Accepted → List Made → TypeNames → HolType → Term → ℕ → List Content → Type 0
 AreDefinitionContents run earlier names a f k cs = type_contents names a f (premise_at (items_made run earlier) k) ≡ cs
 
--- WHAT EACH CONTENT OF THE NEXT TYPE DEFINITION ADDS: its item, where that is kept, else nothing
+-- What each content of the next type definition adds: its item, where that is kept, else nothing
 abbrev pub NextDefinitionKept : Type 0
 NextDefinitionKept = (run : Accepted) (earlier later : List Made) (names : TypeNames) (a : HolType) (f : Term) (k : ℕ) → run.made ≡ earlier ++ Made.type_definition names a f k ∷ later
     → (front back : List Content) (c : Content) → AreDefinitionContents run earlier names a f k (front ++ c ∷ back) → is_kept run (content_number run earlier front) ≡ true
@@ -175,7 +175,7 @@ NextDefinitionGone = (run : Accepted) (earlier later : List Made) (names : TypeN
     → (front back : List Content) (c : Content) → AreDefinitionContents run earlier names a f k (front ++ c ∷ back) → is_kept run (content_number run earlier front) ≡ false
     → kept_of run (definition_up_to run earlier (front ++ c ∷ [])) ≡ kept_of run (definition_up_to run earlier front)
 
--- THE PREMISE OF THE NEXT TYPE DEFINITION: an earlier step, which is kept with each of the contents
+-- The premise of the next type definition: an earlier step, which is kept with each of the contents
 pub record IsNextDefinition (run : Accepted) (earlier : List Made) (names : TypeNames) (a : HolType) (f : Term) (k : ℕ) : Type 0 where
   pub premise : premise_at (items_made run earlier) k ≡ (step_item run k, sequent_at run.made k)
   pub earlier_premise : k < length (steps_of earlier)
@@ -184,6 +184,6 @@ pub record IsNextDefinition (run : Accepted) (earlier : List Made) (names : Type
 abbrev pub NextDefinition : Type 0
 NextDefinition = (run : Accepted) → IsSoundRun run → (earlier later : List Made) (names : TypeNames) (a : HolType) (f : Term) (k : ℕ) → run.made ≡ earlier ++ Made.type_definition names a f k ∷ later → IsNextDefinition run earlier names a f k
 
--- A RUN THAT IS SOUND IS CARRIED: its module is shaped, well typed and priced, and each export is what an item says
+-- A run that is sound is carried: its module is shaped, well typed and priced, and each export is what an item says
 abbrev pub SoundCarried : Type 0
 SoundCarried = (named : Naming) (run : Accepted) → IsSoundRun run → IsCarried named run

@@ -57,7 +57,7 @@ module _ (run : Accepted) (earlier later : List Made) (names : TypeNames) (a : H
               ∙ append_assoc (definition_up_to run earlier front) (content_item ∷ others) items.0,
         )
 
--- A CONTENT OF A TYPE DEFINITION THAT IS KEPT ADDS ITS ITEM
+-- A content of a type definition that is kept adds its item
 pub next-definition-kept : NextDefinitionKept
 next-definition-kept run earlier later names a f k whole front back c among keep =
     let items = content-items run earlier later names a f k whole front back c among in
@@ -125,7 +125,7 @@ module _ (run : Accepted) (sound : IsSoundRun run) (earlier later : List Made) (
       let there : IsIn (definition_up_to run earlier front) w = IsIn-left so_far (numbered type_definition_name (length so_far) front) w said.1 in
       sym (ap (λ (p : ℕ × Sequent). is_kept run p.0) premise-same) ∙ ap (is_kept run) (sym said.2) ∙ needs_kept w there (subst (IsIn (needs c)) gives_it need)
 
--- THE LAW OF THE NEXT TYPE DEFINITION
+-- The law of the next type definition
 pub next-definition : NextDefinition
 next-definition run sound earlier later names a f k whole = record {
   premise = premise-same run sound earlier later names a f k whole ∙ (λ i. ((premise_at (made_items run) k).0, premise-says run sound earlier later names a f k whole i));

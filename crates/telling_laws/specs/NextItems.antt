@@ -23,7 +23,7 @@ module _ (run : Accepted) (earlier later : List Made) (x : Step) (whole : run.ma
       let r = items-stay run (earlier ++ Made.step x ∷ []) later (whole ∙ sym (append_assoc earlier (Made.step x ∷ []) later)) in
       (r.0, r.1 ∙ ap (λ l. l ++ r.0) (items-grow run earlier (Made.step x)) ∙ append_assoc (items_made run earlier) (step_item ∷ []) r.0)
 
--- A STEP THAT IS KEPT ADDS ITS ITEM
+-- A step that is kept adds its item
 pub next-step-kept : NextStepKept
 next-step-kept run sound earlier later x whole keep =
     let items = step-items run earlier later x whole in
@@ -80,7 +80,7 @@ module _ (run : Accepted) (earlier later : List Made) (s : Symbol) (whole : run.
       (IsIn-right front (c ∷ back) c (inl refl)) in
       λ i. record { symbol = module_number run (content_number run earlier front); name = symbol_name s; content = e i }
 
--- A CONTENT OF A SYMBOL THAT IS KEPT ADDS ITS ITEM
+-- A content of a symbol that is kept adds its item
 pub next-symbol-kept : NextSymbolKept
 next-symbol-kept run earlier later s whole front back c among keep =
     let items = symbol-items run earlier later s whole front back c among in

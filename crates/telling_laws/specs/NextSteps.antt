@@ -169,7 +169,7 @@ module _ (run : Accepted) (sound : IsSoundRun run) (earlier later : List Made) (
           (needed-row (map (sequent_at run.made) x.premises) x ∙ row) (IsIn-map (λ k. (premise_at before k).0) used.premises k i) in
           sym (ap (λ (p : ℕ × Sequent). is_kept run p.0) (premise-same k l)) ∙ ap (is_kept run) (sym said.2) ∙ needs_kept w said.1 (subst (IsIn (needs (shown_content before used))) own needed_key)
 
--- THE LAW OF THE NEXT STEP
+-- The law of the next step
 pub next-premises : NextPremises
 next-premises run sound earlier later x whole = record {
   item = step_item-is run sound earlier later x whole;

@@ -189,7 +189,7 @@ module _ (made : List Made) (is_proof : IsProof made) (xs before rest : List Ite
   given-told kind js premises given s (rule.first_law_free d e) defines = tt
   given-told kind js premises given s (rule.second_law_free d e) defines = tt
 
-  -- WHAT IS DECLARED SO FAR TELLS WHAT ASKS FOR NOTHING BUT THE ITEMS SO FAR
+  -- What is declared so far tells what asks for nothing but the items so far
   pub content-told : (c : Content) → IsContent before c → TellsContent m symbols c
   content-told (operator n k) h = tt
   content-told (constant n a) h = type-told before (λ x i. i) a h
@@ -200,7 +200,7 @@ module _ (made : List Made) (is_proof : IsProof made) (xs before rest : List Ite
   content-told (unproved s) h = sequent-told before (λ x i. i) s h
   content-told (step kind js premises given s) h = (sequent-told before (λ x i. i) s h.0.taken, premises-told js premises h.0.among, given-told kind js premises given s h.0.rule h.1)
 
--- THE LAW: WHAT IS DECLARED SO FAR TELLS THE NEXT ITEM
+-- The law: what is declared so far tells the next item
 pub next-tells : NextTells
 next-tells run sound names before after x whole =
     let named = kept-named run (is_kept run) (made_items run) (items-named run names sound [] (made_items run) (made-origins run run.made)) in

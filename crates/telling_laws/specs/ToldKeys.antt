@@ -125,7 +125,7 @@ module _ (made : List Made) (is_proof : IsProof made) (xs before rest : List Ite
   own-symbol : (z : Item) → IsIn before z → Tells symbols z.symbol z.content
   own-symbol z i = item-told xs order z (subst (λ l. IsIn l z) (sym whole) (IsIn-left before rest z i))
 
-  -- THE SYMBOL OF AN OPERATOR AMONG THE ITEMS IS TOLD
+  -- The symbol of an operator among the items is told
   pub operator-told : (n : Name) (k : ℕ) (z : Item) → IsIn before z → z.content ≡ operator n k → told_operator m n k ≡ Some (operator_symbol symbols n k)
   operator-told n k z i e =
       let asked = item-asked before order-before z i in
@@ -153,7 +153,7 @@ module _ (made : List Made) (is_proof : IsProof made) (xs before rest : List Ite
       go (HasItemName.of_symbol (IsSymbolName.a_constant c is f w)) = let g : None ≡ Some c = sym (ap constant_named e) ∙ f in absurd (cc)
       go (HasItemName.of_symbol (IsSymbolName.an_operator told a f j one is among g w)) = let h : type_operator told a f j one ≡ operator n k = sym g ∙ e in absurd (cc)
 
-  -- THAT OF A TYPE DEFINITION'S OPERATOR
+  -- That of a type definition's operator
   pub part-told : (own : TypeNames) (c : HolType) (u : Term) (l : ℕ) (one : Sequent) (z : Item) → IsIn before z → z.content ≡ type_operator own c u l one
       → told_operator m own.operator (length own.variables) ≡ Some (operator_symbol symbols own.operator (length own.variables))
   part-told own c u l one z i e =
@@ -186,7 +186,7 @@ module _ (made : List Made) (is_proof : IsProof made) (xs before rest : List Ite
           ap (λ o. either_number o (symbol_number m (operator_name own.operator))) none
           ∙ item-number symbols made is_proof before order-before names z i (operator_name own.operator) (IsSymbolName.an_operator told a f j two is among g (ap operator_name (sym same))) is_named
 
-  -- AND SO IS THAT OF A CONSTANT
+  -- And so is that of a constant
   pub constant-told : (n : Name) (z : Item) → IsIn before z → constant_named z.content ≡ Some n → told_constant m n ≡ Some (constant_symbol symbols n)
   constant-told n z i e =
       let asked = item-asked before order-before z i in

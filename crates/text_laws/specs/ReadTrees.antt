@@ -81,7 +81,7 @@ declared-over before (d ∷ ds) h k =
     (EachShort-more before d (IsOver (length before)) (IsOver (length (before ++ d ∷ []))) (λ t o. IsOver-more (length before) (length (before ++ d ∷ [])) t (omega (arith, size)) o) k
     (λ t e. IsOver-more (length before) (length (before ++ d ∷ [])) t (omega (arith, size)) (body-over (length before) d.form d.body t h.0.body (short_body-Some d t e)))))
 
--- SHORT NAMES OF A MODULE ARE SHORT FOR CLOSED TREES
+-- Short names of a module are short for closed trees
 pub short-over : (m : List Declaration) → IsModule m → (s : ℕ) (t : Tree) → short_for m s ≡ Some t → IsOver (length (signature ++ m)) t
 short-over m h = short_for-EachShort m (IsOver (length (signature ++ m))) (declared-over signature m h (signature-EachShort (IsOver (length signature))))
 
@@ -176,11 +176,11 @@ completes_long {m = m} h k (next {d = d} e c) =
     (EachShort-more (signature ++ m) d (IsLongOver m) (IsLongOver (m ++ d ∷ [])) (λ t. IsLongOver-more m d t) k (λ t f. IsLongOver-more m d t (l.short t f))))
     c
 
--- WHAT IS READ NAMES NO DEFINITION WITH A SHORT NAME
+-- What is read names no definition with a short name
 pub reads_long : ReadsLong
 reads_long bytes m h = completes_long {m = []} tt (signature-EachShort (IsLongOver [])) h.declares
 
--- WHERE NO NAME IS SHORT, every tree is long
+-- Where no name is short, every tree is long
 pub signature_unshort : NoneShort signature
 signature_unshort = (refl, (refl, (refl, (refl, (refl, (refl, (refl, (refl, (refl, (refl, (refl, (refl, (refl, (refl, (refl, (refl, (refl, (refl, tt))))))))))))))))))
 

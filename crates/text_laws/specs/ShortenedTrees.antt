@@ -46,7 +46,7 @@ module _ (m : List Declaration) where
   by_name-expanded t parts None e h = h
   by_name-expanded t parts (Some s) e h = ap (λ o. unwrap_or o (Sym s)) (short-IsShortFor m t s e).for
 
-  -- WHAT IS WRITTEN IS READ AS THE TREE
+  -- What is written is read as the tree
   pub expanded-shortened : (t : Tree) → IsLong m t → expanded m (shortened m t) ≡ t
   expanded-shortened SortType h = by_name-expanded SortType SortType (short m SortType) refl refl
   expanded-shortened SortKind h = by_name-expanded SortKind SortKind (short m SortKind) refl refl

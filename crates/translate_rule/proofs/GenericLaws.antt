@@ -21,7 +21,7 @@ use Rattle.module_laws.specs.ListedScopes.{told_types, under_all, under_types-al
 use Rattle.translate_term.specs.Told.{types_in, AreTypesKnown}
 use Rattle.translate_rule.specs.TypeScopes.{IsTypeScope}
 
--- A TREE UNDER SO MANY BINDERS OF SIMPLE TYPES
+-- A tree under so many binders of simple types
 abbrev pub over : (Tree → Tree → Tree) → ℕ → Tree → Tree
 over make zero t = t
 over make (suc n) t = make types (over make n t)
@@ -76,7 +76,7 @@ pub binders-of : (names : List Name) → replicate (length names) types ≡ map 
 binders-of [] = refl
 binders-of (n ∷ ns) = ap (λ l. types ∷ l) (binders-of ns)
 
--- WHAT THE PAIRS OF A SCOPE TELL WHEN ONE IS PUT IN
+-- What the pairs of a scope tell when one is put in
 twice : (b : Bool) (v w : Tree) (o : Option Tree) → cond b (Some v) o ≡ cond b (Some v) (cond b (Some w) o)
 twice true v w o = refl
 twice false v w o = refl
@@ -140,7 +140,7 @@ types-grown k (e ∷ es) h = (omega (arith, k.longer, h.0), types-grown k es h.1
 scope-Keeps : {old new : List Tree} → Keeps old new → (es : List (Name × LpId)) (scope : TypeScope) → IsTypeScope old es scope → IsTypeScope new es scope
 scope-Keeps k es scope h = record { known = types-grown k es h.known; each = λ n. ap (λ l. told_types l n) (types_in-Keeps k es h.known) ∙ h.each n }
 
--- THE BINDERS FROM THE OUTERMOST OF SO MANY ON STAND FOR THESE NAMES
+-- The binders from the outermost of so many on stand for these names
 abbrev pub placed : ℕ → List Name → TypeScope → TypeScope
 placed depth [] scope = scope
 placed depth (n ∷ ns) scope = placed (depth - 1) ns (set_type n (Var (depth - 1)) scope)

@@ -29,7 +29,7 @@ symbol-declared trees d name text ty tree is e h = ap (declaration_in trees) is 
 pub symbol-known : (trees : List Tree) (d : Decl) (text : List ℕ) (ty : LpId) → d ≡ record { name = text; form = Symbol; ty = ty; body = None } → ty.0 < length trees → IsKnown trees d
 symbol-known trees d text ty is h = subst (IsKnown trees) (sym is) (record { ty = h; body = tt })
 
--- THE TYPE OF AN INPUT CONSTANT
+-- The type of an input constant
 pub generic-is : (symbols : Symbols) → generic_tree symbols generic ≡ Pi types (term_of (Var 0))
 generic-is symbols = refl
 
@@ -40,7 +40,7 @@ binders-are names vars count e c = ap (λ n. replicate n types) c ∙ binders-of
 scope-is : (trees : List Tree) (entries : List (Name × LpId)) (names vars : List Name) → names ≡ vars → IsTypeScope trees entries (under_types names unfilled) → told_types (types_in trees entries) ≡ under_types vars unfilled
 scope-is trees entries names vars e h = fun_ext h.each ∙ ap (λ l. under_types l unfilled) e
 
--- THE TYPE OF A CONSTANT
+-- The type of a constant
 pub generic-made : (symbols : Symbols) (t : HolType) (scoped mid inner new : List Tree) (entries : List (Name × LpId)) (names : List Name) (count : ℕ) (tree inside r : LpId) → names ≡ type_variables t → count ≡ length names → IsTypeScope scoped entries (under_types names unfilled)
     → Holds mid tree.0 (type_tree symbols (told_types (types_in scoped entries)) t) → Holds inner inside.0 (term_of (tree_at mid tree.0)) → Holds new r.0 (products (replicate count types) (tree_at inner inside.0)) → Holds new r.0 (generic_tree symbols t)
 generic-made symbols t scoped mid inner new entries names count tree inside r e c scope is terms made =
@@ -48,7 +48,7 @@ generic-made symbols t scoped mid inner new entries names count tree inside r e 
     ∙ ap Some (ap₂ products (binders-are names (type_variables t) count e c)
     (Holds-tree_at inner inside.0 _ terms ∙ ap term_of (Holds-tree_at mid tree.0 _ is ∙ ap (λ s. type_tree symbols s t) (scope-is scoped entries names (type_variables t) e scope))))
 
--- WHAT A CONSTANT STANDS FOR
+-- What a constant stands for
 pub definition-made : (symbols : Symbols) (a : HolType) (t : Term) (types_of : List HolType) (scoped mid new : List Tree) (entries : List (Name × LpId)) (others : List (AVariable × LpId)) (names : List Name) (count : ℕ) (tree r : LpId) → names ≡ type_variables a → count ≡ length names
     → IsTypeScope scoped entries (under_types names unfilled) → others ≡ [] → Holds mid tree.0 (term_tree symbols (told symbols (types_in scoped entries) (terms_in types_of scoped others)) t)
     → Holds new r.0 (abstractions (replicate count types) (tree_at mid tree.0)) → Holds new r.0 (definition_tree symbols a t)

@@ -116,7 +116,7 @@ pub theorem-known : (trees : List Tree) (ids : List LpId) (name : List ℕ) (a b
     → IsKnown trees (record { name = name; form = Thm; ty = get_or ids a d; body = Some (get_or ids b d) })
 theorem-known trees ids name a b d h l m = record { ty = (place-tree trees ids a d h l).0; body = (place-tree trees ids b d h m).0 }
 
--- THE NODES MAKE THE LEMMAS
+-- The nodes make the lemmas
 pub nodes-ordered : are_ordered 0 NODES ≡ true
 nodes-ordered = refl
 
@@ -142,7 +142,7 @@ length-trees_at trees (id ∷ ids) = ap suc (length-trees_at trees ids)
 pub ids-count : (trees : List Tree) (ids : List LpId) → trees_at trees ids ≡ made_trees → length ids ≡ 101
 ids-count trees ids e = sym (length-trees_at trees ids) ∙ ap length e ∙ made-count
 
--- EACH OF THE LEMMAS MAY FOLLOW
+-- Each of the lemmas may follow
 pub sym-follows : MayFollow signature sym_lemma
 sym-follows = record {
   new_name = refl;

@@ -33,7 +33,7 @@ numbered-length : (named : Content → List ℕ) (i : ℕ) (cs : List Content) �
 numbered-length named i [] = refl
 numbered-length named i (c ∷ cs) = ap suc (numbered-length named (i + 1) cs)
 
--- WHAT IS MADE NEXT, BUT FOR A STEP: items under such names
+-- What is made next, but for a step: items under such names
 module _ (run : Accepted) (earlier later : List Made) (y : Made) (whole : run.made ≡ earlier ++ y ∷ later) (named : Content → List ℕ) where
   abbrev pub up_to : List Content → List Item
   up_to cs = items_made run earlier ++ numbered named (length (items_made run earlier)) cs
@@ -64,7 +64,7 @@ module _ (run : Accepted) (earlier later : List Made) (y : Made) (whole : run.ma
         gone = λ e. gone (subst (λ n. is_kept run n ≡ false) here e);
       }
 
--- THE ONE CONTENT OF A SYMBOL
+-- The one content of a symbol
 pub only-content : (run : Accepted) (earlier later : List Made) (s : Symbol) → run.made ≡ earlier ++ Made.symbol s ∷ later → (c : Content) → contents_of s ≡ c ∷ [] → (k : Kept) (numbers : List ℕ) (one : AnItem) → symbol_name s ≡ item_name run one
     → c ≡ item_content k numbers one → IsItemKnown k numbers one → IsNextItem run (items_made run earlier) (items_made run (earlier ++ Made.symbol s ∷ [])) k numbers one
 only-content run earlier later s whole c among k numbers one name content known =
@@ -77,7 +77,7 @@ only-content run earlier later s whole c among k numbers one name content known 
     (λ e. record { x = symbol_in_module run earlier s [] c; next = next-symbol-kept run earlier later s whole [] [] c among e; name = name; content = content; known = known })
     (λ e. next-symbol-gone run earlier later s whole [] [] c among e)))
 
--- A STEP
+-- A step
 content-premises : (b : Bool) (kind : StepKind) (js ks : List ℕ) (ss : List Sequent) (g : Parameters) (s : Sequent) → (b ≡ true → js ≡ ks) → content_by b kind js ss g s ≡ content_by b kind ks ss g s
 content-premises true kind js ks ss g s h = ap (λ l. content_by true kind l ss g s) (h refl)
 content-premises false kind js ks ss g s h = refl

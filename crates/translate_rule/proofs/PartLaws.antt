@@ -33,7 +33,7 @@ use Rattle.translate_rule.specs.Steps.{symbol_in}
 use Rattle.translate_rule.proofs.ItemLaws.{binders-are}
 use Rattle.translate_rule.proofs.PushLaws.{told-sequent}
 
--- A PART IS DECLARED AT ITS TYPE, over its type variables
+-- A part is declared at its type, over its type variables
 pub part-declared : (tables : Symbols) (own : Part) (names : TypeNames) (c : HolType) (f : Term) (j : ℕ) (one : Sequent)
     → record { name = part_name own names; form = Def; ty = part_type tables own names c; body = Some (part_definition_tree tables (part_variables own names c) (part_symbol own) c j one) } ≡ declaration_of tables (part_name own names) (part_content own names c f j one)
 part-declared tables part.Operator names c f j one = refl
@@ -71,7 +71,7 @@ module _ (k : Kept) (id : ℕ) (names : TypeNames) (c : HolType) (f : Term) (d :
 pub part-content : (k : Kept) (numbers : List ℕ) (own : Part) (d : TypeDefinition) (one : Premise) → one.id ≡ d.premise → one.symbol ≡ symbol_in numbers d.premise → part_at k own d.view one ≡ item_content k numbers (item.Part own d)
 part-content k numbers own d one e s = λ i. part_content own (names_of d) (type_at k.trees d.view.whole.0) (term_at k.trees d.view.predicate.0) (s i) (sequent_at k.made (e i))
 
--- THE PART UNDER BINDERS for its type variables
+-- The part under binders for its type variables
 pub part-definition : (tables : Symbols) (names : List Name) (own : Part) (c : HolType) (j : ℕ) (one : Sequent)
     → abstractions (replicate (length names) types) (part_tree tables (filled tables (under_types names unfilled)) (part_symbol own) c (j, one)) ≡ part_definition_tree tables names (part_symbol own) c j one
 part-definition tables names own c j one = ap (λ l. abstractions l (part_tree tables (filled tables (under_types names unfilled)) (part_symbol own) c (j, one))) (binders-are names names (length names) refl refl)

@@ -73,7 +73,7 @@ module _ (run : Accepted) (sound : IsSoundRun run) (named : HasNames run) (items
   abbrev content : Content
   content = item_content k numbers one
 
-  -- IT TELLS WHAT THE ITEM MENTIONS
+  -- It tells what the item mentions
   pub next-told : TellsContent (declarations_of target) symbols content
   next-told =
       subst (TellsContent (declarations_of target) symbols) kept.content
@@ -86,13 +86,13 @@ module _ (run : Accepted) (sound : IsSoundRun run) (named : HasNames run) (items
   next-declaration : (d : Declaration) → IsItems d → d ≡ declaration symbols kept.x
   next-declaration d is = is symbols next-told ∙ (λ i. declaration_of symbols (sym kept.name i) (sym kept.content i))
 
-  -- IT MAY FOLLOW
+  -- It may follow
   pub next-may-follow : (ds : List Declaration) (d : Declaration) → ds ≡ declarations_of target → IsItems d → MayFollow (signature ++ ds) d
   next-may-follow ds d same is =
       subst (λ l. MayFollow (signature ++ l) d) (sym (same ∙ so_far.declared))
       (subst (MayFollow (signature ++ declared run (kept_of run items))) (sym (next-declaration d is)) (next-follows run sound named (kept_of run items) kept.next.after kept.x kept.next.whole))
 
-  -- AND THEN THE ITEMS SO FAR ARE DECLARED WITH IT
+  -- And then the items so far are declared with it
   pub next-declared : (ds es : List Declaration) (d : Declaration) → ds ≡ declarations_of target → IsItems d → es ≡ ds ++ d ∷ [] → es ≡ declared run (kept_of run grown)
   next-declared ds es d same is more =
       more ∙ (λ i. (same ∙ so_far.declared) i ++ next-declaration d is i ∷ []) ∙ sym (module-more symbols (kept_of run items) kept.x) ∙ ap (declared run) (sym kept.next.kept)

@@ -77,7 +77,7 @@ take-next [] ys (suc i) x e = absurd (cc)
 take-next (y ∷ xs) ys zero x e = let same : y ≡ x = cc in ap (λ z. z ∷ []) same
 take-next (y ∷ xs) ys (suc i) x e = let z : suc (i + 1) ≡ suc i + 1 = omega arith in sym (ap (λ k. take k (y ∷ xs)) z) ∙ ap (λ l. y ∷ l) (take-next xs ys i x e)
 
--- THE NEXT THING: what was made splits there
+-- The next thing: what was made splits there
 pub record IsNextThing (made : List Made) (i : ℕ) (m : OneMade) : Type 0 where
   pub thing : Made
   pub whole : made ≡ take i made ++ thing ∷ drop (i + 1) made
@@ -97,7 +97,7 @@ next-thing ss xs ms made i m e at l =
 pub all-made : (ss : List Symbol) (xs : List Step) (ms : List OneMade) (made : List Made) (i : ℕ) → made_of ss xs ms ≡ made → length ms ≤ i → take i made ≡ made
 all-made ss xs ms made i e l = let n = sym (ap length e) ∙ made-length ss xs ms in take_all i made (omega (arith, n, l))
 
--- THE NEXT STEP
+-- The next step
 abbrev no_step : Step
 no_step = record { kind = Refl; premises = []; parameters = rule.Parameters.nothing; sequent = record { hypotheses = []; conclusion = bound 0 } }
 
@@ -112,7 +112,7 @@ step-within made earlier later x e =
 pub steps-more : (earlier : List Made) (x : Step) → length (steps_of (earlier ++ Made.step x ∷ [])) ≡ length (steps_of earlier) + 1
 steps-more earlier x = ap length (steps_of-append earlier (Made.step x ∷ [])) ∙ length-append (steps_of earlier) (x ∷ [])
 
--- THE NEXT SYMBOL
+-- The next symbol
 get-seam : {X : Type 0} (xs ys : List X) (y : X) → slice_get (xs ++ y ∷ ys) (length xs) ≡ Some y
 get-seam [] ys y = refl
 get-seam (x ∷ xs) ys y = get-seam xs ys y
@@ -141,7 +141,7 @@ steps-same earlier (Made.step z) x is = absurd (cc)
 pub symbols-same : (earlier : List Made) (x : Step) → length (symbols_of (earlier ++ Made.step x ∷ [])) ≡ length (symbols_of earlier)
 symbols-same earlier x = let e = ap length (symbols_of-append earlier (Made.step x ∷ [])) ∙ length-append (symbols_of earlier) [] in omega (arith, e)
 
--- ASSUMPTIONS AND EXPORTS COME IN ORDER
+-- Assumptions and exports come in order
 above : (low high : ℕ) (is : List ℕ) (j : ℕ) → Ascend low high is → j < length is → low ≤ slice_index is j
 above low high [] j h l = absurd (omega (arith, l))
 above low high (i ∷ is) zero h l = h.0

@@ -58,7 +58,7 @@ module _ (trees : Trees) (made earlier later : List Made) (y : Made) (m : OneMad
   definition-of : (i : ℕ) × (y ≡ definition_made trees x i) × IsNoted (definition_made trees x i) m
   definition-of = operator-made made earlier later y m (named x.op.now x.abs.now x.rep.now x.names.now) (type_at trees x.whole.0) (term_at trees x.predicate.0) proof whole noted is
 
-  -- THE NEXT THING IS THE TYPE DEFINITION that is taken, from the step with which it is noted
+  -- The next thing is the type definition that is taken, from the step with which it is noted
   pub definition-is : (n : Name) (i : ℕ) → m ≡ one.TypeOp n i → y ≡ definition_made trees x i
   definition-is n i e = let d = definition-of in d.1 ∙ ap (definition_made trees x) (subst (IsNoted (definition_made trees x d.0)) e d.2)
 

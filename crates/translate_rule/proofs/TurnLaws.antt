@@ -35,7 +35,7 @@ flag-kept k assumptions exports flags h b v i n e same is = sym (h.reach.each (n
 pub declared-gone : (run : Accepted) (items grown : List Item) (now : Making) → AreCounted run items now → kept_of run grown ≡ kept_of run items → AreDeclared run grown now.target
 declared-gone run items grown now h e = record { held = h.declared.held; declared = h.declared.declared ∙ ap (declared run) (sym e) }
 
--- THE NEXT SYMBOL, by what is kept of it
+-- The next symbol, by what is kept of it
 get-map : {X Y : Type 0} (f : X → Y) (xs : List X) (i : ℕ) (x : X) → slice_get xs i ≡ Some x → slice_get (map f xs) i ≡ Some (f x)
 get-map f [] i x e = absurd (cc)
 get-map f (y ∷ xs) zero x e = ap Some (ap f (same_Some _ _ e))
@@ -68,7 +68,7 @@ taken-within trees symbols made earlier later y m i are whole noted place =
     let long : length symbols ≡ length (symbols_of made) = sym (length-map symbols (symbol_at trees)) ∙ ap length are in
     omega (arith, within, long, place)
 
--- AFTER A SYMBOL
+-- After a symbol
 pub symbol-made : (run : Accepted) (earlier : List Made) (y : Made) (x : Symbol) → made_symbol y ≡ Some x → (old new : Making) (next : ℕ) → IsMaking run earlier old → AreCounted run (items_made run (earlier ++ y ∷ [])) new → new.numbers ≡ old.numbers → next ≡ old.symbol + 1
     → IsMaking run (earlier ++ y ∷ []) (record new { symbol = next })
 symbol-made run earlier y x one old new next h counted numbers is =
@@ -80,7 +80,7 @@ symbol-made run earlier y x one old new next h counted numbers is =
       numbers = λ k l keep. ap (λ v. symbol_in v.items k) numbers ∙ h.numbers k (omega (arith, l, count)) keep;
     }
 
--- AFTER A STEP
+-- After a step
 module _ (k : Kept) (assumptions exports : List ℕ) (sound : IsSoundRun (run_of k assumptions exports)) (earlier later : List Made) (x : Step) (whole : k.made ≡ earlier ++ Made.step x ∷ later) where
   abbrev run : Accepted
   run = run_of k assumptions exports
@@ -100,7 +100,7 @@ module _ (k : Kept) (assumptions exports : List ℕ) (sound : IsSoundRun (run_of
       let steps = h.steps in
       omega (arith, count, long, steps)
 
--- THE NEXT THING IS A STEP, OR WHAT IS NOTED OF A SYMBOL
+-- The next thing is a step, or what is noted of a symbol
 pub kind-step : {j : ℕ} (m : OneMade) (y : Made) → m ≡ one.Step j → IsSameKind m y → (x : Step) × (y ≡ Made.step x)
 kind-step {j = j} m y e h = go y (subst (λ n. IsSameKind n y) e h)
   where
@@ -138,6 +138,6 @@ step-made k assumptions exports sound earlier later x whole old new n h counted 
 pub counted-with : (run : Accepted) (items : List Item) (a b : Making) → AreCounted run items a → b.target ≡ a.target → b.item ≡ a.item → AreCounted run items b
 counted-with run items a b h t i = record { declared = subst (AreDeclared run items) (sym t) h.declared; item = i ∙ h.item }
 
--- WHEN ALL IS MADE THE MODULE IS THE IMAGE
+-- When all is made the module is the image
 pub all-declared : (run : Accepted) (earlier : List Made) (now : Making) → earlier ≡ run.made → IsMaking run earlier now → declarations_of now.target ≡ image run
 all-declared run earlier now e h = h.counted.declared.declared ∙ ap (λ l. declared run (kept_of run (items_made run l))) e

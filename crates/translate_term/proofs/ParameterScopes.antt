@@ -142,7 +142,7 @@ module _ (declarations : List Declaration) (symbols : Symbols) (s : Sequent) (cl
   abbrev outside : ℕ
   outside = length (type_variables_of s) + length (free_variables_of s)
 
-  -- THE PRODUCT OF A SEQUENT, each part of it under so many binders
+  -- The product of a sequent, each part of it under so many binders
   pub sequent_tree-under : sequent_tree symbols s
       ≡ products (replicate (length (type_variables_of s)) types) (products (variable_domains given (length (type_variables_of s)) (map (λ (v : Variable). v.1) (free_variables_of s)))
       (statement_under given s))

@@ -22,7 +22,7 @@ use Rattle.trial_laws.specs.TrialBlocks.{are_alike}
 use Rattle.trial_laws.specs.TrialRuns.{Ready, Chained, block_items, first_leads, next_leads}
 use Rattle.trial_laws.specs.TrialEnds.{beginning_items, begins, d_5, made_5, ready_at_first, ending_items, exported, ending_exports}
 
--- WHAT THE LINES SAY
+-- What the lines say
 Says-beginning : Says beginning beginning_items
 Says-beginning = record { lines = refl; means = refl }
 
@@ -70,7 +70,7 @@ trial_items n = beginning_items ++ (blocks_items n ++ ending_items)
 Says-trial : (n : ℕ) → n ≤ 100000 → Says (beginning ++ (blocks n ++ ending)) (trial_items n)
 Says-trial n h = Says-append beginning (blocks n ++ ending) beginning_items (blocks_items n ++ ending_items) Says-beginning (Says-append (blocks n) ending (blocks_items n) ending_items (Says-blocks n h) Says-ending)
 
--- HOW LONG THEY ARE
+-- How long they are
 length-chained : (i : ℕ) → length (lines (chained i)) ≤ 12
 length-chained i = go (i == 1)
   where
@@ -106,7 +106,7 @@ length-trial n h =
     let back : length (lines ending) ≤ 1000 = omega arith in
     omega (arith, whole, rest, front, back, length-blocks n h, h)
 
--- WHAT THEY LEAD TO
+-- What they lead to
 -- after i + 1 blocks
 record After (i : ℕ) : Type 0 where
   dictionary : Dictionary
@@ -128,7 +128,7 @@ after (suc i) h =
       chained = b.chained;
     }
 
--- THE ARTICLE IS ACCEPTED
+-- The article is accepted
 accepts : (i : ℕ) → suc i ≤ 100000 → (a : Accepted) × IsTrialRun (suc i) a
 accepts i h =
     let a = after i h in

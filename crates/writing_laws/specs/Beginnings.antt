@@ -50,7 +50,7 @@ pub version_of-Five : (s : State) (items : List Item) (t : State) → obeyed (in
 version_of-Five s (item.Number z ∷ item.Word word.Version ∷ is) t e = absurd (cc)
 version_of-Five s items t e = refl
 
--- COMMANDS THAT LEAD TO A STATE, FROM THE START OF AN ARTICLE
+-- Commands that lead to a state, from the start of an article
 pub leads-EndsLike : (v : Version) (items : List Item) (t : State) → Leads v items t → EndsLike initial items t
 leads-EndsLike Five items t h = subst (λ l. EndsLike initial l t) (sym h.is) (start-EndsLike Six initial h.rest t h.obeys)
 leads-EndsLike Six items t h = subst (λ l. EndsLike initial l t) (sym h.is) (record { after = t; obeys = h.obeys; ends = refl })

@@ -61,7 +61,7 @@ counts-once {owed = owed} {m = m} {d = d} x build built c b =
     go None = counts-noted x b
     go (Some k) = counts-referred k c
 
--- WRITERS
+-- Writers
 abbrev pub Counted : (Tally → Tally) → (Draft → Draft) → Type 0
 Counted f g = (owed : ℕ) (m : Tally) (d : Draft) → Counts owed m d → Counts owed (f m) (g d)
 
@@ -78,7 +78,7 @@ counted-pair f k g l a b owed m d c = counts-listed 2 (b owed (f m) (g d) (a owe
 pub counted-name : (n : Name) → Counted (add (name_length n)) (say_name n)
 counted-name n owed m d c = counts-said (item.Name n) c
 
--- TYPES
+-- Types
 mutual
   pub counted-type : (t : HolType) → Counted (count_type t) (write_type t)
   counted-type (HolType.variable n) owed m d c = counts-once (Kept.type (HolType.variable n)) (λ e. say_word word.VarType (say_name n e)) (add (name_length n + word_length word.VarType)) c (counts-two (item.Name n) (item.Word word.VarType) c)

@@ -37,7 +37,7 @@ use Rattle.writing_laws.specs.CountedTerms.{counted-term}
 use Rattle.writing_laws.specs.Flags.{selected-all}
 use Rattle.writing_laws.specs.ReachLaws.{is_flagged, reached-selected}
 
--- WHAT A RULE IS GIVEN HAS NO LOOSE NUMBERS
+-- What a rule is given has no loose numbers
 abbrev pub IsClosedTerm : Term → Type 0
 IsClosedTerm t = loose t ≡ 0
 
@@ -97,7 +97,7 @@ proof-closed m (made.Each.more {made = before} x p h is) =
     last (Made.type_definition names c f i) h = tt
     last (Made.step y) h = (given-closed y.kind h.premises y.parameters y.sequent h.follows.rule, tt {0})
 
--- STEPS
+-- Steps
 counted-premise : (i : ℕ) → Counted (count_premise i) (write_premise i)
 counted-premise i owed m d c =
     subst (λ k. Counts owed (add k m) (write_premise i d)) (ap (λ (l : List Kept). key_length l (Kept.theorem i)) (sym c.kept)) (counts-referred (unwrap_or (key_of (Kept.theorem i) d) 0) c)
@@ -194,7 +194,7 @@ module _ (q : ℕ) where
   counted-steps exports ys h =
       counted-each (λ (y : Numbered). GivenClosed y.step.parameters) (count_step q exports) (write_step q exports) (λ y k. counted-by y.step.kind (list_any (λ i. y.number == i) exports) y.number y.step k) ys h
 
--- THE WHOLE ARTICLE
+-- The whole article
 pub counted-article : (version : Version) (run : Accepted) → IsProof run.made → (tally version run).length ≡ length (article version run)
 counted-article version run proof =
     let q = binder_number (reached_steps run) in

@@ -20,7 +20,7 @@ use Rattle.writing_laws.specs.GivenWriting.{position-more}
 use Rattle.writing_laws.specs.SymbolUses.{nil-append}
 use Rattle.writing_laws.specs.CountedTerms.{some-last, own-type}
 
--- WHAT IS KEPT MORE
+-- What is kept more
 pub record Notes (P : Kept → Type 0) (xs ys : List Kept) : Type 0 where
   pub new : List Kept
   pub is : ys ≡ xs ++ new
@@ -49,7 +49,7 @@ notes-once {P = P} m x build p a = go (key_in m.kept x)
 still-none : {P : Kept → Type 0} {xs ys : List Kept} (x : Kept) → key_in xs x ≡ None → Notes P xs ys → ((y : Kept) → P y → kept_eq x y ≡ false) → key_in ys x ≡ None
 still-none {P = P} {xs = xs} x none a f = ap (λ l. key_in l x) a.is ∙ no-key x 0 xs a.new none (All-weaker P (λ y. kept_eq x y ≡ false) f a.new a.all)
 
--- TYPES
+-- Types
 mutual
   pub type-notes : (t : HolType) (m : Tally) → Notes (IsTypeUpTo (type_size t)) m.kept (count_type t m).kept
   type-notes (HolType.variable n) m = notes-once m (Kept.type (HolType.variable n)) (add (name_length n + word_length word.VarType)) (omega arith) (notes-none m.kept)
@@ -66,7 +66,7 @@ mutual
 pub type-unnoted : (n : Name) (ts : HolTypes) (m : Tally) (k : ℕ) → key_in m.kept (Kept.type (HolType.operator n ts)) ≡ None → key_in (count_types ts (add k m)).kept (Kept.type (HolType.operator n ts)) ≡ None
 type-unnoted n ts m k none = still-none (Kept.type (HolType.operator n ts)) none (types-note ts (add k m)) (smaller-type (HolType.operator n ts) (types_size ts) (omega arith))
 
--- TERMS
+-- Terms
 variable-notes : (k : ℕ) (n : Name) (a : HolType) (m : Tally) → Notes (IsTermUpTo k) m.kept (count_variable n a m).kept
 variable-notes k n a m = notes-weaker (any-type (type_size a) k) (type-notes a (add (name_length n) m))
 
@@ -104,7 +104,7 @@ module _ (q : ℕ) where
   lam-unnoted d a b m none =
       still-none (Kept.term (Term.lam a b)) none (notes-then (variable-notes (term_size b) (binder_name q d) a m) (term-notes b (suc d) (count_variable (binder_name q d) a m))) (smaller-term (Term.lam a b) (term_size b) (omega arith))
 
--- WHAT HAS KEYS FOR ALL THAT IT TELLS BY KEYS
+-- What has keys for all that it tells by keys
 has-key : (kept : List Kept) (x : Kept) → HasKey kept x → (k : ℕ) × (key_in kept x ≡ Some k)
 has-key kept x h = go (key_in kept x) h
   where
@@ -162,7 +162,7 @@ module _ (q : ℕ) where
       go false h one =
           ap₂ (λ m n. name_length (binder_name q d) + m + word_length word.Var + n + (uses 0 b * m + word_length word.AbsTerm)) (length-more kept new (Kept.type a) h.0) (one h.1)
 
-  -- A PLACE ADDS ITS LENGTH, AND KEEPS NOTHING
+  -- A place adds its length, and keeps nothing
   counted-once : (x : Kept) (build : Tally → Tally) (m : Tally) → HasKey m.kept x → count_once x build m ≡ add (key_length m.kept x) m
   counted-once x build m h =
       let k = has-key m.kept x h in
@@ -214,7 +214,7 @@ module _ (q : ℕ) where
           ap (λ e. count_binder a b (count_under q (suc d) b e)) variable ∙ ap (count_binder a b) (one (i + k + v) h.1)
           ∙ ap (λ n. record m { length = n }) (let z : m.length + (i + k + v) + p + w ≡ m.length + (i + k + v + p + w) = omega arith in z)
 
--- WHAT WAS COUNTED HAS SUCH KEYS
+-- What was counted has such keys
 pub has-after : {P : Kept → Type 0} {xs ys : List Kept} (x : Kept) → Notes P xs ys → HasKey xs x → HasKey ys x
 has-after {xs = xs} x a h = subst (λ l. HasKey l x) (sym a.is) (has-more xs a.new x h)
 

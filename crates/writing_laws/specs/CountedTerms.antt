@@ -19,7 +19,7 @@ use Rattle.writing_laws.specs.GivenWriting.{position-more}
 use Rattle.writing_laws.specs.KeptOnce.{Adds, type-adds, term-adds}
 use Rattle.writing_laws.specs.CountLaws.{Counts, Counted, counts-said, counts-two, counts-once, counts-referred, counted-type, counted-variable}
 
--- LOOSE NUMBERS
+-- Loose numbers
 -- what the loose numbers of a term add, where each of these is added for a number by the binders that it passes
 abbrev pub outer : List ℕ → Term → ℕ
 outer ws (Term.free n a) = 0
@@ -75,7 +75,7 @@ uses-none i (Term.lam a b) h = uses-none (suc i) b (omega (arith, h))
 pub outer-closed : (ws : List ℕ) (t : Term) → loose t ≡ 0 → outer ws t ≡ 0
 outer-closed ws t h = outer-zeros 0 ws t (omega (arith, h))
 
--- KEYS
+-- Keys
 told-key : (o : Option ℕ) (x : Kept) (build : Draft → Draft) (d : Draft) (k : ℕ) → o ≡ Some k → once_at o x build d ≡ refer k d
 told-key o x build d k e = ap (λ p. once_at p x build d) e
 
@@ -107,7 +107,7 @@ pub type-key : (a : HolType) (d : Draft) → (k : ℕ) × (key_of (Kept.type a) 
 type-key (HolType.variable n) d = once-key (Kept.type (HolType.variable n)) _ d (own-type (HolType.variable n))
 type-key (HolType.operator n ts) d = once-key (Kept.type (HolType.operator n ts)) _ d (own-type (HolType.operator n ts))
 
--- BINDERS
+-- Binders
 -- the variable of a binder under n others has its name, and its type a key, by which it is told in so many bytes
 pub record IsBound (q : ℕ) (kept : List Kept) (n : ℕ) (v : Variable) (w : ℕ) : Type 0 where
   pub key : ℕ
@@ -136,7 +136,7 @@ bound-at q kept (v ∷ vs) (w ∷ ws) (suc i) h low =
     let e : length vs - suc i ≡ suc (length vs) - suc (suc i) = omega arith in
     subst (λ n. IsBound q kept n (binder_at vs i) (slice_index_or ws i 0)) e (bound-at q kept vs ws i h.1 (omega (arith, low)))
 
--- A TERM UNDER BINDERS
+-- A term under binders
 counts-shared : {owed : ℕ} {m : Tally} {d : Draft} (t : Term) (more : ℕ) (build : Draft → Draft) (built : Tally → Tally) → (loose t ≡ 0 → more ≡ 0) → Counts owed m d → Counts (owed + more) (built m) (build d)
     → Counts (owed + more) (count_shared t built m) (shared t build d)
 counts-shared {owed = owed} {m = m} {d = d} t more build built closed c b = go (loose t == 0) refl
@@ -203,7 +203,7 @@ module _ (q : ℕ) where
       counts-shared (Term.lam a b) (outer (0 ∷ ws) b) (λ e. say_word word.AbsTerm (write_under q (v ∷ vs) b (write_variable v e))) (λ e. count_binder a b (count_under q (suc (length vs)) b (count_variable (binder_name q (length vs)) a e)))
       (outer-closed ws (Term.lam a b)) c whole
 
-  -- A TERM WITHOUT LOOSE NUMBERS
+  -- A term without loose numbers
   pub counted-term : (t : Term) → loose t ≡ 0 → Counted (count_under q 0 t) (write_term q t)
   counted-term t closed owed m d c =
       let r = counted-under t [] [] (omega (arith, closed)) owed m d (tt {0}) c in

@@ -178,7 +178,7 @@ module _ (q : ℕ) (version : Version) (flag is_export : ℕ → Bool) where
       (rise-exported q version flag is_export n (next whole) (omega (arith, longer)) ex r.exports)
       (defs-told q version flag is_export r whole (m1 ++ Made.step y ∷ []) p.more new x on p.inputs (own_symbols ∙ ap (λ l. l ++ new) (symbols_of-symbols r.after p.more)) is)
 
-  -- A TYPE OPERATOR: two steps at once
+  -- A type operator: two steps at once
   pub type-on : {made whole : List Made} {ax ex : List ℕ} (i : ℕ) (names : TypeNames) (a : HolType) (f : Term) (r : Retold q version flag is_export made ax ex) → flag (next made) ≡ true → flag (suc (next made)) ≡ true
       → Takes (symbols_of made) (defined (Definition.type_operator names a f)) → IsType q version flag is_export made i names a f version
       → whole ≡ ((made ++ Made.type_definition names a f i ∷ []) ++ Made.step (step_by by_rule.FirstLaw (i ∷ []) (rule.type_operator names version) (first_law_of version names a)) ∷ [])

@@ -47,7 +47,7 @@ truth : (b : Bool) → IsTrue b → b ≡ true
 truth b h = h
 
 module _ (c : Scene) (d : Dictionary) (m : List Made) (stack : List Object) where
-  -- A CONSTANT
+  -- A constant
   pub define_const-word : (n : Name) (t : Term) (a : HolType) → is_taken_constant (symbols_of m) n ≡ false → IsDefining a t → SequentWithin (derived [] (equation a (Term.constant n a) t))
       → define_const (body_state c d m (Object.term t ∷ Object.name n ∷ stack))
       ≡ Ok (with_theorem (body_state c d (m ++ Made.symbol (defined (Definition.constant n t)) ∷ []) (Object.constant n ∷ stack)) (step_by by_rule.DefineConst [] (Parameters.constant n t) (derived [] (equation a (Term.constant n a) t))))
@@ -55,7 +55,7 @@ module _ (c : Scene) (d : Dictionary) (m : List Made) (stack : List Object) wher
       rw (new, truth (is_closed t) h.closed, typed-is t a h.typed, truth (has_type_variables_of a t) h.variables)
       (concluded (body_state c d (m ++ Made.symbol (defined (Definition.constant n t)) ∷ []) (Object.constant n ∷ stack)) (step_by by_rule.DefineConst [] (Parameters.constant n t) (derived [] (equation a (Term.constant n a) t))) w)
 
-  -- A LIST OF CONSTANTS
+  -- A list of constants
   closed-all : (es : TermPairs) → AllByRecursion (λ e. IsDefining e.0.1 e.1) es → list_all (λ e. is_closed e.1) es ≡ true
   closed-all [] h = refl
   closed-all (e ∷ es) h = rw (truth (is_closed e.1) h.0.closed, closed-all es h.1) refl
@@ -75,7 +75,7 @@ module _ (c : Scene) (d : Dictionary) (m : List Made) (stack : List Object) wher
       (concluded (body_state c d (m ++ map Made.symbol (map defined (definitions_in pairs (sequent_at m i).hypotheses))) (Object.list (constant_objects (names_of pairs)) ∷ stack))
       (step_by by_rule.DefineConstList (i ∷ []) (rule.constants pairs) (derived [] (sub [] (constants_put pairs) (sequent_at m i).conclusion))) w)
 
-  -- A TYPE OPERATOR
+  -- A type operator
   sizes : (ms : List Measure) → AllByRecursion IsWithin ms → list_all (λ k. nat_le k.size greatest_size) ms ≡ true
   sizes [] h = refl
   sizes (k ∷ ms) h = let e : nat_le k.size greatest_size ≡ true = grind (arith, nat_tests, h.0.size) in rw (e, sizes ms h.1) refl
@@ -181,7 +181,7 @@ module _ (c : Scene) (d : Dictionary) (m : List Made) (stack : List Object) wher
         type-limits c.version names a f one two,
       ) refl
 
-  -- AN ASSUMPTION
+  -- An assumption
   all-bool : (ts : List Term) → AllByRecursion (λ t. HasType t bool) ts → list_all (is_of_type bool) ts ≡ true
   all-bool [] h = refl
   all-bool (t ∷ ts) h = rw (is_of_type-is t bool h.0, all-bool ts h.1) refl
@@ -212,7 +212,7 @@ module _ (c : Scene) (d : Dictionary) (m : List Made) (stack : List Object) wher
       → axiom_word (body_state c d m (Object.term s.conclusion ∷ list_object Object.term s.hypotheses ∷ stack)) ≡ Ok (with_theorem (body_state c d m stack) (restatement i s))
   axiom-met s i h old w = axiom-assumes s h ∙ ap (assume_or_meet (body_state c d m stack) s) old ∙ concluded (body_state c d m stack) (restatement i s) w
 
-  -- AN EXPORT
+  -- An export
   abbrev exports : ℕ → Sequent → Result State Kind
   exports i s = follows (sequent_at m i) s >> export (body_state c d m stack) i s (first_same (body_state c d m stack) c.exports s)
 

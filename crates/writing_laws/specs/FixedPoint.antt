@@ -32,7 +32,7 @@ module _ (flag : ℕ → Bool) where
   count-on : (i : ℕ) → flag i ≡ true → count flag (suc i) ≡ suc (count flag i)
   count-on i on = ap (λ b. cond b (suc (count flag i)) (count flag i)) on
 
-  -- WHAT IS WRITTEN OF A STEP
+  -- What is written of a step
   same-made : (kind : StepKind) (i : ℕ) → flag i ≡ true → (kind ≡ FirstLaw → flag (suc i) ≡ true) → Alike flag (keep_made kind i) (keep_made kind (count flag i))
   same-made DefineConst i on next d e s = same-said flag (item.Word word.Pop) (same-theorem flag i (count flag i) on refl d e s)
   same-made DefineConstList i on next d e s = same-said flag (item.Word word.Pop) (same-theorem flag i (count flag i) on refl d e s)
@@ -115,7 +115,7 @@ module _ (flag : ℕ → Bool) where
     same-steps exports told [] h d e s = s
     same-steps exports told (y ∷ ys) h d e s = same-steps exports told ys h.1 (write_step q exports y d) (write_step q (map (count flag) exports) (new_numbered y) e) (same-step exports told y h.0 d e s)
 
-  -- THE NAMES OF BINDERS
+  -- The names of binders
   same-variables : (ys : List Numbered) → flat_map (λ x. step_variables x.step) (map new_numbered ys) ≡ flat_map (λ (x : Numbered). step_variables x.step) ys
   same-variables [] = refl
   same-variables (y ∷ ys) = ap (λ l. step_variables y.step ++ l) (same-variables ys)
@@ -123,7 +123,7 @@ module _ (flag : ℕ → Bool) where
   pub same-binder_number : (ys : List Numbered) → binder_number (map new_numbered ys) ≡ binder_number ys
   same-binder_number ys = ap (λ vs. first_free (length (distinct name_eq (map (λ v. v.0) vs))) 0 (distinct name_eq (map (λ v. v.0) vs))) (same-variables ys)
 
-  -- WHAT IS REACHED
+  -- What is reached
   abbrev pub other_need : Need → Need
   other_need (Need.operator n) = Need.operator n
   other_need (Need.constant n) = Need.constant n

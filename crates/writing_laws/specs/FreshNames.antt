@@ -21,7 +21,7 @@ use Rattle.writing_laws.specs.NumberTextLaws.{decimal-HasValue}
 use Rattle.writing_laws.specs.Built.{HasNoBinderName}
 use Rattle.writing_laws.specs.BuiltSteps.{HasNoBinderNames, IsFreshGiven}
 
--- NO NAME IS OF TWO NUMBERS
+-- No name is of two numbers
 digits-apart : (ds es r s : List ℕ) → list_all is_digit ds ≡ true → list_all is_digit es ≡ true → ds ++ 95 ∷ r ≡ es ++ 95 ∷ s → ds ≡ es
 digits-apart [] [] r s h k e = refl
 digits-apart [] (b ∷ es) r s h k e = absurd (let d = (and_parts (is_digit b) (list_all is_digit es) k).0 in let same : 95 ≡ b = cc in grind (arith, nat_tests, d, same))
@@ -47,7 +47,7 @@ one-number p q (bytes ∷ []) hp hq e f =
     let plain : decimal p ++ 95 ∷ r ≡ decimal q ++ 95 ∷ s = sym (append_assoc (decimal p) (95 ∷ []) r) ∙ rest ∙ append_assoc (decimal q) (95 ∷ []) s in
     decimal_injective p q hp hq (digits-apart (decimal p) (decimal q) r s (decimal-HasValue p (omega (arith, hp))).digits (decimal-HasValue q (omega (arith, hq))).digits plain)
 
--- THE LEAST NUMBER IS FREE
+-- The least number is free
 -- the names that are not of a number
 abbrev others : ℕ → List Name → List Name
 others p names = filter (λ n. not (is_binder_name p n)) names
@@ -118,7 +118,7 @@ is-free (suc more) q names long small = go (list_any (is_binder_name q) names) r
         let same = first-same q more (suc q) names (omega arith) (omega (arith, small)) in
         sym (same-others q k names (omega (arith, small)) (omega (arith, below, small)) (λ z. absurd (omega (arith, z, above)))) ∙ ap (λ j. list_any (is_binder_name j) (others q names)) (sym same) ∙ free
 
--- SO NO VARIABLE THAT IS WRITTEN HAS SUCH A NAME
+-- So no variable that is written has such a name
 abbrev pub IsApart : ℕ → Variable → Type 0
 IsApart q v = is_binder_name q v.0 ≡ false
 
@@ -177,7 +177,7 @@ steps-fresh q (y ∷ ys) h =
     let own = All-left (IsApart q) (step_variables y.step) (flat_map (λ x. step_variables x.step) ys) h in
     (given-fresh q y.step.parameters (All-left (IsApart q) (given_variables y.step.parameters) (flat_map free_places (terms_of y.step.sequent)) own), steps-fresh q ys (All-right (IsApart q) (step_variables y.step) (flat_map (λ x. step_variables x.step) ys) h))
 
--- THE NUMBER OF THE BINDERS
+-- The number of the binders
 pub binder_number-fresh : (ys : List Numbered) → length (variable_names ys) < 2 ^ 64 → AllByRecursion (λ (y : Numbered). IsFreshGiven (binder_number ys) y.step.parameters) ys
 binder_number-fresh ys small =
     steps-fresh (binder_number ys) ys (all-apart (binder_number ys) (flat_map (λ x. step_variables x.step) ys) (is-free (length (variable_names ys)) 0 (variable_names ys) (omega arith) (omega (arith, small))))

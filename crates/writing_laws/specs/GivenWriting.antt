@@ -87,7 +87,7 @@ sequent-writes c q s h d made stack r =
     wrote-then (writes-list c (write_term q) Object.term (IsOperand c q) (term-writes c q) s.hypotheses h.hypotheses d made stack r)
     (λ m z. term-writes c q s.conclusion h.conclusion (write_list (write_term q) s.hypotheses d) m (list_object Object.term s.hypotheses ∷ stack) z)
 
--- WHAT A RULE IS GIVEN
+-- What a rule is given
 pub given-writes : (c : Scene) (q : ℕ) (g : Parameters) → IsGiven c q g → (d : Draft) (made : List Made) (stack : List Object) → Ready c d made stack
     → Wrote c d.kept made (write_given q g d) (given_stack g stack)
 given-writes c q Parameters.nothing h d made stack r = wrote-none r
@@ -119,7 +119,7 @@ given-writes c q (Parameters.type_operator names version) h d made stack r =
     all-unit [] = tt
     all-unit (n ∷ ns) = (tt, all-unit ns)
 
--- READ BACK FROM THE STACK
+-- Read back from the stack
 pub terms-read : (ts : List Term) → as_terms (list_object Object.term ts) ≡ Ok ts
 terms-read ts = each-listing as_term Object.term (λ t. refl) ts
 
@@ -132,7 +132,7 @@ constants-read pairs = each-listing (pair_of as_name as_variable) constant_pair 
 pub substitution-read : (types : TypePairs) (terms : TermPairs) → as_substitution (pair_object (list_object type_pair types) (list_object term_pair terms)) ≡ Ok (types, terms)
 substitution-read types terms = rw (each-listing (pair_of as_name as_type) type_pair (λ p. refl) types, each-listing (pair_of as_variable as_term) term_pair (λ p. refl) terms) refl
 
--- PREMISES
+-- Premises
 -- a step's theorem has a key
 pub record IsKept (kept : List Kept) (i : ℕ) : Type 0 where
   pub key : ℕ

@@ -108,7 +108,7 @@ finish-good s t g e =
 initial-good : IsGoodState initial
 initial-good = record { history = histories.History.empty; pool = λ i h. h; stack = tt {0}; dictionary = nothing-kept }
 
--- RUNS
+-- Runs
 record IsKept (s : State) : Type 0 where
   sound : IsSound s
   good : IsGoodState s

@@ -45,7 +45,7 @@ use Rattle.writing_laws.specs.Histories.{IsGood, History}
 use Rattle.writing_laws.specs.Histories as histories
 use Rattle.writing_laws.specs.GoodStates.{IsGoodType, IsGoodVariable, IsGoodTerm, IsGoodObject, AreGoodObjects, IsGoodState, GivesGood, name-good, type-good, variable-good, term-good, any-good, list_of-good, pair_of-good, pop-good, answered-good, restacked-good}
 
--- A STEP THAT INFERS
+-- A step that infers
 infers-good : (s t : State) (rest : List Object) (x : Step) → IsGoodState s → AllByRecursion IsGoodObject rest → is_inference x.kind ≡ true → IsGood x.parameters → conclude (with_stack s rest) x ≡ Ok t → IsGoodState t
 infers-good s t rest x g left kind good e =
     let l = passed (sequent_in_limits x.sequent) _ t e in
@@ -163,7 +163,7 @@ subst-good s t g e =
       named = (All-weaker IsTypePair _ (λ q h. (h.0, h.1.named)) p.0.0.0 k.0.0, All-weaker IsTermPair _ (λ q h. (h.0.named, h.1.named)) p.0.0.1 k.0.1);
     }) fits.2
 
--- DEFINITIONS
+-- Definitions
 pub define_const-good : (s t : State) → IsGoodState s → define_const s ≡ Ok t → IsGoodState t
 define_const-good s t g e =
     let u = bound (pop as_term s.stack) _ t e in
@@ -249,7 +249,7 @@ define_type_op-good s t sound g e =
       dictionary = g.dictionary;
     })
 
--- WHAT IS STATED
+-- What is stated
 stated-good : (hs : List Term) (p : Term) → AllByRecursion IsGoodTerm hs → IsGoodTerm p → IsGood (Parameters.sequent (stated hs p))
 stated-good hs p h k =
     let d : AllByRecursion IsGoodTerm (distinct term_eq hs) = union-All IsGoodTerm term_eq hs [] (tt {0}) h in

@@ -84,7 +84,7 @@ exports-below (histories.History.type {made = made} {whole = whole} {ex = ex} i 
     rise (next made) (next whole) (longer made whole (Made.type_definition names c f i ∷ Made.step x1 ∷ Made.step x2 ∷ [])
     (is ∙ append_assoc one (Made.step x1 ∷ []) (Made.step x2 ∷ []) ∙ append_assoc made (Made.type_definition names c f i ∷ []) (Made.step x1 ∷ Made.step x2 ∷ []))) ex (exports-below h)
 
--- WHAT THE RULES TELL
+-- What the rules tell
 recorded-sequent : (ss : List Sequent) (g : Parameters) (s : Sequent) → Rule by_rule.Axiom ss g s → IsSequent s
 recorded-sequent ss g s (Rule.recorded h) = h
 
@@ -268,7 +268,7 @@ module _ (version : Version) (run : Accepted) (proof : IsProof run.made) (over :
   sayable : (made : List Made) (x : Step) → slice_get steps (next made) ≡ Some x → flag (next made) ≡ true → IsGood x.parameters → ParametersTaken (symbols_of made) x.parameters → IsSayable (binder_number (reached_steps run)) version flag (is_export run) made x.parameters
   sayable made x at on good taken = record { built = good.built; fresh = fresh-at (next made) x at on; taken = taken }
 
-  -- THE TALE
+  -- The tale
   pub tale : {made : List Made} {ax ex : List ℕ} → History made ax ex → (rest : List Made) → run.made ≡ made ++ rest → (em : List ℕ) → run.exports ≡ ex ++ em → AllByRecursion (λ i. next made ≤ i) em
       → Tale (binder_number (reached_steps run)) version flag (is_export run) made ax ex
   tale histories.History.empty rest e em ee above = Tale.empty

@@ -45,7 +45,7 @@ kept-conses : (k : ℕ) (d : Draft) → (conses k d).kept ≡ d.kept
 kept-conses zero d = refl
 kept-conses (suc k) d = kept-conses k (say_word word.Cons d)
 
--- KEYS AFTER THAT
+-- Keys after that
 pub no-key : (x : Kept) (start : ℕ) (xs ys : List Kept) → position_from (kept_eq x) start xs ≡ None → AllByRecursion (λ y. kept_eq x y ≡ false) ys → position_from (kept_eq x) start (xs ++ ys) ≡ None
 no-key x start [] [] e h = refl
 no-key x start [] (y ∷ ys) e h = ap (λ b. cond b (Some start) (position_from (kept_eq x) (start + 1) ys)) h.0 ∙ no-key x (start + 1) [] ys refl h.1
@@ -72,7 +72,7 @@ new-place x start (y ∷ xs) own e = go (kept_eq x y) e (new-place x (start + 1)
 pub new-key : (x : Kept) (d : Draft) → kept_eq x x ≡ true → key_of x d ≡ None → key_of x (keep x d) ≡ Some (length d.kept)
 new-key x d own e = new-place x 0 d.kept own e ∙ (let z : 0 + length d.kept ≡ length d.kept = omega arith in ap Some z)
 
--- TYPES
+-- Types
 abbrev pub IsTypeUpTo : ℕ → Kept → Type 0
 IsTypeUpTo m (Kept.type a) = type_size a ≤ m
 IsTypeUpTo m (Kept.term t) = ⊥
@@ -117,7 +117,7 @@ type-built n ts d none =
     still-no-key (IsTypeUpTo (types_size ts)) (Kept.type (HolType.operator n ts)) d (say_word word.OpType (conses (count ts) (say_word word.Nil (write_types ts (say_word word.TypeOp (say_name n d)))))) none (built-from n ts d (types-add ts (say_word word.TypeOp (say_name n d))))
     (smaller-type (HolType.operator n ts) (types_size ts) (omega arith))
 
--- TERMS
+-- Terms
 abbrev pub IsTermUpTo : ℕ → Kept → Type 0
 IsTermUpTo m (Kept.type a) = Unit {0}
 IsTermUpTo m (Kept.term t) = term_size t ≤ m

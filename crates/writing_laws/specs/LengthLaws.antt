@@ -18,7 +18,7 @@ text-length (i ∷ is) =
 pub items_length-said : (items : List Item) (i : Item) → items_length (items ++ i ∷ []) ≡ items_length items + item_length i
 items_length-said items i = sum_by_push item_length items i
 
--- NUMBERS UP TO A GREATEST ONE
+-- Numbers up to a greatest one
 pub capped-small : (most n : ℕ) → n ≤ most → capped most n ≡ n
 capped-small most n h = omega (arith, h)
 

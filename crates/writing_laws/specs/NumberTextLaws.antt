@@ -66,7 +66,7 @@ said-digits n (d ∷ ds) h v =
     let minus : (d == 45) ≡ false = grind (arith, nat_tests, k.0) in
     rw (sign, minus, v.digits, v.value, in_range n h) refl
 
--- A NUMBER
+-- A number
 pub content-number : (n : ℕ) → n < 2 ^ 63 → content (decimal n) ≡ command (item.Number (pos n))
 content-number n h =
     let v = decimal-HasValue n (omega (arith, h)) in

@@ -42,7 +42,7 @@ last-kept i start (y ∷ kept) = go (kept_eq (Kept.theorem i) y) (last-kept i (s
 pub kept-last : (kept : List Kept) (i : ℕ) → IsKept (kept ++ Kept.theorem i ∷ []) i
 kept-last kept i = let h = last-kept i 0 kept in record { key = h.0; at = h.1 }
 
--- THE DEFINITIONS THAT ARE TOLD
+-- The definitions that are told
 definitions-are : (xs : List Symbol) → filter_map symbol_definition xs ≡ flat_map defined_by xs
 definitions-are [] = refl
 definitions-are (Symbol.input_constant n ∷ xs) = definitions-are xs
@@ -187,7 +187,7 @@ module _ (q : ℕ) (version : Version) (flag is_export : ℕ → Bool) where
       subst (λ l. Ready (scene_of t l f) d m stack) p (subst (λ l. Ready (scene_of t a l) d m stack) q
       (record { dictionary = r.dictionary; leads = r.leads; holds = record { at = r.holds.at }; among = among }))
 
-  -- A STEP THAT IS NOT TOLD
+  -- A step that is not told
   pub retold-off : {made whole : List Made} {ax ex all : List ℕ} (x : Step) (r : Retold made ax ex) → steps_of whole ≡ steps_of made ++ x ∷ [] → flag (next made) ≡ false
       → AreAmong (symbols_of whole) (symbols_of r.after) → AreApart (symbols_of whole) → filter flag all ≡ filter flag ax → AllByRecursion (Below (next whole)) all → told_definitions flag 0 whole ≡ told_definitions flag 0 made → Retold whole all ex
   retold-off {made = made} {whole = whole} {ax = ax} {ex = ex} {all = all} x r grown off among apart same below defs =
@@ -207,7 +207,7 @@ module _ (q : ℕ) (version : Version) (flag is_export : ℕ → Bool) where
         exports = rise-exported (next made) (next whole) (omega (arith, longer)) ex r.exports;
       }
 
-  -- A STEP THAT IS TOLD
+  -- A step that is told
   pub retold-on : {made whole : List Made} {ax ex all exported : List ℕ} (x : Step) (r : Retold made ax ex) → steps_of whole ≡ steps_of made ++ x ∷ [] → flag (next made) ≡ true
       → (after : List Made) → Ready (scene whole all exported) (write_flagged (record { number = next made; step = x }) (told made)) after [] → steps_of after ≡ steps_of r.after ++ renumbered (count flag) x ∷ []
       → (new : List Kept) → (write_flagged (record { number = next made; step = x }) (told made)).kept ≡ (told made).kept ++ new

@@ -114,7 +114,7 @@ module _ (q : ℕ) (version : Version) (flag is_export : ℕ → Bool) where
       go true e = f e
       go false e = g e
 
-  -- THE TALE IS TOLD
+  -- The tale is told
   pub retold : {made : List Made} {ax ex : List ℕ} → Tale q version flag is_export made ax ex → Retold q version flag is_export made ax ex
   retold tales.Tale.empty = nothing
   retold (tales.Tale.input x t input takes is) = with-input x (retold t) input takes is

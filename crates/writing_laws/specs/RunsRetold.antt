@@ -1,4 +1,4 @@
--- THE LAW OF ARTICLES: whatever articles a run read, what its exports reach can be told by one, where one can say it and it isn't too long.
+-- The law of articles: whatever articles a run read, what its exports reach can be told by one, where one can say it and it isn't too long.
 use Rattle.std.proofs.Common.{◌≡◌, ℕ, ◌<◌, ◌^◌, List, [], ◌∷◌, ◌++◌, map, sym, ap, subst, ◌∙◌, arith}
 use Rattle.std.specs.List.{AllByRecursion}
 use Rattle.hol_spec.specs.Terms.{Term, Variable, equation}

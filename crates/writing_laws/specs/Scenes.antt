@@ -71,7 +71,7 @@ pub record Wrote (c : Scene) (kept : List Kept) (made : List Made) (after : Draf
   pub new : List Kept
   pub front : after.kept ≡ kept ++ new
 
--- ONE COMMAND
+-- One command
 pub leads-one : (version : Version) (items : List Item) (i : Item) (s t : State) → Leads version items s → step_at s.place s i ≡ Ok t → Leads version (items ++ i ∷ []) t
 leads-one version items i s t h f = record {
   rest = h.rest ++ i ∷ [];
@@ -133,7 +133,7 @@ wrote-taking {c = c} {d = d} {made = made} i r more e inputs among = record {
   front = sym (nil-append d.kept);
 }
 
--- KEYS
+-- Keys
 kept-same : (x y : Kept) → kept_eq x y ≡ true → x ≡ y
 kept-same (Kept.type a) (Kept.type b) e = ap Kept.type ((type_eq-Decides a b).0 e)
 kept-same (Kept.term t) (Kept.term u) e = ap Kept.term ((term_eq-Decides t u).0 e)

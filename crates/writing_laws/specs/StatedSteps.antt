@@ -31,7 +31,7 @@ use Rattle.writing_laws.specs.Tales.{next, first_of, IsTold, IsStated}
 use Rattle.writing_laws.specs.Retelling.{Retold, scene, told, write_flagged, retold-on, count-after, kept-last, ready-moved, next-grown, rise, rise-exported, Below, Exported, defs-plain}
 use Rattle.writing_laws.specs.ToldSteps.{steps-inputs, says, ready-theorem}
 
--- THE FIRST OF A LIST
+-- The first of a list
 find-mapped : (p r : ℕ → Bool) (f : ℕ → ℕ) (is : List ℕ) → AllByRecursion (λ i. p (f i) ≡ r i) is → find p (map f is) ≡ option_map f (find r is)
 find-mapped p r f [] h = refl
 find-mapped p r f (i ∷ is) h = go (p (f i)) (r i) h.0 (find-mapped p r f is h.1)

@@ -27,7 +27,7 @@ use Rattle.writing_laws.specs.Flags.{count, renumbered, says-same}
 use Rattle.writing_laws.specs.Tales.{next, IsTold, IsInferred}
 use Rattle.writing_laws.specs.Retelling.{Retold, scene, told, write_flagged, retold-on, count-after, kept-last, ready-moved, next-grown, rise, rise-exported, defs-plain}
 
--- WHAT IS WRITTEN OF AN INFERENCE
+-- What is written of an inference
 by-inference : (q : ℕ) (kind : StepKind) (b : Bool) (i : ℕ) (x : Step) (d : Draft) → is_inference kind ≡ true → write_by q kind b i x d ≡ write_inferred q i x d
 by-inference q Refl b i x d e = refl
 by-inference q Assume b i x d e = refl

@@ -102,7 +102,7 @@ fine-list write P g xs h d f = fine-conses (length xs) (say_word word.Nil (write
 fine-pair : (one two : Draft → Draft) → Finely one → Finely two → Finely (write_pair one two)
 fine-pair one two g h d f = fine-conses 2 (say_word word.Nil (two (one d))) (fine-word word.Nil (h (one d) (g d f)))
 
--- WHOSE NAMES CAN BE WRITTEN
+-- Whose names can be written
 abbrev mutual
   pub TypeNamed : HolType → Type 0
   TypeNamed (HolType.variable n) = IsWritableName n
@@ -155,7 +155,7 @@ fine-shared {d = d} t build f b = go (loose t == 0)
     go true = fine-once (Kept.term t) build f b
     go false = b
 
--- THE NAMES OF BINDERS
+-- The names of binders
 length-component : (bytes : List ℕ) → length (component_text bytes) ≤ 2 * length bytes
 length-component [] = omega arith
 length-component (b ∷ bytes) = go (is_escaped b) (length-component bytes)
@@ -244,7 +244,7 @@ module _ (q : ℕ) (small_q : q < 2 ^ 64) where
   fine-given (Parameters.type_operator names version) h d f =
       fine-list say_name IsWritableName (λ n k e g. fine-name n k g) names.variables h.1.1 _ (fine-name names.representation h.1.0 (fine-name names.abstraction h.0.1 (fine-name names.operator h.0.0 f)))
 
-  -- STEPS
+  -- Steps
   fine-premise : (i : ℕ) → Finely (write_premise i)
   fine-premise i d f = go (key_of (Kept.theorem i) d) refl
     where
@@ -314,7 +314,7 @@ module _ (q : ℕ) (small_q : q < 2 ^ 64) where
   fine-start Five = record { items = tt {0}; keys = omega arith }
   fine-start Six = record { items = ((6, refl, omega arith), (tt, tt)); keys = omega arith }
 
-  -- ALL OF IT CAN STAND ON LINES
+  -- All of it can stand on lines
   length-text : (items : List Item) → length items ≤ length (text_of items)
   length-text [] = omega arith
   length-text (i ∷ is) =
