@@ -10,7 +10,7 @@ use Rattle.hol_spec.specs.Lists.{distinct, union}
 use Rattle.hol_spec.specs.Types.{HolType}
 use Rattle.hol_type.specs.Tables as type
 use Rattle.hol_spec.specs.Sequents.{type_variables_of, free_variables_of, parameter_count}
-use Rattle.hol_spec.specs.Terms.{Variable as AVariable, variable_eq, type_variable_places, free_places}
+use Rattle.hol_spec.specs.Terms.{Term, Variable as AVariable, variable_eq, type_variable_places, free_places}
 use Rattle.hol_term.specs.declared.TermId.{TermId}
 use Rattle.hol_term.specs.declared.Variable.{Variable}
 use Rattle.hol_term.specs.Subterms.{variables_of}
@@ -21,7 +21,7 @@ use Rattle.hol_params.specs.declared.counting.Found.{Found}
 use Rattle.hol_params.specs.declared.lists.ListId.{ListId}
 use Rattle.hol_params.specs.Lists.{Tells}
 use Rattle.hol_params.specs.Noted.{Gathers}
-use Rattle.hol_params.specs.Variables.{AreNames, AreVariables, name_at, variable_at}
+use Rattle.hol_params.specs.Variables.{AreNames, AreVariables, name_at, variable_at, variable_count}
 use Rattle.hol_params.proofs.Gathered.{places-last}
 use Rattle.hol_params.proofs.Names.{AreNames-none, AreNames-union, AreVariables-none, AreVariables-union}
 
@@ -113,3 +113,31 @@ pub variables_listed : (trees : Trees) (places : List AVariable) (lists : List (
 variables_listed trees places lists o id numbers list t e at n =
     let own = subst (Tells (AreVariables trees places) lists) e t in
     subst (AreVariables trees places) (sym (n ∙ same_Some _ _ (sym at ∙ own.is))) own.such
+
+pub names_listed : (types : List HolType) (places : List Name) (lists : List (List ℕ)) (o : Option ListId) (id : ListId) (numbers list : List ℕ) → Tells (AreNames types places) lists o → o ≡ Some id → slice_get lists id.0 ≡ Some list → numbers ≡ list → AreNames types places numbers
+names_listed types places lists o id numbers list t e at n =
+    let own = subst (Tells (AreNames types places) lists) e t in
+    subst (AreNames types places) (sym (n ∙ same_Some _ _ (sym at ∙ own.is))) own.such
+
+-- the lists of a term's variables have as many numbers as it has variables
+pub listed_count : (trees : Trees) (t : Term) (names variables : List ℕ) (n : ℕ) → AreNames trees.types (type_variable_places t) names → AreVariables trees (free_places t) variables → n ≡ min (length names + length variables) (2 ^ 64 - 1) → n ≡ min (variable_count t) (2 ^ 64 - 1)
+listed_count trees t names variables n a b e =
+    let k = sym (length-map names (name_at trees.types)) ∙ ap length a.are in
+    let v = sym (length-map variables (variable_at trees)) ∙ ap length b.are in
+    e ∙ λ i. min (k i + v i) (2 ^ 64 - 1)
+
+-- a sequent without hypotheses has the parameters of its conclusion
+pub parameter_count-alone : (trees : Trees) (s : Sequent) → s.hyps ≡ [] → variable_count (term_at trees s.concl.0) ≡ parameter_count (sequent_at trees s)
+parameter_count-alone trees s e = subst (λ hyps. variable_count t ≡ parameter_count (sequent_at trees (record { hyps = hyps; concl = s.concl }))) (sym e) alone
+  where
+    t : Term
+    t = term_at trees s.concl.0
+
+    names : length (distinct name_eq (type_variable_places t)) ≡ length (distinct name_eq (type_variable_places t ++ []))
+    names = ap (λ l. length (distinct name_eq l)) (sym (append-nil (type_variable_places t)))
+
+    variables : length (distinct variable_eq (free_places t)) ≡ length (distinct variable_eq (free_places t ++ []))
+    variables = ap (λ l. length (distinct variable_eq l)) (sym (append-nil (free_places t)))
+
+    alone : variable_count t ≡ length (distinct name_eq (type_variable_places t ++ [])) + length (distinct variable_eq (free_places t ++ [])) + 0
+    alone = omega (arith, names, variables)

@@ -1,11 +1,11 @@
 -- Variables by number: a type variable by that of its type, a free variable by that of its term.
-use Rattle.std.specs.Prelude.{◌≡◌, ℕ, List, [], map}
+use Rattle.std.specs.Prelude.{◌≡◌, ℕ, ◌+◌, List, [], map, length}
 use Rattle.std.specs.List.{AllByRecursion}
 use Rattle.hol_spec.specs.Names.{Name}
 use Rattle.hol_spec.specs.NameEquality.{name_eq}
 use Rattle.hol_spec.specs.Lists.{distinct}
 use Rattle.hol_spec.specs.Types.{HolType, variable, operator}
-use Rattle.hol_spec.specs.Terms.{Term, free, bound, constant, app, lam, Variable as AVariable, variable_eq}
+use Rattle.hol_spec.specs.Terms.{Term, free, bound, constant, app, lam, Variable as AVariable, variable_eq, type_variable_places, free_places}
 use Rattle.hol_type.specs.Tables.{tree_at, Holds as HoldsType}
 use Rattle.hol_term.specs.declared.Variable.{Variable}
 use Rattle.hol_term.specs.Tables.{Trees, term_at, type_at, Holds}
@@ -55,3 +55,7 @@ pub record IsVariableAt (trees : Trees) (i : ℕ) : Type 0 where
 pub record AreVariables (trees : Trees) (places : List AVariable) (ids : List ℕ) : Type 0 where
   pub each : AllByRecursion (IsVariableAt trees) ids
   pub are : map (variable_at trees) ids ≡ distinct variable_eq places
+
+-- how many type variables and free variables a term has
+abbrev pub variable_count : Term → ℕ
+variable_count t = length (distinct name_eq (type_variable_places t)) + length (distinct variable_eq (free_places t))

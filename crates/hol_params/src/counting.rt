@@ -8,7 +8,7 @@ ghost use Rattle.hol_term.specs.Tables.{Trees, term_at, IsDistinct};
 ghost use Rattle.hol_type.specs.Tables as type;
 ghost use Rattle.sequent.specs.Sequents.{sequent_at, IsKnown};
 ghost use Rattle.hol_params.specs.Noted.{AreNoted, Gathers};
-ghost use Rattle.hol_params.specs.Variables.{variable_view, variable_at, IsVariableAt};
+ghost use Rattle.hol_params.specs.Variables.{variable_count, variable_view, variable_at, IsVariableAt};
 
 use crate::ParamMemo;
 use crate::numbers::Numbers;
@@ -48,6 +48,9 @@ impl ParamMemo {
         requires known { IsKnown terms.now sequent.now }
         ensures { IfOk result (λ count. IfSome count (λ n. n ≡ min (parameter_count (sequent_at terms.now sequent.now)) (2 ^ 64 - 1))) }
     {
+        if sequent.hyps.ids().is_empty() {
+            return Ok(self.listed(terms, sequent.concl));
+        }
         let mut found = Found::new(self.alloc);
         for id in sequent.hyps.ids() {
             if !self.gather(terms, *id, &mut found)? {
@@ -60,6 +63,22 @@ impl ParamMemo {
         let names = found.names.numbers().len();
         let variables = names.saturating_add(found.variables.numbers().len());
         Ok(Some(variables.saturating_add(sequent.hyps.ids().len())))
+    }
+
+    // The number of a term's type variables and free variables, where all is noted: `None` where their lists are not kept.
+    fn listed(&self, terms: &TermTable, id: TermId) -> Option<usize>
+        requires noted { AreNoted terms.now self.now }
+        requires all_terms { length self.now.terms.items ≡ length terms.now.terms }
+        requires known { id.0 < length terms.now.terms }
+        ensures { IfSome result (λ n. n ≡ min (variable_count (term_at terms.now id.0)) (2 ^ 64 - 1)) }
+    {
+        let own = self.terms[id.0];
+        let (Some(names), Some(variables)) = (own.names, own.variables) else {
+            return None;
+        };
+        let names = self.names.list(names).numbers();
+        let variables = self.variables.list(variables).numbers();
+        Some(names.len().saturating_add(variables.len()))
     }
 
     // Takes what is new of a term's variables, if their lists are kept.

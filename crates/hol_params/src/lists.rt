@@ -13,6 +13,12 @@ use std::marker::Model;
 // sequent may have, would take more memory than all else.
 const LONGEST: usize = 1_024;
 
+// How many numbers the kept lists may have in all: so many, and so many more for each list. Each list is that of a term or a type, so what is
+// kept is in proportion to the table; what comes when there is no room isn't kept.
+const ROOM: usize = 4_194_304;
+
+const ROOM_OF_EACH: usize = 16;
+
 /// The number of a list. The empty list has 0.
 #[derive(Clone, Copy, PartialEq, Eq)]
 pub(crate) struct ListId(pub(crate) usize);
@@ -23,6 +29,8 @@ pub(crate) struct Lists {
     alloc: Global,
     nothing: Numbers,
     others: Vec<Numbers>,
+    // How many numbers the others have in all.
+    kept: usize,
 }
 
 impl Model for Lists {
@@ -46,6 +54,7 @@ impl Lists {
             alloc,
             nothing: Numbers::new(alloc),
             others: Vec::new(alloc),
+            kept: 0,
         }
     }
 
@@ -80,7 +89,7 @@ impl Lists {
     }
 
     /// The first of two lists, followed by what is new of the second, where both are kept and their union has no more
-    /// numbers than a list has.
+    /// numbers than a list has, and there is room for it.
     pub(crate) fn unite(
         &mut self,
         first: Option<ListId>,
@@ -114,10 +123,20 @@ impl Lists {
             return Ok(Some(second));
         }
         let whole = self.whole(first, second)?;
-        if whole.numbers().len() > LONGEST {
+        if !self.has_room(whole.numbers().len()) {
             return Ok(None);
         }
         Ok(Some(self.push(whole)?))
+    }
+
+    // Whether a list of so many numbers may be kept.
+    fn has_room(&self, count: usize) -> bool {
+        let most = self
+            .others
+            .len()
+            .saturating_mul(ROOM_OF_EACH)
+            .saturating_add(ROOM);
+        count <= LONGEST && self.kept.saturating_add(count) <= most
     }
 
     // Whether a list has each number of another.
@@ -157,7 +176,9 @@ impl Lists {
         ensures keeps { KeepsLists self.old self.new }
     {
         let id = ListId(self.others.len() + 1);
+        let count = numbers.numbers().len();
         self.others.push(numbers)?;
+        self.kept = self.kept.saturating_add(count);
         Ok(id)
     }
 }

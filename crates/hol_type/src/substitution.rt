@@ -53,6 +53,9 @@ impl TypeTable {
         ensures made { IfOk result (λ r. Holds self.new r.0 (substitute (pairs_at self.old pairs.now) (tree_at self.old root.0))) }
         ensures keeps { Keeps self.old self.new }
     {
+        if pairs.is_empty() {
+            return Ok(root);
+        }
         let mut walk = Walk {
             tasks: Stack::new(self.alloc),
             made: Marks::new(self.alloc),

@@ -1,4 +1,11 @@
-use Rattle.hol_type.specs.TableLaws.{Keeps-refl, Keeps-trans, Holds-within}
+use Rattle.std.proofs.Common.{◌<◌, ℕ, List, [], Some, length, ap, sym, subst, ◌∙◌}
+use Rattle.std.proofs.lemmas.Bool.Decides.{Decides-eqb}
+use Rattle.std.proofs.lemmas.List.{nil_from_length}
+use Rattle.hol_laws.specs.TermInstances.{substitute-nothing}
+use Rattle.hol_spec.specs.Substitution.{substitute}
+use Rattle.hol_spec.specs.Types.{HolType}
+use Rattle.hol_type.specs.Tables.{tree_at, pairs_at, Holds}
+use Rattle.hol_type.specs.TableLaws.{Keeps-refl, Keeps-trans, Holds-within, tree_at-Holds}
 use Rattle.hol_type.proofs.MadeLaws.{is_some, if_some}
 use Rattle.hol_type.proofs.SubstitutionTurns.{walk_begins, walk_ends}
 use Rattle.hol_type.proofs.table.TypeTable.instance.Goals as goal
@@ -10,6 +17,16 @@ pub loop-task-preserved : goal.loop-task-preserved
 loop-task-preserved c =
     let w = rw c.in-Some.ensures.popped at c.loop-task.invariant.1 in
     (Keeps-trans c.loop-task.invariant.0 c.turn.ensures.keeps, c.in_ok-turn.ensures.walk _ _ w)
+
+-- Where no pair is given, a type stays as it is.
+Holds-nothing : (ts : List HolType) (i : ℕ) → i < length ts → Holds ts i (substitute (pairs_at ts []) (tree_at ts i))
+Holds-nothing ts i h = tree_at-Holds ts i h ∙ ap Some (sym (substitute-nothing (tree_at ts i)))
+
+pub returns-then-is_empty-clause-made : goal.returns-then-is_empty-clause-made
+returns-then-is_empty-clause-made c =
+    let ts = c.args.self.now in
+    let none = nil_from_length c.args.pairs.now ((Decides-eqb _ 0).0 (sym c.is_empty.ensures ∙ c.if-is_empty.true)) in
+    subst (λ ps. Holds ts c.args.root.0 (substitute (pairs_at ts ps) (tree_at ts c.args.root.0))) (sym none) (Holds-nothing ts c.args.root.0 c.requires.root)
 
 pub unwrap-requires : goal.unwrap-requires
 unwrap-requires c =
