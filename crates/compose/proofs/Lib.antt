@@ -1,3 +1,5 @@
-mod ChainLaws
+mod IdLaws
+mod ListedLaws
+mod OrderLaws
 mod PlaceLaws
 mod PoolLaws

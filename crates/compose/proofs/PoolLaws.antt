@@ -1,26 +1,34 @@
--- The walk through the sequents of one conclusion, from the last to the first.
-use Rattle.std.proofs.Common.{◌≡◌, ℕ, zero, suc, ◌-◌, ◌<◌, ◌≤◌, ◌⊎◌, inl, inr, refl, sym, ap, subst, ◌∙◌, arith, List, [], ◌∷◌, ◌++◌, length, length-append, take, drop, get_or, Bool, true, false, ◌&&◌, Option, None, Some}
-use Rattle.std.specs.Prelude.{slice_get, IfSome}
-use Rattle.std.specs.List.{find, AllByRecursion}
-use Rattle.std.specs.Option.{option_or}
-use Rattle.std.proofs.lemmas.List.{take-map, length-take, take-append-drop, take-take}
-use Rattle.std.proofs.lemmas.Option.{slice_get_within, slice_get-map, slice_get_read}
+-- What a look-up finds: the first sequent that is the same, by the list of its conclusion.
+use Rattle.std.proofs.Common.{◌≡◌, ℕ, zero, suc, ◌-◌, ◌<◌, ◌≤◌, ◌⊎◌, inl, inr, refl, sym, ap, subst, ◌∙◌, arith, List, [], ◌∷◌, ◌++◌, length, length-append, take, get_or, Bool, true, false, ◌&&◌, ◌||◌, Option, None, Some, Result, Ok, Err, OnOk, OnErr, true≢false}
+use Rattle.std.specs.Prelude.{◌==◌, slice_get}
+use Rattle.std.proofs.lemmas.List.{map-append}
+use Rattle.std.specs.Bool.{Decides}
+use Rattle.std.specs.List.{find, list_all, AllByRecursion}
+use Rattle.std.proofs.lemmas.Bool.{eqb-true}
+use Rattle.std.proofs.lemmas.Bool.Decides.{Decides-eqb, Decides-like, same_from_decides}
+use Rattle.std.proofs.lemmas.Option.{same_Some, slice_get-map, slice_get_read}
+use Rattle.std.proofs.Math.Path.{ap₂}
 use Rattle.std.proofs.Math.Seq.{take-length, take-append_seam}
+use Rattle.hol_spec.specs.Lists.{is_in}
 use Rattle.hol_spec.specs.Sequents.{within}
+use Rattle.hol_spec.specs.Terms.{term_eq}
+use Rattle.hol_laws.specs.ListLaws.{is_in-map}
 use Rattle.hol_laws.specs.RenamingLaws.{length_map}
 use Rattle.hol_laws.specs.TermLaws.{term_eq-Decides}
-use Rattle.hol_laws.specs.PlaceLaws.{slice_get-append}
 use Rattle.hol_term.specs.declared.TermId.{TermId}
-use Rattle.hol_term.specs.Tables.{Trees, IsDistinct}
+use Rattle.hol_term.specs.Tables.{Trees, term_at, terms_at, AreKnown, IsDistinct}
 use Rattle.hol_term.specs.TableLaws.{term_in-same}
 use Rattle.sequent.specs.declared.Sequent.{Sequent}
 use Rattle.sequent.specs.Sequents.{same_id, sequent_at, IsKnown}
 use Rattle.compose.specs.declared.pool.Said.{Said}
-use Rattle.compose.specs.Chained.{last_of}
-use Rattle.compose.specs.Places.{first_place, place_if}
-use Rattle.compose.specs.Pools.{is_same_at, conclusions_of, steps_in, step_of, AreSequentsKnown}
-use Rattle.compose.proofs.ChainLaws.{same_id-true, same_id-itself}
-use Rattle.compose.proofs.PlaceLaws.{places_to, first_place-last, first_place-take, find-below, find-not_below, find-nowhere, last_place-at, last_place-map}
+use Rattle.compose.specs.Orders.{has, AreSame}
+use Rattle.compose.specs.Listed.{hyps_in, set_at, place_at, IsFound, IsBetween, IsListed}
+use Rattle.compose.specs.Places.{first_place}
+use Rattle.compose.specs.Pools.{is_same_at, steps_in, step_of, AreSequentsKnown}
+use Rattle.compose.proofs.IdLaws.{same_id-true, same_id-itself}
+use Rattle.compose.proofs.OrderLaws.{both_ways, before-not_same, or-true}
+use Rattle.compose.proofs.ListedLaws.{one_of_each}
+use Rattle.compose.proofs.PlaceLaws.{first_place-at, first_place-nowhere, find-below, find-not_below, find-nowhere}
 
 first_half : (a b : Bool) → (a && b) ≡ true → a ≡ true
 first_half true b e = refl
@@ -30,150 +38,132 @@ second_half : (a b : Bool) → (a && b) ≡ true → b ≡ true
 second_half true b e = e
 second_half false b e = absurd (cc)
 
-option_or-assoc : {A : Type 0} (a b c : Option A) → option_or (option_or a b) c ≡ option_or a (option_or b c)
-option_or-assoc None b c = refl
-option_or-assoc (Some x) b c = refl
-
-AllByRecursion-take : {A : Type 0} (P : A → Type 0) (n : ℕ) (xs : List A) → AllByRecursion P xs → AllByRecursion P (take n xs)
-AllByRecursion-take P zero [] h = tt
-AllByRecursion-take P zero (x ∷ xs) h = tt
-AllByRecursion-take P (suc n) [] h = tt
-AllByRecursion-take P (suc n) (x ∷ xs) h = (h.0, AllByRecursion-take P n xs h.1)
-
--- the last place of a front is within it
-places_to-take : (id : TermId) (n : ℕ) (ids : List TermId) → places_to (last_of id (take n ids)) ≤ n
-places_to-take id n ids = go (last_of id (take n ids)) refl
-  where
-    go : (o : Option ℕ) → last_of id (take n ids) ≡ o → places_to o ≤ n
-    go None e = omega arith
-    go (Some i) e = let w = last_place-at (same_id id) (take n ids) i e in below i (slice_get_within (take n ids) i w.0 w.1)
-      where
-        below : (i : ℕ) → i < length (take n ids) → suc i ≤ n
-        below i l = omega (arith, l, length-take {A = TermId})
-
--- the number that stands last at a place stands there
-last_of-at : (id : TermId) (ids : List TermId) (o : Option ℕ) → o ≡ last_of id ids → IfSome o (λ i. slice_get ids i ≡ Some id)
-last_of-at id ids None e = tt
-last_of-at id ids (Some i) e = let w = last_place-at (same_id id) ids i (sym e) in w.1 ∙ ap Some (sym (same_id-true id w.0 w.2))
+both_halves : (a b : Bool) → a ≡ true → b ≡ true → (a && b) ≡ true
+both_halves true b e f = f
+both_halves false b e f = absurd (cc)
 
 -- what is added at the end is taken off again
 pub take-push : {A : Type 0} (xs ys : List A) (x : A) → ys ≡ xs ++ x ∷ [] → take (length ys - 1) ys ≡ xs
 take-push xs ys x e = rw e (ap (λ n. take n (xs ++ x ∷ [])) (let l = length-append xs (x ∷ []) in omega (arith, l)) ∙ take-append_seam xs (x ∷ []))
 
--- a number in front of a list of numbers stands there for a sequent
-held-at : (pool : List Said) (i : ℕ) (id : TermId) → slice_get (conclusions_of pool) i ≡ Some id → (s : Said) × (slice_get pool i ≡ Some s)
-held-at [] i id e = absurd (cc)
-held-at (s ∷ pool) zero id e = (s, refl)
-held-at (s ∷ pool) (suc i) id e = held-at pool i id e
+-- and from the steps
+pub steps-push : (held : List Said) (s : Said) (steps : List ℕ) (step : ℕ) → steps ≡ steps_in held → s.step ≡ step → steps ++ step ∷ [] ≡ steps_in (held ++ s ∷ [])
+steps-push held s steps step e f = ap₂ (λ l n. l ++ n ∷ []) e (sym f) ∙ sym (map-append (λ (u : Said). u.step) held (s ∷ []))
 
-module _ (trees : Trees) (d : IsDistinct trees.terms) (sequent : Sequent) (k : IsKnown trees sequent) where
-  abbrev has_conclusion : Said → Bool
-  has_conclusion s = same_id sequent.concl s.sequent.concl
+pub steps-pop : (held : List Said) (s : Said) (steps : List ℕ) → steps ≡ steps_in (held ++ s ∷ []) → take (length steps - 1) steps ≡ steps_in held
+steps-pop held s steps e = take-push (steps_in held) steps s.step (e ∙ map-append (λ (u : Said). u.step) held (s ∷ []))
 
-  -- what is the same has the same conclusion
-  same-conclusion : (s : Said) → IsKnown trees s.sequent → is_same_at trees sequent s ≡ true → has_conclusion s ≡ true
-  same-conclusion s l e =
-      let a = sequent_at trees s.sequent in
-      let b = sequent_at trees sequent in
-      let w = second_half (within a b) (within b a) e in
-      let f : b.conclusion ≡ a.conclusion = (term_eq-Decides b.conclusion a.conclusion).0 (second_half _ _ w) in
-      let g : sequent.concl ≡ s.sequent.concl = term_in-same d sequent.concl s.sequent.concl k.1 l.1 f in
-      ap (same_id sequent.concl) (sym g) ∙ same_id-itself sequent.concl
+-- what holds of an answer, and what follows from it
+pub on_err_map : {T E A B : Type 0} (r : Result T E) → (A → B) → OnErr r A → OnErr r B
+on_err_map (Ok v) f h = tt
+on_err_map (Err x) f h = f h
 
-  all-same : (pool : List Said) → AreSequentsKnown trees pool → AllByRecursion (λ s. is_same_at trees sequent s ≡ true → has_conclusion s ≡ true) pool
-  all-same [] l = tt
-  all-same (s ∷ pool) l = (same-conclusion s l.0, all-same pool l.1)
+pub on_ok_map : {T E A B : Type 0} (r : Result T E) → (A → B) → OnOk r A → OnOk r B
+on_ok_map (Ok v) f h = f h
+on_ok_map (Err x) f h = tt
 
-  -- the first is among those up to the last with this conclusion
-  walk-begins : (pool : List Said) → AreSequentsKnown trees pool → first_place (is_same_at trees sequent) pool ≡ first_place (is_same_at trees sequent) (take (places_to (last_of sequent.concl (conclusions_of pool))) pool)
-  walk-begins pool l = first_place-last (is_same_at trees sequent) has_conclusion pool (all-same pool l)
-      ∙ ap (λ o. first_place (is_same_at trees sequent) (take (places_to o) pool)) (sym (last_place-map (same_id sequent.concl) (λ (s : Said). s.sequent.concl) pool))
+same_id-Decides : (p q : TermId) → Decides (same_id p q) (p ≡ q)
+same_id-Decides p q = Decides-like (same_id p q) (λ e i. record { 0 = e i }) (ap (λ (id : TermId). id.0)) (Decides-eqb p.0 q.0)
 
-  -- the first up to a place is among those up to the last before it, or there
-  walk-goes_on : (pool : List Said) → AreSequentsKnown trees pool → (i : ℕ) (s : Said) → slice_get pool i ≡ Some s → (found : Option ℕ)
-      → option_or (first_place (is_same_at trees sequent) (take (suc i) pool)) found
-      ≡ option_or (first_place (is_same_at trees sequent) (take (places_to (last_of sequent.concl (take i (conclusions_of pool)))) pool)) (option_or (place_if (is_same_at trees sequent) (slice_get pool i) i) found)
-  walk-goes_on pool l i s e found =
-      let test = is_same_at trees sequent in
-      let front : first_place test (take i pool) ≡ first_place test (take (places_to (last_of sequent.concl (take i (conclusions_of pool)))) pool) =
-      walk-begins (take i pool) (AllByRecursion-take (λ (s : Said). IsKnown trees s.sequent) i pool l)
-      ∙ ap (λ ids. first_place test (take (places_to (last_of sequent.concl ids)) (take i pool))) (sym (take-map (λ (s : Said). s.sequent.concl) i pool))
-      ∙ ap (first_place test) (take-take (places_to (last_of sequent.concl (take i (conclusions_of pool)))) i pool (places_to-take sequent.concl i (conclusions_of pool))) in
-      ap (λ o. option_or o found) (first_place-take test pool i s e ∙ ap (λ o. option_or (first_place test (take i pool)) (place_if test o i)) (sym e))
-      ∙ option_or-assoc (first_place test (take i pool)) (place_if test (slice_get pool i) i) found
-      ∙ ap (λ o. option_or o (option_or (place_if test (slice_get pool i) i) found)) front
-
--- The sequents of one conclusion from some place on are looked through, from the last: what was found is the first of these that is the same.
-pub record IsWalked (pool : List Said) (sequent : Sequent) (next found : Option ℕ) : Type 0 where
-  pub at : IfSome next (λ i. slice_get (conclusions_of pool) i ≡ Some sequent.concl)
-  pub within : IfSome found (λ i. i < length pool)
-  pub first : (trees : Trees) → IsDistinct trees.terms → AreSequentsKnown trees pool → IsKnown trees sequent
-      → first_place (is_same_at trees sequent) pool ≡ option_or (first_place (is_same_at trees sequent) (take (places_to next) pool)) found
-
-option_or-None : {A : Type 0} (o : Option A) → o ≡ option_or o None
-option_or-None None = refl
-option_or-None (Some x) = refl
-
-module _ (pool : List Said) (sequent : Sequent) (chains : List TermId) (chained : chains ≡ conclusions_of pool) where
-  pub walked-begins : (next : Option ℕ) → next ≡ last_of sequent.concl chains → IsWalked pool sequent next None
-  walked-begins next e =
-      let f : next ≡ last_of sequent.concl (conclusions_of pool) = e ∙ ap (last_of sequent.concl) chained in
-      record {
-        at = last_of-at sequent.concl (conclusions_of pool) next f;
-        within = tt;
-        first = λ trees d l k. walk-begins trees d sequent k pool l ∙ ap (λ o. first_place (is_same_at trees sequent) (take (places_to o) pool)) (sym f) ∙ option_or-None _;
-      }
-
-  module _ (i : ℕ) (next found : Option ℕ) (e : next ≡ Some i) (h : IsWalked pool sequent next found) where
-    pub walked-at : slice_get (conclusions_of pool) i ≡ Some sequent.concl
-    walked-at = subst (λ o. IfSome o (λ j. slice_get (conclusions_of pool) j ≡ Some sequent.concl)) e h.at
-
-    pub walked-within : i < length pool
-    walked-within = let s = held-at pool i sequent.concl walked-at in slice_get_within pool i s.0 s.1
-
-    pub walked-chained : i < length chains
-    walked-chained = slice_get_within chains i sequent.concl (ap (λ ids. slice_get ids i) chained ∙ walked-at)
-
-    module _ (further : Option ℕ) (earlier : (id : TermId) → slice_get chains i ≡ Some id → further ≡ last_of id (take i chains)) where
-      further-is : further ≡ last_of sequent.concl (take i (conclusions_of pool))
-      further-is = earlier sequent.concl (ap (λ ids. slice_get ids i) chained ∙ walked-at) ∙ ap (λ ids. last_of sequent.concl (take i ids)) chained
-
-      pub walked-smaller : places_to further < places_to next
-      walked-smaller = let f = ap places_to further-is in let g = places_to-take sequent.concl i (conclusions_of pool) in let n = ap places_to e in omega (arith, f, g, n)
-
-      pub walked-on : (all : Option ℕ) → (all ≡ Some i) ⊎ (all ≡ found)
-          → ((trees : Trees) → IsDistinct trees.terms → AreSequentsKnown trees pool → IsKnown trees sequent → all ≡ option_or (place_if (is_same_at trees sequent) (slice_get pool i) i) found)
-          → IsWalked pool sequent further all
-      walked-on all either same = record { at = at further further-is; within = within either; first = first }
-        where
-          at : (o : Option ℕ) → o ≡ last_of sequent.concl (take i (conclusions_of pool)) → IfSome o (λ j. slice_get (conclusions_of pool) j ≡ Some sequent.concl)
-          at None f = tt
-          at (Some j) f = front j (last_of-at sequent.concl (take i (conclusions_of pool)) (Some j) f)
-            where
-              front : (j : ℕ) → slice_get (take i (conclusions_of pool)) j ≡ Some sequent.concl → slice_get (conclusions_of pool) j ≡ Some sequent.concl
-              front j g = subst (λ ids. slice_get ids j ≡ Some sequent.concl) (take-append-drop i (conclusions_of pool)) (slice_get-append (take i (conclusions_of pool)) (drop i (conclusions_of pool)) j sequent.concl g)
-
-          within : (all ≡ Some i) ⊎ (all ≡ found) → IfSome all (λ j. j < length pool)
-          within (inl f) = subst (λ o. IfSome o (λ j. j < length pool)) (sym f) walked-within
-          within (inr f) = subst (λ o. IfSome o (λ j. j < length pool)) (sym f) h.within
-
-          first : (trees : Trees) → IsDistinct trees.terms → AreSequentsKnown trees pool → IsKnown trees sequent
-              → first_place (is_same_at trees sequent) pool ≡ option_or (first_place (is_same_at trees sequent) (take (places_to further) pool)) all
-          first trees d l k =
-              let test = is_same_at trees sequent in
-              let s = held-at pool i sequent.concl walked-at in
-              h.first trees d l k ∙ ap (λ o. option_or (first_place test (take (places_to o) pool)) found) e
-              ∙ walk-goes_on trees d sequent k pool l i s.0 s.1 found
-              ∙ ap (λ o. option_or (first_place test (take (places_to o) pool)) (option_or (place_if test (slice_get pool i) i) found)) (sym further-is)
-              ∙ ap (option_or (first_place test (take (places_to further) pool))) (sym (same trees d l k))
-
-pub walked-ends : (pool : List Said) (sequent : Sequent) (next found : Option ℕ) → next ≡ None → IsWalked pool sequent next found
-    → (trees : Trees) → IsDistinct trees.terms → AreSequentsKnown trees pool → IsKnown trees sequent → found ≡ first_place (is_same_at trees sequent) pool
-walked-ends pool sequent next found e h trees d l k = sym (h.first trees d l k ∙ ap (λ o. option_or (first_place (is_same_at trees sequent) (take (places_to o) pool)) found) e ∙ none pool)
+-- each number of some is among others, as a test and by the numbers
+list_all-has : (xs ys : List TermId) → list_all (λ id. is_in same_id id ys) xs ≡ true → (n : ℕ) → has xs n ≡ true → has ys n ≡ true
+list_all-has [] ys e n h = absurd (true≢false (sym h))
+list_all-has (x ∷ xs) ys e n h = go (n == x.0) refl h (list_all-has xs ys (second_half (is_in same_id x ys) _ e) n)
   where
-    none : (xs : List Said) → option_or (first_place (is_same_at trees sequent) (take 0 xs)) found ≡ found
-    none [] = refl
-    none (x ∷ xs) = refl
+    go : (b : Bool) → (n == x.0) ≡ b → (b || has xs n) ≡ true → (has xs n ≡ true → has ys n ≡ true) → has ys n ≡ true
+    go true p k on = ap (has ys) (eqb-true n x.0 p) ∙ first_half (has ys x.0) _ e
+    go false p k on = on k
+
+has-list_all : (xs ys : List TermId) → ((n : ℕ) → has xs n ≡ true → has ys n ≡ true) → list_all (λ id. is_in same_id id ys) xs ≡ true
+has-list_all [] ys h = refl
+has-list_all (x ∷ xs) ys h =
+    both_halves (has ys x.0) (list_all (λ id. is_in same_id id ys) xs) (h x.0 (ap (λ b. b || has xs x.0) (same_id-itself x)))
+    (has-list_all xs ys (λ n k. h n (or-true (n == x.0) (has xs n) k)))
+
+abbrev IsOf : Trees → TermId → Type 0
+IsOf trees p = p.0 < length trees.terms
+
+each_known : (trees : Trees) (ids : List TermId) → AreKnown trees ids → AllByRecursion (IsOf trees) ids
+each_known trees [] k = tt
+each_known trees (p ∷ ids) k = (k.0, each_known trees ids k.1)
+
+module _ (trees : Trees) (d : IsDistinct trees.terms) where
+  -- numbers are one exactly where their trees are
+  term_eq-at : (p q : TermId) → p.0 < length trees.terms → q.0 < length trees.terms → term_eq (term_at trees p.0) (term_at trees q.0) ≡ same_id p q
+  term_eq-at p q h k =
+      same_from_decides (term_eq (term_at trees p.0) (term_at trees q.0)) (same_id p q) (term_eq-Decides (term_at trees p.0) (term_at trees q.0))
+      (Decides-like (same_id p q) (ap (λ (id : TermId). term_at trees id.0)) (term_in-same d p q h k) (same_id-Decides p q))
+
+  all_in-at : (xs ys : List TermId) → AreKnown trees xs → AreKnown trees ys → list_all (λ t. is_in term_eq t (terms_at trees ys)) (terms_at trees xs) ≡ list_all (λ id. is_in same_id id ys) xs
+  all_in-at [] ys k l = refl
+  all_in-at (x ∷ xs) ys k l = ap₂ (λ a b. a && b) (is_in-map (λ id. term_at trees id.0) same_id term_eq (IsOf trees) term_eq-at x ys k.0 (each_known trees ys l)) (all_in-at xs ys k.1 l)
+
+  -- a sequent is within another where its hypotheses and its conclusion are
+  within-at : (a b : Sequent) → IsKnown trees a → IsKnown trees b → within (sequent_at trees a) (sequent_at trees b) ≡ (list_all (λ id. is_in same_id id b.hyps) a.hyps && same_id a.concl b.concl)
+  within-at a b k l = ap₂ (λ x y. x && y) (all_in-at a.hyps b.hyps k.0 l.0) (term_eq-at a.concl b.concl k.1 l.1)
+
+  module _ (sequent : Sequent) (k : IsKnown trees sequent) (s : Said) (l : IsKnown trees s.sequent) where
+    -- what is the same has the same conclusion and the same set of hypotheses
+    same-parts : is_same_at trees sequent s ≡ true → (s.sequent.concl ≡ sequent.concl) × AreSame s.sequent.hyps sequent.hyps
+    same-parts e =
+        let one = sym (within-at s.sequent sequent l k) ∙ first_half (within (sequent_at trees s.sequent) (sequent_at trees sequent)) (within (sequent_at trees sequent) (sequent_at trees s.sequent)) e in
+        let two = sym (within-at sequent s.sequent k l) ∙ second_half (within (sequent_at trees s.sequent) (sequent_at trees sequent)) (within (sequent_at trees sequent) (sequent_at trees s.sequent)) e in
+        let there = list_all-has s.sequent.hyps sequent.hyps (first_half _ _ one) in
+        let back = list_all-has sequent.hyps s.sequent.hyps (first_half _ _ two) in (
+          same_id-true s.sequent.concl sequent.concl (second_half (list_all (λ id. is_in same_id id sequent.hyps) s.sequent.hyps) (same_id s.sequent.concl sequent.concl) one),
+          λ n. both_ways (has s.sequent.hyps n) (has sequent.hyps n) (there n) (back n),
+        )
+
+    -- and what has them is the same
+    parts-same : s.sequent.concl ≡ sequent.concl → AreSame s.sequent.hyps sequent.hyps → is_same_at trees sequent s ≡ true
+    parts-same e h =
+        let one : same_id s.sequent.concl sequent.concl ≡ true = ap (λ p. same_id s.sequent.concl p) (sym e) ∙ same_id-itself s.sequent.concl in
+        let two : same_id sequent.concl s.sequent.concl ≡ true = ap (λ p. same_id p s.sequent.concl) (sym e) ∙ same_id-itself s.sequent.concl in
+        both_halves (within (sequent_at trees s.sequent) (sequent_at trees sequent)) (within (sequent_at trees sequent) (sequent_at trees s.sequent))
+        (within-at s.sequent sequent l k ∙ both_halves (list_all (λ id. is_in same_id id sequent.hyps) s.sequent.hyps) (same_id s.sequent.concl sequent.concl) (has-list_all s.sequent.hyps sequent.hyps (λ n m. sym (h n) ∙ m)) one)
+        (within-at sequent s.sequent k l ∙ both_halves (list_all (λ id. is_in same_id id s.sequent.hyps) sequent.hyps) (same_id sequent.concl s.sequent.concl) (has-list_all sequent.hyps s.sequent.hyps (λ n m. h n ∙ m)) two)
+
+  known_at : (pool : List Said) (i : ℕ) (s : Said) → AreSequentsKnown trees pool → slice_get pool i ≡ Some s → IsKnown trees s.sequent
+  known_at [] i s h e = absurd (cc)
+  known_at (t ∷ pool) zero s h e = subst (λ (u : Said). IsKnown trees u.sequent) (same_Some _ _ e) h.0
+  known_at (t ∷ pool) (suc i) s h e = known_at pool i s h.1 e
+
+  module _ (sequent : Sequent) (k : IsKnown trees sequent) (pool : List Said) (known : AreSequentsKnown trees pool) (list : List ℕ) (h : IsListed pool sequent.concl list) where
+    -- of what is the same as the sequent, the list has the first that is the same
+    listed : (j : ℕ) (s : Said) → slice_get pool j ≡ Some s → is_same_at trees sequent s ≡ true → (i : ℕ) × (i < length list) × (place_at list i ≤ j) × AreSame (set_at pool (place_at list i)) sequent.hyps
+    listed j s e same =
+        let parts = same-parts sequent k s (known_at pool j s known e) same in
+        let w = h.first j s e parts.0 in
+        (w.1.0, w.1.1, subst (λ p. p ≤ j) (sym w.1.2) w.2, λ n. ap (λ p. has (set_at pool p) n) w.1.2 ∙ w.3 n ∙ parts.1 n)
+
+    -- where the search finds the set of the hypotheses stands the first
+    pub place-found : (i : ℕ) → IsFound pool list sequent.hyps i → Some (place_at list i) ≡ first_place (is_same_at trees sequent) pool
+    place-found i f =
+        let w = h.within i f.within in
+        let set : set_at pool (place_at list i) ≡ w.0.sequent.hyps = ap hyps_in w.1 in
+        sym (first_place-at (is_same_at trees sequent) pool (place_at list i) w.0 w.1
+        (parts-same sequent k w.0 (known_at pool (place_at list i) w.0 known w.1) w.2 (λ n. sym (ap (λ x. has x n) set) ∙ f.same n))
+        (λ j s l g same. before j s l (listed j s g same)))
+      where
+        before : (j : ℕ) (s : Said) → j < place_at list i → (m : ℕ) × (m < length list) × (place_at list m ≤ j) × AreSame (set_at pool (place_at list m)) sequent.hyps → ⊥
+        before j s l w =
+            let one : w.0 ≡ i = one_of_each pool list w.0 i h.ordered w.1 f.within (λ n. w.3 n ∙ sym (f.same n)) in
+            let same : place_at list w.0 ≡ place_at list i = ap (place_at list) one in
+            let m = w.2 in omega (arith, l, m, same)
+
+    -- where it finds none, none is the same
+    pub place-none : (i : ℕ) → IsBetween pool list sequent.hyps i i → None ≡ first_place (is_same_at trees sequent) pool
+    place-none i b = sym (first_place-nowhere (is_same_at trees sequent) pool (λ j s g same. none (listed j s g same)))
+      where
+        none : {j : ℕ} → (m : ℕ) × (m < length list) × (place_at list m ≤ j) × AreSame (set_at pool (place_at list m)) sequent.hyps → ⊥
+        none w = go (split w.0 i)
+          where
+            split : (m n : ℕ) → (m < n) ⊎ (n ≤ m)
+            split m n = grind arith
+
+            go : (w.0 < i) ⊎ (i ≤ w.0) → ⊥
+            go (inl l) = before-not_same (set_at pool (place_at list w.0)) sequent.hyps (b.below w.0 l) w.3
+            go (inr l) = before-not_same sequent.hyps (set_at pool (place_at list w.0)) (b.above w.0 l w.1) (λ n. sym (w.3 n))
 
 -- the step that was read at a place
 pub read-step : (pool held : List Said) (steps : List ℕ) (i step : ℕ) → steps ≡ steps_in held → held ≡ pool → i < length pool → step ≡ get_or steps i step → slice_get (steps_in pool) i ≡ Some step

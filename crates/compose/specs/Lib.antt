@@ -1,3 +1,4 @@
-pub mod Chained
+pub mod Listed
+pub mod Orders
 pub mod Places
 pub mod Pools

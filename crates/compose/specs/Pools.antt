@@ -1,5 +1,5 @@
 -- Pools: sequents by numbers, with the steps that say them.
-use Rattle.std.specs.Prelude.{◌≡◌, ℕ, Bool, List, map, Option}
+use Rattle.std.specs.Prelude.{◌≡◌, ℕ, Bool, List, map, Option, Vec}
 use Rattle.std.specs.List.{AllByRecursion}
 use Rattle.std.specs.Option.{option_map}
 use Rattle.hol_spec.specs.Sequents.{same}
@@ -8,6 +8,7 @@ use Rattle.hol_term.specs.Tables.{Trees}
 use Rattle.sequent.specs.declared.Sequent.{Sequent}
 use Rattle.sequent.specs.Sequents.{sequent_at, IsKnown}
 use Rattle.compose.specs.declared.pool.Said.{Said}
+use Rattle.compose.specs.Listed.{AreListed}
 
 abbrev pub said : Sequent → ℕ → Said
 said sequent step = record { sequent = sequent; step = step }
@@ -20,10 +21,6 @@ steps_in pool = map (λ (s : Said). s.step) pool
 abbrev pub step_of : Option Said → Option ℕ
 step_of found = option_map (λ (s : Said). s.step) found
 
--- the conclusions, in order
-abbrev pub conclusions_of : List Said → List TermId
-conclusions_of pool = map (λ (s : Said). s.sequent.concl) pool
-
 -- whether the sequent is the same as this one, as trees
 abbrev pub is_same_at : Trees → Sequent → Said → Bool
 is_same_at trees sequent s = same (sequent_at trees s.sequent) (sequent_at trees sequent)
@@ -32,7 +29,7 @@ is_same_at trees sequent s = same (sequent_at trees s.sequent) (sequent_at trees
 abbrev pub AreSequentsKnown : Trees → List Said → Type 0
 AreSequentsKnown trees pool = AllByRecursion (λ (s : Said). IsKnown trees s.sequent) pool
 
--- the steps and the conclusions of what is held, in order
-pub record IsPool (held : List Said) (steps : List ℕ) (chains : List TermId) : Type 0 where
+-- the steps of what is held, in order, and the lists of its places
+pub record IsPool {Z : Type 0} (held : List Said) (steps : List ℕ) (lists : List (TermId × Vec ℕ Z)) : Type 0 where
   pub numbered : steps ≡ steps_in held
-  pub chained : chains ≡ conclusions_of held
+  pub listed : AreListed held lists

@@ -1,14 +1,14 @@
-//! The sequents with their steps, chained by their conclusions.
-ghost use Rattle.std.specs.Prelude.{◌≡◌, ◌⊎◌, ◌<◌, ◌-◌, ◌++◌, ◌∷◌, [], ℕ, length, slice_get, take, Some, IfSome, OnOk, OnErr};
+//! The sequents with their steps, and a list of their places for each conclusion.
+ghost use Rattle.std.specs.Prelude.{◌≡◌, ◌<◌, ◌-◌, ◌++◌, ◌∷◌, [], length, take, IfSome, OnOk, OnErr};
 ghost use Rattle.std.specs.List.{find};
-ghost use Rattle.std.specs.Option.{option_or};
 ghost use Rattle.hol_term.specs.Tables.{Trees, IsDistinct};
 ghost use Rattle.sequent.specs.Sequents.{IsKnown};
-ghost use Rattle.compose.specs.Places.{first_place, place_if};
+ghost use Rattle.compose.specs.Places.{first_place};
 ghost use Rattle.compose.specs.Pools.{is_same_at, said, step_of, steps_in, AreSequentsKnown};
 
-use crate::chains::Chains;
+use crate::listing::{Lists, list_for, note, search, strike};
 use bridge_base::Memory;
+use indexmap::IndexMap;
 use sequent::Sequent;
 use std::alloc::Global;
 use std::marker::Model;
@@ -23,9 +23,10 @@ pub struct Said {
 /// Sequents with the steps that say them, in order of adding. Contracts see the list of them.
 #[derive(Drop)]
 pub struct Pool {
+    alloc: Global,
     held: Vec<Said>,
     steps: Vec<usize>,
-    chains: Chains,
+    lists: Lists,
 }
 
 impl Model for Pool {
@@ -35,7 +36,7 @@ impl Model for Pool {
 
     ghost Value = { List ASaid };
 
-    ghost invariant = { λ p. IsPool p.held.items p.steps.items p.chains };
+    ghost invariant = { λ p. IsPool p.held.items p.steps.items p.lists.entries };
 
     ghost view = { λ p. p.held.items };
 }
@@ -69,9 +70,10 @@ impl Pool {
         ensures empty { result ≡ [] }
     {
         Pool {
+            alloc,
             held: Vec::new(alloc),
             steps: Vec::new(alloc),
-            chains: Chains::new(alloc),
+            lists: IndexMap::new(alloc),
         }
     }
 
@@ -118,7 +120,7 @@ impl Pool {
         let count = self.steps.len();
         let concl = sequent.concl;
         hold(&mut self.held, &mut self.steps, sequent, step)?;
-        match self.chains.add(concl) {
+        match note(self.alloc, &mut self.lists, &self.held, concl, count) {
             Ok(()) => Ok(()),
             Err(full) => {
                 self.held.truncate(count);
@@ -132,9 +134,10 @@ impl Pool {
     pub fn forget_last(&mut self)
         ensures { self.new ≡ take (length self.old - 1) self.old }
     {
-        let _said = self.held.pop();
-        let _step = self.steps.pop();
-        self.chains.forget_last();
+        if let Some(said) = self.held.pop() {
+            let _step = self.steps.pop();
+            strike(&mut self.lists, said.sequent.concl, self.held.len());
+        }
     }
 
     // The place of the first sequent that is the same.
@@ -142,25 +145,10 @@ impl Pool {
         ensures within { IfSome result (λ place. place < length self.now) }
         ensures first { (trees : Trees) → IsDistinct trees.terms → AreSequentsKnown trees self.now → IsKnown trees sequent.now → result ≡ first_place (is_same_at trees sequent.now) self.now }
     {
-        let mut found = None;
-        let mut next = self.chains.last(sequent.concl);
-        while let Some(place) = next {
-            found = self.or_earlier(place, sequent, found);
-            next = self.chains.earlier(place);
-        }
-        found
-    }
-
-    // A place, if the sequent there is the same, or else what was found behind it.
-    fn or_earlier(&self, place: usize, sequent: &Sequent, behind: Option<usize>) -> Option<usize>
-        requires { place < length self.now }
-        ensures either { (result ≡ Some place) ⊎ (result ≡ behind) }
-        ensures first { (trees : Trees) → IsDistinct trees.terms → AreSequentsKnown trees self.now → IsKnown trees sequent.now → result ≡ option_or (place_if (is_same_at trees sequent.now) (slice_get self.now place) place) behind }
-    {
-        if Sequent::same(&self.held[place].sequent, sequent) {
-            Some(place)
-        } else {
-            behind
+        let list = list_for(&self.lists, sequent.concl);
+        match search(list, &self.held, &sequent.hyps) {
+            Ok(at) => Some(list[at]),
+            Err(_between) => None,
         }
     }
 }

@@ -1,20 +1,35 @@
-use Rattle.std.proofs.Common.{ap, ◌∙◌}
-use Rattle.compose.specs.Pools.{conclusions_of}
-use Rattle.compose.proofs.PoolLaws.{walked-begins, walked-within, walked-chained, walked-smaller, walked-on}
+use Rattle.std.proofs.Common.{subst, sym, ◌∙◌}
+use Rattle.compose.specs.Listed.{IsFound, IsBetween}
+use Rattle.compose.proofs.ListedLaws.{listed_now, place-within, within-all}
+use Rattle.compose.proofs.PoolLaws.{place-found, place-none}
 use Rattle.compose.proofs.pool.Pool.place.Goals as goal
 
-pub loop-next-init : goal.loop-next-init
-loop-next-init c = walked-begins c.args.self.now c.args.sequent.now c.self.inside.chains (c.self.invariant.chained ∙ ap conclusions_of c.self.view_is) c.last-next.result c.last-next.ensures
+pub search-requires-clause-within : goal.search-requires-clause-within
+search-requires-clause-within c =
+    within-all c.deref.result.now c.args.sequent.now.concl c.list_for-list.result.now
+    (listed_now c.self.inside.held.items c.deref.result.now c.self.inside.lists.entries c.args.sequent.now.concl c.list_for-list.result.now (sym c.deref.ensures.value) c.self.invariant.listed c.list_for-list.ensures)
 
-pub or_earlier-found-requires : goal.or_earlier-found-requires
-or_earlier-found-requires c = walked-within c.args.self.now c.args.sequent.now c.self.inside.chains (c.self.invariant.chained ∙ ap conclusions_of c.self.view_is) c.in-Some.place c.loop-next.next c.loop-next.found c.in-Some.is c.loop-next.invariant
+pub search-requires-clause-ordered : goal.search-requires-clause-ordered
+search-requires-clause-ordered c =
+    (listed_now c.self.inside.held.items c.deref.result.now c.self.inside.lists.entries c.args.sequent.now.concl c.list_for-list.result.now (sym c.deref.ensures.value) c.self.invariant.listed c.list_for-list.ensures).ordered
 
-pub earlier-next-requires : goal.earlier-next-requires
-earlier-next-requires c = walked-chained c.args.self.now c.args.sequent.now c.self.inside.chains (c.self.invariant.chained ∙ ap conclusions_of c.self.view_is) c.in-Some.place c.loop-next.next c.loop-next.found c.in-Some.is c.loop-next.invariant
+pub returns-in-Ok-clause-within : goal.returns-in-Ok-clause-within
+returns-in-Ok-clause-within c =
+    let list = c.list_for-list.result.now in
+    place-within c.args.self.now c.args.sequent.now.concl list c.in-Ok.at
+    (listed_now c.self.inside.held.items c.args.self.now c.self.inside.lists.entries c.args.sequent.now.concl list c.self.view_is c.self.invariant.listed c.list_for-list.ensures)
+    c.in-Ok.ensures.found.within
 
-pub loop-next-smaller : goal.loop-next-smaller
-loop-next-smaller c = walked-smaller c.args.self.now c.args.sequent.now c.self.inside.chains (c.self.invariant.chained ∙ ap conclusions_of c.self.view_is) c.in-Some.place c.loop-next.next c.loop-next.found c.in-Some.is c.loop-next.invariant c.earlier-next.result c.earlier-next.ensures
+pub returns-in-Ok-clause-first : goal.returns-in-Ok-clause-first
+returns-in-Ok-clause-first c trees d l k =
+    let list = c.list_for-list.result.now in
+    place-found trees d c.args.sequent.now k c.args.self.now l list
+    (listed_now c.self.inside.held.items c.args.self.now c.self.inside.lists.entries c.args.sequent.now.concl list c.self.view_is c.self.invariant.listed c.list_for-list.ensures)
+    c.in-Ok.at (subst (λ p. IsFound p list c.args.sequent.now.hyps c.in-Ok.at) (c.deref.ensures.value ∙ c.self.view_is) c.in-Ok.ensures.found)
 
-pub loop-next-preserved : goal.loop-next-preserved
-loop-next-preserved c = walked-on c.args.self.now c.args.sequent.now c.self.inside.chains (c.self.invariant.chained ∙ ap conclusions_of c.self.view_is) c.in-Some.place c.loop-next.next c.loop-next.found c.in-Some.is c.loop-next.invariant c.earlier-next.result c.earlier-next.ensures
-    c.or_earlier-found.result c.or_earlier-found.ensures.either c.or_earlier-found.ensures.first
+pub returns-in-Err-clause-first : goal.returns-in-Err-clause-first
+returns-in-Err-clause-first c trees d l k =
+    let list = c.list_for-list.result.now in
+    place-none trees d c.args.sequent.now k c.args.self.now l list
+    (listed_now c.self.inside.held.items c.args.self.now c.self.inside.lists.entries c.args.sequent.now.concl list c.self.view_is c.self.invariant.listed c.list_for-list.ensures)
+    c.in-Err._between (subst (λ p. IsBetween p list c.args.sequent.now.hyps c.in-Err._between c.in-Err._between) (c.deref.ensures.value ∙ c.self.view_is) c.in-Err.ensures.between)
