@@ -14,7 +14,7 @@ ghost use Rattle.bridge_translate.specs.Translations.{counts_in, IsTranslationOf
 use bridge_base::{Memory, Shelf};
 use bridge_reading::{Stop, read_articles};
 use holide_sig::{Form, Module};
-use lp_weight::bound;
+use lp_weight::Weights;
 use share::fold;
 use stack_machine::Machine;
 use std::alloc::Global;
@@ -124,9 +124,10 @@ fn bounds_of(alloc: Global, source: &Module) -> Result<Vec<u128>, Memory>
     requires { IsHeld source.now }
     ensures { IfOk result (λ bounds. bounds.items ≡ map (bound_of (declarations_of source.now)) (declarations_of source.now)) }
 {
+    let mut weights = Weights::new(alloc);
     let mut bounds = Vec::new(alloc);
     for i in 0..source.decls.len() {
-        bounds.push(bound(alloc, source, i)?)?;
+        bounds.push(weights.bound(source, i)?)?;
     }
     Ok(bounds)
 }

@@ -11,7 +11,8 @@ ghost use Rattle.bridge_spec.specs.Texts.{module_of};
 
 use bridge_base::Memory;
 use holide_sig::Module;
-use lp_kernel::{Verdict, bound_fast, check_fast};
+use lp_kernel::{Verdict, check_fast};
+use lp_weight::Weights;
 use std::alloc::Global;
 
 /// The verdict on the module of a run without rechecks of sorts, each declaration within its bound for that: it is accepted.
@@ -31,9 +32,10 @@ fn fast_bounds(alloc: Global, source: &Module) -> Result<Vec<u128>, Memory>
     requires { IsHeld source.now }
     ensures { IfOk result (λ bounds. bounds.items ≡ map (fast_bound (declarations_of source.now)) (declarations_of source.now)) }
 {
+    let mut weights = Weights::new(alloc);
     let mut bounds = Vec::new(alloc);
     for i in 0..source.decls.len() {
-        bounds.push(bound_fast(alloc, source, i)?)?;
+        bounds.push(weights.bound_fast(source, i)?)?;
     }
     Ok(bounds)
 }

@@ -1,3 +1,6 @@
 mod NotedLaws
 mod Turns
 mod SpreadLaws
+mod OccurrenceLaws
+mod HeadLaws
+mod PackedLaws

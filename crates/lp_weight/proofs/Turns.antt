@@ -6,12 +6,12 @@ use Rattle.lp_weight.specs.declared.measure.Task.{Task}
 use Rattle.lp_weight.specs.declared.measure.Task.TheVariants.{Visit, Join}
 use Rattle.lp_weight.specs.Saturation.{saturated}
 use Rattle.lp_weight.specs.Noted.{IsNoted}
-use Rattle.lp_weight.specs.Measures.{IsPlace, tree_of, AreTwo, Makes, IsWalk, work}
+use Rattle.lp_weight.specs.Measures.{IsPlace, tree_of, AreTwo, Makes, IsMemo, IsWalk, work}
 use Rattle.lp_binding.specs.Binding.{size-positive}
 
 -- a sum of saturated numbers saturates as that of the numbers
-pub saturated-sum : (n a b : ℕ) → saturated (n + saturated a + saturated b) ≡ saturated (n + a + b)
-saturated-sum n a b = omega arith
+pub saturated-sum : (a b : ℕ) → saturated (saturated a + saturated b) ≡ saturated (a + b)
+saturated-sum a b = omega arith
 
 module _ (amount : Place → ℕ) (trees : List Tree) (place : Place) (tasks : List Task) (amounts : List ℕ) (memo : List (Place × ℕ)) where
   -- a visit that gives the amount
@@ -26,23 +26,23 @@ module _ (amount : Place → ℕ) (trees : List Tree) (place : Place) (tasks : L
   visit_less = omega (arith, size-positive (tree_of trees place))
 
   -- a visit that sets out the parts
-  module _ (own : ℕ) (first second : Place) (two : AreTwo amount trees place own first second) where
-    pub set_out_walk : (goal : ℕ) → IsWalk amount trees goal (Visit place ∷ tasks) amounts memo → IsWalk amount trees goal (Visit first ∷ Visit second ∷ Join place own ∷ tasks) amounts memo
+  module _ (first second : Place) (two : AreTwo amount trees place first second) where
+    pub set_out_walk : (goal : ℕ) → IsWalk amount trees goal (Visit place ∷ tasks) amounts memo → IsWalk amount trees goal (Visit first ∷ Visit second ∷ Join place ∷ tasks) amounts memo
     set_out_walk goal w = record {
       places = (two.first_place, (two.second_place, w.places.1));
       noted = w.noted;
-      makes = (saturated-sum own (amount first) (amount second) ∙ two.sum, w.makes);
+      makes = (saturated-sum (amount first) (amount second) ∙ two.sum, w.makes);
     }
 
-    pub set_out_less : work trees (Visit first ∷ Visit second ∷ Join place own ∷ tasks) < work trees (Visit place ∷ tasks)
+    pub set_out_less : work trees (Visit first ∷ Visit second ∷ Join place ∷ tasks) < work trees (Visit place ∷ tasks)
     set_out_less = omega (arith, two.smaller)
 
 -- a join whose parts are summed
-pub join_walk : (place : Place) (own n first second : ℕ) (tasks : List Task) (amounts rest : List ℕ) (memo noted : List (Place × ℕ)) → amounts ≡ second ∷ first ∷ rest → n ≡ saturated (own + first + second)
+pub join_walk : (place : Place) (n first second : ℕ) (tasks : List Task) (amounts rest : List ℕ) (memo noted : List (Place × ℕ)) → amounts ≡ second ∷ first ∷ rest → n ≡ saturated (first + second)
     → ((p : Place) (k : ℕ) → IsNoted noted p k → IsNoted memo p k ⊎ ((p ≡ place) × (k ≡ n)))
-    → (amount : Place → ℕ) (trees : List Tree) (goal : ℕ) → IsWalk amount trees goal (Join place own ∷ tasks) amounts memo → IsWalk amount trees goal tasks (n ∷ rest) noted
-join_walk place own n first second tasks amounts rest memo noted em en notes amount trees goal w =
-    let makes = subst (λ l. Makes amount (Join place own ∷ tasks) l goal) em w.makes in
+    → (amount : Place → ℕ) (trees : List Tree) (goal : ℕ) → IsWalk amount trees goal (Join place ∷ tasks) amounts memo → IsWalk amount trees goal tasks (n ∷ rest) noted
+join_walk place n first second tasks amounts rest memo noted em en notes amount trees goal w =
+    let makes = subst (λ l. Makes amount (Join place ∷ tasks) l goal) em w.makes in
     let is : n ≡ saturated (amount place) = en ∙ makes.0 in
     record {
       places = w.places;
@@ -51,19 +51,19 @@ join_walk place own n first second tasks amounts rest memo noted em en notes amo
     }
 
 -- a join has two amounts on top
-pub join_length : (amount : Place → ℕ) (trees : List Tree) (goal : ℕ) (place : Place) (own : ℕ) (tasks : List Task) (amounts : List ℕ) (memo : List (Place × ℕ)) → IsWalk amount trees goal (Join place own ∷ tasks) amounts memo → 1 < length amounts
-join_length amount trees goal place own tasks amounts memo w = go amounts w.makes
+pub join_length : (amount : Place → ℕ) (trees : List Tree) (goal : ℕ) (place : Place) (tasks : List Task) (amounts : List ℕ) (memo : List (Place × ℕ)) → IsWalk amount trees goal (Join place ∷ tasks) amounts memo → 1 < length amounts
+join_length amount trees goal place tasks amounts memo w = go amounts w.makes
   where
-    go : (l : List ℕ) → Makes amount (Join place own ∷ tasks) l goal → 1 < length l
+    go : (l : List ℕ) → Makes amount (Join place ∷ tasks) l goal → 1 < length l
     go [] h = absurd h
     go (x ∷ []) h = absurd h
     go (x ∷ y ∷ l) h = omega arith
 
 -- a walk at its beginning
-pub walk_begins : (amount : Place → ℕ) (trees : List Tree) (place : Place) (memo : List (Place × ℕ)) → IsPlace trees place → ((p : Place) (n : ℕ) → IsNoted memo p n → ⊥) → IsWalk amount trees (amount place) (Visit place ∷ []) [] memo
-walk_begins amount trees place memo p none = record {
+pub walk_begins : (amount : Place → ℕ) (trees : List Tree) (place : Place) (memo : List (Place × ℕ)) → IsPlace trees place → IsMemo amount memo → IsWalk amount trees (amount place) (Visit place ∷ []) [] memo
+walk_begins amount trees place memo p noted = record {
   places = (p, tt);
-  noted = λ q n h. absurd (none q n h);
+  noted = noted;
   makes = refl;
 }
 

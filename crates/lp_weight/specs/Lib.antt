@@ -1,5 +1,7 @@
-pub mod Calls
 pub mod Measures
 pub mod Noted
+pub mod Occurrences
+pub mod Packed
 pub mod Saturation
+pub mod Spreads
 pub mod Weights

@@ -1,56 +1,59 @@
-//! Sums over the places of a tree, each looked at once. The walk keeps a stack of its own.
-ghost use Rattle.std.specs.Prelude.{◌≡◌, ℕ, ◌<◌, ◌+◌, [], ◌∷◌, List, length, IfOk, OnOk};
+//! How often variables occur in trees: sums over the places of a tree, each looked at once. The walk keeps a stack of its own.
+ghost use Rattle.std.specs.Prelude.{◌≡◌, ℕ, ◌<◌, ◌∷◌, List, length, IfOk, OnOk};
 ghost use Rattle.lp_spec.specs.Trees.{Tree};
-ghost use Rattle.holide_sig.specs.declared.module.Module.{Module as AModule};
 ghost use Rattle.lp_weight.specs.declared.memo.Place.{Place as APlace};
 ghost use Rattle.lp_weight.specs.declared.measure.Task.TheVariants as task;
 ghost use Rattle.lp_weight.specs.Saturation.{saturated};
 ghost use Rattle.lp_weight.specs.Noted.{IsNoted};
-ghost use Rattle.lp_weight.specs.Measures.{IsPlace, IsPart, IsWalk, work};
+ghost use Rattle.lp_weight.specs.Measures.{IsPlace, IsWalk, IsIdle, place_occurrences, work};
 
 use crate::memo::{Memo, Place};
+use crate::occurrences::{Parts, parts_of};
 use bridge_base::{Memory, Stack};
 use holide_sig::Module;
 use lp_term::LpId;
 use std::alloc::Global;
 
-/// What a place amounts to: so much, or so much and what two places amount to.
-#[derive(Clone, Copy)]
-pub(crate) enum Parts {
-    Alone(u128),
-    Two(u128, Place, Place),
-}
-
-/// A number for each place of a module's trees, by its parts.
-pub(crate) trait Measure {
-    // What a place amounts to.
-    ghost amount: { Self → AModule → APlace → ℕ };
-
-    // What is asked of the module.
-    ghost fits: { Self → AModule → Type 0 };
-
-    /// The parts of a place, whose trees together are smaller.
-    fn parts(&self, alloc: Global, base: &Module, place: Place) -> Result<Parts, Memory>
-        requires fits { fits self.now base.now }
-        requires place { IsPlace base.now.table place }
-        ensures { IfOk result (λ parts. IsPart (amount self.now base.now) base.now.table place parts) };
-}
-
 /// What is still to be done.
 #[derive(Clone, Copy)]
 pub(crate) enum Task {
-    /// To find what the place amounts to.
+    /// To find how often the place's variable occurs there.
     Visit(Place),
-    /// To sum so much and the two topmost amounts, which are those of the place's parts.
-    Join(Place, u128),
+    /// To sum the two topmost amounts, which are those of the place's parts.
+    Join(Place),
 }
 
-/// A walk on its way.
+// From how many amounts on a walk forgets them before the next.
+const MOST: usize = 1 << 14;
+
+/// A walk, on its way or idle. What it noted stays for the next.
 #[derive(Drop)]
 pub(crate) struct Walk {
     tasks: Stack<Task>,
     amounts: Stack<u128>,
     memo: Memo,
+}
+
+impl Walk {
+    /// A walk that has seen nothing. It takes no memory.
+    pub(crate) fn new(alloc: Global) -> Self
+        ensures { (amount : APlace → ℕ) → IsIdle amount result }
+    {
+        Walk {
+            tasks: Stack::new(alloc),
+            amounts: Stack::new(alloc),
+            memo: Memo::new(alloc),
+        }
+    }
+
+    /// Forgets what it noted, if that is much.
+    pub(crate) fn trim(&mut self)
+        ensures { (amount : APlace → ℕ) → IsIdle amount self.old → IsIdle amount self.new }
+    {
+        if self.memo.len() > MOST {
+            self.memo.clear();
+        }
+    }
 }
 
 /// A tree under no binder.
@@ -60,67 +63,44 @@ pub(crate) fn root(id: LpId) -> Place
     Place { id, depth: 0 }
 }
 
-/// What a place amounts to.
-pub(crate) fn measured<M: Measure>(
-    alloc: Global,
-    measure: &M,
-    base: &Module,
-    place: Place,
-) -> Result<u128, Memory>
-    requires fits { M.fits measure.now base.now }
+/// How often the place's variable occurs there.
+pub(crate) fn measured(base: &Module, place: Place, walk: &mut Walk) -> Result<u128, Memory>
     requires place { IsPlace base.now.table place }
-    ensures { IfOk result (λ n. n ≡ saturated (M.amount measure.now base.now place)) }
+    requires idle { IsIdle (place_occurrences base.now) walk.old }
+    ensures amount { IfOk result (λ n. n ≡ saturated (place_occurrences base.now place)) }
+    ensures idle { OnOk result (IsIdle (place_occurrences base.now) walk.new) }
 {
-    let mut walk = Walk {
-        tasks: Stack::new(alloc),
-        amounts: Stack::new(alloc),
-        memo: Memo::new(alloc),
-    };
     walk.tasks.push(Task::Visit(place))?;
     while let Some(task) = walk.tasks.pop() {
-        turn(alloc, measure, base, task, &mut walk)?;
+        turn(base, task, walk)?;
     }
     Ok(walk.amounts.pop().unwrap())
 }
 
 // One turn of the walk.
-fn turn<M: Measure>(
-    alloc: Global,
-    measure: &M,
-    base: &Module,
-    task: Task,
-    walk: &mut Walk,
-) -> Result<(), Memory>
-    requires fits { M.fits measure.now base.now }
-    requires walk { (goal : ℕ) × IsWalk (M.amount measure.now base.now) base.now.table goal (task ∷ walk.old.tasks) walk.old.amounts walk.old.memo }
-    ensures walk { OnOk result ((goal : ℕ) → IsWalk (M.amount measure.now base.now) base.now.table goal (task ∷ walk.old.tasks) walk.old.amounts walk.old.memo → IsWalk (M.amount measure.now base.now) base.now.table goal walk.new.tasks walk.new.amounts walk.new.memo) }
+fn turn(base: &Module, task: Task, walk: &mut Walk) -> Result<(), Memory>
+    requires walk { (goal : ℕ) × IsWalk (place_occurrences base.now) base.now.table goal (task ∷ walk.old.tasks) walk.old.amounts walk.old.memo }
+    ensures walk { OnOk result ((goal : ℕ) → IsWalk (place_occurrences base.now) base.now.table goal (task ∷ walk.old.tasks) walk.old.amounts walk.old.memo → IsWalk (place_occurrences base.now) base.now.table goal walk.new.tasks walk.new.amounts walk.new.memo) }
     ensures less { OnOk result (work base.now.table walk.new.tasks < work base.now.table (task ∷ walk.old.tasks)) }
 {
     match task {
-        Task::Visit(place) => visit(alloc, measure, base, place, walk),
-        Task::Join(place, own) => join(place, own, walk),
+        Task::Visit(place) => visit(base, place, walk),
+        Task::Join(place) => join(place, walk),
     }
 }
 
-// Takes what the place amounts to, or sets out the tasks that find it, where it is not noted yet.
-fn visit<M: Measure>(
-    alloc: Global,
-    measure: &M,
-    base: &Module,
-    place: Place,
-    walk: &mut Walk,
-) -> Result<(), Memory>
-    requires fits { M.fits measure.now base.now }
-    requires walk { (goal : ℕ) × IsWalk (M.amount measure.now base.now) base.now.table goal (task.Visit place ∷ walk.old.tasks) walk.old.amounts walk.old.memo }
-    ensures walk { OnOk result ((goal : ℕ) → IsWalk (M.amount measure.now base.now) base.now.table goal (task.Visit place ∷ walk.old.tasks) walk.old.amounts walk.old.memo → IsWalk (M.amount measure.now base.now) base.now.table goal walk.new.tasks walk.new.amounts walk.new.memo) }
+// Takes what the place amounts to, or sets out the tasks that find it, where it has parts and is not noted yet.
+fn visit(base: &Module, place: Place, walk: &mut Walk) -> Result<(), Memory>
+    requires walk { (goal : ℕ) × IsWalk (place_occurrences base.now) base.now.table goal (task.Visit place ∷ walk.old.tasks) walk.old.amounts walk.old.memo }
+    ensures walk { OnOk result ((goal : ℕ) → IsWalk (place_occurrences base.now) base.now.table goal (task.Visit place ∷ walk.old.tasks) walk.old.amounts walk.old.memo → IsWalk (place_occurrences base.now) base.now.table goal walk.new.tasks walk.new.amounts walk.new.memo) }
     ensures less { OnOk result (work base.now.table walk.new.tasks < work base.now.table (task.Visit place ∷ walk.old.tasks)) }
     ensures once { OnOk result ((n : ℕ) → IsNoted walk.old.memo place n → walk.new.tasks ≡ walk.old.tasks) }
 {
-    match walk.memo.find(place) {
-        Some(amount) => give(walk, amount),
-        None => match measure.parts(alloc, base, place)? {
-            Parts::Alone(amount) => give(walk, amount),
-            Parts::Two(own, first, second) => set_out(walk, place, own, first, second),
+    match parts_of(base, place) {
+        Parts::Alone(amount) => give(walk, amount),
+        Parts::Two(first, second) => match walk.memo.find(place) {
+            Some(amount) => give(walk, amount),
+            None => set_out(walk, place, first, second),
         },
     }
 }
@@ -136,32 +116,26 @@ fn give(walk: &mut Walk, amount: u128) -> Result<(), Memory>
 }
 
 // Sets out to sum a place's parts.
-fn set_out(
-    walk: &mut Walk,
-    place: Place,
-    own: u128,
-    first: Place,
-    second: Place,
-) -> Result<(), Memory>
-    ensures tasks { OnOk result (walk.new.tasks ≡ task.Visit first ∷ task.Visit second ∷ task.Join place own ∷ walk.old.tasks) }
+fn set_out(walk: &mut Walk, place: Place, first: Place, second: Place) -> Result<(), Memory>
+    ensures tasks { OnOk result (walk.new.tasks ≡ task.Visit first ∷ task.Visit second ∷ task.Join place ∷ walk.old.tasks) }
     ensures amounts { walk.new.amounts ≡ walk.old.amounts }
     ensures memo { walk.new.memo ≡ walk.old.memo }
 {
-    walk.tasks.push(Task::Join(place, own))?;
+    walk.tasks.push(Task::Join(place))?;
     walk.tasks.push(Task::Visit(second))?;
     walk.tasks.push(Task::Visit(first))?;
     Ok(())
 }
 
 // Sums the parts of a place, and notes the sum.
-fn join(place: Place, own: u128, walk: &mut Walk) -> Result<(), Memory>
+fn join(place: Place, walk: &mut Walk) -> Result<(), Memory>
     requires { 1 < length walk.old.amounts }
     ensures tasks { walk.new.tasks ≡ walk.old.tasks }
-    ensures walk { OnOk result ((amount : APlace → ℕ) (trees : List Tree) (goal : ℕ) → IsWalk amount trees goal (task.Join place own ∷ walk.old.tasks) walk.old.amounts walk.old.memo → IsWalk amount trees goal walk.new.tasks walk.new.amounts walk.new.memo) }
+    ensures walk { OnOk result ((amount : APlace → ℕ) (trees : List Tree) (goal : ℕ) → IsWalk amount trees goal (task.Join place ∷ walk.old.tasks) walk.old.amounts walk.old.memo → IsWalk amount trees goal walk.new.tasks walk.new.amounts walk.new.memo) }
     ensures noted { OnOk result ((n : ℕ) × IsNoted walk.new.memo place n) }
 {
     let (first, second) = two(&mut walk.amounts);
-    let amount = own.saturating_add(first).saturating_add(second);
+    let amount = first.saturating_add(second);
     walk.memo.note(place, amount)?;
     give(walk, amount)
 }

@@ -13,7 +13,7 @@ use std::marker::Model;
 #[derive(Clone, Copy, PartialEq, Eq, Hash)]
 pub(crate) struct Place {
     pub(crate) id: LpId,
-    pub(crate) depth: u128,
+    pub(crate) depth: u64,
 }
 
 /// The amounts that were summed, by their places.
@@ -54,5 +54,17 @@ impl Memo {
     {
         self.amounts.insert(place, amount)?;
         Ok(())
+    }
+
+    /// How many amounts there are.
+    pub(crate) fn len(&self) -> usize {
+        self.amounts.len()
+    }
+
+    /// Forgets all amounts, and keeps the memory that they took.
+    pub(crate) fn clear(&mut self)
+        ensures empty { (p : APlace) (n : ℕ) → IsNoted self.new p n → ⊥ }
+    {
+        self.amounts.clear();
     }
 }
