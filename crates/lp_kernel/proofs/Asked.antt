@@ -19,6 +19,8 @@ use Rattle.lp_kernel.specs.declared.state.Next.TheVariants as next
 use Rattle.lp_kernel.specs.declared.state.State.{State}
 use Rattle.lp_kernel.specs.Pending.{resume, IsTurned, variable_plan, variable_type, IsFoundIf, IsApplication, IsKnownFrame, AreKnownFrames, IsKnownState, outside}
 use Rattle.std.proofs.lemmas.Option.{same_Some}
+use Rattle.lp_kernel.specs.Lifted.{IsLift, AreLifts}
+use Rattle.lp_kernel.proofs.LiftedLaws.{AreLifts-Keeps}
 
 -- a turn that goes on as the plan for the tree does
 module _ (rechecks : Bool) (ds : List Declaration) (G : List Tree) (rest : Tree → Plan) where
@@ -88,6 +90,10 @@ lifted-entry ts us c n k entry r s known e h is =
     ap (option_map (lift (suc n))) (sym (entry-of us c n (Some entry) e))
     ∙ ap Some (ap (lift (suc n)) (sym (tree_at-Stays s entry.0 known)) ∙ ap (λ j. lift j (tree_at ts entry.0)) (sym is) ∙ sym (Holds-tree_at us r.0 _ h))
 
+-- the same, of one that was lifted before
+pub kept-entry : (ts : List Tree) (c : List LpId) (n k : ℕ) (entry r : LpId) → Some entry ≡ slice_get c n → IsLift ts entry k r → k ≡ suc n → variable_type ts c n ≡ Some (tree_at ts r.0)
+kept-entry ts c n k entry r e h is = ap (option_map (lift (suc n))) (sym (entry-of ts c n (Some entry) e)) ∙ ap Some (ap (λ j. lift j (tree_at ts entry.0)) (sym is) ∙ sym h.is)
+
 pub known-application : {ts us : List Tree} → Keeps ts us → (f x w : LpId) → IsApplication ts f x w → IsApplication us f x w
 known-application {us = us} k f x w h = record {
   function = omega (arith, k.longer, h.function);
@@ -111,7 +117,7 @@ known-frames k [] h = tt
 known-frames k (f ∷ fs) h = (known-frame k f h.0, known-frames k fs h.1)
 
 pub known-state : {ts us : List Tree} → Keeps ts us → (s : State) → IsKnownState ts s → IsKnownState us s
-known-state k s h = record { context = AreKnown-Keeps k s.context h.context; frames = known-frames k s.frames h.frames }
+known-state k s h = record { context = AreKnown-Keeps k s.context h.context; frames = known-frames k s.frames h.frames; lifts = AreLifts-Keeps k s.lifts h.lifts }
 
 -- a leaf's turn, in a table that may have grown
 pub asked-leaf : (rechecks : Bool) (m : Module) (ts : List Tree) (s : State) (id : LpId) (t : Tree) (o : Option Tree) (old new : ℕ) (n : Next) → Keeps ts m.table → Holds ts id.0 t
@@ -133,5 +139,5 @@ known-outside ts c d e h = subst (AreKnown ts) (sym e) (go c h)
     go (id ∷ ids) h = h.1
 
 -- a frame more is known
-pub known-pushed : (ts : List Tree) (s : State) (f : Frame) (fs : List Frame) → IsKnownState ts s → IsKnownFrame ts f → fs ≡ f ∷ s.frames → IsKnownState ts (record { context = s.context; frames = fs })
-known-pushed ts s f fs h k e = record { context = h.context; frames = subst (AreKnownFrames ts) (sym e) (k, h.frames) }
+pub known-pushed : (ts : List Tree) (s : State) (f : Frame) (fs : List Frame) → IsKnownState ts s → IsKnownFrame ts f → fs ≡ f ∷ s.frames → IsKnownState ts (record { context = s.context; frames = fs; lifts = s.lifts })
+known-pushed ts s f fs h k e = record { context = h.context; frames = subst (AreKnownFrames ts) (sym e) (k, h.frames); lifts = h.lifts }

@@ -1,5 +1,5 @@
 -- The verdict of a module.
-use Rattle.std.proofs.Common.{◌≡◌, refl, sym, ap, ◌∙◌, subst, ℕ, ◌+◌, ◌-◌, ◌<◌, arith, length, List, [], Some, ⊎_elim, Bool}
+use Rattle.std.proofs.Common.{◌≡◌, refl, sym, ap, ◌∙◌, subst, ℕ, ◌+◌, ◌-◌, ◌<◌, arith, true, length, List, [], Some, ⊎_elim, Bool}
 use Rattle.std.specs.Prelude.{slice_get, take}
 use Rattle.std.proofs.lemmas.Bool.{cases_lt}
 use Rattle.std.proofs.lemmas.List.{length-map}
@@ -28,7 +28,9 @@ use Rattle.lp_term.specs.TableLaws.{tree_at-Stays, take-Stays}
 use Rattle.holide_sig.specs.declared.decls.Decl.{Decl}
 use Rattle.lp_conv.specs.Answers.{Answered}
 use Rattle.lp_kernel.specs.Inference.{typing}
-use Rattle.lp_kernel.specs.Noted.{IsNoted, IsTypeOfClosed, AreRight, IsCutBack}
+use Rattle.lp_shape.specs.Check.{reach}
+use Rattle.lp_kernel.specs.declared.memo.Memos.{Memos}
+use Rattle.lp_kernel.specs.Noted.{IsNoted, IsCutOff, IsTypeOfClosed, AreTypes, IsProductOf, AreProducts, AreRight, IsCutBack}
 use Rattle.lp_kernel.specs.Checks.{SaysYes, SaysNo, IsOverBudget, IsChecked, PassBelow, IsIllTyped, IsPastBudget, IsJudged, EndsWithin, PassWithin, IsRefusedWithin}
 
 -- a declaration that passes is not refused
@@ -46,14 +48,13 @@ pub record ArePassing (rechecks : Bool) (from m : Module) (i : ℕ) : Type 0 whe
   pub below : PassBelow rechecks (declarations_of from) i
 
 -- and what is noted is right
-pub record IsCarried (rechecks : Bool) (from m : Module) (i : ℕ) (types : List ℕ) : Type 0 where
+pub record IsCarried (rechecks : Bool) (from m : Module) (i : ℕ) (memo : Memos) : Type 0 where
   pub passing : ArePassing rechecks from m i
-  pub right : AreRight rechecks (declarations_of m) m.table types
+  pub right : AreRight rechecks (declarations_of m) m.table memo
 
--- what is noted, less what has a number that another module lacks, is right over that one
-right-cut : (rechecks : Bool) (from m : Module) (types fewer : List ℕ) → IsHeld from → Grows from m → AreRight rechecks (declarations_of m) m.table types → ((t r : LpId) → IsNoted fewer t r → IsNoted types t r × (t.0 < length from.table) × (r.0 < length from.table))
-    → AreRight rechecks (declarations_of from) from.table fewer
-right-cut rechecks from m types fewer held g right noted = record { each = each }
+-- the types that are noted, less those with a number that another module lacks, are right over that one
+types-cut : (rechecks : Bool) (from m : Module) (types fewer : List ℕ) → IsHeld from → Grows from m → AreTypes rechecks (declarations_of m) m.table types → IsCutOff types fewer (length from.table) → AreTypes rechecks (declarations_of from) from.table fewer
+types-cut rechecks from m types fewer held g right noted = record { each = each }
   where
     each : (t r : LpId) → IsNoted fewer t r → IsTypeOfClosed rechecks (declarations_of from) from.table t r
     each t r i =
@@ -70,15 +71,36 @@ right-cut rechecks from m types fewer held g right noted = record { each = each 
               (subst (λ u. Answered (declarations_of m) rechecks (typing [] (tree_at m.table t.0)) (Found u) 1) (sym f) fact.answered));
         }
 
+-- and so are the products
+products-cut : (from m : Module) (types fewer : List ℕ) → IsHeld from → Grows from m → AreProducts (declarations_of m) m.table types → IsCutOff types fewer (length from.table) → AreProducts (declarations_of from) from.table fewer
+products-cut from m types fewer held g right noted = record { each = each }
+  where
+    each : (t r : LpId) → IsNoted fewer t r → IsProductOf (declarations_of from) from.table t r
+    each t r i =
+        let n = noted t r i in
+        let fact = right.each t r n.0 in
+        let e = tree_at-Stays g.keeps.stays t.0 n.1 in
+        let f = tree_at-Stays g.keeps.stays r.0 n.2 in
+        record {
+          known = n.1;
+          found_known = n.2;
+          answered = subst (λ ds. Answered ds true (reach ds (tree_at from.table t.0)) (Found (tree_at from.table r.0)) 1) (declarations_of-Grows from m g held)
+              (subst (λ u. Answered (declarations_of m) true (reach (declarations_of m) u) (Found (tree_at from.table r.0)) 1) (sym e)
+              (subst (λ u. Answered (declarations_of m) true (reach (declarations_of m) (tree_at m.table t.0)) (Found u) 1) (sym f) fact.answered));
+        }
+
+right-cut : (rechecks : Bool) (from m : Module) (memo fewer : Memos) → IsHeld from → Grows from m → AreRight rechecks (declarations_of m) m.table memo → IsCutOff memo.types fewer.types (length from.table) → IsCutOff memo.products fewer.products (length from.table)
+    → AreRight rechecks (declarations_of from) from.table fewer
+right-cut rechecks from m memo fewer held g right h k = record { types = types-cut rechecks from m memo.types fewer.types held g right.types h; products = products-cut from m memo.products fewer.products held g right.products k }
+
 -- a module that is cut back to another's nodes is the other
-pub cut-back : (rechecks : Bool) (from m : Module) (front : List Tree) (kept : ℕ) (types fewer : List ℕ) → length from.table ≡ kept → IsHeld from → Grows from m → AreRight rechecks (declarations_of m) m.table types → front ≡ take kept m.table
-    → ((t r : LpId) → IsNoted fewer t r → IsNoted types t r × (t.0 < kept) × (r.0 < kept)) → IsCutBack rechecks from (record { table = front; decls = m.decls }) fewer
-cut-back rechecks from m front kept types fewer long held g right is noted =
+pub cut-back : (rechecks : Bool) (from m : Module) (front : List Tree) (kept : ℕ) (memo fewer : Memos) → length from.table ≡ kept → IsHeld from → Grows from m → AreRight rechecks (declarations_of m) m.table memo → front ≡ take kept m.table
+    → IsCutOff memo.types fewer.types kept → IsCutOff memo.products fewer.products kept → IsCutBack rechecks from (record { table = front; decls = m.decls }) fewer
+cut-back rechecks from m front kept memo fewer long held g right is h k =
     let same : front ≡ from.table = is ∙ ap (λ n. take n m.table) (sym long) ∙ take-Stays from.table m.table g.keeps.stays in
-    let below : (t r : LpId) → IsNoted fewer t r → IsNoted types t r × (t.0 < length from.table) × (r.0 < length from.table) = λ t r i. let n = noted t r i in (n.0, omega (arith, long, n.1), omega (arith, long, n.2)) in
     subst (λ (ts : List Tree). IsCutBack rechecks from (record { table = ts; decls = m.decls }) fewer) (sym same)
     (subst (λ (ds : List Decl). IsCutBack rechecks from (record { table = from.table; decls = ds }) fewer) (sym g.decls)
-    (record { grows = Grows-refl from; right = right-cut rechecks from m types fewer held g right below }))
+    (record { grows = Grows-refl from; right = right-cut rechecks from m memo fewer held g right (subst (IsCutOff memo.types fewer.types) (sym long) h) (subst (IsCutOff memo.products fewer.products) (sym long) k) }))
 
 pub passing-start : (rechecks : Bool) (m : Module) → IsHeld m → ArePassing rechecks m m 0
 passing-start rechecks m held = record { grows = Grows-refl m; held = held; same = refl; below = λ k lt. absurd (omega (arith, lt)) }

@@ -24,10 +24,13 @@ use Rattle.lp_kernel.specs.declared.state.State.{State}
 use Rattle.lp_kernel.specs.declared.state.Waiting.{Waiting}
 use Rattle.lp_kernel.specs.declared.inference.Inferred.TheVariants as inferred
 use Rattle.lp_kernel.specs.Inference.{typing, IsInferred}
-use Rattle.lp_kernel.specs.Noted.{IsNoted, IsTypeOfClosed, AreRight, IsTakenUp}
+use Rattle.lp_kernel.specs.Lifted.{AreLifts}
+use Rattle.lp_kernel.specs.declared.memo.Memos.{Memos}
+use Rattle.lp_kernel.specs.Noted.{IsNoted, IsEmpty, IsTypeOfClosed, AreTypes, AreProducts, AreRight, IsTakenUp}
 use Rattle.lp_kernel.specs.Pending.{resume, pending, IsTurned, AreKnownFrames, IsKnownState, IsKnownNext}
 use Rattle.lp_kernel.proofs.Asked.{known-state}
 use Rattle.lp_kernel.proofs.Looped.{turned-then}
+use Rattle.lp_kernel.proofs.Reached.{AreProducts-Grows}
 
 -- a closed tree has one type, at one price, in all contexts
 pub typing-anywhere : (rechecks : Bool) (ds : List Declaration) → IsClosed ds → (G D : List Tree) (t : Tree) → loose t ≡ 0 → {reply : Reply} {n : ℕ} → Ends ds rechecks (typing G t) reply n → Ends ds rechecks (typing D t) reply n
@@ -64,9 +67,9 @@ level-stays rechecks m k p all here s id held g l =
     (leaves_fewer (declarations_of k) rechecks none (leaves_all (declarations_of k) rechecks (pending rechecks (declarations_of k) k.table s (next.Ask id))))
 
 -- a question in the empty context with nothing pending
-start-level : (rechecks : Bool) (m : Module) (id : LpId) (all : ℕ) (s : State) → id.0 < length m.table → s.context ≡ [] → s.frames ≡ [] → IsLevel rechecks m (typing [] (tree_at m.table id.0)) all all s (next.Ask id)
-start-level rechecks m id all s known e f = record {
-  state = record { context = subst (AreKnown m.table) (sym e) tt; frames = subst (AreKnownFrames m.table) (sym f) tt };
+start-level : (rechecks : Bool) (m : Module) (id : LpId) (all : ℕ) (s : State) → id.0 < length m.table → s.context ≡ [] → s.frames ≡ [] → AreLifts m.table s.lifts → IsLevel rechecks m (typing [] (tree_at m.table id.0)) all all s (next.Ask id)
+start-level rechecks m id all s known e f lifts = record {
+  state = record { context = subst (AreKnown m.table) (sym e) tt; frames = subst (AreKnownFrames m.table) (sym f) tt; lifts = lifts };
   next = known;
   less = omega arith;
   turned =
@@ -87,9 +90,9 @@ waiting-stays rechecks m k first all (w ∷ ws) p start held g h =
     let same = tree_at-Stays g.keeps.stays w.id.0 h.2.next in
     (h.0, h.1, level-stays rechecks m k h.0 h.1 start w.state w.id held g h.2, subst (λ t. loose t ≡ 0) same h.3, h.4 ∙ ap (typing []) same, waiting-stays rechecks m k first all ws h.0 h.1 held g h.5)
 
--- what is noted stays right where the module has grown
-pub right-stays : (rechecks : Bool) (m k : Module) (es : List ℕ) → IsHeld m → Grows m k → AreRight rechecks (declarations_of m) m.table es → AreRight rechecks (declarations_of k) k.table es
-right-stays rechecks m k es held g h = record { each = each }
+-- the types that are noted stay right where the module has grown
+types-stay : (rechecks : Bool) (m k : Module) (es : List ℕ) → IsHeld m → Grows m k → AreTypes rechecks (declarations_of m) m.table es → AreTypes rechecks (declarations_of k) k.table es
+types-stay rechecks m k es held g h = record { each = each }
   where
     each : (id found : LpId) → IsNoted es id found → IsTypeOfClosed rechecks (declarations_of k) k.table id found
     each id found i =
@@ -105,12 +108,19 @@ right-stays rechecks m k es held g h = record { each = each }
               (subst (λ u. Answered (declarations_of m) rechecks (typing [] (tree_at m.table id.0)) (Found u) 1) f r.answered));
         }
 
+-- and so does all that is noted
+pub right-stays : (rechecks : Bool) (m k : Module) (memo : Memos) → IsHeld m → Grows m k → AreRight rechecks (declarations_of m) m.table memo → AreRight rechecks (declarations_of k) k.table memo
+right-stays rechecks m k memo held g h = record { types = types-stay rechecks m k memo.types held g h.types; products = AreProducts-Grows m k memo.products held g h.products }
+
 -- at first nothing is noted
-pub empty-right : (rechecks : Bool) (ds : List Declaration) (ts : List Tree) (es : List ℕ) → ((t r : LpId) → IsNoted es t r → ⊥) → AreRight rechecks ds ts es
-empty-right rechecks ds ts es h = record { each = λ t r i. absurd (h t r i) }
+pub empty-products : (ds : List Declaration) (ts : List Tree) (es : List ℕ) → IsEmpty es → AreProducts ds ts es
+empty-products ds ts es h = record { each = λ t r i. absurd (h t r i) }
+
+pub empty-right : (rechecks : Bool) (ds : List Declaration) (ts : List Tree) (memo : Memos) → IsEmpty memo.types → IsEmpty memo.products → AreRight rechecks ds ts memo
+empty-right rechecks ds ts memo h k = record { types = record { each = λ t r i. absurd (h t r i) }; products = empty-products ds ts memo.products k }
 
 -- what is true at each turn of the loop
-pub record IsNoting (rechecks : Bool) (from m : Module) (id : LpId) (all here : ℕ) (ws : List Waiting) (s : State) (n : Next) (es : List ℕ) : Type 0 where
+pub record IsNoting (rechecks : Bool) (from m : Module) (id : LpId) (all here : ℕ) (ws : List Waiting) (s : State) (n : Next) (es : Memos) : Type 0 where
   pub grows : Grows from m
   pub held : IsHeld m
   pub less : here ≤ all
@@ -120,22 +130,22 @@ pub record IsNoting (rechecks : Bool) (from m : Module) (id : LpId) (all here : 
   pub waiting : AreWaiting rechecks m (typing [] (tree_at from.table id.0)) all ws question start
   pub right : AreRight rechecks (declarations_of m) m.table es
 
-pub start-noting : (rechecks : Bool) (m : Module) (id : LpId) (all : ℕ) (ws : List Waiting) (s : State) (es : List ℕ) → IsHeld m → id.0 < length m.table → AreRight rechecks (declarations_of m) m.table es → s.context ≡ [] → s.frames ≡ [] → ws ≡ []
+pub start-noting : (rechecks : Bool) (m : Module) (id : LpId) (all : ℕ) (ws : List Waiting) (s : State) (es : Memos) → IsHeld m → id.0 < length m.table → AreRight rechecks (declarations_of m) m.table es → s.context ≡ [] → s.frames ≡ [] → AreLifts m.table s.lifts → ws ≡ []
     → IsNoting rechecks m m id all all ws s (next.Ask id) es
-start-noting rechecks m id all ws s es held known right e f w = record {
+start-noting rechecks m id all ws s es held known right e f lifts w = record {
   grows = Grows-refl m;
   held = held;
   less = omega arith;
   question = typing [] (tree_at m.table id.0);
   start = all;
-  level = start-level rechecks m id all s known e f;
+  level = start-level rechecks m id all s known e f lifts;
   waiting = subst (λ l. AreWaiting rechecks m (typing [] (tree_at m.table id.0)) all l (typing [] (tree_at m.table id.0)) all) (sym w) (refl, refl);
   right = right;
 }
 
 module _ (rechecks : Bool) (from m : Module) (id : LpId) (all here : ℕ) (ws : List Waiting) (s : State) where
   -- a turn of the question that is asked
-  pub noting-turn : (k : Module) (there : ℕ) (t : State) (n o : Next) (es : List ℕ) → IsNoting rechecks from m id all here ws s n es → (n ≡ next.Over → ⊥) → Grows m k → IsKnownState k.table t → IsKnownNext k.table o → there ≤ here
+  pub noting-turn : (k : Module) (there : ℕ) (t : State) (n o : Next) (es : Memos) → IsNoting rechecks from m id all here ws s n es → (n ≡ next.Over → ⊥) → Grows m k → IsKnownState k.table t → IsKnownNext k.table o → there ≤ here
       → IsTurned rechecks k (pending rechecks (declarations_of k) k.table s n) here there t o → IsNoting rechecks from k id all there ws t o es
   noting-turn k there t n o es l not g ht ho le b = record {
     grows = Grows-trans l.grows g;
@@ -149,22 +159,32 @@ module _ (rechecks : Bool) (from m : Module) (id : LpId) (all here : ℕ) (ws : 
   }
 
   -- a turn that goes on with a type that was found
-  pub noting-told : (k : Module) (there : ℕ) (t : State) (found : LpId) (o : Next) (f : Frame) (fs : List Frame) (es : List ℕ) → IsNoting rechecks from m id all here ws s (next.Tell found) es → s.frames ≡ f ∷ fs → Grows m k → IsKnownState k.table t
-      → IsKnownNext k.table o → there ≤ here → IsTurned rechecks k (resume rechecks (declarations_of k) k.table s.context (f ∷ fs) (tree_at k.table found.0)) here there t o → IsNoting rechecks from k id all there ws t o es
-  noting-told k there t found o f fs es l e g ht ho le b =
-      noting-turn k there t (next.Tell found) o es l (λ q. cc) g ht ho le
-      (subst (λ l. IsTurned rechecks k (resume rechecks (declarations_of k) k.table s.context l (tree_at k.table found.0)) here there t o) (sym e) b)
+  pub noting-told : (k : Module) (there : ℕ) (t : State) (found : LpId) (o : Next) (f : Frame) (fs : List Frame) (es : Memos) → IsNoting rechecks from m id all here ws s (next.Tell found) es → s.frames ≡ f ∷ fs → Grows m k → IsKnownState k.table t
+      → IsKnownNext k.table o → there ≤ here → IsTurned rechecks k (resume rechecks (declarations_of k) k.table s.context (f ∷ fs) (tree_at k.table found.0)) here there t o → (ps : List ℕ) → AreProducts (declarations_of k) k.table ps
+      → IsNoting rechecks from k id all there ws t o (record { types = es.types; products = ps })
+  noting-told k there t found o f fs es l e g ht ho le b ps products =
+      let turn = noting-turn k there t (next.Tell found) o es l (λ q. cc) g ht ho le (subst (λ l. IsTurned rechecks k (resume rechecks (declarations_of k) k.table s.context l (tree_at k.table found.0)) here there t o) (sym e) b) in
+      record {
+        grows = turn.grows;
+        held = turn.held;
+        less = turn.less;
+        question = turn.question;
+        start = turn.start;
+        level = turn.level;
+        waiting = turn.waiting;
+        right = record { types = turn.right.types; products = products };
+      }
 
   -- a turn that asks for a closed tree by itself
-  pub noting-closed : (tree : LpId) (inner : State) (all-waiting : List Waiting) (es : List ℕ) → IsNoting rechecks from m id all here ws s (next.Ask tree) es → loose (tree_at m.table tree.0) ≡ 0 → inner.context ≡ [] → inner.frames ≡ []
+  pub noting-closed : (tree : LpId) (inner : State) (all-waiting : List Waiting) (es : Memos) → IsNoting rechecks from m id all here ws s (next.Ask tree) es → loose (tree_at m.table tree.0) ≡ 0 → inner.context ≡ [] → inner.frames ≡ [] → AreLifts m.table inner.lifts
       → all-waiting ≡ record { id = tree; state = s } ∷ ws → IsNoting rechecks from m id all here all-waiting inner (next.Ask tree) es
-  noting-closed tree inner all-waiting es l closed e f w = record {
+  noting-closed tree inner all-waiting es l closed e f lifts w = record {
     grows = l.grows;
     held = l.held;
     less = l.less;
     question = typing [] (tree_at m.table tree.0);
     start = here;
-    level = start-level rechecks m tree here inner l.level.next e f;
+    level = start-level rechecks m tree here inner l.level.next e f lifts;
     waiting = subst (λ l. AreWaiting rechecks m (typing [] (tree_at from.table id.0)) all l (typing [] (tree_at m.table tree.0)) here) (sym w) (l.question, l.start, l.level, closed, refl, l.waiting);
     right = l.right;
   }
@@ -174,7 +194,7 @@ module _ (rechecks : Bool) (from m : Module) (id : LpId) (all here : ℕ) (ws : 
   are-closed g held a = subst IsClosed (sym (declarations_of-Grows from m g held)) (IsModule-IsSelfContained (declarations_of from) a).closed
 
   -- a type that is remembered
-  pub noting-found : IsHeld from → IsModule (declarations_of from) → (tree r : LpId) (there : ℕ) (o : Next) (es : List ℕ) → IsNoting rechecks from m id all here ws s (next.Ask tree) es → IsNoted es tree r → IsTakenUp r here there o
+  pub noting-found : IsHeld from → IsModule (declarations_of from) → (tree r : LpId) (there : ℕ) (o : Next) (es : Memos) → IsNoting rechecks from m id all here ws s (next.Ask tree) es → IsNoted es.types tree r → IsTakenUp r here there o
       → IsNoting rechecks from m id all there ws s o es
   noting-found held a tree r there o es l i = go o
     where
@@ -185,7 +205,7 @@ module _ (rechecks : Bool) (from m : Module) (id : LpId) (all here : ℕ) (ws : 
       rest = resume rechecks (declarations_of m) m.table s.context s.frames
 
       fact : IsTypeOfClosed rechecks (declarations_of m) m.table tree r
-      fact = l.right.each tree r i
+      fact = l.right.types.each tree r i
 
       ends : Ends (declarations_of m) rechecks (typing (trees_at m.table s.context) T) (Found (tree_at m.table r.0)) fact.answered.price
       ends = typing-anywhere rechecks (declarations_of m) (are-closed l.grows held a) [] (trees_at m.table s.context) T fact.closed fact.answered.ends
@@ -206,8 +226,8 @@ module _ (rechecks : Bool) (from m : Module) (id : LpId) (all here : ℕ) (ws : 
       go next.No h = absurd h
 
   -- the type of a closed tree that was asked for by itself: it is noted, and what waits for it goes on
-  pub noting-end : IsHeld from → IsModule (declarations_of from) → (found : LpId) (w : Waiting) (rest : List Waiting) (es fs : List ℕ) → IsNoting rechecks from m id all here ws s (next.Tell found) es → s.frames ≡ [] → ws ≡ w ∷ rest
-      → ((t r : LpId) → IsNoted fs t r → IsNoted es t r ⊎ ((t ≡ w.id) × (r ≡ found))) → IsNoting rechecks from m id all here rest w.state (next.Tell found) fs
+  pub noting-end : IsHeld from → IsModule (declarations_of from) → (found : LpId) (w : Waiting) (rest : List Waiting) (es : Memos) (fs : List ℕ) → IsNoting rechecks from m id all here ws s (next.Tell found) es → s.frames ≡ [] → ws ≡ w ∷ rest
+      → ((t r : LpId) → IsNoted fs t r → IsNoted es.types t r ⊎ ((t ≡ w.id) × (r ≡ found))) → IsNoting rechecks from m id all here rest w.state (next.Tell found) (record { types = fs; products = es.products })
   noting-end held a found w rest es fs l none e noted = record {
     grows = l.grows;
     held = l.held;
@@ -216,7 +236,7 @@ module _ (rechecks : Bool) (from m : Module) (id : LpId) (all here : ℕ) (ws : 
     start = h.1;
     level = record { state = h.2.state; next = l.level.next; less = omega (arith, h.2.less, l.level.less); turned = goes-on };
     waiting = h.5;
-    right = record { each = λ t r i. ⊎_elim (λ old. l.right.each t r old) (λ new. subst (λ x. IsTypeOfClosed rechecks ds m.table x r) (sym new.0) (subst (λ y. IsTypeOfClosed rechecks ds m.table w.id y) (sym new.1) fact)) (noted t r i) };
+    right = record { types = record { each = λ t r i. ⊎_elim (λ old. l.right.types.each t r old) (λ new. subst (λ x. IsTypeOfClosed rechecks ds m.table x r) (sym new.0) (subst (λ y. IsTypeOfClosed rechecks ds m.table w.id y) (sym new.1) fact)) (noted t r i) }; products = l.right.products };
   }
     where
       ds : List Declaration
@@ -250,7 +270,7 @@ module _ (rechecks : Bool) (from m : Module) (id : LpId) (all here : ℕ) (ws : 
           (typing-anywhere rechecks ds (are-closed l.grows held a) [] (trees_at m.table w.state.context) T h.3 ends) le))
 
   -- the end of the loop
-  pub noting-last : IsHeld from → (found : LpId) (es : List ℕ) → IsNoting rechecks from m id all here ws s (next.Tell found) es → s.frames ≡ [] → ws ≡ [] → IsInferred rechecks from [] id m.table all here (inferred.Found found)
+  pub noting-last : IsHeld from → (found : LpId) (es : Memos) → IsNoting rechecks from m id all here ws s (next.Tell found) es → s.frames ≡ [] → ws ≡ [] → IsInferred rechecks from [] id m.table all here (inferred.Found found)
   noting-last held found es l none e =
       let h = subst (λ x. AreWaiting rechecks m (typing [] (tree_at from.table id.0)) all x l.question l.start) e l.waiting in
       let left = subst (λ x. Leaves (declarations_of m) rechecks l.question (l.start - here) (resume rechecks (declarations_of m) m.table s.context x (tree_at m.table found.0))) none l.level.turned in
@@ -261,7 +281,7 @@ module _ (rechecks : Bool) (from m : Module) (id : LpId) (all here : ℕ) (ws : 
         within = omega (arith, up.2, h.1);
       }
 
-  pub noting-no : IsHeld from → IsModule (declarations_of from) → (es : List ℕ) → IsNoting rechecks from m id all here ws s next.No es → IsInferred rechecks from [] id m.table all here inferred.No
+  pub noting-no : IsHeld from → IsModule (declarations_of from) → (es : Memos) → IsNoting rechecks from m id all here ws s next.No es → IsInferred rechecks from [] id m.table all here inferred.No
   noting-no held a es l =
       let up = l.level.turned.up No 0 said in
       let k = below ws l.question l.start up.0 l.waiting l.level.less up.1 (omega (arith, up.2)) in
@@ -280,7 +300,7 @@ module _ (rechecks : Bool) (from m : Module) (id : LpId) (all here : ℕ) (ws : 
           let c = h.2.turned.up No b.0 b.1 in
           below ws h.0 h.1 c.0 h.5 (omega (arith, lt, h.2.less)) c.1 (omega (arith, b.2, c.2, lt, h.2.less))
 
-  pub noting-over : IsHeld from → IsModule (declarations_of from) → (es : List ℕ) → IsNoting rechecks from m id all here ws s next.Over es → IsInferred rechecks from [] id m.table all here inferred.Over
+  pub noting-over : IsHeld from → IsModule (declarations_of from) → (es : Memos) → IsNoting rechecks from m id all here ws s next.Over es → IsInferred rechecks from [] id m.table all here inferred.Over
   noting-over held a es l = subst (λ ds. IsOver ds rechecks (typing [] (tree_at from.table id.0)) all) (declarations_of-Grows from m l.grows held) (below ws l.question l.start l.waiting l.level.turned)
     where
       ds : List Declaration

@@ -4,8 +4,10 @@ pub mod Expected
 pub mod Filled
 pub mod Judged
 pub mod Levels
+pub mod LiftedLaws
 pub mod Looped
 pub mod NotedLaws
+pub mod Raised
 pub mod Reached
 pub mod Sound
 pub mod Gathered

@@ -1,5 +1,5 @@
 -- The walk of head steps to a product.
-use Rattle.std.proofs.Common.{◌≡◌, refl, sym, ap, ◌∙◌, subst, ℕ, ◌+◌, ◌-◌, ◌<◌, ◌≤◌, arith, Bool, true, length, List, Option, Some, None}
+use Rattle.std.proofs.Common.{◌≡◌, refl, sym, ap, ◌∙◌, subst, ℕ, ◌+◌, ◌-◌, ◌<◌, ◌≤◌, arith, Bool, true, length, List, Option, Some, None, ◌⊎◌, ⊎_elim}
 use Rattle.std.proofs.Math.Path.{fun_ext}
 use Rattle.lp_spec.specs.Trees.{Tree, SortType, SortKind, Var, Sym, App, Lam, Pi}
 use Rattle.lp_spec.specs.Modules.{Declaration}
@@ -7,16 +7,18 @@ use Rattle.lp_term.specs.declared.LpId.{LpId}
 use Rattle.lp_term.specs.declared.LpNode.{LpNode}
 use Rattle.lp_term.specs.declared.LpNode.TheVariants as node
 use Rattle.lp_term.specs.Tables.{tree_at, tree_of_node, Holds}
-use Rattle.lp_term.specs.TableLaws.{Holds-tree_at, Keeps-refl}
+use Rattle.lp_term.specs.TableLaws.{Holds-tree_at, tree_at-Stays, Keeps-refl}
 use Rattle.holide_sig.specs.declared.module.Module.{Module}
 use Rattle.holide_sig.specs.Modules.{declarations_of, IsHeld}
 use Rattle.lp_shape.specs.HeadSteps.{head_step}
 use Rattle.lp_shape.specs.Check.{Reach, Reply, Found, No, Plan, Say, Ask, if_step, reach, Ends, said, refused, asked}
+use Rattle.lp_shape.specs.CheckLaws.{one_reply}
 use Rattle.lp_shape.specs.PlanLaws.{and_then, Leaves, leaves_all, leaves_equal, leaves_then, leaves_fewer, leaves_ask, over_leaves}
 use Rattle.lp_kernel.specs.declared.inference.Inferred.TheVariants as inferred
 use Rattle.lp_conv.specs.Answers.{Answered, IsOver}
 use Rattle.lp_conv.specs.Growth.{Grows}
-use Rattle.lp_kernel.specs.Inference.{IsFound}
+use Rattle.lp_kernel.specs.Inference.{IsFound, IsProduct}
+use Rattle.lp_kernel.specs.Noted.{IsNoted, IsProductOf, AreProducts}
 use Rattle.lp_conv.specs.GrowthLaws.{Grows-trans, IsHeld-Grows, declarations_of-Grows}
 
 -- to go on with what is found is the plan itself
@@ -138,3 +140,45 @@ reached-answered rechecks ds F reply spent h = record { price = h.price; ends = 
 
 pub reached-over : (rechecks : Bool) (ds : List Declaration) (F : Tree) (budget : ℕ) → IsOver ds true (reach ds F) budget → IsOver ds rechecks (reach ds F) budget
 reached-over rechecks ds F budget h = λ reply n k. h reply n (reach-Ends ds rechecks true F reply n k)
+
+-- a product that is remembered is what is reached, at one step
+pub IsProductOf-IsProduct : (m : Module) (id found : LpId) (old new : ℕ) → old - new ≤ 1 → IsProductOf (declarations_of m) m.table id found → IsProduct m id m old new (inferred.Found found)
+IsProductOf-IsProduct m id found old new le p = record { price = p.answered.price; ends = p.answered.ends; within = omega (arith, le, p.answered.within) }
+
+-- and it is not reached where nothing is left
+pub IsProductOf-IsOver : (m : Module) (id found : LpId) (left : ℕ) → left ≡ 0 → IsProductOf (declarations_of m) m.table id found → IsOver (declarations_of m) true (reach (declarations_of m) (tree_at m.table id.0)) left
+IsProductOf-IsOver m id found left none p = λ reply n e. omega (arith, none, (one_reply (declarations_of m) true p.answered.ends e).1, p.answered.within)
+
+-- the products that are noted stay right where the module has grown
+pub AreProducts-Grows : (m k : Module) (types : List ℕ) → IsHeld m → Grows m k → AreProducts (declarations_of m) m.table types → AreProducts (declarations_of k) k.table types
+AreProducts-Grows m k types held g h = record { each = each }
+  where
+    each : (id found : LpId) → IsNoted types id found → IsProductOf (declarations_of k) k.table id found
+    each id found i =
+        let p = h.each id found i in
+        let e = tree_at-Stays g.keeps.stays id.0 p.known in
+        let f = tree_at-Stays g.keeps.stays found.0 p.found_known in
+        record {
+          known = omega (arith, p.known, g.keeps.longer);
+          found_known = omega (arith, p.found_known, g.keeps.longer);
+          answered = subst (λ ds. Answered ds true (reach ds (tree_at k.table id.0)) (Found (tree_at k.table found.0)) 1) (sym (declarations_of-Grows m k g held))
+              (subst (λ t. Answered (declarations_of m) true (reach (declarations_of m) t) (Found (tree_at k.table found.0)) 1) e
+              (subst (λ u. Answered (declarations_of m) true (reach (declarations_of m) (tree_at m.table id.0)) (Found u) 1) f p.answered));
+        }
+
+-- and with one more that was reached, by a step at least
+pub AreProducts-noted : (m k : Module) (types more : List ℕ) (id found : LpId) (all here : ℕ) → IsHeld m → Grows m k → AreProducts (declarations_of m) m.table types → id.0 < length m.table → found.0 < length k.table → here < all → IsProduct m id k all here (inferred.Found found)
+    → ((t r : LpId) → IsNoted more t r → IsNoted types t r ⊎ ((t ≡ id) × (r ≡ found))) → AreProducts (declarations_of k) k.table more
+AreProducts-noted m k types more id found all here held g h known found_known less p noted = record {
+  each = λ t r i. ⊎_elim (λ old. (AreProducts-Grows m k types held g h).each t r old) (λ new. subst (λ x. IsProductOf ds k.table x r) (sym new.0) (subst (λ y. IsProductOf ds k.table id y) (sym new.1) fact)) (noted t r i);
+}
+  where
+    ds : List Declaration
+    ds = declarations_of k
+
+    fact : IsProductOf ds k.table id found
+    fact = record {
+      known = omega (arith, known, g.keeps.longer);
+      found_known = found_known;
+      answered = subst (λ t. Answered ds true (reach ds t) (Found (tree_at k.table found.0)) 1) (tree_at-Stays g.keeps.stays id.0 known) (record { price = p.price; ends = p.ends; within = omega (arith, p.within, less) });
+    }

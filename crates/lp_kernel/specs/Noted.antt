@@ -1,15 +1,16 @@
 -- The entries of a memo of closed trees, and what they say.
-use Rattle.std.specs.Prelude.{◌≡◌, ℕ, suc, ◌<◌, ◌+◌, Bool, List, [], Some, length, slice_get}
+use Rattle.std.specs.Prelude.{◌≡◌, ℕ, suc, ◌<◌, ◌+◌, Bool, true, List, [], Some, length, slice_get}
 use Rattle.lp_spec.specs.Trees.{Tree, loose}
 use Rattle.lp_spec.specs.Modules.{Declaration}
 use Rattle.lp_term.specs.declared.LpId.{LpId}
 use Rattle.lp_term.specs.Tables.{tree_at}
 use Rattle.holide_sig.specs.declared.module.Module.{Module}
 use Rattle.holide_sig.specs.Modules.{declarations_of}
-use Rattle.lp_shape.specs.Check.{Found}
+use Rattle.lp_shape.specs.Check.{Found, reach}
 use Rattle.lp_conv.specs.Growth.{Grows}
 use Rattle.lp_conv.specs.Answers.{Answered}
 use Rattle.lp_kernel.specs.Inference.{typing}
+use Rattle.lp_kernel.specs.declared.memo.Memos.{Memos}
 use Rattle.lp_kernel.specs.declared.state.Next.{Next}
 use Rattle.lp_kernel.specs.declared.state.Next.TheVariants as next
 use Rattle.lp_kernel.specs.declared.noting.Recall.{Recall}
@@ -18,6 +19,14 @@ use Rattle.lp_kernel.specs.declared.noting.Recall.TheVariants as recall
 -- the list has the number of the tree's type, and one more, at the tree's number
 abbrev pub IsNoted : List ℕ → LpId → LpId → Type 0
 IsNoted types id found = slice_get types id.0 ≡ Some (suc found.0)
+
+-- nothing is noted
+abbrev pub IsEmpty : List ℕ → Type 0
+IsEmpty types = (t r : LpId) → IsNoted types t r → ⊥
+
+-- what is noted was noted before, and has numbers below len
+abbrev pub IsCutOff : List ℕ → List ℕ → ℕ → Type 0
+IsCutOff old new len = (t r : LpId) → IsNoted new t r → IsNoted old t r × (t.0 < len) × (r.0 < len)
 
 -- a list keeps its items, and what came behind them is 0
 pub record IsLonger (old new : List ℕ) : Type 0 where
@@ -38,13 +47,28 @@ pub record IsTypeOfClosed (rechecks : Bool) (ds : List Declaration) (ts : List T
   pub answered : Answered ds rechecks (typing [] (tree_at ts id.0)) (Found (tree_at ts found.0)) 1
 
 -- every type that is noted is right
-pub record AreRight (rechecks : Bool) (ds : List Declaration) (ts : List Tree) (types : List ℕ) : Type 0 where
+pub record AreTypes (rechecks : Bool) (ds : List Declaration) (ts : List Tree) (types : List ℕ) : Type 0 where
   pub each : (id found : LpId) → IsNoted types id found → IsTypeOfClosed rechecks ds ts id found
 
+-- head steps go from the type to this product, a step at least
+pub record IsProductOf (ds : List Declaration) (ts : List Tree) (id found : LpId) : Type 0 where
+  pub known : id.0 < length ts
+  pub found_known : found.0 < length ts
+  pub answered : Answered ds true (reach ds (tree_at ts id.0)) (Found (tree_at ts found.0)) 1
+
+-- every product that is noted is right
+pub record AreProducts (ds : List Declaration) (ts : List Tree) (types : List ℕ) : Type 0 where
+  pub each : (id found : LpId) → IsNoted types id found → IsProductOf ds ts id found
+
+-- all that is noted is right
+pub record AreRight (rechecks : Bool) (ds : List Declaration) (ts : List Tree) (memo : Memos) : Type 0 where
+  pub types : AreTypes rechecks ds ts memo.types
+  pub products : AreProducts ds ts memo.products
+
 -- a module that has grown from another, and what is noted over it is right
-pub record IsCutBack (rechecks : Bool) (from m : Module) (types : List ℕ) : Type 0 where
+pub record IsCutBack (rechecks : Bool) (from m : Module) (memo : Memos) : Type 0 where
   pub grows : Grows from m
-  pub right : AreRight rechecks (declarations_of m) m.table types
+  pub right : AreRight rechecks (declarations_of m) m.table memo
 
 -- what is remembered of a tree: the type that is noted of it; or it is closed, and none is; or nothing is known of it
 abbrev pub IsRecalled : List Tree → List ℕ → LpId → Recall → Type 0

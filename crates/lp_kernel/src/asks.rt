@@ -4,9 +4,12 @@ ghost use Rattle.lp_spec.specs.Trees.{SortKind};
 ghost use Rattle.lp_term.specs.Tables.{AreKnown};
 ghost use Rattle.holide_sig.specs.Modules.{IsHeld};
 ghost use Rattle.lp_conv.specs.Growth.{Grows};
+ghost use Rattle.lp_kernel.specs.Lifted.{AreLifts};
 ghost use Rattle.lp_kernel.specs.Pending.{IsKnownState, IsKnownNext, IsAsked, IsFoundIf, variable_type, variable_plan, IsFewerAsked};
 
 use crate::context::Context;
+use crate::lifts::{Lift, Lifts};
+use crate::raising::raised;
 use crate::state::{Frame, Next, State};
 use bridge_base::{Budget, Memory};
 use holide_sig::{Module, SIGNATURE};
@@ -46,7 +49,7 @@ pub(crate) fn ask(
             Ok(Next::Ask(a))
         }
         LpNode::Sym(s) => Ok(symbol(base, s)),
-        LpNode::Var(n) => variable(base, &state.context, n),
+        LpNode::Var(n) => variable(base, &state.context, &mut state.lifts, n),
         LpNode::SortType => kind(base),
         LpNode::SortKind => Ok(Next::No),
     }
@@ -64,12 +67,19 @@ fn kind(base: &mut Module) -> Result<Next, Memory>
 }
 
 // The type of a variable.
-fn variable(base: &mut Module, context: &Context, n: u128) -> Result<Next, Memory>
+fn variable(
+    base: &mut Module,
+    context: &Context,
+    lifts: &mut Lifts,
+    n: u128,
+) -> Result<Next, Memory>
     requires held { IsHeld base.old }
     requires known { AreKnown base.old.table context.now }
+    requires lifts { AreLifts base.old.table lifts.old }
     ensures grows { Grows base.old base.new }
     ensures known { IfOk result (IsKnownNext base.new.table) }
     ensures is { IfOk result (IsFoundIf base.new.table (variable_type base.new.table context.now n)) }
+    ensures lifts { IfOk result (λ n. AreLifts base.new.table lifts.new) }
 {
     let Some(entry) = context.get(n) else {
         return Ok(Next::No);
@@ -77,7 +87,17 @@ fn variable(base: &mut Module, context: &Context, n: u128) -> Result<Next, Memor
     let Some(k) = n.checked_add(1) else {
         return Err(Memory);
     };
-    let lifted = base.table.lift(k, entry)?;
+    let place = context.place(n);
+    if let Some(lifted) = lifts.find(place, entry, k) {
+        return Ok(Next::Tell(lifted));
+    }
+    let lifted = raised(base, entry, k)?;
+    let lift = Lift {
+        entry,
+        by: k,
+        lifted,
+    };
+    lifts.keep(place, lift)?;
     Ok(Next::Tell(lifted))
 }
 

@@ -13,7 +13,7 @@ ghost use Rattle.lp_kernel.specs.Noted.{AreRight, IsCutBack};
 ghost use Rattle.lp_kernel.specs.Checks.{IsBodyChecked, IsChecked, IsTypedAt, IsJudged, PassWithin, IsRefusedWithin};
 
 use crate::inference::Inferred;
-use crate::memo::Memo;
+use crate::memo::Memos;
 use crate::noting::infer_noted;
 use bridge_base::{Budget, Memory};
 use holide_sig::Module;
@@ -48,7 +48,7 @@ pub fn check_decl(
     ensures answered { IfOk result (IsChecked true (declarations_of base.old) i budget.old.left budget.new.left) }
     ensures sound { IfOk result (λ a. a ≡ answer.Yes → IsTypedAt (declarations_of base.old) i) }
 {
-    let mut memo = Memo::new(alloc);
+    let mut memo = Memos::new(alloc);
     check_noted(alloc, base, true, &mut memo, i, budget)
 }
 
@@ -57,7 +57,7 @@ fn check_noted(
     alloc: Global,
     base: &mut Module,
     rechecks: bool,
-    memo: &mut Memo,
+    memo: &mut Memos,
     i: usize,
     budget: &mut Budget,
 ) -> Result<Answer, Memory>
@@ -88,7 +88,7 @@ fn check_body(
     alloc: Global,
     base: &mut Module,
     rechecks: bool,
-    memo: &mut Memo,
+    memo: &mut Memos,
     ty: LpId,
     body: Option<LpId>,
     budget: &mut Budget,
@@ -158,7 +158,7 @@ fn check_all(
     ensures refuses { IfOk result (λ v. (i : ℕ) → IsRefusedWithin rechecks (declarations_of base.old) budgets.now i → v ≡ verdict.IllTyped i) }
 {
     let kept = base.table.count();
-    let mut memo = Memo::new(alloc);
+    let mut memo = Memos::new(alloc);
     for (i, budget) in budgets.iter().enumerate() {
         let mut left = Budget { left: *budget };
         match check_noted(alloc, base, rechecks, &mut memo, i, &mut left)? {
@@ -174,7 +174,7 @@ fn check_all(
 const ROOM: usize = 4096;
 
 // Gives up the nodes that the checks made after the first `kept`, where they are many, and what is noted of them.
-fn cut_back(base: &mut Module, memo: &mut Memo, kept: usize)
+fn cut_back(base: &mut Module, memo: &mut Memos, kept: usize)
     requires { kept ≤ length base.old.table }
     ensures { (rechecks : Bool) (from : AModule) → length from.table ≡ kept → IsHeld from → Grows from base.old → AreRight rechecks (declarations_of base.old) base.old.table memo.old → IsCutBack rechecks from base.new memo.new }
 {

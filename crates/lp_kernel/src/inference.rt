@@ -7,6 +7,8 @@ ghost use Rattle.lp_kernel.specs.Inference.{typing, IsInferred, IsKnownType, IsT
 
 use crate::asks::ask;
 use crate::context::Context;
+use crate::lifts::Lifts;
+use crate::memo::Memo;
 use crate::spines::under;
 use crate::state::{Next, State};
 use crate::tells::tell;
@@ -49,7 +51,9 @@ pub fn infer(
     let mut state = State {
         context: Context::of(alloc, ctx)?,
         frames: Stack::new(alloc),
+        lifts: Lifts::new(alloc),
     };
+    let mut products = Memo::new(alloc);
     let mut next = Next::Ask(id);
     loop {
         match next {
@@ -59,7 +63,16 @@ pub fn infer(
             Next::Tell(found) => match state.frames.pop() {
                 None => return Ok(Inferred::Found(found)),
                 Some(frame) => {
-                    next = tell(alloc, base, true, &mut state, frame, found, budget)?;
+                    next = tell(
+                        alloc,
+                        base,
+                        true,
+                        &mut products,
+                        &mut state,
+                        frame,
+                        found,
+                        budget,
+                    )?;
                 }
             },
             Next::Under(b, k, f) => {

@@ -14,7 +14,8 @@
 //!
 //! While a module is checked the types of its closed applications are kept (`memo`, `noting`), each found once, but for those of functions of other applications: so fewer steps than the
 //! price may be taken. The arguments of an application are put into a type where it is looked at, all at once, and where it is another
-//! at hand nothing is made (`spines`). The nodes that the checks make are given up as they go on.
+//! at hand nothing is made (`spines`). The product that a type reaches by head steps is remembered too (`products`), and so is, for each place of a
+//! context, what the type of its variable was lifted to last (`lifts`). The nodes that the checks make are given up as they go on.
 //!
 //! Walks keep a stack of their own, so a deep tree costs memory and nothing else.
 //!
@@ -30,9 +31,11 @@ mod asks;
 mod checks;
 mod context;
 mod inference;
+mod lifts;
 mod memo;
 mod noting;
 mod products;
+mod raising;
 mod spines;
 mod state;
 mod tells;

@@ -1,14 +1,15 @@
-//! The types of closed applications that were found, so that each is found once.
+//! What a check remembers: the types of closed applications, and the products that types reach, so that each is found once.
 ghost use Rattle.std.specs.Prelude.{◌≡◌, suc, ◌<◌, ◌⊎◌, length, IfOk, IfNone, IfSome, OnOk};
 ghost use Rattle.lp_term.specs.declared.LpId.{LpId as AnId};
-ghost use Rattle.lp_kernel.specs.Noted.{IsNoted, IsLonger, IsForgotten};
+ghost use Rattle.lp_kernel.specs.Noted.{IsNoted, IsEmpty, IsCutOff, IsLonger, IsForgotten};
 
 use bridge_base::Memory;
 use lp_term::LpId;
 use std::alloc::Global;
 use std::marker::Model;
 
-/// The types that were found, by the numbers of their trees: a list in place of a table with a hash, so that no module makes it slow.
+/// Types that were found, by the numbers of the trees that they were found for: a list in place of a table with a hash, so that no module
+/// makes it slow.
 #[derive(Drop)]
 pub(crate) struct Memo {
     // One more than the type's number, or 0 where none is noted.
@@ -29,7 +30,7 @@ impl Model for Memo {
 impl Memo {
     /// Nothing is known.
     pub(crate) fn new(alloc: Global) -> Self
-        ensures empty { (t : AnId) (r : AnId) → IsNoted result t r → ⊥ }
+        ensures empty { IsEmpty result }
     {
         Memo {
             types: Vec::new(alloc),
@@ -60,11 +61,42 @@ impl Memo {
 
     /// Forgets each tree and each type with a number of `len` or more.
     pub(crate) fn cut(&mut self, len: usize)
-        ensures lower { (t : AnId) (r : AnId) → IsNoted self.new t r → IsNoted self.old t r × (t.0 < len) × (r.0 < len) }
+        ensures lower { IsCutOff self.old self.new len }
         ensures kept { (t : AnId) (r : AnId) → t.0 < len → r.0 < len → IsNoted self.old t r → IsNoted self.new t r }
     {
         self.types.truncate(len);
         forget(&mut self.types, len);
+    }
+}
+
+/// What a check remembers.
+#[derive(Drop)]
+pub(crate) struct Memos {
+    /// The types of closed trees.
+    pub(crate) types: Memo,
+    /// The products that types reach by head steps.
+    pub(crate) products: Memo,
+}
+
+impl Memos {
+    /// Nothing is known.
+    pub(crate) fn new(alloc: Global) -> Self
+        ensures types { IsEmpty result.types }
+        ensures products { IsEmpty result.products }
+    {
+        Memos {
+            types: Memo::new(alloc),
+            products: Memo::new(alloc),
+        }
+    }
+
+    /// Forgets each tree and each type with a number of `len` or more.
+    pub(crate) fn cut(&mut self, len: usize)
+        ensures types { IsCutOff self.old.types self.new.types len }
+        ensures products { IsCutOff self.old.products self.new.products len }
+    {
+        self.types.cut(len);
+        self.products.cut(len);
     }
 }
 

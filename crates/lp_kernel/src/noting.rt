@@ -1,15 +1,18 @@
 //! The type of a tree in the empty context, by what was found before of the closed trees in it.
-ghost use Rattle.std.specs.Prelude.{◌≡◌, ◌<◌, ◌≤◌, [], IfOk, length};
+ghost use Rattle.std.specs.Prelude.{◌≡◌, ◌<◌, ◌≤◌, [], List, IfOk, length};
+ghost use Rattle.lp_spec.specs.Trees.{Tree};
 ghost use Rattle.lp_spec.specs.ModuleOrder.{IsModule};
 ghost use Rattle.holide_sig.specs.Modules.{declarations_of, IsHeld};
 ghost use Rattle.lp_conv.specs.Growth.{Grows};
 ghost use Rattle.lp_kernel.specs.Inference.{IsInferred, IsKnownType};
+ghost use Rattle.lp_kernel.specs.Lifted.{AreLifts};
 ghost use Rattle.lp_kernel.specs.Noted.{AreRight, IsRecalled, IsTakenUp};
 
 use crate::asks::ask;
 use crate::context::Context;
 use crate::inference::Inferred;
-use crate::memo::Memo;
+use crate::lifts::Lifts;
+use crate::memo::{Memo, Memos};
 use crate::spines::under;
 use crate::state::{Next, State, Waiting};
 use crate::tells::tell;
@@ -36,7 +39,7 @@ pub(crate) fn infer_noted(
     alloc: Global,
     base: &mut Module,
     rechecks: bool,
-    memo: &mut Memo,
+    memo: &mut Memos,
     id: LpId,
     budget: &mut Budget,
 ) -> Result<Inferred, Memory>
@@ -60,7 +63,7 @@ pub(crate) fn infer_noted(
         let at_function = is_function;
         is_function = false;
         match next {
-            Next::Ask(tree) => match look_up(base, memo, tree, at_function) {
+            Next::Ask(tree) => match look_up(base, &memo.types, tree, at_function) {
                 Recall::Found(found) => {
                     next = take_up(found, budget);
                 }
@@ -81,12 +84,21 @@ pub(crate) fn infer_noted(
             },
             Next::Tell(found) => match state.frames.pop() {
                 Some(frame) => {
-                    next = tell(alloc, base, rechecks, &mut state, frame, found, budget)?;
+                    next = tell(
+                        alloc,
+                        base,
+                        rechecks,
+                        &mut memo.products,
+                        &mut state,
+                        frame,
+                        found,
+                        budget,
+                    )?;
                 }
                 None => match outer.pop() {
                     None => return Ok(Inferred::Found(found)),
                     Some(waiting) => {
-                        memo.note(waiting.id, found)?;
+                        memo.types.note(waiting.id, found)?;
                         let ended = std::mem::replace(&mut state, waiting.state);
                         spare.push(ended)?;
                         next = Next::Tell(found);
@@ -106,10 +118,12 @@ pub(crate) fn infer_noted(
 fn fresh(alloc: Global) -> Result<State, Memory>
     ensures context { IfOk result (λ s. s.context ≡ []) }
     ensures frames { IfOk result (λ s. s.frames ≡ []) }
+    ensures lifts { IfOk result (λ s. (ts : List Tree) → AreLifts ts s.lifts) }
 {
     Ok(State {
         context: Context::of(alloc, &[])?,
         frames: Stack::new(alloc),
+        lifts: Lifts::new(alloc),
     })
 }
 
@@ -117,11 +131,13 @@ fn fresh(alloc: Global) -> Result<State, Memory>
 fn emptied(alloc: Global, spare: &mut Stack<State>) -> Result<State, Memory>
     ensures context { IfOk result (λ s. s.context ≡ []) }
     ensures frames { IfOk result (λ s. s.frames ≡ []) }
+    ensures lifts { IfOk result (λ s. (ts : List Tree) → AreLifts ts s.lifts) }
 {
     let Some(mut state) = spare.pop() else {
         return fresh(alloc);
     };
     state.context.clear();
+    state.lifts.clear();
     while let Some(_frame) = state.frames.pop() {}
     Ok(state)
 }

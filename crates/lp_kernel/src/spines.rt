@@ -1,11 +1,12 @@
 //! Types that are to have arguments of an application put in.
-ghost use Rattle.std.specs.Prelude.{ℕ, ◌≡◌, ◌<◌, Bool, IfOk, IfSome, Some, length, reverse, slice_get};
+ghost use Rattle.std.specs.Prelude.{ℕ, ◌≡◌, ◌<◌, Bool, IfOk, IfSome, length};
 ghost use Rattle.std.specs.Bool.{OnTrue};
-ghost use Rattle.lp_spec.specs.Trees.{App, put_all};
+ghost use Rattle.lp_spec.specs.Trees.{Var, App, put_all, put_all_at};
 ghost use Rattle.lp_term.specs.Tables.{tree_at, trees_at, AreKnown};
 ghost use Rattle.holide_sig.specs.Modules.{IsHeld};
 ghost use Rattle.lp_conv.specs.Growth.{Grows};
 ghost use Rattle.lp_kernel.specs.declared.state.Next.TheVariants as next;
+ghost use Rattle.lp_kernel.specs.Made.{IsFilledUnder, StandsFor};
 ghost use Rattle.lp_kernel.specs.Pending.{spine_args, IsFilled, IsLast, IsKnownState, IsKnownNext, IsMade, IsAwaited, IsFewerMade};
 
 use crate::state::{Frame, Next, State};
@@ -17,8 +18,25 @@ use std::alloc::Global;
 // How many levels of a type are gone through to see whether it is one at hand: those of `proof (eq (arr a b) x y)` and one more.
 const DEPTH: u32 = 8;
 
+// How many nodes a type has that is made without a walk, whatever its levels, which are no more. A walk makes what stands in
+// such a tree twice again, too.
+const SMALL: u128 = 128;
+
+const LEVELS: u32 = 128;
+
 // How many arguments of an application are looked through, one after another, for that of a variable.
 const NEAR: u128 = 64;
+
+/// What stands for a variable of a type that is to have arguments put in.
+#[derive(Clone, Copy)]
+pub(crate) enum Stand {
+    /// This argument.
+    Argument(LpId),
+    /// The variable with this number.
+    Variable(u128),
+    /// What is further off than `NEAR` isn't looked for.
+    Far,
+}
 
 /// One turn: where the type is a product and its function is at an argument, asks for the argument's type; else makes the type.
 pub(crate) fn under(
@@ -96,7 +114,12 @@ pub(crate) fn filled(
     if k == 0 {
         return Ok(b);
     }
-    match made(base, b, k, f, DEPTH)? {
+    let levels = if base.table.size(b) < SMALL {
+        LEVELS
+    } else {
+        DEPTH
+    };
+    match made(base, b, 0, k, f, levels)? {
         Some(made) => Ok(made),
         None => filled_by_walk(alloc, base, b, k, f),
     }
@@ -120,53 +143,120 @@ fn filled_by_walk(
     base.table.put_all(&args, b)
 }
 
-// The same, without a walk and its lists, where a type has at most so many levels and no binders.
+// The same under so many binders, without a walk and its lists, where a type has at most so many levels.
 #[cycle(making)]
-fn made(base: &mut Module, b: LpId, k: usize, f: LpId, levels: u32) -> Result<Option<LpId>, Memory>
-    requires b { b.0 < length base.old.table }
-    requires f { f.0 < length base.old.table }
-    ensures grows { Grows base.old base.new }
-    ensures known { IfOk result (λ o. IfSome o (λ r. r.0 < length base.new.table)) }
-    ensures is { IfOk result (λ o. IfSome o (IsFilled base.old.table b k f base.new.table)) }
-{
-    if base.table.is_closed_under(b, 0) {
-        return Ok(Some(b));
-    }
-    match base.table.view(b) {
-        LpNode::Var(n) => Ok(argument(base, k, f, n)),
-        LpNode::App(g, x) => made_of_parts(base, g, x, k, f, levels),
-        _ => Ok(None),
-    }
-}
-
-// The same of the application of two trees.
-#[cycle(making)]
-fn made_of_parts(
+fn made(
     base: &mut Module,
-    g: LpId,
-    x: LpId,
+    b: LpId,
+    depth: u32,
     k: usize,
     f: LpId,
     levels: u32,
 ) -> Result<Option<LpId>, Memory>
-    requires g { g.0 < length base.old.table }
-    requires x { x.0 < length base.old.table }
+    requires b { b.0 < length base.old.table }
     requires f { f.0 < length base.old.table }
     ensures grows { Grows base.old base.new }
     ensures known { IfOk result (λ o. IfSome o (λ r. r.0 < length base.new.table)) }
-    ensures is { IfOk result (λ o. IfSome o (λ r. tree_at base.new.table r.0 ≡ App (put_all (spine_args k (tree_at base.old.table f.0)) (tree_at base.old.table g.0)) (put_all (spine_args k (tree_at base.old.table f.0)) (tree_at base.old.table x.0)))) }
+    ensures is { IfOk result (λ o. IfSome o (IsFilledUnder base.old.table depth b k f base.new.table)) }
+{
+    if base.table.is_closed_under(b, depth as u128) {
+        return Ok(Some(b));
+    }
+    match base.table.view(b) {
+        LpNode::Var(n) => variable_made(base, n, depth, k, f),
+        LpNode::App(g, x) => {
+            let Some((h, y)) = parts_made(base, (g, x), (depth, depth), k, f, levels)? else {
+                return Ok(None);
+            };
+            let whole = base.table.node(LpNode::App(h, y))?;
+            Ok(Some(whole))
+        }
+        LpNode::Lam(a, c) => {
+            let Some(inner) = depth.checked_add(1) else {
+                return Ok(None);
+            };
+            let Some((h, y)) = parts_made(base, (a, c), (depth, inner), k, f, levels)? else {
+                return Ok(None);
+            };
+            let whole = base.table.node(LpNode::Lam(h, y))?;
+            Ok(Some(whole))
+        }
+        LpNode::Pi(a, c) => {
+            let Some(inner) = depth.checked_add(1) else {
+                return Ok(None);
+            };
+            let Some((h, y)) = parts_made(base, (a, c), (depth, inner), k, f, levels)? else {
+                return Ok(None);
+            };
+            let whole = base.table.node(LpNode::Pi(h, y))?;
+            Ok(Some(whole))
+        }
+        _ => Ok(None),
+    }
+}
+
+// The same of the two parts of a tree, each under binders of its own.
+#[cycle(making)]
+fn parts_made(
+    base: &mut Module,
+    parts: (LpId, LpId),
+    depths: (u32, u32),
+    k: usize,
+    f: LpId,
+    levels: u32,
+) -> Result<Option<(LpId, LpId)>, Memory>
+    requires first { parts.0.0 < length base.old.table }
+    requires second { parts.1.0 < length base.old.table }
+    requires f { f.0 < length base.old.table }
+    ensures grows { Grows base.old base.new }
+    ensures known { IfOk result (λ o. IfSome o (λ r. (r.0.0 < length base.new.table) × (r.1.0 < length base.new.table))) }
+    ensures are { IfOk result (λ o. IfSome o (λ r. IsFilledUnder base.old.table depths.0 parts.0 k f base.new.table r.0 × IsFilledUnder base.old.table depths.1 parts.1 k f base.new.table r.1)) }
 {
     let Some(fewer) = levels.checked_sub(1) else {
         return Ok(None);
     };
-    let Some(h) = made(base, g, k, f, fewer)? else {
+    let Some(h) = made(base, parts.0, depths.0, k, f, fewer)? else {
         return Ok(None);
     };
-    let Some(y) = made(base, x, k, f, fewer)? else {
+    let Some(y) = made(base, parts.1, depths.1, k, f, fewer)? else {
         return Ok(None);
     };
-    let whole = base.table.node(LpNode::App(h, y))?;
-    Ok(Some(whole))
+    Ok(Some((h, y)))
+}
+
+// What stands for a variable under so many binders.
+fn variable_made(
+    base: &mut Module,
+    n: u128,
+    depth: u32,
+    k: usize,
+    f: LpId,
+) -> Result<Option<LpId>, Memory>
+    requires f { f.0 < length base.old.table }
+    ensures grows { Grows base.old base.new }
+    ensures known { IfOk result (λ o. IfSome o (λ r. r.0 < length base.new.table)) }
+    ensures is { IfOk result (λ o. IfSome o (λ r. tree_at base.new.table r.0 ≡ put_all_at depth (spine_args k (tree_at base.old.table f.0)) (Var n))) }
+{
+    let Some(outer) = n.checked_sub(depth as u128) else {
+        return Ok(None);
+    };
+    match argument(base, k, f, outer) {
+        Stand::Argument(x) => {
+            if depth == 0 {
+                return Ok(Some(x));
+            }
+            let lifted = base.table.lift(depth as u128, x)?;
+            Ok(Some(lifted))
+        }
+        Stand::Variable(m) => {
+            let Some(number) = m.checked_add(depth as u128) else {
+                return Err(Memory);
+            };
+            let variable = base.table.node(LpNode::Var(number))?;
+            Ok(Some(variable))
+        }
+        Stand::Far => Ok(None),
+    }
 }
 
 /// The same, where it may be a type that is at hand: then nothing is made.
@@ -206,8 +296,9 @@ fn is_filled(base: &Module, b: LpId, k: usize, f: LpId, found: LpId, levels: u32
     }
     match base.table.view(b) {
         LpNode::Var(n) => match argument(base, k, f, n) {
-            Some(x) => x == found,
-            None => false,
+            Stand::Argument(x) => x == found,
+            Stand::Variable(m) => is_variable(base, found, m),
+            Stand::Far => false,
         },
         LpNode::App(g, x) => are_filled(base, g, x, k, f, found, levels),
         _ => false,
@@ -232,28 +323,37 @@ fn are_filled(base: &Module, g: LpId, x: LpId, k: usize, f: LpId, found: LpId, l
     is_filled(base, g, k, f, h, fewer) && is_filled(base, x, k, f, y, fewer)
 }
 
-// The argument that is put for the variable `n`, of so many last ones of an application: the last for 0. Those further off than
-// `NEAR` aren't looked for.
-fn argument(base: &Module, k: usize, f: LpId, n: u128) -> Option<LpId>
+// Whether a tree is the variable with this number.
+fn is_variable(base: &Module, id: LpId, n: u128) -> bool
+    requires { id.0 < length base.now.table }
+    ensures { OnTrue result (tree_at base.now.table id.0 ≡ Var n) }
+{
+    match base.table.view(id) {
+        LpNode::Var(m) => m == n,
+        _ => false,
+    }
+}
+
+// What is put for the variable `n`, where so many last arguments of an application are put in: the last for 0.
+fn argument(base: &Module, k: usize, f: LpId, n: u128) -> Stand
     requires f { f.0 < length base.now.table }
-    ensures known { IfSome result (λ x. x.0 < length base.now.table) }
-    ensures is { IfSome result (λ x. slice_get (reverse (spine_args k (tree_at base.now.table f.0))) n ≡ Some (tree_at base.now.table x.0)) }
+    ensures { StandsFor base.now.table k f n result }
 {
     if n >= NEAR {
-        return None;
+        return Stand::Far;
     }
     let mut at = f;
     let mut left = k;
     let mut number = n;
     while let Some((function, x)) = last(base, left, at) {
         if number == 0 {
-            return Some(x);
+            return Stand::Argument(x);
         }
         at = function;
         left -= 1;
         number -= 1;
     }
-    None
+    Stand::Variable(number)
 }
 
 // So many last arguments of an application.

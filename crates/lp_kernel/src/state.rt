@@ -1,5 +1,6 @@
 //! What is pending while a type is inferred.
 use crate::context::Context;
+use crate::lifts::Lifts;
 use bridge_base::Stack;
 use lp_term::LpId;
 
@@ -42,6 +43,7 @@ pub enum Next {
 pub struct State {
     pub(crate) context: Context,
     pub(crate) frames: Stack<Frame>,
+    pub(crate) lifts: Lifts,
 }
 
 /// A closed tree whose type is asked for by itself, and what goes on with it.

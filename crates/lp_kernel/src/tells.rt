@@ -1,12 +1,14 @@
 //! Turns that go on with a type that was found.
 ghost use Rattle.std.specs.Prelude.{ℕ, Bool, ◌<◌, ◌≤◌, IfOk, length};
-ghost use Rattle.holide_sig.specs.Modules.{IsHeld};
+ghost use Rattle.holide_sig.specs.Modules.{declarations_of, IsHeld};
 ghost use Rattle.lp_conv.specs.Growth.{Grows};
 ghost use Rattle.lp_kernel.specs.declared.state.Frame.TheVariants as frame;
 ghost use Rattle.lp_kernel.specs.Pending.{IsKnownState, IsKnownNext, IsKnownFrame, IsApplication, IsTold, IsApplied, IsConverted, IsFewer};
+ghost use Rattle.lp_kernel.specs.Noted.{AreProducts};
 
 use crate::inference::Inferred;
-use crate::products::reach;
+use crate::memo::Memo;
+use crate::products::reach_noted;
 use crate::spines::filled_as;
 use crate::state::{Frame, Next, State};
 use bridge_base::{Budget, Memory};
@@ -20,6 +22,7 @@ pub(crate) fn tell(
     alloc: Global,
     base: &mut Module,
     rechecks: bool,
+    products: &mut Memo,
     state: &mut State,
     frame: Frame,
     found: LpId,
@@ -29,16 +32,18 @@ pub(crate) fn tell(
     requires known { IsKnownState base.old.table state.old }
     requires frame { IsKnownFrame base.old.table frame }
     requires found { found.0 < length base.old.table }
+    requires products { AreProducts (declarations_of base.old) base.old.table products.old }
     ensures grows { Grows base.old base.new }
     ensures known { IfOk result (λ n. IsKnownState base.new.table state.new) }
     ensures next { IfOk result (IsKnownNext base.new.table) }
     ensures less { budget.new.left ≤ budget.old.left }
     ensures turned { IfOk result (IsTold rechecks base.new frame state.old found budget.old.left budget.new.left state.new) }
     ensures fewer { IfOk result (IsFewer state.old budget.old.left budget.new.left state.new) }
+    ensures products { IfOk result (λ n. AreProducts (declarations_of base.new) base.new.table products.new) }
 {
     match frame {
         Frame::Function(f, x, w) => tell_function(
-            alloc, base, rechecks, state, f, x, w, found, budget,
+            alloc, base, rechecks, products, state, f, x, w, found, budget,
         ),
         Frame::Reached(p, f, x, w) => tell_reached(base, state, p, f, x, w, found),
         Frame::Argument(a, b, k, f, w) => tell_argument(
@@ -59,6 +64,7 @@ fn tell_function(
     alloc: Global,
     base: &mut Module,
     rechecks: bool,
+    products: &mut Memo,
     state: &mut State,
     f: LpId,
     x: LpId,
@@ -70,18 +76,20 @@ fn tell_function(
     requires known { IsKnownState base.old.table state.old }
     requires frame { IsKnownFrame base.old.table (frame.Function f x w) }
     requires found { found.0 < length base.old.table }
+    requires products { AreProducts (declarations_of base.old) base.old.table products.old }
     ensures grows { Grows base.old base.new }
     ensures known { IfOk result (λ n. IsKnownState base.new.table state.new) }
     ensures next { IfOk result (IsKnownNext base.new.table) }
     ensures less { budget.new.left ≤ budget.old.left }
     ensures turned { IfOk result (IsTold rechecks base.new (frame.Function f x w) state.old found budget.old.left budget.new.left state.new) }
     ensures fewer { IfOk result (IsFewer state.old budget.old.left budget.new.left state.new) }
+    ensures products { IfOk result (λ n. AreProducts (declarations_of base.new) base.new.table products.new) }
 {
     if let LpNode::Pi(a, b) = base.table.view(found) {
         state.frames.push(Frame::Argument(a, b, 0, f, w))?;
         return Ok(Next::Ask(x));
     }
-    match reach(alloc, base, found, budget)? {
+    match reach_noted(alloc, base, products, found, budget)? {
         Inferred::Found(product) => {
             if !rechecks {
                 return to_argument(base, state, product, f, x, w);

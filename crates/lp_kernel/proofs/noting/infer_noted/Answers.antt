@@ -1,11 +1,12 @@
 use Rattle.std.proofs.Common.{arith, ap, sym, subst, ◌∙◌, ◌∷◌}
 use Rattle.lp_kernel.specs.declared.state.State.{State}
+use Rattle.lp_kernel.specs.Lifted.{AreLifts}
 use Rattle.lp_kernel.specs.declared.state.Next.TheVariants as next
 use Rattle.lp_kernel.proofs.Levels.{IsNoting, start-noting, noting-turn, noting-told, noting-closed, noting-found, noting-end, noting-last, noting-no, noting-over}
 use Rattle.lp_kernel.proofs.noting.infer_noted.Goals as goal
 
 pub loop-next-init : goal.loop-next-init
-loop-next-init c = start-noting c.args.rechecks c.args.base.now c.args.id c.args.budget.now.left c.new-outer.result c.in_ok-state.state c.args.memo.now c.requires.held c.requires.id c.requires.right c.in_ok-state.ensures.context c.in_ok-state.ensures.frames c.new-outer.ensures.empty
+loop-next-init c = start-noting c.args.rechecks c.args.base.now c.args.id c.args.budget.now.left c.new-outer.result c.in_ok-state.state c.args.memo.now c.requires.held c.requires.id c.requires.right c.in_ok-state.ensures.context c.in_ok-state.ensures.frames (c.in_ok-state.ensures.lifts c.args.base.now.table) c.new-outer.ensures.empty
 
 pub loop-next-preserved-in-Found : goal.loop-next-preserved-in-Found
 loop-next-preserved-in-Found c =
@@ -17,6 +18,7 @@ loop-next-preserved-in-Closed c =
     noting-turn c.args.rechecks c.args.base.now c.loop-next.base c.args.id c.args.budget.now.left c.loop-next.budget.left c.push.new.self c.replace-below.new.dest c.ask.new.base c.ask.new.budget.left c.ask.new.state (next.Ask c.in-Ask.tree) c.in_ok-next-in-Closed.next c.loop-next.memo
     (noting-closed c.args.rechecks c.args.base.now c.loop-next.base c.args.id c.args.budget.now.left c.loop-next.budget.left c.loop-next.outer c.loop-next.state c.in-Ask.tree c.replace-below.new.dest c.push.new.self c.loop-next.memo (rw c.in-Ask.is at c.loop-next.invariant)
     (rw c.in-Closed.is at c.look_up.ensures).0 (ap (λ s. s.context) c.replace-below.ensures.after ∙ c.in_ok-inner-in-Closed.ensures.context) (ap (λ s. s.frames) c.replace-below.ensures.after ∙ c.in_ok-inner-in-Closed.ensures.frames)
+    (subst (λ s. AreLifts c.loop-next.base.table s.lifts) (sym c.replace-below.ensures.after) (c.in_ok-inner-in-Closed.ensures.lifts c.loop-next.base.table))
     (c.in_ok-push-in-Closed.ensures.pushed ∙ ap (λ s. record { id = c.in-Ask.tree; state = s } ∷ c.loop-next.outer) c.replace-below.ensures.value))
     (λ e. cc) c.ask.ensures.grows c.in_ok-next-in-Closed.ensures.known c.in_ok-next-in-Closed.ensures.next c.ask.ensures.less (c.in_ok-next-in-Closed.ensures.turned c.args.rechecks)
 
@@ -28,11 +30,11 @@ loop-next-preserved-in-Open c =
 pub loop-next-preserved-in-Some : goal.loop-next-preserved-in-Some
 loop-next-preserved-in-Some c =
     noting-told c.args.rechecks c.args.base.now c.loop-next.base c.args.id c.args.budget.now.left c.loop-next.budget.left c.loop-next.outer c.loop-next.state c.tell.new.base c.tell.new.budget.left c.tell.new.state c.in-Tell.found c.in_ok-next-in-Some.next c.in-Some.frame c.pop.new.self
-    c.loop-next.memo (rw c.in-Tell.is at c.loop-next.invariant) c.in-Some.ensures.popped c.tell.ensures.grows c.in_ok-next-in-Some.ensures.known c.in_ok-next-in-Some.ensures.next c.tell.ensures.less c.in_ok-next-in-Some.ensures.turned
+    c.loop-next.memo (rw c.in-Tell.is at c.loop-next.invariant) c.in-Some.ensures.popped c.tell.ensures.grows c.in_ok-next-in-Some.ensures.known c.in_ok-next-in-Some.ensures.next c.tell.ensures.less c.in_ok-next-in-Some.ensures.turned c.tell.new.products c.in_ok-next-in-Some.ensures.products
 
 pub loop-next-preserved-in-Some-pop : goal.loop-next-preserved-in-Some-pop
 loop-next-preserved-in-Some-pop c =
-    subst (λ (t : State). IsNoting c.args.rechecks c.args.base.now c.loop-next.base c.args.id c.args.budget.now.left c.loop-next.budget.left c.pop-in-None.new.self t (next.Tell c.in-Tell.found) c.note.new.self) (sym c.replace-ended.ensures.after)
+    subst (λ (t : State). IsNoting c.args.rechecks c.args.base.now c.loop-next.base c.args.id c.args.budget.now.left c.loop-next.budget.left c.pop-in-None.new.self t (next.Tell c.in-Tell.found) (record { types = c.note.new.self; products = c.loop-next.memo.products })) (sym c.replace-ended.ensures.after)
     (noting-end c.args.rechecks c.args.base.now c.loop-next.base c.args.id c.args.budget.now.left c.loop-next.budget.left c.loop-next.outer c.loop-next.state c.requires.held c.requires.is_module c.in-Tell.found c.in-Some-pop.waiting c.pop-in-None.new.self c.loop-next.memo c.note.new.self
     (rw c.in-Tell.is at c.loop-next.invariant) c.in-None.ensures.popped c.in-Some-pop.ensures.popped c.in_ok-note-in-Some-pop.ensures.noted)
 

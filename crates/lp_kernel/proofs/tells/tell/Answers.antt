@@ -1,4 +1,5 @@
 use Rattle.lp_kernel.proofs.Asked.{IfOk-map}
+use Rattle.lp_kernel.proofs.Reached.{AreProducts-Grows}
 use Rattle.lp_kernel.proofs.tells.tell.Goals as goal
 
 pub returns-in-Function-clause-turned : goal.returns-in-Function-clause-turned
@@ -39,3 +40,24 @@ returns-in-ProductBody-clause-turned c = rw c.in-ProductBody.is (IfOk-map c.tell
 
 pub returns-in-ProductBody-clause-fewer : goal.returns-in-ProductBody-clause-fewer
 returns-in-ProductBody-clause-fewer c = IfOk-map c.tell_product_body.result (λ n h. h c.args.budget.now.left) c.tell_product_body.ensures.fewer
+
+pub returns-in-Reached-clause-products : goal.returns-in-Reached-clause-products
+returns-in-Reached-clause-products c = IfOk-map c.tell_reached.result (λ n h. AreProducts-Grows c.args.base.now c.tell_reached.new.base c.args.products.now c.requires.held c.tell_reached.ensures.grows c.requires.products) c.tell_reached.ensures.fewer
+
+pub returns-in-Argument-clause-products : goal.returns-in-Argument-clause-products
+returns-in-Argument-clause-products c = IfOk-map c.tell_argument.result (λ n h. AreProducts-Grows c.args.base.now c.tell_argument.new.base c.args.products.now c.requires.held c.tell_argument.ensures.grows c.requires.products) c.tell_argument.ensures.fewer
+
+pub returns-in-Expected-clause-products : goal.returns-in-Expected-clause-products
+returns-in-Expected-clause-products c = IfOk-map c.tell_expected.result (λ n h. AreProducts-Grows c.args.base.now c.tell_expected.new.base c.args.products.now c.requires.held c.tell_expected.ensures.grows c.requires.products) c.tell_expected.ensures.fewer
+
+pub returns-in-Domain-clause-products : goal.returns-in-Domain-clause-products
+returns-in-Domain-clause-products c = IfOk-map c.tell_domain.result (λ n h. AreProducts-Grows c.args.base.now c.tell_domain.new.base c.args.products.now c.requires.held c.tell_domain.ensures.grows c.requires.products) c.tell_domain.ensures.fewer
+
+pub returns-in-Body-clause-products : goal.returns-in-Body-clause-products
+returns-in-Body-clause-products c = IfOk-map c.tell_body.result (λ n h. AreProducts-Grows c.args.base.now c.tell_body.new.base c.args.products.now c.requires.held c.tell_body.ensures.grows c.requires.products) c.tell_body.ensures.fewer
+
+pub returns-in-ProductDomain-clause-products : goal.returns-in-ProductDomain-clause-products
+returns-in-ProductDomain-clause-products c = IfOk-map c.tell_product_domain.result (λ n h. AreProducts-Grows c.args.base.now c.tell_product_domain.new.base c.args.products.now c.requires.held c.tell_product_domain.ensures.grows c.requires.products) c.tell_product_domain.ensures.fewer
+
+pub returns-in-ProductBody-clause-products : goal.returns-in-ProductBody-clause-products
+returns-in-ProductBody-clause-products c = IfOk-map c.tell_product_body.result (λ n h. AreProducts-Grows c.args.base.now c.tell_product_body.new.base c.args.products.now c.requires.held c.tell_product_body.ensures.grows c.requires.products) c.tell_product_body.ensures.fewer
