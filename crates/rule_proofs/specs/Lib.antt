@@ -5,6 +5,7 @@ pub mod Told
 pub mod Equations
 pub mod Numbers
 pub mod Parameters
+pub mod Keeping
 pub mod Rescoped
 pub mod Images
 pub mod Matching

@@ -21,11 +21,13 @@ ghost use Rattle.translate_term.specs.Told.{TellsType};
 ghost use Rattle.translate_term.specs.Walks.{Grows};
 ghost use Rattle.rule_proofs.specs.Environments.{Given, IsTold, Ready, Stands};
 ghost use Rattle.rule_proofs.specs.Images.{made_term, retyped, term_pairs, type_pairs, variable_image, HasOwnVariable, IsSubstituted};
+ghost use Rattle.rule_proofs.specs.Keeping.{AreKept};
 ghost use Rattle.rule_proofs.specs.Parameters.{AreParams};
 ghost use Rattle.rule_proofs.specs.Told.{TellsStep};
 
+use crate::kept::KeptParams;
 use crate::matching::{becomes, makes_term, put_term, put_type};
-use crate::premise::{Premise, params_of};
+use crate::premise::Premise;
 use crate::scope::Environment;
 use crate::trees::call;
 use bridge_base::Memory;
@@ -42,10 +44,12 @@ pub fn subst(
     target: &mut Module,
     proof: &Proof,
     env: &Environment,
+    kept: &KeptParams,
     id: StepId,
     put: &Substitution,
     one: Premise,
 ) -> Result<LpId, Memory>
+    requires kept { AreKept proof.now kept.now }
     requires id { id < step_count proof.now }
     requires one { one.id < step_count proof.now }
     requires put { AreKnownPairs proof.now.trees put.now.types.items put.now.terms.items }
@@ -54,9 +58,9 @@ pub fn subst(
     ensures made { IfOk result (λ r. (given : Given) → Stands given target.old proof.now.trees env.now → TellsStep given proof.now id → Holds target.new.table r.0 (subst_tree given.symbols given.scope (type_pairs proof.now.trees put.now) (term_pairs proof.now.trees put.now) (one.symbol, sequent_at proof.now.made one.id))) }
     ensures grows { Grows target.old target.new }
 {
-    let params = params_of(env.alloc, proof, one.id)?;
-    let made = subst_over(target, proof, env, id, put, one, &params);
-    drop(params);
+    let lent = kept.lend(proof, one.id)?;
+    let made = subst_over(target, proof, env, kept, id, put, one, lent.params());
+    drop(lent);
     made
 }
 
@@ -65,11 +69,13 @@ fn subst_over(
     target: &mut Module,
     proof: &Proof,
     env: &Environment,
+    kept: &KeptParams,
     id: StepId,
     put: &Substitution,
     one: Premise,
     params: &Params,
 ) -> Result<LpId, Memory>
+    requires kept { AreKept proof.now kept.now }
     requires id { id < step_count proof.now }
     requires one { one.id < step_count proof.now }
     requires put { AreKnownPairs proof.now.trees put.now.types.items put.now.terms.items }
@@ -79,7 +85,7 @@ fn subst_over(
     ensures made { IfOk result (λ r. (given : Given) → Stands given target.old proof.now.trees env.now → TellsStep given proof.now id → Holds target.new.table r.0 (subst_tree given.symbols given.scope (type_pairs proof.now.trees put.now) (term_pairs proof.now.trees put.now) (one.symbol, sequent_at proof.now.made one.id))) }
     ensures grows { Grows target.old target.new }
 {
-    let own_params = params_of(env.alloc, proof, id)?;
+    let own = kept.lend(proof, id)?;
     let mut args = Vec::new(env.alloc);
     let made = subst_onto(
         target,
@@ -89,11 +95,11 @@ fn subst_over(
         put,
         one,
         params,
-        &own_params,
+        own.params(),
         &mut args,
     );
     drop(args);
-    drop(own_params);
+    drop(own);
     made
 }
 

@@ -4,11 +4,12 @@
 //! their numbers. In it a premise is its symbol, applied to what stands for its own parameters; where nothing stands for one, it is filled
 //! as translation fills. A row makes the proof of a step by its rule, of the premises and of what their sequents say. What is made is the tree
 //! that the definitions give in each scope that the environment stands for, for whatever symbols the module tells; the declarations stay, and
-//! so does the tree of each number. A premise comes with the number of its step and with its symbol.
+//! so does the tree of each number. A premise comes with the number of its step and with its symbol. The parameters of a sequent are found by
+//! a walk of its terms: `KeptParams` keeps those of the steps that were noted lately, and the rows find only others anew.
 //!
 //! ```
 //! let env = Environment::of(alloc, &mut module, &params, sequent.hyps.ids(), 0)?;
-//! let inner = eq_mp(&mut module, &proof, &env, one, two)?;
+//! let inner = eq_mp(&mut module, &proof, &env, &kept, one, two)?;
 //! ```
 //!
 //! | Rule | Call |
@@ -33,6 +34,7 @@
 
 mod constants;
 mod images;
+mod kept;
 mod matching;
 mod names;
 mod parts;
@@ -43,6 +45,7 @@ mod trees;
 
 pub use constants::constant_list;
 pub use images::subst;
+pub use kept::{KeptParams, LentParams};
 pub use names::step_name;
 pub use parts::{Part, first_law, first_law_free, second_law, second_law_free, type_part};
 pub use premise::Premise;

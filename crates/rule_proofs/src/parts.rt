@@ -20,6 +20,7 @@ ghost use Rattle.rule_proofs.specs.Parts.{part_symbol, whole_type, AreFunctions,
 ghost use Rattle.rule_proofs.specs.Rescoped.{over_types, with_scope};
 ghost use Rattle.rule_proofs.specs.Told.{TellsStep};
 
+use crate::kept::KeptParams;
 use crate::premise::Premise;
 use crate::rows::{Equated, sides};
 use crate::scope::Environment;
@@ -270,11 +271,13 @@ fn part_call(
     ensures grows { Grows target.old target.new }
 {
     let held = applied(proof, one.id);
+    // A type is defined seldom: the parameters of its theorem are found anew.
+    let kept = KeptParams::new(env.alloc);
     let mut args = Vec::new(env.alloc);
     env.add_type(target, proof, held.ty, &mut args)?;
     env.add_term(target, proof, held.predicate, &mut args)?;
     env.add_term(target, proof, held.witness, &mut args)?;
-    env.add_theorem(target, proof, one, &mut args)?;
+    env.add_theorem(target, proof, &kept, one, &mut args)?;
     call(&mut target.table, symbol, &args)
 }
 

@@ -14,9 +14,11 @@ ghost use Rattle.module_spec.specs.Scopes.{TypeScope, term_tree, theorem_tree, t
 ghost use Rattle.translate_term.specs.Told.{TellsType};
 ghost use Rattle.translate_term.specs.Walks.{Grows};
 ghost use Rattle.rule_proofs.specs.Environments.{Given, IsTold, Ready, Stands, TellProofs, TellTypes, unproved};
+ghost use Rattle.rule_proofs.specs.Keeping.{AreKept};
 ghost use Rattle.rule_proofs.specs.Parameters.{AreParams};
 ghost use Rattle.rule_proofs.specs.Told.{TellsStep};
 
+use crate::kept::KeptParams;
 use crate::scope::Environment;
 use crate::trees::{TERM, abstraction, call};
 use bridge_base::Memory;
@@ -254,18 +256,20 @@ impl Environment {
         &self,
         target: &mut Module,
         proof: &Proof,
+        kept: &KeptParams,
         premise: Premise,
     ) -> Result<LpId, Memory>
+        requires kept { AreKept proof.now kept.now }
         requires premise { premise.id < step_count proof.now }
         requires told { (given : Given) × Stands given target.old proof.now.trees self.now × TellsStep given proof.now premise.id }
         ensures made { IfOk result (λ r. (given : Given) → Stands given target.old proof.now.trees self.now → TellsStep given proof.now premise.id → Holds target.new.table r.0 (theorem_tree given.scope premise.symbol (sequent_at proof.now.made premise.id))) }
         ensures grows { Grows target.old target.new }
     {
-        let params = params_of(self.alloc, proof, premise.id)?;
+        let lent = kept.lend(proof, premise.id)?;
         let mut args = Vec::new(self.alloc);
-        let made = self.theorem_over(target, proof, premise, &params, &mut args);
+        let made = self.theorem_over(target, proof, premise, lent.params(), &mut args);
         drop(args);
-        drop(params);
+        drop(lent);
         made
     }
 
@@ -296,15 +300,17 @@ impl Environment {
         &self,
         target: &mut Module,
         proof: &Proof,
+        kept: &KeptParams,
         premise: Premise,
         args: &mut Vec<LpId>,
     ) -> Result<(), Memory>
+        requires kept { AreKept proof.now kept.now }
         requires premise { premise.id < step_count proof.now }
         requires told { (given : Given) × Stands given target.old proof.now.trees self.now × TellsStep given proof.now premise.id }
         ensures ready { OnOk result ((given : Given) (made : List Tree) → Ready given target.old proof.now.trees self.now args.old.items made → TellsStep given proof.now premise.id → Ready given target.new proof.now.trees self.now args.new.items (made ++ theorem_tree given.scope premise.symbol (sequent_at proof.now.made premise.id) ∷ [])) }
         ensures grows { Grows target.old target.new }
     {
-        let tree = self.theorem(target, proof, premise)?;
+        let tree = self.theorem(target, proof, kept, premise)?;
         args.push(tree)?;
         Ok(())
     }
@@ -335,18 +341,20 @@ impl Environment {
         &self,
         target: &mut Module,
         proof: &Proof,
+        kept: &KeptParams,
         family: usize,
         index: LpId,
         premise: Premise,
         args: &mut Vec<LpId>,
     ) -> Result<(), Memory>
         requires index { index.0 < length target.old.table }
+        requires kept { AreKept proof.now kept.now }
         requires premise { premise.id < step_count proof.now }
         requires told { (given : Given) × Stands given target.old proof.now.trees self.now × TellsStep given proof.now premise.id }
         ensures ready { OnOk result ((given : Given) (made : List Tree) → Ready given target.old proof.now.trees self.now args.old.items made → TellsStep given proof.now premise.id → Ready given target.new proof.now.trees self.now args.new.items (made ++ Lam (App (Sym family) (tree_at target.old.table index.0)) (theorem_tree given.scope premise.symbol (sequent_at proof.now.made premise.id)) ∷ [])) }
         ensures grows { Grows target.old target.new }
     {
-        let body = self.theorem(target, proof, premise)?;
+        let body = self.theorem(target, proof, kept, premise)?;
         let tree = abstraction(&mut target.table, family, index, body)?;
         args.push(tree)?;
         Ok(())

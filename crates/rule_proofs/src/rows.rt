@@ -12,9 +12,11 @@ ghost use Rattle.translate_term.specs.Told.{TellsType};
 ghost use Rattle.translate_term.specs.Walks.{Grows};
 ghost use Rattle.rule_proofs.specs.Environments.{Given, Stands};
 ghost use Rattle.rule_proofs.specs.Equations.{IsEquated, IsEquationStep};
+ghost use Rattle.rule_proofs.specs.Keeping.{AreKept};
 ghost use Rattle.rule_proofs.specs.Rescoped.{with_scope};
 ghost use Rattle.rule_proofs.specs.Told.{TellsStep};
 
+use crate::kept::KeptParams;
 use crate::premise::Premise;
 use crate::scope::Environment;
 use crate::trees::{APP_THM, EQ_MP, FUN_EXT, PROOF, PROP_EXT, REFL, SYM, TERM, TRANS, call};
@@ -71,9 +73,11 @@ pub fn eq_mp(
     target: &mut Module,
     proof: &Proof,
     env: &Environment,
+    kept: &KeptParams,
     one: Premise,
     two: Premise,
 ) -> Result<LpId, Memory>
+    requires kept { AreKept proof.now kept.now }
     requires one { one.id < step_count proof.now }
     requires two { two.id < step_count proof.now }
     requires equation { IsEquationStep proof.now one.id }
@@ -85,8 +89,8 @@ pub fn eq_mp(
     let mut args = Vec::new(env.alloc);
     env.add_term(target, proof, first.left, &mut args)?;
     env.add_term(target, proof, first.right, &mut args)?;
-    env.add_theorem(target, proof, one, &mut args)?;
-    env.add_theorem(target, proof, two, &mut args)?;
+    env.add_theorem(target, proof, kept, one, &mut args)?;
+    env.add_theorem(target, proof, kept, two, &mut args)?;
     call(&mut target.table, EQ_MP, &args)
 }
 
@@ -95,8 +99,10 @@ pub fn sym(
     target: &mut Module,
     proof: &Proof,
     env: &Environment,
+    kept: &KeptParams,
     one: Premise,
 ) -> Result<LpId, Memory>
+    requires kept { AreKept proof.now kept.now }
     requires one { one.id < step_count proof.now }
     requires equation { IsEquationStep proof.now one.id }
     requires told { (given : Given) × Stands given target.old proof.now.trees env.now × TellsStep given proof.now one.id }
@@ -108,7 +114,7 @@ pub fn sym(
     env.add_type(target, proof, first.ty, &mut args)?;
     env.add_term(target, proof, first.left, &mut args)?;
     env.add_term(target, proof, first.right, &mut args)?;
-    env.add_theorem(target, proof, one, &mut args)?;
+    env.add_theorem(target, proof, kept, one, &mut args)?;
     call(&mut target.table, SYM, &args)
 }
 
@@ -117,9 +123,11 @@ pub fn trans(
     target: &mut Module,
     proof: &Proof,
     env: &Environment,
+    kept: &KeptParams,
     one: Premise,
     two: Premise,
 ) -> Result<LpId, Memory>
+    requires kept { AreKept proof.now kept.now }
     requires one { one.id < step_count proof.now }
     requires two { two.id < step_count proof.now }
     requires first { IsEquationStep proof.now one.id }
@@ -135,8 +143,8 @@ pub fn trans(
     env.add_term(target, proof, first.left, &mut args)?;
     env.add_term(target, proof, first.right, &mut args)?;
     env.add_term(target, proof, second.right, &mut args)?;
-    env.add_theorem(target, proof, one, &mut args)?;
-    env.add_theorem(target, proof, two, &mut args)?;
+    env.add_theorem(target, proof, kept, one, &mut args)?;
+    env.add_theorem(target, proof, kept, two, &mut args)?;
     call(&mut target.table, TRANS, &args)
 }
 
@@ -145,10 +153,12 @@ pub fn app_thm(
     target: &mut Module,
     proof: &Proof,
     env: &Environment,
+    kept: &KeptParams,
     id: StepId,
     one: Premise,
     two: Premise,
 ) -> Result<LpId, Memory>
+    requires kept { AreKept proof.now kept.now }
     requires id { id < step_count proof.now }
     requires one { one.id < step_count proof.now }
     requires two { two.id < step_count proof.now }
@@ -169,8 +179,8 @@ pub fn app_thm(
     env.add_term(target, proof, first.right, &mut args)?;
     env.add_term(target, proof, second.left, &mut args)?;
     env.add_term(target, proof, second.right, &mut args)?;
-    env.add_theorem(target, proof, one, &mut args)?;
-    env.add_theorem(target, proof, two, &mut args)?;
+    env.add_theorem(target, proof, kept, one, &mut args)?;
+    env.add_theorem(target, proof, kept, two, &mut args)?;
     call(&mut target.table, APP_THM, &args)
 }
 
@@ -180,9 +190,11 @@ pub fn abs_thm(
     proof: &Proof,
     env: &Environment,
     inner: &Environment,
+    kept: &KeptParams,
     variable: &Variable,
     one: Premise,
 ) -> Result<LpId, Memory>
+    requires kept { AreKept proof.now kept.now }
     requires one { one.id < step_count proof.now }
     requires variable { variable.now.ty.0 < length proof.now.trees.types }
     requires equation { IsEquationStep proof.now one.id }
@@ -197,7 +209,7 @@ pub fn abs_thm(
     env.add_type(target, proof, first.ty, &mut args)?;
     inner.add_function(target, proof, domain, first.left, &mut args)?;
     inner.add_function(target, proof, domain, first.right, &mut args)?;
-    inner.add_abstracted(target, proof, TERM, domain, one, &mut args)?;
+    inner.add_abstracted(target, proof, kept, TERM, domain, one, &mut args)?;
     call(&mut target.table, FUN_EXT, &args)
 }
 
@@ -209,9 +221,11 @@ pub fn deduct_antisym(
     env: &Environment,
     first: &Environment,
     second: &Environment,
+    kept: &KeptParams,
     one: Premise,
     two: Premise,
 ) -> Result<LpId, Memory>
+    requires kept { AreKept proof.now kept.now }
     requires one { one.id < step_count proof.now }
     requires two { two.id < step_count proof.now }
     requires told { (given : Given) × Stands given target.old proof.now.trees env.now × Stands (with_scope given (under_proof (sequent_at proof.now.made one.id).conclusion given.scope)) target.old proof.now.trees first.now × Stands (with_scope given (under_proof (sequent_at proof.now.made two.id).conclusion given.scope)) target.old proof.now.trees second.now × TellsStep given proof.now one.id × TellsStep given proof.now two.id }
@@ -223,8 +237,8 @@ pub fn deduct_antisym(
     args.push(p)?;
     let q = conclusion(target, proof, env, two.id)?;
     args.push(q)?;
-    first.add_abstracted(target, proof, PROOF, p, two, &mut args)?;
-    second.add_abstracted(target, proof, PROOF, q, one, &mut args)?;
+    first.add_abstracted(target, proof, kept, PROOF, p, two, &mut args)?;
+    second.add_abstracted(target, proof, kept, PROOF, q, one, &mut args)?;
     call(&mut target.table, PROP_EXT, &args)
 }
 
@@ -249,9 +263,11 @@ pub fn prove_hyp(
     target: &mut Module,
     proof: &Proof,
     env: &mut Environment,
+    kept: &KeptParams,
     one: Premise,
     two: Premise,
 ) -> Result<LpId, Memory>
+    requires kept { AreKept proof.now kept.now }
     requires one { one.id < step_count proof.now }
     requires two { two.id < step_count proof.now }
     requires told { (given : Given) × Stands given target.old proof.now.trees env.old × TellsStep given proof.now one.id × TellsStep given proof.now two.id }
@@ -259,7 +275,7 @@ pub fn prove_hyp(
     ensures grows { Grows target.old target.new }
 {
     let p = proof.sequent(one.id).concl;
-    let tree = env.theorem(target, proof, one)?;
+    let tree = env.theorem(target, proof, kept, one)?;
     env.set_proof(p, tree)?;
-    env.theorem(target, proof, two)
+    env.theorem(target, proof, kept, two)
 }

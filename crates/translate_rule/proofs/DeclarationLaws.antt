@@ -2,7 +2,6 @@
 use Rattle.std.proofs.Common.{◌≡◌, ℕ, suc, ◌+◌, ◌<◌, Bool, true, false, cond, refl, sym, ap, subst, ◌∙◌, List, [], ◌∷◌, ◌++◌, map, length, arith, Some, None}
 use Rattle.std.proofs.lemmas.List.{length-append, length-map}
 use Rattle.std.specs.List.{AllByRecursion}
-use Rattle.hol_spec.specs.ClosedForm.{ClosedSequent, closed_form}
 use Rattle.hol_spec.specs.Names.{Name}
 use Rattle.hol_spec.specs.Proofs.{Made, Step, sequent_at, IsProof}
 use Rattle.hol_spec.specs.Rules.{Parameters}
@@ -19,20 +18,9 @@ use Rattle.module_spec.specs.Items.{declaration_of}
 use Rattle.module_spec.specs.MadeItems.{content_by}
 use Rattle.module_spec.specs.Rows.{has_row, proof_tree}
 use Rattle.module_spec.specs.Scopes.{Symbols, Scope, conclusion_tree, domains_of, scope_of, sequent_tree, term_domains, proof_domains, under_term, under_proof, scope_of_types, scope_of_terms}
-use Rattle.translate_term.specs.Told.{TellsClosed}
 use Rattle.translate_rule.specs.Steps.{TellsContent, TellsGiven, TellsRow, needed_at, content_at, symbol_in, row_of}
 use Rattle.rule_proofs.specs.Told.{TellsSequent}
-use Rattle.rule_proofs.specs.StepSequents.{step-IsSequent}
 use Rattle.translate_rule.proofs.StepLaws.{step-sequent}
-
--- the closed form of a told sequent
-pub closed-told : (k : Kept) (id : ℕ) → id < step_count k → IsProof k.made → (d : List Declaration) (tables : Symbols) → TellsSequent d tables (sequent_at k.made id) → (form : ClosedSequent) (s : Sequent) → form ≡ closed_form s → s ≡ sequent_at k.made id → TellsClosed d tables (sequent_at k.made id) form
-closed-told k id l p d tables told form s closed is = record {
-  is_sequent = step-IsSequent k.made p id l;
-  hypotheses = told.hypotheses;
-  conclusion = told.conclusion;
-  closed = sym (closed ∙ ap closed_form is);
-}
 
 -- how many binders a sequent has
 terms-length : (symbols : Symbols) (vs : List Variable) (scope : Scope) → length (term_domains symbols vs scope) ≡ length vs

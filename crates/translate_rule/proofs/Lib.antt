@@ -1,6 +1,7 @@
 mod StepLaws
 mod RowLaws
 mod StepRows
+mod StatementLaws
 mod OwnLaws
 mod PremiseLaws
 mod DeclarationLaws

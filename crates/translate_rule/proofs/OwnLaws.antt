@@ -3,7 +3,7 @@ use Rattle.std.proofs.Common.{◌≡◌, ℕ, suc, ◌+◌, refl, sym, ap, ◌�
 use Rattle.hol_spec.specs.Names.{Name}
 use Rattle.hol_spec.specs.NameEquality.{name_eq}
 use Rattle.hol_spec.specs.Proofs.{sequent_at}
-use Rattle.hol_spec.specs.Sequents.{Sequent, free_variables_of}
+use Rattle.hol_spec.specs.Sequents.{Sequent, type_variables_of, free_variables_of}
 use Rattle.hol_spec.specs.Terms.{Term, Variable, variable_eq, term_eq}
 use Rattle.hol_term.specs.declared.TermId.{TermId}
 use Rattle.hol_term.specs.declared.Variable.{Variable as AVariable}
@@ -12,16 +12,17 @@ use Rattle.hol_type.specs.Tables as type
 use Rattle.hol_term.specs.Tables.{Trees, terms_at, AreKnown, IsDistinct}
 use Rattle.hol_rules.specs.Kept.{Kept}
 use Rattle.lp_spec.specs.Modules.{Declaration, bools}
-use Rattle.lp_spec.specs.Trees.{Tree, lift}
+use Rattle.lp_spec.specs.Trees.{lift}
 use Rattle.lp_binding.specs.Composition.{lift_zero}
 use Rattle.holide_sig.specs.declared.module.Module.{Module}
 use Rattle.holide_sig.specs.Modules.{declarations_of, IsHeld}
-use Rattle.module_spec.specs.Scopes.{Symbols, Scope, scope_of, lifted}
+use Rattle.module_spec.specs.Scopes.{Symbols, Scope, filled, scope_of, scope_of_terms, lifted, under_terms, under_types, unfilled}
 use Rattle.rule_proofs.specs.Environments.{filled_terms, unproved}
 use Rattle.rule_proofs.specs.Placed.{placed}
 use Rattle.rule_proofs.specs.Placing.{IsPlaced}
 use Rattle.rule_proofs.specs.Rescoped.{over_types, with_scope}
 use Rattle.translate_rule.specs.Steps.{given_at, given_over, AreParams}
+use Rattle.translate_rule.proofs.StatementLaws.{without_hypotheses, type_variables-joined, free_variables-joined}
 use Rattle.rule_proofs.specs.PlacedLaws.{placed-under_types, types-placed, terms-placed, proofs-placed}
 
 -- as many terms and variables as numbers
@@ -77,6 +78,29 @@ module _ (k : Kept) (id : ℕ) (d : List Declaration) (symbols : Symbols) (m : M
         terms = λ v. refl;
         proofs = λ h. refl;
       }
+
+-- the binders of its type variables and its free variables alone
+pub placed-variables : (k : Kept) (id : ℕ) (d : List Declaration) (symbols : Symbols) (m : Module) → IsHeld m → declarations_of m ≡ d → (names : List Name) (variables : List AVariable) → AreParams k id names variables
+    → IsPlaced (with_scope (given_at d symbols (sequent_at k.made id)) (scope_of_terms symbols (sequent_at k.made id))) m k.trees names variables [] 0
+placed-variables k id d symbols m held declared names variables params =
+    let s = sequent_at k.made id in
+    let j = without_hypotheses s in
+    let n : names ≡ type_variables_of j = params.type_vars ∙ sym (type_variables-joined s) in
+    let v : variables_of k.trees variables ≡ free_variables_of j = params.free_vars ∙ sym (free_variables-joined s) in
+    let b : length variables ≡ length (free_variables_of j) = sym (variables-count k.trees variables) ∙ ap length v in
+    let same : scope_of symbols j ≡ scope_of_terms symbols s = (λ i. under_terms (free_variables-joined s i) (filled symbols (under_types (type_variables-joined s i) unfilled))) in
+    let types : (x : Name) → lift 0 ((scope_of symbols j).types x) ≡ (scope_of_terms symbols s).types x = (λ x. lift_zero ((scope_of symbols j).types x) ∙ ap (λ (w : Scope). w.types x) same) in
+    record {
+      held = held;
+      declared = declared;
+      one_type = params.one_type;
+      one_term = params.one_term;
+      variables_known = params.known;
+      hyps_known = tt;
+      types = λ x. (λ i. placed name_eq (0 + 0 + b i + length (n i)) (n i) (λ w. bools) x) ∙ sym (types-placed symbols j 0 x) ∙ types x;
+      terms = λ x. (λ i. placed variable_eq (0 + 0 + b i) (v i) (filled_terms symbols (λ y. sym (types y) i)) x) ∙ sym (terms-placed symbols j 0 x) ∙ lift_zero ((scope_of symbols j).terms x) ∙ ap (λ (w : Scope). w.terms x) same;
+      proofs = λ h. sym (proofs-placed symbols j 0 h) ∙ lift_zero ((scope_of symbols j).proofs h) ∙ ap (λ (w : Scope). w.proofs h) same;
+    }
 
 -- the binders of type variables alone
 pub placed-over : (trees : Trees) (d : List Declaration) (symbols : Symbols) (m : Module) → IsHeld m → declarations_of m ≡ d → type.IsDistinct trees.types → IsDistinct trees.terms → (names : List Name) → IsPlaced (given_over d symbols names) m trees names [] [] 0

@@ -5,3 +5,5 @@ pub mod LemmaNodes
 pub mod Making
 pub mod TypeScopes
 pub mod LawSteps
+pub mod Domains
+pub mod Unnamed

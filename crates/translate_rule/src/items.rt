@@ -9,13 +9,14 @@ ghost use Rattle.lp_term.specs.Tables.{Holds};
 ghost use Rattle.module_spec.specs.Image.{constant_name as name_of_constant, input_constant_name as name_of_input_constant};
 ghost use Rattle.module_spec.specs.Items.{Content, declaration_of, definition_tree};
 ghost use Rattle.module_spec.specs.Scopes.{Symbols as Tables, generic_tree};
+ghost use Rattle.rule_proofs.specs.Keeping.{AreKept};
 ghost use Rattle.rule_proofs.specs.Numbers.{IsRising};
 ghost use Rattle.telling_laws.specs.Told.{TellsContent};
 ghost use Rattle.translate_term.specs.Told.{TellsTerm, TellsType};
 ghost use Rattle.translate_term.specs.Walks.{Grows};
 ghost use Rattle.translate_rule.specs.ItemViews.{item_content, item_name, run_of, IsItemKnown};
 
-use crate::declaration::step;
+use crate::declaration::step_with;
 use crate::generics::{at_types, operator_type, over_types, terms, terms_of_all, type_scope};
 use crate::parts::part_declaration;
 use crate::premises::with_symbol;
@@ -28,7 +29,7 @@ use hol_term::{TermId, TermTable};
 use hol_type::{TypeId, TypeTable};
 use holide_sig::{Decl, Form, Ident, Module};
 use lp_term::LpId;
-use rule_proofs::Part;
+use rule_proofs::{KeptParams, Part};
 use std::alloc::Global;
 use translate_term::{tm, ty};
 
@@ -56,7 +57,7 @@ pub(crate) enum Item<'a> {
     Step(StepId),
 }
 
-// The declaration of an item, where the declarations of the steps before it have these symbols.
+// The declaration of an item, where the declarations of the steps before it have these symbols. The parameters of a step are kept.
 pub(crate) fn declaration(
     alloc: Global,
     target: &mut Module,
@@ -64,8 +65,10 @@ pub(crate) fn declaration(
     assumptions: &[StepId],
     exports: &[StepId],
     numbers: &[usize],
+    kept: &mut KeptParams,
     item: Item<'_>,
 ) -> Result<Decl, Memory>
+    requires kept { AreKept proof.now kept.old }
     requires known { IsItemKnown proof.now numbers.now item }
     requires assumptions { IsRising assumptions.now }
     requires exports { IsRising exports.now }
@@ -74,6 +77,7 @@ pub(crate) fn declaration(
     ensures made { IfOk result (λ decl. (tables : Tables) → TellsContent (declarations_of target.old) tables (item_content proof.now numbers.now item.entry) → declaration_in target.new.table decl ≡ declaration_of tables (item_name (run_of proof.now assumptions.now exports.now) item.entry) (item_content proof.now numbers.now item.entry)) }
     ensures known { IfOk result (IsKnown target.new.table) }
     ensures grows { Grows target.old target.new }
+    ensures kept { AreKept proof.now kept.new }
 {
     match item {
         Item::InputConst(name) => input_constant(alloc, target, name),
@@ -86,7 +90,19 @@ pub(crate) fn declaration(
             let one = with_symbol(numbers, definition.premise);
             part_declaration(alloc, target, proof, part, definition.view, one)
         }
-        Item::Step(id) => step(alloc, target, proof, assumptions, exports, numbers, id),
+        Item::Step(id) => {
+            kept.note(proof, id)?;
+            step_with(
+                alloc,
+                target,
+                proof,
+                assumptions,
+                exports,
+                numbers,
+                kept,
+                id,
+            )
+        }
     }
 }
 

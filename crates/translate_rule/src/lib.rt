@@ -16,6 +16,7 @@
 //! | File | |
 //! |---|---|
 //! | `declaration` | `step`: the name, the type and the body of a declaration |
+//! | `statement` | the type: the product over the binders of a sequent's parameters |
 //! | `row` | the proof of a step by its rule, one function for the rules with as many premises, and one for each rule that was given more than premises or has binders of its own |
 //! | `premises` | the premises of a step, with the symbols of their declarations; whether the first of `proveHyp` proves nothing |
 //! | `own` | the environment of a step's own parameters, also under one binder more |
@@ -36,6 +37,7 @@ mod own;
 mod parts;
 mod premises;
 mod row;
+mod statement;
 mod symbol_names;
 
 pub use declaration::step;

@@ -2,11 +2,13 @@
 ghost use Rattle.std.specs.Prelude.{◌≡◌, ◌<◌, ◌++◌, ◌∷◌, List, [], length, Some, IfOk, OnOk};
 ghost use Rattle.article_spec.specs.SoundRuns.{IsSoundRun};
 ghost use Rattle.hol_defs.specs.Symbols.{symbol_at, IsKnownSymbol};
+ghost use Rattle.hol_rules.specs.Kept.{Kept as AProof};
 ghost use Rattle.hol_spec.specs.Proofs.{made_symbol, Made as AMade, Step as AStep, Accepted};
 ghost use Rattle.holide_sig.specs.Modules.{declarations_of, IsHeld};
 ghost use Rattle.module_reach.specs.MadeItems.{definition_made, IsNoted};
 ghost use Rattle.module_spec.specs.Image.{image};
 ghost use Rattle.module_spec.specs.Items.{Item as AnItem};
+ghost use Rattle.rule_proofs.specs.Keeping.{AreKept};
 ghost use Rattle.run_laws.specs.Named.{HasNames};
 ghost use Rattle.telling_laws.specs.Making.{items_made};
 ghost use Rattle.translate_rule.specs.ItemViews.{run_of};
@@ -20,7 +22,7 @@ use hol_defs::SymbolView;
 use hol_rules::{Made, Proof, StepId};
 use holide_sig::{Module, SIGNATURE};
 use module_reach::Reached;
-use rule_proofs::Part;
+use rule_proofs::{KeptParams, Part};
 use std::alloc::Global;
 
 /// The module of what a proof made and its exports reach: the two lemmas, and then each item that is reached, in order of making. The
@@ -51,6 +53,8 @@ struct Making {
     target: Module,
     // For each step so far, the symbol of its declaration. Of a step that isn't declared it means nothing.
     numbers: Vec<usize>,
+    // The parameters of the steps that were declared lately.
+    kept: KeptParams,
     // How many items and how many symbols there were so far.
     item: usize,
     symbol: usize,
@@ -59,7 +63,8 @@ struct Making {
 impl Making {
     // The module of the lemmas.
     fn new(alloc: Global) -> Result<Making, Memory>
-        ensures { IfOk result (λ making. (run : Accepted) → IsMaking run [] making) }
+        ensures making { IfOk result (λ making. (run : Accepted) → IsMaking run [] making) }
+        ensures kept { IfOk result (λ making. (k : AProof) → AreKept k making.kept) }
     {
         let mut target = Module::new(alloc)?;
         declare_lemmas(alloc, &mut target)?;
@@ -67,6 +72,7 @@ impl Making {
             alloc,
             target,
             numbers: Vec::new(alloc),
+            kept: KeptParams::new(alloc),
             item: 0,
             symbol: 0,
         })
@@ -81,9 +87,11 @@ impl Making {
         reached: &Reached,
         one: &Made,
     ) -> Result<(), Memory>
+        requires kept { AreKept proof.now self.old.kept }
         requires run { IsRun proof.now assumptions.now exports.now reached.now }
         requires next { (earlier later : List AMade) × (y : AMade) × (proof.now.made ≡ earlier ++ y ∷ later) × IsSameKind one.now y × IsMaking (run_of proof.now assumptions.now exports.now) earlier self.old }
-        ensures { OnOk result ((earlier later : List AMade) (y : AMade) → proof.now.made ≡ earlier ++ y ∷ later → IsSameKind one.now y → IsMaking (run_of proof.now assumptions.now exports.now) earlier self.old → IsMaking (run_of proof.now assumptions.now exports.now) (earlier ++ y ∷ []) self.new) }
+        ensures making { OnOk result ((earlier later : List AMade) (y : AMade) → proof.now.made ≡ earlier ++ y ∷ later → IsSameKind one.now y → IsMaking (run_of proof.now assumptions.now exports.now) earlier self.old → IsMaking (run_of proof.now assumptions.now exports.now) (earlier ++ y ∷ []) self.new) }
+        ensures kept { AreKept proof.now self.new.kept }
     {
         match one {
             Made::Step(_) => self.add_step(proof, assumptions, exports, reached),
@@ -99,9 +107,11 @@ impl Making {
         exports: &[StepId],
         reached: &Reached,
     ) -> Result<(), Memory>
+        requires kept { AreKept proof.now self.old.kept }
         requires run { IsRun proof.now assumptions.now exports.now reached.now }
         requires next { (earlier later : List AMade) × (x : AStep) × (proof.now.made ≡ earlier ++ AMade.step x ∷ later) × IsMaking (run_of proof.now assumptions.now exports.now) earlier self.old }
-        ensures { OnOk result ((earlier later : List AMade) (x : AStep) → proof.now.made ≡ earlier ++ AMade.step x ∷ later → IsMaking (run_of proof.now assumptions.now exports.now) earlier self.old → IsMaking (run_of proof.now assumptions.now exports.now) (earlier ++ AMade.step x ∷ []) self.new) }
+        ensures making { OnOk result ((earlier later : List AMade) (x : AStep) → proof.now.made ≡ earlier ++ AMade.step x ∷ later → IsMaking (run_of proof.now assumptions.now exports.now) earlier self.old → IsMaking (run_of proof.now assumptions.now exports.now) (earlier ++ AMade.step x ∷ []) self.new) }
+        ensures kept { AreKept proof.now self.new.kept }
     {
         let id = self.numbers.len();
         let number = SIGNATURE + self.target.decls.len();
@@ -119,9 +129,11 @@ impl Making {
         reached: &Reached,
         one: &Made,
     ) -> Result<(), Memory>
+        requires kept { AreKept proof.now self.old.kept }
         requires run { IsRun proof.now assumptions.now exports.now reached.now }
         requires next { (earlier later : List AMade) × (y : AMade) × (proof.now.made ≡ earlier ++ y ∷ later) × IsNoted y one.now × IsMaking (run_of proof.now assumptions.now exports.now) earlier self.old }
-        ensures { OnOk result ((earlier later : List AMade) (y : AMade) → proof.now.made ≡ earlier ++ y ∷ later → IsNoted y one.now → IsMaking (run_of proof.now assumptions.now exports.now) earlier self.old → IsMaking (run_of proof.now assumptions.now exports.now) (earlier ++ y ∷ []) self.new) }
+        ensures making { OnOk result ((earlier later : List AMade) (y : AMade) → proof.now.made ≡ earlier ++ y ∷ later → IsNoted y one.now → IsMaking (run_of proof.now assumptions.now exports.now) earlier self.old → IsMaking (run_of proof.now assumptions.now exports.now) (earlier ++ y ∷ []) self.new) }
+        ensures kept { AreKept proof.now self.new.kept }
     {
         let symbols = proof.symbols();
         let _count = symbols.count();
@@ -141,12 +153,14 @@ impl Making {
         taken: SymbolView<'_>,
         one: &Made,
     ) -> Result<(), Memory>
+        requires kept { AreKept proof.now self.old.kept }
         requires run { IsRun proof.now assumptions.now exports.now reached.now }
         requires known { IsKnownSymbol proof.now.trees (taken_of_view taken) }
         requires next { (earlier later : List AMade) × (y : AMade) × (proof.now.made ≡ earlier ++ y ∷ later) × IsNoted y one.now × (made_symbol y ≡ Some (symbol_at proof.now.trees (taken_of_view taken))) × IsMaking (run_of proof.now assumptions.now exports.now) earlier self.old }
         ensures counted { OnOk result ((earlier later : List AMade) (y : AMade) → proof.now.made ≡ earlier ++ y ∷ later → IsNoted y one.now → made_symbol y ≡ Some (symbol_at proof.now.trees (taken_of_view taken.entry)) → IsMaking (run_of proof.now assumptions.now exports.now) earlier self.old → AreCounted (run_of proof.now assumptions.now exports.now) (items_made (run_of proof.now assumptions.now exports.now) (earlier ++ y ∷ [])) self.new) }
         ensures numbers { self.new.numbers ≡ self.old.numbers }
         ensures symbol { self.new.symbol ≡ self.old.symbol }
+        ensures kept { AreKept proof.now self.new.kept }
     {
         match taken {
             SymbolView::InputConst(name) => self.add(
@@ -193,12 +207,14 @@ impl Making {
         reached: &Reached,
         definition: TypeDefinition<'_>,
     ) -> Result<(), Memory>
+        requires kept { AreKept proof.now self.old.kept }
         requires run { IsRun proof.now assumptions.now exports.now reached.now }
         requires known { IsKnownSymbol proof.now.trees (operator_of_view definition.view) }
         requires next { (earlier later : List AMade) × (proof.now.made ≡ earlier ++ definition_made proof.now.trees definition.view definition.premise ∷ later) × IsMaking (run_of proof.now assumptions.now exports.now) earlier self.old }
         ensures counted { OnOk result ((earlier later : List AMade) → proof.now.made ≡ earlier ++ definition_made proof.now.trees definition.entry.view definition.entry.premise ∷ later → IsMaking (run_of proof.now assumptions.now exports.now) earlier self.old → AreCounted (run_of proof.now assumptions.now exports.now) (items_made (run_of proof.now assumptions.now exports.now) (earlier ++ definition_made proof.now.trees definition.entry.view definition.entry.premise ∷ [])) self.new) }
         ensures numbers { self.new.numbers ≡ self.old.numbers }
         ensures symbol { self.new.symbol ≡ self.old.symbol }
+        ensures kept { AreKept proof.now self.new.kept }
     {
         self.add(
             proof,
@@ -232,11 +248,13 @@ impl Making {
         reached: &Reached,
         item: Item<'_>,
     ) -> Result<(), Memory>
+        requires kept { AreKept proof.now self.old.kept }
         requires run { IsRun proof.now assumptions.now exports.now reached.now }
         requires next { (items grown : List AnItem) × AreCounted (run_of proof.now assumptions.now exports.now) items self.old × IsNextItem (run_of proof.now assumptions.now exports.now) items grown proof.now self.old.numbers.items item }
         ensures counted { OnOk result ((items grown : List AnItem) → AreCounted (run_of proof.now assumptions.now exports.now) items self.old → IsNextItem (run_of proof.now assumptions.now exports.now) items grown proof.now self.old.numbers.items item.entry → AreCounted (run_of proof.now assumptions.now exports.now) grown self.new) }
         ensures numbers { self.new.numbers ≡ self.old.numbers }
         ensures symbol { self.new.symbol ≡ self.old.symbol }
+        ensures kept { AreKept proof.now self.new.kept }
     {
         let _count = reached.len();
         self.declare_reached(proof, assumptions, exports, reached, item)?;
@@ -253,12 +271,14 @@ impl Making {
         reached: &Reached,
         item: Item<'_>,
     ) -> Result<(), Memory>
+        requires kept { AreKept proof.now self.old.kept }
         requires run { IsRun proof.now assumptions.now exports.now reached.now }
         requires next { (items grown : List AnItem) × AreCounted (run_of proof.now assumptions.now exports.now) items self.old × IsNextItem (run_of proof.now assumptions.now exports.now) items grown proof.now self.old.numbers.items item }
         ensures declared { OnOk result ((items grown : List AnItem) → AreCounted (run_of proof.now assumptions.now exports.now) items self.old → IsNextItem (run_of proof.now assumptions.now exports.now) items grown proof.now self.old.numbers.items item.entry → AreDeclared (run_of proof.now assumptions.now exports.now) grown self.new.target) }
         ensures item { self.new.item ≡ self.old.item }
         ensures numbers { self.new.numbers ≡ self.old.numbers }
         ensures symbol { self.new.symbol ≡ self.old.symbol }
+        ensures kept { AreKept proof.now self.new.kept }
     {
         if reached.contains(self.item) {
             self.declare(proof, assumptions, exports, item)
@@ -275,6 +295,7 @@ impl Making {
         exports: &[StepId],
         item: Item<'_>,
     ) -> Result<(), Memory>
+        requires kept { AreKept proof.now self.old.kept }
         requires sound { IsSoundRun (run_of proof.now assumptions.now exports.now) }
         requires named { HasNames (run_of proof.now assumptions.now exports.now) }
         requires next { (items grown : List AnItem) × AreDeclared (run_of proof.now assumptions.now exports.now) items self.old.target × IsKeptItem (run_of proof.now assumptions.now exports.now) items grown proof.now self.old.numbers.items item }
@@ -282,6 +303,7 @@ impl Making {
         ensures item { self.new.item ≡ self.old.item }
         ensures numbers { self.new.numbers ≡ self.old.numbers }
         ensures symbol { self.new.symbol ≡ self.old.symbol }
+        ensures kept { AreKept proof.now self.new.kept }
     {
         let decl = declaration(
             self.alloc,
@@ -290,6 +312,7 @@ impl Making {
             assumptions,
             exports,
             &self.numbers,
+            &mut self.kept,
             item,
         )?;
         self.target.push(decl)

@@ -6,9 +6,10 @@ ghost use Rattle.hol_rules.specs.Kept.{step_count};
 ghost use Rattle.hol_rules.specs.Views.{variable_view};
 ghost use Rattle.holide_sig.specs.Modules.{declarations_of, IsHeld};
 ghost use Rattle.lp_spec.specs.Modules.{Declaration};
-ghost use Rattle.module_spec.specs.Scopes.{Symbols, lifted, scope_of, under_proof as proof_under, under_term};
+ghost use Rattle.module_spec.specs.Scopes.{Symbols, lifted, scope_of, scope_of_terms, under_proof as proof_under, under_term};
 ghost use Rattle.translate_term.specs.Walks.{Grows};
 ghost use Rattle.rule_proofs.specs.Environments.{Stands};
+ghost use Rattle.rule_proofs.specs.Keeping.{lent_params, AreKept};
 ghost use Rattle.rule_proofs.specs.Rescoped.{over_types, with_scope};
 ghost use Rattle.translate_rule.specs.Steps.{given_at, given_over, AreParams};
 
@@ -17,19 +18,26 @@ use hol_name::Name;
 use hol_rules::{Proof, StepId};
 use hol_term::{TermId, Variable};
 use holide_sig::Module;
-use rule_proofs::Environment;
+use rule_proofs::{Environment, KeptParams, LentParams};
 use sequent::Params;
 use std::alloc::Global;
 
 // The parameters of a step's sequent.
-pub(crate) fn own_params(alloc: Global, proof: &Proof, id: StepId) -> Result<Params, Memory>
-    requires { id < step_count proof.now }
-    ensures { IfOk result (λ params. AreParams proof.now id params.type_vars params.free_vars) }
+pub(crate) fn own_params<'a>(
+    proof: &Proof,
+    kept: &'a KeptParams,
+    id: StepId,
+) -> Result<LentParams<'a>, Memory>
+    requires kept { AreKept proof.now kept.now }
+    requires id { id < step_count proof.now }
+    ensures { IfOk result (λ own. AreParams proof.now id (lent_params own).type_vars (lent_params own).free_vars) }
 {
-    let sequent = proof.sequent(id);
-    // No term of the table has two numbers.
-    let _conclusion = proof.terms().view(sequent.concl);
-    sequent.params(alloc, proof.terms())
+    let table = proof.terms();
+    let concl = proof.sequent(id).concl;
+    // No term of the table has two numbers, and no type has.
+    let _conclusion = table.view(concl);
+    let _ty = table.ty(concl);
+    kept.lend(proof, id)
 }
 
 // The environment of its binders.
@@ -47,6 +55,23 @@ pub(crate) fn own_environment(
     ensures grows { Grows target.old target.new }
 {
     Environment::of(alloc, target, params, proof.sequent(id).hyps.ids(), 0)
+}
+
+// That of the binders of its type variables and free variables alone.
+pub(crate) fn variable_environment(
+    alloc: Global,
+    target: &mut Module,
+    proof: &Proof,
+    params: &Params,
+    id: StepId,
+) -> Result<Environment, Memory>
+    requires id { id < step_count proof.now }
+    requires params { AreParams proof.now id params.now.type_vars params.now.free_vars }
+    requires held { IsHeld target.old }
+    ensures made { IfOk result (λ env. (declarations : List Declaration) (symbols : Symbols) → declarations_of target.old ≡ declarations → Stands (with_scope (given_at declarations symbols (sequent_at proof.now.made id)) (scope_of_terms symbols (sequent_at proof.now.made id))) target.new proof.now.trees env) }
+    ensures grows { Grows target.old target.new }
+{
+    Environment::of(alloc, target, params, &[], 0)
 }
 
 // That of a binder for each of some type variables, and of nothing else.

@@ -13,6 +13,7 @@ ghost use Rattle.module_spec.specs.Rows.{has_row as row_of_kind, proof_tree};
 ghost use Rattle.module_spec.specs.Scopes.{Symbols, scope_of};
 ghost use Rattle.translate_term.specs.Walks.{Grows};
 ghost use Rattle.rule_proofs.specs.Environments.{Stands};
+ghost use Rattle.rule_proofs.specs.Keeping.{AreKept};
 ghost use Rattle.rule_proofs.specs.Told.{TellsSequent};
 ghost use Rattle.translate_rule.specs.LawSteps.{IsFirstLawStep, IsOperatorStep, IsSecondLawStep};
 ghost use Rattle.translate_rule.specs.Steps.{given_at, needed_at, row_of, AreParams, TellsGiven, TellsRow};
@@ -25,8 +26,8 @@ use hol_spec::{StepKind, Version};
 use holide_sig::Module;
 use lp_term::LpId;
 use rule_proofs::{
-    Environment, Premise, abs_thm, app_thm, constant_list, deduct_antisym, eq_mp, first_law,
-    first_law_free, prove_hyp, refl, second_law, second_law_free, subst, sym, trans,
+    Environment, KeptParams, Premise, abs_thm, app_thm, constant_list, deduct_antisym, eq_mp,
+    first_law, first_law_free, prove_hyp, refl, second_law, second_law_free, subst, sym, trans,
 };
 use sequent::Params;
 use std::alloc::Global;
@@ -37,10 +38,12 @@ pub(crate) fn needed_row(
     target: &mut Module,
     proof: &Proof,
     symbols: &[usize],
+    kept: &KeptParams,
     params: &Params,
     id: StepId,
     env: &mut Environment,
 ) -> Result<LpId, Memory>
+    requires kept { AreKept proof.now kept.now }
     requires id { id < step_count proof.now }
     requires symbols { id ≤ length symbols.now }
     requires row { row_of_kind (step_at proof.now.made id).kind ≡ true }
@@ -52,9 +55,9 @@ pub(crate) fn needed_row(
     proof.is_proof();
     if proves_nothing(proof, id) {
         let (_, two) = two_premises(proof, symbols, id);
-        env.theorem(target, proof, two)
+        env.theorem(target, proof, kept, two)
     } else {
-        row(alloc, target, proof, symbols, params, id, env)
+        row(alloc, target, proof, symbols, kept, params, id, env)
     }
 }
 
@@ -64,10 +67,12 @@ fn row(
     target: &mut Module,
     proof: &Proof,
     symbols: &[usize],
+    kept: &KeptParams,
     params: &Params,
     id: StepId,
     env: &mut Environment,
 ) -> Result<LpId, Memory>
+    requires kept { AreKept proof.now kept.now }
     requires id { id < step_count proof.now }
     requires symbols { id ≤ length symbols.now }
     requires row { row_of_kind (step_at proof.now.made id).kind ≡ true }
@@ -81,11 +86,11 @@ fn row(
         0 => plain_row(target, proof, id, env),
         1 => {
             let one = one_premise(proof, symbols, id);
-            one_row(alloc, target, proof, params, id, env, one)
+            one_row(alloc, target, proof, kept, params, id, env, one)
         }
         _ => {
             let (one, two) = two_premises(proof, symbols, id);
-            two_row(alloc, target, proof, params, id, env, one, two)
+            two_row(alloc, target, proof, kept, params, id, env, one, two)
         }
     }
 }
@@ -119,11 +124,13 @@ fn one_row(
     alloc: Global,
     target: &mut Module,
     proof: &Proof,
+    kept: &KeptParams,
     params: &Params,
     id: StepId,
     env: &Environment,
     one: Premise,
 ) -> Result<LpId, Memory>
+    requires kept { AreKept proof.now kept.now }
     requires id { id < step_count proof.now }
     requires premise { (step_at proof.now.made id).premises ≡ one.id ∷ [] }
     requires one { one.id < step_count proof.now }
@@ -135,10 +142,10 @@ fn one_row(
 {
     proof.is_proof();
     match proof.kind(id) {
-        StepKind::AbsThm => abs_row(alloc, target, proof, params, id, env, one),
-        StepKind::Sym => sym(target, proof, env, one),
-        StepKind::Subst => subst_row(target, proof, id, env, one),
-        StepKind::Restate => env.theorem(target, proof, one),
+        StepKind::AbsThm => abs_row(alloc, target, proof, kept, params, id, env, one),
+        StepKind::Sym => sym(target, proof, env, kept, one),
+        StepKind::Subst => subst_row(target, proof, kept, id, env, one),
+        StepKind::Restate => env.theorem(target, proof, kept, one),
         StepKind::DefineConstList => list_row(target, proof, id, env, one),
         StepKind::FirstLaw => first_law_row(alloc, target, proof, params, id, env, one),
         StepKind::SecondLaw => second_law_row(alloc, target, proof, params, id, env, one),
@@ -151,12 +158,14 @@ fn two_row(
     alloc: Global,
     target: &mut Module,
     proof: &Proof,
+    kept: &KeptParams,
     params: &Params,
     id: StepId,
     env: &mut Environment,
     one: Premise,
     two: Premise,
 ) -> Result<LpId, Memory>
+    requires kept { AreKept proof.now kept.now }
     requires id { id < step_count proof.now }
     requires premises { (step_at proof.now.made id).premises ≡ one.id ∷ two.id ∷ [] }
     requires one { one.id < step_count proof.now }
@@ -168,11 +177,13 @@ fn two_row(
 {
     proof.is_proof();
     match proof.kind(id) {
-        StepKind::EqMp => eq_mp(target, proof, env, one, two),
-        StepKind::AppThm => app_thm(target, proof, env, id, one, two),
-        StepKind::DeductAntisym => deduct_row(alloc, target, proof, params, id, env, one, two),
-        StepKind::Trans => trans(target, proof, env, one, two),
-        StepKind::ProveHyp => prove_hyp(target, proof, env, one, two),
+        StepKind::EqMp => eq_mp(target, proof, env, kept, one, two),
+        StepKind::AppThm => app_thm(target, proof, env, kept, id, one, two),
+        StepKind::DeductAntisym => deduct_row(
+            alloc, target, proof, kept, params, id, env, one, two,
+        ),
+        StepKind::Trans => trans(target, proof, env, kept, one, two),
+        StepKind::ProveHyp => prove_hyp(target, proof, env, kept, one, two),
         _ => unreachable!(),
     }
 }
@@ -182,11 +193,13 @@ fn abs_row(
     alloc: Global,
     target: &mut Module,
     proof: &Proof,
+    kept: &KeptParams,
     params: &Params,
     id: StepId,
     env: &Environment,
     one: Premise,
 ) -> Result<LpId, Memory>
+    requires kept { AreKept proof.now kept.now }
     requires id { id < step_count proof.now }
     requires kind { (step_at proof.now.made id).kind ≡ AbsThm }
     requires premise { (step_at proof.now.made id).premises ≡ one.id ∷ [] }
@@ -201,7 +214,7 @@ fn abs_row(
         unreachable!()
     };
     let inner = under_variable(alloc, target, proof, params, id, variable)?;
-    abs_thm(target, proof, env, &inner, variable, one)
+    abs_thm(target, proof, env, &inner, kept, variable, one)
 }
 
 // The row of `deductAntisym`, with the environments under the binders that prove the conclusions.
@@ -209,12 +222,14 @@ fn deduct_row(
     alloc: Global,
     target: &mut Module,
     proof: &Proof,
+    kept: &KeptParams,
     params: &Params,
     id: StepId,
     env: &Environment,
     one: Premise,
     two: Premise,
 ) -> Result<LpId, Memory>
+    requires kept { AreKept proof.now kept.now }
     requires id { id < step_count proof.now }
     requires one { one.id < step_count proof.now }
     requires two { two.id < step_count proof.now }
@@ -227,17 +242,19 @@ fn deduct_row(
     let first = under_proof(alloc, target, proof, params, id, p)?;
     let q = proof.sequent(two.id).concl;
     let second = under_proof(alloc, target, proof, params, id, q)?;
-    deduct_antisym(target, proof, env, &first, &second, one, two)
+    deduct_antisym(target, proof, env, &first, &second, kept, one, two)
 }
 
 // The row of substitution, by what the step was given.
 fn subst_row(
     target: &mut Module,
     proof: &Proof,
+    kept: &KeptParams,
     id: StepId,
     env: &Environment,
     one: Premise,
 ) -> Result<LpId, Memory>
+    requires kept { AreKept proof.now kept.now }
     requires id { id < step_count proof.now }
     requires kind { (step_at proof.now.made id).kind ≡ Subst }
     requires premise { (step_at proof.now.made id).premises ≡ one.id ∷ [] }
@@ -250,7 +267,7 @@ fn subst_row(
     let Parameters::Subst(put) = proof.params(id) else {
         unreachable!()
     };
-    subst(target, proof, env, id, put, one)
+    subst(target, proof, env, kept, id, put, one)
 }
 
 // The row of a list of constants, by what the step was given.

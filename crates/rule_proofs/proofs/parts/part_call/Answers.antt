@@ -9,6 +9,9 @@ use Rattle.rule_proofs.proofs.PartLaws.{held-predicate, held-witness, whole-told
 use Rattle.rule_proofs.proofs.TheoremLaws.{Ready-start}
 use Rattle.rule_proofs.proofs.parts.part_call.Goals as goal
 
+pub add_theorem-requires-clause-kept : goal.add_theorem-requires-clause-kept
+add_theorem-requires-clause-kept c = c.new-kept.ensures.kept c.args.proof.now
+
 pub add_type-requires-clause-told : goal.add_type-requires-clause-told
 add_type-requires-clause-told c =
     let k = c.args.proof.now in

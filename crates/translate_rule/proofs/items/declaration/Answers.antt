@@ -14,8 +14,8 @@ use Rattle.translate_rule.proofs.PartLaws.{part-content}
 use Rattle.translate_rule.proofs.PushLaws.{told-content}
 use Rattle.translate_rule.proofs.items.declaration.Goals as goal
 
-pub step-requires-clause-told : goal.step-requires-clause-told
-step-requires-clause-told c =
+pub step_with-requires-clause-told : goal.step_with-requires-clause-told
+step_with-requires-clause-told c =
     let q = c.requires.told in (
       q.0,
       told-content (declarations_of c.args.target.now) q.0 (content_at c.args.numbers.now c.args.proof.now.made c.in-Step.id)
@@ -63,7 +63,7 @@ returns-in-Part-clause-made c =
     (IfOk-weaker c.part_declaration.result _ _
     (λ d h tables told. h tables (subst (TellsContent (declarations_of c.args.target.now) tables) (sym same) told) ∙ ap (declaration_of tables (part_name part (names_of definition))) same) c.part_declaration.ensures.made)
 
-pub returns-in-Step-clause-made : goal.returns-in-Step-clause-made
-returns-in-Step-clause-made c =
+pub returns-in_ok-note-in-Step-clause-made : goal.returns-in_ok-note-in-Step-clause-made
+returns-in_ok-note-in-Step-clause-made c =
     rw c.in-Step.is
-    (IfOk-weaker c.step.result _ _ (λ d h tables told. h tables (told-content (declarations_of c.args.target.now) tables (content_at c.args.numbers.now c.args.proof.now.made c.in-Step.id) told)) c.step.ensures.made)
+    (IfOk-weaker c.step_with.result _ _ (λ d h tables told. h tables (told-content (declarations_of c.args.target.now) tables (content_at c.args.numbers.now c.args.proof.now.made c.in-Step.id) told)) c.step_with.ensures.made)

@@ -7,21 +7,27 @@ use Rattle.translate_rule.proofs.RunLaws.{next-thing, all-made}
 use Rattle.translate_rule.proofs.TurnLaws.{all-declared}
 use Rattle.translate_rule.proofs.making.module.Goals as goal
 
+pub loop-one-init : goal.loop-one-init
+loop-one-init c = (c.in_ok-making.ensures.making (run_of c.args.proof.now c.args.assumptions.now c.args.exports.now), c.in_ok-making.ensures.kept c.args.proof.now)
+
+pub add_made-requires-clause-kept : goal.add_made-requires-clause-kept
+add_made-requires-clause-kept c = c.loop-one.invariant.1
+
 pub add_made-requires-clause-next : goal.add_made-requires-clause-next
 add_made-requires-clause-next c =
     let made = c.args.proof.now.made in
     let t = next-thing (symbols_of made) (steps_of made) c.made-one-items.result.now made c.loop-one.one-index c.one-item.result c.made-one-items.ensures c.one-item.is c.loop-one-test.true in
-    (take c.loop-one.one-index made, _, t.thing, t.whole, t.kind, c.loop-one.invariant)
+    (take c.loop-one.one-index made, _, t.thing, t.whole, t.kind, c.loop-one.invariant.0)
 
 pub loop-one-preserved : goal.loop-one-preserved
 loop-one-preserved c =
     let made = c.args.proof.now.made in
     let run = run_of c.args.proof.now c.args.assumptions.now c.args.exports.now in
     let t = next-thing (symbols_of made) (steps_of made) c.made-one-items.result.now made c.loop-one.one-index c.one-item.result c.made-one-items.ensures c.one-item.is c.loop-one-test.true in
-    subst (λ l. IsMaking run l c.add_made.new.self) (sym t.more) (c.in_ok-add_made.ensures _ _ t.thing t.whole t.kind c.loop-one.invariant)
+    (subst (λ l. IsMaking run l c.add_made.new.self) (sym t.more) (c.in_ok-add_made.ensures.making _ _ t.thing t.whole t.kind c.loop-one.invariant.0), c.add_made.ensures.kept)
 
 pub returns-clause-module : goal.returns-clause-module
 returns-clause-module c =
     let made = c.args.proof.now.made in
     all-declared (run_of c.args.proof.now c.args.assumptions.now c.args.exports.now) _ c.loop-one.making
-    (all-made (symbols_of made) (steps_of made) c.made-one-items.result.now made c.loop-one.one-index c.made-one-items.ensures (omega (arith, c.loop-one-test.false))) c.loop-one.invariant
+    (all-made (symbols_of made) (steps_of made) c.made-one-items.result.now made c.loop-one.one-index c.made-one-items.ensures (omega (arith, c.loop-one-test.false))) c.loop-one.invariant.0

@@ -16,8 +16,8 @@ add-requires-clause-next c =
       step-next c.args.proof.now c.args.assumptions.now c.args.exports.now c.requires.run.sound q.0 q.1 q.2 q.3 c.args.self.now q.4 c.len-id.result (omega (arith, c.len-id.ensures, c.args.self.now.numbers.ok)),
     )
 
-pub returns : goal.returns
-returns c = λ earlier later x whole h.
+pub returns-clause-making : goal.returns-clause-making
+returns-clause-making c = λ earlier later x whole h.
     let run = run_of c.args.proof.now c.args.assumptions.now c.args.exports.now in
     let next = step-next c.args.proof.now c.args.assumptions.now c.args.exports.now c.requires.run.sound earlier later x whole c.args.self.now h c.len-id.result (omega (arith, c.len-id.ensures, c.args.self.now.numbers.ok)) in
     let counted = c.in_ok-add.ensures.counted (items_made run earlier) (items_made run (earlier ++ Made.step x ∷ [])) h.counted next in

@@ -23,8 +23,8 @@ add_taken-requires-clause-next c =
       q.5,
     )
 
-pub returns : goal.returns
-returns c = λ earlier later y whole noted h.
+pub returns-clause-making : goal.returns-clause-making
+returns-clause-making c = λ earlier later y whole noted h.
     let run = run_of c.args.proof.now c.args.assumptions.now c.args.exports.now in
     let here = taken-here c.args.proof.now.trees c.symbols-symbols.result.now c.args.proof.now.made earlier later y c.args.one.now c.args.self.now.symbol _ c.symbols-symbols.ensures.are whole noted h.symbol c.view-taken.ensures in
     symbol-made run earlier y _ here c.args.self.now c.add_taken.new.self _ h (c.in_ok-add_taken.ensures.counted earlier later y whole noted here h) c.in_ok-add_taken.ensures.numbers (ap (λ n. n + 1) c.in_ok-add_taken.ensures.symbol)

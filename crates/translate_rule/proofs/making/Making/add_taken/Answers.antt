@@ -97,4 +97,5 @@ returns-in_default c = record {
       absurd (definition-told p.trees p.made earlier later y c.args.one.now c.in-TypeOp.view c.requires.run.sound.proof whole noted is c.in_default.not-TypeOp);
   numbers = refl;
   symbol = refl;
+  kept = c.requires.kept;
 }

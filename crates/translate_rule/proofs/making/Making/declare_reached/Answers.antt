@@ -5,6 +5,7 @@ use Rattle.translate_rule.proofs.making.Making.declare_reached.Goals as goal
 pub declare-requires : goal.declare-requires
 declare-requires c =
     let q = c.requires.next in record {
+      kept = c.requires.kept;
       sound = c.requires.run.sound;
       named = c.requires.run.named;
       next = (

@@ -1,0 +1,15 @@
+use Rattle.std.proofs.lemmas.Result.{IfOk-weaker}
+use Rattle.hol_spec.specs.Proofs.{sequent_at}
+use Rattle.module_spec.specs.Scopes.{scope_of_terms}
+use Rattle.rule_proofs.specs.Rescoped.{with_scope}
+use Rattle.translate_rule.specs.Steps.{given_at}
+use Rattle.translate_rule.proofs.OwnLaws.{placed-variables}
+use Rattle.translate_rule.proofs.own.variable_environment.Goals as goal
+
+pub returns-clause-made : goal.returns-clause-made
+returns-clause-made c =
+    let k = c.args.proof.now in
+    let s = sequent_at k.made c.args.id in
+    IfOk-weaker c.of.result _ _
+    (λ env h d symbols declared. h (with_scope (given_at d symbols s) (scope_of_terms symbols s)) k.trees (placed-variables k c.args.id d symbols c.args.target.now c.requires.held declared _ _ c.requires.params))
+    c.of.ensures.made
