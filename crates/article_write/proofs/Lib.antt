@@ -1,2 +1,3 @@
 pub mod FittingLaws
+pub mod GatheringLaws
 pub mod PlanLaws

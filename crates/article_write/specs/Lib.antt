@@ -1,3 +1,4 @@
 pub mod Fitting
+pub mod Gathering
 pub mod Pairs
 pub mod Plans

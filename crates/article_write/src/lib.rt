@@ -21,9 +21,11 @@
 //! | `planning` | `plan` |
 //! | `planned` | a plan, and what it tells |
 //! | `writing` | `write` |
+//! | `gathering` | a sink that gathers what another sink is to get |
 #![tactic(auto)]
 
 mod fitting;
+mod gathering;
 mod pairs;
 mod planned;
 mod planning;

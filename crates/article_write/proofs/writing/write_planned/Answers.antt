@@ -9,7 +9,7 @@ use Rattle.article_lines.specs.Flagged.{flag, AreExports}
 use Rattle.article_lines.specs.Writing.{Writes}
 use Rattle.article_write.specs.Plans.{IsPlanOf}
 use Rattle.article_write.proofs.PlanLaws.{plan-text}
-use Rattle.article_write.proofs.writing.write.Goals as goal
+use Rattle.article_write.proofs.writing.write_planned.Goals as goal
 
 pub returns : goal.returns
 returns g c version run h =
