@@ -150,3 +150,8 @@ pub data ShowsWithin : Option ℕ → List ℕ → Refusal → Type 0 where
   within : {limit : Option ℕ} {bytes : List ℕ} {r : Refusal} → IsWithin limit bytes → Shows bytes r → ShowsWithin limit bytes r
   early : {n : ℕ} {bytes : List ℕ} {r : Refusal} → n < length bytes → ((more : List ℕ) → Shows (take n bytes ++ more) r) → ShowsWithin (Some n) bytes r
   too_long : {n : ℕ} {bytes : List ℕ} → n < length bytes → ShowsWithin (Some n) bytes (refusal n DkTooLong)
+
+-- a fault that a text shows under a limit, before all others of it
+pub record IsLeastWithin (limit : Option ℕ) (bytes : List ℕ) (r : Refusal) : Type 0 where
+  pub shown : ShowsWithin limit bytes r
+  pub least : (s : Refusal) → ShowsWithin limit bytes s → (r.place < s.place) ⊎ (r ≡ s)

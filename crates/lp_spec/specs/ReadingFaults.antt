@@ -8,7 +8,7 @@ use Rattle.lp_spec.specs.Modules.{Declaration, signature}
 use Rattle.lp_spec.specs.ModuleOrder.{is_declared}
 use Rattle.lp_spec.specs.ShortNames.{named_tree}
 use Rattle.lp_spec.specs.Text.{prelude}
-use Rattle.lp_spec.specs.Tokens.{Token, Name, TypeWord, DefWord, ThmWord, Colon, Assign, Arrow, FatArrow, Dot, LeftParen, RightParen, Placed, at, End, ended, stuck, Pending, Nothing, Taken, goes, sticks, take_byte, last_tokens, end_at}
+use Rattle.lp_spec.specs.Tokens.{Token, Name, TypeWord, DefWord, ThmWord, Colon, Assign, Arrow, FatArrow, Dot, LeftParen, RightParen, Placed, at, End, ended, stuck, Pending, Nothing, InWord, AfterColon, AfterMinus, AfterEquals, Taken, goes, sticks, take_byte, last_tokens, end_at}
 use Rattle.lp_spec.specs.Reading.{Scope, variable_of, symbol_of, max_depth}
 
 -- the text doesn't begin as every module does; a token can't follow, or a byte begins none, or a comment or a declaration doesn't end;
@@ -245,10 +245,53 @@ unread = Opening 0 prelude
 abbrev pub answer : List ℕ → Answer
 answer bytes = read_end (read_bytes unread bytes)
 
+-- the fault at which an outcome stops, and that of a token that can't follow alone
+abbrev pub stop_of : Outcome → Option Refusal
+stop_of (Stops r) = Some r
+stop_of (Goes m state) = None
+
+abbrev pub bad_text : ℕ → Fault → Option Refusal
+bad_text p BadText = Some (refusal p BadText)
+bad_text p _ = None
+
+abbrev pub bad_text_of : Outcome → Option Refusal
+bad_text_of (Stops r) = bad_text r.place r.fault
+bad_text_of (Goes m state) = None
+
+-- an identifier at place q that is no binder and means this, if anything
+abbrev pub unknown : ℕ → List ℕ → Option Tree → Option Refusal
+unknown q name None = Some (refusal q (UnknownName name))
+unknown q name (Some x) = None
+
+-- the fault of a word at place p, whichever word it is
+abbrev pub any_word : List Declaration → State → ℕ → Option Refusal
+any_word m (AfterName form name) p = Some (refusal p BadText)
+any_word m (AfterFirst head frames q name) p = unknown q name (meaning m frames name)
+any_word m state p = None
+
+-- the fault of a `:` and of a `:=` at place p
+abbrev pub any_colon : List Declaration → State → ℕ → Option Refusal
+any_colon m (AfterName form name) p = None
+any_colon m (AfterFirst head frames q name) p = None
+any_colon m state p = bad_text_of (advance m state p Assign)
+
+-- the fault that a token shows whatever it becomes, where the bytes that may be read end in it; a `(` may begin a comment
+abbrev pub cut_token : List Declaration → State → Pending → Option Refusal
+cut_token m state (InWord p bytes) = any_word m state p
+cut_token m state (AfterColon p) = any_colon m state p
+cut_token m state (AfterMinus p) = stop_of (advance m state p Arrow)
+cut_token m state (AfterEquals p) = stop_of (advance m state p FatArrow)
+cut_token m state _ = None
+
+abbrev pub or_too_long : ℕ → Option Refusal → Answer
+or_too_long n (Some r) = refused r
+or_too_long n None = refused (refusal n DkTooLong)
+
 -- a text of more than n bytes is refused for a fault that its first n bytes show, or else at its byte n + 1
 abbrev pub cut_at : ℕ → Progress → Answer
 cut_at n (Refused r) = refused r
-cut_at n _ = refused (refusal n DkTooLong)
+cut_at n (Opening p wanted) = or_too_long n None
+cut_at n (Inside p pending m state) = or_too_long n (cut_token m state pending)
 
 -- what a text reads as under a limit of so many bytes, if there is one
 abbrev pub answer_within : Option ℕ → List ℕ → Answer

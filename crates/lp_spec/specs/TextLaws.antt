@@ -9,8 +9,8 @@ use Rattle.lp_spec.specs.Text.{Line, SymbolLine, RewrittenLine, RuleLine, prelud
 use Rattle.lp_spec.specs.ShortNames.{AreLong}
 use Rattle.lp_spec.specs.Tokens.{Name, is_letter, is_word_byte, word_token}
 use Rattle.lp_spec.specs.Reading.{max_depth, Reads}
-use Rattle.lp_spec.specs.ReadingFaults.{Refusal, DkTooLong, reads, refused, answer, answer_within}
-use Rattle.lp_spec.specs.Faults.{Shows, IsLeastFault, ShowsWithin}
+use Rattle.lp_spec.specs.ReadingFaults.{Refusal, reads, refused, answer, answer_within}
+use Rattle.lp_spec.specs.Faults.{Shows, IsLeastFault, ShowsWithin, IsLeastWithin}
 
 -- a text reads as one module and has no refusal
 pub record ReadsOnce (bytes : List ℕ) : Type 0 where
@@ -41,12 +41,13 @@ pub record FaultsTold (bytes : List ℕ) : Type 0 where
 abbrev pub EachFaultTold : Type 0
 EachFaultTold = (bytes : List ℕ) → FaultsTold bytes
 
--- The law of limits: under a limit of its bytes a text is refused for a fault that it shows under it, the one at the least place where it
--- isn't refused as too long; a text that reads as a module under it shows none.
+-- The law of limits: under a limit of its bytes a text is refused for a fault that it shows under it, the one at the least place, and for
+-- each such fault; a text that reads as a module under it shows none.
 pub record LimitsTold (limit : Option ℕ) (bytes : List ℕ) : Type 0 where
   pub shown : (r : Refusal) → answer_within limit bytes ≡ refused r → ShowsWithin limit bytes r
-  pub least : (r other : Refusal) → answer_within limit bytes ≡ refused r → (r.fault ≡ DkTooLong → ⊥) → ShowsWithin limit bytes other → (r.place < other.place) ⊎ (r ≡ other)
+  pub least : (r other : Refusal) → answer_within limit bytes ≡ refused r → ShowsWithin limit bytes other → (r.place < other.place) ⊎ (r ≡ other)
   pub none : (m : List Declaration) (r : Refusal) → answer_within limit bytes ≡ reads m → ShowsWithin limit bytes r → ⊥
+  pub told : (r : Refusal) → IsLeastWithin limit bytes r → answer_within limit bytes ≡ refused r
 
 abbrev pub EachLimitTold : Type 0
 EachLimitTold = (limit : Option ℕ) (bytes : List ℕ) → LimitsTold limit bytes

@@ -7,7 +7,7 @@ use Rattle.lp_spec.specs.ReadingFaults.{answer_within, refused, DkTooLong, refus
 use Rattle.lp_spec.specs.Trees.{Tree, SortType, Pi, depth}
 use Rattle.lp_spec.specs.Reading.{Scope, Term, nameless, plain, application, sort, none, IsNew}
 use Rattle.lp_spec.specs.Faults as faults
-use Rattle.lp_spec.specs.Faults.{none_yet, symbol_name, symbol_type, first, of_symbol, of_theorem, only_type, type_before_body, of_whole, of_term, further, TokensShow, name_twice, unknown_name, too_deep, Shows, no_prelude, by_tokens, no_token}
+use Rattle.lp_spec.specs.Faults.{none_yet, symbol_name, symbol_type, first, of_symbol, of_theorem, type_before_body, of_whole, of_term, further, TokensShow, name_twice, unknown_name, too_deep, Shows, no_prelude, by_tokens, no_token}
 use Rattle.text_laws.specs.FaultLaws.{refusals_shown}
 
 -- a symbol of the signature is declared again
@@ -51,6 +51,32 @@ arrow_tree-depth (suc n) = omega (arith, arrow_tree-depth n)
 deep : (n : ℕ) (name : List ℕ) (p : ℕ) → IsNew [] name → max_depth ≤ n → TokensShow (at 0 (Name name) ∷ at 0 Colon ∷ arrows n (at p Dot ∷ [])) (refusal p DkTooDeep)
 deep n name p new h = too_deep (symbol_type (symbol_name none_yet new)) (arrows-Term n [] (at p Dot ∷ [])) (omega (arith, h, arrow_tree-depth n))
 
--- a token that the limit cuts is not judged, also where it can't follow whatever it becomes
-cut_token : answer_within (Some (length prelude + 1)) (prelude ++ codes ":x") ≡ refused (refusal (length prelude + 1) DkTooLong)
-cut_token = refl
+-- a `:` that the limit cuts, also as `:=`, begins no declaration
+cut_colon : answer_within (Some (length prelude + 1)) (prelude ++ codes ":x") ≡ refused (refusal (length prelude) BadText)
+cut_colon = refl
+
+-- after a declared name only `:` may stand: neither a `-` nor a word, whatever they become
+cut_after_name : answer_within (Some (length prelude + 3)) (prelude ++ codes "a ->") ≡ refused (refusal (length prelude + 2) BadText)
+cut_after_name = refl
+
+word_after_name : answer_within (Some (length prelude + 3)) (prelude ++ codes "a bc") ≡ refused (refusal (length prelude + 2) BadText)
+word_after_name = refl
+
+-- but a `(` may begin a comment
+paren_after_name : answer_within (Some (length prelude + 3)) (prelude ++ codes "a (x") ≡ refused (refusal (length prelude + 3) DkTooLong)
+paren_after_name = refl
+
+-- after a type a `->` may stand
+cut_arrow : answer_within (Some (length prelude + 10)) (prelude ++ codes "a : Type ->") ≡ refused (refusal (length prelude + 10) DkTooLong)
+cut_arrow = refl
+
+-- the word that is cut tells that the identifier before it is no binder
+cut_argument : answer_within (Some (length prelude + 7)) (prelude ++ codes "a : b cd") ≡ refused (refusal (length prelude + 4) (UnknownName (codes "b")))
+cut_argument = refl
+
+-- neither `:` nor `:=` can follow a symbol's type, and `:=` that of a definition
+cut_assign : answer_within (Some (length prelude + 10)) (prelude ++ codes "a : Type :=") ≡ refused (refusal (length prelude + 9) BadText)
+cut_assign = refl
+
+cut_definition : answer_within (Some (length prelude + 14)) (prelude ++ codes "def a : Type :=") ≡ refused (refusal (length prelude + 14) DkTooLong)
+cut_definition = refl

@@ -30,7 +30,7 @@ after_end : (e n : ℕ) (tokens : List Placed) → AreAfter e n tokens → n < e
 after_end e n [] h = h
 after_end e n (at p token ∷ tokens) h = after_end e n tokens h.1
 
-after_front : (e n p : ℕ) (token : Token) (front rest : List Placed) → AreAfter e n (front ++ at p token ∷ rest) → n < p
+pub after_front : (e n p : ℕ) (token : Token) (front rest : List Placed) → AreAfter e n (front ++ at p token ∷ rest) → n < p
 after_front e n p token [] rest h = h.0
 after_front e n p token (at q other ∷ front) rest h = after_front e n p token front rest h.1
 

@@ -325,6 +325,12 @@ twice_stops m Symbol name p rest h = ap (λ (b : Bool). advance_all (if b then s
 twice_stops m Def name p rest h = ap (λ (b : Bool). advance_all (if b then stops p (NameTwice name) else Goes m (AfterName Def name)) rest) h
 twice_stops m Thm name p rest h = ap (λ (b : Bool). advance_all (if b then stops p (NameTwice name) else Goes m (AfterName Thm name)) rest) h
 
+-- where a tree ends that is too deep, the reading stops for that
+pub deep-Stops : {all : List Placed} {m : List Declaration} {last : Token} {tokens rest : List Placed} {p : ℕ} {t : Tree} → WholeReads all m last tokens → Term m [] tokens (at p last ∷ rest) t → max_depth < depth t → run [] Between all ≡ Stops (refusal p DkTooDeep)
+deep-Stops {m = m} {rest = rest} {p = p} {t = t} w u k =
+    let r = whole_read w in
+    r.run ∙ term_runs m u r.head [] refl tt (closed_end p rest r.closed) ∙ closed_deep m r.head t p rest r.closed k
+
 module _ (end : End) (all : List Placed) (ascending : AreAscending (place_of end) all) where
   abbrev answered : Answer
   answered = answers (run [] Between all) end
@@ -358,7 +364,4 @@ module _ (end : End) (all : List Placed) (ascending : AreAscending (place_of end
       least (reached y h) = no_later (run [] Between all) (refusal p (NameTwice name)) (refusal p (NameTwice name)) end (h ∙ twice_stops y.m form name p rest (is_declared-is_symbol y.m names name y.named ∙ i)) (inr refl)
 
   pub deep-no-later : {m : List Declaration} {last : Token} {tokens rest : List Placed} {p : ℕ} {t : Tree} → WholeReads all m last tokens → Term m [] tokens (at p last ∷ rest) t → max_depth < depth t → IsNoLater answered (refusal p DkTooDeep)
-  deep-no-later {m = m} {rest = rest} {p = p} {t = t} w u k =
-      let r = whole_read w in
-      no_later (run [] Between all) (refusal p DkTooDeep) (refusal p DkTooDeep) end
-      (r.run ∙ term_runs m u r.head [] refl tt (closed_end p rest r.closed) ∙ closed_deep m r.head t p rest r.closed k) (inr refl)
+  deep-no-later {p = p} w u k = no_later (run [] Between all) (refusal p DkTooDeep) (refusal p DkTooDeep) end (deep-Stops w u k) (inr refl)

@@ -1,3 +1,7 @@
+pub mod AnswerPlaces
+pub mod CutGoesOn
+pub mod CutScans
+pub mod CutTokens
 pub mod FaultContexts
 pub mod FaultFollows
 pub mod FaultLaws
@@ -8,6 +12,7 @@ pub mod FaultNames
 pub mod FaultPlaces
 pub mod FaultReach
 pub mod FaultStands
+pub mod LeastWithin
 pub mod PreludeLaws
 pub mod ReadTrees
 pub mod ReadingComplete

@@ -17,7 +17,7 @@ advance_all-append (Stops r) front tokens = refl
 advance_all-append (Goes m state) [] tokens = refl
 advance_all-append (Goes m state) (at p token ∷ front) tokens = advance_all-append (advance m state p token) front tokens
 
-answers-stuck : (o : Outcome) (q : ℕ) → answers o (stuck q) ≡ refused (broken o q)
+pub answers-stuck : (o : Outcome) (q : ℕ) → answers o (stuck q) ≡ refused (broken o q)
 answers-stuck (Stops r) q = refl
 answers-stuck (Goes m Between) q = refl
 answers-stuck (Goes m _) q = refl
@@ -72,9 +72,10 @@ prelude_read p (b ∷ wanted) text =
     ∙ prelude_read (p + 1) wanted text
     ∙ ap (λ q. read_bytes (Inside q Nothing [] Between) text) (omega arith)
 
-record IsOpened (wanted bytes : List ℕ) : Type 0 where
-  text : List ℕ
-  is : bytes ≡ wanted ++ text
+-- the bytes begin by those wanted
+pub record IsOpened (wanted bytes : List ℕ) : Type 0 where
+  pub text : List ℕ
+  pub is : bytes ≡ wanted ++ text
 
 opened_by : (p b c : ℕ) (wanted bytes : List ℕ) (m : List Declaration) (same : Bool) → (b == c) ≡ same → read_end (read_bytes (if same then opened (p + 1) wanted else Refused (refusal p NoPrelude)) bytes) ≡ reads m → (read_end (read_bytes (opened (p + 1) wanted) bytes) ≡ reads m → IsOpened wanted bytes) → IsOpened (c ∷ wanted) (b ∷ bytes)
 opened_by p b c wanted bytes m true e h k = let r = k h in record { text = r.text; is = cc (eqb-true b c e, r.is) }

@@ -8,8 +8,9 @@
 //! | `ReadingSound`, `ReadingComplete`, `TermEnds` | what is not refused is of the grammar, and what is of the grammar is not refused; how the tokens behind a term begin |
 //! | `ReadingLaws` | so every text has one answer |
 //! | `FaultNames`, `FaultContexts`, `FaultMoves`, `FaultReach`, `FaultStands`, `FaultFollows`, `FaultPlaces`, `FaultLeast`, `FaultLaws` | a text is refused for a fault that it shows, the one at the least place |
-//! | `FaultLimits` | and so it is under a limit of its bytes |
+//! | `CutTokens`, `CutScans`, `CutGoesOn`, `FaultLimits` | and so it is under a limit of its bytes, whether or not it cuts a token |
 //! | `ReadingOrder` | what has been read so far can come in a module |
+//! | `AnswerPlaces`, `LeastWithin` | a text is refused at a place within it, and under a limit for its least fault, within the limit |
 //! | `ReadTrees` | no tree that is read names a definition with a short name, and short names are short for closed trees |
 //! | `PreludeLaws` | each line of the prelude says the type of its symbol |
 //! | `ShortenedTrees` | a tree as it is written, by short names, is read as the tree |
@@ -37,7 +38,7 @@ pub fn faults_told()
 {}
 
 /// The law of limits: under a limit of its bytes a text is refused for a fault that it shows under it, the one at the least
-/// place where it isn't refused as too long, and a text that reads as a module under it shows none.
+/// place, and for each such fault; and a text that reads as a module under it shows none.
 pub fn limits_told()
     ensures { EachLimitTold }
 {}
