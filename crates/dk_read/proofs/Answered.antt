@@ -18,10 +18,14 @@ use Rattle.dk_read.specs.Readers.{Reading, IsFed, fed_with, IsWithin, EndsWith, 
 use Rattle.dk_read.proofs.Unlimited as unlimited
 
 -- a text that goes past its limit reads as no module
+long_reads : (n : ℕ) (o : Option reading.Refusal) (m : List Declaration) → reading.or_too_long n o ≡ reading.reads m → ⊥
+long_reads n None m h = absurd (cc (h))
+long_reads n (Some r) m h = absurd (cc (h))
+
 cut_reads : (n : ℕ) (done : reading.Progress) (m : List Declaration) → reading.cut_at n done ≡ reading.reads m → ⊥
 cut_reads n (reading.Refused r) m h = absurd (cc (h))
 cut_reads n (reading.Opening p wanted) m h = absurd (cc (h))
-cut_reads n (reading.Inside p pending d s) m h = absurd (cc (h))
+cut_reads n (reading.Inside p pending d s) m h = long_reads n (reading.cut_token d s pending) m h
 
 limited : (n : ℕ) (text : List ℕ) (b : Bool) (m : List Declaration) → (if b then reading.answer text else reading.cut_at n (reading.read_bytes reading.unread (take n text))) ≡ reading.reads m → reading.answer text ≡ reading.reads m
 limited n text true m h = h

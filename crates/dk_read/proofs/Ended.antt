@@ -17,7 +17,7 @@ use Rattle.dk_read.specs.declared.stage.Stage.TheVariants as stage
 use Rattle.dk_read.specs.States.{fault_of}
 use Rattle.dk_read.specs.Texts.{Ends, Refuses}
 use Rattle.dk_read.proofs.Answered.{within_answer}
-use Rattle.dk_read.specs.Readers.{Reading, IsFed, IsWithin, HasRoom, IsStage, Comes, IsGoing, progress_of, place_of, fault_in, fed_with, IsCut, StaysStopped}
+use Rattle.dk_read.specs.Readers.{Reading, IsFed, IsWithin, HasRoom, IsStage, Comes, IsGoing, progress_of, place_of, fault_in, fed_with, IsCut, StopsAs, StaysStopped}
 
 -- a reader that has stopped
 stopped_by : (r : Reading) (o : Option DkFault) (f : DkFault) (text : List ℕ) → o ≡ Some f → r.fault ≡ o → IsFed r text → Ends (reading.answer_within r.limit text) (Err f)
@@ -49,15 +49,6 @@ cut_answer n text front back more e h =
 cut_feeds : (r : Reading) (f : DkFault) (n : ℕ) (text front back : List ℕ) → r.limit ≡ Some n → length (text ++ front) ≡ n → 1 ≤ length back → IsCut (reading.cut_at n (reading.read_bytes reading.unread (text ++ front))) f → fed_with (Some f) r (text ++ (front ++ back))
 cut_feeds r fault.Memory n text front back l e h k = tt
 cut_feeds r (fault.Refused p k0) n text front back l e h k = λ more. subst (λ a. Refuses a p k0) (sym (ap (λ w. reading.answer_within w (text ++ (front ++ back) ++ more)) l ∙ cut_answer n text front back more e h)) k
-
--- a text that goes on past its limit
-too_long : (a : reading.Answer) (m : ℕ) → a ≡ reading.refused (reading.refusal m reading.DkTooLong) → m < 18446744073709551616 → Refuses a m kind.DkTooLong
-too_long a m e h = record { r = reading.refusal m reading.DkTooLong; is = e; place = omega (arith, h); fault = refl }
-
-goes_past : (n : ℕ) (progress : reading.Progress) → IsGoing progress → n < 18446744073709551616 → Refuses (reading.cut_at n progress) n kind.DkTooLong
-goes_past n (reading.Opening p wanted) g w = too_long _ n refl w
-goes_past n (reading.Inside p pending m s) g w = too_long _ n refl w
-goes_past n (reading.Refused r) g w = absurd g
 
 -- what a reading that goes on has read
 byte_place : (p : ℕ) (pending : Pending) (o : reading.Outcome) → IsGoing (reading.progress p pending o) → place_of (reading.progress p pending o) ≡ p
@@ -98,7 +89,7 @@ bytes_place done (b ∷ bytes) g =
     let more = bytes_place (reading.read_byte done b) bytes g in
     omega (arith, one, more)
 
-pub stage_going : (s : Stage) → fault_in s ≡ None → IsGoing (progress_of s)
+stage_going : (s : Stage) → fault_in s ≡ None → IsGoing (progress_of s)
 stage_going (stage.Opening n) e = tt
 stage_going (stage.Inside t) e = tt
 stage_going (stage.Stopped f) e = absurd (cc)
@@ -169,24 +160,27 @@ fed_more r (fault.Refused p k) text front back e fed =
     subst (λ o. fed_with o r (text ++ (front ++ back))) (sym e) (λ more. subst (λ w. Refuses (reading.answer_within r.limit w) p k) (sym (regrouped text front back more)) (refuses (back ++ more)))
 fed_more r fault.Memory text front back e fed = subst (λ o. fed_with o r (text ++ (front ++ back))) (sym e) tt
 
--- a reader that stops at its limit, unless a fault before it has stopped it
-module _ (mid new : Reading) (n : ℕ) (stops : mid.fault ≡ None → new.fault ≡ Some (fault.Refused n kind.DkTooLong)) (stays : StaysStopped mid new) where
+-- a reader that stops where its text goes on past the limit, unless a fault before it has stopped it
+module _ (mid new : Reading) (n : ℕ) (stops : mid.fault ≡ None → StopsAs (reading.cut_at n mid.progress) new.fault) (stays : StaysStopped mid new) where
   stops_by : (o : Option DkFault) → mid.fault ≡ o → new.fault ≡ None → ⊥
-  stops_by None e h = absurd (cc (stops e, h))
+  stops_by None e h = subst (StopsAs (reading.cut_at n mid.progress)) h (stops e)
   stops_by (Some f) e h = absurd (cc (stays f e, e, h))
 
   pub stops_there : new.fault ≡ None → ⊥
   stops_there h = stops_by mid.fault refl h
 
-  fed_by : (o : Option DkFault) (text front back : List ℕ) → mid.fault ≡ o → new.limit ≡ Some n → n < 18446744073709551616 → length (text ++ front) ≡ n → 1 ≤ length back → (mid.fault ≡ None → IsGoing mid.progress) → IsFed mid (text ++ front) → IsFed new (text ++ (front ++ back))
-  fed_by None text front back e limit few whole some going fed =
-      let read = subst (λ o. fed_with o mid (text ++ front)) e fed in
-      subst (λ o. fed_with o new (text ++ (front ++ back))) (sym (stops e))
-      (cut_feeds new (fault.Refused n kind.DkTooLong) n text front back limit whole some (subst (λ d. Refuses (reading.cut_at n d) n kind.DkTooLong) read.0 (goes_past n mid.progress (going e) few)))
-  fed_by (Some f) text front back e limit few whole some going fed = subst (λ r. IsFed r (text ++ (front ++ back))) (sym (stays f e)) (fed_more mid f text front back e fed)
+  fed_cut : (o : Option DkFault) (text front back : List ℕ) → new.limit ≡ Some n → length (text ++ front) ≡ n → 1 ≤ length back → StopsAs (reading.cut_at n (reading.read_bytes reading.unread (text ++ front))) o → fed_with o new (text ++ (front ++ back))
+  fed_cut None text front back limit whole some cut = absurd cut
+  fed_cut (Some f) text front back limit whole some cut = cut_feeds new f n text front back limit whole some cut
 
-  pub fed_there : (text front back : List ℕ) → new.limit ≡ Some n → n < 18446744073709551616 → length (text ++ front) ≡ n → 1 ≤ length back → (mid.fault ≡ None → IsGoing mid.progress) → IsFed mid (text ++ front) → IsFed new (text ++ (front ++ back))
-  fed_there text front back limit few whole some going fed = fed_by mid.fault text front back refl limit few whole some going fed
+  fed_by : (o : Option DkFault) (text front back : List ℕ) → mid.fault ≡ o → new.limit ≡ Some n → length (text ++ front) ≡ n → 1 ≤ length back → IsFed mid (text ++ front) → IsFed new (text ++ (front ++ back))
+  fed_by None text front back e limit whole some fed =
+      let read = subst (λ o. fed_with o mid (text ++ front)) e fed in
+      fed_cut new.fault text front back limit whole some (subst (λ d. StopsAs (reading.cut_at n d) new.fault) read.0 (stops e))
+  fed_by (Some f) text front back e limit whole some fed = subst (λ r. IsFed r (text ++ (front ++ back))) (sym (stays f e)) (fed_more mid f text front back e fed)
+
+  pub fed_there : (text front back : List ℕ) → new.limit ≡ Some n → length (text ++ front) ≡ n → 1 ≤ length back → IsFed mid (text ++ front) → IsFed new (text ++ (front ++ back))
+  fed_there text front back limit whole some fed = fed_by mid.fault text front back refl limit whole some fed
 
 -- the end of a text that ended within the signature's
 pub ends_early : (n : ℕ) (wanted : List ℕ) → 0 < length wanted → n < 18446744073709551616 → Refuses (reading.read_end (reading.Opening n wanted)) n kind.NoPrelude

@@ -19,7 +19,7 @@ use Rattle.dk_read.specs.declared.terms.Frame.{Frame}
 use Rattle.dk_read.specs.declared.terms.State.TheVariants as state
 use Rattle.dk_read.specs.declared.parser.Parser.{Parser}
 use Rattle.dk_read.specs.Names.{name_at, looked, bound, symbol_meaning, meaning_tree}
-use Rattle.dk_read.specs.States.{Means, refused_by, OnRefusal, Breaks, state_in, state_of, head_of, IsSound, Becomes, IsUnwound, NoEnclosing, before, frames_in, frames_of, scope_of}
+use Rattle.dk_read.specs.States.{Means, refused_by, OnRefusal, Breaks, MayBreak, state_in, state_of, head_of, IsSound, Becomes, IsUnwound, NoEnclosing, before, frames_in, frames_of, scope_of}
 use Rattle.dk_read.proofs.Named.{bytes_eq-symm}
 use Rattle.dk_read.proofs.Bytes.{OnRefusal-map}
 use Rattle.dk_read.proofs.Places.{position_here, position_later, name_twice, name_new}
@@ -143,6 +143,12 @@ pub stuck_after : (p q : Parser) (first place n : ℕ) (f : Stop) → p.state �
 stuck_after p q first place n f e means =
     subst (λ s. Breaks (reading.broken (reading.Goes (before p) (state_in p s)) place) q.names f) (sym e)
     (OnRefusal-map (refused_by q.names f) (λ r h. stuck_by (before p) (head_of p) (frames_of p) first place (name_at p.names n) r h) means)
+
+-- and no word does, whichever it is
+pub any_word_after : (p q : Parser) (first place n : ℕ) (f : Stop) → p.state ≡ state.AfterFirst first n → Means (reading.meaning (before p) (frames_of p) (name_at p.names n)) first (name_at p.names n) q (Err f) → MayBreak (reading.any_word (before p) (state_of p) place) q.names (Some f)
+any_word_after p q first place n f e means =
+    subst (λ s. MayBreak (reading.any_word (before p) (state_in p s) place) q.names (Some f)) (sym e)
+    (OnRefusal-map (refused_by q.names f) (λ r h. ap (reading.unknown first (name_at p.names n)) h.0 ∙ ap Some (sym h.1)) means)
 
 -- no token comes after one that means nothing, whichever it is
 pub after_unknown : (m : List Declaration) (h : reading.Head) (frames : List reading.Frame) (first place : ℕ) (name : List ℕ) (token : tokens.Token) (q : Parser) (f : Stop) → Means (reading.meaning m frames name) first name q (Err f) → Becomes (reading.goes_on m h frames first name (reading.meaning m frames name) place token) q (Err f)

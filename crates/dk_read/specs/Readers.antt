@@ -204,3 +204,8 @@ StaysStopped old new = (f : DkFault) → old.fault ≡ Some f → new ≡ old
 abbrev pub IsCut : reading.Answer → DkFault → Type 0
 IsCut a (fault.Refused p k) = Refuses a p k
 IsCut a fault.Memory = Unit {0}
+
+-- a reading has stopped by the answer where its text goes on past the limit
+abbrev pub StopsAs : reading.Answer → Option DkFault → Type 0
+StopsAs a None = ⊥
+StopsAs a (Some f) = IsCut a f

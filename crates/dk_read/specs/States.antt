@@ -226,6 +226,11 @@ Becomes outcome p (Err s) = OnRefusal (refused_by p.names s) (λ r. outcome ≡ 
 abbrev pub Breaks : reading.Refusal → List Named → Stop → Type 0
 Breaks refusal ns s = OnRefusal (refused_by ns s) (λ r. refusal ≡ r)
 
+-- the stop is this refusal, and there is none where there is no stop
+abbrev pub MayBreak : Option reading.Refusal → List Named → Option Stop → Type 0
+MayBreak refusal ns None = refusal ≡ None
+MayBreak refusal ns (Some s) = OnRefusal (refused_by ns s) (λ r. refusal ≡ Some r)
+
 -- the number's tree is what an identifier means, or the identifier means none
 abbrev pub Means : Option Tree → ℕ → List ℕ → Parser → Result LpId Stop → Type 0
 Means meaning place name p (Ok id) = meaning ≡ Some (tree_at p.module.table id.0)

@@ -1,6 +1,7 @@
 //! The reader of modules: the text of a module, in any pieces, becomes the module that it reads as.
 //!
-//! A text that reads as no module is refused for its fault at the least place, and so is one that is longer than the limit.
+//! A text that reads as no module is refused for its fault at the least place, and so is one that is longer than the limit. A word or
+//! a sign that the limit cuts shows its fault where whatever it may become can't follow; else the text is too long.
 //! Parentheses and binders may nest as deep as memory reaches. A name that is short for a tree is read as that tree, which is kept once.
 //!
 //! ```

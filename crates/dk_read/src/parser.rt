@@ -13,7 +13,7 @@ ghost use Rattle.dk_read.specs.declared.terms.State.TheVariants as state;
 ghost use Rattle.dk_read.specs.declared.faults.Stop.TheVariants as stop;
 ghost use Rattle.dk_read.specs.Names.{name_at, looked, IsNameless, HasSymbols};
 ghost use Rattle.dk_read.specs.Names as naming;
-ghost use Rattle.dk_read.specs.States.{state_in, state_of, head_of, token_in, frames_of, scope_of, declared, IsSound, IsReady, IsReading, IsStateKnown, IsTokenKnown, IsIdKnown, Becomes, Tells, Breaks, Means, Grows, KeepsSymbol, KeepsVariable, before, tree_in, frame_in, IsFrameKnown, IsBinderKnown, IsUnwound, bound_frame, Binds, IsPlain, Unwinds, NoDomain, NoEnclosing, IsSign, NoColon, IsWord};
+ghost use Rattle.dk_read.specs.States.{state_in, state_of, head_of, token_in, frames_of, scope_of, declared, IsSound, IsReady, IsReading, IsStateKnown, IsTokenKnown, IsIdKnown, Becomes, Tells, Breaks, MayBreak, Means, Grows, KeepsSymbol, KeepsVariable, before, tree_in, frame_in, IsFrameKnown, IsBinderKnown, IsUnwound, bound_frame, Binds, IsPlain, Unwinds, NoDomain, NoEnclosing, IsSign, NoColon, IsWord};
 
 use crate::faults::{DkFault, DkKind, Stop};
 use crate::names::Names;
@@ -708,6 +708,57 @@ impl Parser {
                 Err(stop) => stop,
             },
             _ => Stop::BadText(place),
+        }
+    }
+
+    /// Why a word can't follow at this place, whichever word it is.
+    pub(crate) fn any_word(&mut self, place: u64) -> Option<Stop>
+        requires reading { IsReading self.old }
+        ensures { MayBreak (reading.any_word (before self.old) (state_of self.old) place) self.new.names result }
+    {
+        match self.state {
+            State::AfterName(_, _) => Some(Stop::BadText(place)),
+            State::AfterFirst(first, name) => match self.meaning(first, name) {
+                Ok(_) => None,
+                Err(stop) => Some(stop),
+            },
+            _ => None,
+        }
+    }
+
+    /// Why neither a `:` nor a `:=` can follow at this place.
+    pub(crate) fn any_colon(&mut self, place: u64) -> Option<Stop>
+        requires reading { IsReading self.old }
+        ensures { MayBreak (reading.any_colon (before self.old) (state_of self.old) place) self.new.names result }
+    {
+        match self.state {
+            State::AfterName(_, _) | State::AfterFirst(_, _) => None,
+            _ => self.bad_text(place, Token::Assign),
+        }
+    }
+
+    // Why a token can't follow at this place, unless it is that a tree before it is too deep or a name is wrong.
+    fn bad_text(&mut self, place: u64, token: Token) -> Option<Stop>
+        requires reading { IsReading self.old }
+        requires token { IsTokenKnown self.old.names token }
+        ensures { MayBreak (reading.bad_text_of (reading.advance (before self.old) (state_of self.old) place (token_in self.old.names token))) self.new.names result }
+    {
+        match self.stop_of(place, token) {
+            Some(Stop::BadText(found)) => Some(Stop::BadText(found)),
+            Some(Stop::Memory) => Some(Stop::Memory),
+            _ => None,
+        }
+    }
+
+    /// Why a token can't follow at this place.
+    pub(crate) fn stop_of(&mut self, place: u64, token: Token) -> Option<Stop>
+        requires reading { IsReading self.old }
+        requires token { IsTokenKnown self.old.names token }
+        ensures { MayBreak (reading.stop_of (reading.advance (before self.old) (state_of self.old) place (token_in self.old.names token))) self.new.names result }
+    {
+        match self.advance(place, token) {
+            Ok(()) => None,
+            Err(stop) => Some(stop),
         }
     }
 

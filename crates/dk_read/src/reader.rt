@@ -1,11 +1,10 @@
 //! The reader of modules.
 ghost use Rattle.std.specs.Prelude.{ℕ, ◌≡◌, ◌<◌, ◌≤◌, ◌+◌, ◌-◌, ◌^◌, ◌++◌, List, [], ◌∷◌, None, Some, length, is_some, IfOk, OnOk, OnErr, IfErr};
 ghost use Rattle.dk_read.specs.declared.faults.DkFault.TheVariants as fault;
-ghost use Rattle.dk_read.specs.declared.faults.DkKind.TheVariants as kind;
 ghost use Rattle.lp_spec.specs.ReadingFaults as reading;
 ghost use Rattle.holide_sig.specs.Modules.{declarations_of};
 ghost use Rattle.dk_read.specs.Texts.{Ends};
-ghost use Rattle.dk_read.specs.Readers.{Reading, place_of, held_of, HasRoom, IsFed, IsGoing, limit_of, EndsWith, ReadsAs, Accepts, NeverTooLong, EndsStopped, Feeds, GoesOn, Answers, StaysStopped, Judges, HasName};
+ghost use Rattle.dk_read.specs.Readers.{Reading, place_of, held_of, HasRoom, IsFed, limit_of, EndsWith, ReadsAs, Accepts, NeverTooLong, StopsAs, EndsStopped, Feeds, GoesOn, Answers, StaysStopped, Judges, HasName};
 
 use crate::faults::{DkFault, DkKind};
 use crate::stage::Stage;
@@ -24,7 +23,8 @@ pub enum Limit {
 }
 
 /// A reader of the text of a module. A place is a number of 64 bits: without a limit a text of 2^64 bytes or more is want of
-/// memory, and a limit is less.
+/// memory, and a limit is less. Of a text that is longer than the limit the fault is told that its bytes up to there show, also
+/// where they end in a word or a sign that can't follow whatever it becomes; else that it is too long.
 #[derive(Drop)]
 pub struct Reader {
     alloc: Global,
@@ -89,7 +89,6 @@ impl Reader {
     // Whether a fault has stopped the reader.
     fn is_stopped(&self) -> bool
         ensures stopped { result ≡ is_some self.now.fault }
-        ensures going { self.now.fault ≡ None → IsGoing self.now.progress }
     {
         match &self.stage {
             Stage::Stopped(_) => true,
@@ -195,20 +194,13 @@ impl Reader {
         self.stop_at(most);
     }
 
-    // Stops at the limit, unless a fault before it has stopped the reader.
+    // Stops where the text goes on past the limit, unless a fault before it has stopped the reader.
     fn stop_at(&mut self, most: u64)
         ensures limit { self.new.limit ≡ self.old.limit }
-        ensures stops { self.old.fault ≡ None → self.new.fault ≡ Some (fault.Refused most kind.DkTooLong) }
+        ensures stops { self.old.fault ≡ None → StopsAs (reading.cut_at most self.old.progress) self.new.fault }
         ensures stays { StaysStopped self.old self.new }
-        ensures going { self.old.fault ≡ None → IsGoing self.old.progress }
     {
-        let going = !self.is_stopped();
-        if going {
-            self.stop(DkFault::Refused {
-                place: most,
-                kind: DkKind::DkTooLong,
-            });
-        }
+        self.stage.cut(most);
     }
 
     /// The fault that has stopped the reader, copied.

@@ -1,12 +1,14 @@
 //! How far the reading of a text is.
-ghost use Rattle.std.specs.Prelude.{◌≡◌, ◌<◌, ◌≤◌, ◌+◌, ◌^◌, [], length, drop, OnOk, IfErr};
+ghost use Rattle.std.specs.Prelude.{◌≡◌, ◌<◌, ◌≤◌, ◌+◌, ◌^◌, [], None, Some, length, drop, OnOk, IfErr};
 ghost use Rattle.lp_spec.specs.Text.{prelude};
 ghost use Rattle.lp_spec.specs.Tokens as tokens;
 ghost use Rattle.lp_spec.specs.ReadingFaults as reading;
+ghost use Rattle.dk_read.specs.declared.faults.DkFault.TheVariants as fault;
+ghost use Rattle.dk_read.specs.declared.faults.DkKind.TheVariants as kind;
 ghost use Rattle.dk_read.specs.declared.stage.Stage.TheVariants as stage;
 ghost use Rattle.dk_read.specs.States.{IsReading};
 ghost use Rattle.dk_read.specs.Texts.{common, inside};
-ghost use Rattle.dk_read.specs.Readers.{progress_of, place_of, IsStage, Comes};
+ghost use Rattle.dk_read.specs.Readers.{progress_of, place_of, fault_in, IsStage, Comes, IsCut, StopsAs};
 
 use crate::faults::{DkFault, DkKind};
 use crate::text::Text;
@@ -49,6 +51,23 @@ impl Stage {
                 if let Err(fault) = go_on(text, piece) {
                     self.put(Stage::Stopped(fault));
                 }
+            }
+            Stage::Stopped(_) => {}
+        }
+    }
+
+    /// Stops where the text goes on past the limit, unless a fault has stopped the reading.
+    pub(crate) fn cut(&mut self, most: u64)
+        requires stage { IsStage self.old }
+        ensures stops { fault_in self.old ≡ None → StopsAs (reading.cut_at most (progress_of self.old)) (fault_in self.new) }
+        ensures stays { (f : DkFault) → fault_in self.old ≡ Some f → self.new ≡ self.old }
+        ensures stage { IsStage self.new }
+    {
+        match self {
+            Stage::Opening(_) => self.put(Stage::Stopped(too_long(most))),
+            Stage::Inside(text) => {
+                let fault = cut_fault(text, most);
+                self.put(Stage::Stopped(fault));
             }
             Stage::Stopped(_) => {}
         }
@@ -125,6 +144,28 @@ fn go_on(text: &mut Text, piece: &[u8]) -> Result<(), DkFault>
     match text.take_all(piece) {
         Ok(()) => Ok(()),
         Err(stop) => Err(text.parser.fault(stop)),
+    }
+}
+
+// The fault of a text that goes on past the limit: the one that its bytes up to there show, or else that it is too long.
+fn cut_fault(text: &mut Text, most: u64) -> DkFault
+    requires reading { IsReading text.old.parser }
+    ensures cut { IsCut (reading.cut_at most (inside text.old)) result }
+    ensures place { IsStage (stage.Stopped result) }
+{
+    match text.cut_token() {
+        Some(stop) => text.parser.fault(stop),
+        None => too_long(most),
+    }
+}
+
+// The fault of a text that is longer than the limit.
+fn too_long(most: u64) -> DkFault
+    ensures { result ≡ fault.Refused most kind.DkTooLong }
+{
+    DkFault::Refused {
+        place: most,
+        kind: DkKind::DkTooLong,
     }
 }
 

@@ -5,7 +5,7 @@ ghost use Rattle.lp_spec.specs.Text.{prelude};
 ghost use Rattle.lp_spec.specs.Tokens as tokens;
 ghost use Rattle.dk_read.specs.declared.text.Pending.TheVariants as pending;
 ghost use Rattle.lp_spec.specs.ReadingFaults as reading;
-ghost use Rattle.dk_read.specs.States.{before, state_of, token_in, IsReading, IsTokenKnown};
+ghost use Rattle.dk_read.specs.States.{before, state_of, token_in, IsReading, IsTokenKnown, MayBreak};
 ghost use Rattle.dk_read.specs.Texts.{run, Takes, TakesSome, Passed, inside, pending_in, Signs, EndsTokens, Closes, Ends, held_of};
 
 use crate::faults::{DkFault, Stop};
@@ -450,6 +450,20 @@ impl Text {
             rest = &rest[count..];
         }
         Ok(())
+    }
+
+    /// Why the token that is open can't follow, whatever it becomes.
+    pub(crate) fn cut_token(&mut self) -> Option<Stop>
+        requires reading { IsReading self.old.parser }
+        ensures { MayBreak (reading.cut_token (before self.old.parser) (state_of self.old.parser) (pending_in self.old.word.items self.old.pending)) self.new.parser.names result }
+    {
+        match self.pending {
+            Pending::InWord(first) => self.parser.any_word(first),
+            Pending::AfterColon(first) => self.parser.any_colon(first),
+            Pending::AfterMinus(first) => self.parser.stop_of(first, Token::Arrow),
+            Pending::AfterEquals(first) => self.parser.stop_of(first, Token::FatArrow),
+            _ => None,
+        }
     }
 
     // The tokens that the end of the text ends.
