@@ -1,15 +1,19 @@
 -- What the reader has of a file, piece by piece, and what comes of it at its end.
-use Rattle.std.proofs.Common.{◌≡◌, ◌+◌, ◌-◌, ◌<◌, ◌≤◌, ℕ, List, [], ◌++◌, length, Option, None, Some, Result, Ok, Err, false, OnOk, IfOk, IfErr, refl, sym, ap, subst, ◌∙◌, arith}
+use Rattle.std.proofs.Common.{◌≡◌, ◌+◌, ◌-◌, ◌<◌, ◌≤◌, ℕ, List, [], ◌++◌, length, Option, None, Some, Result, Ok, Err, false, OnOk, IfOk, IfErr, refl, sym, ap, ap₂, subst, ◌∙◌, arith}
 use Rattle.std.specs.Prelude.{IfSome}
 use Rattle.std.specs.Result.{is_err}
 use Rattle.std.proofs.lemmas.List.{length-append}
 use Rattle.bridge_base.specs.Outside.{Files, Gives}
 use Rattle.bridge_base.specs.Gaining.{gives_none, gives_both, given_whole}
 use Rattle.lp_spec.specs.Modules.{Declaration}
-use Rattle.lp_spec.specs.ReadingFaults.{answer_within}
+use Rattle.lp_spec.specs.ReadingFaults.{refusal, refused, answer_within}
+use Rattle.lp_spec.specs.Faults.{IsLeastWithin}
+use Rattle.text_laws.specs.LeastWithin.{answered-least, answer_within-place}
+use Rattle.dk_read.specs.declared.faults.DkKind.{DkKind}
 use Rattle.dk_read.specs.declared.faults.DkFault.{DkFault}
 use Rattle.dk_read.specs.declared.faults.DkFault.TheVariants as fault
 use Rattle.dk_read.specs.Readers.{Reading, IsFed, fed_with, IsWithin, IsRead, IsJudged, Judges, Feeds, GoesOn, Answers, place_of}
+use Rattle.dk_read.specs.States.{fault_of}
 use Rattle.dk_read.specs.Texts.{Refuses, Ends}
 use Rattle.bridge_spec.specs.FileChecks.{max_file, ReadsAs}
 use Rattle.bridge_module.specs.declared.reading.Stop.{Stop}
@@ -103,9 +107,17 @@ pub file_module : (told : Option Files) (name : List ℕ) (m : List Declaration)
 file_module None name m h = record { text = h.text; read = tt; within = h.within; reads = h.reads; only = h.only }
 file_module (Some files) name m h = record { text = h.text; read = h.is; within = h.within; reads = h.reads; only = h.only }
 
+-- within the limit a refusal is that of the least fault, at its place
+refused_least : (text : List ℕ) (p : ℕ) (k : DkKind) → Refuses (answer_within (Some max_file) text) p k → IsLeastWithin (Some max_file) text (refusal p (fault_of k))
+refused_least text p k h =
+    let within = answer_within-place max_file text h.r h.is in
+    let place : p ≡ h.r.place = omega (arith, h.place, within) in
+    answered-least (Some max_file) text (refusal p (fault_of k)) (h.is ∙ sym (ap₂ (λ q fault. refused (refusal q fault)) place h.fault))
+
+-- so the stop of the bytes that are told of a file is that of the file
 pub file_stop : (told : Option Files) (name : List ℕ) (stop : Stop) → StopsText (bytes_told told name) stop → StopsFile told name stop
-file_stop None name (Refused p k) h = record { text = h.text; read = tt; refused = h.refused }
-file_stop (Some files) name (Refused p k) h = record { text = h.text; read = h.is; refused = h.refused }
+file_stop None name (Refused p k) h = record { text = h.text; read = tt; refused = refused_least h.text p k h.refused }
+file_stop (Some files) name (Refused p k) h = record { text = h.text; read = h.is; refused = refused_least h.text p k h.refused }
 file_stop told name ReadFault h = tt
 file_stop told name Memory h = tt
 

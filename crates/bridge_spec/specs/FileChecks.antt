@@ -3,11 +3,12 @@ use Rattle.std.specs.Prelude.{◌≡◌, ℕ, ◌<◌, ◌≤◌, Bool, List, le
 use Rattle.bridge_base.specs.Outside.{Files, file}
 use Rattle.lp_spec.specs.Modules.{Declaration}
 use Rattle.lp_spec.specs.Reading.{Reads}
-use Rattle.lp_spec.specs.ReadingFaults.{answer_within}
+use Rattle.lp_spec.specs.ReadingFaults.{refusal}
+use Rattle.lp_spec.specs.Faults.{IsLeastWithin}
 use Rattle.lp_spec.specs.Typing.{WellTyped}
 use Rattle.lp_shape.specs.Check.{Reply, No}
 use Rattle.lp_fast.specs.FastCheck.{CheckBy, PassesBy}
-use Rattle.dk_read.specs.Texts.{Refuses}
+use Rattle.dk_read.specs.States.{fault_of}
 use Rattle.dk_read.specs.declared.faults.DkKind.{DkKind}
 
 -- the file of a module has at most this many bytes
@@ -27,11 +28,11 @@ pub record ReadsAs (told : Option Files) (name : List ℕ) (m : List Declaration
   pub reads : Reads text m
   pub only : (other : List Declaration) → Reads text other → other ≡ m
 
--- the file of that name is refused at this byte, for this fault
+-- the file of that name is refused at this byte, for this fault: the one at the least place of those that its bytes show within the limit
 pub record IsRefusedAt (told : Option Files) (name : List ℕ) (place : ℕ) (kind : DkKind) : Type 0 where
   pub text : List ℕ
   pub read : IsReadOf told name text
-  pub refused : Refuses (answer_within (Some max_file) text) place kind
+  pub refused : IsLeastWithin (Some max_file) text (refusal place (fault_of kind))
 
 -- the check of each of the first declarations says yes
 abbrev pub PassFirst : Bool → List Declaration → ℕ → Type 0

@@ -4,17 +4,15 @@ use Rattle.std.specs.Prelude.{is_some, slice_get, if◌then◌else◌}
 use Rattle.bridge_base.specs.Outside.{Files}
 use Rattle.hol_spec.specs.ClosedForm.{ClosedSequent}
 use Rattle.lp_spec.specs.Modules.{Declaration}
-use Rattle.lp_spec.specs.ReadingFaults.{answer_within}
 use Rattle.module_spec.specs.Enc.{Enc}
 use Rattle.module_spec.specs.Stands.{is_export_name}
-use Rattle.dk_read.specs.Texts.{Refuses}
 use Rattle.dk_read.specs.declared.faults.DkKind.{DkKind}
-use Rattle.bridge_spec.specs.FileChecks.{max_file, IsRefusedAt}
+use Rattle.bridge_spec.specs.FileChecks.{IsRefusedAt}
 use Rattle.bridge_spec.specs.FileExports.{exports_of, AreDecoded, Says, SaysNothing, SayBefore, IsNotSequent}
 use Rattle.bridge_spec.specs.Consequences.{IsDueOfDecode}
 use Rattle.bridge_spec.specs.declared.status.Status.{Status}
 use Rattle.bridge_spec.specs.declared.status.Status.TheVariants.{Done, Refused, Usage, ReadFault, WriteFault, Memory, DkRefused, IllTyped, OverBudget, NotSequent, Unwritable}
-use Rattle.promise_laws.specs.OneDue.{neither-below, one_refusal, one_module, read_or_refused}
+use Rattle.promise_laws.specs.OneDue.{neither-below, IsTextRefused, one_refusal, one_module, read_or_refused}
 
 -- Of the declarations that are decoded, one that is an export says a closed sequent.
 module _ (m : List Declaration) where
@@ -58,7 +56,7 @@ module _ (files : Files) (name : List ℕ) where
 
   refused_due : (p : ℕ) (k : DkKind) → IsRefusedAt (Some files) name p k → (due : Status) → IsDueOfDecode (Some files) name due → DkRefused p k ≡ due
   refused_due p k h Done d = read_or_refused files name d.0 p k d.2.file h
-  refused_due p k h (DkRefused q l) d = one_refusal (answer_within (Some max_file) h.text) p q k l h.refused (subst (λ text. Refuses (answer_within (Some max_file) text) q l) (d.read ∙ sym h.read) d.refused)
+  refused_due p k h (DkRefused q l) d = one_refusal h.text p q k l h.refused (subst (λ text. IsTextRefused text q l) (d.read ∙ sym h.read) d.refused)
   refused_due p k h (NotSequent i) d = read_or_refused files name d.m p k d.file h
   refused_due p k h (Refused article line kind) d = absurd d
   refused_due p k h Usage d = absurd d

@@ -1,5 +1,5 @@
 -- A check of a file that is told has at most one answer that is due, and what comes by another cause is not due.
-use Rattle.std.proofs.Common.{◌≡◌, ◌<◌, ◌≤◌, ℕ, List, length, take, Option, None, Some, IsTrue, Bool, true, false, refl, sym, ap, subst, ◌∙◌, arith, ⊎_elim, min}
+use Rattle.std.proofs.Common.{◌≡◌, ◌<◌, ◌≤◌, ℕ, List, length, take, Option, None, Some, IsTrue, Bool, true, false, refl, sym, ap, ap₂, subst, ◌∙◌, arith, ⊎_elim}
 use Rattle.std.specs.Prelude.{is_some, nat_le, if◌then◌else◌}
 use Rattle.std.proofs.lemmas.Bool.{cases_lt}
 use Rattle.std.proofs.lemmas.Grind.{common_steps}
@@ -8,14 +8,15 @@ use Rattle.bridge_base.specs.Outside.{Files}
 use Rattle.lp_spec.specs.Trees.{Tree}
 use Rattle.lp_spec.specs.Modules.{Declaration}
 use Rattle.lp_spec.specs.Reading.{Reads}
-use Rattle.lp_spec.specs.ReadingFaults.{Fault, NoPrelude, BadText, UnknownName, NameTwice, DkTooDeep, DkTooLong, Answer, reads, refused, answer, answer_within, cut_at, read_bytes, unread}
+use Rattle.lp_spec.specs.ReadingFaults.{Fault, NoPrelude, BadText, UnknownName, NameTwice, DkTooDeep, DkTooLong, refusal, reads, refused, answer, answer_within, cut_at, read_bytes, unread}
+use Rattle.lp_spec.specs.Faults.{IsLeastWithin}
 use Rattle.lp_shape.specs.Check.{Found, No}
 use Rattle.lp_shape.specs.CheckLaws.{Found-No}
 use Rattle.lp_fast.specs.FastCheck.{CheckBy}
 use Rattle.lp_fast.specs.FastPrices.{check-at, one_check}
 use Rattle.text_laws.specs.ReadingLaws.{Reads-answer}
+use Rattle.text_laws.specs.LeastWithin.{least-answered}
 use Rattle.dk_read.specs.States.{fault_of}
-use Rattle.dk_read.specs.Texts.{Refuses}
 use Rattle.dk_read.specs.declared.faults.DkKind.{DkKind}
 use Rattle.dk_read.specs.declared.faults.DkKind.TheVariants as kind
 use Rattle.bridge_spec.specs.FileChecks.{max_file, ReadsAs, IsRefusedAt, IsAccepted, IsIllTyped, IsOverBudget}
@@ -58,18 +59,24 @@ kind_of-fault_of (kind.NameTwice name) = refl
 kind_of-fault_of kind.DkTooDeep = refl
 kind_of-fault_of kind.DkTooLong = refl
 
--- A text has one refusal.
-pub one_refusal : (a : Answer) (p q : ℕ) (k l : DkKind) → Refuses a p k → Refuses a q l → DkRefused p k ≡ DkRefused q l
-one_refusal a p q k l h g =
-    let two : refused h.r ≡ refused g.r = sym h.is ∙ g.is in
-    let same : h.r ≡ g.r = cc in
-    let places : p ≡ q = h.place ∙ ap (λ r. min r.place 18446744073709551615) same ∙ sym g.place in
-    let kinds : k ≡ l = sym (kind_of-fault_of k) ∙ ap kind_of (h.fault ∙ ap (λ r. r.fault) same ∙ sym g.fault) ∙ kind_of-fault_of l in
-    ap (λ place. DkRefused place k) places ∙ ap (DkRefused q) kinds
+-- a text is refused at this byte, for this fault
+abbrev pub IsTextRefused : List ℕ → ℕ → DkKind → Type 0
+IsTextRefused text place kind = IsLeastWithin (Some max_file) text (refusal place (fault_of kind))
+
+-- A text is refused at one byte, for one fault.
+pub one_refusal : (text : List ℕ) (p q : ℕ) (k l : DkKind) → IsTextRefused text p k → IsTextRefused text q l → DkRefused p k ≡ DkRefused q l
+one_refusal text p q k l h g =
+    let answered = least-answered (Some max_file) text in
+    let two : refused (refusal p (fault_of k)) ≡ refused (refusal q (fault_of l)) = sym (answered (refusal p (fault_of k)) h) ∙ answered (refusal q (fault_of l)) g in
+    let same : refusal p (fault_of k) ≡ refusal q (fault_of l) = cc in
+    let kinds : k ≡ l = sym (kind_of-fault_of k) ∙ ap (λ r. kind_of r.fault) same ∙ kind_of-fault_of l in
+    ap₂ DkRefused (ap (λ r. r.place) same) kinds
 
 -- A text is not both read and refused.
-reads-or-refused : (text : List ℕ) (m : List Declaration) (p : ℕ) (k : DkKind) {X : Type 0} → length text ≤ max_file → Reads text m → Refuses (answer_within (Some max_file) text) p k → X
-reads-or-refused text m p k within h g = let two : reads m ≡ refused g.r = sym (Reads-within text m within h) ∙ g.is in absurd (cc)
+reads-or-refused : (text : List ℕ) (m : List Declaration) (p : ℕ) (k : DkKind) {X : Type 0} → length text ≤ max_file → Reads text m → IsTextRefused text p k → X
+reads-or-refused text m p k within h g =
+    let r = refusal p (fault_of k) in
+    let two : reads m ≡ refused r = sym (Reads-within text m within h) ∙ least-answered (Some max_file) text r g in absurd (cc)
 
 module _ (files : Files) (name : List ℕ) where
   -- A file that is told reads as one module, and is not refused.
@@ -77,7 +84,7 @@ module _ (files : Files) (name : List ℕ) where
   one_module m n h g = sym (h.only n (subst (λ text. Reads text n) (g.read ∙ sym h.read) g.reads))
 
   pub read_or_refused : (m : List Declaration) (p : ℕ) (k : DkKind) {X : Type 0} → ReadsAs (Some files) name m → IsRefusedAt (Some files) name p k → X
-  read_or_refused m p k h g = reads-or-refused h.text m p k h.within h.reads (subst (λ text. Refuses (answer_within (Some max_file) text) p k) (g.read ∙ sym h.read) g.refused)
+  read_or_refused m p k h g = reads-or-refused h.text m p k h.within h.reads (subst (λ text. IsTextRefused text p k) (g.read ∙ sym h.read) g.refused)
 
   module _ (rechecks : Bool) (budget : ℕ) where
     accepted_due : (m : List Declaration) → IsAccepted rechecks (Some files) name m → (due : Status) → IsDueOfCheck rechecks (Some files) name budget due → Done ≡ due
@@ -99,7 +106,7 @@ module _ (files : Files) (name : List ℕ) where
 
     refused_due : (p : ℕ) (k : DkKind) → IsRefusedAt (Some files) name p k → (due : Status) → IsDueOfCheck rechecks (Some files) name budget due → DkRefused p k ≡ due
     refused_due p k h Done d = read_or_refused d.m p k d.file h
-    refused_due p k h (DkRefused q l) d = one_refusal (answer_within (Some max_file) h.text) p q k l h.refused (subst (λ text. Refuses (answer_within (Some max_file) text) q l) (d.read ∙ sym h.read) d.refused)
+    refused_due p k h (DkRefused q l) d = one_refusal h.text p q k l h.refused (subst (λ text. IsTextRefused text q l) (d.read ∙ sym h.read) d.refused)
     refused_due p k h (IllTyped i) d = read_or_refused d.m p k d.file h
     refused_due p k h (Refused article line kind) d = absurd d
     refused_due p k h Usage d = absurd d
