@@ -6,7 +6,7 @@ use Rattle.lp_spec.specs.Modules.{Declaration}
 use Rattle.lp_term.specs.declared.LpId.{LpId}
 use Rattle.lp_term.specs.Tables.{tree_at, trees_at, Holds, Stays, Keeps, AreKnown}
 use Rattle.lp_term.specs.TableLaws.{Holds-tree_at, tree_at-Stays}
-use Rattle.std.specs.Prelude.{slice_get, option_map, IfOk, Result, Ok, Err}
+use Rattle.std.specs.Prelude.{slice_get, option_map, IfOk, OnOk, Result, Ok, Err}
 use Rattle.holide_sig.specs.declared.module.Module.{Module}
 use Rattle.holide_sig.specs.Modules.{declarations_of}
 use Rattle.lp_shape.specs.Check.{Infer, Plan, Ask, infer, found_if}
@@ -20,7 +20,6 @@ use Rattle.lp_kernel.specs.declared.state.State.{State}
 use Rattle.lp_kernel.specs.Pending.{resume, IsTurned, variable_plan, variable_type, IsFoundIf, IsApplication, IsKnownFrame, AreKnownFrames, IsKnownState, outside}
 use Rattle.std.proofs.lemmas.Option.{same_Some}
 use Rattle.lp_kernel.specs.Lifted.{IsLift, AreLifts}
-use Rattle.lp_kernel.proofs.LiftedLaws.{AreLifts-Keeps}
 
 -- a turn that goes on as the plan for the tree does
 module _ (rechecks : Bool) (ds : List Declaration) (G : List Tree) (rest : Tree → Plan) where
@@ -117,7 +116,7 @@ known-frames k [] h = tt
 known-frames k (f ∷ fs) h = (known-frame k f h.0, known-frames k fs h.1)
 
 pub known-state : {ts us : List Tree} → Keeps ts us → (s : State) → IsKnownState ts s → IsKnownState us s
-known-state k s h = record { context = AreKnown-Keeps k s.context h.context; frames = known-frames k s.frames h.frames; lifts = AreLifts-Keeps k s.lifts h.lifts }
+known-state k s h = record { context = AreKnown-Keeps k s.context h.context; frames = known-frames k s.frames h.frames }
 
 -- a leaf's turn, in a table that may have grown
 pub asked-leaf : (rechecks : Bool) (m : Module) (ts : List Tree) (s : State) (id : LpId) (t : Tree) (o : Option Tree) (old new : ℕ) (n : Next) → Keeps ts m.table → Holds ts id.0 t
@@ -130,6 +129,10 @@ pub IfOk-map : {X E : Type 0} {P Q : X → Type 0} (r : Result X E) → ((x : X)
 IfOk-map (Ok x) f h = f x h
 IfOk-map (Err e) f h = tt
 
+pub OnOk-map : {A E P Q : Type 0} (r : Result A E) → (P → Q) → OnOk r P → OnOk r Q
+OnOk-map (Ok x) f h = f h
+OnOk-map (Err e) f h = tt
+
 -- the context outside the innermost variable is known
 pub known-outside : (ts : List Tree) (c d : List LpId) → d ≡ outside c → AreKnown ts c → AreKnown ts d
 known-outside ts c d e h = subst (AreKnown ts) (sym e) (go c h)
@@ -139,5 +142,5 @@ known-outside ts c d e h = subst (AreKnown ts) (sym e) (go c h)
     go (id ∷ ids) h = h.1
 
 -- a frame more is known
-pub known-pushed : (ts : List Tree) (s : State) (f : Frame) (fs : List Frame) → IsKnownState ts s → IsKnownFrame ts f → fs ≡ f ∷ s.frames → IsKnownState ts (record { context = s.context; frames = fs; lifts = s.lifts })
-known-pushed ts s f fs h k e = record { context = h.context; frames = subst (AreKnownFrames ts) (sym e) (k, h.frames); lifts = h.lifts }
+pub known-pushed : (ts : List Tree) (s : State) (f : Frame) (fs : List Frame) → IsKnownState ts s → IsKnownFrame ts f → fs ≡ f ∷ s.frames → IsKnownState ts (record { context = s.context; frames = fs; key = s.key })
+known-pushed ts s f fs h k e = record { context = h.context; frames = subst (AreKnownFrames ts) (sym e) (k, h.frames) }

@@ -49,12 +49,12 @@ gathered-end ts k f at args left h none = sym (h.are ∙ ap (λ l. l ++ trees_at
 
 -- the argument of a function whose type is a product that is to have arguments put in
 pub awaited-argument : (m : Module) (s : State) (b : LpId) (k : ℕ) (g a c f x w : LpId) (mid new : List Frame) → IsKnownState m.table s → Holds m.table b.0 (Pi (tree_at m.table a.0) (tree_at m.table c.0)) → a.0 < length m.table → c.0 < length m.table → f.0 ≡ g.0
-    → s.frames ≡ frame.Function f x w ∷ mid → new ≡ frame.Argument a c k f w ∷ mid → IsAwaited m s b k g (record { context = s.context; frames = new; lifts = s.lifts }) (Some x)
+    → s.frames ≡ frame.Function f x w ∷ mid → new ≡ frame.Argument a c k f w ∷ mid → IsAwaited m s b k g (record { context = s.context; frames = new; key = s.key }) (Some x)
 awaited-argument m s b k g a c f x w mid new hs at ha hc same popped pushed =
     let known = subst (AreKnownFrames m.table) popped hs.frames in
-    (known.0.argument, record { context = hs.context; frames = subst (AreKnownFrames m.table) (sym pushed) ((ha, hc, known.0.function, known.0.whole), known.1); lifts = hs.lifts }, ap length pushed ∙ sym (ap length popped), turned known.0)
+    (known.0.argument, record { context = hs.context; frames = subst (AreKnownFrames m.table) (sym pushed) ((ha, hc, known.0.function, known.0.whole), known.1) }, ap length pushed ∙ sym (ap length popped), turned known.0)
   where
-    turned : IsApplication m.table f x w → (rechecks : Bool) (left : ℕ) → IsMade rechecks m s b k g left (record { context = s.context; frames = new; lifts = s.lifts }) (next.Ask x)
+    turned : IsApplication m.table f x w → (rechecks : Bool) (left : ℕ) → IsMade rechecks m s b k g left (record { context = s.context; frames = new; key = s.key }) (next.Ask x)
     turned app rechecks left =
         let none : left - left ≤ 0 = omega arith in
         subst (λ l. Leaves (declarations_of m) rechecks (resume rechecks (declarations_of m) m.table s.context l (put_all (spine_args k (tree_at m.table g.0)) (tree_at m.table b.0))) (left - left) (Ask (Infer (trees_at m.table s.context) (tree_at m.table x.0)) (resume rechecks (declarations_of m) m.table s.context new))) (sym popped)

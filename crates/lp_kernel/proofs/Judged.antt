@@ -30,7 +30,10 @@ use Rattle.lp_conv.specs.Answers.{Answered}
 use Rattle.lp_kernel.specs.Inference.{typing}
 use Rattle.lp_shape.specs.Check.{reach}
 use Rattle.lp_kernel.specs.declared.memo.Memos.{Memos}
-use Rattle.lp_kernel.specs.Noted.{IsNoted, IsCutOff, IsTypeOfClosed, AreTypes, IsProductOf, AreProducts, AreRight, IsCutBack}
+use Rattle.lp_kernel.specs.Noted.{IsNoted, IsCutOff, IsTypeOfClosed, AreTypes, IsProductOf, AreProducts}
+use Rattle.lp_kernel.specs.Right.{AreRight, IsCutBack}
+use Rattle.lp_kernel.proofs.LiftedLaws.{AreLifts-nil}
+use Rattle.lp_kernel.proofs.RightLaws.{open-nil}
 use Rattle.lp_kernel.specs.Checks.{SaysYes, SaysNo, IsOverBudget, IsChecked, PassBelow, IsIllTyped, IsPastBudget, IsJudged, EndsWithin, PassWithin, IsRefusedWithin}
 
 -- a declaration that passes is not refused
@@ -89,18 +92,18 @@ products-cut from m types fewer held g right noted = record { each = each }
               (subst (λ u. Answered (declarations_of m) true (reach (declarations_of m) (tree_at m.table t.0)) (Found u) 1) (sym f) fact.answered));
         }
 
-right-cut : (rechecks : Bool) (from m : Module) (memo fewer : Memos) → IsHeld from → Grows from m → AreRight rechecks (declarations_of m) m.table memo → IsCutOff memo.types fewer.types (length from.table) → IsCutOff memo.products fewer.products (length from.table)
+right-cut : (rechecks : Bool) (from m : Module) (memo fewer : Memos) → IsHeld from → Grows from m → AreRight rechecks (declarations_of m) m.table memo → IsCutOff memo.types fewer.types (length from.table) → IsCutOff memo.products fewer.products (length from.table) → fewer.lifts ≡ [] → fewer.open_types ≡ []
     → AreRight rechecks (declarations_of from) from.table fewer
-right-cut rechecks from m memo fewer held g right h k = record { types = types-cut rechecks from m memo.types fewer.types held g right.types h; products = products-cut from m memo.products fewer.products held g right.products k }
+right-cut rechecks from m memo fewer held g right h k l o = record { types = types-cut rechecks from m memo.types fewer.types held g right.types h; products = products-cut from m memo.products fewer.products held g right.products k; lifts = AreLifts-nil from.table fewer.lifts l; open_types = open-nil rechecks (declarations_of from) from.table fewer.contexts fewer.open_types o }
 
 -- a module that is cut back to another's nodes is the other
 pub cut-back : (rechecks : Bool) (from m : Module) (front : List Tree) (kept : ℕ) (memo fewer : Memos) → length from.table ≡ kept → IsHeld from → Grows from m → AreRight rechecks (declarations_of m) m.table memo → front ≡ take kept m.table
-    → IsCutOff memo.types fewer.types kept → IsCutOff memo.products fewer.products kept → IsCutBack rechecks from (record { table = front; decls = m.decls }) fewer
-cut-back rechecks from m front kept memo fewer long held g right is h k =
+    → IsCutOff memo.types fewer.types kept → IsCutOff memo.products fewer.products kept → fewer.lifts ≡ [] → fewer.open_types ≡ [] → IsCutBack rechecks from (record { table = front; decls = m.decls }) fewer
+cut-back rechecks from m front kept memo fewer long held g right is h k l o =
     let same : front ≡ from.table = is ∙ ap (λ n. take n m.table) (sym long) ∙ take-Stays from.table m.table g.keeps.stays in
     subst (λ (ts : List Tree). IsCutBack rechecks from (record { table = ts; decls = m.decls }) fewer) (sym same)
     (subst (λ (ds : List Decl). IsCutBack rechecks from (record { table = from.table; decls = ds }) fewer) (sym g.decls)
-    (record { grows = Grows-refl from; right = right-cut rechecks from m memo fewer held g right (subst (IsCutOff memo.types fewer.types) (sym long) h) (subst (IsCutOff memo.products fewer.products) (sym long) k) }))
+    (record { grows = Grows-refl from; right = right-cut rechecks from m memo fewer held g right (subst (IsCutOff memo.types fewer.types) (sym long) h) (subst (IsCutOff memo.products fewer.products) (sym long) k) l o }))
 
 pub passing-start : (rechecks : Bool) (m : Module) → IsHeld m → ArePassing rechecks m m 0
 passing-start rechecks m held = record { grows = Grows-refl m; held = held; same = refl; below = λ k lt. absurd (omega (arith, lt)) }

@@ -3,12 +3,15 @@ pub mod Checked
 pub mod Expected
 pub mod Filled
 pub mod Judged
+pub mod KeyLaws
+pub mod LatestLaws
 pub mod Levels
 pub mod LiftedLaws
 pub mod Looped
 pub mod NotedLaws
 pub mod Raised
 pub mod Reached
+pub mod RightLaws
 pub mod Sound
 pub mod Gathered
 pub mod Told

@@ -21,10 +21,11 @@ use Rattle.lp_kernel.specs.declared.inference.Inferred.TheVariants as inferred
 use Rattle.lp_conv.specs.Growth.{Grows}
 use Rattle.lp_conv.specs.Answers.{IsOver}
 use Rattle.lp_kernel.specs.Inference.{typing, IsInferred}
+use Rattle.lp_kernel.specs.declared.latest.Finding.{Finding}
 use Rattle.lp_kernel.specs.Lifted.{AreLifts}
 use Rattle.lp_kernel.specs.Noted.{AreProducts}
 use Rattle.lp_kernel.specs.Pending.{spine_args, resume, pending, after, below, IsTurned, IsKnownFrame, AreKnownFrames, IsKnownState, IsKnownNext}
-use Rattle.lp_conv.specs.GrowthLaws.{trees_at-Stays}
+use Rattle.lp_kernel.proofs.LiftedLaws.{AreLifts-Keeps}
 
 module _ (rechecks : Bool) (ds : List Declaration) {ts us : List Tree} (s : Stays ts us) where
   -- how a frame goes on stays
@@ -90,21 +91,23 @@ turned-then rechecks m k p all here there s t n o g held hs hn not lt la a b = g
     go next.Over h = over_leaves (declarations_of k) rechecks first (omega (arith, la)) h
 
 -- what is true at each turn of the loop
-pub record IsLoop (rechecks : Bool) (from m : Module) (c : List LpId) (id : LpId) (all here : ℕ) (s : State) (n : Next) (ps : List ℕ) : Type 0 where
+pub record IsLoop (rechecks : Bool) (from m : Module) (c : List LpId) (id : LpId) (all here : ℕ) (s : State) (n : Next) (ps : List ℕ) (ls : List Finding) : Type 0 where
   pub grows : Grows from m
   pub held : IsHeld m
   pub products : AreProducts (declarations_of m) m.table ps
+  pub lifts : AreLifts m.table ls
   pub state : IsKnownState m.table s
   pub next : IsKnownNext m.table n
   pub less : here ≤ all
   pub turned : IsTurned rechecks m (alone (Infer (trees_at from.table c) (tree_at from.table id.0))) all here s n
 
-pub start-loop : (rechecks : Bool) (m : Module) (c : List LpId) (id : LpId) (all : ℕ) (s : State) → IsHeld m → AreKnown m.table c → id.0 < length m.table → s.context ≡ c → s.frames ≡ [] → AreLifts m.table s.lifts → (ps : List ℕ) → AreProducts (declarations_of m) m.table ps → IsLoop rechecks m m c id all all s (next.Ask id) ps
-start-loop rechecks m c id all s held hc known e f lifts ps right = record {
+pub start-loop : (rechecks : Bool) (m : Module) (c : List LpId) (id : LpId) (all : ℕ) (s : State) → IsHeld m → AreKnown m.table c → id.0 < length m.table → s.context ≡ c → s.frames ≡ [] → (ps : List ℕ) → AreProducts (declarations_of m) m.table ps → (ls : List Finding) → AreLifts m.table ls → IsLoop rechecks m m c id all all s (next.Ask id) ps ls
+start-loop rechecks m c id all s held hc known e f ps right ls lifts = record {
   products = right;
+  lifts = lifts;
   grows = record { keeps = Keeps-refl m.table; decls = refl };
   held = held;
-  state = record { context = subst (AreKnown m.table) (sym e) hc; frames = subst (AreKnownFrames m.table) (sym f) tt; lifts = lifts };
+  state = record { context = subst (AreKnown m.table) (sym e) hc; frames = subst (AreKnownFrames m.table) (sym f) tt };
   next = known;
   less = omega arith;
   turned =
@@ -114,10 +117,11 @@ start-loop rechecks m c id all s held hc known e f lifts ps right = record {
 }
 
 -- a turn of the loop
-pub next-loop : (rechecks : Bool) (from m k : Module) (c : List LpId) (id : LpId) (all here there : ℕ) (s t : State) (n o : Next) (ps qs : List ℕ) → IsLoop rechecks from m c id all here s n ps → (n ≡ next.Over → ⊥) → Grows m k → IsKnownState k.table t → IsKnownNext k.table o → there ≤ here
-    → IsTurned rechecks k (pending rechecks (declarations_of k) k.table s n) here there t o → AreProducts (declarations_of k) k.table qs → IsLoop rechecks from k c id all there t o qs
-next-loop rechecks from m k c id all here there s t n o ps qs l not g ht ho le b right = record {
+pub next-loop : (rechecks : Bool) (from m k : Module) (c : List LpId) (id : LpId) (all here there : ℕ) (s t : State) (n o : Next) (ps qs : List ℕ) (ls ks : List Finding) → IsLoop rechecks from m c id all here s n ps ls → (n ≡ next.Over → ⊥) → Grows m k → IsKnownState k.table t → IsKnownNext k.table o → there ≤ here
+    → IsTurned rechecks k (pending rechecks (declarations_of k) k.table s n) here there t o → AreProducts (declarations_of k) k.table qs → AreLifts k.table ks → IsLoop rechecks from k c id all there t o qs ks
+next-loop rechecks from m k c id all here there s t n o ps qs ls ks l not g ht ho le b right lifts = record {
   products = right;
+  lifts = lifts;
   grows = Grows-trans l.grows g;
   held = IsHeld-Grows m k g l.held;
   state = ht;
@@ -127,21 +131,21 @@ next-loop rechecks from m k c id all here there s t n o ps qs l not g ht ho le b
 }
 
 -- the end of the loop
-pub found-end : (rechecks : Bool) (from m : Module) (c : List LpId) (id found : LpId) (all here : ℕ) (s : State) {ps : List ℕ} → IsHeld from → IsLoop rechecks from m c id all here s (next.Tell found) ps → s.frames ≡ [] → IsInferred rechecks from c id m.table all here (inferred.Found found)
+pub found-end : (rechecks : Bool) (from m : Module) (c : List LpId) (id found : LpId) (all here : ℕ) (s : State) {ps : List ℕ} {ls : List Finding} → IsHeld from → IsLoop rechecks from m c id all here s (next.Tell found) ps ls → s.frames ≡ [] → IsInferred rechecks from c id m.table all here (inferred.Found found)
 found-end rechecks from m c id found all here s held l e =
     let p = subst (λ fs. Leaves (declarations_of m) rechecks (alone (Infer (trees_at from.table c) (tree_at from.table id.0))) (all - here) (resume rechecks (declarations_of m) m.table s.context fs (tree_at m.table found.0))) e l.turned in
     let u = p.up (Found (tree_at m.table found.0)) 0 said in
     record { price = u.0; ends = subst (λ ds. Ends ds rechecks (typing (trees_at from.table c) (tree_at from.table id.0)) (Found (tree_at m.table found.0)) u.0) (declarations_of-Grows from m l.grows held) u.1; within = omega (arith, u.2) }
 
-pub no-end : (rechecks : Bool) (from m : Module) (c : List LpId) (id : LpId) (all here : ℕ) (s : State) {ps : List ℕ} → IsHeld from → IsLoop rechecks from m c id all here s next.No ps → IsInferred rechecks from c id m.table all here inferred.No
+pub no-end : (rechecks : Bool) (from m : Module) (c : List LpId) (id : LpId) (all here : ℕ) (s : State) {ps : List ℕ} {ls : List Finding} → IsHeld from → IsLoop rechecks from m c id all here s next.No ps ls → IsInferred rechecks from c id m.table all here inferred.No
 no-end rechecks from m c id all here s held l = let u = l.turned.up No 0 said in record { price = u.0; ends = subst (λ ds. Ends ds rechecks (typing (trees_at from.table c) (tree_at from.table id.0)) No u.0) (declarations_of-Grows from m l.grows held) u.1; within = omega (arith, u.2) }
 
 -- a turn of the loop that goes on with a type that was found
-pub told-loop : (rechecks : Bool) (from m k : Module) (c : List LpId) (id : LpId) (all here there : ℕ) (s t : State) (found : LpId) (o : Next) (f : Frame) (fs : List Frame) (ps qs : List ℕ) → IsLoop rechecks from m c id all here s (next.Tell found) ps → s.frames ≡ f ∷ fs → Grows m k → IsKnownState k.table t
-    → IsKnownNext k.table o → there ≤ here → IsTurned rechecks k (resume rechecks (declarations_of k) k.table s.context (f ∷ fs) (tree_at k.table found.0)) here there t o → AreProducts (declarations_of k) k.table qs → IsLoop rechecks from k c id all there t o qs
-told-loop rechecks from m k c id all here there s t found o f fs ps qs l e g ht ho le b right =
-    next-loop rechecks from m k c id all here there s t (next.Tell found) o ps qs l (λ q. cc) g ht ho le
-    (subst (λ l. IsTurned rechecks k (resume rechecks (declarations_of k) k.table s.context l (tree_at k.table found.0)) here there t o) (sym e) b) right
+pub told-loop : (rechecks : Bool) (from m k : Module) (c : List LpId) (id : LpId) (all here there : ℕ) (s t : State) (found : LpId) (o : Next) (f : Frame) (fs : List Frame) (ps qs : List ℕ) (ls : List Finding) → IsLoop rechecks from m c id all here s (next.Tell found) ps ls → s.frames ≡ f ∷ fs → Grows m k → IsKnownState k.table t
+    → IsKnownNext k.table o → there ≤ here → IsTurned rechecks k (resume rechecks (declarations_of k) k.table s.context (f ∷ fs) (tree_at k.table found.0)) here there t o → AreProducts (declarations_of k) k.table qs → IsLoop rechecks from k c id all there t o qs ls
+told-loop rechecks from m k c id all here there s t found o f fs ps qs ls l e g ht ho le b right =
+    next-loop rechecks from m k c id all here there s t (next.Tell found) o ps qs ls ls l (λ q. cc) g ht ho le
+    (subst (λ l. IsTurned rechecks k (resume rechecks (declarations_of k) k.table s.context l (tree_at k.table found.0)) here there t o) (sym e) b) right (AreLifts-Keeps g.keeps ls l.lifts)
 
-pub over-end : (rechecks : Bool) (from m : Module) (c : List LpId) (id : LpId) (all here : ℕ) (s : State) {ps : List ℕ} → IsHeld from → IsLoop rechecks from m c id all here s next.Over ps → IsInferred rechecks from c id m.table all here inferred.Over
+pub over-end : (rechecks : Bool) (from m : Module) (c : List LpId) (id : LpId) (all here : ℕ) (s : State) {ps : List ℕ} {ls : List Finding} → IsHeld from → IsLoop rechecks from m c id all here s next.Over ps ls → IsInferred rechecks from c id m.table all here inferred.Over
 over-end rechecks from m c id all here s held l = subst (λ ds. IsOver ds rechecks (typing (trees_at from.table c) (tree_at from.table id.0)) all) (declarations_of-Grows from m l.grows held) l.turned

@@ -1,6 +1,9 @@
 pub mod Checks
 pub mod Inference
+pub mod Keys
+pub mod Latest
 pub mod Lifted
 pub mod Made
 pub mod Noted
 pub mod Pending
+pub mod Right

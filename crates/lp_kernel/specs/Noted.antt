@@ -4,17 +4,11 @@ use Rattle.lp_spec.specs.Trees.{Tree, loose}
 use Rattle.lp_spec.specs.Modules.{Declaration}
 use Rattle.lp_term.specs.declared.LpId.{LpId}
 use Rattle.lp_term.specs.Tables.{tree_at}
-use Rattle.holide_sig.specs.declared.module.Module.{Module}
-use Rattle.holide_sig.specs.Modules.{declarations_of}
 use Rattle.lp_shape.specs.Check.{Found, reach}
-use Rattle.lp_conv.specs.Growth.{Grows}
 use Rattle.lp_conv.specs.Answers.{Answered}
 use Rattle.lp_kernel.specs.Inference.{typing}
-use Rattle.lp_kernel.specs.declared.memo.Memos.{Memos}
 use Rattle.lp_kernel.specs.declared.state.Next.{Next}
 use Rattle.lp_kernel.specs.declared.state.Next.TheVariants as next
-use Rattle.lp_kernel.specs.declared.noting.Recall.{Recall}
-use Rattle.lp_kernel.specs.declared.noting.Recall.TheVariants as recall
 
 -- the list has the number of the tree's type, and one more, at the tree's number
 abbrev pub IsNoted : List ℕ → LpId → LpId → Type 0
@@ -59,22 +53,6 @@ pub record IsProductOf (ds : List Declaration) (ts : List Tree) (id found : LpId
 -- every product that is noted is right
 pub record AreProducts (ds : List Declaration) (ts : List Tree) (types : List ℕ) : Type 0 where
   pub each : (id found : LpId) → IsNoted types id found → IsProductOf ds ts id found
-
--- all that is noted is right
-pub record AreRight (rechecks : Bool) (ds : List Declaration) (ts : List Tree) (memo : Memos) : Type 0 where
-  pub types : AreTypes rechecks ds ts memo.types
-  pub products : AreProducts ds ts memo.products
-
--- a module that has grown from another, and what is noted over it is right
-pub record IsCutBack (rechecks : Bool) (from m : Module) (memo : Memos) : Type 0 where
-  pub grows : Grows from m
-  pub right : AreRight rechecks (declarations_of m) m.table memo
-
--- what is remembered of a tree: the type that is noted of it; or it is closed, and none is; or nothing is known of it
-abbrev pub IsRecalled : List Tree → List ℕ → LpId → Recall → Type 0
-IsRecalled ts types id (recall.Found r) = IsNoted types id r
-IsRecalled ts types id recall.Closed = (loose (tree_at ts id.0) ≡ 0) × ((r : LpId) → IsNoted types id r → ⊥)
-IsRecalled ts types id recall.Open = Unit {0}
 
 -- one step is taken for a type that is remembered, unless none is left
 abbrev pub IsTakenUp : LpId → ℕ → ℕ → Next → Type 0

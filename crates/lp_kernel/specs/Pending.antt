@@ -13,7 +13,6 @@ use Rattle.lp_kernel.specs.declared.state.Frame.TheVariants as frame
 use Rattle.lp_kernel.specs.declared.state.Next.{Next}
 use Rattle.lp_kernel.specs.declared.state.Next.TheVariants as next
 use Rattle.lp_kernel.specs.declared.state.State.{State}
-use Rattle.lp_kernel.specs.Lifted.{AreLifts}
 
 -- so many last arguments of an application, in their order
 abbrev pub spine_args : ℕ → Tree → List Tree
@@ -88,7 +87,6 @@ AreKnownFrames ts (f ∷ fs) = IsKnownFrame ts f × AreKnownFrames ts fs
 pub record IsKnownState (ts : List Tree) (s : State) : Type 0 where
   pub context : AreKnown ts s.context
   pub frames : AreKnownFrames ts s.frames
-  pub lifts : AreLifts ts s.lifts
 
 abbrev pub IsKnownNext : List Tree → Next → Type 0
 IsKnownNext ts (next.Ask id) = id.0 < length ts

@@ -4,12 +4,13 @@ ghost use Rattle.lp_spec.specs.Trees.{SortKind};
 ghost use Rattle.lp_term.specs.Tables.{AreKnown};
 ghost use Rattle.holide_sig.specs.Modules.{IsHeld};
 ghost use Rattle.lp_conv.specs.Growth.{Grows};
+ghost use Rattle.lp_kernel.specs.Keys.{IsSamePlace};
 ghost use Rattle.lp_kernel.specs.Lifted.{AreLifts};
 ghost use Rattle.lp_kernel.specs.Pending.{IsKnownState, IsKnownNext, IsAsked, IsFoundIf, variable_type, variable_plan, IsFewerAsked};
 
 use crate::context::Context;
-use crate::lifts::{Lift, Lifts};
-use crate::raising::raised;
+use crate::latest::Latest;
+use crate::lifts::lifted;
 use crate::state::{Frame, Next, State};
 use bridge_base::{Budget, Memory};
 use holide_sig::{Module, SIGNATURE};
@@ -18,6 +19,7 @@ use lp_term::{LpId, LpNode};
 /// One turn: asks for the type of a tree.
 pub(crate) fn ask(
     base: &mut Module,
+    lifts: &mut Latest,
     state: &mut State,
     id: LpId,
     budget: &mut Budget,
@@ -25,12 +27,15 @@ pub(crate) fn ask(
     requires held { IsHeld base.old }
     requires known { IsKnownState base.old.table state.old }
     requires id { id.0 < length base.old.table }
+    requires lifts { AreLifts base.old.table lifts.old }
     ensures grows { Grows base.old base.new }
     ensures known { IfOk result (λ n. IsKnownState base.new.table state.new) }
     ensures next { IfOk result (IsKnownNext base.new.table) }
     ensures less { budget.new.left ≤ budget.old.left }
     ensures turned { IfOk result (λ n. (rechecks : Bool) → IsAsked rechecks base.new state.old id budget.old.left budget.new.left state.new n) }
     ensures fewer { IfOk result (IsFewerAsked state.old budget.old.left budget.new.left state.new) }
+    ensures lifts { IfOk result (λ n. AreLifts base.new.table lifts.new) }
+    ensures same { IsSamePlace state.old state.new }
 {
     if !budget.tick() {
         return Ok(Next::Over);
@@ -49,7 +54,7 @@ pub(crate) fn ask(
             Ok(Next::Ask(a))
         }
         LpNode::Sym(s) => Ok(symbol(base, s)),
-        LpNode::Var(n) => variable(base, &state.context, &mut state.lifts, n),
+        LpNode::Var(n) => variable(base, &state.context, lifts, n),
         LpNode::SortType => kind(base),
         LpNode::SortKind => Ok(Next::No),
     }
@@ -70,7 +75,7 @@ fn kind(base: &mut Module) -> Result<Next, Memory>
 fn variable(
     base: &mut Module,
     context: &Context,
-    lifts: &mut Lifts,
+    lifts: &mut Latest,
     n: u128,
 ) -> Result<Next, Memory>
     requires held { IsHeld base.old }
@@ -87,18 +92,8 @@ fn variable(
     let Some(k) = n.checked_add(1) else {
         return Err(Memory);
     };
-    let place = context.place(n);
-    if let Some(lifted) = lifts.find(place, entry, k) {
-        return Ok(Next::Tell(lifted));
-    }
-    let lifted = raised(base, entry, k)?;
-    let lift = Lift {
-        entry,
-        by: k,
-        lifted,
-    };
-    lifts.keep(place, lift)?;
-    Ok(Next::Tell(lifted))
+    let ty = lifted(base, lifts, entry, k)?;
+    Ok(Next::Tell(ty))
 }
 
 // The type of a symbol.

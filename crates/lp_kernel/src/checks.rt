@@ -9,7 +9,7 @@ ghost use Rattle.lp_conv.specs.Growth.{Grows};
 ghost use Rattle.lp_conv.specs.declared.Answer.TheVariants as answer;
 ghost use Rattle.lp_kernel.specs.declared.checks.Verdict.TheVariants as verdict;
 ghost use Rattle.holide_sig.specs.declared.module.Module.{Module as AModule};
-ghost use Rattle.lp_kernel.specs.Noted.{AreRight, IsCutBack};
+ghost use Rattle.lp_kernel.specs.Right.{AreRight, IsCutBack};
 ghost use Rattle.lp_kernel.specs.Checks.{IsBodyChecked, IsChecked, IsTypedAt, IsJudged, PassWithin, IsRefusedWithin};
 
 use crate::inference::Inferred;
@@ -178,6 +178,7 @@ fn cut_back(base: &mut Module, memo: &mut Memos, kept: usize)
     requires { kept ≤ length base.old.table }
     ensures { (rechecks : Bool) (from : AModule) → length from.table ≡ kept → IsHeld from → Grows from base.old → AreRight rechecks (declarations_of base.old) base.old.table memo.old → IsCutBack rechecks from base.new memo.new }
 {
+    memo.trim();
     let made = base.table.count() - kept;
     if made < ROOM || made < kept / 8 {
         return;

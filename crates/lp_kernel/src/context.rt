@@ -46,16 +46,6 @@ impl Context {
         }
     }
 
-    /// The place of a variable, counted from the outermost.
-    pub(crate) fn place(&self, n: u128) -> usize {
-        let count = self.entries.len();
-        if n < count as u128 {
-            count - 1 - n as usize
-        } else {
-            0
-        }
-    }
-
     /// Leaves out the innermost variable.
     pub(crate) fn pop(&mut self)
         ensures { self.new ≡ outside self.old }

@@ -7,7 +7,8 @@ ghost use Rattle.lp_kernel.specs.Inference.{typing, IsInferred, IsKnownType, IsT
 
 use crate::asks::ask;
 use crate::context::Context;
-use crate::lifts::Lifts;
+use crate::contexts::Contexts;
+use crate::latest::Latest;
 use crate::memo::Memo;
 use crate::spines::under;
 use crate::state::{Next, State};
@@ -51,14 +52,17 @@ pub fn infer(
     let mut state = State {
         context: Context::of(alloc, ctx)?,
         frames: Stack::new(alloc),
-        lifts: Lifts::new(alloc),
+        key: 0,
     };
     let mut products = Memo::new(alloc);
+    let mut lifts = Latest::new(alloc);
+    // Their numbers are not asked for.
+    let mut contexts = Contexts::new(alloc);
     let mut next = Next::Ask(id);
     loop {
         match next {
             Next::Ask(tree) => {
-                next = ask(base, &mut state, tree, budget)?;
+                next = ask(base, &mut lifts, &mut state, tree, budget)?;
             }
             Next::Tell(found) => match state.frames.pop() {
                 None => return Ok(Inferred::Found(found)),
@@ -68,6 +72,7 @@ pub fn infer(
                         base,
                         true,
                         &mut products,
+                        &mut contexts,
                         &mut state,
                         frame,
                         found,

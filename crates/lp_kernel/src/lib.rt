@@ -12,10 +12,11 @@
 //! `weight`, `bound` and `bound_fast` are those of `lp_weight`: the bounds are budgets that are enough for what is translated, with rechecks
 //! of sorts and without.
 //!
-//! While a module is checked the types of its closed applications are kept (`memo`, `noting`), each found once, but for those of functions of other applications: so fewer steps than the
+//! While a module is checked the types of its applications are kept (`memo`, `noting`), but for those of functions of other applications: of each closed one,
+//! and of an open one that of the last contexts in which it stood, which have numbers (`contexts`). So fewer steps than the
 //! price may be taken. The arguments of an application are put into a type where it is looked at, all at once, and where it is another
-//! at hand nothing is made (`spines`). The product that a type reaches by head steps is remembered too (`products`), and so is, for each place of a
-//! context, what the type of its variable was lifted to last (`lifts`). The nodes that the checks make are given up as they go on.
+//! at hand nothing is made (`spines`). The product that a type reaches by head steps is remembered too (`products`), and so is what the types of variables
+//! were lifted to last (`lifts`). What is kept of open trees stands in a list of bounded length (`latest`). The nodes that the checks make are given up as they go on.
 //!
 //! Walks keep a stack of their own, so a deep tree costs memory and nothing else.
 //!
@@ -30,7 +31,9 @@
 mod asks;
 mod checks;
 mod context;
+mod contexts;
 mod inference;
+mod latest;
 mod lifts;
 mod memo;
 mod noting;

@@ -1,8 +1,13 @@
-//! What a check remembers: the types of closed applications, and the products that types reach, so that each is found once.
-ghost use Rattle.std.specs.Prelude.{◌≡◌, suc, ◌<◌, ◌⊎◌, length, IfOk, IfNone, IfSome, OnOk};
+//! What a check remembers: the types of applications, the products that types reach, and lifted types.
+ghost use Rattle.std.specs.Prelude.{◌≡◌, [], suc, ◌<◌, ◌⊎◌, Bool, List, length, IfOk, IfNone, IfSome, OnOk};
 ghost use Rattle.lp_term.specs.declared.LpId.{LpId as AnId};
+ghost use Rattle.lp_spec.specs.Trees.{Tree};
+ghost use Rattle.lp_spec.specs.Modules.{Declaration};
 ghost use Rattle.lp_kernel.specs.Noted.{IsNoted, IsEmpty, IsCutOff, IsLonger, IsForgotten};
+ghost use Rattle.lp_kernel.specs.Right.{AreRight};
 
+use crate::contexts::Contexts;
+use crate::latest::Latest;
 use bridge_base::Memory;
 use lp_term::LpId;
 use std::alloc::Global;
@@ -76,6 +81,12 @@ pub(crate) struct Memos {
     pub(crate) types: Memo,
     /// The products that types reach by head steps.
     pub(crate) products: Memo,
+    /// Types that were lifted.
+    pub(crate) lifts: Latest,
+    /// The contexts that have numbers.
+    pub(crate) contexts: Contexts,
+    /// The types of open trees in these contexts.
+    pub(crate) open_types: Latest,
 }
 
 impl Memos {
@@ -83,22 +94,54 @@ impl Memos {
     pub(crate) fn new(alloc: Global) -> Self
         ensures types { IsEmpty result.types }
         ensures products { IsEmpty result.products }
+        ensures lifts { result.lifts ≡ [] }
+        ensures open_types { result.open_types ≡ [] }
     {
         Memos {
             types: Memo::new(alloc),
             products: Memo::new(alloc),
+            lifts: Latest::new(alloc),
+            contexts: Contexts::new(alloc),
+            open_types: Latest::new(alloc),
         }
     }
 
-    /// Forgets each tree and each type with a number of `len` or more.
+    /// Forgets each tree and each type with a number of `len` or more, all that was lifted, and all contexts.
     pub(crate) fn cut(&mut self, len: usize)
         ensures types { IsCutOff self.old.types self.new.types len }
         ensures products { IsCutOff self.old.products self.new.products len }
+        ensures lifts { self.new.lifts ≡ [] }
+        ensures open_types { self.new.open_types ≡ [] }
     {
         self.types.cut(len);
         self.products.cut(len);
+        self.lifts.clear();
+        self.forget_contexts();
+    }
+
+    /// Forgets all contexts, where they are many.
+    pub(crate) fn trim(&mut self)
+        ensures { (rechecks : Bool) (ds : List Declaration) (ts : List Tree) → AreRight rechecks ds ts self.old → AreRight rechecks ds ts self.new }
+    {
+        if self.contexts.len() > MOST {
+            self.forget_contexts();
+        }
+    }
+
+    // Forgets all contexts, and what was found in them.
+    fn forget_contexts(&mut self)
+        ensures types { self.new.types ≡ self.old.types }
+        ensures products { self.new.products ≡ self.old.products }
+        ensures lifts { self.new.lifts ≡ self.old.lifts }
+        ensures open_types { self.new.open_types ≡ [] }
+    {
+        self.contexts.clear();
+        self.open_types.clear();
     }
 }
+
+// How many contexts have numbers before they are forgotten.
+const MOST: usize = 4096;
 
 // One more than the number of a tree.
 fn one_more(id: LpId) -> Result<u32, Memory>

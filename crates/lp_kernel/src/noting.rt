@@ -1,20 +1,23 @@
-//! The type of a tree in the empty context, by what was found before of the closed trees in it.
-ghost use Rattle.std.specs.Prelude.{◌≡◌, ◌<◌, ◌≤◌, [], List, IfOk, length};
-ghost use Rattle.lp_spec.specs.Trees.{Tree};
+//! The type of a tree in the empty context, by what was found before of the applications in it.
+ghost use Rattle.std.specs.Prelude.{◌≡◌, ◌⊎◌, ◌<◌, ◌≤◌, [], Bool, List, IfOk, IfNone, IfSome, OnOk, length};
+ghost use Rattle.lp_spec.specs.Modules.{Declaration};
 ghost use Rattle.lp_spec.specs.ModuleOrder.{IsModule};
+ghost use Rattle.lp_typing.specs.ConversionLaws.{IsClosed};
+ghost use Rattle.lp_term.specs.declared.LpId.{LpId as AnId};
 ghost use Rattle.holide_sig.specs.Modules.{declarations_of, IsHeld};
 ghost use Rattle.lp_conv.specs.Growth.{Grows};
 ghost use Rattle.lp_kernel.specs.Inference.{IsInferred, IsKnownType};
-ghost use Rattle.lp_kernel.specs.Lifted.{AreLifts};
-ghost use Rattle.lp_kernel.specs.Noted.{AreRight, IsRecalled, IsTakenUp};
+ghost use Rattle.lp_kernel.specs.Latest.{IsKept};
+ghost use Rattle.lp_kernel.specs.Noted.{IsNoted, IsTakenUp};
+ghost use Rattle.lp_kernel.specs.Right.{AreRight, IsTypeIn, IsTypeNoted, IsRecalled};
 
 use crate::asks::ask;
 use crate::context::Context;
 use crate::inference::Inferred;
-use crate::lifts::Lifts;
-use crate::memo::{Memo, Memos};
+use crate::latest::Finding;
+use crate::memo::Memos;
 use crate::spines::under;
-use crate::state::{Next, State, Waiting};
+use crate::state::{Frame, Next, State, Waiting};
 use crate::tells::tell;
 use bridge_base::{Budget, Memory, Stack};
 use holide_sig::Module;
@@ -26,15 +29,16 @@ use std::alloc::Global;
 pub(crate) enum Recall {
     /// Its type.
     Found(LpId),
-    /// Nothing yet: the tree is closed, and its type is to be noted.
-    Closed,
-    /// Nothing.
-    Open,
+    /// Nothing yet: the tree is an application, and its type is to be noted.
+    Unknown,
+    /// Nothing: the tree is the function of an application, and its type is not to be noted.
+    Function,
+    /// Nothing is noted of such trees.
+    Other,
 }
 
 /// The type of a tree in the empty context, by the directed rules, with rechecks of sorts or without, each step taking one of
-/// the budget. A closed tree whose type was found
-/// before takes one step.
+/// the budget. An application whose type in its context is noted takes one step.
 pub(crate) fn infer_noted(
     alloc: Global,
     base: &mut Module,
@@ -53,7 +57,11 @@ pub(crate) fn infer_noted(
     ensures answered { IfOk result (IsInferred rechecks base.old [] id base.new.table budget.old.left budget.new.left) }
     ensures right { IfOk result (λ r. AreRight rechecks (declarations_of base.new) base.new.table memo.new) }
 {
-    let mut state = fresh(alloc)?;
+    let mut state = State {
+        context: Context::of(alloc, &[])?,
+        frames: Stack::new(alloc),
+        key: 0,
+    };
     let mut outer = Stack::new(alloc);
     let mut spare = Stack::new(alloc);
     let mut next = Next::Ask(id);
@@ -63,23 +71,27 @@ pub(crate) fn infer_noted(
         let at_function = is_function;
         is_function = false;
         match next {
-            Next::Ask(tree) => match look_up(base, &memo.types, tree, at_function) {
+            Next::Ask(tree) => match look_up(base, memo, state.key, tree, at_function) {
                 Recall::Found(found) => {
                     next = take_up(found, budget);
                 }
-                Recall::Closed => {
-                    let inner = emptied(alloc, &mut spare)?;
-                    let below = std::mem::replace(&mut state, inner);
+                Recall::Unknown => {
+                    let inner = emptied(alloc, &mut spare);
+                    let below = std::mem::replace(&mut state.frames, inner);
                     outer.push(Waiting {
                         id: tree,
-                        state: below,
+                        key: state.key,
+                        frames: below,
                     })?;
-                    next = ask(base, &mut state, tree, budget)?;
+                    next = ask(base, &mut memo.lifts, &mut state, tree, budget)?;
                     is_function = true;
                 }
-                Recall::Open => {
-                    next = ask(base, &mut state, tree, budget)?;
-                    is_function = is_application(base, tree);
+                Recall::Function => {
+                    next = ask(base, &mut memo.lifts, &mut state, tree, budget)?;
+                    is_function = true;
+                }
+                Recall::Other => {
+                    next = ask(base, &mut memo.lifts, &mut state, tree, budget)?;
                 }
             },
             Next::Tell(found) => match state.frames.pop() {
@@ -89,6 +101,7 @@ pub(crate) fn infer_noted(
                         base,
                         rechecks,
                         &mut memo.products,
+                        &mut memo.contexts,
                         &mut state,
                         frame,
                         found,
@@ -98,8 +111,12 @@ pub(crate) fn infer_noted(
                 None => match outer.pop() {
                     None => return Ok(Inferred::Found(found)),
                     Some(waiting) => {
-                        memo.types.note(waiting.id, found)?;
-                        let ended = std::mem::replace(&mut state, waiting.state);
+                        // It is in the context in which it was asked for.
+                        if waiting.key != state.key {
+                            return Err(Memory);
+                        }
+                        note_type(base, memo, waiting.key, waiting.id, found)?;
+                        let ended = std::mem::replace(&mut state.frames, waiting.frames);
                         spare.push(ended)?;
                         next = Next::Tell(found);
                     }
@@ -114,50 +131,65 @@ pub(crate) fn infer_noted(
     }
 }
 
-// Nothing is pending, and there is no context.
-fn fresh(alloc: Global) -> Result<State, Memory>
-    ensures context { IfOk result (λ s. s.context ≡ []) }
-    ensures frames { IfOk result (λ s. s.frames ≡ []) }
-    ensures lifts { IfOk result (λ s. (ts : List Tree) → AreLifts ts s.lifts) }
+// No frames, in the list of some that have ended, where there is one.
+fn emptied(alloc: Global, spare: &mut Stack<Stack<Frame>>) -> Stack<Frame>
+    ensures { result ≡ [] }
 {
-    Ok(State {
-        context: Context::of(alloc, &[])?,
-        frames: Stack::new(alloc),
-        lifts: Lifts::new(alloc),
-    })
-}
-
-// The same, in the lists of a state that has ended, where there is one.
-fn emptied(alloc: Global, spare: &mut Stack<State>) -> Result<State, Memory>
-    ensures context { IfOk result (λ s. s.context ≡ []) }
-    ensures frames { IfOk result (λ s. s.frames ≡ []) }
-    ensures lifts { IfOk result (λ s. (ts : List Tree) → AreLifts ts s.lifts) }
-{
-    let Some(mut state) = spare.pop() else {
-        return fresh(alloc);
+    let Some(mut frames) = spare.pop() else {
+        return Stack::new(alloc);
     };
-    state.context.clear();
-    state.lifts.clear();
-    while let Some(_frame) = state.frames.pop() {}
-    Ok(state)
+    while let Some(_frame) = frames.pop() {}
+    frames
 }
 
 // What is remembered of a tree. Applications alone are noted, and not the functions of others: the others take few steps.
-fn look_up(base: &Module, memo: &Memo, id: LpId, is_function: bool) -> Recall
+fn look_up(base: &Module, memo: &Memos, key: usize, id: LpId, is_function: bool) -> Recall
     requires id { id.0 < length base.now.table }
-    ensures { IsRecalled base.now.table memo.now id result }
+    ensures { IsRecalled base.now.table memo.now key id result }
 {
     if !is_application(base, id) {
-        return Recall::Open;
+        return Recall::Other;
     }
-    if !base.table.is_closed_under(id, 0) {
-        return Recall::Open;
-    }
-    match memo.find(id) {
+    match noted_type(base, memo, key, id) {
         Some(found) => Recall::Found(found),
-        None if is_function => Recall::Open,
-        None => Recall::Closed,
+        None if is_function => Recall::Function,
+        None => Recall::Unknown,
     }
+}
+
+// The type that was noted of a tree, in the context of this number unless it is closed.
+fn noted_type(base: &Module, memo: &Memos, key: usize, id: LpId) -> Option<LpId>
+    requires id { id.0 < length base.now.table }
+    ensures noted { IfSome result (λ r. IsTypeNoted memo.now key id r) }
+    ensures absent { IfNone result (((r : AnId) → IsNoted memo.now.types id r → ⊥) ⊎ ((r : AnId) → IsKept memo.now.open_types id key r → ⊥)) }
+{
+    if !base.table.is_closed_under(id, 0) {
+        return memo.open_types.find(id, key as u128);
+    }
+    memo.types.find(id)
+}
+
+// Notes the type of a tree in the context of this number, or in all contexts if it is closed.
+fn note_type(
+    base: &Module,
+    memo: &mut Memos,
+    key: usize,
+    id: LpId,
+    found: LpId,
+) -> Result<(), Memory>
+    requires id { id.0 < length base.now.table }
+    ensures noted { OnOk result (IsTypeNoted memo.new key id found) }
+    ensures same { memo.new.contexts ≡ memo.old.contexts }
+    ensures right { OnOk result ((rechecks : Bool) (ds : List Declaration) → IsClosed ds → AreRight rechecks ds base.now.table memo.old → IsTypeIn rechecks ds base.now.table memo.old.contexts key id found → AreRight rechecks ds base.now.table memo.new) }
+{
+    if base.table.is_closed_under(id, 0) {
+        return memo.types.note(id, found);
+    }
+    memo.open_types.keep(Finding {
+        id,
+        by: key as u128,
+        found,
+    })
 }
 
 // Whether a tree is an application.

@@ -6,6 +6,7 @@ ghost use Rattle.lp_term.specs.Tables.{tree_at, trees_at, AreKnown};
 ghost use Rattle.holide_sig.specs.Modules.{IsHeld};
 ghost use Rattle.lp_conv.specs.Growth.{Grows};
 ghost use Rattle.lp_kernel.specs.declared.state.Next.TheVariants as next;
+ghost use Rattle.lp_kernel.specs.Keys.{IsSamePlace};
 ghost use Rattle.lp_kernel.specs.Made.{IsFilledUnder, StandsFor};
 ghost use Rattle.lp_kernel.specs.Pending.{spine_args, IsFilled, IsLast, IsKnownState, IsKnownNext, IsMade, IsAwaited, IsFewerMade};
 
@@ -56,6 +57,7 @@ pub(crate) fn under(
     ensures next { IfOk result (IsKnownNext base.new.table) }
     ensures turned { IfOk result (λ n. (rechecks : Bool) (left : ℕ) → IsMade rechecks base.new state.old b k g left state.new n) }
     ensures fewer { IfOk result (IsFewerMade state.old state.new) }
+    ensures same { IsSamePlace state.old state.new }
 {
     match awaited(base, state, b, k, g)? {
         Some(x) => Ok(Next::Ask(x)),
@@ -78,7 +80,8 @@ fn awaited(
     requires known { IsKnownState base.now.table state.old }
     requires b { b.0 < length base.now.table }
     requires g { g.0 < length base.now.table }
-    ensures { IfOk result (IsAwaited base.now state.old b k g state.new) }
+    ensures awaited { IfOk result (IsAwaited base.now state.old b k g state.new) }
+    ensures same { IsSamePlace state.old state.new }
 {
     let LpNode::Pi(a, c) = base.table.view(b) else {
         return Ok(None);

@@ -1,6 +1,5 @@
 //! What is pending while a type is inferred.
 use crate::context::Context;
-use crate::lifts::Lifts;
 use bridge_base::Stack;
 use lp_term::LpId;
 
@@ -43,12 +42,14 @@ pub enum Next {
 pub struct State {
     pub(crate) context: Context,
     pub(crate) frames: Stack<Frame>,
-    pub(crate) lifts: Lifts,
+    // The number of the context.
+    pub(crate) key: usize,
 }
 
-/// A closed tree whose type is asked for by itself, and what goes on with it.
+/// A tree whose type is asked for by itself, with the number of its context, and what goes on with it.
 #[derive(Drop)]
 pub struct Waiting {
     pub(crate) id: LpId,
-    pub(crate) state: State,
+    pub(crate) key: usize,
+    pub(crate) frames: Stack<Frame>,
 }

@@ -4,8 +4,10 @@ ghost use Rattle.holide_sig.specs.Modules.{declarations_of, IsHeld};
 ghost use Rattle.lp_conv.specs.Growth.{Grows};
 ghost use Rattle.lp_kernel.specs.declared.state.Frame.TheVariants as frame;
 ghost use Rattle.lp_kernel.specs.Pending.{IsKnownState, IsKnownNext, IsKnownFrame, IsApplication, IsTold, IsApplied, IsConverted, IsFewer};
+ghost use Rattle.lp_kernel.specs.Keys.{AreMore, IsKeyed, IsSamePlace};
 ghost use Rattle.lp_kernel.specs.Noted.{AreProducts};
 
+use crate::contexts::Contexts;
 use crate::inference::Inferred;
 use crate::memo::Memo;
 use crate::products::reach_noted;
@@ -23,6 +25,7 @@ pub(crate) fn tell(
     base: &mut Module,
     rechecks: bool,
     products: &mut Memo,
+    contexts: &mut Contexts,
     state: &mut State,
     frame: Frame,
     found: LpId,
@@ -40,6 +43,8 @@ pub(crate) fn tell(
     ensures turned { IfOk result (IsTold rechecks base.new frame state.old found budget.old.left budget.new.left state.new) }
     ensures fewer { IfOk result (IsFewer state.old budget.old.left budget.new.left state.new) }
     ensures products { IfOk result (λ n. AreProducts (declarations_of base.new) base.new.table products.new) }
+    ensures more { AreMore contexts.old contexts.new }
+    ensures keyed { IfOk result (λ n. IsKeyed contexts.old state.old → IsKeyed contexts.new state.new) }
 {
     match frame {
         Frame::Function(f, x, w) => tell_function(
@@ -52,10 +57,10 @@ pub(crate) fn tell(
         Frame::Expected(a, b, k, w, y) => tell_expected(
             alloc, base, state, a, b, k, w, y, found, budget,
         ),
-        Frame::Domain(a, b) => tell_domain(base, state, a, b, found),
-        Frame::Body(a) => tell_body(base, state, a, found),
-        Frame::ProductDomain(a, b) => tell_product_domain(base, state, a, b, found),
-        Frame::ProductBody => tell_product_body(base, state, found),
+        Frame::Domain(a, b) => tell_domain(base, contexts, state, a, b, found),
+        Frame::Body(a) => tell_body(base, contexts, state, a, found),
+        Frame::ProductDomain(a, b) => tell_product_domain(base, contexts, state, a, b, found),
+        Frame::ProductBody => tell_product_body(base, contexts, state, found),
     }
 }
 
@@ -84,6 +89,7 @@ fn tell_function(
     ensures turned { IfOk result (IsTold rechecks base.new (frame.Function f x w) state.old found budget.old.left budget.new.left state.new) }
     ensures fewer { IfOk result (IsFewer state.old budget.old.left budget.new.left state.new) }
     ensures products { IfOk result (λ n. AreProducts (declarations_of base.new) base.new.table products.new) }
+    ensures same { IsSamePlace state.old state.new }
 {
     if let LpNode::Pi(a, b) = base.table.view(found) {
         state.frames.push(Frame::Argument(a, b, 0, f, w))?;
@@ -121,6 +127,7 @@ fn tell_reached(
     ensures next { IfOk result (IsKnownNext base.new.table) }
     ensures turned { IfOk result (λ n. (rechecks : Bool) (left : ℕ) → IsTold rechecks base.new (frame.Reached product f x w) state.old found left left state.new n) }
     ensures fewer { IfOk result (λ n. (left : ℕ) → IsFewer state.old left left state.new n) }
+    ensures same { IsSamePlace state.old state.new }
 {
     match base.table.view(found) {
         LpNode::SortType | LpNode::SortKind => to_argument(base, state, product, f, x, w),
@@ -145,6 +152,7 @@ fn to_argument(
     ensures next { IfOk result (IsKnownNext base.now.table) }
     ensures turned { IfOk result (λ n. (rechecks : Bool) (left : ℕ) → IsApplied rechecks base.now state.old product x left state.new n) }
     ensures fewer { IfOk result (λ n. (left : ℕ) → IsFewer state.old left left state.new n) }
+    ensures same { IsSamePlace state.old state.new }
 {
     match base.table.view(product) {
         LpNode::Pi(a, b) => {
@@ -179,6 +187,7 @@ fn tell_argument(
     ensures less { budget.new.left ≤ budget.old.left }
     ensures turned { IfOk result (IsTold rechecks base.new (frame.Argument a b k f w) state.old found budget.old.left budget.new.left state.new) }
     ensures fewer { IfOk result (IsFewer state.old budget.old.left budget.new.left state.new) }
+    ensures same { IsSamePlace state.old state.new }
 {
     if !budget.tick() {
         return Ok(Next::Over);
@@ -223,6 +232,7 @@ fn tell_expected(
     ensures less { budget.new.left ≤ budget.old.left }
     ensures turned { IfOk result (λ n. (rechecks : Bool) → IsTold rechecks base.new (frame.Expected a b k w y) state.old found budget.old.left budget.new.left state.new n) }
     ensures fewer { IfOk result (IsFewer state.old budget.old.left budget.new.left state.new) }
+    ensures same { IsSamePlace state.old state.new }
 {
     match base.table.view(found) {
         LpNode::SortType | LpNode::SortKind => convert(alloc, base, state, a, b, k, w, y, budget),
@@ -262,6 +272,7 @@ fn convert(
 // With the sort of an abstraction's domain.
 fn tell_domain(
     base: &mut Module,
+    contexts: &mut Contexts,
     state: &mut State,
     a: LpId,
     b: LpId,
@@ -276,10 +287,13 @@ fn tell_domain(
     ensures next { IfOk result (IsKnownNext base.new.table) }
     ensures turned { IfOk result (λ n. (rechecks : Bool) (left : ℕ) → IsTold rechecks base.new (frame.Domain a b) state.old found left left state.new n) }
     ensures fewer { IfOk result (λ n. (left : ℕ) → IsFewer state.old left left state.new n) }
+    ensures more { AreMore contexts.old contexts.new }
+    ensures keyed { IfOk result (λ n. IsKeyed contexts.old state.old → IsKeyed contexts.new state.new) }
 {
     match base.table.view(found) {
         LpNode::SortType => {
             state.context.push(a)?;
+            state.key = contexts.inner(state.key, a)?;
             state.frames.push(Frame::Body(a))?;
             Ok(Next::Ask(b))
         }
@@ -288,7 +302,13 @@ fn tell_domain(
 }
 
 // With the type of an abstraction's body.
-fn tell_body(base: &mut Module, state: &mut State, a: LpId, found: LpId) -> Result<Next, Memory>
+fn tell_body(
+    base: &mut Module,
+    contexts: &Contexts,
+    state: &mut State,
+    a: LpId,
+    found: LpId,
+) -> Result<Next, Memory>
     requires held { IsHeld base.old }
     requires known { IsKnownState base.old.table state.old }
     requires frame { IsKnownFrame base.old.table (frame.Body a) }
@@ -298,8 +318,10 @@ fn tell_body(base: &mut Module, state: &mut State, a: LpId, found: LpId) -> Resu
     ensures next { IfOk result (IsKnownNext base.new.table) }
     ensures turned { IfOk result (λ n. (rechecks : Bool) (left : ℕ) → IsTold rechecks base.new (frame.Body a) state.old found left left state.new n) }
     ensures fewer { IfOk result (λ n. (left : ℕ) → IsFewer state.old left left state.new n) }
+    ensures keyed { IfOk result (λ n. IsKeyed contexts.now state.old → IsKeyed contexts.now state.new) }
 {
     state.context.pop();
+    state.key = contexts.outer(state.key);
     match base.table.view(found) {
         LpNode::SortKind => Ok(Next::No),
         _ => {
@@ -312,6 +334,7 @@ fn tell_body(base: &mut Module, state: &mut State, a: LpId, found: LpId) -> Resu
 // With the sort of a product's domain.
 fn tell_product_domain(
     base: &mut Module,
+    contexts: &mut Contexts,
     state: &mut State,
     a: LpId,
     b: LpId,
@@ -326,10 +349,13 @@ fn tell_product_domain(
     ensures next { IfOk result (IsKnownNext base.new.table) }
     ensures turned { IfOk result (λ n. (rechecks : Bool) (left : ℕ) → IsTold rechecks base.new (frame.ProductDomain a b) state.old found left left state.new n) }
     ensures fewer { IfOk result (λ n. (left : ℕ) → IsFewer state.old left left state.new n) }
+    ensures more { AreMore contexts.old contexts.new }
+    ensures keyed { IfOk result (λ n. IsKeyed contexts.old state.old → IsKeyed contexts.new state.new) }
 {
     match base.table.view(found) {
         LpNode::SortType => {
             state.context.push(a)?;
+            state.key = contexts.inner(state.key, a)?;
             state.frames.push(Frame::ProductBody)?;
             Ok(Next::Ask(b))
         }
@@ -338,7 +364,12 @@ fn tell_product_domain(
 }
 
 // With the sort of a product's body.
-fn tell_product_body(base: &mut Module, state: &mut State, found: LpId) -> Result<Next, Memory>
+fn tell_product_body(
+    base: &mut Module,
+    contexts: &Contexts,
+    state: &mut State,
+    found: LpId,
+) -> Result<Next, Memory>
     requires held { IsHeld base.old }
     requires known { IsKnownState base.old.table state.old }
     requires frame { IsKnownFrame base.old.table frame.ProductBody }
@@ -348,8 +379,10 @@ fn tell_product_body(base: &mut Module, state: &mut State, found: LpId) -> Resul
     ensures next { IfOk result (IsKnownNext base.new.table) }
     ensures turned { IfOk result (λ n. (rechecks : Bool) (left : ℕ) → IsTold rechecks base.new frame.ProductBody state.old found left left state.new n) }
     ensures fewer { IfOk result (λ n. (left : ℕ) → IsFewer state.old left left state.new n) }
+    ensures keyed { IfOk result (λ n. IsKeyed contexts.now state.old → IsKeyed contexts.now state.new) }
 {
     state.context.pop();
+    state.key = contexts.outer(state.key);
     match base.table.view(found) {
         LpNode::SortType | LpNode::SortKind => Ok(Next::Tell(found)),
         _ => Ok(Next::No),

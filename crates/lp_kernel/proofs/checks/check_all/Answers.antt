@@ -9,7 +9,7 @@ use Rattle.lp_kernel.proofs.Levels.{empty-right}
 use Rattle.lp_kernel.proofs.checks.check_all.Goals as goal
 
 pub loop-i-init : goal.loop-i-init
-loop-i-init c = record { passing = passing-start c.args.rechecks _ c.requires.held; right = empty-right c.args.rechecks _ _ c.new-memo.result c.new-memo.ensures.types c.new-memo.ensures.products }
+loop-i-init c = record { passing = passing-start c.args.rechecks _ c.requires.held; right = empty-right c.args.rechecks _ _ c.new-memo.result c.new-memo.ensures.types c.new-memo.ensures.products c.new-memo.ensures.lifts c.new-memo.ensures.open_types }
 
 pub check_noted-requires-clause-held : goal.check_noted-requires-clause-held
 check_noted-requires-clause-held c = c.loop-i.invariant.passing.held

@@ -1,4 +1,5 @@
 use Rattle.lp_kernel.proofs.Asked.{IfOk-map}
+use Rattle.lp_kernel.proofs.KeyLaws.{keyed-same, more-refl}
 use Rattle.lp_kernel.proofs.Reached.{AreProducts-Grows}
 use Rattle.lp_kernel.proofs.tells.tell.Goals as goal
 
@@ -61,3 +62,33 @@ returns-in-ProductDomain-clause-products c = IfOk-map c.tell_product_domain.resu
 
 pub returns-in-ProductBody-clause-products : goal.returns-in-ProductBody-clause-products
 returns-in-ProductBody-clause-products c = IfOk-map c.tell_product_body.result (λ n h. AreProducts-Grows c.args.base.now c.tell_product_body.new.base c.args.products.now c.requires.held c.tell_product_body.ensures.grows c.requires.products) c.tell_product_body.ensures.fewer
+
+pub returns-in-Function-clause-keyed : goal.returns-in-Function-clause-keyed
+returns-in-Function-clause-keyed c = IfOk-map c.tell_function.result (λ n h. keyed-same c.args.contexts.now c.args.state.now c.tell_function.new.state c.tell_function.ensures.same) c.tell_function.ensures.fewer
+
+pub returns-in-Reached-clause-keyed : goal.returns-in-Reached-clause-keyed
+returns-in-Reached-clause-keyed c = IfOk-map c.tell_reached.result (λ n h. keyed-same c.args.contexts.now c.args.state.now c.tell_reached.new.state c.tell_reached.ensures.same) c.tell_reached.ensures.fewer
+
+pub returns-in-Argument-clause-keyed : goal.returns-in-Argument-clause-keyed
+returns-in-Argument-clause-keyed c = IfOk-map c.tell_argument.result (λ n h. keyed-same c.args.contexts.now c.args.state.now c.tell_argument.new.state c.tell_argument.ensures.same) c.tell_argument.ensures.fewer
+
+pub returns-in-Expected-clause-keyed : goal.returns-in-Expected-clause-keyed
+returns-in-Expected-clause-keyed c = IfOk-map c.tell_expected.result (λ n h. keyed-same c.args.contexts.now c.args.state.now c.tell_expected.new.state c.tell_expected.ensures.same) c.tell_expected.ensures.fewer
+
+pub returns-in-Function-clause-more : goal.returns-in-Function-clause-more
+returns-in-Function-clause-more c = more-refl c.args.contexts.now
+
+pub returns-in-Reached-clause-more : goal.returns-in-Reached-clause-more
+returns-in-Reached-clause-more c = more-refl c.args.contexts.now
+
+pub returns-in-Argument-clause-more : goal.returns-in-Argument-clause-more
+returns-in-Argument-clause-more c = more-refl c.args.contexts.now
+
+pub returns-in-Expected-clause-more : goal.returns-in-Expected-clause-more
+returns-in-Expected-clause-more c = more-refl c.args.contexts.now
+
+pub returns-in-Body-clause-more : goal.returns-in-Body-clause-more
+returns-in-Body-clause-more c = more-refl c.args.contexts.now
+
+pub returns-in-ProductBody-clause-more : goal.returns-in-ProductBody-clause-more
+returns-in-ProductBody-clause-more c = more-refl c.args.contexts.now

@@ -1,4 +1,4 @@
-use Rattle.std.proofs.Common.{arith, ap, length}
+use Rattle.std.proofs.Common.{refl, arith, ap, length}
 use Rattle.lp_kernel.proofs.Asked.{IfOk-map, known-state, known-pushed, known-application}
 use Rattle.lp_kernel.proofs.Told.{told-product, told-reached, told-unchecked, told-unreached, told-over}
 use Rattle.lp_conv.specs.GrowthLaws.{IsHeld-Grows}
@@ -20,6 +20,7 @@ returns-in_ok-push-in-Found c =
       turned = told-reached c.args.rechecks _ _ _ _ _ c.args.f c.args.x c.args.w c.args.found c.view.result c.if-not-rechecks.false c.in-Found.product _ _ keeps.stays c.requires.found c.view.ensures.is c.in_default.not-Pi answered c.in_ok-push-in-Found.ensures.pushed;
       fewer = omega (arith, c.reach_noted.ensures.less, ap length c.in_ok-push-in-Found.ensures.pushed);
       products = c.in_ok-product.ensures.products;
+      same = record { context = refl; key = refl };
     }
 
 pub returns-in-No : goal.returns-in-No
@@ -33,6 +34,7 @@ returns-in-No c =
       turned = told-unreached c.args.rechecks _ _ _ _ _ c.args.f c.args.x c.args.w c.args.found c.view.result _ keeps.stays c.requires.found c.view.ensures.is c.in_default.not-Pi (rw c.in-No.is at c.in_ok-product.ensures.answered);
       fewer = omega (arith, c.reach_noted.ensures.less);
       products = c.in_ok-product.ensures.products;
+      same = record { context = refl; key = refl };
     }
 
 pub returns-in-Over : goal.returns-in-Over
@@ -46,6 +48,7 @@ returns-in-Over c =
       turned = told-over c.args.rechecks _ _ _ c.args.state.now.context c.args.state.now.frames c.args.f c.args.x c.args.w c.args.found c.view.result _ keeps.stays c.requires.found c.view.ensures.is c.in_default.not-Pi (rw c.in-Over.is at c.in_ok-product.ensures.answered);
       fewer = omega (arith, c.reach_noted.ensures.less);
       products = c.in_ok-product.ensures.products;
+      same = record { context = refl; key = refl };
     }
 
 pub to_argument-requires : goal.to_argument-requires
@@ -72,4 +75,5 @@ returns-then-not-rechecks c = record {
       c.to_argument.ensures.turned;
   fewer = IfOk-map c.to_argument.result (λ n h. let f = h c.reach_noted.new.budget.left in omega (arith, f, c.reach_noted.ensures.less)) c.to_argument.ensures.fewer;
   products = IfOk-map c.to_argument.result (λ n h. c.in_ok-product.ensures.products) c.to_argument.ensures.fewer;
+  same = c.to_argument.ensures.same;
 }
