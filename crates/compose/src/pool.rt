@@ -136,7 +136,9 @@ impl Pool {
     {
         if let Some(said) = self.held.pop() {
             let _step = self.steps.pop();
-            strike(&mut self.lists, said.sequent.concl, self.held.len());
+            let concl = said.sequent.concl;
+            drop(said);
+            strike(&mut self.lists, concl, self.held.len());
         }
     }
 

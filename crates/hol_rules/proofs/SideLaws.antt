@@ -1,9 +1,11 @@
 -- The sides of a premise, and terms with their types.
-use Rattle.std.proofs.Common.{◌≡◌, ℕ, ◌<◌, ◌≤◌, ◌⊎◌, inl, inr, refl, sym, ap, subst, ◌∙◌, arith, List, length, Bool, Option, Some, None, IsSome, slice_get, get_or, Result, Ok, Err, IfOk, ◌↔◌, IsTrue}
+use Rattle.std.proofs.Common.{◌≡◌, ℕ, ◌<◌, ◌≤◌, ◌⊎◌, inl, inr, refl, sym, ap, subst, ◌∙◌, arith, List, length, Bool, true, Option, Some, None, IsSome, slice_get, get_or, Result, Ok, Err, IfOk, ◌↔◌, IsTrue}
 use Rattle.std.specs.Prelude.{unwrap_or, if◌then◌else◌}
 use Rattle.std.specs.Option.{ok_or}
-use Rattle.std.specs.List.{IsDistinct as HasNoRepeats}
-use Rattle.std.proofs.lemmas.Bool.Decides.{same_from_decides}
+use Rattle.std.proofs.lemmas.Bool.Decides.{Decides-eqb, Decides-like, same_from_decides}
+use Rattle.std.specs.Cmp.Lexicographic.{pointwise}
+use Rattle.std.proofs.lemmas.Slice.Eq.{slice_eq-Decides}
+use Rattle.sequent.specs.Sequents.{same_id}
 use Rattle.std.proofs.lemmas.Option.{slice_get_cases}
 use Rattle.bridge_base.specs.declared.faults.Memory.{Memory}
 use Rattle.bridge_base.specs.declared.faults.Kind.TheVariants.{NotEquation}
@@ -11,10 +13,7 @@ use Rattle.hol_spec.specs.Types.{HolType, type_eq}
 use Rattle.hol_laws.specs.TypeLaws.{type_eq-Decides}
 use Rattle.hol_spec.specs.Primitives.{bool, equality_type}
 use Rattle.hol_spec.specs.Lists.{distinct}
-use Rattle.hol_laws.specs.ListLaws.{distinct-itself}
 use Rattle.hol_spec.specs.Terms.{Term, bound, term_eq, HasType, IsTerm, equation}
-use Rattle.hol_laws.specs.TermLaws.{term_eq-Decides}
-use Rattle.proof_laws.specs.SymbolGrowth.{symmetric}
 use Rattle.hol_spec.specs.Equations.{Equation, equation_parts}
 use Rattle.hol_spec.specs.Proofs.{sequent_at}
 use Rattle.proof_laws.specs.EquationLaws.{equation-sides, equation_parts-is}
@@ -78,14 +77,6 @@ pub numbered : (trees : Trees) (ids : List TermId) (r : Result (List TermId) Mem
 numbered trees ids (Ok hyps) d k f g = record { known = g trees k; are = f trees d k }
 numbered trees ids (Err e) d k f g = tt
 
--- hypotheses without repeats, copied
-pub numbered-itself : (trees : Trees) (own : List TermId) (hs : List Term) → HasNoRepeats term_eq hs → terms_at trees own ≡ hs → AreKnown trees own → IsDistinct trees.terms → (ids : List TermId) → ids ≡ own → (r : Result (List TermId) Memory)
-    → IfOk r (λ hyps. (ts : Trees) → IsDistinct ts.terms → AreKnown ts ids → terms_at ts hyps ≡ distinct term_eq (terms_at ts ids)) → IfOk r (λ hyps. (ts : Trees) → AreKnown ts ids → AreKnown ts hyps)
-    → IfOk r (λ hyps. AreNumbersOf trees hyps hs)
-numbered-itself trees own hs h e k d ids same (Ok hyps) f g =
-    let known = subst (AreKnown trees) (sym same) k in
-    record {
-      known = g trees known;
-      are = f trees d known ∙ ap (λ l. distinct term_eq (terms_at trees l)) same ∙ ap (distinct term_eq) e ∙ distinct-itself term_eq (symmetric term_eq term_eq-Decides) hs h;
-    }
-numbered-itself trees own hs h e k d ids same (Err x) f g = tt
+-- lists of numbers are equal where the test says so
+pub ids_equal : (xs ys : List TermId) (r : Bool) → r ≡ pointwise same_id xs ys → r ≡ true → xs ≡ ys
+ids_equal xs ys r e t = (slice_eq-Decides (λ p q. Decides-like (same_id p q) (λ f i. record { 0 = f i }) (ap (λ (id : TermId). id.0)) (Decides-eqb p.0 q.0)) xs ys r e).0 t

@@ -1,5 +1,5 @@
 //! The rules that change hypotheses, and those that state a sequent.
-ghost use Rattle.std.specs.Prelude.{◌<◌, IfOk};
+ghost use Rattle.std.specs.Prelude.{◌≡◌, ◌<◌, IfOk};
 ghost use Rattle.hol_spec.specs.Proofs.{sequent_at};
 ghost use Rattle.hol_spec.specs.Rules.{joined, removed};
 ghost use Rattle.hol_rules.specs.Conclusions.{Concludes};
@@ -60,7 +60,7 @@ impl Proof {
         )
     }
 
-    // The hypotheses of a step, and those of another without the conclusion of the first.
+    // The hypotheses of a step, and those of another without the conclusion of the first: in the other's list where these are the same.
     fn discharged(&self, one: StepId, two: StepId) -> Result<Hyps, Memory>
         requires one { one < step_count self.now }
         requires two { two < step_count self.now }
@@ -68,6 +68,18 @@ impl Proof {
     {
         let rest = self.removed(two, one)?;
         let hyps = self.united(&self.sequent(one).hyps, &rest)?;
-        Ok(hyps)
+        let kept = kept_in(hyps, &self.sequent(two).hyps)?;
+        Ok(kept)
     }
+}
+
+// Hypotheses, in another list where that has the same ones in the same order.
+fn kept_in(hyps: Hyps, list: &Hyps) -> Result<Hyps, Memory>
+    ensures { IfOk result (λ kept. kept ≡ hyps) }
+{
+    if hyps.ids() == list.ids() {
+        let copy = list.clone()?;
+        return Ok(copy);
+    }
+    Ok(hyps)
 }

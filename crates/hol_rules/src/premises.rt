@@ -56,8 +56,8 @@ impl Proof {
         requires { id < step_count self.now }
         ensures { IfOk result (λ hyps. AreNumbersOf self.now.trees hyps (sequent_at self.now.made id).hypotheses) }
     {
-        self.is_proof();
-        Hyps::of(self.alloc, self.sequent(id).hyps.ids())
+        let copy = self.sequent(id).hyps.clone()?;
+        Ok(copy)
     }
 
     // The hypotheses of two steps.

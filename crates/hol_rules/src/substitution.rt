@@ -19,7 +19,7 @@ use hol_name::Name;
 use hol_spec::StepKind;
 use hol_term::{TermId, TermTable, TermView, Variable};
 use hol_type::TypeId;
-use sequent::{Hyps, Sequent};
+use sequent::Sequent;
 use std::alloc::Global;
 
 /// Terms that stood in one tree, and what is left of it.
@@ -102,7 +102,7 @@ fn image_of(
     let whole = linked(terms, ids, sequent.concl)?;
     let image = terms.substituted(type_pairs, term_pairs, whole)?;
     let links = unlinked(alloc, terms, image, ids.len())?;
-    let hyps = Hyps::of(alloc, &links.terms)?;
+    let hyps = sequent.hyps.again(alloc, &links.terms)?;
     Ok(Sequent {
         hyps,
         concl: links.rest,

@@ -1,10 +1,13 @@
 -- Hypotheses by their numbers, and as trees.
-use Rattle.std.proofs.Common.{◌≡◌, ℕ, ◌<◌, ◌≤◌, refl, sym, ap, ◌∙◌, List, [], ◌∷◌, length, Bool, true, false, ◌&&◌}
-use Rattle.std.specs.Prelude.{not, drop}
+use Rattle.std.proofs.Common.{◌≡◌, ℕ, ◌<◌, ◌≤◌, refl, sym, ap, subst, ◌∙◌, List, [], ◌∷◌, length, Bool, true, false, ◌&&◌, arith}
+use Rattle.std.specs.Prelude.{◌==◌, ◌++◌, not, drop, if◌then◌else◌}
+use Rattle.std.specs.Cmp.Lexicographic.{pointwise}
 use Rattle.std.specs.Bool.{Decides}
 use Rattle.std.specs.List.{list_all, AllByRecursion, IsDistinct as HasNoRepeats}
 use Rattle.std.proofs.lemmas.Bool.Decides.{Decides-eqb, Decides-like, same_from_decides}
+use Rattle.std.proofs.lemmas.Bool.{and_parts, or_parts}
 use Rattle.std.proofs.lemmas.List.{drop_all}
+use Rattle.std.proofs.lemmas.Slice.Eq.{slice_eq-Decides}
 use Rattle.std.proofs.Math.Path.{ap₂}
 use Rattle.hol_spec.specs.Lists.{is_in, union, distinct, without}
 use Rattle.hol_laws.specs.ListLaws.{All-filter, IsDistinct-filter, distinct-itself, is_in-map, union-All, union-map, without-map}
@@ -36,6 +39,43 @@ pub kept_all : (ids items found : List TermId) (i : ℕ) (p : TermId) → length
 kept_all ids items found i p h n e =
     ap (λ l. union same_id found (without same_id l p)) (sym (drop_all i items h)) ∙ e
     ∙ distinct-ids (without same_id ids p) (IsDistinct-filter same_id (λ q. not (same_id p q)) ids n)
+
+-- of no hypotheses none stands twice
+pub none_twice : (own : List TermId) → own ≡ [] → HasNoRepeats same_id own
+unfolding HasNoRepeats
+none_twice own e = subst (HasNoRepeats same_id) (sym e) tt
+
+-- a union with numbers that are there already is the list itself
+pub union-within : (a b : List TermId) → list_all (λ id. is_in same_id id a) b ≡ true → union same_id a b ≡ a
+union-within a [] h = refl
+union-within a (x ∷ b) h =
+    let both = and_parts (is_in same_id x a) (list_all (λ id. is_in same_id id a) b) h in
+    ap (λ t. union same_id (if t then a else a ++ x ∷ []) b) both.0 ∙ union-within a b both.1
+
+-- a union of nothing with hypotheses is these
+pub union-empty : (a b : List TermId) → a ≡ [] → HasNoRepeats same_id b → union same_id a b ≡ b
+union-empty a b e h = ap (λ l. union same_id l b) e ∙ distinct-ids b h
+
+-- a list of no length is empty
+pub none_there : (slice own : List TermId) (r : Bool) → slice ≡ own → r ≡ (length slice == 0) → r ≡ true → own ≡ []
+none_there slice [] r e f t = refl
+none_there slice (x ∷ own) r e f t =
+    absurd (let zero : length (x ∷ own) ≡ 0 = ap length (sym e) ∙ (Decides-eqb (length slice) 0).0 (sym f ∙ t) in omega (arith, zero))
+
+-- without a number that isn't there the list stays
+pub without-absent : (ids : List TermId) (p : TermId) → is_in same_id p ids ≡ false → without same_id ids p ≡ ids
+without-absent [] p h = refl
+without-absent (q ∷ ids) p h =
+    let both = or_parts (same_id p q) (is_in same_id p ids) h in
+    ap (λ t. if not t then q ∷ without same_id ids p else without same_id ids p) both.0 ∙ ap (λ l. q ∷ l) (without-absent ids p both.1)
+
+-- equal lists of numbers, by the test
+pub ids_equal : (xs ys : List TermId) (r : Bool) → r ≡ pointwise same_id xs ys → r ≡ true → xs ≡ ys
+ids_equal xs ys r e t = (slice_eq-Decides same_id-Decides xs ys r e).0 t
+
+-- hypotheses that are these numbers already are the numbers, each where it occurs first
+pub again-numbers : (own ids slice : List TermId) (r : Bool) → slice ≡ own → HasNoRepeats same_id own → r ≡ pointwise same_id slice ids → r ≡ true → own ≡ distinct same_id ids
+again-numbers own ids slice r e n f t = sym (ap (distinct same_id) (sym (ids_equal slice ids r f t) ∙ e) ∙ distinct-ids own n)
 
 abbrev IsOf : Trees → TermId → Type 0
 IsOf trees p = p.0 < length trees.terms

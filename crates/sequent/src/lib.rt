@@ -26,6 +26,7 @@ ghost use Rattle.sequent.specs.Sequents.{hyps_at, same_id, sequent_at, IsKnown};
 
 mod closed;
 mod hyps;
+mod ids;
 mod params;
 
 use bridge_base::Memory;
@@ -50,9 +51,7 @@ impl Sequent {
         ensures terms { IfOk result (λ hyps. (trees : Trees) → IsDistinct trees.terms → AreKnown trees a.now → AreKnown trees b.now → hyps_at trees hyps ≡ united term_eq (hyps_at trees a.now) (hyps_at trees b.now)) }
         ensures known { IfOk result (λ hyps. (trees : Trees) → AreKnown trees a.now → AreKnown trees b.now → AreKnown trees hyps) }
     {
-        let mut hyps = Hyps::of(alloc, a.ids())?;
-        hyps.unite(b.ids())?;
-        Ok(hyps)
+        a.united(alloc, b)
     }
 
     /// The hypotheses `a` without `p`; the rest keeps its order (HOL Light's kernel, `term_remove`).

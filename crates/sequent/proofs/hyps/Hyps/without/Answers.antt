@@ -1,8 +1,7 @@
-use Rattle.std.proofs.Common.{arith}
-use Rattle.sequent.proofs.HypLaws.{kept_all}
+use Rattle.std.proofs.Common.{sym, ◌∙◌}
+use Rattle.std.proofs.lemmas.Result.{IfOk-weaker}
+use Rattle.sequent.proofs.HypLaws.{without-absent}
 use Rattle.sequent.proofs.hyps.Hyps.without.Goals as goal
 
-pub returns : goal.returns
-returns c = record {
-  numbers = kept_all c.args.self.now c.ids-own-items.result.now c.loop-own.hyps c.loop-own.own-index c.args.id (omega (arith, c.loop-own-test.false)) c.ids-own-items.ensures.no_repeats c.loop-own.invariant;
-}
+pub returns-then-not-contains : goal.returns-then-not-contains
+returns-then-not-contains c = IfOk-weaker c.copied.result _ _ (λ hyps e. e ∙ sym (without-absent c.args.self.now c.args.id (sym c.contains.ensures ∙ c.if-not-contains.true))) c.copied.ensures
