@@ -1,17 +1,36 @@
 #!/bin/sh
-# Time and peak memory of making a proof of one million steps and one of two million, in chains of 102 steps by
-# substitution, reflexivity, `appThm`, `trans` and `eqMp`, whose terms share their parts; and the ratios of two million
-# to one, each of which is to be at most 2.5. Run `rt run` in crates/bench first, which builds the program.
-# On a busy machine with four processors one run gave 5.27 and 11.09 seconds, ratio 2.10; 1,052 and 2,103 MiB, ratio 2.00.
-cd "$(dirname "$0")/../crates/bench" || exit 1
-# Processor time in seconds and peak memory in KiB, of the quickest of five runs.
-quickest() {
-    for _ in 1 2 3 4 5; do
-        { /usr/bin/time -f '%U %S %M' ./out/bench hol_rules make "$1" >/dev/null; } 2>&1 | awk '{ print $1 + $2, $3 }'
-    done | sort -n | head -1
+# Time and peak memory of `show` on an article whose proof has some 200,000 steps and on one of twice as many, in chains of 102 steps by
+# substitution, reflexivity, `appThm`, `trans` and `eqMp`, whose terms share their parts; and the ratios of the greater to the smaller, each of
+# which is to be at most 2.5. Run `./bridge show` on any article first. While a program made such proofs without an article, a busy machine
+# with four processors took 5.27 seconds for one million steps and 11.09 for two, ratio 2.10; 1,052 and 2,103 MiB, ratio 2.00.
+. "$(dirname "$0")/chain.sh"
+# An article of so many chains. A chain proves f (f x) and so on of a variable of its own, and that f and g, which are equal, make the same
+# of it; each term is made of the one before. Kept: 0 the type bool, 1 functions of it, 2 equality, 3 f, 4 g, 5 the variable p, 6 that g is g,
+# 7 that f p is g p, 8 that p is f p; of a chain 9 the term, 10 that it equals what g makes, 11 that it is true.
+chains() {
+    awk -v count="$1" '
+        function say(words) { gsub(/ /, "\n", words); print words }
+        BEGIN {
+            say("6 version \"bool\" typeOp nil opType 0 def pop \"->\" typeOp 0 ref 0 ref nil cons cons opType 1 def pop")
+            say("\"=\" const \"->\" typeOp 0 ref 1 ref nil cons cons opType constTerm 2 def pop")
+            say("\"f\" 1 ref var varTerm 3 def pop \"g\" 1 ref var varTerm 4 def refl 6 def pop \"p\" 0 ref var 5 def pop")
+            say("nil 2 ref 3 ref 5 ref varTerm appTerm appTerm 4 ref 5 ref varTerm appTerm appTerm axiom 7 def pop")
+            say("nil 2 ref 5 ref varTerm appTerm 3 ref 5 ref varTerm appTerm appTerm axiom 8 def pop")
+            for (i = 0; i < count; i++) {
+                say("\"x" i "\" 0 ref var varTerm 9 def refl 10 def pop nil 9 ref axiom 11 def pop")
+                for (round = 0; round < 20; round++) {
+                    say("nil 5 ref 9 ref nil cons cons nil cons nil cons cons 7 ref subst 6 ref 10 ref appThm trans 10 def pop")
+                    say("nil 5 ref 9 ref nil cons cons nil cons nil cons cons 8 ref subst 11 ref eqMp 11 def pop")
+                    say("3 ref 9 ref appTerm 9 def pop")
+                }
+            }
+            say("11 ref nil 9 ref thm")
+        }'
 }
-./out/bench hol_rules make 10000
-./out/bench hol_rules make 20000
-one=$(quickest 10000)
-two=$(quickest 20000)
-echo "$one $two" | awk '{ printf "%.2f and %.2f seconds, ratio %.2f; %d and %d MiB, ratio %.2f\n", $1, $3, $3 / $1, $2 / 1024, $4 / 1024, $4 / $2 }'
+report() {
+    chains "$1" >"$folder/article"
+    least show "$folder/article" | tee -a "$folder/figures" | awk -v steps="$((102 * $1 + 3))" '{ printf "%d steps: %.2f s, %d MiB\n", steps, $1, $2 / 1024 }'
+}
+report 2000
+report 4000
+ratios

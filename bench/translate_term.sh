@@ -1,20 +1,33 @@
 #!/bin/sh
-# Time and peak memory of translating terms whose trees have one and two million distinct nodes, in terms of a thousand
-# applications each under a binder, with the making of the terms and without it; and the ratios of two million to one, each
-# of which is to be at most 2.5. Run `rt run` in crates/bench first, which builds the program.
-# On a busy machine with four processors one run gave 1.41 and 3.43 seconds with the making, 0.91 and 2.23 without it, 308 and
-# 615 MiB; ratios 2.43, of translating alone 2.40, of memory 2.00.
-cd "$(dirname "$0")/../crates/bench" || exit 1
-# Processor time in seconds and peak memory in KiB, of the quickest of five runs.
-quickest() {
-    for _ in 1 2 3 4 5; do
-        { /usr/bin/time -f '%U %S %M' ./out/bench translate_term "$1" "$2" >/dev/null; } 2>&1 | awk '{ print $1 + $2, $3 }'
-    done | sort -n | head -1
+# Time and peak memory of `translate` on an article of terms of a thousand applications each under a binder, each of which is exported as equal
+# to itself: one million applications, and two million; beside them those of `show`, which doesn't translate; and the ratios of the greater to
+# the smaller, each of which is to be at most 2.5. Run `./bridge show` on any article first.
+. "$(dirname "$0")/chain.sh"
+# An article of so many terms. Kept: 0 the type bool, 1 functions of it, 2 equality of these functions, 3 f, 4 g, 5 the variable that is bound.
+terms() {
+    awk -v count="$1" '
+        function say(words) { gsub(/ /, "\n", words); print words }
+        BEGIN {
+            say("6 version \"bool\" typeOp nil opType 0 def pop \"->\" typeOp 0 ref 0 ref nil cons cons opType 1 def pop")
+            say("\"=\" const \"->\" typeOp 1 ref \"->\" typeOp 1 ref 0 ref nil cons cons opType nil cons cons opType constTerm 2 def pop")
+            say("\"f\" 1 ref var varTerm 3 def pop \"g\" \"->\" typeOp 0 ref 1 ref nil cons cons opType var varTerm 4 def pop")
+            say("\"y\" 0 ref var 5 def pop")
+            for (i = 0; i < count; i++) {
+                say("5 ref")
+                for (n = 0; n < 998; n++) say("3 ref")
+                say("4 ref \"x" i "\" 0 ref var varTerm appTerm 5 ref varTerm appTerm")
+                for (n = 0; n < 998; n++) print "appTerm"
+                say("absTerm 6 def refl nil 2 ref 6 ref appTerm 6 ref appTerm thm")
+            }
+        }'
 }
-one=$(quickest tm 1000)
-two=$(quickest tm 2000)
-made_one=$(quickest make 1000)
-made_two=$(quickest make 2000)
-echo "$one $two" | awk '{ printf "with the making: %.2f and %.2f seconds, ratio %.2f; %d and %d MiB, ratio %.2f\n", $1, $3, $3 / $1, $2 / 1024, $4 / 1024, $4 / $2 }'
-echo "$made_one $made_two" | awk '{ printf "of which making: %.2f and %.2f seconds, %d and %d MiB\n", $1, $3, $2 / 1024, $4 / 1024 }'
-echo "$one $made_one $two $made_two" | awk '{ one = $1 - $3; two = $5 - $7; printf "translating: %.2f and %.2f seconds, ratio %.2f\n", one, two, two / one }'
+report() {
+    terms "$1" >"$folder/article"
+    least show "$folder/article" >>"$folder/shown"
+    least translate "$folder/article" >>"$folder/figures"
+    paste "$folder/shown" "$folder/figures" | tail -1 | awk -v count="$1" '{
+        printf "%d terms: show %.2f s, %d MiB; translate %.2f s, %d MiB\n", count, $1, $2 / 1024, $3, $4 / 1024 }'
+}
+report 1000
+report 2000
+ratios

@@ -1,58 +1,49 @@
 //! Times calls of the libraries, for the scripts of bench/: `bench CRATE CALL COUNT ..`, three words for each thing that is timed,
 //! one after another. What each makes, and the words that choose it, its module says:
 //!
-//! | CRATE | CALL | Module |
-//! |---|---|---|
-//! | `lp_term` | `node`, `lift` or `put` | `trees` |
-//! | `hol_term` | `make` or `inst` | `terms` |
-//! | `hol_rules` | `make` | `proving` |
-//! | `dk_read` | `make`, `read`, `write`, `run`, `open` or `deep` | `reading` |
-//! | `dk_write` | how many definitions | `writing` |
-//! | `lp_kernel` | `make`, `read` or `check` | `checking` |
-//! | `lp_kernel`, with a file's name in place of COUNT | `read`, `check`, `fast` or `steps` | `modules` |
-//! | `translate_term` | `make` or `tm` | `translating` |
+//! | CRATE | CALL | COUNT | Module |
+//! |---|---|---|---|
+//! | `lp_term` | `node`, `lift` or `put` | how many nodes | `trees` |
+//! | `hol_term` | `make` or `inst` | how many terms | `terms` |
+//! | `dk_write` | how many definitions | how many times | `writing` |
+//! | `dk_read` | `read` | a file | `modules` |
+//! | `lp_kernel` | `steps` | a file | `modules` |
 #![tactic(auto)]
 
 mod checking;
 mod modules;
-mod proving;
-mod reading;
 mod terms;
-mod translating;
 mod trees;
 mod writing;
 
 use std::{env, io};
 
-// Runs a call of this crate.
+// Runs a call of this crate so many times.
 fn timed(rt: &HostRuntime, name: &str, call: &str, count: u32) -> io::Result<()> {
     match name {
         "lp_term" => trees::timed(rt, call, count),
         "hol_term" => terms::timed(rt, call, count),
-        "hol_rules" => proving::timed(rt, count),
-        "dk_read" => reading::timed(rt, call, count),
         "dk_write" => writing::timed(rt, call, count),
-        "lp_kernel" => checking::timed(rt, call, count),
-        "translate_term" => translating::timed(rt, call, count),
         _ => rt.println("CRATE is none that is timed"),
     }
 }
 
-// Runs a call of this crate on a file.
-fn timed_on(rt: &HostRuntime, name: &str, call: &str, file: &str) -> io::Result<()> {
+// Runs a call on what COUNT says.
+fn timed_of(rt: &HostRuntime, name: &str, call: &str, count: &str) -> io::Result<()> {
     match name {
-        "lp_kernel" => modules::timed(rt, call, file),
-        _ => rt.println("COUNT is a number below 2^32"),
+        "dk_read" => modules::timed(rt, count, false),
+        "lp_kernel" => modules::timed(rt, count, true),
+        _ => match count.parse::<u32>() {
+            Ok(count) => timed(rt, name, call, count),
+            Err(_) => rt.println("COUNT is a number below 2^32"),
+        },
     }
 }
 
 // The same of words.
 fn timed_by(rt: &HostRuntime, words: &[String]) -> io::Result<()> {
     match words {
-        [name, call, count] => match count.parse::<u32>() {
-            Ok(count) => timed(rt, name, call, count),
-            Err(_) => timed_on(rt, name, call, count),
-        },
+        [name, call, count] => timed_of(rt, name, call, count),
         _ => rt.println("use: bench CRATE CALL COUNT .."),
     }
 }

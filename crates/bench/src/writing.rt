@@ -8,7 +8,6 @@ ghost use Rattle.lp_term.specs.Tables.{tree_at, Keeps};
 ghost use Rattle.holide_sig.specs.Modules.{IsHeld};
 ghost use Rattle.dk_write.specs.Shallow.{AreWithin};
 
-use crate::modules::numbers;
 use bridge_base::{Failed, Memory, Sink, StdSink};
 use dk_write::{Path, write};
 use holide_sig::{Decl, Form, Ident, Module};
@@ -102,6 +101,13 @@ fn write_often<S: Sink>(
     Ok(())
 }
 
+// So many bounds, each 0.
+fn no_bounds(alloc: Global, count: usize) -> Result<Vec<u128>, Memory>
+    ensures { IfOk result (λ bounds. length bounds.items ≡ count) }
+{
+    Ok(vec![in alloc; 0; count]?)
+}
+
 // Whether a module was made and written.
 fn is_written<S: Sink>(
     alloc: Global,
@@ -113,7 +119,7 @@ fn is_written<S: Sink>(
     requires { IsHeld module.old }
 {
     push_nests(alloc, module, count)?;
-    let bounds = numbers(alloc, 0, module.decls.len())?;
+    let bounds = no_bounds(alloc, module.decls.len())?;
     let mut path = Path::new(alloc, module)?;
     Ok(write_often(module, &bounds, times, &mut path, sink).is_ok())
 }

@@ -3,6 +3,7 @@ ghost use Rattle.std.specs.Prelude.{◌<◌, length, IfOk, IsTrue};
 ghost use Rattle.hol_term.specs.Tables.{IsTermAt};
 ghost use Rattle.hol_rules.specs.Kept.{step_count};
 
+use crate::turns::{Rule, Turn};
 use bridge_base::{Fault, Kind, Memory};
 use hol_defs::SymbolKind;
 use hol_name::Name;
@@ -18,12 +19,13 @@ pub(crate) const UNKNOWN: Fault = Fault::Refused(Kind::WrongKind);
 /// How a name is taken, as an operator and as a constant.
 pub(crate) type Kinds = (Option<SymbolKind>, Option<SymbolKind>);
 
-/// A proof, the terms that were made last, and those that are kept.
+/// A proof, the terms that were made last, those that are kept, and the hypotheses that are asked for.
 #[derive(Drop)]
 pub(crate) struct Bench {
     pub(crate) proof: Proof,
     made: Vec<TermId>,
     kept: Vec<TermId>,
+    hyps: Vec<TermId>,
     alloc: Global,
 }
 
@@ -34,6 +36,7 @@ impl Bench {
             proof,
             made: Vec::new(alloc),
             kept: Vec::new(alloc),
+            hyps: Vec::new(alloc),
             alloc,
         })
     }
@@ -46,6 +49,19 @@ impl Bench {
     /// Puts a term behind them.
     pub(crate) fn push(&mut self, term: TermId) -> Result<(), Fault> {
         match self.made.push(term) {
+            Ok(()) => Ok(()),
+            Err(_) => Err(Fault::Memory),
+        }
+    }
+
+    /// Asks for no hypothesis.
+    pub(crate) fn clear_hyps(&mut self) {
+        self.hyps.clear();
+    }
+
+    /// Asks for a hypothesis behind those that are asked for.
+    pub(crate) fn push_hyp(&mut self, hyp: TermId) -> Result<(), Fault> {
+        match self.hyps.push(hyp) {
             Ok(()) => Ok(()),
             Err(_) => Err(Fault::Memory),
         }
@@ -285,23 +301,27 @@ impl Bench {
         Ok((symbols.op_kind(&name), symbols.const_kind(&name)))
     }
 
-    /// Whether the thing of this number that was made is an operator of so many arguments.
-    pub(crate) fn is_operator(
-        &self,
-        index: usize,
-        text: &[u8],
-        arity: usize,
-    ) -> Result<bool, Fault> {
-        let name = self.name(text)?;
-        let made = self.proof.made().get(index);
-        Ok(matches!(made, Some(Made::InputOp(own, count)) if *own == name && *count == arity))
+    // Whether the thing of this number that was made is what a turn asks for, of this name.
+    fn is_thing(&self, turn: Turn, index: usize, name: &Name) -> bool {
+        match (turn, self.proof.made().get(index)) {
+            (Turn::Operator(_, _, arity), Some(Made::InputOp(own, count))) => {
+                *own == *name && *count == arity
+            }
+            (Turn::Constant(..), Some(Made::InputConst(own))) => *own == *name,
+            (Turn::Defined(..), Some(Made::Const(own))) => *own == *name,
+            (Turn::DefinedFrom(_, _, id), Some(Made::TypeOp(own, one))) => {
+                *own == *name && *one == id
+            }
+            _ => false,
+        }
     }
 
-    /// Whether it is a constant.
-    pub(crate) fn is_constant(&self, index: usize, text: &[u8]) -> Result<bool, Fault> {
+    /// The same, of the name of this text.
+    pub(crate) fn is_made(&self, turn: Turn, index: usize, text: &[u8]) -> Result<bool, Fault> {
         let name = self.name(text)?;
-        let made = self.proof.made().get(index);
-        Ok(matches!(made, Some(Made::InputConst(own)) if *own == name))
+        let is = self.is_thing(turn, index, &name);
+        drop(name);
+        Ok(is)
     }
 
     /// Whether it is this step.
@@ -342,38 +362,56 @@ impl Bench {
         self.proof.abs(&Variable { name, ty }, body)
     }
 
+    /// Of the type of a term: its abstraction over the variable of this letter, the variable, or the constant.
+    pub(crate) fn alike(&mut self, code: u8, letter: u8, t: TermId) -> Result<TermId, Fault> {
+        if !self.is_term(t) {
+            return Err(UNKNOWN);
+        }
+        let ty = self.proof.terms().type_of(t);
+        match code {
+            b'/' => self.bind(letter, ty, t),
+            b'?' => self.free(&[letter], ty),
+            _ => self.constant(&[letter], ty),
+        }
+    }
+
     /// The abstraction of a term over the truth value of this letter.
     pub(crate) fn abs(&mut self, letter: u8, body: TermId) -> Result<TermId, Fault> {
         let ty = self.boolean()?;
         self.bind(letter, ty, body)
     }
 
-    /// Whether a step has this conclusion.
+    /// Whether a step says that a conclusion follows from the hypotheses that are asked for, in their order.
     pub(crate) fn concludes(&self, id: StepId, concl: TermId) -> bool {
-        self.is_step(id) && self.proof.sequent(id).concl == concl
+        if !self.is_step(id) {
+            return false;
+        }
+        let said = self.proof.sequent(id);
+        said.concl == concl && said.hyps.ids() == self.hyps.as_slice()
     }
 
-    /// Whether a step says that these, of whatever type, are equal.
+    /// Whether a step says that two terms, of whatever type, are equal under them.
     pub(crate) fn concludes_equal(&self, id: StepId, left: TermId, right: TermId) -> bool {
         if !self.is_step(id) {
             return false;
         }
-        let concl = self.proof.sequent(id).concl;
-        self.is_term(concl) && self.proof.terms().dest_eq(concl) == Some((left, right))
+        let said = self.proof.sequent(id);
+        self.is_term(said.concl)
+            && self.proof.terms().dest_eq(said.concl) == Some((left, right))
+            && said.hyps.ids() == self.hyps.as_slice()
     }
 
-    /// How many hypotheses a step has.
-    pub(crate) fn hyp_count(&self, id: StepId) -> Option<usize> {
-        if self.is_step(id) {
-            Some(self.proof.sequent(id).hyps.ids().len())
-        } else {
-            None
+    /// Whether its rule was given the sequent of this conclusion under them.
+    pub(crate) fn is_given(&self, id: StepId, concl: TermId) -> bool {
+        if !self.is_step(id) {
+            return false;
         }
-    }
-
-    /// Whether the hypothesis of this number is this.
-    pub(crate) fn is_hyp(&self, id: StepId, place: usize, hyp: TermId) -> bool {
-        self.is_step(id) && self.proof.sequent(id).hyps.ids().get(place) == Some(&hyp)
+        match self.proof.params(id) {
+            Parameters::Sequent(own) => {
+                own.concl == concl && own.hyps.ids() == self.hyps.as_slice()
+            }
+            _ => false,
+        }
     }
 
     /// Whether a step was made by this rule of these steps.
@@ -400,42 +438,35 @@ impl Bench {
         )
     }
 
-    /// Whether its rule was given a sequent of this conclusion.
-    pub(crate) fn is_given_concl(&self, id: StepId, concl: TermId) -> bool {
-        self.is_step(id)
-            && matches!(self.proof.params(id), Parameters::Sequent(own) if own.concl == concl)
-    }
-
-    /// How many hypotheses the sequent has that its rule was given.
-    pub(crate) fn given_count(&self, id: StepId) -> Option<usize> {
-        if !self.is_step(id) {
-            return None;
+    /// The step that a rule makes that is given one term.
+    pub(crate) fn of_term(&mut self, rule: Rule, t: TermId) -> Result<StepId, Fault> {
+        if !self.is_term(t) {
+            return Err(UNKNOWN);
         }
-        match self.proof.params(id) {
-            Parameters::Sequent(own) => Some(own.hyps.ids().len()),
-            _ => None,
+        match rule {
+            Rule::Refl(_) => self.proof.refl(t),
+            Rule::Assume(_) => self.proof.assume(t),
+            Rule::BetaConv(_) => self.proof.beta_conv(t),
+            _ => self.proof.axiom(&[], t),
         }
     }
 
-    /// Whether the hypothesis of this number in it is this.
-    pub(crate) fn is_given_hyp(&self, id: StepId, place: usize, hyp: TermId) -> bool {
-        self.is_step(id)
-            && matches!(self.proof.params(id), Parameters::Sequent(own) if own.hyps.ids().get(place) == Some(&hyp))
-    }
-
-    pub(crate) fn refl(&mut self, t: TermId) -> Result<StepId, Fault> {
-        if self.is_term(t) {
-            self.proof.refl(t)
-        } else {
-            Err(UNKNOWN)
+    /// The step that a rule makes of two.
+    pub(crate) fn of_steps(
+        &mut self,
+        rule: Rule,
+        one: StepId,
+        two: StepId,
+    ) -> Result<StepId, Fault> {
+        if !self.is_step(one) || !self.is_step(two) {
+            return Err(UNKNOWN);
         }
-    }
-
-    pub(crate) fn assume(&mut self, p: TermId) -> Result<StepId, Fault> {
-        if self.is_term(p) {
-            self.proof.assume(p)
-        } else {
-            Err(UNKNOWN)
+        match rule {
+            Rule::EqMp(..) => self.proof.eq_mp(one, two),
+            Rule::Trans(..) => self.proof.trans(one, two),
+            Rule::AppThm(..) => self.proof.app_thm(one, two),
+            Rule::DeductAntisym(..) => self.proof.deduct_antisym(one, two),
+            _ => self.proof.prove_hyp(one, two),
         }
     }
 
@@ -513,25 +544,9 @@ impl Bench {
             .subst(&[(a, ty)], &[(Variable { name, ty }, t)], one)
     }
 
-    pub(crate) fn eq_mp(&mut self, one: StepId, two: StepId) -> Result<StepId, Fault> {
-        if self.is_step(one) && self.is_step(two) {
-            self.proof.eq_mp(one, two)
-        } else {
-            Err(UNKNOWN)
-        }
-    }
-
     pub(crate) fn sym(&mut self, one: StepId) -> Result<StepId, Fault> {
         if self.is_step(one) {
             self.proof.sym(one)
-        } else {
-            Err(UNKNOWN)
-        }
-    }
-
-    pub(crate) fn trans(&mut self, one: StepId, two: StepId) -> Result<StepId, Fault> {
-        if self.is_step(one) && self.is_step(two) {
-            self.proof.trans(one, two)
         } else {
             Err(UNKNOWN)
         }
@@ -545,53 +560,6 @@ impl Bench {
         }
         let name = self.name(&[letter])?;
         self.proof.abs_thm(&Variable { name, ty }, one)
-    }
-
-    pub(crate) fn app_thm(&mut self, one: StepId, two: StepId) -> Result<StepId, Fault> {
-        if self.is_step(one) && self.is_step(two) {
-            self.proof.app_thm(one, two)
-        } else {
-            Err(UNKNOWN)
-        }
-    }
-
-    pub(crate) fn beta_conv(&mut self, t: TermId) -> Result<StepId, Fault> {
-        if self.is_term(t) {
-            self.proof.beta_conv(t)
-        } else {
-            Err(UNKNOWN)
-        }
-    }
-
-    pub(crate) fn deduct_antisym(&mut self, one: StepId, two: StepId) -> Result<StepId, Fault> {
-        if self.is_step(one) && self.is_step(two) {
-            self.proof.deduct_antisym(one, two)
-        } else {
-            Err(UNKNOWN)
-        }
-    }
-
-    pub(crate) fn prove_hyp(&mut self, one: StepId, two: StepId) -> Result<StepId, Fault> {
-        if self.is_step(one) && self.is_step(two) {
-            self.proof.prove_hyp(one, two)
-        } else {
-            Err(UNKNOWN)
-        }
-    }
-
-    /// An axiom without hypotheses.
-    pub(crate) fn given(&mut self, concl: TermId) -> Result<StepId, Fault> {
-        if self.is_term(concl) {
-            self.proof.axiom(&[], concl)
-        } else {
-            Err(UNKNOWN)
-        }
-    }
-
-    /// An axiom that two truth values are equal.
-    pub(crate) fn given_equation(&mut self, left: TermId, right: TermId) -> Result<StepId, Fault> {
-        let equation = self.equation(left, right)?;
-        self.given(equation)
     }
 
     /// An axiom of two hypotheses.
@@ -634,31 +602,6 @@ impl Bench {
         self.equated(equality, left, right)
     }
 
-    /// The constant of a name, of the type of a term.
-    pub(crate) fn constant_like(&mut self, text: &[u8], t: TermId) -> Result<TermId, Fault> {
-        if !self.is_term(t) {
-            return Err(UNKNOWN);
-        }
-        let ty = self.proof.terms().type_of(t);
-        self.constant(text, ty)
-    }
-
-    /// The abstraction of a term over the variable of this letter, of the term's type.
-    pub(crate) fn abs_like(&mut self, letter: u8, body: TermId) -> Result<TermId, Fault> {
-        if !self.is_term(body) {
-            return Err(UNKNOWN);
-        }
-        let ty = self.proof.terms().type_of(body);
-        self.bind(letter, ty, body)
-    }
-
-    /// Whether the thing of this number that was made is a constant that was defined.
-    pub(crate) fn is_defined(&self, index: usize, text: &[u8]) -> Result<bool, Fault> {
-        let name = self.name(text)?;
-        let made = self.proof.made().get(index);
-        Ok(matches!(made, Some(Made::Const(own)) if *own == name))
-    }
-
     pub(crate) fn define_const(&mut self, text: &[u8], t: TermId) -> Result<StepId, Fault> {
         if !self.is_term(t) {
             return Err(UNKNOWN);
@@ -667,30 +610,9 @@ impl Bench {
         self.proof.define_const(&name, t)
     }
 
-    /// Whether the thing of this number that was made is an operator that was defined from this step.
-    pub(crate) fn is_defined_from(
-        &self,
-        index: usize,
-        text: &[u8],
-        id: StepId,
-    ) -> Result<bool, Fault> {
-        let name = self.name(text)?;
-        let made = self.proof.made().get(index);
-        Ok(matches!(made, Some(Made::TypeOp(own, one)) if *own == name && *one == id))
-    }
-
     /// The variable of this letter, of the type that an operator of no arguments makes.
     pub(crate) fn of_operator(&mut self, letter: u8, operator: &[u8]) -> Result<TermId, Fault> {
         let ty = self.nullary(operator)?;
-        self.free(&[letter], ty)
-    }
-
-    /// The variable of this letter, of the type of a term.
-    pub(crate) fn variable_like(&mut self, letter: u8, t: TermId) -> Result<TermId, Fault> {
-        if !self.is_term(t) {
-            return Err(UNKNOWN);
-        }
-        let ty = self.proof.terms().type_of(t);
         self.free(&[letter], ty)
     }
 

@@ -43,6 +43,16 @@ impl Bench {
         self.pop()
     }
 
+    /// Asks for the hypotheses of these words, in their order.
+    pub(crate) fn ask(&mut self, hyps: &[&str]) -> Result<(), Fault> {
+        self.clear_hyps();
+        for hyp in hyps {
+            let hyp = self.term(*hyp)?;
+            self.push_hyp(hyp)?;
+        }
+        Ok(())
+    }
+
     // The term that a word makes.
     fn made(&mut self, word: &str) -> Result<TermId, Fault> {
         match word.as_bytes() {
@@ -89,11 +99,10 @@ impl Bench {
     // The term that it makes of the last one.
     fn of_one(&mut self, code: u8, letter: u8) -> Result<TermId, Fault> {
         let term = self.pop()?;
-        match code {
-            b'\\' => self.abs(letter, term),
-            b'/' => self.abs_like(letter, term),
-            b'?' => self.variable_like(letter, term),
-            _ => self.constant_like(&[letter], term),
+        if code == b'\\' {
+            self.abs(letter, term)
+        } else {
+            self.alike(code, letter, term)
         }
     }
 

@@ -107,13 +107,13 @@ impl Bench {
     // The step that a rule makes.
     fn step(&mut self, rule: Rule) -> Result<StepId, Fault> {
         match rule {
-            Rule::EqMp(one, two) => self.eq_mp(one, two),
+            Rule::EqMp(one, two)
+            | Rule::Trans(one, two)
+            | Rule::AppThm(one, two)
+            | Rule::DeductAntisym(one, two)
+            | Rule::ProveHyp(one, two) => self.of_steps(rule, one, two),
             Rule::Sym(one) => self.sym(one),
-            Rule::Trans(one, two) => self.trans(one, two),
             Rule::AbsThm(letter, one) => self.abs_thm(letter, one),
-            Rule::AppThm(one, two) => self.app_thm(one, two),
-            Rule::DeductAntisym(one, two) => self.deduct_antisym(one, two),
-            Rule::ProveHyp(one, two) => self.prove_hyp(one, two),
             Rule::DefineTypeOp(one, version) => self.law_of_n(one, version),
             Rule::SubstTwo(first, second, one) => {
                 let front = self.term(first.1)?;
@@ -148,13 +148,10 @@ impl Bench {
     // The step that a rule makes that is given one term.
     fn step_of(&mut self, rule: Rule, t: TermId) -> Result<StepId, Fault> {
         match rule {
-            Rule::Refl(_) => self.refl(t),
-            Rule::Assume(_) => self.assume(t),
-            Rule::BetaConv(_) => self.beta_conv(t),
             Rule::Subst(letter, _, one) => self.subst(letter, t, one),
             Rule::SubstAfterTypes(letter, _, one) => self.subst_after_types(letter, t, one),
             Rule::DefineConst(name, _) => self.define_const(name, t),
-            _ => self.given(t),
+            _ => self.of_term(rule, t),
         }
     }
 
@@ -168,63 +165,31 @@ impl Bench {
         }
     }
 
-    // Whether a step has these hypotheses, in this order.
-    fn has_hyps(&mut self, id: StepId, hyps: &[&str]) -> Result<bool, Fault> {
-        if self.hyp_count(id) != Some(hyps.len()) {
-            return Ok(false);
-        }
-        for (place, hyp) in hyps.iter().enumerate() {
-            let hyp = self.term(*hyp)?;
-            if !self.is_hyp(id, place, hyp) {
-                return Ok(false);
+    // Whether a turn that asks for terms comes out as it must.
+    fn holds_of_terms(&mut self, turn: Turn) -> Result<bool, Fault> {
+        match turn {
+            Turn::Says(id, hyps, concl) => {
+                self.ask(hyps)?;
+                let concl = self.term(concl)?;
+                Ok(self.concludes(id, concl))
             }
-        }
-        Ok(true)
-    }
-
-    // Whether its rule was given a sequent of these hypotheses, in this order.
-    fn has_given_hyps(&mut self, id: StepId, hyps: &[&str]) -> Result<bool, Fault> {
-        if self.given_count(id) != Some(hyps.len()) {
-            return Ok(false);
-        }
-        for (place, hyp) in hyps.iter().enumerate() {
-            let hyp = self.term(*hyp)?;
-            if !self.is_given_hyp(id, place, hyp) {
-                return Ok(false);
+            Turn::Equates(id, hyps, left, right) => {
+                self.ask(hyps)?;
+                let left = self.term(left)?;
+                let right = self.term(right)?;
+                Ok(self.concludes_equal(id, left, right))
             }
+            Turn::Sequent(id, hyps, concl) => {
+                self.ask(hyps)?;
+                let concl = self.term(concl)?;
+                Ok(self.is_given(id, concl))
+            }
+            Turn::Term(id, t) => {
+                let t = self.term(t)?;
+                Ok(self.has_term(id, t))
+            }
+            _ => Err(UNKNOWN),
         }
-        Ok(true)
-    }
-
-    // Whether a step says this.
-    fn says(&mut self, id: StepId, hyps: &[&str], concl: &str) -> Result<bool, Fault> {
-        let concl = self.term(concl)?;
-        Ok(self.concludes(id, concl) && self.has_hyps(id, hyps)?)
-    }
-
-    // Whether it equates these.
-    fn equates(
-        &mut self,
-        id: StepId,
-        hyps: &[&str],
-        left: &str,
-        right: &str,
-    ) -> Result<bool, Fault> {
-        let left = self.term(left)?;
-        let right = self.term(right)?;
-        Ok(self.concludes_equal(id, left, right) && self.has_hyps(id, hyps)?)
-    }
-
-    // Whether its rule was given this sequent.
-    fn has_sequent(&mut self, id: StepId, hyps: &[&str], concl: &str) -> Result<bool, Fault> {
-        let concl = self.term(concl)?;
-        Ok(self.is_given_concl(id, concl) && self.has_given_hyps(id, hyps)?)
-    }
-
-    // Whether its rule was given this term.
-    fn is_given(&mut self, id: StepId, t: &str) -> Result<bool, Fault> {
-        let t = self.term(t)?;
-        Ok(self.has_term(id, t))
     }
 
     // Makes a term and keeps it.
@@ -245,11 +210,11 @@ impl Bench {
             Turn::Things(count) => Ok(self.proof.made().len() == count),
             Turn::Symbols(count) => Ok(self.proof.symbols().count() == count),
             Turn::Taken(name, operator, constant) => Ok(self.kinds(name)? == (operator, constant)),
-            Turn::Operator(index, name, arity) => self.is_operator(index, name, arity),
-            Turn::Constant(index, name) => self.is_constant(index, name),
+            Turn::Operator(index, name, _)
+            | Turn::Constant(index, name)
+            | Turn::Defined(index, name)
+            | Turn::DefinedFrom(index, name, _) => self.is_made(turn, index, name),
             Turn::StepAt(index, id) => Ok(self.is_step_at(index, id)),
-            Turn::Defined(index, name) => self.is_defined(index, name),
-            Turn::DefinedFrom(index, name, id) => self.is_defined_from(index, name, id),
             Turn::By(id, kind, premises) => Ok(self.is_by(id, kind, premises)),
             Turn::Nothing(id) => Ok(self.has_nothing(id)),
             Turn::Variable(id, letter) => self.has_variable(id, letter),
@@ -264,10 +229,9 @@ impl Bench {
             Turn::Keep(t) => is_done(self.keep_term(t)),
             Turn::Makes(id, rule) => self.makes(id, rule),
             Turn::Refused(rule, kind) => Ok(self.step(rule) == Err(Fault::Refused(kind))),
-            Turn::Says(id, hyps, concl) => self.says(id, hyps, concl),
-            Turn::Equates(id, hyps, left, right) => self.equates(id, hyps, left, right),
-            Turn::Sequent(id, hyps, concl) => self.has_sequent(id, hyps, concl),
-            Turn::Term(id, t) => self.is_given(id, t),
+            Turn::Says(..) | Turn::Equates(..) | Turn::Sequent(..) | Turn::Term(..) => {
+                self.holds_of_terms(turn)
+            }
             Turn::UsesOp(name, arity) => is_done(self.use_op(name, arity)),
             Turn::UsesConst(name) => is_done(self.use_const(name)),
             Turn::OpRefused(name, arity, kind) => {

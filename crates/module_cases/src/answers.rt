@@ -9,6 +9,7 @@ use crate::faults::add_fault;
 use crate::modules::{Reading, read};
 use crate::readings::{add_cuts, add_feeding, add_finds, add_reading, add_steps};
 use crate::sequents::{add_sequent, add_whether};
+use crate::types::add_types;
 use crate::weights::add_weights;
 use crate::writing::add_written;
 use case_files::{Case, Wrong, number, text_at, word};
@@ -48,6 +49,8 @@ fn add_answer(
         "cuts" => add_cuts(alloc, reading, text, came),
         "find" => add_finds(alloc, case, reading, text, came),
         "check" => add_checks(alloc, case, reading.limit, text, came),
+        "infer" => add_types(alloc, case, reading.limit, true, text, came),
+        "loose" => add_types(alloc, case, reading.limit, false, text, came),
         "convert" => add_conversions(alloc, case, reading.limit, text, came),
         by => add_asked(alloc, case, by, reading.limit, text, came),
     }

@@ -35,6 +35,8 @@
 //! | `check` | the answer to the check of the last declaration and the steps that are left, for each of `budgets` |
 //! | `verdict` | the verdict on the module under `budgets`, of which each declaration has one |
 //! | `fast` | the same of the check without rechecks of sorts |
+//! | `infer` | whether the type of what stands under the two binders of the last body, in their context, is found to be what stands under those of its type, `declared`, or `another`, or `none` is, or it is `over`, for each of `budgets` |
+//! | `loose` | the same in no context |
 //! | `convert` | the answer to whether the bodies of `l` and `r` are convertible and the steps that are left, for each of `budgets` |
 //! | `step` | whether the head step of the body of `l` goes to the body of `r`, or elsewhere, or there is none |
 //! | `weigh` | the weight of each declaration, its bound, and its bound without rechecks of sorts |
@@ -54,6 +56,7 @@ mod modules;
 mod readings;
 mod sequents;
 mod tries;
+mod types;
 mod usual;
 mod weights;
 mod writing;

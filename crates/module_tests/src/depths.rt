@@ -82,6 +82,11 @@ limits = [{ behind = 1310734 }]
 comes = "DkTooDeep at 1310732, DkTooDeep at 1310732, DkTooDeep at 1310732"
 
 [[test.case]]
+text = ["$prelude", "def q :", " bool", { times = 262144, part = " bool" }, ":= bool."]
+limits = [{ behind = 1310733 }]
+comes = "DkTooLong at 1310733, DkTooLong at 1310733, DkTooLong at 1310733"
+
+[[test.case]]
 text = ["$prelude", "thm q : type :=", " bool", { times = 262144, part = " bool" }, ". more"]
 limits = [{ behind = 1310741 }]
 comes = "DkTooDeep at 1310740, DkTooDeep at 1310740, DkTooDeep at 1310740"

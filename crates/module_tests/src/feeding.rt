@@ -40,9 +40,9 @@ comes = "BadText at 9, BadText at 9, BadText at 9"
 
 [[test.case]]
 texts.after = "a : type => type. more bytes"
-limits = [{ behind = 10 }]
+limits = [{ behind = 9 }]
 pieces = [3]
-comes = "DkTooLong at 10, DkTooLong at 10, DkTooLong at 10"
+comes = "DkTooLong at 9, DkTooLong at 9, DkTooLong at 9"
 
 [[test.case]]
 texts.after = "thm q : type. more bytes"
@@ -106,6 +106,89 @@ texts.after = "a : b). more bytes"
 limits = [{ behind = 5 }]
 pieces = [3]
 comes = "DkTooLong at 5, DkTooLong at 5, DkTooLong at 5"
+
+[[test]]
+name = "feed_answers_a_sign_that_the_limit_cuts"
+pieces = [1, 3, 4096]
+
+[[test.case]]
+texts.after = "a -> more bytes"
+limits = [{ behind = 3 }]
+comes = "BadText at 2, BadText at 2, BadText at 2"
+
+[[test.case]]
+texts.after = "a : Type -> Type. more bytes"
+limits = [{ behind = 10 }]
+comes = "DkTooLong at 10, DkTooLong at 10, DkTooLong at 10"
+
+[[test.case]]
+texts.after = "a : type => type. more bytes"
+limits = [{ behind = 10 }]
+comes = "BadText at 9, BadText at 9, BadText at 9"
+
+[[test.case]]
+texts.after = "a : x : type => x. more bytes"
+limits = [{ behind = 14 }]
+comes = "DkTooLong at 14, DkTooLong at 14, DkTooLong at 14"
+
+[[test.case]]
+texts.after = "a := more bytes"
+limits = [{ behind = 3 }]
+comes = "DkTooLong at 3, DkTooLong at 3, DkTooLong at 3"
+
+[[test.case]]
+texts.after = "a : x := more bytes"
+limits = [{ behind = 7 }]
+comes = "DkTooLong at 7, DkTooLong at 7, DkTooLong at 7"
+
+[[test.case]]
+texts.after = "a : Type := more bytes"
+limits = [{ behind = 10 }]
+comes = "BadText at 9, BadText at 9, BadText at 9"
+
+[[test.case]]
+texts.after = "def a : Type := more bytes"
+limits = [{ behind = 14 }]
+comes = "DkTooLong at 14, DkTooLong at 14, DkTooLong at 14"
+
+[[test.case]]
+texts.after = "a := more bytes"
+limits = [{ behind = 4 }]
+comes = "BadText at 2, BadText at 2, BadText at 2"
+
+[[test.case]]
+texts.after = "(; a ;) more bytes"
+limits = [{ behind = 1 }]
+comes = "DkTooLong at 1, DkTooLong at 1, DkTooLong at 1"
+
+[[test.case]]
+texts.after = "(; a ;) more bytes"
+limits = [{ behind = 4 }]
+comes = "DkTooLong at 4, DkTooLong at 4, DkTooLong at 4"
+
+[[test]]
+name = "feed_answers_a_word_that_the_limit_cuts"
+pieces = [1, 3, 4096]
+
+[[test.case]]
+texts.after = "a bc more bytes"
+limits = [{ behind = 3 }]
+comes = "BadText at 2, BadText at 2, BadText at 2"
+
+[[test.case]]
+texts.after = "a : b cd more bytes"
+limits = [{ behind = 7 }]
+comes = "UnknownName b at 4, UnknownName b at 4, UnknownName b at 4"
+
+[[test.case]]
+texts.after = "a : bool cd more bytes"
+limits = [{ behind = 10 }]
+comes = "DkTooLong at 10, DkTooLong at 10, DkTooLong at 10"
+
+[[test.case]]
+texts.after = "bool : type. more bytes"
+limits = [{ behind = 3 }]
+comes = "DkTooLong at 3, DkTooLong at 3, DkTooLong at 3"
 
 [[test]]
 name = "feed_answers_that_the_signature_is_missing"

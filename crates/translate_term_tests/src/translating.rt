@@ -100,7 +100,9 @@ fn type_tree(
 {
     let a = node(base, LpNode::Var(0))?;
     let scope = scope(alloc, a, id)?;
-    ty(alloc, base, types, &scope, id)
+    let made = ty(alloc, base, types, &scope, id);
+    drop(scope);
+    made
 }
 
 // The tree of the input constant at a type, in a scope.
@@ -157,7 +159,9 @@ fn term_tree(
 {
     let g = node(base, LpNode::Var(0))?;
     let scope = scope(alloc, g, ty)?;
-    tm(alloc, base, table, &scope, id)
+    let made = tm(alloc, base, table, &scope, id);
+    drop(scope);
+    made
 }
 
 // The tree of so many doublings.

@@ -13,90 +13,91 @@ use lp_term::LpNode;
 use std::alloc::Global;
 use std::test::Fail;
 
-// Whether the tree of a case is that of the text's last declaration at a place.
-fn is_made_in(
-    base: &mut Module,
-    alloc: Global,
+/// What is translated, and a text of which the last declaration has the tree at a place.
+#[derive(Clone, Copy)]
+struct Row {
+    name: &'static str,
     case: Case,
-    text: &[u8],
+    text: &'static [u8],
     place: Place,
-) -> Result<bool, Fault>
+}
+
+const ROWS: [Row; 7] = [
+    Row {
+        name: "an_assumption_stands_under_its_variables",
+        case: Case::Theorem(Given::One),
+        text: b"A0 : v0 : term bool -> v1 : term bool -> v2 : proof v0 -> proof v1.\n",
+        place: Place::Whole,
+    },
+    Row {
+        name: "assumptions_stand_each_under_those_before",
+        case: Case::Theorem(Given::Two),
+        text: b"A0 : v0 : term bool -> v1 : term bool -> v2 : term bool -> v3 : proof v0 -> v4 : proof v1 -> proof v2.\n",
+        place: Place::Whole,
+    },
+    Row {
+        name: "no_binder_captures_a_free_variable",
+        case: Case::Theorem(Given::Quantified),
+        text: b"T0 : v0 : term bool -> proof (i_u (arr (arr bool bool) bool) (v1 : term bool => v0)).\n",
+        place: Place::Whole,
+    },
+    Row {
+        name: "a_type_is_made_of_what_stands_for_its_variables",
+        case: Case::Type,
+        text: b"t : v0 : type -> arr v0 bool.\n",
+        place: Place::Inside,
+    },
+    Row {
+        name: "a_constant_stands_at_what_its_type_has",
+        case: Case::Constant,
+        text: b"t : v0 : type -> i_u (arr v0 bool).\n",
+        place: Place::Inside,
+    },
+    Row {
+        name: "some_truth_value_equals_itself",
+        case: Case::Filler,
+        text: b"t : v0 : type -> select bool (v1 : term bool => eq bool v1 v1).\n",
+        place: Place::Inside,
+    },
+    Row {
+        name: "a_variable_is_what_stands_for_it_or_some_term",
+        case: Case::Doubled(1),
+        text: b"t : v0 : type -> v0 (select bool (v1 : term bool => eq bool v1 v1)) (select bool (v1 : term bool => eq bool v1 v1)).\n",
+        place: Place::Inside,
+    },
+];
+
+// Whether the tree of a row's case is that of its text.
+fn is_made_in(base: &mut Module, alloc: Global, row: Row) -> Result<bool, Fault>
     requires held { IsHeld base.old }
     requires declared { declarations_of base.old ≡ input_module }
 {
-    let id = made(base, alloc, case)?;
-    Ok(is_wanted(alloc, &base.table, id, text, place))
+    let id = made(base, alloc, row.case)?;
+    Ok(is_wanted(alloc, &base.table, id, row.text, row.place))
 }
 
 // The same, in a module of its own.
-fn is_made(alloc: Global, case: Case, text: &[u8], place: Place) -> Result<bool, Fault> {
+fn is_made(alloc: Global, row: Row) -> Result<bool, Fault> {
     let mut base = with_input(alloc)?;
-    is_made_in(&mut base, alloc, case, text, place)
+    let found = is_made_in(&mut base, alloc, row);
+    drop(base);
+    found
 }
 
-// Whether the type of the theorems of a closed sequent is that of the text's declaration.
-fn is_theorem(alloc: Global, given: Given, text: &[u8]) -> Result<bool, Fault> {
-    is_made(alloc, Case::Theorem(given), text, Place::Whole)
-}
-
-// Whether a tree stands under the binder of the text.
-fn is_part(alloc: Global, case: Case, text: &[u8]) -> Result<bool, Fault> {
-    is_made(alloc, case, text, Place::Inside)
-}
-
-#[test]
-fn an_assumption_stands_under_its_variables(rt: HostRuntime) -> Result<(), Fail> {
-    let text = b"A0 : v0 : term bool -> v1 : term bool -> v2 : proof v0 -> proof v1.\n";
-    assert!(rt; is_theorem(rt.alloc(), Given::One, text)?);
-    Ok(())
+// The name of the first row whose tree is another.
+fn first_wrong(alloc: Global) -> Result<Option<&'static str>, Fault> {
+    for row in &ROWS {
+        if !is_made(alloc, *row)? {
+            return Ok(Some(row.name));
+        }
+    }
+    Ok(None)
 }
 
 #[test]
-fn assumptions_stand_each_under_those_before(rt: HostRuntime) -> Result<(), Fail> {
-    let text =
-        b"A0 : v0 : term bool -> v1 : term bool -> v2 : term bool -> v3 : proof v0 -> v4 : proof v1 -> proof v2.\n";
-    assert!(rt; is_theorem(rt.alloc(), Given::Two, text)?);
-    Ok(())
-}
-
-#[test]
-fn no_binder_captures_a_free_variable(rt: HostRuntime) -> Result<(), Fail> {
-    let text =
-        b"T0 : v0 : term bool -> proof (i_u (arr (arr bool bool) bool) (v1 : term bool => v0)).\n";
-    assert!(rt; is_theorem(rt.alloc(), Given::Quantified, text)?);
-    Ok(())
-}
-
-#[test]
-fn a_type_is_made_of_what_stands_for_its_variables(rt: HostRuntime) -> Result<(), Fail> {
-    assert!(rt; is_part(rt.alloc(), Case::Type, b"t : v0 : type -> arr v0 bool.\n")?);
-    Ok(())
-}
-
-#[test]
-fn a_constant_stands_at_what_its_type_has(rt: HostRuntime) -> Result<(), Fail> {
-    assert!(rt;
-        is_part(
-            rt.alloc(),
-            Case::Constant,
-            b"t : v0 : type -> i_u (arr v0 bool).\n"
-        )?
-    );
-    Ok(())
-}
-
-#[test]
-fn some_truth_value_equals_itself(rt: HostRuntime) -> Result<(), Fail> {
-    let text = b"t : v0 : type -> select bool (v1 : term bool => eq bool v1 v1).\n";
-    assert!(rt; is_part(rt.alloc(), Case::Filler, text)?);
-    Ok(())
-}
-
-#[test]
-fn a_variable_is_what_stands_for_it_or_some_term(rt: HostRuntime) -> Result<(), Fail> {
-    let text =
-        b"t : v0 : type -> v0 (select bool (v1 : term bool => eq bool v1 v1)) (select bool (v1 : term bool => eq bool v1 v1)).\n";
-    assert!(rt; is_part(rt.alloc(), Case::Doubled(1), text)?);
+fn trees_are_those_of_texts(rt: HostRuntime) -> Result<(), Fail> {
+    let wrong = first_wrong(rt.alloc())?;
+    assert!(rt; wrong.is_none(), "{wrong:?}");
     Ok(())
 }
 
@@ -113,16 +114,18 @@ fn measured_in(base: &mut Module, alloc: Global, case: Case) -> Result<(usize, u
     Ok((after.0.saturating_sub(before.0), size))
 }
 
+// The same, in a module of its own.
 fn measured(alloc: Global, case: Case) -> Result<(usize, u128), Fault> {
     let mut base = with_input(alloc)?;
-    measured_in(&mut base, alloc, case)
+    let found = measured_in(&mut base, alloc, case);
+    drop(base);
+    found
 }
 
 // Some truth value has 15 nodes, and a doubling 3 more than two of what is doubled.
 #[test]
 fn a_shared_term_is_translated_once(rt: HostRuntime) -> Result<(), Fail> {
     let (added, size) = measured(rt.alloc(), Case::Doubled(16))?;
-    assert!(rt; added < 200);
-    assert_eq!(rt; size, 1_179_645);
+    assert!(rt; added < 200 && size == 1_179_645, "{added}, {size}");
     Ok(())
 }

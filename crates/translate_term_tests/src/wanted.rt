@@ -94,7 +94,11 @@ pub(crate) fn is_wanted(alloc: Global, made: &LpTable, id: LpId, text: &[u8], pl
     requires { id.0 < length made.now }
 {
     match read(alloc, text) {
-        Ok(base) => is_tree_of(made, id, &base, place),
+        Ok(base) => {
+            let is = is_tree_of(made, id, &base, place);
+            drop(base);
+            is
+        }
         Err(_) => false,
     }
 }
