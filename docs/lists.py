@@ -146,7 +146,7 @@ def unproved():
             if not any(has_item(crate, name) for crate in named):
                 yield f"docs/PROVED.md: {', '.join(named)} has no {name}"
     quoted = re.findall(r"^```antt\n(.*?)^```", proved, re.M | re.S)
-    sources = {it: (SPECS / f"{it}.antt").read_text(encoding="utf-8") for it in ("Promises", "Headline", "Consequences", "Outputs", "Articles")}
+    sources = {it: (SPECS / f"{it}.antt").read_text(encoding="utf-8") for it in ("Promises", "Headline", "Consequences", "Outputs", "Articles", "FileChecks")}
     for block in quoted:
         if not any(f"\n{block}" in it for it in sources.values()):
             yield f"docs/PROVED.md: this clause isn't so in the sources: {block.strip().splitlines()[0]}"
