@@ -1,8 +1,10 @@
+pub mod Inferred
 pub mod LineLaws
 pub mod NoPhantoms
 pub mod PlacesKept
 pub mod ReadingLaws
 pub mod RunLaws
+pub mod SecondWords
 pub mod SoundBuilding
 pub mod SoundDefining
 pub mod SoundInference

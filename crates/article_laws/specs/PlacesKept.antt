@@ -3,25 +3,23 @@ use Rattle.hol_spec.specs.declared.Version.{Version}
 use Rattle.std.proofs.Common.{◌≡◌, ℕ, List, [], ◌∷◌, ◌++◌, map, length, Result, Ok, Err, Option, Some, None, refl, subst}
 use Rattle.bridge_base.specs.declared.faults.Kind.{Kind}
 use Rattle.hol_spec.specs.Proofs.{Step, sequent_at, symbols_of}
-use Rattle.article_spec.specs.State.{State, Object, version, body, version_at, list, constant, variable}
+use Rattle.article_spec.specs.State.{State, Object, body, version_at, list, constant}
 use Rattle.article_spec.specs.Results.{◌>>=◌, ◌>>◌}
 use Rattle.article_spec.specs.Changes.{with_stack, conclude, next_step, with_symbols}
-use Rattle.article_spec.specs.Conditions.{sequent_in_limits, all_bool, follows, demand, in_limits, typed, type_in_limits, term_in_limits, arity_fits, generic_fits, is_of_type, equation_of}
-use Rattle.article_spec.specs.Inference.{eq_mp, refl_word, step_by, assume, abs_thm, app_thm, deduct_antisym, contracted, beta_conv, sym_word, trans_word, prove_hyp, subst_word}
-use Rattle.article_spec.specs.Operands.{as_name, as_names, as_term, as_theorem, as_constant_pairs, pop, as_number, as_list, as_type_operator, as_type, as_types, as_constant, as_variable, any_object, head_and_tail, as_terms, as_substitution}
-use Rattle.bridge_base.specs.declared.faults.Kind.TheVariants.{NameTaken, NotClosed, ExtraTypeVars, BadDefinitionList, NotTheSequent, NoSuchKey, TypeMismatch, NotBool, NotAlike, VarInHyps, NotRedex, BadSubst}
+use Rattle.article_spec.specs.Conditions.{sequent_in_limits, all_bool, follows, demand, in_limits, typed, type_in_limits, term_in_limits, arity_fits, generic_fits}
+use Rattle.article_spec.specs.Inference.{step_by}
+use Rattle.article_spec.specs.Operands.{as_name, as_names, as_term, as_theorem, as_constant_pairs, pop, as_number, as_list, as_type_operator, as_type, as_types, as_constant, as_variable, any_object, head_and_tail, as_terms}
+use Rattle.bridge_base.specs.declared.faults.Kind.TheVariants.{NameTaken, NotClosed, ExtraTypeVars, BadDefinitionList, NotTheSequent, NoSuchKey, TypeMismatch}
 use Rattle.hol_spec.specs.Defining.{is_closed, has_type_variables_of}
 use Rattle.hol_spec.specs.DefinitionLists.{names_of, defining_equations, is_definition_list, definitions_in, constants_put}
 use Rattle.hol_spec.specs.Definitions.{Definition, TypeNames}
-use Rattle.hol_spec.specs.Lists.{distinct}
 use Rattle.hol_spec.specs.Measures.{type_measure, sequent_measure}
 use Rattle.hol_spec.specs.NewTypes.{new_type, abstraction_type, representation_type}
-use Rattle.hol_spec.specs.Primitives.{bool, function}
-use Rattle.hol_spec.specs.Rules.{Parameters, constants, derived, nothing, variable, substitution, joined, removed, abstraction, is_free_in}
+use Rattle.hol_spec.specs.Rules.{Parameters, constants, derived, abstraction}
 use Rattle.hol_spec.specs.Sequents.{Sequent}
 use Rattle.hol_spec.specs.Symbols.{defined, is_taken_constant, generic_type, operator_arity}
 use Rattle.hol_spec.specs.TermSubstitution.{sub}
-use Rattle.hol_spec.specs.Terms.{Term, app, equation, term_eq, application_type, type_of}
+use Rattle.hol_spec.specs.Terms.{Term, equation, type_of}
 use Rattle.hol_spec.specs.TypeDefinitions.{first_law_of, second_law_of}
 use Rattle.hol_spec.specs.Types.{HolType, types_of}
 use Rattle.hol_spec.specs.declared.StepKind.TheVariants as by_rule
@@ -36,6 +34,7 @@ use Rattle.article_spec.specs.Step.{obey}
 use Rattle.article_spec.specs.Run.{machine}
 use Rattle.article_spec.specs.declared.commands.Word.{Word}
 use Rattle.article_spec.specs.declared.commands.Word.TheVariants as word
+use Rattle.article_laws.specs.Inferred.{IsRule, rule-inferred}
 
 -- what a word answers has the place of the state before it
 abbrev Keeps : State → Result State Kind → Type 0
@@ -103,38 +102,9 @@ remove-keeps s = bind s (pop as_number s.stack) _ (λ p1. let k = p1.0 in let re
 drop_object-keeps : (s : State) → Keeps s (drop_object s)
 drop_object-keeps s = bind s (pop any_object s.stack) _ (λ p1. let x = p1.0 in let rest = p1.1 in same s _ refl)
 
-refl_word-keeps : (s : State) → Keeps s (refl_word s)
-refl_word-keeps s = bind s (pop as_term s.stack) _ (λ p1. let t = p1.0 in let rest = p1.1 in bind s (typed t) _ (λ p2. let a = p2 in concluded s (with_stack s rest) (step_by by_rule.Refl [] (Parameters.term t) (derived [] (equation a t t))) refl))
-
-assume-keeps : (s : State) → Keeps s (assume s)
-assume-keeps s = bind s (pop as_term s.stack) _ (λ p1. let p = p1.0 in let rest = p1.1 in Keeps-bind s (demand (is_of_type bool p) NotBool) _ (concluded s (with_stack s rest) (step_by by_rule.Assume [] (Parameters.term p) (derived (p ∷ []) p)) refl))
-
-eq_mp-keeps : (s : State) → Keeps s (eq_mp s)
-eq_mp-keeps s = bind s (pop as_theorem s.stack) _ (λ p1. let j = p1.0 in let below = p1.1 in bind s (pop as_theorem below) _ (λ p2. let i = p2.0 in let rest = p2.1 in let one = sequent_at s.made i in let two = sequent_at s.made j in bind s (equation_of one) _ (λ p3. let e = p3 in Keeps-bind s (demand (term_eq two.conclusion e.left) NotAlike) _ (concluded s (with_stack s rest) (step_by by_rule.EqMp (i ∷ j ∷ []) nothing (derived (joined one.hypotheses two.hypotheses) e.right)) refl))))
-
-abs_thm-keeps : (s : State) → Keeps s (abs_thm s)
-abs_thm-keeps s = bind s (pop as_theorem s.stack) _ (λ p1. let i = p1.0 in let below = p1.1 in bind s (pop as_variable below) _ (λ p2. let v = p2.0 in let rest = p2.1 in let one = sequent_at s.made i in bind s (equation_of one) _ (λ p3. let e = p3 in Keeps-bind s (demand (not (is_free_in v one.hypotheses)) VarInHyps) _ (concluded s (with_stack s rest) (step_by by_rule.AbsThm (i ∷ []) (variable v) (derived one.hypotheses (equation (function v.1 e.ty) (abstraction v e.left) (abstraction v e.right)))) refl))))
-
-app_thm-keeps : (s : State) → Keeps s (app_thm s)
-app_thm-keeps s = bind s (pop as_theorem s.stack) _ (λ p1. let j = p1.0 in let below = p1.1 in bind s (pop as_theorem below) _ (λ p2. let i = p2.0 in let rest = p2.1 in let one = sequent_at s.made i in let two = sequent_at s.made j in bind s (equation_of one) _ (λ p3. let f = p3 in bind s (equation_of two) _ (λ p4. let x = p4 in bind s (ok_or (application_type (Some f.ty) (Some x.ty)) TypeMismatch) _ (λ p5. let b = p5 in concluded s (with_stack s rest) (step_by by_rule.AppThm (i ∷ j ∷ []) nothing (derived (joined one.hypotheses two.hypotheses) (equation b (app f.left x.left) (app f.right x.right)))) refl)))))
-
-deduct_antisym-keeps : (s : State) → Keeps s (deduct_antisym s)
-deduct_antisym-keeps s = bind s (pop as_theorem s.stack) _ (λ p1. let j = p1.0 in let below = p1.1 in bind s (pop as_theorem below) _ (λ p2. let i = p2.0 in let rest = p2.1 in let one = sequent_at s.made i in let two = sequent_at s.made j in concluded s (with_stack s rest) (step_by by_rule.DeductAntisym (i ∷ j ∷ []) nothing (derived (joined (removed one.hypotheses two.conclusion) (removed two.hypotheses one.conclusion)) (equation bool one.conclusion two.conclusion))) refl))
-
-beta_conv-keeps : (s : State) → Keeps s (beta_conv s)
-beta_conv-keeps s = bind s (pop as_term s.stack) _ (λ p1. let t = p1.0 in let rest = p1.1 in bind s (ok_or (contracted t) NotRedex) _ (λ p2. let u = p2 in bind s (typed t) _ (λ p3. let a = p3 in concluded s (with_stack s rest) (step_by by_rule.BetaConv [] (Parameters.term t) (derived [] (equation a t u))) refl)))
-
-sym_word-keeps : (s : State) → Keeps s (sym_word s)
-sym_word-keeps s = bind s (pop as_theorem s.stack) _ (λ p1. let i = p1.0 in let rest = p1.1 in let one = sequent_at s.made i in bind s (equation_of one) _ (λ p2. let e = p2 in concluded s (with_stack s rest) (step_by by_rule.Sym (i ∷ []) nothing (derived one.hypotheses (equation e.ty e.right e.left))) refl))
-
-trans_word-keeps : (s : State) → Keeps s (trans_word s)
-trans_word-keeps s = bind s (pop as_theorem s.stack) _ (λ p1. let j = p1.0 in let below = p1.1 in bind s (pop as_theorem below) _ (λ p2. let i = p2.0 in let rest = p2.1 in let one = sequent_at s.made i in let two = sequent_at s.made j in bind s (equation_of one) _ (λ p3. let e = p3 in bind s (equation_of two) _ (λ p4. let f = p4 in Keeps-bind s (demand (term_eq f.left e.right) NotAlike) _ (concluded s (with_stack s rest) (step_by by_rule.Trans (i ∷ j ∷ []) nothing (derived (joined one.hypotheses two.hypotheses) (equation e.ty e.left f.right))) refl)))))
-
-prove_hyp-keeps : (s : State) → Keeps s (prove_hyp s)
-prove_hyp-keeps s = bind s (pop as_theorem s.stack) _ (λ p1. let j = p1.0 in let below = p1.1 in bind s (pop as_theorem below) _ (λ p2. let i = p2.0 in let rest = p2.1 in let one = sequent_at s.made i in let two = sequent_at s.made j in concluded s (with_stack s rest) (step_by by_rule.ProveHyp (i ∷ j ∷ []) nothing (derived (joined one.hypotheses (removed two.hypotheses one.conclusion)) two.conclusion)) refl))
-
-subst_word-keeps : (s : State) → Keeps s (subst_word s)
-subst_word-keeps s = bind s (pop as_theorem s.stack) _ (λ p1. let i = p1.0 in let below = p1.1 in bind s (pop as_substitution below) _ (λ p2. let types = p2.0.0 in let terms = p2.0.1 in let rest = p2.1 in let one = sequent_at s.made i in Keeps-bind s (demand (list_all (λ p. is_of_type p.0.1 p.1) terms) BadSubst) _ (concluded s (with_stack s rest) (step_by by_rule.Subst (i ∷ []) (substitution types terms) (derived (distinct term_eq (map (sub types terms) one.hypotheses)) (sub types terms one.conclusion))) refl)))
+-- the words of the rules
+rule-keeps : (w : Word) → IsRule w → (s : State) → Keeps s (obey s w)
+rule-keeps w h s t e = let i = rule-inferred w h s t e in concluded s (with_stack s i.rest) i.step refl t i.concluded
 
 define_const-keeps : (s : State) → Keeps s (define_const s)
 define_const-keeps s = bind s (pop as_term s.stack) _ (λ p1. let t = p1.0 in let below = p1.1 in bind s (pop as_name below) _ (λ p2. let n = p2.0 in let rest = p2.1 in Keeps-bind s (demand (not (is_taken_constant (symbols_of s.made) n)) NameTaken) _ (Keeps-bind s (demand (is_closed t) NotClosed) _ (bind s (typed t) _ (λ p3. let a = p3 in Keeps-bind s (demand (has_type_variables_of a t) ExtraTypeVars) _ (concluded s (with_symbols (with_stack s (constant n ∷ rest)) (defined (Definition.constant n t) ∷ [])) (step_by by_rule.DefineConst [] (Parameters.constant n t) (derived [] (equation a (Term.constant n a) t))) refl))))))
@@ -199,17 +169,17 @@ obey-keeps s word.Ref = ref-keeps s
 obey-keeps s word.Remove = remove-keeps s
 obey-keeps s word.Pop = drop_object-keeps s
 obey-keeps s word.Pragma = drop_object-keeps s
-obey-keeps s word.Refl = refl_word-keeps s
-obey-keeps s word.Assume = assume-keeps s
-obey-keeps s word.EqMp = eq_mp-keeps s
-obey-keeps s word.AbsThm = abs_thm-keeps s
-obey-keeps s word.AppThm = app_thm-keeps s
-obey-keeps s word.DeductAntisym = deduct_antisym-keeps s
-obey-keeps s word.BetaConv = beta_conv-keeps s
-obey-keeps s word.Sym = sym_word-keeps s
-obey-keeps s word.Trans = trans_word-keeps s
-obey-keeps s word.ProveHyp = prove_hyp-keeps s
-obey-keeps s word.Subst = subst_word-keeps s
+obey-keeps s word.Refl = rule-keeps word.Refl (tt {0}) s
+obey-keeps s word.Assume = rule-keeps word.Assume (tt {0}) s
+obey-keeps s word.EqMp = rule-keeps word.EqMp (tt {0}) s
+obey-keeps s word.AbsThm = rule-keeps word.AbsThm (tt {0}) s
+obey-keeps s word.AppThm = rule-keeps word.AppThm (tt {0}) s
+obey-keeps s word.DeductAntisym = rule-keeps word.DeductAntisym (tt {0}) s
+obey-keeps s word.BetaConv = rule-keeps word.BetaConv (tt {0}) s
+obey-keeps s word.Sym = rule-keeps word.Sym (tt {0}) s
+obey-keeps s word.Trans = rule-keeps word.Trans (tt {0}) s
+obey-keeps s word.ProveHyp = rule-keeps word.ProveHyp (tt {0}) s
+obey-keeps s word.Subst = rule-keeps word.Subst (tt {0}) s
 obey-keeps s word.DefineConst = define_const-keeps s
 obey-keeps s word.DefineConstList = define_const_list-keeps s
 obey-keeps s word.DefineTypeOp = define_type_op-keeps s

@@ -35,7 +35,8 @@ scan (b ∷ text) n o line =
     (cond (b == newline) (after_line n (content line) (scan text (n + 1) (o + length line + 1) []))
     (scan text n o (line ++ b ∷ []))))
 
-choose : {A : Type 0} (p q r : Bool) (a b c d x : A) → (p ≡ true → a ≡ x) → (p ≡ false → q ≡ true → b ≡ x) → (p ≡ false → q ≡ false → r ≡ true → c ≡ x) → (p ≡ false → q ≡ false → r ≡ false → d ≡ x)
+choose : {A : Type 0} (p q r : Bool) (a b c d x : A) → (p ≡ true → a ≡ x) → (p ≡ false → q ≡ true → b ≡ x) → (p ≡ false → q ≡ false → r ≡ true → c ≡ x)
+    → (p ≡ false → q ≡ false → r ≡ false → d ≡ x)
     → cond p a (cond q b (cond r c d)) ≡ x
 choose true q r a b c d x f g h k = f refl
 choose false true r a b c d x f g h k = g refl refl
@@ -43,14 +44,16 @@ choose false false true a b c d x f g h k = h refl refl refl
 choose false false false a b c d x f g h k = k refl refl refl
 
 -- a front without a newline enters the open line
-scan-line : (front text : List ℕ) (n o : ℕ) (line : List ℕ) → IsLine front → length line + length front ≤ max_line → o + length line + length front ≤ max_article → scan (front ++ text) n o line ≡ scan text n o (line ++ front)
+scan-line : (front text : List ℕ) (n o : ℕ) (line : List ℕ) → IsLine front → length line + length front ≤ max_line
+    → o + length line + length front ≤ max_article → scan (front ++ text) n o line ≡ scan text n o (line ++ front)
 scan-line [] text n o line h s w = rw append-nil refl
 scan-line (b ∷ front) text n o line h s w =
     choose (not (b == newline) && (length line == max_line)) (o + length line == max_article) (b == newline) _ _ _ _ _
     (λ p. absurd (grind (arith, common_steps))) (λ p q. absurd (grind (arith, common_steps))) (λ p q r. absurd (h.0 (eqb-true b newline r)))
     (λ p q r. scan-line front text n o (line ++ b ∷ []) h.1 (omega (arith, length-append line (b ∷ []))) (omega (arith, length-append line (b ∷ []))) ∙ ap (scan text n o) (append_assoc line (b ∷ []) front))
 
-scan-newline_byte : (b : ℕ) (more : List ℕ) (n o : ℕ) (line : List ℕ) → b ≡ newline → o + length line < max_article → scan (b ∷ more) n o line ≡ after_line n (content line) (scan more (n + 1) (o + length line + 1) [])
+scan-newline_byte : (b : ℕ) (more : List ℕ) (n o : ℕ) (line : List ℕ) → b ≡ newline → o + length line < max_article
+    → scan (b ∷ more) n o line ≡ after_line n (content line) (scan more (n + 1) (o + length line + 1) [])
 scan-newline_byte b more n o line is w =
     choose (not (b == newline) && (length line == max_line)) (o + length line == max_article) (b == newline) _ _ _ _ _
     (λ p. absurd (grind (arith, common_steps))) (λ p q. absurd (grind (arith, common_steps))) (λ p q r. refl) (λ p q r. absurd (grind (arith, common_steps)))
@@ -60,13 +63,15 @@ scan-long b more n o line other full =
     choose (not (b == newline) && (length line == max_line)) (o + length line == max_article) (b == newline) _ _ _ _ _
     (λ p. refl) (λ p q. absurd (grind (arith, common_steps))) (λ p q r. absurd (other (eqb-true b newline r))) (λ p q r. absurd (grind (arith, common_steps)))
 
-scan-full : (b : ℕ) (more : List ℕ) (n o : ℕ) (line : List ℕ) → (length line ≡ max_line → b ≡ newline) → o + length line ≡ max_article → scan (b ∷ more) n o line ≡ at_fault [] n kind.InputTooLong
+scan-full : (b : ℕ) (more : List ℕ) (n o : ℕ) (line : List ℕ) → (length line ≡ max_line → b ≡ newline) → o + length line ≡ max_article
+    → scan (b ∷ more) n o line ≡ at_fault [] n kind.InputTooLong
 scan-full b more n o line first full =
     choose (not (b == newline) && (length line == max_line)) (o + length line == max_article) (b == newline) _ _ _ _ _
     (λ p. absurd (grind (arith, common_steps, first))) (λ p q. refl) (λ p q r. absurd (grind (arith, common_steps))) (λ p q r. absurd (grind (arith, common_steps)))
 
 -- an ended line is scanned first
-scan-ended : {o : ℕ} {text line more : List ℕ} {says : Content} → EndedLine o text line more says → (n : ℕ) → scan text n o [] ≡ after_line n says (scan more (n + 1) (o + length line + 1) [])
+scan-ended : {o : ℕ} {text line more : List ℕ} {says : Content} → EndedLine o text line more says → (n : ℕ)
+    → scan text n o [] ≡ after_line n says (scan more (n + 1) (o + length line + 1) [])
 scan-ended {o = o} {line = line} {more = more} h n =
     ap (λ t. scan t n o []) h.is ∙ scan-line line (newline ∷ more) n o [] h.one_line (omega (arith, h.short)) (omega (arith, h.within))
     ∙ scan-newline_byte newline more n o line refl h.within ∙ ap (λ c. after_line n c (scan more (n + 1) (o + length line + 1) [])) h.means
@@ -107,14 +112,16 @@ data GoesOn (n o : ℕ) (text : List ℕ) : Type 0 where
   to_line : {m p : ℕ} {commands : List Command} {rest : List ℕ} → Opens n o text commands m p rest → GoesOn n o text
   to_fault : {m : ℕ} {commands : List Command} {k : Kind} → Stops n o text commands m k → GoesOn n o text
 
-after_ended : {n o : ℕ} {text line more : List ℕ} (says : Content) → EndedLine o text line more says → GoesOn (n + 1) (o + length line + 1) more → GoesOn n o text
+after_ended : {n o : ℕ} {text line more : List ℕ} (says : Content) → EndedLine o text line more says → GoesOn (n + 1) (o + length line + 1) more
+    → GoesOn n o text
 after_ended skipped h (to_line on) = to_line (skips h on)
 after_ended skipped h (to_fault on) = to_fault (skips_on h on)
 after_ended (command i) h (to_line on) = to_line (gives h on)
 after_ended (command i) h (to_fault on) = to_fault (gives_on h on)
 after_ended (faulty k) h on = to_fault (faults h)
 
-by_tests : {P : Type 0} (p q r : Bool) → (p ≡ true → P) → (p ≡ false → q ≡ true → P) → (p ≡ false → q ≡ false → r ≡ true → P) → (p ≡ false → q ≡ false → r ≡ false → P) → P
+by_tests : {P : Type 0} (p q r : Bool) → (p ≡ true → P) → (p ≡ false → q ≡ true → P) → (p ≡ false → q ≡ false → r ≡ true → P)
+    → (p ≡ false → q ≡ false → r ≡ false → P) → P
 by_tests true q r f g h k = f refl
 by_tests false true r f g h k = g refl refl
 by_tests false false true f g h k = h refl refl refl
@@ -126,13 +133,16 @@ past_line b o line text h p =
     let full : length line ≡ max_line = grind (arith, common_steps) in
     record { line = line; byte = b; more = text; is = refl; one_line = h.one_line; other = grind (arith, common_steps); full = full; within = omega (arith, h.within, full) }
 
-past_article : (b : ℕ) (o : ℕ) (line text : List ℕ) → OpenLine o line → (not (b == newline) && (length line == max_line)) ≡ false → (o + length line == max_article) ≡ true → LongArticle o (line ++ b ∷ text)
+past_article : (b : ℕ) (o : ℕ) (line text : List ℕ) → OpenLine o line → (not (b == newline) && (length line == max_line)) ≡ false
+    → (o + length line == max_article) ≡ true → LongArticle o (line ++ b ∷ text)
 past_article b o line text h p q = record { line = line; byte = b; more = text; is = refl; one_line = h.one_line; short = h.short; first = λ full. grind (arith, common_steps); full = eqb-true (o + length line) max_article q }
 
-with_byte : (b : ℕ) (o : ℕ) (line : List ℕ) → OpenLine o line → (not (b == newline) && (length line == max_line)) ≡ false → (o + length line == max_article) ≡ false → (b == newline) ≡ false → OpenLine o (line ++ b ∷ [])
+with_byte : (b : ℕ) (o : ℕ) (line : List ℕ) → OpenLine o line → (not (b == newline) && (length line == max_line)) ≡ false
+    → (o + length line == max_article) ≡ false → (b == newline) ≡ false → OpenLine o (line ++ b ∷ [])
 with_byte b o line h p q r = record { one_line = IsLine-push b (λ e. grind (arith, common_steps)) line h.one_line; short = grind (arith, common_steps, h.short); within = grind (arith, common_steps, h.within) }
 
-ended_by : (b : ℕ) (o : ℕ) (line text : List ℕ) → OpenLine o line → (o + length line == max_article) ≡ false → (b == newline) ≡ true → EndedLine o (line ++ b ∷ text) line text (content line)
+ended_by : (b : ℕ) (o : ℕ) (line text : List ℕ) → OpenLine o line → (o + length line == max_article) ≡ false → (b == newline) ≡ true
+    → EndedLine o (line ++ b ∷ text) line text (content line)
 ended_by b o line text h q r = record { is = ap (λ x. line ++ x ∷ text) (eqb-true b newline r); one_line = h.one_line; short = h.short; within = grind (arith, common_steps, h.within); means = refl }
 
 goes_on : (text : List ℕ) (n o : ℕ) (line : List ℕ) → OpenLine o line → GoesOn n o (line ++ text)
@@ -188,12 +198,14 @@ record ReadsAfter (text : List ℕ) (commands : List Command) : Type 0 where
   end : End
   read : Lines text (commands ++ rest) end
 
-last_after : {text line : List ℕ} {n o : ℕ} (commands others : List Command) (says : Content) → Opens 1 0 text (commands ++ others) n o line → content line ≡ says → ReadsAfter text commands
+last_after : {text line : List ℕ} {n o : ℕ} (commands others : List Command) (says : Content) → Opens 1 0 text (commands ++ others) n o line
+    → content line ≡ says → ReadsAfter text commands
 last_after {n = n} commands others skipped h e = record { rest = others; end = ended n; read = last_skipped h e }
 last_after {n = n} commands others (command i) h e = record { rest = others ++ command_at n i ∷ []; end = ended n; read = last_gives h e (sym (append_assoc commands others (command_at n i ∷ []))) }
 last_after {n = n} commands others (faulty k) h e = record { rest = others; end = refused n k; read = last_faults h e }
 
-found_after : {text line : List ℕ} {n o : ℕ} {commands : List Command} → Opens 1 0 text commands n o line → (more : List ℕ) → GoesOn n o (line ++ more) → ReadsAfter (text ++ more) commands
+found_after : {text line : List ℕ} {n o : ℕ} {commands : List Command} → Opens 1 0 text commands n o line → (more : List ℕ) → GoesOn n o (line ++ more)
+    → ReadsAfter (text ++ more) commands
 found_after {commands = commands} h more (to_line {commands = others} {rest = rest} on) = last_after commands others (content rest) (opens_then h more on) refl
 found_after h more (to_fault {m = m} {commands = others} {k = k} on) = record { rest = others; end = refused m k; read = stops (stops_then h more on) }
 

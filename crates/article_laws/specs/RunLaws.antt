@@ -59,7 +59,8 @@ module _ (by : Obeys) where
   one_from readings k s (bytes ∷ rest) = one_more k s bytes rest (readings bytes) _ refl (λ t. one_from readings (k + 1) t rest)
 
   -- A refusal in an article depends on the articles up to it alone.
-  refused_before : (k j line : ℕ) (kind : Kind) (s : State) (articles more : List (List ℕ)) (o : Outcome) → o ≡ refused_at j line kind → RunsFrom by k s articles o → RunsFrom by k s (articles ++ more) o
+  refused_before : (k j line : ℕ) (kind : Kind) (s : State) (articles more : List (List ℕ)) (o : Outcome) → o ≡ refused_at j line kind
+      → RunsFrom by k s articles o → RunsFrom by k s (articles ++ more) o
   refused_before k j line kind s [] more o e (finished f) = let g : accepted (accepted_state s) ≡ refused_at j line kind = sym f ∙ e in absurd (cc)
   refused_before k j line kind s (bytes ∷ rest) more o e (passed {next = t} l p r) = passed l p (refused_before (k + 1) j line kind t rest more o e r)
   refused_before k j line kind s (bytes ∷ rest) more o e (stopped l p f) = stopped l p f

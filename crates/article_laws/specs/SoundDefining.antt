@@ -121,37 +121,43 @@ record Defines (symbols : List Symbol) (p : Variable × Term) : Type 0 where
   taken : TermTaken symbols p.1
 
 module _ (symbols : List Symbol) where
-  of_side : (l r : Term) (v : Variable) (t : Term) → variable_side l r ≡ Some (v, t) → (a : HolType) → HasType l a → HasType r a → TermTaken symbols r → Defines symbols (v, t)
+  of_side : (l r : Term) (v : Variable) (t : Term) → variable_side l r ≡ Some (v, t) → (a : HolType) → HasType l a → HasType r a → TermTaken symbols r
+      → Defines symbols (v, t)
   of_side (free n b) r v t e a h k taken =
       let p : ((n, b), r) ≡ (v, t) = same_Some _ _ e in
       let same : b ≡ a = same_Some _ _ h in
       subst (Defines symbols) p (record { typed = k ∙ ap Some (sym same); taken = taken })
   of_side l r v t e a h k taken = absurd (cc)
 
-  of_parts : (h : Term) (o : Option Equation) → equation_parts h ≡ o → HasType h bool → TermTaken symbols h → (v : Variable) (t : Term) → of_equation o ≡ Some (v, t) → Defines symbols (v, t)
+  of_parts : (h : Term) (o : Option Equation) → equation_parts h ≡ o → HasType h bool → TermTaken symbols h → (v : Variable) (t : Term)
+      → of_equation o ≡ Some (v, t) → Defines symbols (v, t)
   of_parts h None is typed taken v t e = absurd (cc)
   of_parts h (Some q) is typed taken v t e =
       let whole = equation_parts-is h q is in
       let both = equation-sides q.ty q.left q.right h whole typed in
       of_side q.left q.right v t e q.ty both.left both.right (sides symbols q.ty q.left q.right h whole taken).right
 
-  equations-All : (hs : List Term) → AllByRecursion (λ h. HasType h bool) hs → AllByRecursion (TermTaken symbols) hs → AllByRecursion (Defines symbols) (filter_map variable_equation hs)
+  equations-All : (hs : List Term) → AllByRecursion (λ h. HasType h bool) hs → AllByRecursion (TermTaken symbols) hs
+      → AllByRecursion (Defines symbols) (filter_map variable_equation hs)
   equations-All [] h k = tt
   equations-All (x ∷ xs) h k = go (variable_equation x) (λ v t e. of_parts x (equation_parts x) refl h.0 k.0 v t e) (equations-All xs h.1 k.1)
     where
-      go : (o : Option (Variable × Term)) → ((v : Variable) (t : Term) → o ≡ Some (v, t) → Defines symbols (v, t)) → AllByRecursion (Defines symbols) (filter_map variable_equation xs)
+      go : (o : Option (Variable × Term)) → ((v : Variable) (t : Term) → o ≡ Some (v, t) → Defines symbols (v, t))
+          → AllByRecursion (Defines symbols) (filter_map variable_equation xs)
           → AllByRecursion (Defines symbols) (cons_option o (filter_map variable_equation xs))
       go None f rest = rest
       go (Some p) f rest = (f p.0 p.1 refl, rest)
 
-still-new : (symbols : List Symbol) (n m : Name) (t : Term) → is_taken_constant symbols n ≡ false → name_eq n m ≡ false → is_taken_constant (symbols ++ defined (Definition.constant m t) ∷ []) n ≡ false
+still-new : (symbols : List Symbol) (n m : Name) (t : Term) → is_taken_constant symbols n ≡ false → name_eq n m ≡ false
+    → is_taken_constant (symbols ++ defined (Definition.constant m t) ∷ []) n ≡ false
 still-new symbols n m t new other =
     let parts = or_parts (is_some (generic_type symbols n)) (list_any (is_input_constant n) symbols) new in
     or_from _ _
     (ap is_some (generic_type-new symbols (defined (Definition.constant m t) ∷ []) n parts.0 ∙ ap (λ b. option_or (cond b (type_of t) None) None) other))
     (list_any-append (is_input_constant n) symbols (defined (Definition.constant m t) ∷ []) ∙ or_from _ _ parts.1 refl)
 
-all-still-new : (symbols : List Symbol) (m : Name) (t : Term) (ns : List Name) → list_any (is_taken_constant symbols) ns ≡ false → is_in name_eq m ns ≡ false → list_any (is_taken_constant (symbols ++ defined (Definition.constant m t) ∷ [])) ns ≡ false
+all-still-new : (symbols : List Symbol) (m : Name) (t : Term) (ns : List Name) → list_any (is_taken_constant symbols) ns ≡ false → is_in name_eq m ns ≡ false
+    → list_any (is_taken_constant (symbols ++ defined (Definition.constant m t) ∷ [])) ns ≡ false
 all-still-new symbols m t [] e f = refl
 all-still-new symbols m t (n ∷ ns) e f =
     let a = or_parts (is_taken_constant symbols n) (list_any (is_taken_constant symbols) ns) e in
@@ -159,7 +165,8 @@ all-still-new symbols m t (n ∷ ns) e f =
     or_from _ _ (still-new symbols n m t a.0 (symmetric name_eq name_eq-Decides m n b.0)) (all-still-new symbols m t ns a.1 b.1)
 
 -- the constants of a list are taken one after another
-listed-taken : (d : Variable → Option Term) → ((v : Variable) (t : Term) → d v ≡ Some t → IsDefining v.1 t) → (ps : ConstantPairs) (m : List Made) → ((v : Variable) (t : Term) → d v ≡ Some t → TermTaken (symbols_of m) t)
+listed-taken : (d : Variable → Option Term) → ((v : Variable) (t : Term) → d v ≡ Some t → IsDefining v.1 t) → (ps : ConstantPairs) (m : List Made)
+    → ((v : Variable) (t : Term) → d v ≡ Some t → TermTaken (symbols_of m) t)
     → list_all (λ v. is_some (d v)) (variables_of ps) ≡ true → list_any (is_taken_constant (symbols_of m)) (names_of ps) ≡ false → no_repeats name_eq (names_of ps) ≡ true
     → AreTakenAfter m (map defined (filter_map (λ p. option_map (Definition.constant p.0) (d p.1)) ps))
 listed-taken d defining [] m taken e new apart = tt
@@ -246,7 +253,8 @@ record PredicateFits (variables : List Name) (f : Term) : Type 0 where
   closed : is_closed f ≡ true
   names : are_type_variables_of variables f ≡ true
 
-fits-is : (variables : List Name) (o : Option (Term × Term)) (f u : Term) (x : Unit {0}) → predicate_fits variables o ≡ Ok x → o ≡ Some (f, u) → PredicateFits variables f
+fits-is : (variables : List Name) (o : Option (Term × Term)) (f u : Term) (x : Unit {0}) → predicate_fits variables o ≡ Ok x → o ≡ Some (f, u)
+    → PredicateFits variables f
 fits-is variables None f u x e is = absurd (cc)
 fits-is variables (Some parts) f u x e is =
     let a = passed (demand (is_closed parts.0) NotClosed) _ x e in
@@ -261,21 +269,25 @@ new-names symbols names x e =
     let c = or_parts _ _ b.0 in
     record { operator = c.0; abstraction = c.1; representation = b.1; apart = a.1 }
 
-used : (m : List Made) (names : TypeNames) (c : HolType) (f u p : Term) → p ≡ app f u → HasType u c → IsAmong (definitions_of m) (Definition.type_operator names c f) → AllByRecursion (IsAmong (definitions_of m)) (type_definition_in names p)
+used : (m : List Made) (names : TypeNames) (c : HolType) (f u p : Term) → p ≡ app f u → HasType u c
+    → IsAmong (definitions_of m) (Definition.type_operator names c f) → AllByRecursion (IsAmong (definitions_of m)) (type_definition_in names p)
 used m names c f u p is h k =
     subst (λ q. AllByRecursion (IsAmong (definitions_of m)) (type_definition_in names q)) (sym is)
     (subst (λ o. AllByRecursion (IsAmong (definitions_of m)) (option_to_list (option_map (λ c. Definition.type_operator names c f) o))) (sym h) (k, tt {0}))
 
 -- a law in an article of a version
-first_rule : (version : Version) (names : TypeNames) (c : HolType) (f : Term) (one : Sequent) → IsTypeDefinition names c f one → rule.Rule by_rule.FirstLaw (one ∷ []) (Parameters.type_operator names version) (first_law_of version names c)
+first_rule : (version : Version) (names : TypeNames) (c : HolType) (f : Term) (one : Sequent) → IsTypeDefinition names c f one
+    → rule.Rule by_rule.FirstLaw (one ∷ []) (Parameters.type_operator names version) (first_law_of version names c)
 first_rule Five names c f one d = rule.Rule.first_law_free d refl
 first_rule Six names c f one d = rule.Rule.first_law d refl
 
-second_rule : (version : Version) (names : TypeNames) (c : HolType) (f : Term) (one : Sequent) → IsTypeDefinition names c f one → rule.Rule by_rule.SecondLaw (one ∷ []) (Parameters.type_operator names version) (second_law_of version names c f)
+second_rule : (version : Version) (names : TypeNames) (c : HolType) (f : Term) (one : Sequent) → IsTypeDefinition names c f one
+    → rule.Rule by_rule.SecondLaw (one ∷ []) (Parameters.type_operator names version) (second_law_of version names c f)
 second_rule Five names c f one d = rule.Rule.second_law_free d refl
 second_rule Six names c f one d = rule.Rule.second_law d refl
 
-make_type-sound : (version : Version) (s t : State) (names : TypeNames) (i : ℕ) (c : HolType) (f u : Term) → IsSound s → i < length (steps_of s.made) → AreNew (symbols_of s.made) names → PredicateFits names.variables f
+make_type-sound : (version : Version) (s t : State) (names : TypeNames) (i : ℕ) (c : HolType) (f u : Term) → IsSound s → i < length (steps_of s.made)
+    → AreNew (symbols_of s.made) names → PredicateFits names.variables f
     → (sequent_at s.made i).hypotheses ≡ [] → (sequent_at s.made i).conclusion ≡ app f u → HasType u c → make_type version s names i c f ≡ Ok t → IsSound t
 make_type-sound version s t names i c f u g l new fit alone is typed e =
     let symbols = symbols_of s.made in
@@ -322,7 +334,8 @@ define_type-sound s t names i g l e =
     (application-is one.conclusion parts.0.0 parts.0.1 some) (typed-is parts.0.1 c.0 c.1) c.2
 
 -- the names that stand under the theorem
-names-popped : (s : State) (A : Type 0) (as_one : Object → Result A Kind) (xs : List Object) (r : A × List Object) → AllByRecursion (IsObject s.made) xs → pop as_one xs ≡ Ok r → AllByRecursion (IsObject s.made) r.1
+names-popped : (s : State) (A : Type 0) (as_one : Object → Result A Kind) (xs : List Object) (r : A × List Object) → AllByRecursion (IsObject s.made) xs
+    → pop as_one xs ≡ Ok r → AllByRecursion (IsObject s.made) r.1
 names-popped s A as_one xs r h e = (pop-gives s.made as_one (Anything s.made) (any-gives s.made as_one) xs r h e).1
 
 pub define_type_op-sound : (s t : State) → IsSound s → define_type_op s ≡ Ok t → IsSound t

@@ -58,7 +58,8 @@ pub record OnePopped (s : State) (i : ℕ) (below : List Object) : Type 0 where
   pub step : i < length (steps_of s.made)
   pub rest : AllByRecursion (IsObject s.made) below
 
-pub one_popped : (s : State) (stack : List Object) (r : ℕ × List Object) → AllByRecursion (IsObject s.made) stack → pop as_theorem stack ≡ Ok r → OnePopped s r.0 r.1
+pub one_popped : (s : State) (stack : List Object) (r : ℕ × List Object) → AllByRecursion (IsObject s.made) stack → pop as_theorem stack ≡ Ok r
+    → OnePopped s r.0 r.1
 one_popped s stack r h e = let k = pop-gives s.made as_theorem (IsStepNumber s.made) (theorem-gives s.made) stack r h e in record { step = k.0; rest = k.1 }
 
 -- what rests on no definition is no law of a type definition
@@ -68,7 +69,8 @@ no_definition names c f one d u =
     ap (λ o. option_to_list (option_map (λ b. Definition.type_operator names b f) o)) (sym d.typed) ∙ ap (type_definition_in names) (sym d.holds) ∙ u in
     absurd (cc)
 
-lawless : (before : List Made) (kind : StepKind) (ks : List ℕ) (ss : List Sequent) (p : Parameters) (s : Sequent) → Rule kind ss p s → definitions_used kind ss p ≡ [] → IsLawOfDefinition before kind ks p
+lawless : (before : List Made) (kind : StepKind) (ks : List ℕ) (ss : List Sequent) (p : Parameters) (s : Sequent) → Rule kind ss p s
+    → definitions_used kind ss p ≡ [] → IsLawOfDefinition before kind ks p
 lawless before kind ks ss p s (rule.Rule.refl h e) u = tt
 lawless before kind ks ss p s (rule.Rule.assume h e) u = tt
 lawless before kind ks ss p s (rule.Rule.eq_mp e f i) u = tt
@@ -94,19 +96,22 @@ module _ (s t : State) (g : IsSound s) (rest : List Object) (left : AllByRecursi
   left_over : IsSound (with_stack s rest)
   left_over = restacked s rest g left
 
-  on_none : (x : Step) → infers x.kind ≡ true → x.premises ≡ [] → Rule x.kind [] x.parameters x.sequent → definitions_used x.kind [] x.parameters ≡ [] → ParametersTaken (symbols_of s.made) x.parameters
+  on_none : (x : Step) → infers x.kind ≡ true → x.premises ≡ [] → Rule x.kind [] x.parameters x.sequent → definitions_used x.kind [] x.parameters ≡ []
+      → ParametersTaken (symbols_of s.made) x.parameters
       → conclude (with_stack s rest) x ≡ Ok t → IsSound t
   on_none x inference none r u p e =
       conclude-sound (with_stack s rest) t x left_over
       (record { premises = []; earlier = subst (λ ns. ArePremises (sequents_of s.made) ns []) (sym none) (tt {0}); rule = r; defined = subst (AllByRecursion (IsAmong (definitions_of s.made))) (sym u) (tt {0}); parameters = p; law = lawless s.made x.kind x.premises _ x.parameters x.sequent r u }) inference e
 
-  on_one : (x : Step) → infers x.kind ≡ true → (i : ℕ) → i < length (steps_of s.made) → x.premises ≡ i ∷ [] → Rule x.kind (sequent_at s.made i ∷ []) x.parameters x.sequent → definitions_used x.kind (sequent_at s.made i ∷ []) x.parameters ≡ []
+  on_one : (x : Step) → infers x.kind ≡ true → (i : ℕ) → i < length (steps_of s.made) → x.premises ≡ i ∷ []
+      → Rule x.kind (sequent_at s.made i ∷ []) x.parameters x.sequent → definitions_used x.kind (sequent_at s.made i ∷ []) x.parameters ≡ []
       → ParametersTaken (symbols_of s.made) x.parameters → conclude (with_stack s rest) x ≡ Ok t → IsSound t
   on_one x inference i l one r u p e =
       conclude-sound (with_stack s rest) t x left_over
       (record { premises = sequent_at s.made i ∷ []; earlier = subst (λ ns. ArePremises (sequents_of s.made) ns (sequent_at s.made i ∷ [])) (sym one) (at_step s.made i l, tt {0}); rule = r; defined = subst (AllByRecursion (IsAmong (definitions_of s.made))) (sym u) (tt {0}); parameters = p; law = lawless s.made x.kind x.premises _ x.parameters x.sequent r u }) inference e
 
-  on_two : (x : Step) → infers x.kind ≡ true → (i j : ℕ) → i < length (steps_of s.made) → j < length (steps_of s.made) → x.premises ≡ i ∷ j ∷ [] → Rule x.kind (sequent_at s.made i ∷ sequent_at s.made j ∷ []) x.parameters x.sequent
+  on_two : (x : Step) → infers x.kind ≡ true → (i j : ℕ) → i < length (steps_of s.made) → j < length (steps_of s.made) → x.premises ≡ i ∷ j ∷ []
+      → Rule x.kind (sequent_at s.made i ∷ sequent_at s.made j ∷ []) x.parameters x.sequent
       → definitions_used x.kind (sequent_at s.made i ∷ sequent_at s.made j ∷ []) x.parameters ≡ [] → ParametersTaken (symbols_of s.made) x.parameters → conclude (with_stack s rest) x ≡ Ok t → IsSound t
   on_two x inference i j l k two r u p e =
       conclude-sound (with_stack s rest) t x left_over

@@ -56,7 +56,8 @@ module _ (m : List Made) where
   theorem-gives (theorem i) a h e = let f : i ≡ a = cc in subst IsStepNumber f h
   theorem-gives x a h e = absurd (cc)
 
-  each-gives : {A : Type 0} (as_one : Object → Result A Kind) (P : A → Type 0) → Gives as_one P → (xs : Objects) (ys : List A) → AreObjects m xs → each as_one xs ≡ Ok ys → AllByRecursion P ys
+  each-gives : {A : Type 0} (as_one : Object → Result A Kind) (P : A → Type 0) → Gives as_one P → (xs : Objects) (ys : List A) → AreObjects m xs
+      → each as_one xs ≡ Ok ys → AllByRecursion P ys
   each-gives {A = A} as_one P f none ys h e = let g : [] ≡ ys = cc in subst (AllByRecursion P) g (tt {0})
   each-gives {A = A} as_one P f (more x xs) ys h e =
       let first = bound (as_one x) _ ys e in
@@ -72,7 +73,8 @@ module _ (m : List Made) where
       let xs = bound (as_list x) _ ys e in
       each-gives as_one P f xs.0 ys (list-gives x xs.0 h xs.1) xs.2
 
-  pub pair_of-gives : {A B : Type 0} (as_one : Object → Result A Kind) (as_two : Object → Result B Kind) (P : A → Type 0) (Q : B → Type 0) → Gives as_one P → Gives as_two Q → Gives (pair_of as_one as_two) (λ p. P p.0 × Q p.1)
+  pub pair_of-gives : {A B : Type 0} (as_one : Object → Result A Kind) (as_two : Object → Result B Kind) (P : A → Type 0) (Q : B → Type 0) → Gives as_one P
+      → Gives as_two Q → Gives (pair_of as_one as_two) (λ p. P p.0 × Q p.1)
   pair_of-gives {A = A} {B = B} as_one as_two P Q f g (list (more x (more y none))) p h e =
       let first = bound (as_one x) _ p e in
       let second = bound (as_two y) _ p first.2 in
@@ -108,7 +110,8 @@ module _ (m : List Made) where
   constant_pairs-gives = list_of-gives (pair_of as_name as_variable) IsConstantPair (pair_of-gives as_name as_variable Anything IsVariableObject (any-gives as_name) variable-gives)
 
   -- What stands on top has the property, and the rest is of objects.
-  pub pop-gives : {A : Type 0} (as_one : Object → Result A Kind) (P : A → Type 0) → Gives as_one P → (xs : List Object) (r : A × List Object) → AllByRecursion (IsObject m) xs → pop as_one xs ≡ Ok r → P r.0 × AllByRecursion (IsObject m) r.1
+  pub pop-gives : {A : Type 0} (as_one : Object → Result A Kind) (P : A → Type 0) → Gives as_one P → (xs : List Object) (r : A × List Object)
+      → AllByRecursion (IsObject m) xs → pop as_one xs ≡ Ok r → P r.0 × AllByRecursion (IsObject m) r.1
   pop-gives {A = A} as_one P f [] r h e = absurd (cc)
   pop-gives {A = A} as_one P f (x ∷ below) r h e =
       let top = bound (as_one x) _ r e in

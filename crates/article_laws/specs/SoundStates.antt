@@ -184,7 +184,8 @@ symbols-more (x ∷ xs) s g h =
     (made-more s (Made.symbol x) s.assumptions g h.0 h.1 (g.assumptions ∙ ap (assumed_from 0) (sym (steps_of-append s.made (Made.symbol x ∷ []) ∙ append-nil (steps_of s.made))))) h.2)
 
 -- a type operator is defined
-pub definition-more : (s : State) (names : TypeNames) (c : HolType) (f : Term) (i : ℕ) → IsSound s → IsDefinedBy s.made names c f i → SymbolTaken (symbols_of s.made) (Symbol.defined (Definition.type_operator names c f))
+pub definition-more : (s : State) (names : TypeNames) (c : HolType) (f : Term) (i : ℕ) → IsSound s → IsDefinedBy s.made names c f i
+    → SymbolTaken (symbols_of s.made) (Symbol.defined (Definition.type_operator names c f))
     → IsSound (with_type_definition s names c f i)
 definition-more s names c f i g h k =
     made-more s (Made.type_definition names c f i) s.assumptions g h k (g.assumptions ∙ ap (assumed_from 0) (sym (steps_of-append s.made (Made.type_definition names c f i ∷ []) ∙ append-nil (steps_of s.made))))
@@ -209,7 +210,8 @@ step-more s x assumptions g h within e =
     (e ∙ sym (ap (assumed_from 0) (steps_of-append s.made (Made.step x ∷ [])) ∙ assumed-next (steps_of s.made) x))
 
 -- a step that infers keeps the assumptions
-inferring : (s : State) (x : Step) → IsSound s → infers x.kind ≡ true → s.assumptions ≡ assumed_from 0 (steps_of s.made) ++ cond (infers x.kind) [] (next_step s ∷ [])
+inferring : (s : State) (x : Step) → IsSound s → infers x.kind ≡ true
+    → s.assumptions ≡ assumed_from 0 (steps_of s.made) ++ cond (infers x.kind) [] (next_step s ∷ [])
 inferring s x g i = g.assumptions ∙ sym (ap (λ b. assumed_from 0 (steps_of s.made) ++ cond b [] (next_step s ∷ [])) i ∙ append-nil (assumed_from 0 (steps_of s.made)))
 
 pub step-sound : (s : State) (x : Step) → IsSound s → IsNext s x → infers x.kind ≡ true → SequentWithin x.sequent → IsSound (with_step s x)
@@ -220,7 +222,8 @@ new-theorem s x =
     let long : length (steps_of (s.made ++ Made.step x ∷ [])) ≡ length (steps_of s.made) + 1 = ap length (steps_of-append s.made (Made.step x ∷ [])) ∙ length-append (steps_of s.made) (x ∷ []) in
     omega (arith, long)
 
-theorem-more : (s : State) (x : Step) (assumptions : List ℕ) → IsSound s → IsNext s x → SequentWithin x.sequent → assumptions ≡ assumed_from 0 (steps_of s.made) ++ cond (infers x.kind) [] (next_step s ∷ [])
+theorem-more : (s : State) (x : Step) (assumptions : List ℕ) → IsSound s → IsNext s x → SequentWithin x.sequent
+    → assumptions ≡ assumed_from 0 (steps_of s.made) ++ cond (infers x.kind) [] (next_step s ∷ [])
     → IsSound (record (with_theorem s x) { assumptions = assumptions })
 theorem-more s x assumptions g h within e =
     let m = step-more s x assumptions g h within e in

@@ -27,7 +27,8 @@ use Rattle.article_laws.specs.SoundOperands.{term-gives, terms-gives, theorem-gi
 use Rattle.article_laws.specs.SoundInference.{of_type}
 
 -- what is stated of truth values is a sequent, over what is taken
-stated-IsSequent : (conclusion : Term) (hypotheses : List Term) → list_all (is_of_type bool) (conclusion ∷ hypotheses) ≡ true → IsSequent (stated hypotheses conclusion)
+stated-IsSequent : (conclusion : Term) (hypotheses : List Term) → list_all (is_of_type bool) (conclusion ∷ hypotheses) ≡ true
+    → IsSequent (stated hypotheses conclusion)
 stated-IsSequent conclusion hypotheses e =
     let h = and_parts (is_of_type bool conclusion) (list_all (is_of_type bool) hypotheses) e in
     record {
@@ -36,7 +37,8 @@ stated-IsSequent conclusion hypotheses e =
       conclusion = of_type bool conclusion h.0;
     }
 
-stated-taken : (m : List Made) (conclusion : Term) (hypotheses : List Term) → IsTermObject m conclusion → AllByRecursion (IsTermObject m) hypotheses → TermsTaken (symbols_of m) (stated hypotheses conclusion)
+stated-taken : (m : List Made) (conclusion : Term) (hypotheses : List Term) → IsTermObject m conclusion → AllByRecursion (IsTermObject m) hypotheses
+    → TermsTaken (symbols_of m) (stated hypotheses conclusion)
 stated-taken m conclusion hypotheses c hs = record {
   hypotheses = union-All (TermTaken (symbols_of m)) term_eq hypotheses [] (tt {0}) (All-weaker (IsTermObject m) (TermTaken (symbols_of m)) (λ t h. h.taken) hypotheses hs);
   conclusion = c.taken;
@@ -70,12 +72,14 @@ first-passes p xs ys i e = go (find p xs) refl e
     go (Some j) q e = find-passes p xs i (q ∙ e)
 
 -- a restatement of a step follows
-restated : (s : State) (i : ℕ) (sequent : Sequent) → IsSequent sequent → within (sequent_at s.made i) sequent ≡ true → TermsTaken (symbols_of s.made) sequent → IsNext s (restatement i sequent)
+restated : (s : State) (i : ℕ) (sequent : Sequent) → IsSequent sequent → within (sequent_at s.made i) sequent ≡ true → TermsTaken (symbols_of s.made) sequent
+    → IsNext s (restatement i sequent)
 restated s i sequent is w t =
     let l = early s.made i sequent is.conclusion w in
     record { premises = sequent_at s.made i ∷ []; earlier = (at_step s.made i l, tt {0}); rule = rule.Rule.restate is w; defined = tt {0}; parameters = t; law = tt {0} }
 
-met : (s t : State) (sequent : Sequent) (o : Option ℕ) → IsSound s → IsSequent sequent → TermsTaken (symbols_of s.made) sequent → ((i : ℕ) → o ≡ Some i → within (sequent_at s.made i) sequent ≡ true)
+met : (s t : State) (sequent : Sequent) (o : Option ℕ) → IsSound s → IsSequent sequent → TermsTaken (symbols_of s.made) sequent
+    → ((i : ℕ) → o ≡ Some i → within (sequent_at s.made i) sequent ≡ true)
     → assume_or_meet s sequent o ≡ Ok t → IsSound t
 met s t sequent (Some i) g is taken f e = conclude-sound s t (restatement i sequent) g (restated s i sequent is (f i refl) taken) refl e
 met s t sequent None g is taken f e =
@@ -95,7 +99,8 @@ axiom-sound s t g e =
     (stated-taken s.made conclusion.0.0 hypotheses.0.0 h.0 k.0)
     (λ i f. (and_parts (within (sequent_at s.made i) sequent) (within sequent (sequent_at s.made i)) (first-passes known s.pool s.assumptions i f)).0) bools.2
 
-exported : (s t : State) (i : ℕ) (sequent : Sequent) (o : Option ℕ) → IsSound s → IsSequent sequent → within (sequent_at s.made i) sequent ≡ true → TermsTaken (symbols_of s.made) sequent → export s i sequent o ≡ Ok t → IsSound t
+exported : (s t : State) (i : ℕ) (sequent : Sequent) (o : Option ℕ) → IsSound s → IsSequent sequent → within (sequent_at s.made i) sequent ≡ true
+    → TermsTaken (symbols_of s.made) sequent → export s i sequent o ≡ Ok t → IsSound t
 exported s t i sequent (Some j) g is w taken e = answered s t e g
 exported s t i sequent None g is w taken e =
     let l = passed (sequent_in_limits sequent) _ t e in

@@ -1,13 +1,13 @@
 -- Every command keeps a state sound, and so does the end of an article.
-use Rattle.std.proofs.Common.{◌≡◌, ℕ, suc, ◌+◌, ◌<◌, ◌≤◌, ℤ, List, [], ◌∷◌, length, Result, Ok, Err, None, Some, refl, sym, ap, subst, ◌∙◌, arith}
-use Rattle.std.specs.Prelude.{pos, drop}
+use Rattle.std.proofs.Common.{◌≡◌, ℕ, suc, ◌+◌, ◌<◌, ◌≤◌, ℤ, List, [], ◌∷◌, length, Result, Ok, Err, None, Some, refl, sym, ap, subst, ◌∙◌, arith, inl, inr}
+use Rattle.std.specs.Prelude.{drop}
 use Rattle.std.specs.List.{AllByRecursion}
-use Rattle.std.specs.Ordering.{int_eq, int_cmp}
+use Rattle.std.specs.Ordering.{int_cmp}
 use Rattle.std.specs.FinMap as entries
 use Rattle.article_spec.specs.Ascending.{Ascend}
 use Rattle.bridge_base.specs.declared.faults.Kind.{Kind}
 use Rattle.hol_spec.specs.declared.Version.{Version}
-use Rattle.hol_spec.specs.declared.Version.TheVariants.{Five}
+use Rattle.hol_spec.specs.declared.Version.TheVariants.{Five, Six}
 use Rattle.article_spec.specs.declared.commands.Command.{Command}
 use Rattle.article_spec.specs.declared.commands.Item.{Item}
 use Rattle.article_spec.specs.declared.commands.Item.TheVariants as item
@@ -21,12 +21,12 @@ use Rattle.proof_laws.specs.ProofGrowth.{All-get}
 use Rattle.proof_laws.specs.StepsDerive.{proof-derives}
 use Rattle.article_spec.specs.Lines.{End, ended, refused}
 use Rattle.article_spec.specs.State.{Object, State, Place, start, version, body, initial}
-use Rattle.article_spec.specs.Conditions.{demand}
 use Rattle.article_spec.specs.Step.{obey, in_body, obey_item, second_word, step_at, step, finish}
 use Rattle.article_spec.specs.Run.{Obeys, machine, at_line, obey_all, end_article, obey_article, accepted_state, Outcome, accepted, refused_at, RunsFrom, finished, passed, stopped}
+use Rattle.article_laws.specs.SecondWords.{second_word-cases}
 use Rattle.article_laws.specs.Soundness.{IsObject, IsSound}
 use Rattle.article_spec.specs.SoundRuns.{assumed_from, IsDerived, IsSoundRun, RunsAreSound}
-use Rattle.article_laws.specs.SoundStates.{bound, answered, at_step, restacked}
+use Rattle.article_laws.specs.SoundStates.{bound, answered, at_step}
 use Rattle.article_laws.specs.SoundStates as sound
 use Rattle.article_laws.specs.SoundBuilding.{nil-sound, cons-sound, hd_tl-sound, type_op-sound, var_type-sound, op_type-sound, const-sound, const_term-sound, var-sound, var_term-sound, app_term-sound, abs_term-sound, def-sound, ref-sound, remove-sound, drop_object-sound}
 use Rattle.article_laws.specs.SoundInference.{refl-sound, assume-sound, eq_mp-sound, abs_thm-sound, app_thm-sound, deduct_antisym-sound, beta_conv-sound, sym-sound, trans-sound, prove_hyp-sound, subst-sound}
@@ -94,40 +94,10 @@ obey_item-sound s t (item.Name n) g e = placed s _ t e g refl refl refl refl (tt
 obey_item-sound s t (item.Word w) g e = obey-sound s t w g e
 
 second_word-sound : (s t : State) (w : Word) → IsSound s → second_word s w ≡ Ok t → IsSound t
-second_word-sound s t word.Version g e = placed s _ t e g refl refl refl refl (dropped s.made s.stack g.stack)
-second_word-sound s t word.Nil g e = obey-sound (in_body Five s) t word.Nil (in_body-sound Five s g) e
-second_word-sound s t word.Cons g e = obey-sound (in_body Five s) t word.Cons (in_body-sound Five s g) e
-second_word-sound s t word.HdTl g e = obey-sound (in_body Five s) t word.HdTl (in_body-sound Five s g) e
-second_word-sound s t word.TypeOp g e = obey-sound (in_body Five s) t word.TypeOp (in_body-sound Five s g) e
-second_word-sound s t word.VarType g e = obey-sound (in_body Five s) t word.VarType (in_body-sound Five s g) e
-second_word-sound s t word.OpType g e = obey-sound (in_body Five s) t word.OpType (in_body-sound Five s g) e
-second_word-sound s t word.Const g e = obey-sound (in_body Five s) t word.Const (in_body-sound Five s g) e
-second_word-sound s t word.ConstTerm g e = obey-sound (in_body Five s) t word.ConstTerm (in_body-sound Five s g) e
-second_word-sound s t word.Var g e = obey-sound (in_body Five s) t word.Var (in_body-sound Five s g) e
-second_word-sound s t word.VarTerm g e = obey-sound (in_body Five s) t word.VarTerm (in_body-sound Five s g) e
-second_word-sound s t word.AppTerm g e = obey-sound (in_body Five s) t word.AppTerm (in_body-sound Five s g) e
-second_word-sound s t word.AbsTerm g e = obey-sound (in_body Five s) t word.AbsTerm (in_body-sound Five s g) e
-second_word-sound s t word.Def g e = obey-sound (in_body Five s) t word.Def (in_body-sound Five s g) e
-second_word-sound s t word.Ref g e = obey-sound (in_body Five s) t word.Ref (in_body-sound Five s g) e
-second_word-sound s t word.Remove g e = obey-sound (in_body Five s) t word.Remove (in_body-sound Five s g) e
-second_word-sound s t word.Pop g e = obey-sound (in_body Five s) t word.Pop (in_body-sound Five s g) e
-second_word-sound s t word.Pragma g e = obey-sound (in_body Five s) t word.Pragma (in_body-sound Five s g) e
-second_word-sound s t word.Refl g e = obey-sound (in_body Five s) t word.Refl (in_body-sound Five s g) e
-second_word-sound s t word.Assume g e = obey-sound (in_body Five s) t word.Assume (in_body-sound Five s g) e
-second_word-sound s t word.EqMp g e = obey-sound (in_body Five s) t word.EqMp (in_body-sound Five s g) e
-second_word-sound s t word.AbsThm g e = obey-sound (in_body Five s) t word.AbsThm (in_body-sound Five s g) e
-second_word-sound s t word.AppThm g e = obey-sound (in_body Five s) t word.AppThm (in_body-sound Five s g) e
-second_word-sound s t word.DeductAntisym g e = obey-sound (in_body Five s) t word.DeductAntisym (in_body-sound Five s g) e
-second_word-sound s t word.BetaConv g e = obey-sound (in_body Five s) t word.BetaConv (in_body-sound Five s g) e
-second_word-sound s t word.Sym g e = obey-sound (in_body Five s) t word.Sym (in_body-sound Five s g) e
-second_word-sound s t word.Trans g e = obey-sound (in_body Five s) t word.Trans (in_body-sound Five s g) e
-second_word-sound s t word.ProveHyp g e = obey-sound (in_body Five s) t word.ProveHyp (in_body-sound Five s g) e
-second_word-sound s t word.Subst g e = obey-sound (in_body Five s) t word.Subst (in_body-sound Five s g) e
-second_word-sound s t word.DefineConst g e = obey-sound (in_body Five s) t word.DefineConst (in_body-sound Five s g) e
-second_word-sound s t word.DefineConstList g e = obey-sound (in_body Five s) t word.DefineConstList (in_body-sound Five s g) e
-second_word-sound s t word.DefineTypeOp g e = obey-sound (in_body Five s) t word.DefineTypeOp (in_body-sound Five s g) e
-second_word-sound s t word.Axiom g e = obey-sound (in_body Five s) t word.Axiom (in_body-sound Five s g) e
-second_word-sound s t word.Thm g e = obey-sound (in_body Five s) t word.Thm (in_body-sound Five s g) e
+second_word-sound s t w g e = elim (second_word-cases s w) [
+  | inl f ↦ placed s (record s { stack = drop 1 s.stack; place = body Six }) t (let k : second_word s word.Version ≡ Ok t = ap (second_word s) (sym f) ∙ e in k) g refl refl refl refl (dropped s.made s.stack g.stack)
+  | inr f ↦ obey-sound (in_body Five s) t w (in_body-sound Five s g) (sym f ∙ e)
+]
 
 step_at-sound : (s t : State) (p : Place) (i : Item) → IsSound s → step_at p s i ≡ Ok t → IsSound t
 step_at-sound s t (start v) (item.Number z) g e = placed s _ t e g refl refl refl refl (tt {0}, g.stack)
@@ -180,7 +150,8 @@ module _ (by : Obeys) (P : State → Type 0) (keeps : Keeps by P) where
       let last = bound (obey_all by s commands) _ t e in
       end_article-keeps end last.0 t (obey_all-keeps commands s last.0 h last.1) last.2
 
-  pub runs-have : (Q : Accepted → Type 0) → ((s : State) → P s → Q (accepted_state s)) → (k : ℕ) (s : State) (articles : List (List ℕ)) (o : Outcome) (a : Accepted) → P s → o ≡ accepted a → RunsFrom by k s articles o → Q a
+  pub runs-have : (Q : Accepted → Type 0) → ((s : State) → P s → Q (accepted_state s))
+      → (k : ℕ) (s : State) (articles : List (List ℕ)) (o : Outcome) (a : Accepted) → P s → o ≡ accepted a → RunsFrom by k s articles o → Q a
   unfolding the_accepted
   runs-have Q gives k s [] o a h e (finished f) = subst Q (ap (the_accepted a) (sym f ∙ e)) (gives s h)
   runs-have Q gives k s (bytes ∷ rest) o a h e (passed {next = t} {commands = cs} {end = x} l p r) = runs-have Q gives (k + 1) t rest o a (obey_article-keeps s t cs x h p) e r

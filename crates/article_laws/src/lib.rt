@@ -8,6 +8,8 @@
 //! | `RunLaws` | each list of articles has exactly one outcome, by whatever way they are obeyed |
 //! | `Soundness` | what is true of every state of a run |
 //! | `SoundStates`, `SoundOperands`, `SoundInputs`, `SoundBuilding`, `SoundInference`, `SoundDefining`, `SoundStating`, `SoundSteps` | each word keeps it, so that all that a run says derives |
+//! | `Inferred` | each word of a rule concludes a step over the rest of the stack, and so keeps what such a step keeps |
+//! | `SecondWords` | a word as the second command is `version`, or stands in the body of an article of version 5 |
 //! | `PlacesKept` | a word of the body leaves the place of the machine |
 //! | `NoPhantoms` | the refusal of a term without a type never comes |
 //! | `StateLaws` | the codes of objects and states, for models whose values they are |

@@ -1,5 +1,5 @@
 -- The version that the machine keeps at the end of an article is that of its text.
-use Rattle.std.proofs.Common.{◌≡◌, ℕ, Bool, true, false, cond, pos, List, [], ◌∷◌, map, Result, Ok, Err, refl, sym, ap, subst, ◌∙◌, inl, inr, ◌⊎◌}
+use Rattle.std.proofs.Common.{◌≡◌, Bool, true, false, cond, pos, List, [], ◌∷◌, map, Result, Ok, refl, sym, ap, subst, ◌∙◌, inl, inr}
 use Rattle.std.specs.Ordering.{int_eq}
 use Rattle.bridge_base.specs.declared.faults.Kind.{Kind}
 use Rattle.hol_spec.specs.declared.Version.{Version}
@@ -10,10 +10,11 @@ use Rattle.article_spec.specs.declared.commands.Item.TheVariants as item
 use Rattle.article_spec.specs.declared.commands.Word.{Word}
 use Rattle.article_spec.specs.declared.commands.Word.TheVariants as word
 use Rattle.article_spec.specs.Lines.{End, ended, refused}
-use Rattle.article_spec.specs.State.{State, Place, start, version, body, version_at}
+use Rattle.article_spec.specs.State.{State, start, version, body, version_at}
 use Rattle.article_spec.specs.Step.{obey, obey_item, in_body, second_word, step_at, step, finish}
 use Rattle.article_spec.specs.Run.{machine, at_line, obey_all, end_article, obey_article}
 use Rattle.article_laws.specs.PlacesKept.{obey-keeps}
+use Rattle.article_laws.specs.SecondWords.{second_word-cases}
 use Rattle.article_laws.specs.SoundStates.{bound}
 use Rattle.article_laws.specs.SoundSteps.{on_line}
 use Rattle.writing_spec.specs.Versions.{version_of}
@@ -51,11 +52,7 @@ other-number : (z : _) (items : List Item) → int_eq z (pos 6) ≡ false → ve
 other-number z (item.Word word.Version ∷ items) e = rw e refl
 other-number z items e = refl
 
--- a second word that isn't `version` stands in the body
-second-word : (s : State) (w : Word) → (w ≡ word.Version) ⊎ (second_word s w ≡ obey (in_body Five s) w)
-second-word s word.Version = inl refl
-second-word s w = inr refl
-
+-- nor does a second word that isn't `version`
 no-version : (z : _) (w : Word) (items : List Item) (s : State) → second_word s w ≡ obey (in_body Five s) w → (next : State) → second_word s w ≡ Ok next → version_of (item.Number z ∷ item.Word w ∷ items) ≡ Five
 no-version z word.Version items s e next f = absurd (let g : obey (in_body Five s) word.Version ≡ Ok next = sym e ∙ f in cc)
 no-version z w items s e next f = refl
@@ -71,7 +68,7 @@ after-six z (c ∷ cs) s t six h e =
     go : (i : Item) (next : State) → step_at version s i ≡ Ok next → obey_all machine next cs ≡ Ok t → version_at t.place ≡ version_of (item.Number z ∷ i ∷ map (λ c. c.item) cs)
     go (item.Number y) next one more = in-body cs Five next t (first-body (item.Number y) s next one) more
     go (item.Name n) next one more = in-body cs Five next t (first-body (item.Name n) s next one) more
-    go (item.Word w) next one more = elim (second-word s w) [
+    go (item.Word w) next one more = elim (second_word-cases s w) [
       | inl is ↦ subst (λ u. version_at t.place ≡ version_of (item.Number z ∷ item.Word u ∷ map (λ c. c.item) cs)) (sym is) (
           let said : second_word s word.Version ≡ Ok next = ap (second_word s) (sym is) ∙ one in
           let place : next.place ≡ body Six = same _ said refl in

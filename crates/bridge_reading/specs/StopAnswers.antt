@@ -35,7 +35,8 @@ module _ (names : List (List ℕ)) (shelf : Shelved) where
   stop-AnswersArticle stop.Memory h f = (refl, refl)
 
 -- the files that were begun are those of the answer
-pub stop-BeginsFiles : (s : Stop) (before now : Option (List (List ℕ))) (names : List (List ℕ)) → StopsBegun s before names now → BeginsFront before names now → BeginsFiles (status_of (answer_of_stop s)) before names now
+pub stop-BeginsFiles : (s : Stop) (before now : Option (List (List ℕ))) (names : List (List ℕ)) → StopsBegun s before names now → BeginsFront before names now
+    → BeginsFiles (status_of (answer_of_stop s)) before names now
 stop-BeginsFiles (stop.Refused article line kind) before now names first front = first
 stop-BeginsFiles stop.ReadFault before now names first front = front
 stop-BeginsFiles stop.Memory before now names first front = front

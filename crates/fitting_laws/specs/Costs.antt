@@ -32,7 +32,8 @@ spread_after-products before (u ∷ us) args (d ∷ ds) f x e =
     let first = ap size (put_all-after before d) in
     omega (arith, moved, first)
 
-pub spread-products : (us args ds : List Tree) (f x : Tree) → length us ≡ length ds → spread (us ++ args) (products ds (App f x)) ≡ domain_sizes Var ds us + size (sub (after Var us) (App f x))
+pub spread-products : (us args ds : List Tree) (f x : Tree) → length us ≡ length ds
+    → spread (us ++ args) (products ds (App f x)) ≡ domain_sizes Var ds us + size (sub (after Var us) (App f x))
 spread-products us args ds f x e = spread_after-products [] us args ds f x e
 
 -- an operator's type spreads as its arguments are many

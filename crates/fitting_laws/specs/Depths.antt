@@ -35,6 +35,7 @@ pub products-depth : (domains : List Tree) (t : Tree) (d : ℕ) → AreShallowTr
 products-depth [] t d h k = omega (arith, k)
 products-depth (a ∷ rest) t d h k = let below = products-depth rest t d h.1 k in omega (arith, below, h.0)
 
-pub abstractions-depth : (domains : List Tree) (t : Tree) (d : ℕ) → AreShallowTrees d domains → depth t ≤ d → depth (abstractions domains t) ≤ length domains + d
+pub abstractions-depth : (domains : List Tree) (t : Tree) (d : ℕ) → AreShallowTrees d domains → depth t ≤ d
+    → depth (abstractions domains t) ≤ length domains + d
 abstractions-depth [] t d h k = omega (arith, k)
 abstractions-depth (a ∷ rest) t d h k = let below = abstractions-depth rest t d h.1 k in omega (arith, below, h.0)

@@ -47,7 +47,8 @@ few-distinct ms ns h =
     (All-at (IsIn ns) ms q h (IsIn-distinct_of name_eq name_eq-Decides ms q (is_in-IsIn name_eq name_eq-Decides (distinct name_eq ms) q k)))))
 
 -- the type of a term is at most twice as large, beside the binders' types
-type_under-size : (d : ℕ) (binders : List HolType) → ((k : ℕ) (a : HolType) → slice_get binders k ≡ Some a → type_size a ≤ d) → (t : Term) (a : HolType) → type_under binders t ≡ Some a → type_size a ≤ 2 * term_size t + d
+type_under-size : (d : ℕ) (binders : List HolType) → ((k : ℕ) (a : HolType) → slice_get binders k ≡ Some a → type_size a ≤ d) → (t : Term) (a : HolType)
+    → type_under binders t ≡ Some a → type_size a ≤ 2 * term_size t + d
 type_under-size d binders b (free n t) a e = let same = ap type_size (same_Some _ _ e) in omega (arith, same)
 type_under-size d binders b (bound k) a e = let h = b k a e in omega (arith, h)
 type_under-size d binders b (constant n t) a e = let same = ap type_size (same_Some _ _ e) in omega (arith, same)
@@ -61,7 +62,8 @@ type_under-size d binders b (lam t c) a e =
     let same = ap type_size p.1.1 in
     omega (arith, h, same)
   where
-    under : (t : HolType) → ((k : ℕ) (a : HolType) → slice_get binders k ≡ Some a → type_size a ≤ d) → (k : ℕ) (a : HolType) → slice_get (t ∷ binders) k ≡ Some a → type_size a ≤ d + type_size t
+    under : (t : HolType) → ((k : ℕ) (a : HolType) → slice_get binders k ≡ Some a → type_size a ≤ d) → (k : ℕ) (a : HolType)
+        → slice_get (t ∷ binders) k ≡ Some a → type_size a ≤ d + type_size t
     under t b zero a e = let same = ap type_size (same_Some _ _ e) in omega (arith, same)
     under t b (suc k) a e = let h = b k a e in omega (arith, h)
 
@@ -70,7 +72,8 @@ HasType-size t a e = let h = type_under-size 0 [] (λ k b f. absurd (cc)) t a e 
 
 -- the type of a term has no other type variables
 module _ (P : Name → Type 0) where
-  type_under-variables : (binders : List HolType) → ((k : ℕ) (a : HolType) → slice_get binders k ≡ Some a → AllByRecursion P (variable_places a)) → (t : Term) (a : HolType) → AllByRecursion P (type_variable_places t) → type_under binders t ≡ Some a → AllByRecursion P (variable_places a)
+  type_under-variables : (binders : List HolType) → ((k : ℕ) (a : HolType) → slice_get binders k ≡ Some a → AllByRecursion P (variable_places a))
+      → (t : Term) (a : HolType) → AllByRecursion P (type_variable_places t) → type_under binders t ≡ Some a → AllByRecursion P (variable_places a)
   type_under-variables binders b (free n t) a h e = subst (λ u. AllByRecursion P (variable_places u)) (same_Some _ _ e) h
   type_under-variables binders b (bound k) a h e = b k a e
   type_under-variables binders b (constant n t) a h e = subst (λ u. AllByRecursion P (variable_places u)) (same_Some _ _ e) h
@@ -84,7 +87,9 @@ module _ (P : Name → Type 0) where
       let k = type_under-variables (t ∷ binders) (under t own b) c p.0 (All-right P (variable_places t) (type_variable_places c) h) p.1.0 in
       subst (λ u. AllByRecursion P (variable_places u)) (sym p.1.1) (All-append P (variable_places t) (variable_places p.0 ++ []) own (All-append P (variable_places p.0) [] k (tt {0})))
     where
-      under : (t : HolType) → AllByRecursion P (variable_places t) → ((k : ℕ) (a : HolType) → slice_get binders k ≡ Some a → AllByRecursion P (variable_places a)) → (k : ℕ) (a : HolType) → slice_get (t ∷ binders) k ≡ Some a → AllByRecursion P (variable_places a)
+      under : (t : HolType) → AllByRecursion P (variable_places t)
+          → ((k : ℕ) (a : HolType) → slice_get binders k ≡ Some a → AllByRecursion P (variable_places a)) → (k : ℕ) (a : HolType)
+          → slice_get (t ∷ binders) k ≡ Some a → AllByRecursion P (variable_places a)
       under t own b zero a e = subst (λ u. AllByRecursion P (variable_places u)) (same_Some _ _ e) own
       under t own b (suc k) a e = b k a e
 

@@ -111,7 +111,8 @@ numbered-within : (named : Content → List ℕ) (i : ℕ) (cs : List Content) �
 numbered-within named i [] h = tt
 numbered-within named i (c ∷ cs) h = (h.0, numbered-within named (i + 1) cs h.1)
 
-items-within : (named : Naming) (before : List Item) (made : List Made) → AreItemsWithin before → AreWithin made → AreItemsWithin (items_after named before made)
+items-within : (named : Naming) (before : List Item) (made : List Made) → AreItemsWithin before → AreWithin made
+    → AreItemsWithin (items_after named before made)
 items-within named before [] h w = h
 items-within named before (x ∷ xs) h w =
     let new = numbered (named (length (said_by before)) x) (length before) (contents before x) in
@@ -202,7 +203,8 @@ first-few n (x ∷ xs) h = go (is_constant n x.content) (own x.content h.0) (fir
     own (unproved s) h = omega arith
     own (step kind js premises given s) h = omega arith
 
-    go : (b : Bool) → length (type_variables (generic_of x.content)) ≤ greatest_parameter_count → length (type_variables (first_type (is_constant n) xs)) ≤ greatest_parameter_count
+    go : (b : Bool) → length (type_variables (generic_of x.content)) ≤ greatest_parameter_count
+        → length (type_variables (first_type (is_constant n) xs)) ≤ greatest_parameter_count
         → length (type_variables (cond b (generic_of x.content) (first_type (is_constant n) xs))) ≤ greatest_parameter_count
     go true k l = k
     go false k l = l

@@ -16,13 +16,15 @@ module _ (m : List Declaration) (c : ℕ) where
       let j = size-lift 0 x in
       omega (arith, h, k, i, j)
 
-  pub eq_mp-cost : (p q h k : Tree) → cost m [] p ≤ c → cost m [] q ≤ c → cost m [] (applied (Sym eq_mp_symbol) (p ∷ q ∷ h ∷ k ∷ [])) ≤ 10 * c + 100 + cost m [] h + cost m [] k
+  pub eq_mp-cost : (p q h k : Tree) → cost m [] p ≤ c → cost m [] q ≤ c
+      → cost m [] (applied (Sym eq_mp_symbol) (p ∷ q ∷ h ∷ k ∷ [])) ≤ 10 * c + 100 + cost m [] h + cost m [] k
   eq_mp-cost p q h k i j =
       let a = size-lift 0 p in
       let b = size-lift 0 q in
       omega (arith, i, j, a, b)
 
-  pub prop_ext-cost : (p q h k : Tree) → cost m [] p ≤ c → cost m [] q ≤ c → cost m [] (applied (Sym prop_ext_symbol) (p ∷ q ∷ h ∷ k ∷ [])) ≤ 10 * c + 100 + cost m [] h + cost m [] k
+  pub prop_ext-cost : (p q h k : Tree) → cost m [] p ≤ c → cost m [] q ≤ c
+      → cost m [] (applied (Sym prop_ext_symbol) (p ∷ q ∷ h ∷ k ∷ [])) ≤ 10 * c + 100 + cost m [] h + cost m [] k
   prop_ext-cost p q h k i j =
       let a = size-lift 0 p in
       let b = size-lift 0 q in
@@ -30,7 +32,8 @@ module _ (m : List Declaration) (c : ℕ) where
       let e = size-lift 1 q in
       omega (arith, i, j, a, b, d, e)
 
-  pub fun_ext-cost : (a b f g h : Tree) → cost m [] a ≤ c → cost m [] b ≤ c → cost m [] f ≤ c → cost m [] g ≤ c → cost m [] (applied (Sym fun_ext_symbol) (a ∷ b ∷ f ∷ g ∷ h ∷ [])) ≤ 20 * c + 100 + cost m [] h
+  pub fun_ext-cost : (a b f g h : Tree) → cost m [] a ≤ c → cost m [] b ≤ c → cost m [] f ≤ c → cost m [] g ≤ c
+      → cost m [] (applied (Sym fun_ext_symbol) (a ∷ b ∷ f ∷ g ∷ h ∷ [])) ≤ 20 * c + 100 + cost m [] h
   fun_ext-cost a b f g h i j k l =
       let a0 = size-lift 0 a in
       let b0 = size-lift 0 b in
@@ -98,7 +101,8 @@ module _ (m : List Declaration) (c : ℕ) where
       let h0 = size-lift 0 h in
       omega (arith, l, i, j, k, a0, p0, w0, h0, x0)
 
-  pub sym-cost : HasLemmas m → (a x y h : Tree) → cost m [] a ≤ c → cost m [] x ≤ c → cost m [] y ≤ c → cost m [] (applied (Sym sym_symbol) (a ∷ x ∷ y ∷ h ∷ [])) ≤ 20 * c + 100 + cost m [] h
+  pub sym-cost : HasLemmas m → (a x y h : Tree) → cost m [] a ≤ c → cost m [] x ≤ c → cost m [] y ≤ c
+      → cost m [] (applied (Sym sym_symbol) (a ∷ x ∷ y ∷ h ∷ [])) ≤ 20 * c + 100 + cost m [] h
   sym-cost lemmas a x y h ha hx hy =
       let a0 = size-lift 0 a in
       let x0 = size-lift 0 x in

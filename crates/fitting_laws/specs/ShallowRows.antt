@@ -86,7 +86,8 @@ pub record AreShallowArguments (d : ℕ) (scope : Scope) (s : Sequent) : Type 0 
   pub terms : AllByRecursion (λ v. depth (scope.terms v) ≤ d) (free_variables_of s)
   pub proofs : AllByRecursion (λ h. depth (scope.proofs h) ≤ d) s.hypotheses
 
-pub theorem_tree-depth : (d : ℕ) (scope : Scope) (k : ℕ) (s : Sequent) → 1 ≤ d → SequentWithin s → AreShallowArguments d scope s → depth (theorem_tree scope k s) ≤ d + greatest_parameter_count
+pub theorem_tree-depth : (d : ℕ) (scope : Scope) (k : ℕ) (s : Sequent) → 1 ≤ d → SequentWithin s → AreShallowArguments d scope s
+    → depth (theorem_tree scope k s) ≤ d + greatest_parameter_count
 theorem_tree-depth d scope k s l within h =
     let ts = map scope.types (type_variables_of s) in
     let us = map scope.terms (free_variables_of s) in
@@ -104,7 +105,8 @@ theorem_tree-depth d scope k s l within h =
     omega (arith, whole, one, two, three, four, five, most)
 
 -- a type definition's type
-pub part-shallow : (names : TypeNames) (c : HolType) (f : Term) (one : Sequent) → IsTypeDefinition names c f one → term_depth one.conclusion ≤ greatest_depth → type_depth c ≤ 3 * greatest_depth
+pub part-shallow : (names : TypeNames) (c : HolType) (f : Term) (one : Sequent) → IsTypeDefinition names c f one → term_depth one.conclusion ≤ greatest_depth
+    → type_depth c ≤ 3 * greatest_depth
 part-shallow names c f one d l = let same = ap term_depth d.holds in HasType-depth greatest_depth d.witness c (omega (arith, same, l)) d.typed
 
 pub every : {A : Type 0} (P : A → Type 0) → ((x : A) → P x) → (xs : List A) → AllByRecursion P xs
@@ -164,7 +166,8 @@ module _ (symbols : Symbols) (few : HasFewArguments symbols) where
       let l = type_tree-depth symbols scope.types h.types v.1 in
       (omega (arith, l, k.0), term_domains-depth vs (under_term v scope) (under_term-shallow v scope h) k.1)
 
-  proof_domains-depth : (hs : List Term) (scope : Scope) → IsShallowScope scope → AreShallowTerms greatest_depth hs → AreShallowTrees deepest_term (proof_domains symbols hs scope)
+  proof_domains-depth : (hs : List Term) (scope : Scope) → IsShallowScope scope → AreShallowTerms greatest_depth hs
+      → AreShallowTrees deepest_term (proof_domains symbols hs scope)
   proof_domains-depth [] scope h k = tt
   proof_domains-depth (g ∷ gs) scope h k =
       let l = term_tree-depth symbols few scope h g in
@@ -198,7 +201,8 @@ module _ (symbols : Symbols) (few : HasFewArguments symbols) where
     refl-depth : (a : HolType) (t : Term) → type_depth a ≤ greatest_depth → term_depth t ≤ greatest_depth → depth (refl_tree symbols scope a t) ≤ deepest_proof
     refl-depth a t k l = let b = ty-depth a greatest_depth k in let u = tm-depth t l in omega (arith, b, u)
 
-    eq_mp-depth : (p q : Term) (one two : Premise) → term_depth p ≤ greatest_depth → term_depth q ≤ greatest_depth → SequentWithin one.1 → SequentWithin two.1 → depth (eq_mp_tree symbols scope p q one two) ≤ deepest_proof
+    eq_mp-depth : (p q : Term) (one two : Premise) → term_depth p ≤ greatest_depth → term_depth q ≤ greatest_depth → SequentWithin one.1 → SequentWithin two.1
+        → depth (eq_mp_tree symbols scope p q one two) ≤ deepest_proof
     eq_mp-depth p q one two k l v w =
         let a = tm-depth p k in
         let b = tm-depth q l in
@@ -206,7 +210,8 @@ module _ (symbols : Symbols) (few : HasFewArguments symbols) where
         let d = premise-depth scope h two w in
         omega (arith, a, b, c, d)
 
-    app_thm-depth : (a b : HolType) (f g x y : Term) (one two : Premise) → type_depth a ≤ greatest_depth → type_depth b ≤ greatest_depth → term_depth f ≤ greatest_depth → term_depth g ≤ greatest_depth → term_depth x ≤ greatest_depth → term_depth y ≤ greatest_depth
+    app_thm-depth : (a b : HolType) (f g x y : Term) (one two : Premise) → type_depth a ≤ greatest_depth → type_depth b ≤ greatest_depth
+        → term_depth f ≤ greatest_depth → term_depth g ≤ greatest_depth → term_depth x ≤ greatest_depth → term_depth y ≤ greatest_depth
         → SequentWithin one.1 → SequentWithin two.1 → depth (app_thm_tree symbols scope a b f g x y one two) ≤ deepest_proof
     app_thm-depth a b f g x y one two i j k l m n v w =
         let a = ty-depth a greatest_depth i in
@@ -219,7 +224,8 @@ module _ (symbols : Symbols) (few : HasFewArguments symbols) where
         let d = premise-depth scope h two w in
         omega (arith, a, b, f, g, x, y, c, d)
 
-    sym-depth : (a : HolType) (x y : Term) (one : Premise) → type_depth a ≤ greatest_depth → term_depth x ≤ greatest_depth → term_depth y ≤ greatest_depth → SequentWithin one.1 → depth (sym_tree symbols scope a x y one) ≤ deepest_proof
+    sym-depth : (a : HolType) (x y : Term) (one : Premise) → type_depth a ≤ greatest_depth → term_depth x ≤ greatest_depth → term_depth y ≤ greatest_depth
+        → SequentWithin one.1 → depth (sym_tree symbols scope a x y one) ≤ deepest_proof
     sym-depth a x y one i k l v =
         let a = ty-depth a greatest_depth i in
         let x = tm-depth x k in
@@ -227,7 +233,8 @@ module _ (symbols : Symbols) (few : HasFewArguments symbols) where
         let c = premise-depth scope h one v in
         omega (arith, a, x, y, c)
 
-    trans-depth : (a : HolType) (x y z : Term) (one two : Premise) → type_depth a ≤ greatest_depth → term_depth x ≤ greatest_depth → term_depth y ≤ greatest_depth → term_depth z ≤ greatest_depth → SequentWithin one.1 → SequentWithin two.1
+    trans-depth : (a : HolType) (x y z : Term) (one two : Premise) → type_depth a ≤ greatest_depth → term_depth x ≤ greatest_depth
+        → term_depth y ≤ greatest_depth → term_depth z ≤ greatest_depth → SequentWithin one.1 → SequentWithin two.1
         → depth (trans_tree symbols scope a x y z one two) ≤ deepest_proof
     trans-depth a x y z one two i k l m v w =
         let a = ty-depth a greatest_depth i in
@@ -238,7 +245,8 @@ module _ (symbols : Symbols) (few : HasFewArguments symbols) where
         let d = premise-depth scope h two w in
         omega (arith, a, x, y, z, c, d)
 
-    prove_hyp-depth : (p : Term) (one two : Premise) → SequentWithin one.1 → SequentWithin two.1 → depth (prove_hyp_tree symbols scope p one two) ≤ deepest_proof
+    prove_hyp-depth : (p : Term) (one two : Premise) → SequentWithin one.1 → SequentWithin two.1
+        → depth (prove_hyp_tree symbols scope p one two) ≤ deepest_proof
     prove_hyp-depth p one two v w =
         let x = premise_tree scope one in
         let own = own_arguments scope h two.1 w in
@@ -272,7 +280,8 @@ module _ (symbols : Symbols) (few : HasFewArguments symbols) where
         omega (arith, b, c)
     self_proof-depth t l = omega arith
 
-    list-depth : (pairs : ConstantPairs) (one : Premise) → SequentWithin one.1 → depth (premise_tree (constants_scope symbols scope (constants_put pairs)) one) ≤ deepest_proof
+    list-depth : (pairs : ConstantPairs) (one : Premise) → SequentWithin one.1
+        → depth (premise_tree (constants_scope symbols scope (constants_put pairs)) one) ≤ deepest_proof
     list-depth pairs one v =
         let whole = theorem_tree-depth deepest_argument (constants_scope symbols scope (constants_put pairs)) one.0 one.1 (omega arith) v (record {
           types = every _ (λ n. let l = h.types n in omega (arith, l)) (type_variables_of one.1);
@@ -286,13 +295,15 @@ module _ (symbols : Symbols) (few : HasFewArguments symbols) where
         }) in
         omega (arith, whole)
 
-    abs_tree-depth : (v : Variable) (t : Term) → type_depth v.1 ≤ greatest_depth → term_depth t ≤ greatest_depth → depth (abs_tree symbols scope v t) ≤ deepest_term
+    abs_tree-depth : (v : Variable) (t : Term) → type_depth v.1 ≤ greatest_depth → term_depth t ≤ greatest_depth
+        → depth (abs_tree symbols scope v t) ≤ deepest_term
     abs_tree-depth v t k l =
         let a = ty-depth v.1 greatest_depth k in
         let u = term_tree-depth symbols few (under_term v scope) (under_term-shallow v scope h) t in
         omega (arith, a, u, l)
 
-    fun_ext-depth : (v : Variable) (b : HolType) (t u : Term) (one : Premise) → type_depth v.1 ≤ greatest_depth → type_depth b ≤ greatest_depth → term_depth t ≤ greatest_depth → term_depth u ≤ greatest_depth → SequentWithin one.1
+    fun_ext-depth : (v : Variable) (b : HolType) (t u : Term) (one : Premise) → type_depth v.1 ≤ greatest_depth → type_depth b ≤ greatest_depth
+        → term_depth t ≤ greatest_depth → term_depth u ≤ greatest_depth → SequentWithin one.1
         → depth (fun_ext_tree symbols scope v b t u one) ≤ deepest_proof
     fun_ext-depth v b t u one i j k l w =
         let a = ty-depth v.1 greatest_depth i in
@@ -302,7 +313,8 @@ module _ (symbols : Symbols) (few : HasFewArguments symbols) where
         let p = premise-depth (under_term v scope) (under_term-shallow v scope h) one w in
         omega (arith, a, c, x, y, p)
 
-    prop_ext-depth : (p q : Term) (one two : Premise) → term_depth p ≤ greatest_depth → term_depth q ≤ greatest_depth → SequentWithin one.1 → SequentWithin two.1 → depth (prop_ext_tree symbols scope p q one two) ≤ deepest_proof
+    prop_ext-depth : (p q : Term) (one two : Premise) → term_depth p ≤ greatest_depth → term_depth q ≤ greatest_depth → SequentWithin one.1
+        → SequentWithin two.1 → depth (prop_ext_tree symbols scope p q one two) ≤ deepest_proof
     prop_ext-depth p q one two k l v w =
         let a = tm-depth p k in
         let b = tm-depth q l in
@@ -311,7 +323,8 @@ module _ (symbols : Symbols) (few : HasFewArguments symbols) where
         omega (arith, a, b, c, d)
 
     -- a symbol of parts at a premise
-    pub part-depth : (i : ℕ) (c : HolType) (j : ℕ) (one : Sequent) → type_depth c ≤ 3 * greatest_depth → SequentWithin one → depth (part_tree symbols scope i c (j, one)) ≤ deepest_premise + 16
+    pub part-depth : (i : ℕ) (c : HolType) (j : ℕ) (one : Sequent) → type_depth c ≤ 3 * greatest_depth → SequentWithin one
+        → depth (part_tree symbols scope i c (j, one)) ≤ deepest_premise + 16
     part-depth i c j one l w =
         let a = ty-depth c (3 * greatest_depth) l in
         let own = conclusion-depth one w in
@@ -322,7 +335,8 @@ module _ (symbols : Symbols) (few : HasFewArguments symbols) where
 
   -- a law of a type definition
   module _ (scope : Scope) (h : IsShallowScope scope) where
-    law-depth : (a b : HolType) (t u : Term) (i : ℕ) (c : HolType) (j : ℕ) (one : Sequent) → term_depth (lam a t) ≤ greatest_depth → type_depth b ≤ greatest_depth → term_depth (lam a u) ≤ greatest_depth → type_depth c ≤ 3 * greatest_depth → SequentWithin one
+    law-depth : (a b : HolType) (t u : Term) (i : ℕ) (c : HolType) (j : ℕ) (one : Sequent) → term_depth (lam a t) ≤ greatest_depth
+        → type_depth b ≤ greatest_depth → term_depth (lam a u) ≤ greatest_depth → type_depth c ≤ 3 * greatest_depth → SequentWithin one
         → depth (law_tree symbols scope a b t u i c (j, one)) ≤ deepest_proof
     law-depth a b t u i c j one k l m n w =
         let x = ty-depth scope h a greatest_depth (omega (arith, k)) in
@@ -336,10 +350,12 @@ module _ (symbols : Symbols) (few : HasFewArguments symbols) where
         (omega (arith, x), (omega (arith, y), (omega (arith, f), (omega (arith, g), (body, tt {0}))))) in
         omega (arith, whole)
       where
-        body-depth : (A p : Tree) → depth A ≤ greatest_depth + 1 → depth p ≤ deepest_premise + 16 → depth (Lam (term_of A) (App p (Var 0))) ≤ deepest_premise + 20
+        body-depth : (A p : Tree) → depth A ≤ greatest_depth + 1 → depth p ≤ deepest_premise + 16
+            → depth (Lam (term_of A) (App p (Var 0))) ≤ deepest_premise + 20
         body-depth A p x y = omega (arith, x, y)
 
-    first_law-depth : (names : TypeNames) (c : HolType) (f : Term) (one s : Sequent) (j : ℕ) → IsTypeDefinition names c f one → s ≡ type_definition.first_law names c → SequentWithin one → SequentWithin s
+    first_law-depth : (names : TypeNames) (c : HolType) (f : Term) (one s : Sequent) (j : ℕ) → IsTypeDefinition names c f one
+        → s ≡ type_definition.first_law names c → SequentWithin one → SequentWithin s
         → depth (first_law_tree symbols scope names (type_or (witness one.conclusion)) (j, one)) ≤ deepest_proof
     first_law-depth names c f one s j d e v w =
         let own = conclusion-depth s w in
@@ -351,7 +367,8 @@ module _ (symbols : Symbols) (few : HasFewArguments symbols) where
     sides-depth : (a : HolType) (x y : Term) → term_depth (equation a x y) ≤ greatest_depth → (term_depth x ≤ greatest_depth) × (term_depth y ≤ greatest_depth)
     sides-depth a x y l = (omega (arith, l), omega (arith, l))
 
-    second_law-depth : (names : TypeNames) (c : HolType) (f : Term) (one s : Sequent) (j : ℕ) → IsTypeDefinition names c f one → s ≡ type_definition.second_law names c f → SequentWithin one → SequentWithin s
+    second_law-depth : (names : TypeNames) (c : HolType) (f : Term) (one s : Sequent) (j : ℕ) → IsTypeDefinition names c f one
+        → s ≡ type_definition.second_law names c f → SequentWithin one → SequentWithin s
         → depth (second_law_tree symbols scope names (type_or (witness one.conclusion)) (j, one)) ≤ deepest_proof
     second_law-depth names c f one s j d e v w =
         let own = conclusion-depth s w in
@@ -363,14 +380,16 @@ module _ (symbols : Symbols) (few : HasFewArguments symbols) where
         (law-depth c bool (equation c (represented names c (abstracted names c (bound 0))) (bound 0)) (app (predicate one.conclusion) (bound 0)) sub_rep_abs_symbol c j one sides.0 (omega arith) right deep v)
 
     -- the laws in version 5
-    call-depth : (i : ℕ) (c : HolType) (x : Term) (j : ℕ) (one : Sequent) → type_depth c ≤ 3 * greatest_depth → SequentWithin one → term_depth x ≤ greatest_depth
+    call-depth : (i : ℕ) (c : HolType) (x : Term) (j : ℕ) (one : Sequent) → type_depth c ≤ 3 * greatest_depth → SequentWithin one
+        → term_depth x ≤ greatest_depth
         → depth (App (part_tree symbols (filled symbols scope.types) i c (j, one)) (term_tree symbols scope x)) ≤ deepest_premise + 20
     call-depth i c x j one l w k =
         let p = part-depth (filled symbols scope.types) (filled-shallow symbols scope.types h.types) i c j one l w in
         let q = tm-depth scope h x k in
         omega (arith, p, q)
 
-    first_free-depth : (names : TypeNames) (c : HolType) (f : Term) (one s : Sequent) (j : ℕ) → IsTypeDefinition names c f one → s ≡ type_definition.first_law_free names c → SequentWithin one → SequentWithin s
+    first_free-depth : (names : TypeNames) (c : HolType) (f : Term) (one s : Sequent) (j : ℕ) → IsTypeDefinition names c f one
+        → s ≡ type_definition.first_law_free names c → SequentWithin one → SequentWithin s
         → depth (first_law_free_tree symbols scope names (type_or (witness one.conclusion)) (j, one)) ≤ deepest_proof
     first_free-depth names c f one s j d e v w =
         let own = conclusion-depth s w in
@@ -380,7 +399,8 @@ module _ (symbols : Symbols) (few : HasFewArguments symbols) where
         let whole = call-depth sub_abs_rep_symbol c (type_definition.new_variable names) j one deep v sides.1 in
         subst (λ c. depth (first_law_free_tree symbols scope names c (j, one)) ≤ deepest_proof) (sym (part-type names c f one d)) (omega (arith, whole))
 
-    second_free-depth : (names : TypeNames) (c : HolType) (f : Term) (one s : Sequent) (j : ℕ) → IsTypeDefinition names c f one → s ≡ type_definition.second_law_free names c f → SequentWithin one → SequentWithin s
+    second_free-depth : (names : TypeNames) (c : HolType) (f : Term) (one s : Sequent) (j : ℕ) → IsTypeDefinition names c f one
+        → s ≡ type_definition.second_law_free names c f → SequentWithin one → SequentWithin s
         → depth (second_law_free_tree symbols scope names (type_or (witness one.conclusion)) (j, one)) ≤ deepest_proof
     second_free-depth names c f one s j d e v w =
         let own = conclusion-depth s w in
@@ -400,12 +420,14 @@ module _ (symbols : Symbols) (few : HasFewArguments symbols) where
         (omega arith) (omega (arith, x), (omega (arith, y), (omega (arith, z), (last, tt {0})))) in
         subst (λ c. depth (second_law_free_tree symbols scope names c (j, one)) ≤ deepest_proof) (sym (part-type names c f one d)) (omega (arith, whole))
 
-  of_one-depth : (d : ℕ) (row : Premise → Tree) (js : List ℕ) (one : Sequent) → 1 ≤ d → ((j : ℕ) → depth (row (j, one)) ≤ d) → depth (of_one row js (one ∷ [])) ≤ d
+  of_one-depth : (d : ℕ) (row : Premise → Tree) (js : List ℕ) (one : Sequent) → 1 ≤ d → ((j : ℕ) → depth (row (j, one)) ≤ d)
+      → depth (of_one row js (one ∷ [])) ≤ d
   of_one-depth d row [] one l f = l
   of_one-depth d row (j ∷ []) one l f = f j
   of_one-depth d row (j ∷ k ∷ js) one l f = l
 
-  of_two-depth : (d : ℕ) (row : Premise → Premise → Tree) (js : List ℕ) (one two : Sequent) → 1 ≤ d → ((j k : ℕ) → depth (row (j, one) (k, two)) ≤ d) → depth (of_two row js (one ∷ two ∷ [])) ≤ d
+  of_two-depth : (d : ℕ) (row : Premise → Premise → Tree) (js : List ℕ) (one two : Sequent) → 1 ≤ d → ((j k : ℕ) → depth (row (j, one) (k, two)) ≤ d)
+      → depth (of_two row js (one ∷ two ∷ [])) ≤ d
   of_two-depth d row [] one two l f = l
   of_two-depth d row (j ∷ []) one two l f = l
   of_two-depth d row (j ∷ k ∷ []) one two l f = f j k
@@ -413,7 +435,8 @@ module _ (symbols : Symbols) (few : HasFewArguments symbols) where
 
   -- The proof of a step: by its rule, in a shallow scope
   module _ (scope : Scope) (h : IsShallowScope scope) where
-    pub proof_tree-depth : (kind : StepKind) (js : List ℕ) (premises : List Sequent) (given : Parameters) (s : Sequent) → Rule kind premises given s → AllByRecursion SequentWithin premises → SequentWithin s
+    pub proof_tree-depth : (kind : StepKind) (js : List ℕ) (premises : List Sequent) (given : Parameters) (s : Sequent) → Rule kind premises given s
+        → AllByRecursion SequentWithin premises → SequentWithin s
         → depth (proof_tree symbols scope kind js premises given) ≤ deepest_proof
     proof_tree-depth kind js premises given s (rule.refl {t = t} {a = a} typed e) p w =
         let c = conclusion-depth s w in

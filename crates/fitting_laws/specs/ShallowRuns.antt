@@ -60,7 +60,8 @@ module _ (symbols : Symbols) (few : HasFewArguments symbols) where
       omega (arith, whole, long, most)
 
   -- what a symbol of a type definition stands for, under few type variables
-  part_definition-depth : (ns : List Name) (names : TypeNames) (i : ℕ) (c : HolType) (f : Term) (j : ℕ) (one : Sequent) → length ns ≤ greatest_parameter_count → IsTypeDefinition names c f one → SequentWithin one
+  part_definition-depth : (ns : List Name) (names : TypeNames) (i : ℕ) (c : HolType) (f : Term) (j : ℕ) (one : Sequent) → length ns ≤ greatest_parameter_count
+      → IsTypeDefinition names c f one → SequentWithin one
       → depth (part_definition_tree symbols ns i c j one) ≤ max_depth
   part_definition-depth ns names i c f j one l d w =
       let scope = filled symbols (under_types ns unfilled) in
@@ -69,7 +70,8 @@ module _ (symbols : Symbols) (few : HasFewArguments symbols) where
       let long = length-map ns (λ (n : Name). types) in
       omega (arith, whole, long, l)
 
-  declaration-shallow : (name : List ℕ) (c : Content) → ContentFits c → (depth (declaration_of symbols name c).ty ≤ max_depth) × IsBodyShallow (declaration_of symbols name c).body
+  declaration-shallow : (name : List ℕ) (c : Content) → ContentFits c
+      → (depth (declaration_of symbols name c).ty ≤ max_depth) × IsBodyShallow (declaration_of symbols name c).body
   declaration-shallow name (operator n k) h = (let l = operator-depth k in omega (arith, l, h), tt {0})
   declaration-shallow name (constant n a) h = (generic_tree-depth a h, tt {0})
   declaration-shallow name (defined_constant n a t) h = (generic_tree-depth a h.0, definition_tree-depth a t h.0 h.1)

@@ -78,14 +78,16 @@ image-depth d (p ∷ ps) n l h = go (name_eq n p.0) (image-depth d ps n l h.1)
     go true k = h.0
     go false k = k
 
-pub arguments-depth : (symbols : Symbols) (scope : TypeScope) → ((n : Name) → depth (scope n) ≤ 1) → (g t : HolType) (ns : List Name) → AreShallowTrees (type_depth t + 1) (map (type_tree symbols scope) (map (image (read_off g t)) ns))
+pub arguments-depth : (symbols : Symbols) (scope : TypeScope) → ((n : Name) → depth (scope n) ≤ 1) → (g t : HolType) (ns : List Name)
+    → AreShallowTrees (type_depth t + 1) (map (type_tree symbols scope) (map (image (read_off g t)) ns))
 arguments-depth symbols scope h g t [] = tt
 arguments-depth symbols scope h g t (n ∷ ns) =
     let put = image-depth (type_depth t) (read_off g t) n (type_depth-positive t) (read_off-depth g t) in
     let tree = type_tree-depth symbols scope h (image (read_off g t) n) in
     (omega (arith, put, tree), arguments-depth symbols scope h g t ns)
 
-pub constant_tree-depth : (symbols : Symbols) → HasFewArguments symbols → (scope : TypeScope) → ((n : Name) → depth (scope n) ≤ 1) → (n : Name) (t : HolType) → depth (constant_tree symbols scope n t) ≤ type_depth t + (greatest_parameter_count + 1)
+pub constant_tree-depth : (symbols : Symbols) → HasFewArguments symbols → (scope : TypeScope) → ((n : Name) → depth (scope n) ≤ 1) → (n : Name) (t : HolType)
+    → depth (constant_tree symbols scope n t) ≤ type_depth t + (greatest_parameter_count + 1)
 constant_tree-depth symbols few scope h n t =
     let g = generic_type symbols n in
     let args = map (type_tree symbols scope) (type_arguments g t) in
@@ -164,7 +166,8 @@ filled-shallow symbols scope h = record {
 }
 
 -- a term
-pub term_tree-depth : (symbols : Symbols) → HasFewArguments symbols → (scope : Scope) → IsShallowScope scope → (t : Term) → depth (term_tree symbols scope t) ≤ term_depth t + (greatest_parameter_count + 1)
+pub term_tree-depth : (symbols : Symbols) → HasFewArguments symbols → (scope : Scope) → IsShallowScope scope → (t : Term)
+    → depth (term_tree symbols scope t) ≤ term_depth t + (greatest_parameter_count + 1)
 term_tree-depth symbols few scope h (free n t) = let l = h.terms (n, t) in omega (arith, l)
 term_tree-depth symbols few scope h (bound k) = let l = h.bounds k in omega (arith, l)
 term_tree-depth symbols few scope h (constant n t) = let l = constant_tree-depth symbols few scope.types h.types n t in omega (arith, l)

@@ -55,7 +55,8 @@ module _ (m : List Declaration) (symbols : Symbols) (names : TypeNames) (c : Hol
 
   module _ (scope : Scope) (h : IsPlainScope symbols scope) where
     -- extensionality of what is concluded
-    law-cost : (a b : HolType) (t u : Term) (i : ℕ) → IsPartBound m part_cost (Var 0 ∷ []) i → {p : Term} → p ≡ equation (function a b) (lam a t) (lam a u) → IsSmallTerm m symbols p → cost m [] (law_tree symbols scope a b t u i c (j, one)) ≤ row_cost
+    law-cost : (a b : HolType) (t u : Term) (i : ℕ) → IsPartBound m part_cost (Var 0 ∷ []) i → {p : Term} → p ≡ equation (function a b) (lam a t) (lam a u)
+        → IsSmallTerm m symbols p → cost m [] (law_tree symbols scope a b t u i c (j, one)) ≤ row_cost
     law-cost a b t u i bounded e k =
         let shown = subst (IsSmallTerm m symbols) e k in
         let parts = equation-over m symbols (function a b) (lam a t) (lam a u) shown.over in
@@ -72,15 +73,18 @@ module _ (m : List Declaration) (symbols : Symbols) (names : TypeNames) (c : Hol
         let inner = body-cost A P (omega (arith, x)) part in
         omega (arith, whole, inner)
       where
-        body-cost : (A P : Tree) → cost m [] A ≤ part_cost → cost m (Var 0 ∷ []) P ≤ named_part_cost → cost m [] (Lam (term_of A) (App P (Var 0))) ≤ part_cost + named_part_cost + 50
+        body-cost : (A P : Tree) → cost m [] A ≤ part_cost → cost m (Var 0 ∷ []) P ≤ named_part_cost
+            → cost m [] (Lam (term_of A) (App P (Var 0))) ≤ part_cost + named_part_cost + 50
         body-cost A P x y = omega (arith, x, y)
 
-    pub first_law-cost : (s : Sequent) → s ≡ type_definition.first_law names c → IsSmallTerm m symbols s.conclusion → cost m [] (first_law_tree symbols scope names (type_or (witness one.conclusion)) (j, one)) ≤ row_cost
+    pub first_law-cost : (s : Sequent) → s ≡ type_definition.first_law names c → IsSmallTerm m symbols s.conclusion
+        → cost m [] (first_law_tree symbols scope names (type_or (witness one.conclusion)) (j, one)) ≤ row_cost
     first_law-cost s e k =
         subst (λ c. cost m [] (first_law_tree symbols scope names c (j, one)) ≤ row_cost) (sym (part-type names c f one d))
         (law-cost (new_type names) (new_type names) (abstracted names c (represented names c (bound 0))) (bound 0) sub_abs_rep_symbol (sub_abs_rep-cost m part_cost (Var 0) (omega arith)) (ap (λ (x : Sequent). x.conclusion) e) k)
 
-    pub second_law-cost : (s : Sequent) → s ≡ type_definition.second_law names c f → IsSmallTerm m symbols s.conclusion → cost m [] (second_law_tree symbols scope names (type_or (witness one.conclusion)) (j, one)) ≤ row_cost
+    pub second_law-cost : (s : Sequent) → s ≡ type_definition.second_law names c f → IsSmallTerm m symbols s.conclusion
+        → cost m [] (second_law_tree symbols scope names (type_or (witness one.conclusion)) (j, one)) ≤ row_cost
     second_law-cost s e k =
         let left = lam c (equation c (represented names c (abstracted names c (bound 0))) (bound 0)) in
         subst (λ c. cost m [] (second_law_tree symbols scope names c (j, one)) ≤ row_cost) (sym (part-type names c f one d))
@@ -96,7 +100,8 @@ module _ (m : List Declaration) (symbols : Symbols) (names : TypeNames) (c : Hol
         let part = part_tree-cost (filled symbols scope.types) (filled-plain symbols scope.types h.types) (y ∷ []) i (bounded y (omega (arith, l))) in
         omega (arith, l, part)
 
-    pub first_free-cost : (s : Sequent) → s ≡ type_definition.first_law_free names c → IsSmallTerm m symbols s.conclusion → cost m [] (first_law_free_tree symbols scope names (type_or (witness one.conclusion)) (j, one)) ≤ row_cost
+    pub first_free-cost : (s : Sequent) → s ≡ type_definition.first_law_free names c → IsSmallTerm m symbols s.conclusion
+        → cost m [] (first_law_free_tree symbols scope names (type_or (witness one.conclusion)) (j, one)) ≤ row_cost
     first_free-cost s e k =
         let v = type_definition.new_variable names in
         let shown = subst (IsSmallTerm m symbols) (ap (λ (x : Sequent). x.conclusion) e) k in
@@ -105,7 +110,8 @@ module _ (m : List Declaration) (symbols : Symbols) (names : TypeNames) (c : Hol
         let whole = call-cost sub_abs_rep_symbol v (record { over = parts.right; size = omega (arith, own) }) (sub_abs_rep-cost m part_cost) in
         subst (λ c. cost m [] (first_law_free_tree symbols scope names c (j, one)) ≤ row_cost) (sym (part-type names c f one d)) (omega (arith, whole))
 
-    pub second_free-cost : HasLemmas m → (s : Sequent) → s ≡ type_definition.second_law_free names c f → IsSmallTerm m symbols s.conclusion → cost m [] (second_law_free_tree symbols scope names (type_or (witness one.conclusion)) (j, one)) ≤ row_cost
+    pub second_free-cost : HasLemmas m → (s : Sequent) → s ≡ type_definition.second_law_free names c f → IsSmallTerm m symbols s.conclusion
+        → cost m [] (second_law_free_tree symbols scope names (type_or (witness one.conclusion)) (j, one)) ≤ row_cost
     second_free-cost lemmas s e k =
         let r = type_definition.old_variable c in
         let p = predicate one.conclusion in

@@ -104,7 +104,8 @@ module _ (m : List Declaration) (symbols : Symbols) where
     tm-cost t o = let l = term_tree-cost m symbols [] scope h t o.over in let k = o.size in omega (arith, l, k)
 
     -- what stands for variables, with the sizes of their types; and terms
-    variables-total : (vs : List Variable) → AllByRecursion (λ v. TypeOver m symbols v.1) vs → total m (map scope.terms vs) + variable_sizes symbols scope vs ≤ 26 * sums variable_size vs
+    variables-total : (vs : List Variable) → AllByRecursion (λ v. TypeOver m symbols v.1) vs
+        → total m (map scope.terms vs) + variable_sizes symbols scope vs ≤ 26 * sums variable_size vs
     variables-total [] o = omega arith
     variables-total (v ∷ vs) o =
         let one = stands-cost m symbols [] v (scope.terms v) o.0 (h.terms v) in

@@ -70,7 +70,8 @@ module _ (m : List Declaration) (lemmas : HasLemmas m) (symbols : Symbols) (scop
       omega (arith, whole)
   self_proof-cost t o = let l = plain-cost m [] types Plain.nothing in omega (arith, l)
 
-  self_proofs-total : (ts : List Term) → AllByRecursion (TermOver m symbols) ts → total m (map (self_proof symbols scope) ts) ≤ 144 * sums term_size ts + 101 * length ts
+  self_proofs-total : (ts : List Term) → AllByRecursion (TermOver m symbols) ts
+      → total m (map (self_proof symbols scope) ts) ≤ 144 * sums term_size ts + 101 * length ts
   self_proofs-total [] o = omega arith
   self_proofs-total (t ∷ ts) o =
       let one = self_proof-cost t o.0 in
@@ -78,7 +79,8 @@ module _ (m : List Declaration) (lemmas : HasLemmas m) (symbols : Symbols) (scop
       omega (arith, one, rest)
 
   -- constants that are defined stand for the variables
-  list_row-cost : (pairs : ConstantPairs) (i : ℕ) (one : Sequent) → IsSmallPremise m symbols i one → AllByRecursion (StandsForVariable m symbols (constants_put pairs)) (free_variables_of one)
+  list_row-cost : (pairs : ConstantPairs) (i : ℕ) (one : Sequent) → IsSmallPremise m symbols i one
+      → AllByRecursion (StandsForVariable m symbols (constants_put pairs)) (free_variables_of one)
       → cost m [] (premise_tree (constants_scope symbols scope (constants_put pairs)) (i, one)) ≤ row_cost
   list_row-cost pairs i one v stand =
       let inner = constants_scope symbols scope terms in
@@ -133,7 +135,8 @@ module _ (m : List Declaration) (lemmas : HasLemmas m) (symbols : Symbols) (scop
           let same = ap size (term_tree-substitution symbols [] (constants_put pairs) (AreFitting-closed m symbols [] (constants_put pairs) fitting) scope t instances ∙ term_tree-proofs symbols (self_proof symbols scope) (images symbols [] (constants_put pairs) scope) t) in
           omega (arith, l, same, smaller)
 
-      formulas : (ts : List Term) → AllByRecursion (IsPut one) ts → term_sizes symbols (constants_scope symbols scope (constants_put pairs)) ts ≤ 24 * sums term_size ts
+      formulas : (ts : List Term) → AllByRecursion (IsPut one) ts
+          → term_sizes symbols (constants_scope symbols scope (constants_put pairs)) ts ≤ 24 * sums term_size ts
       formulas [] k = omega arith
       formulas (t ∷ ts) k =
           let first = formula t k.0 in
@@ -149,7 +152,8 @@ module _ (m : List Declaration) (lemmas : HasLemmas m) (symbols : Symbols) (scop
       refl-cost m lemmas symbols scope h a y (record { over = parts.ty; size = omega (arith, own, same) }) (record { over = parts.right; size = omega (arith, own, same) })
 
   -- the type of the variable of an abstraction
-  bound_variable : (v : Variable) (b : HolType) (x y : Term) {c : Term} → c ≡ equation (function v.1 b) x y → IsSmallTerm m symbols c → IsSmallType m symbols v.1
+  bound_variable : (v : Variable) (b : HolType) (x y : Term) {c : Term} → c ≡ equation (function v.1 b) x y → IsSmallTerm m symbols c
+      → IsSmallType m symbols v.1
   bound_variable v b x y e k =
       let parts = equation-over m symbols (function v.1 b) x y (subst (TermOver m symbols) e k.over) in
       let own = k.size in
@@ -157,7 +161,8 @@ module _ (m : List Declaration) (lemmas : HasLemmas m) (symbols : Symbols) (scop
       record { over = parts.ty.1.0; size = omega (arith, own, same) }
 
   -- The proof of a step: by its rule, in a plain scope
-  pub proof_tree-cost : (kind : StepKind) (js : List ℕ) (premises : List Sequent) (given : Parameters) (s : Sequent) → Rule kind premises given s → ArePremises m symbols js premises → Defined m symbols kind js premises given → SequentOver m symbols s
+  pub proof_tree-cost : (kind : StepKind) (js : List ℕ) (premises : List Sequent) (given : Parameters) (s : Sequent) → Rule kind premises given s
+      → ArePremises m symbols js premises → Defined m symbols kind js premises given → SequentOver m symbols s
       → AllByRecursion SequentWithin premises → SequentWithin s → cost m [] (proof_tree symbols scope kind js premises given) ≤ row_cost
   proof_tree-cost kind js premises given s (rule.refl {t = t} {a = a} typed e) p d over ws w =
       let c = conclusion-small m symbols s over w in

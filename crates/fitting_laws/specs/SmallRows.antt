@@ -58,14 +58,16 @@ module _ (m : List Declaration) (f : Term → Tree) (p : Term) (x : Tree) where
       go false e later = let same = ap (λ b. cost m [] (cond b x (f g))) e in omega (arith, same, later, h.0)
 
 -- the sizes of terms owe nothing to what stands for hypotheses
-term_sizes-proofs : (symbols : Symbols) (proofs : Term → Tree) (scope : Scope) (ts : List Term) → term_sizes symbols (with_proofs proofs scope) ts ≡ term_sizes symbols scope ts
+term_sizes-proofs : (symbols : Symbols) (proofs : Term → Tree) (scope : Scope) (ts : List Term)
+    → term_sizes symbols (with_proofs proofs scope) ts ≡ term_sizes symbols scope ts
 term_sizes-proofs symbols proofs scope [] = refl
 term_sizes-proofs symbols proofs scope (t ∷ ts) =
     let same = ap size (term_tree-proofs symbols proofs scope t) in
     let rest = term_sizes-proofs symbols proofs scope ts in
     omega (arith, same, rest)
 
-arguments-proofs : (m : List Declaration) (symbols : Symbols) (proofs : Term → Tree) (scope : Scope) (s : Sequent) → argument_cost symbols (with_proofs proofs scope) m s ≡ argument_cost symbols scope m s
+arguments-proofs : (m : List Declaration) (symbols : Symbols) (proofs : Term → Tree) (scope : Scope) (s : Sequent)
+    → argument_cost symbols (with_proofs proofs scope) m s ≡ argument_cost symbols scope m s
 arguments-proofs m symbols proofs scope s =
     let hypotheses = term_sizes-proofs symbols proofs scope s.hypotheses in
     let conclusion = ap size (term_tree-proofs symbols proofs scope s.conclusion) in
@@ -79,7 +81,8 @@ module _ (m : List Declaration) (lemmas : HasLemmas m) (symbols : Symbols) (scop
       let whole = refl_of-cost m part_cost (type_tree symbols scope.types a) (term_tree symbols scope t) (omega (arith, b)) (omega (arith, u)) in
       omega (arith, whole)
 
-  pub eq_mp_row-cost : (p q : Term) (i j : ℕ) (one two : Sequent) → IsSmallTerm m symbols p → IsSmallTerm m symbols q → IsSmallPremise m symbols i one → IsSmallPremise m symbols j two
+  pub eq_mp_row-cost : (p q : Term) (i j : ℕ) (one two : Sequent) → IsSmallTerm m symbols p → IsSmallTerm m symbols q → IsSmallPremise m symbols i one
+      → IsSmallPremise m symbols j two
       → cost m [] (eq_mp_tree symbols scope p q (i, one) (j, two)) ≤ row_cost
   eq_mp_row-cost p q i j one two k l v w =
       let a = tm-cost m symbols scope h p k in
@@ -89,7 +92,8 @@ module _ (m : List Declaration) (lemmas : HasLemmas m) (symbols : Symbols) (scop
       let whole = eq_mp-cost m part_cost (term_tree symbols scope p) (term_tree symbols scope q) (premise_tree scope (i, one)) (premise_tree scope (j, two)) (omega (arith, a)) (omega (arith, b)) in
       omega (arith, whole, c, d)
 
-  pub app_thm_row-cost : (a b : HolType) (f g x y : Term) (i j : ℕ) (one two : Sequent) → IsSmallType m symbols a → IsSmallType m symbols b → IsSmallTerm m symbols f → IsSmallTerm m symbols g → IsSmallTerm m symbols x → IsSmallTerm m symbols y
+  pub app_thm_row-cost : (a b : HolType) (f g x y : Term) (i j : ℕ) (one two : Sequent) → IsSmallType m symbols a → IsSmallType m symbols b
+      → IsSmallTerm m symbols f → IsSmallTerm m symbols g → IsSmallTerm m symbols x → IsSmallTerm m symbols y
       → IsSmallPremise m symbols i one → IsSmallPremise m symbols j two → cost m [] (app_thm_tree symbols scope a b f g x y (i, one) (j, two)) ≤ row_cost
   app_thm_row-cost a b f g x y i j one two ha hb hf hg hx hy v w =
       let la = ty-cost m symbols scope h a ha in
@@ -104,7 +108,8 @@ module _ (m : List Declaration) (lemmas : HasLemmas m) (symbols : Symbols) (scop
       (premise_tree scope (i, one)) (premise_tree scope (j, two)) (omega (arith, la)) (omega (arith, lb)) (omega (arith, lf)) (omega (arith, lg)) (omega (arith, lx)) (omega (arith, ly)) in
       omega (arith, whole, c, d)
 
-  pub sym_row-cost : (a : HolType) (x y : Term) (i : ℕ) (one : Sequent) → IsSmallType m symbols a → IsSmallTerm m symbols x → IsSmallTerm m symbols y → IsSmallPremise m symbols i one → cost m [] (sym_tree symbols scope a x y (i, one)) ≤ row_cost
+  pub sym_row-cost : (a : HolType) (x y : Term) (i : ℕ) (one : Sequent) → IsSmallType m symbols a → IsSmallTerm m symbols x → IsSmallTerm m symbols y
+      → IsSmallPremise m symbols i one → cost m [] (sym_tree symbols scope a x y (i, one)) ≤ row_cost
   sym_row-cost a x y i one ha hx hy v =
       let la = ty-cost m symbols scope h a ha in
       let lx = tm-cost m symbols scope h x hx in
@@ -113,7 +118,8 @@ module _ (m : List Declaration) (lemmas : HasLemmas m) (symbols : Symbols) (scop
       let whole = sym-cost m part_cost lemmas (type_tree symbols scope.types a) (term_tree symbols scope x) (term_tree symbols scope y) (premise_tree scope (i, one)) (omega (arith, la)) (omega (arith, lx)) (omega (arith, ly)) in
       omega (arith, whole, c)
 
-  pub trans_row-cost : (a : HolType) (x y z : Term) (i j : ℕ) (one two : Sequent) → IsSmallType m symbols a → IsSmallTerm m symbols x → IsSmallTerm m symbols y → IsSmallTerm m symbols z → IsSmallPremise m symbols i one → IsSmallPremise m symbols j two
+  pub trans_row-cost : (a : HolType) (x y z : Term) (i j : ℕ) (one two : Sequent) → IsSmallType m symbols a → IsSmallTerm m symbols x → IsSmallTerm m symbols y
+      → IsSmallTerm m symbols z → IsSmallPremise m symbols i one → IsSmallPremise m symbols j two
       → cost m [] (trans_tree symbols scope a x y z (i, one) (j, two)) ≤ row_cost
   trans_row-cost a x y z i j one two ha hx hy hz v w =
       let la = ty-cost m symbols scope h a ha in
@@ -132,7 +138,8 @@ module _ (m : List Declaration) (lemmas : HasLemmas m) (symbols : Symbols) (scop
       let u = tm-cost m symbols (under_term v scope) (under_term-plain symbols v scope h) t l in
       omega (arith, a, u)
 
-  pub fun_ext_row-cost : (v : Variable) (b : HolType) (t u : Term) (i : ℕ) (one : Sequent) → IsSmallType m symbols v.1 → IsSmallType m symbols b → IsSmallTerm m symbols t → IsSmallTerm m symbols u → IsSmallPremise m symbols i one
+  pub fun_ext_row-cost : (v : Variable) (b : HolType) (t u : Term) (i : ℕ) (one : Sequent) → IsSmallType m symbols v.1 → IsSmallType m symbols b
+      → IsSmallTerm m symbols t → IsSmallTerm m symbols u → IsSmallPremise m symbols i one
       → cost m [] (fun_ext_tree symbols scope v b t u (i, one)) ≤ row_cost
   fun_ext_row-cost v b t u i one hv hb ht hu w =
       let la = ty-cost m symbols scope h v.1 hv in
@@ -144,7 +151,8 @@ module _ (m : List Declaration) (lemmas : HasLemmas m) (symbols : Symbols) (scop
       (Lam (term_of (type_tree symbols scope.types v.1)) (premise_tree (under_term v scope) (i, one))) (omega (arith, la)) (omega (arith, lb)) lt lu in
       omega (arith, whole, c, la)
 
-  pub prop_ext_row-cost : (p q : Term) (i j : ℕ) (one two : Sequent) → IsSmallTerm m symbols p → IsSmallTerm m symbols q → IsSmallPremise m symbols i one → IsSmallPremise m symbols j two
+  pub prop_ext_row-cost : (p q : Term) (i j : ℕ) (one two : Sequent) → IsSmallTerm m symbols p → IsSmallTerm m symbols q → IsSmallPremise m symbols i one
+      → IsSmallPremise m symbols j two
       → cost m [] (prop_ext_tree symbols scope p q (i, one) (j, two)) ≤ row_cost
   prop_ext_row-cost p q i j one two k l v w =
       let a = tm-cost m symbols scope h p k in
@@ -155,7 +163,8 @@ module _ (m : List Declaration) (lemmas : HasLemmas m) (symbols : Symbols) (scop
       (Lam (proof_of (term_tree symbols scope q)) (premise_tree (under_proof q scope) (i, one))) (omega (arith, a)) (omega (arith, b)) in
       omega (arith, whole, a, b, c, d)
 
-  pub prove_hyp_row-cost : (p : Term) (i j : ℕ) (one two : Sequent) → IsSmallPremise m symbols i one → IsSmallPremise m symbols j two → cost m [] (prove_hyp_tree symbols scope p (i, one) (j, two)) ≤ row_cost
+  pub prove_hyp_row-cost : (p : Term) (i j : ℕ) (one two : Sequent) → IsSmallPremise m symbols i one → IsSmallPremise m symbols j two
+      → cost m [] (prove_hyp_tree symbols scope p (i, one) (j, two)) ≤ row_cost
   prove_hyp_row-cost p i j one two v w =
       let x = premise_tree scope (i, one) in
       let c = premise-cost m symbols scope h i one v in
@@ -217,7 +226,8 @@ module _ (m : List Declaration) (lemmas : HasLemmas m) (symbols : Symbols) (scop
           let rest = put_variables vs o.1 k.1 in
           omega (arith, one, own, same, rest)
 
-      formula : (t : Term) → TermOver m symbols t → IsSmallTerm m symbols (sub pairs terms t) → size (term_tree symbols (images symbols pairs terms scope) t) ≤ part_cost
+      formula : (t : Term) → TermOver m symbols t → IsSmallTerm m symbols (sub pairs terms t)
+          → size (term_tree symbols (images symbols pairs terms scope) t) ≤ part_cost
       formula t o k =
           let l = tm-cost m symbols scope h (sub pairs terms t) k in
           let same = ap size (term_tree-substitution symbols pairs terms (AreFitting-closed m symbols pairs terms fitting) scope t (AreInstances-over m symbols t o)) in

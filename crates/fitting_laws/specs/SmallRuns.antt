@@ -67,14 +67,16 @@ replicate-total m (suc k) =
     omega (arith, one, rest)
 
 module _ (m : List Declaration) (symbols : Symbols) where
-  variables-total : (vs : List Variable) (scope : Scope) → IsPlainScope symbols scope → AllByRecursion (λ v. TypeOver m symbols v.1) vs → total m (term_domains symbols vs scope) ≤ 4 * sums variable_size vs
+  variables-total : (vs : List Variable) (scope : Scope) → IsPlainScope symbols scope → AllByRecursion (λ v. TypeOver m symbols v.1) vs
+      → total m (term_domains symbols vs scope) ≤ 4 * sums variable_size vs
   variables-total [] scope h o = omega arith
   variables-total (v ∷ vs) scope h o =
       let one = type_tree-cost m symbols scope.types h.types [] v.1 o.0 in
       let rest = variables-total vs (under_term v scope) (under_term-plain symbols v scope h) o.1 in
       omega (arith, one, rest)
 
-  proofs-total : (hs : List Term) (scope : Scope) → IsPlainScope symbols scope → AllByRecursion (TermOver m symbols) hs → total m (proof_domains symbols hs scope) ≤ 24 * sums term_size hs + 7 * length hs
+  proofs-total : (hs : List Term) (scope : Scope) → IsPlainScope symbols scope → AllByRecursion (TermOver m symbols) hs
+      → total m (proof_domains symbols hs scope) ≤ 24 * sums term_size hs + 7 * length hs
   proofs-total [] scope h o = omega arith
   proofs-total (p ∷ ps) scope h o =
       let one = term_tree-cost m symbols [] scope h p o.0 in
@@ -116,7 +118,8 @@ module _ (m : List Declaration) (symbols : Symbols) where
       let most = h.variables in
       omega (arith, own, whole, front, size, most)
 
-  definition_tree-cost : (a : HolType) (t : Term) → TermOver m symbols t → GenericWithin a → DefinitionWithin t → cost m [] (definition_tree symbols a t) ≤ 2 * part_cost
+  definition_tree-cost : (a : HolType) (t : Term) → TermOver m symbols t → GenericWithin a → DefinitionWithin t
+      → cost m [] (definition_tree symbols a t) ≤ 2 * part_cost
   definition_tree-cost a t o h d =
       let scope = filled symbols (under_types (type_variables a) unfilled) in
       let own = term_tree-cost m symbols [] scope (filled-plain symbols (under_types (type_variables a) unfilled) (under_types-here a)) t o in
@@ -126,7 +129,8 @@ module _ (m : List Declaration) (symbols : Symbols) where
       let most = h.variables in
       omega (arith, own, whole, front, size, most)
 
-  part_definition-cost : (ns : List Name) (i : ℕ) → IsPartBound m part_cost [] i → (names : TypeNames) (c : HolType) (f : Term) (j : ℕ) (one : Sequent) → length ns ≤ greatest_parameter_count → IsTypeDefinition names c f one → IsSmallPremise m symbols j one
+  part_definition-cost : (ns : List Name) (i : ℕ) → IsPartBound m part_cost [] i → (names : TypeNames) (c : HolType) (f : Term) (j : ℕ) (one : Sequent)
+      → length ns ≤ greatest_parameter_count → IsTypeDefinition names c f one → IsSmallPremise m symbols j one
       → cost m [] (part_definition_tree symbols ns i c j one) ≤ part_cost + named_part_cost
   part_definition-cost ns i b names c f j one l d v =
       let scope = filled symbols (under_types ns unfilled) in
@@ -184,7 +188,8 @@ module _ (m : List Declaration) (symbols : Symbols) where
 
 module _ (symbols : Symbols) where
   -- the module has what each of its items says
-  items-hold : (m : List Declaration) (before xs : List Item) → length m ≡ length lemmas + length before → AllByRecursion (HoldsItem m symbols) before → AreItems symbols before xs
+  items-hold : (m : List Declaration) (before xs : List Item) → length m ≡ length lemmas + length before → AllByRecursion (HoldsItem m symbols) before
+      → AreItems symbols before xs
       → AllByRecursion (HoldsItem (m ++ map (declaration symbols) xs) symbols) (before ++ xs)
   items-hold m before [] size holds h = subst (λ l. AllByRecursion (HoldsItem l symbols) (before ++ [])) (sym (append-nil m)) (subst (AllByRecursion (HoldsItem m symbols)) (sym (append-nil before)) holds)
   items-hold m before (x ∷ xs) size holds h =
@@ -198,7 +203,8 @@ module _ (symbols : Symbols) where
       (subst (AllByRecursion (HoldsItem ((m ++ d ∷ []) ++ map (declaration symbols) xs) symbols)) (append_assoc before (x ∷ []) xs)
       (items-hold (m ++ d ∷ []) (before ++ x ∷ []) xs longer (All-append (HoldsItem (m ++ d ∷ []) symbols) before (x ∷ []) old (new, tt {0})) h.3))
 
-  declarations-weight : (m : List Declaration) → HasLemmas m → (before xs : List Item) → AllByRecursion (HoldsItem m symbols) (before ++ xs) → AreItems symbols before xs → AreFittingItems xs
+  declarations-weight : (m : List Declaration) → HasLemmas m → (before xs : List Item) → AllByRecursion (HoldsItem m symbols) (before ++ xs)
+      → AreItems symbols before xs → AreFittingItems xs
       → AllByRecursion (λ d. weight m d ≤ greatest_weight) (map (declaration symbols) xs)
   declarations-weight m has before [] holds h k = tt
   declarations-weight m has before (x ∷ xs) holds h k = (

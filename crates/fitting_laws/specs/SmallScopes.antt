@@ -186,7 +186,8 @@ module _ (m : List Declaration) (symbols : Symbols) (scope : TypeScope) (h : (n 
       let rest = arguments-cost pairs ns o.1 in
       omega (arith, one, rest)
 
-  pub constant_tree-cost : (args : List Tree) (n : Name) (t : HolType) → ConstantOver m symbols n t → cost m args (constant_tree symbols scope n t) ≤ 6 * type_size t + 2
+  pub constant_tree-cost : (args : List Tree) (n : Name) (t : HolType) → ConstantOver m symbols n t
+      → cost m args (constant_tree symbols scope n t) ≤ 6 * type_size t + 2
   constant_tree-cost args n t o =
       let generic = generic_type symbols n in
       let pairs = o.instance.0 in
@@ -223,14 +224,16 @@ module _ (m : List Declaration) (symbols : Symbols) (scope : TypeScope) (h : (n 
       omega (arith, whole, same, head, spreads_to, firsts, last, kind, puts, sizes, instance)
 
 -- some term of a type
-filler-cost : (m : List Declaration) (args : List Tree) (a : Tree) (c : ℕ) → cost m [] a + 2 ≤ c → cost m [] (lift 1 a) + 2 ≤ c → cost m args (filler a) ≤ 3 * c + 4 * size a + 28
+filler-cost : (m : List Declaration) (args : List Tree) (a : Tree) (c : ℕ) → cost m [] a + 2 ≤ c → cost m [] (lift 1 a) + 2 ≤ c
+    → cost m args (filler a) ≤ 3 * c + 4 * size a + 28
 filler-cost m args a c h k =
     let same = size-lift 0 a in
     let under = size-lift 0 (lift 1 a) in
     let one = size-lift 1 a in
     omega (arith, h, k, same, under, one)
 
-pub stands-cost : (m : List Declaration) (symbols : Symbols) (args : List Tree) (v : Variable) (t : Tree) → TypeOver m symbols v.1 → StandsFor symbols v t → cost m args t ≤ 24 * type_size v.1 + 24
+pub stands-cost : (m : List Declaration) (symbols : Symbols) (args : List Tree) (v : Variable) (t : Tree) → TypeOver m symbols v.1 → StandsFor symbols v t
+    → cost m args t ≤ 24 * type_size v.1 + 24
 stands-cost m symbols args v (Var n) o entry = omega arith
 stands-cost m symbols args v t o (filling scope h) =
     let own = type_tree-cost m symbols scope h [] v.1 o in
@@ -241,7 +244,8 @@ stands-cost m symbols args v t o (filling scope h) =
     omega (arith, whole, most)
 
 -- A term
-pub term_tree-cost : (m : List Declaration) (symbols : Symbols) (args : List Tree) (scope : Scope) → IsPlainScope symbols scope → (t : Term) → TermOver m symbols t → cost m args (term_tree symbols scope t) ≤ 24 * term_size t
+pub term_tree-cost : (m : List Declaration) (symbols : Symbols) (args : List Tree) (scope : Scope) → IsPlainScope symbols scope → (t : Term)
+    → TermOver m symbols t → cost m args (term_tree symbols scope t) ≤ 24 * term_size t
 term_tree-cost m symbols args scope h (free n t) o = let l = stands-cost m symbols args (n, t) (scope.terms (n, t)) o (h.terms (n, t)) in omega (arith, l)
 term_tree-cost m symbols args scope h (bound k) o = let l = plain-cost m args (scope.bounds k) (h.bounds k) in omega (arith, l)
 term_tree-cost m symbols args scope h (constant n t) o = let l = constant_tree-cost m symbols scope.types h.types args n t o in omega (arith, l)

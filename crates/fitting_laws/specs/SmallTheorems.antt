@@ -47,7 +47,8 @@ pub total-map : {A : Type 0} (m : List Declaration) (c : ℕ) (f : A → Tree) (
 total-map m c f [] h = omega arith
 total-map m c f (x ∷ xs) h = let l = total-map m c f xs h.1 in omega (arith, h.0, l)
 
-domain_sizes-append : (s : ℕ → Tree) (ds es us vs : List Tree) → length us ≡ length ds → domain_sizes s (ds ++ es) (us ++ vs) ≡ domain_sizes s ds us + domain_sizes (after s us) es vs
+domain_sizes-append : (s : ℕ → Tree) (ds es us vs : List Tree) → length us ≡ length ds
+    → domain_sizes s (ds ++ es) (us ++ vs) ≡ domain_sizes s ds us + domain_sizes (after s us) es vs
 domain_sizes-append s [] es [] vs e = omega arith
 domain_sizes-append s [] es (u ∷ us) vs e = absurd (omega (arith, e))
 domain_sizes-append s (d ∷ ds) es [] vs e = absurd (omega (arith, e))
@@ -62,7 +63,8 @@ module _ (m : List Declaration) (G : List Tree) (symbols : Symbols) (other : Sco
       let rest = terms-sizes vs (under_term v scope) (cons (other.terms v) s) (TypesAgree-under m G symbols other P Q s (other.terms v) scope a) k.1 in
       omega (arith, same, rest)
 
-  proofs-sizes : (hs : List Term) (scope : Scope) (s : ℕ → Tree) → TypesAgree m G symbols other P Q s scope → TermsAgree m G symbols other P Q s scope → AllByRecursion (IsFormula symbols P Q) hs
+  proofs-sizes : (hs : List Term) (scope : Scope) (s : ℕ → Tree) → TypesAgree m G symbols other P Q s scope → TermsAgree m G symbols other P Q s scope
+      → AllByRecursion (IsFormula symbols P Q) hs
       → domain_sizes s (proof_domains symbols hs scope) (map other.proofs hs) ≡ term_sizes symbols other hs + 2 * length hs
   proofs-sizes [] scope s a b f = omega arith
   proofs-sizes (p ∷ ps) scope s a b f =
@@ -71,7 +73,8 @@ module _ (m : List Declaration) (G : List Tree) (symbols : Symbols) (other : Sco
       omega (arith, same, rest)
 
 -- A theorem in a scope
-pub theorem_tree-cost : (m : List Declaration) (symbols : Symbols) (scope : Scope) (s : Sequent) (symbol : ℕ) → symbol_type m symbol ≡ Some (sequent_tree symbols s) → IsSequent s → HasInstances symbols s
+pub theorem_tree-cost : (m : List Declaration) (symbols : Symbols) (scope : Scope) (s : Sequent) (symbol : ℕ)
+    → symbol_type m symbol ≡ Some (sequent_tree symbols s) → IsSequent s → HasInstances symbols s
     → cost m [] (theorem_tree scope symbol s) ≤ argument_cost symbols scope m s + total m (map scope.proofs s.hypotheses) + 2 * parameter_count s + 3
 theorem_tree-cost m symbols scope s symbol declared is instances =
     let P = IsIn (type_variables_of s) in

@@ -21,7 +21,8 @@ module _ {A : Type 0} (measure : A → ℕ) where
   sums-most c [] h = omega arith
   sums-most c (x ∷ xs) h = let l = sums-most c xs h.1 in omega (arith, h.0, l)
 
-  pub sums-flat_map : {B : Type 0} (own : B → ℕ) (parts : B → List A) → ((y : B) → sums measure (parts y) ≤ own y) → (ys : List B) → sums measure (flat_map parts ys) ≤ sums own ys
+  pub sums-flat_map : {B : Type 0} (own : B → ℕ) (parts : B → List A) → ((y : B) → sums measure (parts y) ≤ own y) → (ys : List B)
+      → sums measure (flat_map parts ys) ≤ sums own ys
   sums-flat_map own parts h [] = omega arith
   sums-flat_map own parts h (y ∷ ys) =
       let one = h y in

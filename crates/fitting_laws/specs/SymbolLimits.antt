@@ -56,7 +56,8 @@ pub sequent-sizes : (s : Sequent) → SequentWithin s → AllByRecursion (λ t. 
 sequent-sizes s h = sum_by-All term_size (terms_of s) greatest_size h.size
 
 -- the type variables of a part of a sequent are few
-pub few-places : (s : Sequent) → SequentWithin s → (ns : List Name) → AllByRecursion (IsIn (flat_map type_variable_places (terms_of s))) ns → length (distinct name_eq ns) ≤ greatest_parameter_count
+pub few-places : (s : Sequent) → SequentWithin s → (ns : List Name) → AllByRecursion (IsIn (flat_map type_variable_places (terms_of s))) ns
+    → length (distinct name_eq ns) ≤ greatest_parameter_count
 few-places s h ns all =
     let few = few-distinct ns (flat_map type_variable_places (terms_of s)) all in
     let most = h.parameters in

@@ -52,7 +52,8 @@ pub free_variables-depth : (s : Sequent) (d : ℕ) → AreShallowTerms d (terms_
 free_variables-depth s d h = All-distinct _ variable_eq (flat_map free_places (terms_of s)) (all_free_places-depth (terms_of s) d h)
 
 -- the type of a term is no deeper than twice the term above the deepest of its types
-pub type_under-depth : (d : ℕ) (binders : List HolType) → ((k : ℕ) (a : HolType) → slice_get binders k ≡ Some a → type_depth a ≤ d) → (t : Term) (a : HolType) → term_depth t ≤ d → type_under binders t ≡ Some a → type_depth a ≤ 2 * term_depth t + d
+pub type_under-depth : (d : ℕ) (binders : List HolType) → ((k : ℕ) (a : HolType) → slice_get binders k ≡ Some a → type_depth a ≤ d) → (t : Term) (a : HolType)
+    → term_depth t ≤ d → type_under binders t ≡ Some a → type_depth a ≤ 2 * term_depth t + d
 type_under-depth d binders b (free n t) a l e = let same = ap type_depth (same_Some _ _ e) in omega (arith, same, l)
 type_under-depth d binders b (bound k) a l e = let h = b k a e in omega (arith, h)
 type_under-depth d binders b (constant n t) a l e = let same = ap type_depth (same_Some _ _ e) in omega (arith, same, l)
@@ -66,7 +67,8 @@ type_under-depth d binders b (lam t c) a l e =
     let same = ap type_depth p.1.1 in
     omega (arith, h, same, l)
   where
-    under : (t : HolType) → type_depth t ≤ d → ((k : ℕ) (a : HolType) → slice_get binders k ≡ Some a → type_depth a ≤ d) → (k : ℕ) (a : HolType) → slice_get (t ∷ binders) k ≡ Some a → type_depth a ≤ d
+    under : (t : HolType) → type_depth t ≤ d → ((k : ℕ) (a : HolType) → slice_get binders k ≡ Some a → type_depth a ≤ d) → (k : ℕ) (a : HolType)
+        → slice_get (t ∷ binders) k ≡ Some a → type_depth a ≤ d
     under t l b zero a e = let same = ap type_depth (same_Some _ _ e) in omega (arith, same, l)
     under t l b (suc k) a e = b k a e
 
@@ -90,7 +92,8 @@ pub image-typed : (terms : TermPairs) → AreFitting terms → (v : Variable) �
 image-typed [] h v = refl
 image-typed (p ∷ ps) h v = go (variable_eq v p.0) (variable_eq-Decides v p.0).0 (image-typed ps h.1 v)
   where
-    go : (b : Bool) → (b ≡ true → v ≡ p.0) → HasType (term_image ps v) v.1 → HasType (unwrap_or (cond b (Some p.1) (lookup (variable_eq v) ps)) (free v.0 v.1)) v.1
+    go : (b : Bool) → (b ≡ true → v ≡ p.0) → HasType (term_image ps v) v.1
+        → HasType (unwrap_or (cond b (Some p.1) (lookup (variable_eq v) ps)) (free v.0 v.1)) v.1
     go true e k = subst (λ (w : Variable). HasType p.1 w.1) (sym (e refl)) h.0
     go false e k = k
 

@@ -94,13 +94,15 @@ module _ (one : Sequent) (within : SequentWithin one) where
   abbrev Within : Variable × Term → Type 0
   Within p = DefinitionWithin p.1
 
-  of_side : (q : Equation) (h : Term) → IsIn (terms_of one) h → equation_parts h ≡ Some q → (v : Variable) (t : Term) → (l : Term) → q.left ≡ l → variable_side l q.right ≡ Some (v, t) → DefinitionWithin t
+  of_side : (q : Equation) (h : Term) → IsIn (terms_of one) h → equation_parts h ≡ Some q → (v : Variable) (t : Term) → (l : Term) → q.left ≡ l
+      → variable_side l q.right ≡ Some (v, t) → DefinitionWithin t
   of_side q h i is v t (free n b) e f =
       let same : q.right ≡ t = ap (λ (p : Variable × Term). p.1) (same_Some _ _ f) in
       subst DefinitionWithin same (part-within one within h i q.right (right-part q.ty q.left q.right h (equation_parts-is h q is)))
   of_side q h i is v t l e f = absurd (cc)
 
-  of_parts : (h : Term) → IsIn (terms_of one) h → (o : Option Equation) → equation_parts h ≡ o → (v : Variable) (t : Term) → of_equation o ≡ Some (v, t) → DefinitionWithin t
+  of_parts : (h : Term) → IsIn (terms_of one) h → (o : Option Equation) → equation_parts h ≡ o → (v : Variable) (t : Term) → of_equation o ≡ Some (v, t)
+      → DefinitionWithin t
   of_parts h i None is v t e = absurd (cc)
   of_parts h i (Some q) is v t e = of_side q h i is v t q.left refl e
 
@@ -108,7 +110,8 @@ module _ (one : Sequent) (within : SequentWithin one) where
   equations-within [] k = tt
   equations-within (h ∷ hs) k = go (variable_equation h) (of_parts h k.0 (equation_parts h) refl) (equations-within hs k.1)
     where
-      go : (o : Option (Variable × Term)) → ((v : Variable) (t : Term) → o ≡ Some (v, t) → DefinitionWithin t) → AllByRecursion Within (filter_map variable_equation hs) → AllByRecursion Within (cons_option o (filter_map variable_equation hs))
+      go : (o : Option (Variable × Term)) → ((v : Variable) (t : Term) → o ≡ Some (v, t) → DefinitionWithin t)
+          → AllByRecursion Within (filter_map variable_equation hs) → AllByRecursion Within (cons_option o (filter_map variable_equation hs))
       go None f rest = rest
       go (Some p) f rest = (f p.0 p.1 refl, rest)
 
@@ -147,11 +150,14 @@ define_const_list-within s t g e =
     (with_symbols-within (with_stack s stack) xs g (list-within one (at-within (sequents_of s.made) i.0.0 (sequents-within s.made g)) pairs)) good.2
 
 -- the types that a type definition makes
-generic-of_law : (s : Sequent) → SequentWithin s → (a : HolType) → type_size a ≤ greatest_size → type_depth a ≤ greatest_depth → AllByRecursion (IsIn (flat_map type_variable_places (terms_of s))) (variable_places a) → GenericWithin a
+generic-of_law : (s : Sequent) → SequentWithin s → (a : HolType) → type_size a ≤ greatest_size → type_depth a ≤ greatest_depth
+    → AllByRecursion (IsIn (flat_map type_variable_places (terms_of s))) (variable_places a) → GenericWithin a
 generic-of_law s h a size depth places = record { size = omega (arith, size); depth = omega (arith, depth); variables = few-places s h (variable_places a) places }
 
 -- both constants stand in the first law
-law-places : (names : TypeNames) (c : HolType) (n : Name) → IsIn (variable_places (abstraction_type names c) ++ (variable_places (representation_type names c) ++ [])) n → IsIn (flat_map type_variable_places (terms_of (first_law names c))) n
+law-places : (names : TypeNames) (c : HolType) (n : Name)
+    → IsIn (variable_places (abstraction_type names c) ++ (variable_places (representation_type names c) ++ [])) n
+    → IsIn (flat_map type_variable_places (terms_of (first_law names c))) n
 law-places names c n k =
     let new = new_type names in
     let body = abstracted names c (represented names c (Term.bound 0)) in
@@ -161,7 +167,8 @@ law-places names c n k =
     (IsIn-right (type_variable_places equality) (type_variable_places (lam new body)) n
     (IsIn-right (variable_places new) (type_variable_places body) n k)))
 
-free-places : (names : TypeNames) (c : HolType) (n : Name) → IsIn (variable_places (abstraction_type names c) ++ (variable_places (representation_type names c) ++ variable_places (new_type names))) n
+free-places : (names : TypeNames) (c : HolType) (n : Name)
+    → IsIn (variable_places (abstraction_type names c) ++ (variable_places (representation_type names c) ++ variable_places (new_type names))) n
     → IsIn (flat_map type_variable_places (terms_of (first_law_free names c))) n
 free-places names c n k =
     let new = new_type names in
@@ -172,28 +179,34 @@ free-places names c n k =
     (IsIn-left (type_variable_places (app equality body)) (type_variable_places v) n
     (IsIn-right (type_variable_places equality) (type_variable_places body) n k))
 
-abstraction-places : (edition : Version) (names : TypeNames) (c : HolType) (n : Name) → IsIn (variable_places (abstraction_type names c)) n → IsIn (flat_map type_variable_places (terms_of (first_law_of edition names c))) n
+abstraction-places : (edition : Version) (names : TypeNames) (c : HolType) (n : Name) → IsIn (variable_places (abstraction_type names c)) n
+    → IsIn (flat_map type_variable_places (terms_of (first_law_of edition names c))) n
 abstraction-places Five names c n k = free-places names c n (IsIn-left (variable_places (abstraction_type names c)) (variable_places (representation_type names c) ++ variable_places (new_type names)) n k)
 abstraction-places Six names c n k = law-places names c n (IsIn-left (variable_places (abstraction_type names c)) (variable_places (representation_type names c) ++ []) n k)
 
-representation-places : (edition : Version) (names : TypeNames) (c : HolType) (n : Name) → IsIn (variable_places (representation_type names c)) n → IsIn (flat_map type_variable_places (terms_of (first_law_of edition names c))) n
+representation-places : (edition : Version) (names : TypeNames) (c : HolType) (n : Name) → IsIn (variable_places (representation_type names c)) n
+    → IsIn (flat_map type_variable_places (terms_of (first_law_of edition names c))) n
 representation-places Five names c n k =
     free-places names c n (IsIn-right (variable_places (abstraction_type names c)) (variable_places (representation_type names c) ++ variable_places (new_type names)) n (IsIn-left (variable_places (representation_type names c)) (variable_places (new_type names)) n k))
 representation-places Six names c n k =
     law-places names c n (IsIn-right (variable_places (abstraction_type names c)) (variable_places (representation_type names c) ++ []) n (IsIn-left (variable_places (representation_type names c)) [] n k))
 
-abstraction-within : (edition : Version) (names : TypeNames) (c : HolType) → SequentWithin (first_law_of edition names c) → type_size (abstraction_type names c) ≤ greatest_size → type_depth (abstraction_type names c) ≤ greatest_depth → GenericWithin (abstraction_type names c)
+abstraction-within : (edition : Version) (names : TypeNames) (c : HolType) → SequentWithin (first_law_of edition names c)
+    → type_size (abstraction_type names c) ≤ greatest_size → type_depth (abstraction_type names c) ≤ greatest_depth → GenericWithin (abstraction_type names c)
 abstraction-within edition names c h size depth =
     let a = abstraction_type names c in
     generic-of_law (first_law_of edition names c) h a size depth (All-each (IsIn (flat_map type_variable_places (terms_of (first_law_of edition names c)))) (variable_places a) (λ n k. abstraction-places edition names c n k))
 
-representation-within : (edition : Version) (names : TypeNames) (c : HolType) → SequentWithin (first_law_of edition names c) → type_size (representation_type names c) ≤ greatest_size → type_depth (representation_type names c) ≤ greatest_depth → GenericWithin (representation_type names c)
+representation-within : (edition : Version) (names : TypeNames) (c : HolType) → SequentWithin (first_law_of edition names c)
+    → type_size (representation_type names c) ≤ greatest_size → type_depth (representation_type names c) ≤ greatest_depth
+    → GenericWithin (representation_type names c)
 representation-within edition names c h size depth =
     let r = representation_type names c in
     generic-of_law (first_law_of edition names c) h r size depth (All-each (IsIn (flat_map type_variable_places (terms_of (first_law_of edition names c)))) (variable_places r) (λ n k. representation-places edition names c n k))
 
 -- defineTypeOp
-make_type-within : (edition : Version) (s t : State) (names : TypeNames) (i : ℕ) (c : HolType) (f : Term) → AreWithin s.made → make_type edition s names i c f ≡ Ok t → AreWithin t.made
+make_type-within : (edition : Version) (s t : State) (names : TypeNames) (i : ℕ) (c : HolType) (f : Term) → AreWithin s.made
+    → make_type edition s names i c f ≡ Ok t → AreWithin t.made
 make_type-within edition s t names i c f g e =
     let measures = type_measure (new_type names) ∷ type_measure (abstraction_type names c) ∷ type_measure (representation_type names c) ∷ sequent_measure (first_law_of edition names c) ∷ sequent_measure (second_law_of edition names c f) ∷ [] in
     let limits = passed (in_limits measures) _ t e in

@@ -1,8 +1,6 @@
 -- What is made in an accepted run is within the limits.
-use Rattle.hol_spec.specs.declared.Version.TheVariants.{Five}
-use Rattle.std.proofs.Common.{◌≡◌, ℕ, List, Ok, refl}
-use Rattle.std.specs.Prelude.{pos}
-use Rattle.std.specs.Ordering.{int_eq}
+use Rattle.hol_spec.specs.declared.Version.TheVariants.{Five, Six}
+use Rattle.std.proofs.Common.{◌≡◌, ℕ, List, Ok, refl, sym, ap, ◌∙◌, inl, inr, drop}
 use Rattle.hol_spec.specs.Proofs.{Accepted}
 use Rattle.article_spec.specs.declared.commands.Command.{Command}
 use Rattle.article_spec.specs.declared.commands.Item.{Item}
@@ -10,15 +8,14 @@ use Rattle.article_spec.specs.declared.commands.Item.TheVariants as item
 use Rattle.article_spec.specs.declared.commands.Word.{Word}
 use Rattle.article_spec.specs.declared.commands.Word.TheVariants as word
 use Rattle.article_spec.specs.State.{State, Place, start, version, body, initial}
-use Rattle.article_spec.specs.Conditions.{demand}
 use Rattle.article_spec.specs.Step.{obey, in_body, obey_item, second_word, step_at, step, finish}
 use Rattle.article_spec.specs.Run.{machine, accepted, Run}
-use Rattle.article_laws.specs.SoundStates.{passed}
+use Rattle.article_laws.specs.SecondWords.{second_word-cases}
 use Rattle.article_laws.specs.SoundSteps.{runs-have}
 use Rattle.fitting_laws.specs.SymbolLimits.{AreWithin}
 use Rattle.fitting_laws.specs.WithinStates.{answers}
 use Rattle.fitting_laws.specs.WithinBuilding.{nil-within, cons-within, hd_tl-within, type_op-within, var_type-within, op_type-within, const-within, const_term-within, var-within, var_term-within, app_term-within, abs_term-within, def-within, ref-within, remove-within, drop_object-within}
-use Rattle.fitting_laws.specs.WithinInference.{refl-within, assume-within, eq_mp-within, abs_thm-within, app_thm-within, deduct_antisym-within, beta_conv-within, sym-within, trans-within, prove_hyp-within, subst-within, axiom-within, thm-within}
+use Rattle.fitting_laws.specs.WithinInference.{rule-within, axiom-within, thm-within}
 use Rattle.fitting_laws.specs.WithinDefining.{define_const-within, define_const_list-within, define_type_op-within}
 
 -- Words
@@ -41,17 +38,17 @@ obey-within s t word.Ref g e = ref-within s t g e
 obey-within s t word.Remove g e = remove-within s t g e
 obey-within s t word.Pop g e = drop_object-within s t g e
 obey-within s t word.Pragma g e = drop_object-within s t g e
-obey-within s t word.Refl g e = refl-within s t g e
-obey-within s t word.Assume g e = assume-within s t g e
-obey-within s t word.EqMp g e = eq_mp-within s t g e
-obey-within s t word.AbsThm g e = abs_thm-within s t g e
-obey-within s t word.AppThm g e = app_thm-within s t g e
-obey-within s t word.DeductAntisym g e = deduct_antisym-within s t g e
-obey-within s t word.BetaConv g e = beta_conv-within s t g e
-obey-within s t word.Sym g e = sym-within s t g e
-obey-within s t word.Trans g e = trans-within s t g e
-obey-within s t word.ProveHyp g e = prove_hyp-within s t g e
-obey-within s t word.Subst g e = subst-within s t g e
+obey-within s t word.Refl g e = rule-within word.Refl (tt {0}) s t g e
+obey-within s t word.Assume g e = rule-within word.Assume (tt {0}) s t g e
+obey-within s t word.EqMp g e = rule-within word.EqMp (tt {0}) s t g e
+obey-within s t word.AbsThm g e = rule-within word.AbsThm (tt {0}) s t g e
+obey-within s t word.AppThm g e = rule-within word.AppThm (tt {0}) s t g e
+obey-within s t word.DeductAntisym g e = rule-within word.DeductAntisym (tt {0}) s t g e
+obey-within s t word.BetaConv g e = rule-within word.BetaConv (tt {0}) s t g e
+obey-within s t word.Sym g e = rule-within word.Sym (tt {0}) s t g e
+obey-within s t word.Trans g e = rule-within word.Trans (tt {0}) s t g e
+obey-within s t word.ProveHyp g e = rule-within word.ProveHyp (tt {0}) s t g e
+obey-within s t word.Subst g e = rule-within word.Subst (tt {0}) s t g e
 obey-within s t word.DefineConst g e = define_const-within s t g e
 obey-within s t word.DefineConstList g e = define_const_list-within s t g e
 obey-within s t word.DefineTypeOp g e = define_type_op-within s t g e
@@ -65,40 +62,10 @@ obey_item-within s t (item.Name n) g e = answers _ t e g
 obey_item-within s t (item.Word w) g e = obey-within s t w g e
 
 second_word-within : (s t : State) (w : Word) → AreWithin s.made → second_word s w ≡ Ok t → AreWithin t.made
-second_word-within s t word.Version g e = answers _ t e g
-second_word-within s t word.Nil g e = obey-within (in_body Five s) t word.Nil g e
-second_word-within s t word.Cons g e = obey-within (in_body Five s) t word.Cons g e
-second_word-within s t word.HdTl g e = obey-within (in_body Five s) t word.HdTl g e
-second_word-within s t word.TypeOp g e = obey-within (in_body Five s) t word.TypeOp g e
-second_word-within s t word.VarType g e = obey-within (in_body Five s) t word.VarType g e
-second_word-within s t word.OpType g e = obey-within (in_body Five s) t word.OpType g e
-second_word-within s t word.Const g e = obey-within (in_body Five s) t word.Const g e
-second_word-within s t word.ConstTerm g e = obey-within (in_body Five s) t word.ConstTerm g e
-second_word-within s t word.Var g e = obey-within (in_body Five s) t word.Var g e
-second_word-within s t word.VarTerm g e = obey-within (in_body Five s) t word.VarTerm g e
-second_word-within s t word.AppTerm g e = obey-within (in_body Five s) t word.AppTerm g e
-second_word-within s t word.AbsTerm g e = obey-within (in_body Five s) t word.AbsTerm g e
-second_word-within s t word.Def g e = obey-within (in_body Five s) t word.Def g e
-second_word-within s t word.Ref g e = obey-within (in_body Five s) t word.Ref g e
-second_word-within s t word.Remove g e = obey-within (in_body Five s) t word.Remove g e
-second_word-within s t word.Pop g e = obey-within (in_body Five s) t word.Pop g e
-second_word-within s t word.Pragma g e = obey-within (in_body Five s) t word.Pragma g e
-second_word-within s t word.Refl g e = obey-within (in_body Five s) t word.Refl g e
-second_word-within s t word.Assume g e = obey-within (in_body Five s) t word.Assume g e
-second_word-within s t word.EqMp g e = obey-within (in_body Five s) t word.EqMp g e
-second_word-within s t word.AbsThm g e = obey-within (in_body Five s) t word.AbsThm g e
-second_word-within s t word.AppThm g e = obey-within (in_body Five s) t word.AppThm g e
-second_word-within s t word.DeductAntisym g e = obey-within (in_body Five s) t word.DeductAntisym g e
-second_word-within s t word.BetaConv g e = obey-within (in_body Five s) t word.BetaConv g e
-second_word-within s t word.Sym g e = obey-within (in_body Five s) t word.Sym g e
-second_word-within s t word.Trans g e = obey-within (in_body Five s) t word.Trans g e
-second_word-within s t word.ProveHyp g e = obey-within (in_body Five s) t word.ProveHyp g e
-second_word-within s t word.Subst g e = obey-within (in_body Five s) t word.Subst g e
-second_word-within s t word.DefineConst g e = obey-within (in_body Five s) t word.DefineConst g e
-second_word-within s t word.DefineConstList g e = obey-within (in_body Five s) t word.DefineConstList g e
-second_word-within s t word.DefineTypeOp g e = obey-within (in_body Five s) t word.DefineTypeOp g e
-second_word-within s t word.Axiom g e = obey-within (in_body Five s) t word.Axiom g e
-second_word-within s t word.Thm g e = obey-within (in_body Five s) t word.Thm g e
+second_word-within s t w g e = elim (second_word-cases s w) [
+  | inl f ↦ answers (record s { stack = drop 1 s.stack; place = body Six }) t (let k : second_word s word.Version ≡ Ok t = ap (second_word s) (sym f) ∙ e in k) g
+  | inr f ↦ obey-within (in_body Five s) t w g (sym f ∙ e)
+]
 
 step_at-within : (s t : State) (p : Place) (i : Item) → AreWithin s.made → step_at p s i ≡ Ok t → AreWithin t.made
 step_at-within s t (start v) (item.Number z) g e = answers _ t e g

@@ -30,7 +30,8 @@ pub taking : (s t : State) (xs : List Symbol) (stack : List Object) → ◌≡�
 taking s t xs stack e g h = answers (with_symbols (with_stack s stack) xs) t e (with_symbols-within (with_stack s stack) xs g h)
 
 -- a type operator that is defined
-pub with_type_definition-within : (s : State) (names : TypeNames) (c : HolType) (f : Term) (i : ℕ) → AreWithin s.made → SymbolWithin (Symbol.defined (Definition.type_operator names c f)) → AreWithin (with_type_definition s names c f i).made
+pub with_type_definition-within : (s : State) (names : TypeNames) (c : HolType) (f : Term) (i : ℕ) → AreWithin s.made
+    → SymbolWithin (Symbol.defined (Definition.type_operator names c f)) → AreWithin (with_type_definition s names c f i).made
 with_type_definition-within s names c f i g h = All-append MadeWithin s.made (Made.type_definition names c f i ∷ []) g (h, tt {0})
 
 -- a step that concludes is within the limits

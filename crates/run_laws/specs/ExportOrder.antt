@@ -159,7 +159,8 @@ module _ (run : Accepted) (sound : IsSoundRun run) (rows : HaveRows run) where
       go false f e rest = inr (rest e)
 
   -- the item of an export is kept
-  pub export-kept : AreMadeInOrder [] items → (before zs : List Item) (z : Item) (s : Sequent) → items ≡ before ++ z ∷ zs → says z.content ≡ Some s → is_one_of (length (said_by before)) run.exports ≡ true
+  pub export-kept : AreMadeInOrder [] items → (before zs : List Item) (z : Item) (s : Sequent) → items ≡ before ++ z ∷ zs → says z.content ≡ Some s
+      → is_one_of (length (said_by before)) run.exports ≡ true
       → keep z.symbol ≡ true
   export-kept order before zs z s whole e one =
       let i = length (said_by before) in
@@ -237,13 +238,15 @@ module _ (run : Accepted) (sound : IsSoundRun run) (rows : HaveRows run) where
             at_n : (b : Bool) → is_one_of n run.exports ≡ b → is_one_of i run.exports ≡ b
             at_n b e = ap (λ k. is_one_of k run.exports) p ∙ e
 
-            named-export : IsStepName run i x.kind z.name → is_one_of n run.exports ≡ true → z.name ≡ codes "E" ++ numeral (position_or_len (nat_eq i) run.exports)
+            named-export : IsStepName run i x.kind z.name → is_one_of n run.exports ≡ true
+                → z.name ≡ codes "E" ++ numeral (position_or_len (nat_eq i) run.exports)
             named-export (IsStepName.an_export e w) one = w
             named-export (IsStepName.an_assumption e f k w) one = differ (at_n true one) e
             named-export (IsStepName.a_law e k w) one = differ (at_n true one) e
             named-export (IsStepName.a_theorem e k w) one = differ (at_n true one) e
 
-            other : IsStepName run i x.kind z.name → is_one_of n (done ++ rest) ≡ false → AreExports (image run) run (length done) rest (exports_among zs) → AreExports (image run) run (length done) rest (exports_among (z ∷ zs))
+            other : IsStepName run i x.kind z.name → is_one_of n (done ++ rest) ≡ false → AreExports (image run) run (length done) rest (exports_among zs)
+                → AreExports (image run) run (length done) rest (exports_among (z ∷ zs))
             other (IsStepName.an_export e w) out h = differ e (at_n false (ap (is_one_of n) split ∙ out))
             other (IsStepName.an_assumption e f k w) out h = subst (AreExports (image run) run (length done) rest) (sym (unexported z zs (other_first 65 _ z.name refl w))) h
             other (IsStepName.a_law e k w) out h = subst (AreExports (image run) run (length done) rest) (sym (unexported z zs (other_first 76 _ z.name refl w))) h

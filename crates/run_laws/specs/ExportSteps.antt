@@ -1,47 +1,46 @@
 -- Each export of an accepted run is a step that restates a theorem.
 use Rattle.hol_spec.specs.declared.Version.{Version}
-use Rattle.hol_spec.specs.declared.Version.TheVariants.{Five}
-use Rattle.std.proofs.Common.{◌≡◌, ℕ, List, [], ◌∷◌, ◌++◌, map, length, Bool, true, false, Result, Ok, Err, Option, Some, None, slice_get, refl, sym, ap, subst, ◌∙◌, append_assoc}
+use Rattle.hol_spec.specs.declared.Version.TheVariants.{Five, Six}
+use Rattle.std.proofs.Common.{◌≡◌, ℕ, List, [], ◌∷◌, ◌++◌, map, length, Bool, true, false, Result, Ok, Err, Option, Some, None, slice_get, refl, sym, ap, subst, ◌∙◌, append_assoc, inl, inr, drop}
 use Rattle.bridge_base.specs.declared.faults.Kind.{Kind}
 use Rattle.std.proofs.lemmas.List.{append-nil}
 use Rattle.hol_spec.specs.Proofs.{Made, Step, steps_of, Accepted, sequent_at, symbols_of}
-use Rattle.article_spec.specs.State.{State, Object, Place, start, version, body, version_at, initial, list, constant, variable}
+use Rattle.article_spec.specs.State.{State, Object, Place, start, version, body, version_at, initial, list, constant}
 use Rattle.article_spec.specs.Results.{◌>>=◌, ◌>>◌}
 use Rattle.article_spec.specs.Changes.{with_stack, conclude, next_step, with_symbols}
-use Rattle.article_spec.specs.Conditions.{sequent_in_limits, all_bool, follows, demand, in_limits, typed, type_in_limits, term_in_limits, arity_fits, generic_fits, is_of_type, equation_of}
-use Rattle.article_spec.specs.Inference.{eq_mp, refl_word, step_by, assume, abs_thm, app_thm, deduct_antisym, contracted, beta_conv, sym_word, trans_word, prove_hyp, subst_word}
-use Rattle.article_spec.specs.Operands.{as_name, as_names, as_term, as_theorem, as_constant_pairs, pop, as_number, as_list, as_type_operator, as_type, as_types, as_constant, as_variable, any_object, head_and_tail, as_terms, as_substitution}
-use Rattle.bridge_base.specs.declared.faults.Kind.TheVariants.{NameTaken, NotClosed, ExtraTypeVars, BadDefinitionList, NotTheSequent, NoSuchKey, TypeMismatch, NotBool, NotAlike, VarInHyps, NotRedex, BadSubst}
+use Rattle.article_spec.specs.Conditions.{sequent_in_limits, all_bool, follows, demand, in_limits, typed, type_in_limits, term_in_limits, arity_fits, generic_fits}
+use Rattle.article_spec.specs.Inference.{step_by}
+use Rattle.article_spec.specs.Operands.{as_name, as_names, as_term, as_theorem, as_constant_pairs, pop, as_number, as_list, as_type_operator, as_type, as_types, as_constant, as_variable, any_object, head_and_tail, as_terms}
+use Rattle.bridge_base.specs.declared.faults.Kind.TheVariants.{NameTaken, NotClosed, ExtraTypeVars, BadDefinitionList, NotTheSequent, NoSuchKey, TypeMismatch}
 use Rattle.hol_spec.specs.Defining.{is_closed, has_type_variables_of}
 use Rattle.hol_spec.specs.DefinitionLists.{names_of, defining_equations, is_definition_list, definitions_in, constants_put}
 use Rattle.hol_spec.specs.Definitions.{Definition, TypeNames}
-use Rattle.hol_spec.specs.Lists.{distinct}
 use Rattle.hol_spec.specs.Measures.{type_measure, sequent_measure}
 use Rattle.hol_spec.specs.NewTypes.{new_type, abstraction_type, representation_type}
-use Rattle.hol_spec.specs.Primitives.{bool, function}
-use Rattle.hol_spec.specs.Rules.{Parameters, constants, derived, nothing, variable, substitution, joined, removed, abstraction, is_free_in}
+use Rattle.hol_spec.specs.Rules.{Parameters, constants, derived, abstraction}
 use Rattle.hol_spec.specs.Sequents.{Sequent}
 use Rattle.hol_spec.specs.Symbols.{defined, is_taken_constant, generic_type, operator_arity, new_constant, new_operator}
 use Rattle.hol_spec.specs.TermSubstitution.{sub}
-use Rattle.hol_spec.specs.Terms.{Term, app, equation, term_eq, application_type, type_of}
+use Rattle.hol_spec.specs.Terms.{Term, equation, type_of}
 use Rattle.hol_spec.specs.TypeDefinitions.{first_law_of, second_law_of}
 use Rattle.hol_spec.specs.Types.{HolType, types_of}
 use Rattle.hol_spec.specs.declared.StepKind.TheVariants as by_rule
 use Rattle.std.specs.FinMap as entries
 use Rattle.std.specs.List.{list_all, list_any, AllByRecursion}
 use Rattle.std.specs.Option.{ok_or}
-use Rattle.std.specs.Prelude.{pos, not, ◌||◌, nat_eq, is_some}
+use Rattle.std.specs.Prelude.{not, ◌||◌, nat_eq, is_some}
 use Rattle.article_spec.specs.Building.{nil, cons, hd_tl, type_op, var_type, op_type, const, const_term, var, var_term, app_term, abs_term, def, ref, remove, drop_object}
 use Rattle.article_spec.specs.DefiningWords.{define_const, constant_objects, define_const_list, application_parts, predicate_fits, are_new_names, make_type, define_type, define_type_op}
 use Rattle.article_spec.specs.Stating.{stated, restatement, assume_or_meet, axiom_word, export, thm}
 use Rattle.article_spec.specs.Step.{obey, in_body, obey_item, second_word, step_at, finish}
 use Rattle.article_spec.specs.Run.{machine, accepted, Run}
+use Rattle.article_laws.specs.Inferred.{IsRule, rule-inferred}
+use Rattle.article_laws.specs.SecondWords.{second_word-cases}
 use Rattle.article_laws.specs.SoundSteps.{runs-have}
 use Rattle.article_spec.specs.declared.commands.Item.{Item}
 use Rattle.article_spec.specs.declared.commands.Item.TheVariants as item
 use Rattle.article_spec.specs.declared.commands.Word.{Word}
 use Rattle.article_spec.specs.declared.commands.Word.TheVariants as word
-use Rattle.std.specs.Ordering.{int_eq}
 use Rattle.std.specs.Cmp.{unsigned_Decides}
 use Rattle.std.proofs.lemmas.Option.{same_Some}
 use Rattle.lp_binding.specs.LookUps.{slice_get-append}
@@ -127,38 +126,9 @@ remove-keeps s = bind s (pop as_number s.stack) _ (λ p1. let k = p1.0 in let re
 drop_object-keeps : (s : State) → Keeps s (drop_object s)
 drop_object-keeps s = bind s (pop any_object s.stack) _ (λ p1. let x = p1.0 in let rest = p1.1 in Keeps-same s _ refl refl)
 
-refl_word-keeps : (s : State) → Keeps s (refl_word s)
-refl_word-keeps s = bind s (pop as_term s.stack) _ (λ p1. let t = p1.0 in let rest = p1.1 in bind s (typed t) _ (λ p2. let a = p2 in concluded s (with_stack s rest) (step_by by_rule.Refl [] (Parameters.term t) (derived [] (equation a t t))) refl [] (sym (append-nil s.made))))
-
-assume-keeps : (s : State) → Keeps s (assume s)
-assume-keeps s = bind s (pop as_term s.stack) _ (λ p1. let p = p1.0 in let rest = p1.1 in Keeps-bind s (demand (is_of_type bool p) NotBool) _ (concluded s (with_stack s rest) (step_by by_rule.Assume [] (Parameters.term p) (derived (p ∷ []) p)) refl [] (sym (append-nil s.made))))
-
-eq_mp-keeps : (s : State) → Keeps s (eq_mp s)
-eq_mp-keeps s = bind s (pop as_theorem s.stack) _ (λ p1. let j = p1.0 in let below = p1.1 in bind s (pop as_theorem below) _ (λ p2. let i = p2.0 in let rest = p2.1 in let one = sequent_at s.made i in let two = sequent_at s.made j in bind s (equation_of one) _ (λ p3. let e = p3 in Keeps-bind s (demand (term_eq two.conclusion e.left) NotAlike) _ (concluded s (with_stack s rest) (step_by by_rule.EqMp (i ∷ j ∷ []) nothing (derived (joined one.hypotheses two.hypotheses) e.right)) refl [] (sym (append-nil s.made))))))
-
-abs_thm-keeps : (s : State) → Keeps s (abs_thm s)
-abs_thm-keeps s = bind s (pop as_theorem s.stack) _ (λ p1. let i = p1.0 in let below = p1.1 in bind s (pop as_variable below) _ (λ p2. let v = p2.0 in let rest = p2.1 in let one = sequent_at s.made i in bind s (equation_of one) _ (λ p3. let e = p3 in Keeps-bind s (demand (not (is_free_in v one.hypotheses)) VarInHyps) _ (concluded s (with_stack s rest) (step_by by_rule.AbsThm (i ∷ []) (variable v) (derived one.hypotheses (equation (function v.1 e.ty) (abstraction v e.left) (abstraction v e.right)))) refl [] (sym (append-nil s.made))))))
-
-app_thm-keeps : (s : State) → Keeps s (app_thm s)
-app_thm-keeps s = bind s (pop as_theorem s.stack) _ (λ p1. let j = p1.0 in let below = p1.1 in bind s (pop as_theorem below) _ (λ p2. let i = p2.0 in let rest = p2.1 in let one = sequent_at s.made i in let two = sequent_at s.made j in bind s (equation_of one) _ (λ p3. let f = p3 in bind s (equation_of two) _ (λ p4. let x = p4 in bind s (ok_or (application_type (Some f.ty) (Some x.ty)) TypeMismatch) _ (λ p5. let b = p5 in concluded s (with_stack s rest) (step_by by_rule.AppThm (i ∷ j ∷ []) nothing (derived (joined one.hypotheses two.hypotheses) (equation b (app f.left x.left) (app f.right x.right)))) refl [] (sym (append-nil s.made)))))))
-
-deduct_antisym-keeps : (s : State) → Keeps s (deduct_antisym s)
-deduct_antisym-keeps s = bind s (pop as_theorem s.stack) _ (λ p1. let j = p1.0 in let below = p1.1 in bind s (pop as_theorem below) _ (λ p2. let i = p2.0 in let rest = p2.1 in let one = sequent_at s.made i in let two = sequent_at s.made j in concluded s (with_stack s rest) (step_by by_rule.DeductAntisym (i ∷ j ∷ []) nothing (derived (joined (removed one.hypotheses two.conclusion) (removed two.hypotheses one.conclusion)) (equation bool one.conclusion two.conclusion))) refl [] (sym (append-nil s.made))))
-
-beta_conv-keeps : (s : State) → Keeps s (beta_conv s)
-beta_conv-keeps s = bind s (pop as_term s.stack) _ (λ p1. let t = p1.0 in let rest = p1.1 in bind s (ok_or (contracted t) NotRedex) _ (λ p2. let u = p2 in bind s (typed t) _ (λ p3. let a = p3 in concluded s (with_stack s rest) (step_by by_rule.BetaConv [] (Parameters.term t) (derived [] (equation a t u))) refl [] (sym (append-nil s.made)))))
-
-sym_word-keeps : (s : State) → Keeps s (sym_word s)
-sym_word-keeps s = bind s (pop as_theorem s.stack) _ (λ p1. let i = p1.0 in let rest = p1.1 in let one = sequent_at s.made i in bind s (equation_of one) _ (λ p2. let e = p2 in concluded s (with_stack s rest) (step_by by_rule.Sym (i ∷ []) nothing (derived one.hypotheses (equation e.ty e.right e.left))) refl [] (sym (append-nil s.made))))
-
-trans_word-keeps : (s : State) → Keeps s (trans_word s)
-trans_word-keeps s = bind s (pop as_theorem s.stack) _ (λ p1. let j = p1.0 in let below = p1.1 in bind s (pop as_theorem below) _ (λ p2. let i = p2.0 in let rest = p2.1 in let one = sequent_at s.made i in let two = sequent_at s.made j in bind s (equation_of one) _ (λ p3. let e = p3 in bind s (equation_of two) _ (λ p4. let f = p4 in Keeps-bind s (demand (term_eq f.left e.right) NotAlike) _ (concluded s (with_stack s rest) (step_by by_rule.Trans (i ∷ j ∷ []) nothing (derived (joined one.hypotheses two.hypotheses) (equation e.ty e.left f.right))) refl [] (sym (append-nil s.made)))))))
-
-prove_hyp-keeps : (s : State) → Keeps s (prove_hyp s)
-prove_hyp-keeps s = bind s (pop as_theorem s.stack) _ (λ p1. let j = p1.0 in let below = p1.1 in bind s (pop as_theorem below) _ (λ p2. let i = p2.0 in let rest = p2.1 in let one = sequent_at s.made i in let two = sequent_at s.made j in concluded s (with_stack s rest) (step_by by_rule.ProveHyp (i ∷ j ∷ []) nothing (derived (joined one.hypotheses (removed two.hypotheses one.conclusion)) two.conclusion)) refl [] (sym (append-nil s.made))))
-
-subst_word-keeps : (s : State) → Keeps s (subst_word s)
-subst_word-keeps s = bind s (pop as_theorem s.stack) _ (λ p1. let i = p1.0 in let below = p1.1 in bind s (pop as_substitution below) _ (λ p2. let types = p2.0.0 in let terms = p2.0.1 in let rest = p2.1 in let one = sequent_at s.made i in Keeps-bind s (demand (list_all (λ p. is_of_type p.0.1 p.1) terms) BadSubst) _ (concluded s (with_stack s rest) (step_by by_rule.Subst (i ∷ []) (substitution types terms) (derived (distinct term_eq (map (sub types terms) one.hypotheses)) (sub types terms one.conclusion))) refl [] (sym (append-nil s.made)))))
+-- the words of the rules
+rule-keeps : (w : Word) → IsRule w → (s : State) → Keeps s (obey s w)
+rule-keeps w h s t e = let i = rule-inferred w h s t e in concluded s (with_stack s i.rest) i.step refl [] (sym (append-nil s.made)) t i.concluded
 
 define_const-keeps : (s : State) → Keeps s (define_const s)
 define_const-keeps s = bind s (pop as_term s.stack) _ (λ p1. let t = p1.0 in let below = p1.1 in bind s (pop as_name below) _ (λ p2. let n = p2.0 in let rest = p2.1 in Keeps-bind s (demand (not (is_taken_constant (symbols_of s.made) n)) NameTaken) _ (Keeps-bind s (demand (is_closed t) NotClosed) _ (bind s (typed t) _ (λ p3. let a = p3 in Keeps-bind s (demand (has_type_variables_of a t) ExtraTypeVars) _ (concluded s (with_symbols (with_stack s (constant n ∷ rest)) (defined (Definition.constant n t) ∷ [])) (step_by by_rule.DefineConst [] (Parameters.constant n t) (derived [] (equation a (Term.constant n a) t))) refl (map Made.symbol (defined (Definition.constant n t) ∷ [])) refl))))))
@@ -266,17 +236,17 @@ obey-gives s t word.Ref h e = extended s t h (ref-keeps s t e)
 obey-gives s t word.Remove h e = extended s t h (remove-keeps s t e)
 obey-gives s t word.Pop h e = extended s t h (drop_object-keeps s t e)
 obey-gives s t word.Pragma h e = extended s t h (drop_object-keeps s t e)
-obey-gives s t word.Refl h e = extended s t h (refl_word-keeps s t e)
-obey-gives s t word.Assume h e = extended s t h (assume-keeps s t e)
-obey-gives s t word.EqMp h e = extended s t h (eq_mp-keeps s t e)
-obey-gives s t word.AbsThm h e = extended s t h (abs_thm-keeps s t e)
-obey-gives s t word.AppThm h e = extended s t h (app_thm-keeps s t e)
-obey-gives s t word.DeductAntisym h e = extended s t h (deduct_antisym-keeps s t e)
-obey-gives s t word.BetaConv h e = extended s t h (beta_conv-keeps s t e)
-obey-gives s t word.Sym h e = extended s t h (sym_word-keeps s t e)
-obey-gives s t word.Trans h e = extended s t h (trans_word-keeps s t e)
-obey-gives s t word.ProveHyp h e = extended s t h (prove_hyp-keeps s t e)
-obey-gives s t word.Subst h e = extended s t h (subst_word-keeps s t e)
+obey-gives s t word.Refl h e = extended s t h (rule-keeps word.Refl (tt {0}) s t e)
+obey-gives s t word.Assume h e = extended s t h (rule-keeps word.Assume (tt {0}) s t e)
+obey-gives s t word.EqMp h e = extended s t h (rule-keeps word.EqMp (tt {0}) s t e)
+obey-gives s t word.AbsThm h e = extended s t h (rule-keeps word.AbsThm (tt {0}) s t e)
+obey-gives s t word.AppThm h e = extended s t h (rule-keeps word.AppThm (tt {0}) s t e)
+obey-gives s t word.DeductAntisym h e = extended s t h (rule-keeps word.DeductAntisym (tt {0}) s t e)
+obey-gives s t word.BetaConv h e = extended s t h (rule-keeps word.BetaConv (tt {0}) s t e)
+obey-gives s t word.Sym h e = extended s t h (rule-keeps word.Sym (tt {0}) s t e)
+obey-gives s t word.Trans h e = extended s t h (rule-keeps word.Trans (tt {0}) s t e)
+obey-gives s t word.ProveHyp h e = extended s t h (rule-keeps word.ProveHyp (tt {0}) s t e)
+obey-gives s t word.Subst h e = extended s t h (rule-keeps word.Subst (tt {0}) s t e)
 obey-gives s t word.DefineConst h e = extended s t h (define_const-keeps s t e)
 obey-gives s t word.DefineConstList h e = extended s t h (define_const_list-keeps s t e)
 obey-gives s t word.DefineTypeOp h e = extended s t h (define_type_op-keeps s t e)
@@ -289,40 +259,10 @@ obey_item-gives s t (item.Name n) h e = extended s t h (Keeps-same s _ refl refl
 obey_item-gives s t (item.Word w) h e = obey-gives s t w h e
 
 second_word-gives : (s t : State) (w : Word) → HasRestated s → second_word s w ≡ Ok t → HasRestated t
-second_word-gives s t word.Version h e = extended s t h (Keeps-same s _ refl refl t e)
-second_word-gives s t word.Nil h e = obey-gives (in_body Five s) t word.Nil h e
-second_word-gives s t word.Cons h e = obey-gives (in_body Five s) t word.Cons h e
-second_word-gives s t word.HdTl h e = obey-gives (in_body Five s) t word.HdTl h e
-second_word-gives s t word.TypeOp h e = obey-gives (in_body Five s) t word.TypeOp h e
-second_word-gives s t word.VarType h e = obey-gives (in_body Five s) t word.VarType h e
-second_word-gives s t word.OpType h e = obey-gives (in_body Five s) t word.OpType h e
-second_word-gives s t word.Const h e = obey-gives (in_body Five s) t word.Const h e
-second_word-gives s t word.ConstTerm h e = obey-gives (in_body Five s) t word.ConstTerm h e
-second_word-gives s t word.Var h e = obey-gives (in_body Five s) t word.Var h e
-second_word-gives s t word.VarTerm h e = obey-gives (in_body Five s) t word.VarTerm h e
-second_word-gives s t word.AppTerm h e = obey-gives (in_body Five s) t word.AppTerm h e
-second_word-gives s t word.AbsTerm h e = obey-gives (in_body Five s) t word.AbsTerm h e
-second_word-gives s t word.Def h e = obey-gives (in_body Five s) t word.Def h e
-second_word-gives s t word.Ref h e = obey-gives (in_body Five s) t word.Ref h e
-second_word-gives s t word.Remove h e = obey-gives (in_body Five s) t word.Remove h e
-second_word-gives s t word.Pop h e = obey-gives (in_body Five s) t word.Pop h e
-second_word-gives s t word.Pragma h e = obey-gives (in_body Five s) t word.Pragma h e
-second_word-gives s t word.Refl h e = obey-gives (in_body Five s) t word.Refl h e
-second_word-gives s t word.Assume h e = obey-gives (in_body Five s) t word.Assume h e
-second_word-gives s t word.EqMp h e = obey-gives (in_body Five s) t word.EqMp h e
-second_word-gives s t word.AbsThm h e = obey-gives (in_body Five s) t word.AbsThm h e
-second_word-gives s t word.AppThm h e = obey-gives (in_body Five s) t word.AppThm h e
-second_word-gives s t word.DeductAntisym h e = obey-gives (in_body Five s) t word.DeductAntisym h e
-second_word-gives s t word.BetaConv h e = obey-gives (in_body Five s) t word.BetaConv h e
-second_word-gives s t word.Sym h e = obey-gives (in_body Five s) t word.Sym h e
-second_word-gives s t word.Trans h e = obey-gives (in_body Five s) t word.Trans h e
-second_word-gives s t word.ProveHyp h e = obey-gives (in_body Five s) t word.ProveHyp h e
-second_word-gives s t word.Subst h e = obey-gives (in_body Five s) t word.Subst h e
-second_word-gives s t word.DefineConst h e = obey-gives (in_body Five s) t word.DefineConst h e
-second_word-gives s t word.DefineConstList h e = obey-gives (in_body Five s) t word.DefineConstList h e
-second_word-gives s t word.DefineTypeOp h e = obey-gives (in_body Five s) t word.DefineTypeOp h e
-second_word-gives s t word.Axiom h e = obey-gives (in_body Five s) t word.Axiom h e
-second_word-gives s t word.Thm h e = obey-gives (in_body Five s) t word.Thm h e
+second_word-gives s t w h e = elim (second_word-cases s w) [
+  | inl f ↦ extended s t h (Keeps-same s (record s { stack = drop 1 s.stack; place = body Six }) refl refl t (let k : second_word s word.Version ≡ Ok t = ap (second_word s) (sym f) ∙ e in k))
+  | inr f ↦ obey-gives (in_body Five s) t w h (sym f ∙ e)
+]
 
 step_at-gives : (s t : State) (p : Place) (i : Item) → HasRestated s → step_at p s i ≡ Ok t → HasRestated t
 step_at-gives s t (start v) (item.Number z) h e = extended s t h (Keeps-same s _ refl refl t e)

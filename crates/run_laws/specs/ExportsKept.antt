@@ -30,7 +30,8 @@ kept_items named made exports = image_items (keep_of (roots_of named made export
 abbrev pub IsDeclared : Naming → List Made → List ℕ → ℕ → Type 0
 IsDeclared named made exports k = (x : Item) × IsIn (kept_items named made exports) x × (says x.content ≡ Some (sequent_at made k))
 
-pub export-declared : (named : Naming) (made : List Made) → IsProof made → IsOver made → (exports : List ℕ) (k : ℕ) → IsIn exports k → k < length (steps_of made) → IsDeclared named made exports k
+pub export-declared : (named : Naming) (made : List Made) → IsProof made → IsOver made → (exports : List ℕ) (k : ℕ) → IsIn exports k
+    → k < length (steps_of made) → IsDeclared named made exports k
 export-declared named made proof over exports k i l =
     let ps = items_of named made in
     let roots = roots_of named made exports in

@@ -57,7 +57,8 @@ runs_are_faithful articles run r named =
     image-faithful run named (runs_are_sound articles run r) (runs_are_carried (name_in run) articles run r) (exports-proved articles run r)
 
 -- where the exports reach what has no body, the module stands for its run
-pub faithful-stands : (m : List Declaration) (run : Accepted) → IsFaithful m run → ((i : ℕ) (d : Declaration) → slice_get m i ≡ Some d → d.body ≡ None → IsReached m i) → Stands m run
+pub faithful-stands : (m : List Declaration) (run : Accepted) → IsFaithful m run
+    → ((i : ℕ) (d : Declaration) → slice_get m i ≡ Some d → d.body ≡ None → IsReached m i) → Stands m run
 faithful-stands m run h reached = record {
   is_module = h.is_module;
   typed = h.typed;

@@ -62,7 +62,8 @@ use Rattle.lp_spec.specs.Trees.{Sym}
 use Rattle.module_laws.specs.DefinitionsHeld.{closed-none}
 
 -- the declaration of a step with a proof is a theorem, with a body
-proved-body : (symbols : Symbols) (number : ℕ → ℕ) (name : List ℕ) (b : Bool) → b ≡ true → (kind : StepKind) (js : List ℕ) (ss : List Sequent) (g : Parameters) (s : Sequent)
+proved-body : (symbols : Symbols) (number : ℕ → ℕ) (name : List ℕ) (b : Bool) → b ≡ true
+    → (kind : StepKind) (js : List ℕ) (ss : List Sequent) (g : Parameters) (s : Sequent)
     → (declaration_of symbols name (renumbered_content number (content_by b kind js ss g s))).body ≡ None → ⊥
 proved-body symbols number name true e kind js ss g s f = absurd (cc)
 proved-body symbols number name false e kind js ss g s f = absurd (cc)
@@ -72,7 +73,8 @@ no_definition : (symbols : Symbols) (number : ℕ → ℕ) (name : List ℕ) (b 
 no_definition symbols number name true kind js ss g s f = absurd (cc)
 no_definition symbols number name false kind js ss g s f = absurd (cc)
 
-no_theorem : (symbols : Symbols) (number : ℕ → ℕ) (name : List ℕ) (b : Bool) → b ≡ false → (kind : StepKind) (js : List ℕ) (ss : List Sequent) (g : Parameters) (s : Sequent)
+no_theorem : (symbols : Symbols) (number : ℕ → ℕ) (name : List ℕ) (b : Bool) → b ≡ false
+    → (kind : StepKind) (js : List ℕ) (ss : List Sequent) (g : Parameters) (s : Sequent)
     → (declaration_of symbols name (renumbered_content number (content_by b kind js ss g s))).form ≡ Thm → ⊥
 no_theorem symbols number name true e kind js ss g s f = absurd (cc)
 no_theorem symbols number name false e kind js ss g s f = absurd (cc)
@@ -142,7 +144,8 @@ module _ (m : List Declaration) (symbols : Symbols) where
     meant-at c d e h = subst (λ b. ContentMeant m symbols (renumbered_content number b)) e h
 
     -- the declaration of a symbol without a body
-    pub symbol-given : (name : List ℕ) (c : Content) (x : Symbol) → IsIn (symbols_of run.made) x → IsIn (contents_of x) c → name ≡ symbol_name x → ContentMeant m symbols (renumbered_content number c)
+    pub symbol-given : (name : List ℕ) (c : Content) (x : Symbol) → IsIn (symbols_of run.made) x → IsIn (contents_of x) c → name ≡ symbol_name x
+        → ContentMeant m symbols (renumbered_content number c)
         → (made_of name c).body ≡ None → IsGiven m run (made_of name c)
     symbol-given name c (Symbol.input_constant n) i (inl e) w meant none = subst (IsGiven m run) (sym (λ t. made_of (w t) (e t))) (IsGiven.input_constant n (among (symbols_of run.made) _ i))
     symbol-given name c (Symbol.input_constant n) i (inr k) w meant none = absurd k
@@ -153,14 +156,16 @@ module _ (m : List Declaration) (symbols : Symbols) where
     symbol-given name c (Symbol.defined (Definition.type_operator names a f)) i k w meant none = absurd k
 
     -- what a type definition makes has a body
-    pub part-body : (name : List ℕ) (c : Content) (names : TypeNames) (a : HolType) (f : Term) (one : ℕ × Sequent) → IsIn (type_contents names a f one) c → (made_of name c).body ≡ None → ⊥
+    pub part-body : (name : List ℕ) (c : Content) (names : TypeNames) (a : HolType) (f : Term) (one : ℕ × Sequent) → IsIn (type_contents names a f one) c
+        → (made_of name c).body ≡ None → ⊥
     part-body name c names a f one (inl e) none = let g : Some _ ≡ None = sym (ap (λ b. (made_of name b).body) e) ∙ none in absurd (cc)
     part-body name c names a f one (inr (inl e)) none = let g : Some _ ≡ None = sym (ap (λ b. (made_of name b).body) e) ∙ none in absurd (cc)
     part-body name c names a f one (inr (inr (inl e))) none = let g : Some _ ≡ None = sym (ap (λ b. (made_of name b).body) e) ∙ none in absurd (cc)
     part-body name c names a f one (inr (inr (inr k))) none = absurd k
 
     -- the declaration of a definition
-    pub symbol-defined : (name : List ℕ) (c : Content) (x : Symbol) (front : List Item) → IsContent front c → IsIn (symbols_of run.made) x → IsIn (contents_of x) c → name ≡ symbol_name x → ContentMeant m symbols (renumbered_content number c)
+    pub symbol-defined : (name : List ℕ) (c : Content) (x : Symbol) (front : List Item) → IsContent front c → IsIn (symbols_of run.made) x
+        → IsIn (contents_of x) c → name ≡ symbol_name x → ContentMeant m symbols (renumbered_content number c)
         → (made_of name c).form ≡ Def → IsDefined m run (made_of name c)
     symbol-defined name c (Symbol.input_constant n) front h i (inl e) w meant def = let f = sym (ap (λ b. (made_of name b).form) e) ∙ def in absurd (cc)
     symbol-defined name c (Symbol.input_constant n) front h i (inr k) w meant def = absurd k
@@ -188,7 +193,9 @@ module _ (m : List Declaration) (symbols : Symbols) where
     symbol-defined name c (Symbol.defined (Definition.type_operator names a f)) front h i k w meant def = absurd k
 
     -- the declaration of what a type definition makes
-    part-of : (names : TypeNames) (a : HolType) (f : Term) (j : ℕ) (one : Sequent) → IsIn (symbols_of run.made) (Symbol.defined (Definition.type_operator names a f)) → IsTypeDefinition names a f one → IsPartPremise m symbols names a (number j) one
+    part-of : (names : TypeNames) (a : HolType) (f : Term) (j : ℕ) (one : Sequent)
+        → IsIn (symbols_of run.made) (Symbol.defined (Definition.type_operator names a f)) → IsTypeDefinition names a f one
+        → IsPartPremise m symbols names a (number j) one
         → TypeMeant m symbols a → Enc m (closed_form one) (sequent_tree symbols one) → AllByRecursion (TermMeant m symbols) (terms_of one) → (vs : List Name) → IsDistinct name_eq vs
         → ((n : Name) → IsIn names.variables n → IsIn vs n) → IsPartOf m run names a f vs (part_arguments_of symbols (filled symbols (under_types vs unfilled)) a (number j, one))
     part-of names a f j one i d p meant enc terms vs distinct has =
@@ -219,7 +226,8 @@ module _ (m : List Declaration) (symbols : Symbols) where
           are = λ t. type_tree symbols scope.types a ∷ term_tree symbols scope (same t) ∷ term_tree symbols scope (witness one.conclusion) ∷ premise_tree scope (number j, one) ∷ [];
         }
 
-    pub part-defined : (name : List ℕ) (c : Content) (names : TypeNames) (a : HolType) (f : Term) (j : ℕ) (one : Sequent) → IsIn (symbols_of run.made) (Symbol.defined (Definition.type_operator names a f)) → IsIn (type_contents names a f (j, one)) c
+    pub part-defined : (name : List ℕ) (c : Content) (names : TypeNames) (a : HolType) (f : Term) (j : ℕ) (one : Sequent)
+        → IsIn (symbols_of run.made) (Symbol.defined (Definition.type_operator names a f)) → IsIn (type_contents names a f (j, one)) c
         → name ≡ type_definition_name c → IsTypeDefinition names a f one → IsPartPremise m symbols names a (number j) one → ContentMeant m symbols (renumbered_content number c)
         → Enc m (closed_form one) (sequent_tree symbols one) → AllByRecursion (TermMeant m symbols) (terms_of one) → IsDefined m run (made_of name c)
     part-defined name c names a f j one i (inl e) w d p meant enc terms =
@@ -261,7 +269,8 @@ module _ (m : List Declaration) (symbols : Symbols) where
     symbol-no_theorem name c (Symbol.defined (Definition.type_operator names a f)) k thm = absurd k
 
     -- nor is that of what a type definition makes
-    pub part-no_theorem : (name : List ℕ) (c : Content) (names : TypeNames) (a : HolType) (f : Term) (one : ℕ × Sequent) → IsIn (type_contents names a f one) c → (made_of name c).form ≡ Thm → ⊥
+    pub part-no_theorem : (name : List ℕ) (c : Content) (names : TypeNames) (a : HolType) (f : Term) (one : ℕ × Sequent) → IsIn (type_contents names a f one) c
+        → (made_of name c).form ≡ Thm → ⊥
     part-no_theorem name c names a f one (inl e) thm = let g = sym (ap (λ b. (made_of name b).form) e) ∙ thm in absurd (cc)
     part-no_theorem name c names a f one (inr (inl e)) thm = let g = sym (ap (λ b. (made_of name b).form) e) ∙ thm in absurd (cc)
     part-no_theorem name c names a f one (inr (inr (inl e))) thm = let g = sym (ap (λ b. (made_of name b).form) e) ∙ thm in absurd (cc)
@@ -278,7 +287,8 @@ module _ (m : List Declaration) (symbols : Symbols) where
     law-row kind (inr e) = ap has_row e
 
     -- the declaration of a step without a proof
-    pub step-given : (rows : HaveRows run) (name : List ℕ) (c : Content) (i : ℕ) (x : Step) (kind : StepKind) (js : List ℕ) (ss : List Sequent) (g : Parameters) → slice_get (steps_of run.made) i ≡ Some x
+    pub step-given : (rows : HaveRows run) (name : List ℕ) (c : Content) (i : ℕ) (x : Step) (kind : StepKind) (js : List ℕ) (ss : List Sequent) (g : Parameters)
+        → slice_get (steps_of run.made) i ≡ Some x
         → c ≡ content_by (has_row x.kind) kind js ss g x.sequent → IsStepName run i x.kind name → Enc m (closed_form (sequent_at run.made i)) (made_of name c).ty → (made_of name c).body ≡ None → IsGiven m run (made_of name c)
     step-given rows name c i x kind js ss g at e w enc none = go (has_row x.kind) refl w
       where
@@ -295,7 +305,8 @@ module _ (m : List Declaration) (symbols : Symbols) where
 
 module _ (run : Accepted) (named : HasNames run) (sound : IsSoundRun run) (rows : HaveRows run) (order : AreMadeInOrder [] (items_of (name_in run) run.made))
     (origins : AllByRecursion (Origin run run.made Always) (items_of (name_in run) run.made)) where
-  content-of : (z : Item) → IsIn (items run named sound) z → keep run named sound z.symbol ≡ true → ContentMeant (image run) (symbols run named sound) (renumbered_content (number run named sound) z.content)
+  content-of : (z : Item) → IsIn (items run named sound) z → keep run named sound z.symbol ≡ true
+      → ContentMeant (image run) (symbols run named sound) (renumbered_content (number run named sound) z.content)
   content-of z i k =
       (All-at (BothMeant run named sound) (stays run named sound) (renumbered (number run named sound) z) (stays-meant run named sound order origins)
       (IsIn-map (renumbered (number run named sound)) (kept (keep run named sound) (items run named sound)) z (IsIn-kept (keep run named sound) (items run named sound) z i k))).1
@@ -305,7 +316,8 @@ module _ (run : Accepted) (named : HasNames run) (sound : IsSoundRun run) (rows 
       step_name-is run j x.kind (λ idle. ap (is_one_of j) sound.assumptions ∙ subst (λ k. is_one_of k (assumed_from 0 (steps_of run.made)) ≡ true) (zero-plus j) (is-assumed 0 (steps_of run.made) j x at idle))
 
   -- What has no body was given
-  pub item-given : (z : Item) → IsIn (items run named sound) z → keep run named sound z.symbol ≡ true → (declared run named sound z).body ≡ None → IsGiven (image run) run (declared run named sound z)
+  pub item-given : (z : Item) → IsIn (items run named sound) z → keep run named sound z.symbol ≡ true → (declared run named sound z).body ≡ None
+      → IsGiven (image run) run (declared run named sound z)
   item-given z i k none = go (All-at (Origin run run.made Always) (items run named sound) z origins i)
     where
       go : Origin run run.made Always z → IsGiven (image run) run (declared run named sound z)
@@ -339,7 +351,8 @@ module _ (run : Accepted) (named : HasNames run) (sound : IsSoundRun run) (rows 
       All-at (HoldsItem (image run) (symbols run named sound)) (stays run named sound) (renumbered (number run named sound) z) stays-hold
       (IsIn-map (renumbered (number run named sound)) (kept (keep run named sound) (items run named sound)) z (IsIn-kept (keep run named sound) (items run named sound) z i k))
 
-  premise-told : (z : Item) (i : IsIn (items run named sound) z) → keep run named sound z.symbol ≡ true → (names : TypeNames) (c : HolType) (f : Term) (one : ℕ × Sequent) → IsPart (asked z i).front names c f one.0 one.1
+  premise-told : (z : Item) (i : IsIn (items run named sound) z) → keep run named sound z.symbol ≡ true
+      → (names : TypeNames) (c : HolType) (f : Term) (one : ℕ × Sequent) → IsPart (asked z i).front names c f one.0 one.1
       → IsIn (needs z.content) (number_key one.0) → IsPartPremise (image run) (symbols run named sound) names c (number run named sound one.0) one.1 → PremiseOf names c f one
   premise-told z i k names c f one part needed p =
       let x = part.among.0.0 in
@@ -354,7 +367,8 @@ module _ (run : Accepted) (named : HasNames run) (sound : IsSoundRun run) (rows 
         meant = content-terms run named sound (renumbered_content (number run named sound) x.content) one.1 renamed (content-of x inside keeps);
       }
 
-  premise-of : (z : Item) → IsIn (items run named sound) z → keep run named sound z.symbol ≡ true → (names : TypeNames) (c : HolType) (f : Term) (one : ℕ × Sequent) → IsIn (type_contents names c f one) z.content → PremiseOf names c f one
+  premise-of : (z : Item) → IsIn (items run named sound) z → keep run named sound z.symbol ≡ true
+      → (names : TypeNames) (c : HolType) (f : Term) (one : ℕ × Sequent) → IsIn (type_contents names c f one) z.content → PremiseOf names c f one
   premise-of z i k names c f one (inl e) =
       premise-told z i k names c f one (subst (IsContent (asked z i).front) e (asked z i).content) (subst (λ d. IsIn (needs d) (number_key one.0)) (sym e) (inl refl))
       (subst (λ d. Holds (image run) (symbols run named sound) (number run named sound z.symbol) (renumbered_content (number run named sound) d)) e (held-at z i k)).is
@@ -367,7 +381,8 @@ module _ (run : Accepted) (named : HasNames run) (sound : IsSoundRun run) (rows 
   premise-of z i k names c f one (inr (inr (inr n))) = absurd n
 
   -- What is defined the run defined
-  pub item-defined : (z : Item) → IsIn (items run named sound) z → keep run named sound z.symbol ≡ true → (declared run named sound z).form ≡ Def → IsDefined (image run) run (declared run named sound z)
+  pub item-defined : (z : Item) → IsIn (items run named sound) z → keep run named sound z.symbol ≡ true → (declared run named sound z).form ≡ Def
+      → IsDefined (image run) run (declared run named sound z)
   item-defined z i k def = go (All-at (Origin run run.made Always) (items run named sound) z origins i)
     where
       go : Origin run run.made Always z → IsDefined (image run) run (declared run named sound z)

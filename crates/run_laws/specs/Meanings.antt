@@ -39,7 +39,8 @@ use Rattle.run_laws.specs.RunModules.{declaration-name}
 
 -- The type of a term whose symbols mean what they stand for has such symbols
 module _ (m : List Declaration) (symbols : Symbols) where
-  pub TypeMeant-type_under : (binders : List HolType) → ((k : ℕ) (a : HolType) → slice_get binders k ≡ Some a → TypeMeant m symbols a) → (t : Term) (a : HolType) → TermMeant m symbols t → type_under binders t ≡ Some a → TypeMeant m symbols a
+  pub TypeMeant-type_under : (binders : List HolType) → ((k : ℕ) (a : HolType) → slice_get binders k ≡ Some a → TypeMeant m symbols a)
+      → (t : Term) (a : HolType) → TermMeant m symbols t → type_under binders t ≡ Some a → TypeMeant m symbols a
   TypeMeant-type_under binders b (term.Term.free n t) a h e = subst (TypeMeant m symbols) (same_Some _ _ e) h
   TypeMeant-type_under binders b (term.Term.bound k) a h e = b k a e
   TypeMeant-type_under binders b (term.Term.constant n t) a h e = subst (TypeMeant m symbols) (same_Some _ _ e) h.ty
@@ -50,7 +51,8 @@ module _ (m : List Declaration) (symbols : Symbols) where
       let p = abstraction_type-is t (type_under (t ∷ binders) c) a e in
       subst (TypeMeant m symbols) (sym p.1.1) (means_operator.MeansOperator.arrow refl, (h.0, (TypeMeant-type_under (t ∷ binders) (under t b h.0) c p.0 h.1 p.1.0, tt {0})))
     where
-      under : (t : HolType) → ((k : ℕ) (a : HolType) → slice_get binders k ≡ Some a → TypeMeant m symbols a) → TypeMeant m symbols t → (k : ℕ) (a : HolType) → slice_get (t ∷ binders) k ≡ Some a → TypeMeant m symbols a
+      under : (t : HolType) → ((k : ℕ) (a : HolType) → slice_get binders k ≡ Some a → TypeMeant m symbols a) → TypeMeant m symbols t → (k : ℕ) (a : HolType)
+          → slice_get (t ∷ binders) k ≡ Some a → TypeMeant m symbols a
       under t b h zero a e = subst (TypeMeant m symbols) (same_Some _ _ e) h
       under t b h (suc k) a e = b k a e
 
@@ -63,11 +65,13 @@ module _ (m : List Declaration) (symbols : Symbols) where
           let same : j ≡ k = same_Some _ _ (sym a ∙ h) in
           subst (λ i. MeansOperator m (operator_symbol symbols n i) n i) same (subst (λ r. MeansOperator m r n j) (sym e) d)
 
-      third : (b : Bool) → name_eq n ind_name ≡ b → (name_eq n ind_name ≡ true → n ≡ ind_name) → name_eq n bool_name ≡ false → name_eq n arrow_name ≡ false → MeansOperator m (operator_symbol symbols n k) n k
+      third : (b : Bool) → name_eq n ind_name ≡ b → (name_eq n ind_name ≡ true → n ≡ ind_name) → name_eq n bool_name ≡ false → name_eq n arrow_name ≡ false
+          → MeansOperator m (operator_symbol symbols n k) n k
       third true e is f g = at ind_symbol 0 (rw (g, f, e) refl) (rw (g, f, e) refl) (subst (λ l. MeansOperator m ind_symbol l 0) (sym (is e)) (means_operator.MeansOperator.individuals refl))
       third false e is f g = let a : primitive_arity n ≡ None = rw (g, f, e) refl in absurd (cc)
 
-      second : (b : Bool) → name_eq n bool_name ≡ b → (name_eq n bool_name ≡ true → n ≡ bool_name) → name_eq n arrow_name ≡ false → MeansOperator m (operator_symbol symbols n k) n k
+      second : (b : Bool) → name_eq n bool_name ≡ b → (name_eq n bool_name ≡ true → n ≡ bool_name) → name_eq n arrow_name ≡ false
+          → MeansOperator m (operator_symbol symbols n k) n k
       second true f is g = at bool_symbol 0 (rw (g, f) refl) (rw (g, f) refl) (subst (λ l. MeansOperator m bool_symbol l 0) (sym (is f)) (means_operator.MeansOperator.truth_values refl))
       second false f is g = third (name_eq n ind_name) refl (name_eq-Decides n ind_name).0 f g
 
@@ -89,7 +93,8 @@ module _ (m : List Declaration) (symbols : Symbols) where
       own : generic_type symbols n ≡ g
       own = ap (λ o. unwrap_or o (symbols.generic n)) h
 
-      at : (s : ℕ) (t : HolType) → primitive_type n ≡ Some t → constant_symbol symbols n ≡ s → MeansConstant m s n (length (type_variables t)) (close_type (type_variables t) t) → GenericMeant n g
+      at : (s : ℕ) (t : HolType) → primitive_type n ≡ Some t → constant_symbol symbols n ≡ s
+          → MeansConstant m s n (length (type_variables t)) (close_type (type_variables t) t) → GenericMeant n g
       at s t a e d =
           let same : t ≡ g = same_Some _ _ (sym a ∙ h) in
           record { means = subst (MeantAt n) same (subst (λ r. MeansConstant m r n (length (type_variables t)) (close_type (type_variables t) t)) (sym e) d); is = own }
@@ -186,7 +191,8 @@ module _ (m : List Declaration) (symbols : Symbols) where
     ty c d = ap (option_map (λ (e : Declaration). e.ty)) d
 
     -- a constant at its generic type
-    named-constant : (n : Name) (a : HolType) (c : Content) → IsName n → primitive_type n ≡ None → name ≡ codes "c_" ++ mangled n → Declares c → (declaration_of symbols name c).ty ≡ generic_tree symbols a
+    named-constant : (n : Name) (a : HolType) (c : Content) → IsName n → primitive_type n ≡ None → name ≡ codes "c_" ++ mangled n → Declares c
+        → (declaration_of symbols name c).ty ≡ generic_tree symbols a
         → constant_symbol symbols n ≡ i → generic_type symbols n ≡ a → TypeMeant m symbols a → GenericMeant n a
     named-constant n a c is other w d e t g meant = record {
       means = subst (MeantAt n) g
@@ -195,7 +201,8 @@ module _ (m : List Declaration) (symbols : Symbols) where
     }
 
     -- The symbol of an item means what it stands for
-    pub symbol-meant : (before : List Item) (c : Content) → IsSymbolName ss c name → IsNew before c → Tells symbols i c → ContentMeant c → Declares c → ItemMeant c
+    pub symbol-meant : (before : List Item) (c : Content) → IsSymbolName ss c name → IsNew before c → Tells symbols i c → ContentMeant c → Declares c
+        → ItemMeant c
     symbol-meant before c (IsSymbolName.an_input n is e w) new tells meant d =
         let t = subst (Tells symbols i) e tells in
         let k = subst (IsNew before) e new in

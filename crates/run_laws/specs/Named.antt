@@ -43,7 +43,8 @@ pub at-place : (i : ℕ) (is : List ℕ) → is_one_of i is ≡ true → slice_g
 at-place i [] e = absurd (cc)
 at-place i (j ∷ is) e = go (nat_eq i j) refl (unsigned_Decides i j).0 e (at-place i is)
   where
-    go : (b : Bool) → nat_eq i j ≡ b → (nat_eq i j ≡ true → i ≡ j) → (b || is_one_of i is) ≡ true → (is_one_of i is ≡ true → slice_get is (position_or_len (nat_eq i) is) ≡ Some i)
+    go : (b : Bool) → nat_eq i j ≡ b → (nat_eq i j ≡ true → i ≡ j) → (b || is_one_of i is) ≡ true
+        → (is_one_of i is ≡ true → slice_get is (position_or_len (nat_eq i) is) ≡ Some i)
         → slice_get (j ∷ is) (position_or_len (nat_eq i) (j ∷ is)) ≡ Some i
     go true is_it f e rest = ap (slice_get (j ∷ is)) (position-cons (nat_eq i) j is true is_it) ∙ ap Some (sym (f is_it))
     go false is_it f e rest = ap (slice_get (j ∷ is)) (position-cons (nat_eq i) j is false is_it) ∙ rest e
@@ -74,19 +75,22 @@ is-assumed k (y ∷ xs) zero x at idle =
 is-assumed k (y ∷ xs) (suc i) x at idle =
     let z : k + 1 + i ≡ k + suc i = omega arith in go (infers y.kind) (subst (λ j. is_one_of j (assumed_from (k + 1) xs) ≡ true) z (is-assumed (k + 1) xs i x at idle))
   where
-    go : (b : Bool) → is_one_of (k + suc i) (assumed_from (k + 1) xs) ≡ true → is_one_of (k + suc i) (cond b (assumed_from (k + 1) xs) (k ∷ assumed_from (k + 1) xs)) ≡ true
+    go : (b : Bool) → is_one_of (k + suc i) (assumed_from (k + 1) xs) ≡ true
+        → is_one_of (k + suc i) (cond b (assumed_from (k + 1) xs) (k ∷ assumed_from (k + 1) xs)) ≡ true
     go true rest = rest
     go false rest = more-one (k + suc i) k (assumed_from (k + 1) xs) rest
 
 -- The name of a step: `E` and its place among the exports, `A` and its place among the assumptions, or `L` or `T` and its number
 pub data IsStepName (run : Accepted) (i : ℕ) (kind : StepKind) (name : List ℕ) : Type 0 where
   an_export : is_one_of i run.exports ≡ true → name ≡ codes "E" ++ numeral (position_or_len (nat_eq i) run.exports) → IsStepName run i kind name
-  an_assumption : is_one_of i run.exports ≡ false → is_one_of i run.assumptions ≡ true → kind ≡ kinds.Axiom → name ≡ codes "A" ++ numeral (position_or_len (nat_eq i) run.assumptions) → IsStepName run i kind name
+  an_assumption : is_one_of i run.exports ≡ false → is_one_of i run.assumptions ≡ true → kind ≡ kinds.Axiom
+      → name ≡ codes "A" ++ numeral (position_or_len (nat_eq i) run.assumptions) → IsStepName run i kind name
   a_law : is_one_of i run.exports ≡ false → (kind ≡ kinds.FirstLaw) ⊎ (kind ≡ kinds.SecondLaw) → name ≡ codes "L" ++ numeral i → IsStepName run i kind name
   a_theorem : is_one_of i run.exports ≡ false → has_row kind ≡ true → name ≡ codes "T" ++ numeral i → IsStepName run i kind name
 
 module _ (run : Accepted) (i : ℕ) where
-  unexported : (kind : StepKind) → (infers kind ≡ false → is_one_of i run.assumptions ≡ true) → is_one_of i run.exports ≡ false → IsStepName run i kind (unexported_name run.assumptions i kind)
+  unexported : (kind : StepKind) → (infers kind ≡ false → is_one_of i run.assumptions ≡ true) → is_one_of i run.exports ≡ false
+      → IsStepName run i kind (unexported_name run.assumptions i kind)
   unexported kinds.Axiom f out = IsStepName.an_assumption out (f refl) refl refl
   unexported kinds.FirstLaw f out = IsStepName.a_law out (inl refl) refl
   unexported kinds.SecondLaw f out = IsStepName.a_law out (inr refl) refl
@@ -108,7 +112,8 @@ module _ (run : Accepted) (i : ℕ) where
   pub step_name-is : (kind : StepKind) → (infers kind ≡ false → is_one_of i run.assumptions ≡ true) → IsStepName run i kind (step_name run i kind)
   step_name-is kind f = go (is_one_of i run.exports) refl
     where
-      go : (b : Bool) → is_one_of i run.exports ≡ b → IsStepName run i kind (cond b (codes "E" ++ place_among i run.exports) (unexported_name run.assumptions i kind))
+      go : (b : Bool) → is_one_of i run.exports ≡ b
+          → IsStepName run i kind (cond b (codes "E" ++ place_among i run.exports) (unexported_name run.assumptions i kind))
       go true e = IsStepName.an_export e refl
       go false e = unexported kind f e
 

@@ -44,12 +44,15 @@ constant_named c = None
 -- The name of a symbol's item
 pub data IsSymbolName (symbols : List Symbol) (c : Content) (name : List ℕ) : Type 0 where
   an_input : (n : Name) → IsName n → c ≡ constant n generic → name ≡ codes "i_" ++ mangled n → IsSymbolName symbols c name
-  an_input_operator : (n : Name) (k : ℕ) → IsName n → c ≡ operator n k → name ≡ codes "t" ++ (numeral k ++ (codes "_" ++ mangled n)) → IsSymbolName symbols c name
+  an_input_operator : (n : Name) (k : ℕ) → IsName n → c ≡ operator n k → name ≡ codes "t" ++ (numeral k ++ (codes "_" ++ mangled n))
+      → IsSymbolName symbols c name
   a_constant : (n : Name) → IsName n → constant_named c ≡ Some n → name ≡ codes "c_" ++ mangled n → IsSymbolName symbols c name
-  an_operator : (names : TypeNames) (a : HolType) (f : Term) (j : ℕ) (one : Sequent) → IsName names.operator → IsIn symbols (Symbol.defined (Definition.type_operator names a f)) → c ≡ type_operator names a f j one
+  an_operator : (names : TypeNames) (a : HolType) (f : Term) (j : ℕ) (one : Sequent) → IsName names.operator
+      → IsIn symbols (Symbol.defined (Definition.type_operator names a f)) → c ≡ type_operator names a f j one
       → name ≡ codes "o_" ++ mangled names.operator → IsSymbolName symbols c name
 
-pub symbol_name-is : (symbols : List Symbol) (x : Symbol) → IsIn symbols x → SymbolHasName x → (c : Content) → IsIn (contents_of x) c → IsSymbolName symbols c (symbol_name x)
+pub symbol_name-is : (symbols : List Symbol) (x : Symbol) → IsIn symbols x → SymbolHasName x → (c : Content) → IsIn (contents_of x) c
+    → IsSymbolName symbols c (symbol_name x)
 symbol_name-is symbols (Symbol.input_constant n) among h c (inl e) = IsSymbolName.an_input n h e refl
 symbol_name-is symbols (Symbol.input_constant n) among h c (inr k) = absurd k
 symbol_name-is symbols (Symbol.input_operator n j) among h c (inl e) = IsSymbolName.an_input_operator n j h e refl
@@ -58,7 +61,8 @@ symbol_name-is symbols (Symbol.defined (Definition.constant n t)) among h c (inl
 symbol_name-is symbols (Symbol.defined (Definition.constant n t)) among h c (inr k) = absurd k
 symbol_name-is symbols (Symbol.defined (Definition.type_operator names a f)) among h c k = absurd k
 
-pub definition_name-is : (symbols : List Symbol) (names : TypeNames) (a : HolType) (f : Term) (one : ℕ × Sequent) → IsIn symbols (Symbol.defined (Definition.type_operator names a f))
+pub definition_name-is : (symbols : List Symbol) (names : TypeNames) (a : HolType) (f : Term) (one : ℕ × Sequent)
+    → IsIn symbols (Symbol.defined (Definition.type_operator names a f))
     → SymbolHasName (Symbol.defined (Definition.type_operator names a f)) → (c : Content) → IsIn (type_contents names a f one) c → IsSymbolName symbols c (type_definition_name c)
 definition_name-is symbols names a f one among h c (inl e) = IsSymbolName.an_operator names a f one.0 one.1 h.0 among e (ap type_definition_name e)
 definition_name-is symbols names a f one among h c (inr (inl e)) = IsSymbolName.a_constant names.abstraction h.1 (ap constant_named e) (ap type_definition_name e)
@@ -70,7 +74,8 @@ first-kept : (n : Name) (k : ℕ) (xs ys : List Symbol) → first_defined_arity 
 first-kept n k [] ys e = absurd (cc)
 first-kept n k (x ∷ xs) ys e = go (defined_arity n x) e (first-kept n k xs ys)
   where
-    go : (o : Option ℕ) → option_or o (first_defined_arity n xs) ≡ Some k → (first_defined_arity n xs ≡ Some k → first_defined_arity n (xs ++ ys) ≡ Some k) → option_or o (first_defined_arity n (xs ++ ys)) ≡ Some k
+    go : (o : Option ℕ) → option_or o (first_defined_arity n xs) ≡ Some k → (first_defined_arity n xs ≡ Some k → first_defined_arity n (xs ++ ys) ≡ Some k)
+        → option_or o (first_defined_arity n (xs ++ ys)) ≡ Some k
     go None e rest = rest e
     go (Some j) e rest = e
 
@@ -78,7 +83,8 @@ first-new : (n : Name) (xs ys : List Symbol) → first_defined_arity n xs ≡ No
 first-new n [] ys e = refl
 first-new n (x ∷ xs) ys e = go (defined_arity n x) e (first-new n xs ys)
   where
-    go : (o : Option ℕ) → option_or o (first_defined_arity n xs) ≡ None → (first_defined_arity n xs ≡ None → first_defined_arity n (xs ++ ys) ≡ first_defined_arity n ys)
+    go : (o : Option ℕ) → option_or o (first_defined_arity n xs) ≡ None
+        → (first_defined_arity n xs ≡ None → first_defined_arity n (xs ++ ys) ≡ first_defined_arity n ys)
         → option_or o (first_defined_arity n (xs ++ ys)) ≡ first_defined_arity n ys
     go None e rest = rest e
     go (Some j) e rest = absurd (cc)
@@ -97,7 +103,8 @@ first-last n k ss (Symbol.defined (Definition.type_operator names a f)) (taking.
     x : Symbol
     x = Symbol.defined (Definition.type_operator names a f)
 
-    go : (b : Bool) → name_eq n names.operator ≡ b → (name_eq n names.operator ≡ true → n ≡ names.operator) → cond b (Some (length names.variables)) None ≡ Some k → first_defined_arity n (ss ++ x ∷ []) ≡ Some k
+    go : (b : Bool) → name_eq n names.operator ≡ b → (name_eq n names.operator ≡ true → n ≡ names.operator)
+        → cond b (Some (length names.variables)) None ≡ Some k → first_defined_arity n (ss ++ x ∷ []) ≡ Some k
     go false is f e = absurd (cc)
     go true is f e =
         let free : first_defined_arity n ss ≡ None =
@@ -105,7 +112,8 @@ first-last n k ss (Symbol.defined (Definition.type_operator names a f)) (taking.
         (second-none (primitive_arity names.operator) (first_defined_arity names.operator ss) (or_parts (is_some (operator_arity ss names.operator)) _ new.operator).0) in
         first-new n ss (x ∷ []) free ∙ ap (λ b. option_or (cond b (Some (length names.variables)) None) None) is ∙ e
 
-pub arity-known : (xs : List Made) → IsProof xs → (x : Symbol) → IsIn (symbols_of xs) x → (n : Name) (k : ℕ) → defined_arity n x ≡ Some k → first_defined_arity n (symbols_of xs) ≡ Some k
+pub arity-known : (xs : List Made) → IsProof xs → (x : Symbol) → IsIn (symbols_of xs) x → (n : Name) (k : ℕ) → defined_arity n x ≡ Some k
+    → first_defined_arity n (symbols_of xs) ≡ Some k
 arity-known m made.Each.empty x i n k e = absurd i
 arity-known m (made.Each.more {made = before} (Made.step y) p h is) x i n k e =
     let same : symbols_of m ≡ symbols_of before = ap symbols_of is ∙ symbols_of-append before (Made.step y ∷ []) ∙ append-nil (symbols_of before) in
@@ -126,11 +134,13 @@ arity-known m (made.Each.more {made = before} (Made.type_definition names c f l)
       | inr (inr none) ↦ absurd none
     ]
 
-defined_arity-own : (names : TypeNames) (a : HolType) (f : Term) (n : Name) → n ≡ names.operator → defined_arity n (Symbol.defined (Definition.type_operator names a f)) ≡ Some (length names.variables)
+defined_arity-own : (names : TypeNames) (a : HolType) (f : Term) (n : Name) → n ≡ names.operator
+    → defined_arity n (Symbol.defined (Definition.type_operator names a f)) ≡ Some (length names.variables)
 defined_arity-own names a f n e = ap (λ b. cond b (Some (length names.variables)) None) ((name_eq-Decides n names.operator).1 e)
 
 -- text behind digits
-pub after_digits : (ds es r s : List ℕ) → list_all is_decimal_digit ds ≡ true → list_all is_decimal_digit es ≡ true → ds ++ 95 ∷ r ≡ es ++ 95 ∷ s → (ds ≡ es) × (r ≡ s)
+pub after_digits : (ds es r s : List ℕ) → list_all is_decimal_digit ds ≡ true → list_all is_decimal_digit es ≡ true → ds ++ 95 ∷ r ≡ es ++ 95 ∷ s
+    → (ds ≡ es) × (r ≡ s)
 after_digits [] [] r s h k e = (refl, (let f : 95 ∷ r ≡ 95 ∷ s = e in cc))
 after_digits [] (x ∷ es) r s h k e = let f : 95 ≡ x = ap first_byte e in let l = first_digit-low (x ∷ es) k in absurd (omega (arith, f, l))
 after_digits (x ∷ ds) [] r s h k e = let f : x ≡ 95 = ap first_byte e in let l = first_digit-low (x ∷ ds) h in absurd (omega (arith, f, l))
@@ -173,13 +183,15 @@ constant-is n (type_representation names c u j one) e = (name_eq-Decides n names
 constant-is n (unproved s) e = absurd (cc)
 constant-is n (step kind js premises given s) e = absurd (cc)
 
-one-constant : (n m : Name) (c d : Content) (before : List Item) (y : Item) → IsNew before c → IsIn before y → y.content ≡ d → constant_named d ≡ Some m → constant_named c ≡ Some n → m ≡ n → ⊥
+one-constant : (n m : Name) (c d : Content) (before : List Item) (y : Item) → IsNew before c → IsIn before y → y.content ≡ d → constant_named d ≡ Some m
+    → constant_named c ≡ Some n → m ≡ n → ⊥
 one-constant n m c d before y new i at e f same =
     let a : is_constant n y.content ≡ false = not-any (is_constant n) before y (constant-new n c before f new) i in
     let b : is_constant n y.content ≡ true = ap (is_constant n) at ∙ constant-is n d (e ∙ ap Some same) in
     let k : true ≡ false = sym b ∙ a in absurd (cc)
 
-one-operator : (n : Name) (k : ℕ) (c : Content) (before : List Item) (y : Item) → IsNew before c → IsIn before y → y.content ≡ operator n k → c ≡ operator n k → ⊥
+one-operator : (n : Name) (k : ℕ) (c : Content) (before : List Item) (y : Item) → IsNew before c → IsIn before y → y.content ≡ operator n k → c ≡ operator n k
+    → ⊥
 one-operator n k c before y new i at e =
     let new_one : IsNew before (operator n k) = subst (IsNew before) e new in
     let a : is_operator n k y.content ≡ false = not-any (is_operator n k) before y new_one.1 i in
@@ -187,7 +199,8 @@ one-operator n k c before y new i at e =
     let b : is_operator n k y.content ≡ true = ap (is_operator n k) at ∙ self in
     let k : true ≡ false = sym b ∙ a in absurd (cc)
 
-one-defined : (names others : TypeNames) (a b : HolType) (u v : Term) (j l : ℕ) (one two : Sequent) (c : Content) (before : List Item) (y : Item) → names.operator ≡ others.operator → length names.variables ≡ length others.variables
+one-defined : (names others : TypeNames) (a b : HolType) (u v : Term) (j l : ℕ) (one two : Sequent) (c : Content) (before : List Item) (y : Item)
+    → names.operator ≡ others.operator → length names.variables ≡ length others.variables
     → IsNew before c → IsIn before y → y.content ≡ type_operator names a u j one → c ≡ type_operator others b v l two → ⊥
 one-defined names others a b u v j l one two c before y same count new i at e =
     let new_one : IsNew before (type_operator others b v l two) = subst (IsNew before) e new in
@@ -207,7 +220,8 @@ two_fronts : (a b : ℕ) (r s name : List ℕ) → name ≡ a ∷ b ∷ r → na
 two_fronts a b r s name e f = let g : a ∷ b ∷ r ≡ a ∷ b ∷ s = sym e ∙ f in cc
 
 -- No two items of symbols have one name
-pub symbols-apart : (made : List Made) → IsProof made → (before : List Item) (y : Item) (c : Content) (name : List ℕ) → IsNew before c → IsIn before y → IsSymbolName (symbols_of made) y.content name → IsSymbolName (symbols_of made) c name → ⊥
+pub symbols-apart : (made : List Made) → IsProof made → (before : List Item) (y : Item) (c : Content) (name : List ℕ) → IsNew before c → IsIn before y
+    → IsSymbolName (symbols_of made) y.content name → IsSymbolName (symbols_of made) c name → ⊥
 symbols-apart made p before y c name new i (IsSymbolName.an_input n is e w) (IsSymbolName.an_input m js f v) =
     one-constant m n c y.content before y new i refl (ap constant_named e) (ap constant_named f) (mangled-injective n m is js (two_fronts 105 95 _ _ name w v))
 symbols-apart made p before y c name new i (IsSymbolName.an_input n is e w) (IsSymbolName.an_input_operator m k js f v) = other_front 105 116 _ _ name refl w v

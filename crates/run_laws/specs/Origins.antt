@@ -24,9 +24,11 @@ use Rattle.module_laws.specs.SaidItems.{length-said_by_one, length-said_by}
 -- an item comes from a symbol, from a type definition, or from a step whose number has a property
 pub data Origin (run : Accepted) (made : List Made) (P : ℕ → Type 0) (z : Item) : Type 0 where
   of_symbol : (x : Symbol) → IsIn (symbols_of made) x → IsIn (contents_of x) z.content → z.name ≡ symbol_name x → Origin run made P z
-  of_definition : (names : TypeNames) (c : HolType) (f : Term) (one : ℕ × Sequent) → IsIn (symbols_of made) (Symbol.defined (Definition.type_operator names c f)) → IsIn (type_contents names c f one) z.content
+  of_definition : (names : TypeNames) (c : HolType) (f : Term) (one : ℕ × Sequent)
+      → IsIn (symbols_of made) (Symbol.defined (Definition.type_operator names c f)) → IsIn (type_contents names c f one) z.content
       → z.name ≡ type_definition_name z.content → Origin run made P z
-  of_step : (i : ℕ) (x : Step) (kind : StepKind) (js : List ℕ) (ss : List Sequent) (g : Parameters) → P i → slice_get (steps_of made) i ≡ Some x → z.content ≡ content_by (has_row x.kind) kind js ss g x.sequent
+  of_step : (i : ℕ) (x : Step) (kind : StepKind) (js : List ℕ) (ss : List Sequent) (g : Parameters) → P i → slice_get (steps_of made) i ≡ Some x
+      → z.content ≡ content_by (has_row x.kind) kind js ss g x.sequent
       → z.name ≡ step_name run i x.kind → Origin run made P z
 
 -- each of the items comes from a symbol, from a type definition, or from the next step
@@ -41,14 +43,16 @@ module _ (run : Accepted) (made : List Made) where
       (h.0, origins-append (before ++ x ∷ []) xs ys h.1 (subst (λ l. HaveOrigins run made l ys) (sym (append_assoc before (x ∷ []) xs)) k))
 
   -- the contents of a symbol
-  symbol-origins : (x : Symbol) → IsIn (symbols_of made) x → (n i : ℕ) (ps : List Item) (cs : List Content) → ((c : Content) → IsIn cs c → IsIn (contents_of x) c)
+  symbol-origins : (x : Symbol) → IsIn (symbols_of made) x → (n i : ℕ) (ps : List Item) (cs : List Content)
+      → ((c : Content) → IsIn cs c → IsIn (contents_of x) c)
       → HaveOrigins run made ps (numbered (name_in run n (Made.symbol x)) i cs)
   symbol-origins x among n i ps [] f = tt
   symbol-origins x among n i ps (c ∷ cs) f =
       (Origin.of_symbol x among (f c (inl refl)) refl, symbol-origins x among n (i + 1) (ps ++ record { symbol = i; name = symbol_name x; content = c } ∷ []) cs (λ d k. f d (inr k)))
 
   -- the contents of a type definition
-  definition-origins : (names : TypeNames) (c : HolType) (f : Term) (k : ℕ) (one : ℕ × Sequent) → IsIn (symbols_of made) (Symbol.defined (Definition.type_operator names c f)) → (n i : ℕ) (ps : List Item) (cs : List Content)
+  definition-origins : (names : TypeNames) (c : HolType) (f : Term) (k : ℕ) (one : ℕ × Sequent)
+      → IsIn (symbols_of made) (Symbol.defined (Definition.type_operator names c f)) → (n i : ℕ) (ps : List Item) (cs : List Content)
       → ((d : Content) → IsIn cs d → IsIn (type_contents names c f one) d) → HaveOrigins run made ps (numbered (name_in run n (Made.type_definition names c f k)) i cs)
   definition-origins names c f k one among n i ps [] g = tt
   definition-origins names c f k one among n i ps (d ∷ cs) g =

@@ -71,7 +71,8 @@ module _ (j : ℕ) where
 
   module _ (symbols : Symbols) (scope : Scope) where
     -- the proof of a hypothesis
-    hypothesis-occurs : (a b : ℕ) (one two : Sequent) → IsIn two.hypotheses one.conclusion → j ≡ a → occurs j (prove_hyp_tree symbols scope one.conclusion (a, one) (b, two)) ≡ true
+    hypothesis-occurs : (a b : ℕ) (one two : Sequent) → IsIn two.hypotheses one.conclusion → j ≡ a
+        → occurs j (prove_hyp_tree symbols scope one.conclusion (a, one) (b, two)) ≡ true
     hypothesis-occurs a b one two i e =
         let inner = set_proof one.conclusion (premise_tree scope (a, one)) scope in
         let own : inner.proofs one.conclusion ≡ premise_tree scope (a, one) = ap (λ t. cond t (premise_tree scope (a, one)) (scope.proofs one.conclusion)) ((term_eq-Decides one.conclusion one.conclusion).1 refl) in
@@ -89,7 +90,8 @@ module _ (j : ℕ) where
     pub part-used : (inner : Scope) (s : ℕ) (c : HolType) (a : ℕ) (one : Sequent) → j ≡ a → occurs j (part_tree symbols inner s c (a, one)) ≡ true
     part-used inner s c a one e = within s (part_arguments_of symbols inner c (a, one)) (premise_tree inner (a, one)) (inr (inr (inr (inl refl)))) (premise-occurs inner a one e)
 
-    law-used : (b d : HolType) (t u : Term) (s : ℕ) (c : HolType) (a : ℕ) (one : Sequent) → IsIn (a ∷ []) j → occurs j (law_tree symbols scope b d t u s c (a, one)) ≡ true
+    law-used : (b d : HolType) (t u : Term) (s : ℕ) (c : HolType) (a : ℕ) (one : Sequent) → IsIn (a ∷ []) j
+        → occurs j (law_tree symbols scope b d t u s c (a, one)) ≡ true
     law-used b d t u s c a one (inr none) = absurd none
     law-used b d t u s c a one (inl same) =
         let D = term_of (type_tree symbols scope.types b) in
@@ -98,11 +100,13 @@ module _ (j : ℕ) where
         (Lam D (App part (Var 0))) (inr (inr (inr (inr (inl refl))))) (under_lam D (App part (Var 0)) (ap (λ x. x || occurs j (Var 0)) (part-used (lifted scope) s c a one same)))
 
     -- and so do the laws in version 5
-    first-used : (names : TypeNames) (c : HolType) (a : ℕ) (one : Sequent) → IsIn (a ∷ []) j → occurs j (first_law_free_tree symbols scope names c (a, one)) ≡ true
+    first-used : (names : TypeNames) (c : HolType) (a : ℕ) (one : Sequent) → IsIn (a ∷ []) j
+        → occurs j (first_law_free_tree symbols scope names c (a, one)) ≡ true
     first-used names c a one (inr none) = absurd none
     first-used names c a one (inl same) = ap (λ b. b || occurs j (term_tree symbols scope (new_variable names))) (part-used (filled symbols scope.types) sub_abs_rep_symbol c a one same)
 
-    second-used : (names : TypeNames) (c : HolType) (a : ℕ) (one : Sequent) → IsIn (a ∷ []) j → occurs j (second_law_free_tree symbols scope names c (a, one)) ≡ true
+    second-used : (names : TypeNames) (c : HolType) (a : ℕ) (one : Sequent) → IsIn (a ∷ []) j
+        → occurs j (second_law_free_tree symbols scope names c (a, one)) ≡ true
     second-used names c a one (inr none) = absurd none
     second-used names c a one (inl same) =
         let x = term_tree symbols scope (old_variable c) in
@@ -112,7 +116,8 @@ module _ (j : ℕ) where
         last (inr (inr (inr (inl refl)))) (ap (λ b. b || occurs j x) (part-used (filled symbols scope.types) sub_rep_abs_symbol c a one same))
 
     -- The proof of a step uses its premises
-    pub premises-used : (before : List Item) (kind : StepKind) (js : List ℕ) (premises : List Sequent) (given : Parameters) (s : Sequent) → Rule kind premises given s → ArePremisesAmong before js premises → ProvesHypothesis kind premises → Uses kind premises given js
+    pub premises-used : (before : List Item) (kind : StepKind) (js : List ℕ) (premises : List Sequent) (given : Parameters) (s : Sequent)
+        → Rule kind premises given s → ArePremisesAmong before js premises → ProvesHypothesis kind premises → Uses kind premises given js
     premises-used before kind js premises given s (rule.refl h e) among used = none before kind given js among
     premises-used before kind js premises given s (rule.assume h e) among used = none before kind given js among
     premises-used before kind js premises given s (rule.beta_conv h e) among used = none before kind given js among

@@ -12,12 +12,14 @@ module _ (roots : List Key) (items : List Item) where
   -- an item gives a root, or what an item that is reached needs
   pub data IsReachedItem : Item → Type 0 where
     root : {z : Item} (k : Key) → IsIn roots k → key_eq (gives z) k ≡ true → IsReachedItem z
-    needed : {z : Item} (y : Item) (k : Key) → IsReachedItem y → IsIn items y → keep_of roots items y.symbol ≡ true → IsIn (needs y.content) k → key_eq (gives z) k ≡ true → IsReachedItem z
+    needed : {z : Item} (y : Item) (k : Key) → IsReachedItem y → IsIn items y → keep_of roots items y.symbol ≡ true → IsIn (needs y.content) k
+        → key_eq (gives z) k ≡ true → IsReachedItem z
 
   -- where what is wanted comes from
   data Source (later : List Item) (k : Key) : Type 0 where
     from_root : IsIn roots k → Source later k
-    from_item : (middle after : List Item) (y : Item) → later ≡ middle ++ y ∷ after → is_wanted (wanted_from roots after) y ≡ true → IsIn (needs y.content) k → Source later k
+    from_item : (middle after : List Item) (y : Item) → later ≡ middle ++ y ∷ after → is_wanted (wanted_from roots after) y ≡ true → IsIn (needs y.content) k
+        → Source later k
 
   source-more : (x : Item) (xs : List Item) (k : Key) → Source xs k → Source (x ∷ xs) k
   source-more x xs k (Source.from_root i) = Source.from_root i
@@ -27,7 +29,8 @@ module _ (roots : List Key) (items : List Item) where
   source [] k i = Source.from_root i
   source (x ∷ xs) k i = go (is_wanted (wanted_from roots xs) x) refl i (source xs k)
     where
-      go : (b : Bool) → is_wanted (wanted_from roots xs) x ≡ b → IsIn (cond b (wanted_from roots xs ++ needs x.content) (wanted_from roots xs)) k → (IsIn (wanted_from roots xs) k → Source xs k) → Source (x ∷ xs) k
+      go : (b : Bool) → is_wanted (wanted_from roots xs) x ≡ b → IsIn (cond b (wanted_from roots xs ++ needs x.content) (wanted_from roots xs)) k
+          → (IsIn (wanted_from roots xs) k → Source xs k) → Source (x ∷ xs) k
       go false e i rest = source-more x xs k (rest i)
       go true e i rest = elim (IsIn-either (wanted_from roots xs) (needs x.content) k i) [
         | inl j ↦ source-more x xs k (rest j)
@@ -38,12 +41,14 @@ module _ (roots : List Key) (items : List Item) where
   any-key k [] e = absurd (cc)
   any-key k (w ∷ ws) e = go (key_eq k w) refl e (any-key k ws)
     where
-      go : (b : Bool) → key_eq k w ≡ b → (b || list_any (key_eq k) ws) ≡ true → (list_any (key_eq k) ws ≡ true → (v : Key) × IsIn ws v × (key_eq k v ≡ true)) → (v : Key) × IsIn (w ∷ ws) v × (key_eq k v ≡ true)
+      go : (b : Bool) → key_eq k w ≡ b → (b || list_any (key_eq k) ws) ≡ true → (list_any (key_eq k) ws ≡ true → (v : Key) × IsIn ws v × (key_eq k v ≡ true))
+          → (v : Key) × IsIn (w ∷ ws) v × (key_eq k v ≡ true)
       go true is e rest = (w, inl refl, is)
       go false is e rest = let r = rest e in (r.0, inr r.1, r.2)
 
   -- an item's flag, and its place
-  flag : NumberedFrom 0 items → (before after : List Item) (y : Item) → items ≡ before ++ y ∷ after → keep_of roots items y.symbol ≡ is_wanted (wanted_from roots after) y
+  flag : NumberedFrom 0 items → (before after : List Item) (y : Item) → items ≡ before ++ y ∷ after
+      → keep_of roots items y.symbol ≡ is_wanted (wanted_from roots after) y
   flag numbers before after y whole =
       ap (λ l. keep_of roots l y.symbol) whole ∙ keep-at roots before after y (low before (subst (NumberedFrom 0) whole numbers))
     where
@@ -59,7 +64,8 @@ module _ (roots : List Key) (items : List Item) where
       low xs h = subst (λ k. AllByRecursion (λ (z : Item). z.symbol < k) xs) (sym (place 0 xs h)) (below 0 xs (front 0 xs h))
 
   module _ (numbers : NumberedFrom 0 items) where
-    wanted-reached : (before later : List Item) → items ≡ before ++ later → (middle after : List Item) (y : Item) → later ≡ middle ++ y ∷ after → is_wanted (wanted_from roots after) y ≡ true → IsReachedItem y
+    wanted-reached : (before later : List Item) → items ≡ before ++ later → (middle after : List Item) (y : Item) → later ≡ middle ++ y ∷ after
+        → is_wanted (wanted_from roots after) y ≡ true → IsReachedItem y
     wanted-reached before [] whole [] after y e w = absurd (cc)
     wanted-reached before [] whole (m ∷ middle) after y e w = absurd (cc)
     wanted-reached before (x ∷ xs) whole (m ∷ middle) after y e w =
@@ -91,5 +97,6 @@ module _ (roots : List Key) (items : List Item) where
         wanted-reached [] items refl s.0 s.1 z s.2 (sym (flag numbers s.0 s.1 z s.2) ∙ k)
 
 -- the items of what was made
-pub made-reached : (roots : List Key) (items : List Item) → AreMadeInOrder [] items → (z : Item) → IsIn items z → keep_of roots items z.symbol ≡ true → IsReachedItem roots items z
+pub made-reached : (roots : List Key) (items : List Item) → AreMadeInOrder [] items → (z : Item) → IsIn items z → keep_of roots items z.symbol ≡ true
+    → IsReachedItem roots items z
 made-reached roots items order z i k = kept-reached roots items (numbered-from [] items order) z i k

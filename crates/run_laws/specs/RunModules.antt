@@ -53,12 +53,14 @@ pub record IsStepContent (x : Step) (c : Content) : Type 0 where
 -- the name of an item, by where it comes from
 pub data IsItemName (run : Accepted) (P : ℕ → Type 0) (z : Item) : Type 0 where
   by_symbol : IsSymbolName (symbols_of run.made) z.content z.name → IsItemName run P z
-  by_step : (i : ℕ) (x : Step) → P i → slice_get (steps_of run.made) i ≡ Some x → IsStepContent x z.content → IsStepName run i x.kind z.name → IsItemName run P z
+  by_step : (i : ℕ) (x : Step) → P i → slice_get (steps_of run.made) i ≡ Some x → IsStepContent x z.content → IsStepName run i x.kind z.name
+      → IsItemName run P z
 
 pub content-says : (x : Step) (c : Content) → IsStepContent x c → says c ≡ Some x.sequent
 content-says x c h = ap says h.is ∙ says-step (has_row x.kind) h.kind h.premises h.sequents h.parameters x.sequent
 
-pub item_name-is : (run : Accepted) → HasNames run → run.assumptions ≡ assumed_from 0 (steps_of run.made) → (P : ℕ → Type 0) (z : Item) → Origin run run.made P z → IsItemName run P z
+pub item_name-is : (run : Accepted) → HasNames run → run.assumptions ≡ assumed_from 0 (steps_of run.made) → (P : ℕ → Type 0) (z : Item)
+    → Origin run run.made P z → IsItemName run P z
 item_name-is run named assumed P z (Origin.of_symbol x among i e) =
     IsItemName.by_symbol (subst (IsSymbolName (symbols_of run.made) z.content) (sym e) (symbol_name-is (symbols_of run.made) x among (All-at SymbolHasName (symbols_of run.made) x named.symbols among) z.content i))
 item_name-is run named assumed P z (Origin.of_definition names c f one among i e) =

@@ -106,7 +106,8 @@ pub IsIn-kept_of : (keep : ℕ → Bool) (xs : List Item) (x : Item) → IsIn (k
 IsIn-kept_of keep [] x k = absurd k
 IsIn-kept_of keep (y ∷ ys) x k = go (keep y.symbol) refl k (IsIn-kept_of keep ys x)
   where
-    go : (b : Bool) → keep y.symbol ≡ b → IsIn (cond b (y ∷ kept keep ys) (kept keep ys)) x → (IsIn (kept keep ys) x → IsIn ys x × (keep x.symbol ≡ true)) → IsIn (y ∷ ys) x × (keep x.symbol ≡ true)
+    go : (b : Bool) → keep y.symbol ≡ b → IsIn (cond b (y ∷ kept keep ys) (kept keep ys)) x → (IsIn (kept keep ys) x → IsIn ys x × (keep x.symbol ≡ true))
+        → IsIn (y ∷ ys) x × (keep x.symbol ≡ true)
     go true e (inl is) rest = (inl is, ap (λ (z : Item). keep z.symbol) is ∙ e)
     go true e (inr i) rest = let r = rest i in (inr r.0, r.1)
     go false e i rest = let r = rest i in (inr r.0, r.1)
@@ -141,7 +142,8 @@ module _ (run : Accepted) (named : HasNames run) (sound : IsSoundRun run) where
   abbrev pub declared : Item → Declaration
   declared z = declaration symbols (renumbered number z)
 
-  located : (before xs : List Item) (z : Item) → stays ≡ before ++ z ∷ xs → z.symbol ≡ length signature + (length lemmas + length before) → symbol_declaration m z.symbol ≡ Some (declaration symbols z)
+  located : (before xs : List Item) (z : Item) → stays ≡ before ++ z ∷ xs → z.symbol ≡ length signature + (length lemmas + length before)
+      → symbol_declaration m z.symbol ≡ Some (declaration symbols z)
   located before xs z whole e =
       let D = declaration symbols in
       ap (symbol_declaration m) e ∙ skip signature m (length lemmas + length before) ∙ skip lemmas (map D stays) (length before)
@@ -161,7 +163,8 @@ module _ (run : Accepted) (named : HasNames run) (sound : IsSoundRun run) where
   sayer-meant (unproved r) s e = tt
   sayer-meant (step kind js ss g r) s e = tt
 
-  all-meant : (before xs : List Item) → stays ≡ before ++ xs → AreMade before xs → AreItems symbols before xs → AllByRecursion (IsKind run) xs → AllByRecursion BothMeant before → AllByRecursion BothMeant stays
+  all-meant : (before xs : List Item) → stays ≡ before ++ xs → AreMade before xs → AreItems symbols before xs → AllByRecursion (IsKind run) xs
+      → AllByRecursion BothMeant before → AllByRecursion BothMeant stays
   all-meant before [] whole h k kinds meant = subst (AllByRecursion BothMeant) (sym (whole ∙ append-nil before)) meant
   all-meant before (z ∷ zs) whole h k kinds meant =
       all-meant (before ++ z ∷ []) zs (whole ∙ sym (append_assoc before (z ∷ []) zs)) h.3 k.3 kinds.1 (All-append BothMeant before (z ∷ []) meant ((one kinds.0, made_from), tt {0}))
@@ -255,7 +258,8 @@ module _ (run : Accepted) (named : HasNames run) (sound : IsSoundRun run) where
         stand (renumbered number z) (All-at BothMeant stays (renumbered number z) stays-meant there) (kind-renumbered number run z (All-at (IsKind run) items z kinds i)) s (says-renumbered number z.content ∙ e)
 
     -- what holds of the two lemmas and of the declaration of each kept item holds of each declaration
-    each-stays : (P : ℕ → Declaration → Type 0) (before xs : List Item) → AreMade before xs → ((z : Item) → IsIn xs z → (i : ℕ) → length signature + i ≡ z.symbol → P i (declaration symbols z))
+    each-stays : (P : ℕ → Declaration → Type 0) (before xs : List Item) → AreMade before xs
+        → ((z : Item) → IsIn xs z → (i : ℕ) → length signature + i ≡ z.symbol → P i (declaration symbols z))
         → (i : ℕ) (d : Declaration) → slice_get (map (declaration symbols) xs) i ≡ Some d → P (length lemmas + (length before + i)) d
     each-stays P before [] h f i d e = absurd (cc)
     each-stays P before (z ∷ zs) h f zero d e =
@@ -266,7 +270,8 @@ module _ (run : Accepted) (named : HasNames run) (sound : IsSoundRun run) where
         let n : length (before ++ z ∷ []) + i ≡ length before + suc i = omega (arith, l) in
         subst (λ k. P (length lemmas + k) d) n (each-stays P (before ++ z ∷ []) zs h.3 (λ y k. f y (inr k)) i d e)
 
-    pub each-declaration : (P : ℕ → Declaration → Type 0) → P 0 sym_lemma → P 1 trans_lemma → ((z : Item) → IsIn items z → keep z.symbol ≡ true → (i : ℕ) → length signature + i ≡ number z.symbol → P i (declared z))
+    pub each-declaration : (P : ℕ → Declaration → Type 0) → P 0 sym_lemma → P 1 trans_lemma
+        → ((z : Item) → IsIn items z → keep z.symbol ≡ true → (i : ℕ) → length signature + i ≡ number z.symbol → P i (declared z))
         → (i : ℕ) (d : Declaration) → slice_get m i ≡ Some d → P i d
     each-declaration P one two f zero d e = subst (P 0) (same_Some _ _ e) one
     each-declaration P one two f (suc zero) d e = subst (P 1) (same_Some _ _ e) two

@@ -40,7 +40,8 @@ module _ (s : ℕ) where
   argument-occurs f [] e = absurd (cc)
   argument-occurs f (x ∷ xs) e = go (occurs s x) refl e (argument-occurs (App f x) xs)
     where
-      go : (b : Bool) → occurs s x ≡ b → (b || list_any (occurs s) xs) ≡ true → (list_any (occurs s) xs ≡ true → occurs s (applied (App f x) xs) ≡ true) → occurs s (applied (App f x) xs) ≡ true
+      go : (b : Bool) → occurs s x ≡ b → (b || list_any (occurs s) xs) ≡ true → (list_any (occurs s) xs ≡ true → occurs s (applied (App f x) xs) ≡ true)
+          → occurs s (applied (App f x) xs) ≡ true
       go true is e rest = head-occurs (App f x) xs (or_right (occurs s f) (occurs s x) is)
       go false is e rest = rest e
 
@@ -48,7 +49,8 @@ module _ (s : ℕ) where
   domain-occurs [] t e = absurd (cc)
   domain-occurs (d ∷ domains) t e = go (occurs s d) e (domain-occurs domains t)
     where
-      go : (b : Bool) → (b || list_any (occurs s) domains) ≡ true → (list_any (occurs s) domains ≡ true → occurs s (products domains t) ≡ true) → (b || occurs s (products domains t)) ≡ true
+      go : (b : Bool) → (b || list_any (occurs s) domains) ≡ true → (list_any (occurs s) domains ≡ true → occurs s (products domains t) ≡ true)
+          → (b || occurs s (products domains t)) ≡ true
       go true e rest = refl
       go false e rest = rest e
 
@@ -60,7 +62,8 @@ module _ (s : ℕ) where
   any-left [] ys e = absurd (cc)
   any-left (x ∷ xs) ys e = go (occurs s x) e (any-left xs ys)
     where
-      go : (b : Bool) → (b || list_any (occurs s) xs) ≡ true → (list_any (occurs s) xs ≡ true → list_any (occurs s) (xs ++ ys) ≡ true) → (b || list_any (occurs s) (xs ++ ys)) ≡ true
+      go : (b : Bool) → (b || list_any (occurs s) xs) ≡ true → (list_any (occurs s) xs ≡ true → list_any (occurs s) (xs ++ ys) ≡ true)
+          → (b || list_any (occurs s) (xs ++ ys)) ≡ true
       go true e rest = refl
       go false e rest = rest e
 
@@ -89,7 +92,8 @@ module _ (symbols : Symbols) (k : Key) where
 
   mutual
     -- an instance mentions what its generic type does, and what is filled in
-    filled-keys : (f : Name → HolType) (g : HolType) → IsIn (type_keys (filled_in f g)) k → IsIn (type_keys g) k ⊎ ((n : Name) × IsIn (variable_places g) n × IsIn (type_keys (f n)) k)
+    filled-keys : (f : Name → HolType) (g : HolType) → IsIn (type_keys (filled_in f g)) k
+        → IsIn (type_keys g) k ⊎ ((n : Name) × IsIn (variable_places g) n × IsIn (type_keys (f n)) k)
     filled-keys f (type.HolType.variable n) i = inr (n, inl refl, i)
     filled-keys f (type.HolType.operator n ts) (inl e) = inl (inl (e ∙ ap (operator_key n) (count-filled f ts)))
     filled-keys f (type.HolType.operator n ts) (inr i) = elim (all-filled_keys f ts i) [
@@ -97,7 +101,8 @@ module _ (symbols : Symbols) (k : Key) where
       | inr w ↦ inr w
     ]
 
-    all-filled_keys : (f : Name → HolType) (gs : HolTypes) → IsIn (types_keys (filled_in_all f gs)) k → IsIn (types_keys gs) k ⊎ ((n : Name) × IsIn (variable_places_of_all gs) n × IsIn (type_keys (f n)) k)
+    all-filled_keys : (f : Name → HolType) (gs : HolTypes) → IsIn (types_keys (filled_in_all f gs)) k
+        → IsIn (types_keys gs) k ⊎ ((n : Name) × IsIn (variable_places_of_all gs) n × IsIn (type_keys (f n)) k)
     all-filled_keys f type.HolTypes.none i = absurd i
     all-filled_keys f (type.HolTypes.more g gs) i = elim (IsIn-either (type_keys (filled_in f g)) (types_keys (filled_in_all f gs)) k i) [
       | inl j ↦ elim (filled-keys f g j) [
@@ -114,7 +119,8 @@ module _ (symbols : Symbols) (k : Key) where
     count-filled f type.HolTypes.none = refl
     count-filled f (type.HolTypes.more g gs) = ap (λ n. n + 1) (count-filled f gs)
 
-  mapped-use : (f : Name → HolType) (vs : List Name) (n : Name) → IsIn vs n → IsIn (type_keys (f n)) k → (scope : TypeScope) → list_any (occurs s) (map (type_tree symbols scope) (map f vs)) ≡ true
+  mapped-use : (f : Name → HolType) (vs : List Name) (n : Name) → IsIn vs n → IsIn (type_keys (f n)) k → (scope : TypeScope)
+      → list_any (occurs s) (map (type_tree symbols scope) (map f vs)) ≡ true
   mapped-use f [] n i h scope = absurd i
   mapped-use f (v ∷ vs) n (inl e) h scope =
       or_left (occurs s (type_tree symbols scope (f v))) (list_any (occurs s) (map (type_tree symbols scope) (map f vs))) (type-uses (f v) (subst (λ m. IsIn (type_keys (f m)) k) e h) scope)
@@ -124,7 +130,8 @@ module _ (symbols : Symbols) (k : Key) where
   pub data TermUses (t : Term) : Type 0 where
     itself : ((scope : Scope) → occurs s (term_tree symbols scope t) ≡ true) → TermUses t
     by_variable : (v : Variable) → IsIn (free_places t) v → IsIn (type_keys v.1) k → TermUses t
-    by_constant : (n : Name) → ((scope : Scope) → occurs (constant_symbol symbols n) (term_tree symbols scope t) ≡ true) → IsIn (type_keys (generic_type symbols n)) k → TermUses t
+    by_constant : (n : Name) → ((scope : Scope) → occurs (constant_symbol symbols n) (term_tree symbols scope t) ≡ true)
+        → IsIn (type_keys (generic_type symbols n)) k → TermUses t
 
   constant-uses : (n : Name) (t : HolType) → Instance (generic_type symbols n) t → IsIn (type_keys t) k → TermUses (term.Term.constant n t)
   constant-uses n t h i =
@@ -176,7 +183,8 @@ module _ (symbols : Symbols) (k : Key) where
     constant_of : (n : Name) → occurs (constant_symbol symbols n) tree ≡ true → IsIn (type_keys (generic_type symbols n)) k → TreeUses tree
 
   -- among domains
-  variable-domain : (vs : List Variable) (v : Variable) → IsIn vs v → IsIn (type_keys v.1) k → (scope : Scope) → list_any (occurs s) (term_domains symbols vs scope) ≡ true
+  variable-domain : (vs : List Variable) (v : Variable) → IsIn vs v → IsIn (type_keys v.1) k → (scope : Scope)
+      → list_any (occurs s) (term_domains symbols vs scope) ≡ true
   variable-domain [] v i h scope = absurd i
   variable-domain (w ∷ vs) v (inl e) h scope =
       or_left (occurs s (term_of (type_tree symbols scope.types w.1))) (list_any (occurs s) (term_domains symbols vs (under_term w scope)))
@@ -184,7 +192,8 @@ module _ (symbols : Symbols) (k : Key) where
   variable-domain (w ∷ vs) v (inr i) h scope =
       or_right (occurs s (term_of (type_tree symbols scope.types w.1))) (list_any (occurs s) (term_domains symbols vs (under_term w scope))) (variable-domain vs v i h (under_term w scope))
 
-  formula-domain : (r : ℕ) (hs : List Term) (h : Term) → IsIn hs h → ((scope : Scope) → occurs r (term_tree symbols scope h) ≡ true) → (scope : Scope) → list_any (occurs r) (proof_domains symbols hs scope) ≡ true
+  formula-domain : (r : ℕ) (hs : List Term) (h : Term) → IsIn hs h → ((scope : Scope) → occurs r (term_tree symbols scope h) ≡ true) → (scope : Scope)
+      → list_any (occurs r) (proof_domains symbols hs scope) ≡ true
   formula-domain r [] h i f scope = absurd i
   formula-domain r (g ∷ hs) h (inl e) f scope =
       or_left (occurs r (proof_of (term_tree symbols scope g))) (list_any (occurs r) (proof_domains symbols hs (under_proof g scope)))
@@ -194,7 +203,8 @@ module _ (symbols : Symbols) (k : Key) where
 
   module _ (q : Sequent) (instances : HasInstances symbols q) where
     -- a term of the sequent, wherever it stands
-    formula-occurs : (r : ℕ) (t : Term) → IsIn (terms_of q) t → ((scope : Scope) → occurs r (term_tree symbols scope t) ≡ true) → occurs r (sequent_tree symbols q) ≡ true
+    formula-occurs : (r : ℕ) (t : Term) → IsIn (terms_of q) t → ((scope : Scope) → occurs r (term_tree symbols scope t) ≡ true)
+        → occurs r (sequent_tree symbols q) ≡ true
     formula-occurs r t i f = elim (IsIn-either q.hypotheses (q.conclusion ∷ []) t i) [
       | inl j ↦ domain-occurs r (domains_of symbols q) (conclusion_tree symbols q)
           (any-right r (map (λ n. types) (type_variables_of q) ++ term_domains symbols (free_variables_of q) (scope_of_types symbols q)) (proof_domains symbols q.hypotheses (scope_of_terms symbols q))

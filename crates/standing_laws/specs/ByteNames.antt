@@ -88,7 +88,8 @@ item_content-named line h = by_number (number_of line)
     by_name None e = by_word (word_of line)
     by_name (Some n) e = name_of-name line n h e
 
-    by_number : (o : Option ℤ) → IsNamedContent (unwrap_or (option_or (option_map number_content o) (option_or (as_name line) (as_word line))) (faulty kind.BadLine))
+    by_number : (o : Option ℤ)
+        → IsNamedContent (unwrap_or (option_or (option_map number_content o) (option_or (as_name line) (as_word line))) (faulty kind.BadLine))
     by_number None = by_name (name_of line) refl
     by_number (Some z) = number-named z
 
@@ -114,7 +115,8 @@ line-bytes {line = line} {more = more} l h =
     let k = subst AreBytes l.is h in (All-left _ line (newline ∷ more) k, (All-right _ line (newline ∷ more) k).1)
 
 -- the commands of the ended lines, and the open line
-opens-named : (n o : ℕ) (text : List ℕ) (commands : List Command) (m p : ℕ) (rest : List ℕ) → Opens n o text commands m p rest → AreBytes text → AreNamedCommands commands × AreBytes rest
+opens-named : (n o : ℕ) (text : List ℕ) (commands : List Command) (m p : ℕ) (rest : List ℕ) → Opens n o text commands m p rest → AreBytes text
+    → AreNamedCommands commands × AreBytes rest
 opens-named n o text commands m p rest (open_line l) h = (tt {0}, h)
 opens-named n o text commands m p rest (skips {line = line} {more = more} l r) h = opens-named (n + 1) (o + length line + 1) more commands m p rest r (line-bytes l h).1
 opens-named n o text commands m p rest (gives {line = line} {more = more} {i = i} {commands = cs} l r) h =

@@ -49,7 +49,8 @@ first-symbol test (x ∷ xs) s e = go (test x.content) refl e (first-symbol test
     later (FirstSymbol.an_item y i t n) = FirstSymbol.an_item y (inr i) t n
     later (FirstSymbol.no_item n) = FirstSymbol.no_item n
 
-    go : (b : Bool) → test x.content ≡ b → s ≡ cond b x.symbol (first_symbol test xs) → (s ≡ first_symbol test xs → FirstSymbol test xs s) → FirstSymbol test (x ∷ xs) s
+    go : (b : Bool) → test x.content ≡ b → s ≡ cond b x.symbol (first_symbol test xs) → (s ≡ first_symbol test xs → FirstSymbol test xs s)
+        → FirstSymbol test (x ∷ xs) s
     go true t n rest = FirstSymbol.an_item x (inl refl) t n
     go false t n rest = later (rest n)
 
@@ -80,7 +81,8 @@ data IsOf (xs : List Item) (d : Declaration) : Type 0 where
   second_lemma : trans_lemma ≡ d → IsOf xs d
   an_item : (z : Item) → IsIn xs z → declaration (symbols_of xs) z ≡ d → IsOf xs d
 
-item-at : (symbols : Symbols) (xs : List Item) (i : ℕ) (d : Declaration) → slice_get (map (declaration symbols) xs) i ≡ Some d → (z : Item) × IsIn xs z × (declaration symbols z ≡ d)
+item-at : (symbols : Symbols) (xs : List Item) (i : ℕ) (d : Declaration) → slice_get (map (declaration symbols) xs) i ≡ Some d
+    → (z : Item) × IsIn xs z × (declaration symbols z ≡ d)
 item-at symbols [] i d e = absurd (cc)
 item-at symbols (x ∷ xs) zero d e = (x, inl refl, same_Some _ _ e)
 item-at symbols (x ∷ xs) (suc i) d e = let r = item-at symbols xs i d e in (r.0, inr r.1, r.2)
@@ -172,7 +174,8 @@ module _ (xs : List Item) (made : AreMade [] xs) (j : ℕ) (e : Declaration) (cl
   }
 
   -- premises fit
-  premises-fit : (before : List Item) → ((x : Item) → IsIn before x → IsIn xs x) → (js : List ℕ) (qs : List Sequent) → ArePremisesAmong before js qs → AllFit s n js qs
+  premises-fit : (before : List Item) → ((x : Item) → IsIn before x → IsIn xs x) → (js : List ℕ) (qs : List Sequent) → ArePremisesAmong before js qs
+      → AllFit s n js qs
   premises-fit before among [] qs h = tt
   premises-fit before among (i ∷ js) [] h = tt
   premises-fit before among (i ∷ js) (q ∷ qs) h = (
@@ -184,7 +187,8 @@ module _ (xs : List Item) (made : AreMade [] xs) (j : ℕ) (e : Declaration) (cl
   )
 
   -- what a type definition makes
-  part-applied : (before : List Item) → ((x : Item) → IsIn before x → IsIn xs x) → (names : List Name) (r : ℕ) → r < length signature → (c : HolType) (i : ℕ) (one : Sequent) → ArePremisesAmong before (i ∷ []) (one ∷ []) → (t : Tree)
+  part-applied : (before : List Item) → ((x : Item) → IsIn before x → IsIn xs x) → (names : List Name) (r : ℕ) → r < length signature
+      → (c : HolType) (i : ℕ) (one : Sequent) → ArePremisesAmong before (i ∷ []) (one ∷ []) → (t : Tree)
       → Some (part_definition_tree symbols names r c i one) ≡ Some t → IsAppliedTo s n 0 t
   part-applied before among names r l c i one h t b =
       let scope = under_types names unfilled in
@@ -193,7 +197,8 @@ module _ (xs : List Item) (made : AreMade [] xs) (j : ℕ) (e : Declaration) (cl
       (abstracted-applied s n (map (λ m. types) names) (part_tree symbols (filled symbols scope) r c (i, one)) (lacking-all s n (map (λ m. types) names) (types-lack symbols s apart n names))
       (part-right symbols s n counted (filled symbols scope) fine 0 r l c (i, one) (premises-fit before among (i ∷ []) (one ∷ []) h).0))
 
-  content-applied : (before : List Item) → ((x : Item) → IsIn before x → IsIn xs x) → (name : List ℕ) (c : Content) → IsContent before c → (t : Tree) → (declaration_of symbols name c).body ≡ Some t
+  content-applied : (before : List Item) → ((x : Item) → IsIn before x → IsIn xs x) → (name : List ℕ) (c : Content) → IsContent before c → (t : Tree)
+      → (declaration_of symbols name c).body ≡ Some t
       → IsAppliedTo s n 0 t
   content-applied before among name (operator o k) h t b = absurd (cc)
   content-applied before among name (constant o a) h t b = absurd (cc)

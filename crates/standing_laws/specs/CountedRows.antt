@@ -86,7 +86,8 @@ module _ (symbols : Symbols) (s n : ℕ) (counted : IsCounted symbols s n) where
   other-right r k l e = absurd (unlike symbols s counted.apart r l e)
 
   -- A part, at so many arguments more
-  pub part-right : (scope : Scope) → Applies scope → (k r : ℕ) → r < length signature → (c : HolType) (one : Premise) → Fits s n one → IsAppliedTo s n k (part_tree symbols scope r c one)
+  pub part-right : (scope : Scope) → Applies scope → (k r : ℕ) → r < length signature → (c : HolType) (one : Premise) → Fits s n one
+      → IsAppliedTo s n k (part_tree symbols scope r c one)
   part-right scope h k r l c one fits =
       applied-applied s n k (Sym r) (part_arguments_of symbols scope c one) (other-right r _ l)
       (ty-right scope h c, (tm-right scope h (predicate one.1.conclusion), (tm-right scope h (witness one.1.conclusion), (premise-right scope h one fits, tt {0}))))
@@ -165,7 +166,8 @@ module _ (symbols : Symbols) (s n : ℕ) (counted : IsCounted symbols s n) where
         let i = images-applies symbols s counted.apart n [] terms scope h in record { types = i.types; terms = i.terms; proofs = self-right; bounds = i.bounds }
 
     -- A law
-    law-right : (a b : HolType) (t u : Term) (r : ℕ) → r < length signature → (c : HolType) (one : Premise) → Fits s n one → Right (law_tree symbols scope a b t u r c one)
+    law-right : (a b : HolType) (t u : Term) (r : ℕ) → r < length signature → (c : HolType) (one : Premise) → Fits s n one
+        → Right (law_tree symbols scope a b t u r c one)
     law-right a b t u r l c one fits =
         let A = type_tree symbols scope.types a in
         applied-applied s n 0 (Sym fun_ext_symbol)
@@ -196,11 +198,13 @@ module _ (symbols : Symbols) (s n : ℕ) (counted : IsCounted symbols s n) where
         (ty-of bool, (tm-of x, (tm-of y, ((part-right (filled symbols scope.types) (filled-applies symbols s counted.apart n scope.types h.types) 1 17 (omega arith) c one fits, tm-of r), tt {0}))))
 
     -- one premise, and two
-    one-right : (row : Premise → Tree) → ((one : Premise) → Fits s n one → Right (row one)) → (js : List ℕ) (qs : List Sequent) → AllFit s n js qs → Right (of_one row js qs)
+    one-right : (row : Premise → Tree) → ((one : Premise) → Fits s n one → Right (row one)) → (js : List ℕ) (qs : List Sequent) → AllFit s n js qs
+        → Right (of_one row js qs)
     one-right row f (j ∷ []) (q ∷ []) fit = f (j, q) fit.0
     one-right row f js qs fit = no_row
 
-    two-right : (row : Premise → Premise → Tree) → ((one two : Premise) → Fits s n one → Fits s n two → Right (row one two)) → (js : List ℕ) (qs : List Sequent) → AllFit s n js qs → Right (of_two row js qs)
+    two-right : (row : Premise → Premise → Tree) → ((one two : Premise) → Fits s n one → Fits s n two → Right (row one two)) → (js : List ℕ) (qs : List Sequent)
+        → AllFit s n js qs → Right (of_two row js qs)
     two-right row f (j ∷ k ∷ []) (q ∷ r ∷ []) fit = f (j, q) (k, r) fit.0 fit.1.0
     two-right row f js qs fit = no_row
 

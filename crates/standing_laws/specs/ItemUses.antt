@@ -87,7 +87,8 @@ module _ (symbols : Symbols) (k : Key) where
   in-type d (TreeUses.constant_of n e i) = KeyUses.by_constant n (type-use d (constant_symbol symbols n) e) i
 
   -- a definition uses what its term mentions, which has no free variable
-  definition-uses : (name : List ℕ) (n : Name) (a : HolType) (t : Term) → AllByRecursion (λ v. ⊥) (free_places t) → TermUses symbols k t → KeyUses symbols k (declaration_of symbols name (defined_constant n a t))
+  definition-uses : (name : List ℕ) (n : Name) (a : HolType) (t : Term) → AllByRecursion (λ v. ⊥) (free_places t) → TermUses symbols k t
+      → KeyUses symbols k (declaration_of symbols name (defined_constant n a t))
   definition-uses name n a t closed h = go h
     where
       scope : Scope
@@ -108,7 +109,8 @@ module _ (xs : List Item) (made : AreMade [] xs) (before : List Item) (among : (
   symbols = symbols_of xs
 
   -- the image of a free variable of the premise stands in the proof
-  image-use : (pairs : ConstantPairs) (one : Sequent) (scope : Scope) (v : Variable) → IsIn (free_variables_of one) v → (js : List ℕ) → ArePremisesAmong before js (one ∷ []) → (r : ℕ)
+  image-use : (pairs : ConstantPairs) (one : Sequent) (scope : Scope) (v : Variable) → IsIn (free_variables_of one) v → (js : List ℕ)
+      → ArePremisesAmong before js (one ∷ []) → (r : ℕ)
       → occurs r (term_tree symbols scope (term_image (constants_put pairs) v)) ≡ true → occurs r (proof_tree symbols scope kinds.DefineConstList js (one ∷ []) (Parameters.constants pairs)) ≡ true
   image-use pairs one scope v i [] h r e = absurd h
   image-use pairs one scope v i (a ∷ b ∷ js) h r e = absurd h.1
@@ -193,7 +195,8 @@ module _ (xs : List Item) (made : AreMade [] xs) (before : List Item) (among : (
       go (inr (inr (inl e))) = IsIn-right (type_keys (new_type names)) (term_keys inside) k (within-abstracted names c (represented names c (term.Term.bound 0)) (represented-in names c (term.Term.bound 0) e))
       go (inr (inr (inr n))) = absurd n
 
-  second-keys : (names : TypeNames) (c : HolType) (f : Term) → IsIn (given_keys (Parameters.type_operator names Six)) k → IsIn (sequent_keys (second_law names c f)) k
+  second-keys : (names : TypeNames) (c : HolType) (f : Term) → IsIn (given_keys (Parameters.type_operator names Six)) k
+      → IsIn (sequent_keys (second_law names c f)) k
   second-keys names c f i =
       left-side (function c bool) (term.Term.lam c (equation c undone (term.Term.bound 0))) (term.Term.lam c (term.Term.app f (term.Term.bound 0)))
       (IsIn-right (type_keys c) (term_keys (equation c undone (term.Term.bound 0))) k (left-side c undone (term.Term.bound 0) (go i)))
@@ -211,7 +214,8 @@ module _ (xs : List Item) (made : AreMade [] xs) (before : List Item) (among : (
   right-side a x y i = IsIn-right (term_keys (term.Term.constant equality_name (equality_type a)) ++ term_keys x) (term_keys y) k i
 
   -- and in version 5
-  first_free-keys : (names : TypeNames) (c : HolType) → IsIn (given_keys (Parameters.type_operator names Five)) k → IsIn (sequent_keys (first_law_free names c)) k
+  first_free-keys : (names : TypeNames) (c : HolType) → IsIn (given_keys (Parameters.type_operator names Five)) k
+      → IsIn (sequent_keys (first_law_free names c)) k
   first_free-keys names c i = left-side (new_type names) inside v (go i)
     where
       v : Term
@@ -226,7 +230,8 @@ module _ (xs : List Item) (made : AreMade [] xs) (before : List Item) (among : (
       go (inr (inr (inl e))) = within-abstracted names c (represented names c v) (represented-in names c v e)
       go (inr (inr (inr n))) = absurd n
 
-  second_free-keys : (names : TypeNames) (c : HolType) (f : Term) → IsIn (given_keys (Parameters.type_operator names Five)) k → IsIn (sequent_keys (second_law_free names c f)) k
+  second_free-keys : (names : TypeNames) (c : HolType) (f : Term) → IsIn (given_keys (Parameters.type_operator names Five)) k
+      → IsIn (sequent_keys (second_law_free names c f)) k
   second_free-keys names c f i = right-side bool (term.Term.app f v) (equation c undone v) (left-side c undone v (go i))
     where
       v : Term
@@ -242,7 +247,8 @@ module _ (xs : List Item) (made : AreMade [] xs) (before : List Item) (among : (
       go (inr (inr (inr n))) = absurd n
 
   -- what a step is given stands in what it says or in its proof
-  given-uses : (kind : StepKind) (premises : List Sequent) (given : Parameters) (s : Sequent) → Rule kind premises given s → (js : List ℕ) → ArePremisesAmong before js premises → DefinesAmong before kind js premises given
+  given-uses : (kind : StepKind) (premises : List Sequent) (given : Parameters) (s : Sequent) → Rule kind premises given s → (js : List ℕ)
+      → ArePremisesAmong before js premises → DefinesAmong before kind js premises given
       → IsIn (given_keys given) k → IsIn (sequent_keys s) k ⊎ ConstantUsed kind js premises given
   given-uses kind premises given s (rule.define_const {n = n} {t = t} {a = a} d e) js h defines (inl is) =
       let left : List Key = term_keys (term.Term.constant equality_name (equality_type a)) in
@@ -274,12 +280,14 @@ module _ (xs : List Item) (made : AreMade [] xs) (before : List Item) (among : (
   map-from (j ∷ js) (inr i) = let r = map-from js i in (r.0, inr r.1, r.2)
 
   -- the body of a type definition uses its premise and the type that it is made from
-  part-use : (d : Declaration) (names : List Name) (s : ℕ) (c : HolType) (j : ℕ) (one : Sequent) → d.body ≡ Some (part_definition_tree symbols names s c j one) → (r : ℕ)
+  part-use : (d : Declaration) (names : List Name) (s : ℕ) (c : HolType) (j : ℕ) (one : Sequent) → d.body ≡ Some (part_definition_tree symbols names s c j one)
+      → (r : ℕ)
       → occurs r (part_tree symbols (filled symbols (under_types names unfilled)) s c (j, one)) ≡ true → uses d r ≡ true
   part-use d names s c j one is r e =
       body-use d r (part_definition_tree symbols names s c j one) is (under-abstractions r (map (λ n. types) names) (part_tree symbols (filled symbols (under_types names unfilled)) s c (j, one)) e)
 
-  premise-use : (d : Declaration) (names : List Name) (s : ℕ) (c : HolType) (j : ℕ) (one : Sequent) → d.body ≡ Some (part_definition_tree symbols names s c j one) → k ≡ number_key j → KeyUses symbols k d
+  premise-use : (d : Declaration) (names : List Name) (s : ℕ) (c : HolType) (j : ℕ) (one : Sequent)
+      → d.body ≡ Some (part_definition_tree symbols names s c j one) → k ≡ number_key j → KeyUses symbols k d
   premise-use d names s c j one is e =
       KeyUses.it (part-use d names s c j one is (symbol_of_key symbols k) (part-used (symbol_of_key symbols k) symbols (filled symbols (under_types names unfilled)) (filled symbols (under_types names unfilled)) s c j one (ap (symbol_of_key symbols) e)))
 
@@ -321,7 +329,8 @@ module _ (xs : List Item) (made : AreMade [] xs) (before : List Item) (among : (
       mentioned : IsIn (sequent_keys s) k → KeyUses symbols k (declaration_of symbols name (step kind js premises given s))
       mentioned j = in-type symbols k (declaration_of symbols name (step kind js premises given s)) (sequent-uses symbols k s (sequent-instances xs made before among s h.0.taken) j)
 
-      in_proof : (r : ℕ) → occurs r (proof_tree symbols (scope_of symbols s) kind js premises given) ≡ true → uses (declaration_of symbols name (step kind js premises given s)) r ≡ true
+      in_proof : (r : ℕ) → occurs r (proof_tree symbols (scope_of symbols s) kind js premises given) ≡ true
+          → uses (declaration_of symbols name (step kind js premises given s)) r ≡ true
       in_proof r e =
           let proof = proof_tree symbols (scope_of symbols s) kind js premises given in
           body-use (declaration_of symbols name (step kind js premises given s)) r (abstractions (domains_of symbols s) proof) refl (under-abstractions r (domains_of symbols s) proof e)

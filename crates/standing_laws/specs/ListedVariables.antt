@@ -35,13 +35,15 @@ lookup-pair : (es : TermPairs) (v : Variable) → is_some (lookup (variable_eq v
 lookup-pair [] v h = absurd (cc)
 lookup-pair (x ∷ es) v h = go (variable_eq v x.0) (variable_eq-Decides v x.0).0 h (lookup-pair es v)
   where
-    go : (b : Bool) → (b ≡ true → v ≡ x.0) → is_some (cond b (Some x.1) (lookup (variable_eq v) es)) ≡ true → (is_some (lookup (variable_eq v) es) ≡ true → (e : Variable × Term) × IsIn es e × (e.0 ≡ v))
+    go : (b : Bool) → (b ≡ true → v ≡ x.0) → is_some (cond b (Some x.1) (lookup (variable_eq v) es)) ≡ true
+        → (is_some (lookup (variable_eq v) es) ≡ true → (e : Variable × Term) × IsIn es e × (e.0 ≡ v))
         → (e : Variable × Term) × IsIn (x ∷ es) e × (e.0 ≡ v)
     go true same h rest = (x, inl refl, sym (same refl))
     go false same h rest = let r = rest h in (r.0, inr r.1, r.2)
 
 -- what is filtered comes from one of them
-filtered-from : (f : Term → Option (Variable × Term)) (p : Variable × Term → Bool) (hs : List Term) (e : Variable × Term) → IsIn (filter p (filter_map f hs)) e → (h : Term) × IsIn hs h × (f h ≡ Some e)
+filtered-from : (f : Term → Option (Variable × Term)) (p : Variable × Term → Bool) (hs : List Term) (e : Variable × Term) → IsIn (filter p (filter_map f hs)) e
+    → (h : Term) × IsIn hs h × (f h ≡ Some e)
 filtered-from f p [] e i = absurd i
 filtered-from f p (x ∷ hs) e i = by_option (f x) refl i (filtered-from f p hs e)
   where
@@ -51,7 +53,8 @@ filtered-from f p (x ∷ hs) e i = by_option (f x) refl i (filtered-from f p hs 
     by_test y is true (inr j) rest = let r = rest j in (r.0, inr r.1, r.2)
     by_test y is false j rest = let r = rest j in (r.0, inr r.1, r.2)
 
-    by_option : (o : Option (Variable × Term)) → f x ≡ o → IsIn (filter p (cons_option o (filter_map f hs))) e → (IsIn (filter p (filter_map f hs)) e → (h : Term) × IsIn hs h × (f h ≡ Some e))
+    by_option : (o : Option (Variable × Term)) → f x ≡ o → IsIn (filter p (cons_option o (filter_map f hs))) e
+        → (IsIn (filter p (filter_map f hs)) e → (h : Term) × IsIn hs h × (f h ≡ Some e))
         → (h : Term) × IsIn (x ∷ hs) h × (f h ≡ Some e)
     by_option None is j rest = let r = rest j in (r.0, inr r.1, r.2)
     by_option (Some y) is j rest = by_test y is (p y) j rest
@@ -66,7 +69,8 @@ equation-free h None is e f = absurd (cc)
 equation-free h (Some q) is e f = subst (λ t. IsIn (free_places t) e.0) (sym (equation_parts-is h q is)) (side-free q.left q.right q.ty e f)
 
 -- Each variable of the list is free in the premise
-pub listed-free : (pairs : ConstantPairs) (one : Sequent) → is_definition_list pairs one ≡ true → (v : Variable) → IsIn (variables_of pairs) v → IsIn (free_variables_of one) v
+pub listed-free : (pairs : ConstantPairs) (one : Sequent) → is_definition_list pairs one ≡ true → (v : Variable) → IsIn (variables_of pairs) v
+    → IsIn (free_variables_of one) v
 listed-free pairs one good v i =
     let found = passes (λ w. is_some (definiens pairs one.hypotheses w)) (variables_of pairs) (list_parts pairs one good).defined v (in-list (variables_of pairs) v i) in
     let e = lookup-pair (defining_equations pairs one.hypotheses) v found in
@@ -82,7 +86,8 @@ listed-variable (q ∷ pairs) p (inl e) = inl (ap (λ (r : Name × Variable). r.
 listed-variable (q ∷ pairs) p (inr i) = inr (listed-variable pairs p i)
 
 -- what a look-up of the variable of a pair finds
-put-at : (p : Name × Variable) (qs : ConstantPairs) → no_repeats variable_eq (variables_of qs) ≡ true → IsIn qs p → lookup (variable_eq p.1) (constants_put qs) ≡ Some (constant p.0 p.1.1)
+put-at : (p : Name × Variable) (qs : ConstantPairs) → no_repeats variable_eq (variables_of qs) ≡ true → IsIn qs p
+    → lookup (variable_eq p.1) (constants_put qs) ≡ Some (constant p.0 p.1.1)
 put-at p [] h i = absurd i
 put-at p (q ∷ qs) h (inl e) =
     ap (λ b. cond b (Some (constant q.0 q.1.1)) (lookup (variable_eq p.1) (constants_put qs))) ((variable_eq-Decides p.1 q.1).1 (ap (λ (r : Name × Variable). r.1) e))
@@ -91,17 +96,20 @@ put-at p (q ∷ qs) h (inr i) =
     let parts = and_parts (not (is_in variable_eq q.1 (variables_of qs))) (no_repeats variable_eq (variables_of qs)) h in
     go (variable_eq p.1 q.1) refl (variable_eq-Decides p.1 q.1).0 (not-true (is_in variable_eq q.1 (variables_of qs)) parts.0) (put-at p qs parts.1 i)
   where
-    go : (b : Bool) → variable_eq p.1 q.1 ≡ b → (variable_eq p.1 q.1 ≡ true → p.1 ≡ q.1) → is_in variable_eq q.1 (variables_of qs) ≡ false → lookup (variable_eq p.1) (constants_put qs) ≡ Some (constant p.0 p.1.1)
+    go : (b : Bool) → variable_eq p.1 q.1 ≡ b → (variable_eq p.1 q.1 ≡ true → p.1 ≡ q.1) → is_in variable_eq q.1 (variables_of qs) ≡ false
+        → lookup (variable_eq p.1) (constants_put qs) ≡ Some (constant p.0 p.1.1)
         → lookup (variable_eq p.1) (constants_put (q ∷ qs)) ≡ Some (constant p.0 p.1.1)
     go true e f new rest = absurd (both_ways (is_in variable_eq q.1 (variables_of qs)) new (in-list (variables_of qs) q.1 (subst (IsIn (variables_of qs)) (f e) (listed-variable qs p i))))
     go false e f new rest = ap (λ b. cond b (Some (constant q.0 q.1.1)) (lookup (variable_eq p.1) (constants_put qs))) e ∙ rest
 
 -- And its constant is put for it
-pub constant-put : (pairs : ConstantPairs) → no_repeats variable_eq (variables_of pairs) ≡ true → (p : Name × Variable) → IsIn pairs p → term_image (constants_put pairs) p.1 ≡ constant p.0 p.1.1
+pub constant-put : (pairs : ConstantPairs) → no_repeats variable_eq (variables_of pairs) ≡ true → (p : Name × Variable) → IsIn pairs p
+    → term_image (constants_put pairs) p.1 ≡ constant p.0 p.1.1
 constant-put pairs h p i = ap (λ o. unwrap_or o (free p.1.0 p.1.1)) (put-at p pairs h i)
 
 -- what is put is a constant of the list
-pub put-from : (pairs : ConstantPairs) (w : Variable × Term) → IsIn (constants_put pairs) w → (p : Name × Variable) × IsIn pairs p × (w ≡ (p.1, constant p.0 p.1.1))
+pub put-from : (pairs : ConstantPairs) (w : Variable × Term) → IsIn (constants_put pairs) w
+    → (p : Name × Variable) × IsIn pairs p × (w ≡ (p.1, constant p.0 p.1.1))
 put-from [] w i = absurd i
 put-from (q ∷ pairs) w (inl e) = (q, inl refl, e)
 put-from (q ∷ pairs) w (inr i) = let r = put-from pairs w i in (r.0, inr r.1, r.2)

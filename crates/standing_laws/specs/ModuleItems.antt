@@ -42,7 +42,8 @@ pub record IsAsked (xs : List Item) (z : Item) : Type 0 where
   pub content : IsContent before z.content
 
 module _ (xs : List Item) where
-  located : (before ys : List Item) (z : Item) → xs ≡ before ++ z ∷ ys → slice_get (module_of (symbols_of xs) xs) (length lemmas + length before) ≡ Some (declaration (symbols_of xs) z)
+  located : (before ys : List Item) (z : Item) → xs ≡ before ++ z ∷ ys
+      → slice_get (module_of (symbols_of xs) xs) (length lemmas + length before) ≡ Some (declaration (symbols_of xs) z)
   located before ys z whole =
       let D = declaration (symbols_of xs) in
       skip lemmas (map D xs) (length before)
@@ -162,7 +163,8 @@ no-new_select k (inr (inr (inr i))) h = absurd i
 primitive-types : (n : Name) (g : HolType) → primitive_type n ≡ Some g → (equality_type generic ≡ g) ⊎ (select_type generic ≡ g)
 primitive-types n g h = go (name_eq n equality_name) (name_eq n select_name) h
   where
-    go : (b c : Bool) → cond b (Some (equality_type generic)) (cond c (Some (select_type generic)) None) ≡ Some g → (equality_type generic ≡ g) ⊎ (select_type generic ≡ g)
+    go : (b c : Bool) → cond b (Some (equality_type generic)) (cond c (Some (select_type generic)) None) ≡ Some g
+        → (equality_type generic ≡ g) ⊎ (select_type generic ≡ g)
     go true c e = inl (cc)
     go false true e = inr (cc)
     go false false e = absurd (cc)
@@ -182,7 +184,8 @@ First-each : (test : Content → Bool) (xs : List Item) → First test xs
 First-each test [] = First.no_item refl
 First-each test (x ∷ xs) = go (test x.content) refl (First-each test xs)
   where
-    chosen : (b : Bool) → test x.content ≡ b → (first_symbol test (x ∷ xs) ≡ cond b x.symbol (first_symbol test xs)) × (first_type test (x ∷ xs) ≡ cond b (generic_of x.content) (first_type test xs))
+    chosen : (b : Bool) → test x.content ≡ b
+        → (first_symbol test (x ∷ xs) ≡ cond b x.symbol (first_symbol test xs)) × (first_type test (x ∷ xs) ≡ cond b (generic_of x.content) (first_type test xs))
     chosen b e = (ap (λ c. cond c x.symbol (first_symbol test xs)) e, ap (λ c. cond c (generic_of x.content) (first_type test xs)) e)
 
     go : (b : Bool) → test x.content ≡ b → First test xs → First test (x ∷ xs)
@@ -199,7 +202,8 @@ constant-input symbols n h = go (name_eq n equality_name) (name_eq n select_name
     go false true f g = let a : primitive_type n ≡ Some (select_type generic) = rw (f, g) refl in absurd (cc)
     go false false f g = rw (f, g) refl
 
-constant-type : (symbols : Symbols) (name : List ℕ) (c : Content) (n : Name) → is_constant n c ≡ true → (declaration_of symbols name c).ty ≡ generic_tree symbols (generic_of c)
+constant-type : (symbols : Symbols) (name : List ℕ) (c : Content) (n : Name) → is_constant n c ≡ true
+    → (declaration_of symbols name c).ty ≡ generic_tree symbols (generic_of c)
 constant-type symbols name (operator m k) n e = absurd (cc)
 constant-type symbols name (constant m a) n e = refl
 constant-type symbols name (defined_constant m a t) n e = refl

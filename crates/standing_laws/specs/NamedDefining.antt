@@ -31,7 +31,8 @@ use Rattle.run_laws.specs.Named.{SymbolHasName}
 use Rattle.standing_laws.specs.NamedStates.{AreNamed, AreNamedStacked, IsNamedState, IsNamedPair, name-gives, constant_pairs-gives, pop-gives, popped, answers, with_symbols-named, with_step-named, concluded, with_type_definition-named}
 
 -- the state with another stack, and with symbols that are taken
-defining : (s : State) (xs : List Symbol) (stack : List Object) → IsNamedState s → AreNamedStacked stack → AllByRecursion SymbolHasName xs → IsNamedState (with_symbols (with_stack s stack) xs)
+defining : (s : State) (xs : List Symbol) (stack : List Object) → IsNamedState s → AreNamedStacked stack → AllByRecursion SymbolHasName xs
+    → IsNamedState (with_symbols (with_stack s stack) xs)
 defining s xs stack g h k = with_symbols-named (with_stack s stack) xs (record { stack = h; dictionary = g.dictionary; made = g.made }) k
 
 -- defineConst: the constant has the name that was popped
@@ -88,7 +89,8 @@ abbrev AreTypeNames : TypeNames → Type 0
 AreTypeNames names = IsName names.operator × IsName names.abstraction × IsName names.representation
 
 -- defineTypeOp: the operator and its two constants have the names that were popped, and two steps are made
-make_type-named : (version : Version) (s t : State) (names : TypeNames) (i : ℕ) (c : HolType) (f : Term) → IsNamedState s → AreTypeNames names → make_type version s names i c f ≡ Ok t → IsNamedState t
+make_type-named : (version : Version) (s t : State) (names : TypeNames) (i : ℕ) (c : HolType) (f : Term) → IsNamedState s → AreTypeNames names
+    → make_type version s names i c f ≡ Ok t → IsNamedState t
 make_type-named version s t names i c f g h e =
     let measures = type_measure (new_type names) ∷ type_measure (abstraction_type names c) ∷ type_measure (representation_type names c) ∷ sequent_measure (first_law_of version names c) ∷ sequent_measure (second_law_of version names c f) ∷ [] in
     let limits = passed (in_limits measures) _ t e in

@@ -1,9 +1,9 @@
 -- Every accepted run over articles of bytes has names, so its module stands for it.
-use Rattle.hol_spec.specs.declared.Version.TheVariants.{Five}
-use Rattle.std.proofs.Common.{◌≡◌, ℕ, ◌+◌, ℤ, List, [], ◌∷◌, Result, Ok, None, Some, refl, sym, ap, subst, ◌∙◌}
-use Rattle.std.specs.Prelude.{pos, drop}
+use Rattle.hol_spec.specs.declared.Version.TheVariants.{Five, Six}
+use Rattle.std.proofs.Common.{◌≡◌, ℕ, ◌+◌, ℤ, List, [], ◌∷◌, Result, Ok, None, Some, refl, sym, ap, subst, ◌∙◌, inl, inr}
+use Rattle.std.specs.Prelude.{drop}
 use Rattle.std.specs.List.{AllByRecursion}
-use Rattle.std.specs.Ordering.{int_eq, int_cmp}
+use Rattle.std.specs.Ordering.{int_cmp}
 use Rattle.std.specs.FinMap as entries
 use Rattle.bridge_base.specs.declared.faults.Kind.{Kind}
 use Rattle.hol_spec.specs.Mangling.{AreBytes}
@@ -15,9 +15,9 @@ use Rattle.article_spec.specs.declared.commands.Word.{Word}
 use Rattle.article_spec.specs.declared.commands.Word.TheVariants as word
 use Rattle.article_spec.specs.Lines.{End, ended, refused, Lines}
 use Rattle.article_spec.specs.State.{Object, State, Place, start, version, body, initial}
-use Rattle.article_spec.specs.Conditions.{demand}
 use Rattle.article_spec.specs.Step.{obey, in_body, obey_item, second_word, step_at, step, finish}
 use Rattle.article_spec.specs.Run.{machine, at_line, obey_all, end_article, obey_article, Outcome, accepted, refused_at, RunsFrom, finished, passed, stopped, Run}
+use Rattle.article_laws.specs.SecondWords.{second_word-cases}
 use Rattle.article_laws.specs.SoundStates.{bound}
 use Rattle.article_laws.specs.SoundStates as sound
 use Rattle.module_spec.specs.Image.{image}
@@ -26,7 +26,7 @@ use Rattle.run_laws.specs.Named.{SymbolHasName, HasNames}
 use Rattle.standing_laws.specs.ByteNames.{IsNamedItem, AreNamedCommands, IsEnded, lines-named}
 use Rattle.standing_laws.specs.NamedStates.{IsNamed, AreNamedStacked, AreNamedMade, IsNamedState, answers}
 use Rattle.standing_laws.specs.NamedBuilding.{nil-named, cons-named, hd_tl-named, type_op-named, var_type-named, op_type-named, const-named, const_term-named, var-named, var_term-named, app_term-named, abs_term-named, def-named, ref-named, remove-named, drop_object-named}
-use Rattle.standing_laws.specs.NamedInference.{refl-named, assume-named, eq_mp-named, abs_thm-named, app_thm-named, deduct_antisym-named, beta_conv-named, sym-named, trans-named, prove_hyp-named, subst-named, axiom-named, thm-named}
+use Rattle.standing_laws.specs.NamedInference.{rule-named, axiom-named, thm-named}
 use Rattle.standing_laws.specs.NamedDefining.{define_const-named, define_const_list-named, define_type_op-named}
 use Rattle.standing_laws.specs.StandingRuns.{runs_stand}
 use Rattle.article_laws.specs.SoundSteps.{on_line}
@@ -51,17 +51,17 @@ obey-named s t word.Ref g e = ref-named s t g e
 obey-named s t word.Remove g e = remove-named s t g e
 obey-named s t word.Pop g e = drop_object-named s t g e
 obey-named s t word.Pragma g e = drop_object-named s t g e
-obey-named s t word.Refl g e = refl-named s t g e
-obey-named s t word.Assume g e = assume-named s t g e
-obey-named s t word.EqMp g e = eq_mp-named s t g e
-obey-named s t word.AbsThm g e = abs_thm-named s t g e
-obey-named s t word.AppThm g e = app_thm-named s t g e
-obey-named s t word.DeductAntisym g e = deduct_antisym-named s t g e
-obey-named s t word.BetaConv g e = beta_conv-named s t g e
-obey-named s t word.Sym g e = sym-named s t g e
-obey-named s t word.Trans g e = trans-named s t g e
-obey-named s t word.ProveHyp g e = prove_hyp-named s t g e
-obey-named s t word.Subst g e = subst-named s t g e
+obey-named s t word.Refl g e = rule-named word.Refl (tt {0}) s t g e
+obey-named s t word.Assume g e = rule-named word.Assume (tt {0}) s t g e
+obey-named s t word.EqMp g e = rule-named word.EqMp (tt {0}) s t g e
+obey-named s t word.AbsThm g e = rule-named word.AbsThm (tt {0}) s t g e
+obey-named s t word.AppThm g e = rule-named word.AppThm (tt {0}) s t g e
+obey-named s t word.DeductAntisym g e = rule-named word.DeductAntisym (tt {0}) s t g e
+obey-named s t word.BetaConv g e = rule-named word.BetaConv (tt {0}) s t g e
+obey-named s t word.Sym g e = rule-named word.Sym (tt {0}) s t g e
+obey-named s t word.Trans g e = rule-named word.Trans (tt {0}) s t g e
+obey-named s t word.ProveHyp g e = rule-named word.ProveHyp (tt {0}) s t g e
+obey-named s t word.Subst g e = rule-named word.Subst (tt {0}) s t g e
 obey-named s t word.DefineConst g e = define_const-named s t g e
 obey-named s t word.DefineConstList g e = define_const_list-named s t g e
 obey-named s t word.DefineTypeOp g e = define_type_op-named s t g e
@@ -91,40 +91,10 @@ obey_item-named s t (item.Name n) g h e = placed s _ t e g refl refl (h, g.stack
 obey_item-named s t (item.Word w) g h e = obey-named s t w g e
 
 second_word-named : (s t : State) (w : Word) → IsNamedState s → second_word s w ≡ Ok t → IsNamedState t
-second_word-named s t word.Version g e = placed s _ t e g refl refl (dropped s.stack g.stack)
-second_word-named s t word.Nil g e = obey-named (in_body Five s) t word.Nil (in_body-named s g) e
-second_word-named s t word.Cons g e = obey-named (in_body Five s) t word.Cons (in_body-named s g) e
-second_word-named s t word.HdTl g e = obey-named (in_body Five s) t word.HdTl (in_body-named s g) e
-second_word-named s t word.TypeOp g e = obey-named (in_body Five s) t word.TypeOp (in_body-named s g) e
-second_word-named s t word.VarType g e = obey-named (in_body Five s) t word.VarType (in_body-named s g) e
-second_word-named s t word.OpType g e = obey-named (in_body Five s) t word.OpType (in_body-named s g) e
-second_word-named s t word.Const g e = obey-named (in_body Five s) t word.Const (in_body-named s g) e
-second_word-named s t word.ConstTerm g e = obey-named (in_body Five s) t word.ConstTerm (in_body-named s g) e
-second_word-named s t word.Var g e = obey-named (in_body Five s) t word.Var (in_body-named s g) e
-second_word-named s t word.VarTerm g e = obey-named (in_body Five s) t word.VarTerm (in_body-named s g) e
-second_word-named s t word.AppTerm g e = obey-named (in_body Five s) t word.AppTerm (in_body-named s g) e
-second_word-named s t word.AbsTerm g e = obey-named (in_body Five s) t word.AbsTerm (in_body-named s g) e
-second_word-named s t word.Def g e = obey-named (in_body Five s) t word.Def (in_body-named s g) e
-second_word-named s t word.Ref g e = obey-named (in_body Five s) t word.Ref (in_body-named s g) e
-second_word-named s t word.Remove g e = obey-named (in_body Five s) t word.Remove (in_body-named s g) e
-second_word-named s t word.Pop g e = obey-named (in_body Five s) t word.Pop (in_body-named s g) e
-second_word-named s t word.Pragma g e = obey-named (in_body Five s) t word.Pragma (in_body-named s g) e
-second_word-named s t word.Refl g e = obey-named (in_body Five s) t word.Refl (in_body-named s g) e
-second_word-named s t word.Assume g e = obey-named (in_body Five s) t word.Assume (in_body-named s g) e
-second_word-named s t word.EqMp g e = obey-named (in_body Five s) t word.EqMp (in_body-named s g) e
-second_word-named s t word.AbsThm g e = obey-named (in_body Five s) t word.AbsThm (in_body-named s g) e
-second_word-named s t word.AppThm g e = obey-named (in_body Five s) t word.AppThm (in_body-named s g) e
-second_word-named s t word.DeductAntisym g e = obey-named (in_body Five s) t word.DeductAntisym (in_body-named s g) e
-second_word-named s t word.BetaConv g e = obey-named (in_body Five s) t word.BetaConv (in_body-named s g) e
-second_word-named s t word.Sym g e = obey-named (in_body Five s) t word.Sym (in_body-named s g) e
-second_word-named s t word.Trans g e = obey-named (in_body Five s) t word.Trans (in_body-named s g) e
-second_word-named s t word.ProveHyp g e = obey-named (in_body Five s) t word.ProveHyp (in_body-named s g) e
-second_word-named s t word.Subst g e = obey-named (in_body Five s) t word.Subst (in_body-named s g) e
-second_word-named s t word.DefineConst g e = obey-named (in_body Five s) t word.DefineConst (in_body-named s g) e
-second_word-named s t word.DefineConstList g e = obey-named (in_body Five s) t word.DefineConstList (in_body-named s g) e
-second_word-named s t word.DefineTypeOp g e = obey-named (in_body Five s) t word.DefineTypeOp (in_body-named s g) e
-second_word-named s t word.Axiom g e = obey-named (in_body Five s) t word.Axiom (in_body-named s g) e
-second_word-named s t word.Thm g e = obey-named (in_body Five s) t word.Thm (in_body-named s g) e
+second_word-named s t w g e = elim (second_word-cases s w) [
+  | inl f ↦ placed s (record s { stack = drop 1 s.stack; place = body Six }) t (let k : second_word s word.Version ≡ Ok t = ap (second_word s) (sym f) ∙ e in k) g refl refl (dropped s.stack g.stack)
+  | inr f ↦ obey-named (in_body Five s) t w (in_body-named s g) (sym f ∙ e)
+]
 
 step_at-named : (s t : State) (p : Place) (i : Item) → IsNamedState s → IsNamedItem i → step_at p s i ≡ Ok t → IsNamedState t
 step_at-named s t (start v) (item.Number z) g h e = placed s _ t e g refl refl (tt {0}, g.stack)
@@ -164,7 +134,8 @@ end_article-named (ended line) s t g e = finish-named s t g (on_line line (finis
 end_article-named (refused line kind) s t g e = absurd (cc)
 
 -- an article of bytes
-article-named : (bytes : List ℕ) (commands : List Command) (end : End) (s t : State) → AreBytes bytes → Lines bytes commands end → IsNamedState s → obey_article machine s commands end ≡ Ok t → IsNamedState t
+article-named : (bytes : List ℕ) (commands : List Command) (end : End) (s t : State) → AreBytes bytes → Lines bytes commands end → IsNamedState s
+    → obey_article machine s commands end ≡ Ok t → IsNamedState t
 article-named bytes commands end s t h l g e =
     let last = bound (obey_all machine s commands) _ t e in
     let over = end_article-ended end last.0 t last.2 in
@@ -176,7 +147,8 @@ the_accepted a (accepted b) = b
 the_accepted a (refused_at k line kind) = a
 
 -- each article keeps the names
-run-named : (k : ℕ) (s : State) (articles : List (List ℕ)) (o : Outcome) (a : Accepted) → IsNamedState s → AllByRecursion AreBytes articles → o ≡ accepted a → RunsFrom machine k s articles o → AreNamedMade a.made
+run-named : (k : ℕ) (s : State) (articles : List (List ℕ)) (o : Outcome) (a : Accepted) → IsNamedState s → AllByRecursion AreBytes articles → o ≡ accepted a
+    → RunsFrom machine k s articles o → AreNamedMade a.made
 unfolding the_accepted
 run-named k s [] o a g h e (finished f) = subst (λ (b : Accepted). AreNamedMade b.made) (ap (the_accepted a) (sym f ∙ e)) g.made
 run-named k s (bytes ∷ rest) o a g h e (passed {next = t} {commands = cs} {end = x} l p r) = run-named (k + 1) t rest o a (article-named bytes cs x s t h.0 l g p) h.1 e r

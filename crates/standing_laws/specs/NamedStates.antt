@@ -83,7 +83,8 @@ pub constant-gives : Gives as_constant IsName
 constant-gives (constant n) a h e = let f : n ≡ a = cc in subst IsName f h
 constant-gives x a h e = absurd (cc)
 
-each-gives : {A : Type 0} (as_one : Object → Result A Kind) (P : A → Type 0) → Gives as_one P → (xs : Objects) (ys : List A) → AreNamed xs → each as_one xs ≡ Ok ys → AllByRecursion P ys
+each-gives : {A : Type 0} (as_one : Object → Result A Kind) (P : A → Type 0) → Gives as_one P → (xs : Objects) (ys : List A) → AreNamed xs
+    → each as_one xs ≡ Ok ys → AllByRecursion P ys
 each-gives {A = A} as_one P f none ys h e = let g : [] ≡ ys = cc in subst (AllByRecursion P) g (tt {0})
 each-gives {A = A} as_one P f (more x xs) ys h e =
     let first = bound (as_one x) _ ys e in
@@ -99,7 +100,8 @@ list_of-gives as_one P f x ys h e =
     let xs = bound (as_list x) _ ys e in
     each-gives as_one P f xs.0 ys (list-gives x xs.0 h xs.1) xs.2
 
-pair_of-gives : {A B : Type 0} (as_one : Object → Result A Kind) (as_two : Object → Result B Kind) (P : A → Type 0) (Q : B → Type 0) → Gives as_one P → Gives as_two Q → Gives (pair_of as_one as_two) (λ p. P p.0 × Q p.1)
+pair_of-gives : {A B : Type 0} (as_one : Object → Result A Kind) (as_two : Object → Result B Kind) (P : A → Type 0) (Q : B → Type 0) → Gives as_one P
+    → Gives as_two Q → Gives (pair_of as_one as_two) (λ p. P p.0 × Q p.1)
 pair_of-gives {A = A} {B = B} as_one as_two P Q f g (list (more x (more y none))) p h e =
     let first = bound (as_one x) _ p e in
     let second = bound (as_two y) _ p first.2 in
@@ -117,7 +119,8 @@ pub constant_pairs-gives : Gives as_constant_pairs (AllByRecursion IsNamedPair)
 constant_pairs-gives = list_of-gives (pair_of as_name as_variable) IsNamedPair (pair_of-gives as_name as_variable IsName Anything name-gives (any-gives as_variable))
 
 -- what stands on top has the property, and the rest is of named objects
-pub pop-gives : {A : Type 0} (as_one : Object → Result A Kind) (P : A → Type 0) → Gives as_one P → (xs : List Object) (r : A × List Object) → AreNamedStacked xs → pop as_one xs ≡ Ok r → P r.0 × AreNamedStacked r.1
+pub pop-gives : {A : Type 0} (as_one : Object → Result A Kind) (P : A → Type 0) → Gives as_one P → (xs : List Object) (r : A × List Object) → AreNamedStacked xs
+    → pop as_one xs ≡ Ok r → P r.0 × AreNamedStacked r.1
 pop-gives {A = A} as_one P f [] r h e = absurd (cc)
 pop-gives {A = A} as_one P f (x ∷ below) r h e =
     let top = bound (as_one x) _ r e in
@@ -128,7 +131,8 @@ pop-gives {A = A} as_one P f (x ∷ below) r h e =
     the q p e = cc
 
 -- the rest of the stack under an operand of any kind
-pub popped : {A : Type 0} (as_one : Object → Result A Kind) (xs : List Object) (r : A × List Object) → AreNamedStacked xs → pop as_one xs ≡ Ok r → AreNamedStacked r.1
+pub popped : {A : Type 0} (as_one : Object → Result A Kind) (xs : List Object) (r : A × List Object) → AreNamedStacked xs → pop as_one xs ≡ Ok r
+    → AreNamedStacked r.1
 popped as_one xs r h e = (pop-gives as_one Anything (any-gives as_one) xs r h e).1
 
 pub head_and_tail-gives : (xs : Objects) (r : Object × Objects) → AreNamed xs → head_and_tail xs ≡ Ok r → IsNamed r.0 × AreNamed r.1
@@ -158,7 +162,8 @@ taking s t xs stack e g h k =
     answers (with_symbols (with_stack s stack) xs) t e (with_symbols-named (with_stack s stack) xs (record { stack = h; dictionary = g.dictionary; made = g.made }) k)
 
 -- a type operator that is defined
-pub with_type_definition-named : (s : State) (names : TypeNames) (c : HolType) (f : Term) (i : ℕ) → IsNamedState s → SymbolHasName (Symbol.defined (Definition.type_operator names c f)) → IsNamedState (with_type_definition s names c f i)
+pub with_type_definition-named : (s : State) (names : TypeNames) (c : HolType) (f : Term) (i : ℕ) → IsNamedState s
+    → SymbolHasName (Symbol.defined (Definition.type_operator names c f)) → IsNamedState (with_type_definition s names c f i)
 with_type_definition-named s names c f i g h = record { stack = g.stack; dictionary = g.dictionary; made = All-append MadeHasName s.made (Made.type_definition names c f i ∷ []) g.made (h, tt {0}) }
 
 -- a step more
@@ -171,7 +176,8 @@ concluded u t x g e =
     let limits = passed (sequent_in_limits x.sequent) _ t e in
     answers _ t limits.2 (record { stack = (tt {0}, g.stack); dictionary = g.dictionary; made = (with_step-named u x g).made })
 
-pub concluding : (s t : State) (stack : List Object) (x : Step) → IsNamedState s → AreNamedStacked stack → conclude (with_stack s stack) x ≡ Ok t → IsNamedState t
+pub concluding : (s t : State) (stack : List Object) (x : Step) → IsNamedState s → AreNamedStacked stack → conclude (with_stack s stack) x ≡ Ok t
+    → IsNamedState t
 concluding s t stack x g h e = concluded (with_stack s stack) t x (record { stack = h; dictionary = g.dictionary; made = g.made }) e
 
 -- a dictionary with one entry more, and one less

@@ -47,7 +47,8 @@ proves kinds.Axiom ss e = tt
 proves kinds.FirstLaw ss e = tt
 proves kinds.SecondLaw ss e = tt
 
-content-using : (b : Bool) (kind : StepKind) (js : List ℕ) (ss : List Sequent) (g : Parameters) (s : Sequent) → ProvesHypothesis kind ss → IsUsing (content_by b kind js ss g s)
+content-using : (b : Bool) (kind : StepKind) (js : List ℕ) (ss : List Sequent) (g : Parameters) (s : Sequent) → ProvesHypothesis kind ss
+    → IsUsing (content_by b kind js ss g s)
 content-using true kind js ss g s h = h
 content-using false kind js ss g s h = tt
 
@@ -77,7 +78,8 @@ numbered-using : (named : Content → List ℕ) (i : ℕ) (cs : List Content) �
 numbered-using named i [] h = tt
 numbered-using named i (c ∷ cs) h = (h.0, numbered-using named (i + 1) cs h.1)
 
-after-using : (named : Naming) (before : List Item) (xs : List Made) → AllByRecursion IsUsingItem before → AllByRecursion IsUsingItem (items_after named before xs)
+after-using : (named : Naming) (before : List Item) (xs : List Made) → AllByRecursion IsUsingItem before
+    → AllByRecursion IsUsingItem (items_after named before xs)
 after-using named before [] h = h
 after-using named before (x ∷ xs) h =
     let name = named (length (said_by before)) x in

@@ -84,7 +84,8 @@ pub record SaysCounted (c : Content) (n : ℕ) : Type 0 where
   pub count : parameter_count sequent ≡ n
 
 -- What is declared at a type that stands for a closed sequent says a sequent of as many parameters
-pub declared-says : (m : List Declaration) (symbols : Symbols) (closed : ClosedSequent) (name : List ℕ) (c : Content) → Enc m closed (declaration_of symbols name c).ty
+pub declared-says : (m : List Declaration) (symbols : Symbols) (closed : ClosedSequent) (name : List ℕ) (c : Content)
+    → Enc m closed (declaration_of symbols name c).ty
     → SaysCounted c (closed_parameter_count closed)
 declared-says m symbols closed name (operator n k) h =
     let e : 0 ≡ 7 = sym (end_symbol-products (replicate k types) types) ∙ Enc-end_symbol m closed _ h in absurd (omega (arith, e))

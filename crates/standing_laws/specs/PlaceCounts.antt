@@ -74,13 +74,15 @@ module _ (s : ℕ) where
   applied-lacks f [] h k = h
   applied-lacks f (x ∷ xs) h k = applied-lacks (App f x) xs (h, k.0) k.1
 
-  pub applied-applied : (n k : ℕ) (f : Tree) (xs : List Tree) → IsAppliedTo s n (k + length xs) f → AllByRecursion (IsAppliedTo s n 0) xs → IsAppliedTo s n k (applied f xs)
+  pub applied-applied : (n k : ℕ) (f : Tree) (xs : List Tree) → IsAppliedTo s n (k + length xs) f → AllByRecursion (IsAppliedTo s n 0) xs
+      → IsAppliedTo s n k (applied f xs)
   applied-applied n k f [] h a = let e : k + 0 ≡ k = omega arith in subst (λ j. IsAppliedTo s n j f) e h
   applied-applied n k f (x ∷ xs) h a =
       let e : k + suc (length xs) ≡ suc (k + length xs) = omega arith in
       applied-applied n k (App f x) xs (subst (λ j. IsAppliedTo s n j f) e h, a.0) a.1
 
-  pub abstracted-applied : (n : ℕ) (domains : List Tree) (t : Tree) → AllByRecursion (IsAppliedTo s n 0) domains → IsAppliedTo s n 0 t → IsAppliedTo s n 0 (abstractions domains t)
+  pub abstracted-applied : (n : ℕ) (domains : List Tree) (t : Tree) → AllByRecursion (IsAppliedTo s n 0) domains → IsAppliedTo s n 0 t
+      → IsAppliedTo s n 0 (abstractions domains t)
   abstracted-applied n [] t h k = k
   abstracted-applied n (a ∷ domains) t h k = (h.0, abstracted-applied n domains t h.1 k)
 

@@ -63,13 +63,15 @@ record IsSaidAt (run : Accepted) (items : List Item) (j : ℕ) : Type 0 where
 is_or_less : (i j : ℕ) → i ≤ j → (i ≡ j) ⊎ (suc i ≤ j)
 is_or_less i j h = grind arith
 
-said-at : (run : Accepted) (items : List Item) (j : ℕ) (before zs : List Item) → items ≡ before ++ zs → HaveNames run before zs → length (said_by before) ≤ j → j < length (said_by items) → IsSaidAt run items j
+said-at : (run : Accepted) (items : List Item) (j : ℕ) (before zs : List Item) → items ≡ before ++ zs → HaveNames run before zs → length (said_by before) ≤ j
+    → j < length (said_by items) → IsSaidAt run items j
 said-at run items j before [] whole names low high = let e = ap (λ l. length (said_by l)) (whole ∙ append-nil before) in absurd (omega (arith, e, low, high))
 said-at run items j before (z ∷ zs) whole names low high =
     go (says z.content) refl (is_or_less (length (said_by before)) j low)
     (λ l. said-at run items j (before ++ z ∷ []) zs (whole ∙ sym (append_assoc before (z ∷ []) zs)) names.1 l high)
   where
-    go : (o : Option Sequent) → says z.content ≡ o → (length (said_by before) ≡ j) ⊎ (suc (length (said_by before)) ≤ j) → (length (said_by (before ++ z ∷ [])) ≤ j → IsSaidAt run items j) → IsSaidAt run items j
+    go : (o : Option Sequent) → says z.content ≡ o → (length (said_by before) ≡ j) ⊎ (suc (length (said_by before)) ≤ j)
+        → (length (said_by (before ++ z ∷ [])) ≤ j → IsSaidAt run items j) → IsSaidAt run items j
     go None e l next = let n = silent-length before z e in next (omega (arith, n, low))
     go (Some s) e (inl is) next = record { before = before; item = z; after = zs; whole = whole; place = is; sequent = s; said = e; name = names.0 }
     go (Some s) e (inr l) next = let n = telling-length before z s e in next (omega (arith, n, l))
@@ -84,13 +86,15 @@ in-one_of i (j ∷ is) (inr h) = go (nat_eq i j) (in-one_of i is h)
     go false e = e
 
 -- the name of a step that is exported
-exported-name : (run : Accepted) (i : ℕ) (kind : StepKind) (name : List ℕ) → IsStepName run i kind name → is_one_of i run.exports ≡ true → is_export_name name ≡ true
+exported-name : (run : Accepted) (i : ℕ) (kind : StepKind) (name : List ℕ) → IsStepName run i kind name → is_one_of i run.exports ≡ true
+    → is_export_name name ≡ true
 exported-name run i kind name (IsStepName.an_export e w) one = ap is_export_name w ∙ export-named (position_or_len (nat_eq i) run.exports)
 exported-name run i kind name (IsStepName.an_assumption e f k w) one = absurd (both_ways (is_one_of i run.exports) e one)
 exported-name run i kind name (IsStepName.a_law e k w) one = absurd (both_ways (is_one_of i run.exports) e one)
 exported-name run i kind name (IsStepName.a_theorem e k w) one = absurd (both_ways (is_one_of i run.exports) e one)
 
-said-name : (run : Accepted) (j : ℕ) (before : List Item) (z : Item) (s : Sequent) → says z.content ≡ Some s → length (said_by before) ≡ j → is_one_of j run.exports ≡ true
+said-name : (run : Accepted) (j : ℕ) (before : List Item) (z : Item) (s : Sequent) → says z.content ≡ Some s → length (said_by before) ≡ j
+    → is_one_of j run.exports ≡ true
     → IsItemName run (λ i. i ≡ length (said_by before)) z → is_export_name z.name ≡ true
 said-name run j before z s said place one (IsItemName.by_symbol h) = let f : None ≡ Some s = sym (symbol-silent (symbols_of run.made) z.content z.name h) ∙ said in absurd (cc)
 said-name run j before z s said place one (IsItemName.by_step i x p at told h) =
@@ -100,7 +104,8 @@ module _ (run : Accepted) (named : HasNames run) (sound : IsSoundRun run) where
   abbrev items : List Item
   items = items_of (name_in run) run.made
 
-  place-named : AreMadeInOrder [] items → (z : Item) → IsIn items z → (j : ℕ) → IsIn run.exports j → gives z ≡ number_key (premise_at items j).0 → is_export_name z.name ≡ true
+  place-named : AreMadeInOrder [] items → (z : Item) → IsIn items z → (j : ℕ) → IsIn run.exports j → gives z ≡ number_key (premise_at items j).0
+      → is_export_name z.name ≡ true
   place-named order z i j exported key =
       let short = (All-at (IsDerived run) run.exports j sound.exports exported).step in
       let count = made-said (name_in run) run.made sound.proof sound.over in
@@ -112,7 +117,8 @@ module _ (run : Accepted) (named : HasNames run) (sound : IsSoundRun run) where
       ap (λ (u : Item). is_export_name u.name) same ∙ said-name run j q.before q.item q.sequent q.said q.place (in-one_of j run.exports exported) q.name
 
   -- What gives a root is named as an export
-  pub root-named : AreMadeInOrder [] items → (z : Item) → IsIn items z → (k : Key) → IsIn (roots_of (name_in run) run.made run.exports) k → key_eq (gives z) k ≡ true → is_export_name z.name ≡ true
+  pub root-named : AreMadeInOrder [] items → (z : Item) → IsIn items z → (k : Key) → IsIn (roots_of (name_in run) run.made run.exports) k
+      → key_eq (gives z) k ≡ true → is_export_name z.name ≡ true
   root-named order z i k root e =
       let w = IsIn-map_of (λ j. number_key (premise_at items j).0) run.exports k root in
       place-named order z i w.0 w.1 (key_eq-is (gives z) k e ∙ w.2)

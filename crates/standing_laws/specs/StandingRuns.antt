@@ -89,7 +89,8 @@ module _ (run : Accepted) (named : HasNames run) (sound : IsSoundRun run) where
     using : (z : Item) → IsIn items z → IsUsing (renumbered number z).content
     using z i = using-renumbered number z.content (All-at (λ (z : Item). IsUsing z.content) items z (items-using (name_in run) run.made) i)
 
-    need : (y z : Item) (k : Key) → IsIn (needs y.content) k → key_eq (gives z) k ≡ true → IsIn (needs (renumbered number y).content) (gives (renumbered number z))
+    need : (y z : Item) (k : Key) → IsIn (needs y.content) k → key_eq (gives z) k ≡ true
+        → IsIn (needs (renumbered number y).content) (gives (renumbered number z))
     need y z k i e =
         subst (IsIn (needs (renumbered_content number y.content))) (ap (renumbered_key number) (sym (key_eq-is (gives z) k e)) ∙ gives-renumbered number z.symbol z.content)
         (needs-renumbered number y.content k i)

@@ -57,7 +57,8 @@ abbrev pub AreStepTheorems : Accepted → Type 0
 AreStepTheorems run = (i : ℕ) (d : Declaration) → slice_get (image run) i ≡ Some d → length lemmas ≤ i → d.form ≡ Thm → IsStepTheorem run d
 
 -- each declaration is typed over those before it
-typed-after : (before ds : List Declaration) → AreTypedAfter before ds → (i : ℕ) (d : Declaration) → slice_get ds i ≡ Some d → IsTypedAfter (before ++ take i ds) d
+typed-after : (before ds : List Declaration) → AreTypedAfter before ds → (i : ℕ) (d : Declaration) → slice_get ds i ≡ Some d
+    → IsTypedAfter (before ++ take i ds) d
 typed-after before [] h i d e = absurd (cc)
 typed-after before (x ∷ ds) h zero d e =
     let same : x ≡ d = cc in subst (IsTypedAfter (before ++ [])) same (subst (λ l. IsTypedAfter l x) (sym (append-nil before)) h.0)
@@ -71,7 +72,8 @@ body-typed m Thm None A body h e = absurd h
 body-typed m Thm (Some t) A body h e = let same : t ≡ body = cc in subst (λ t. Typed m [] t A) same h
 
 -- a theorem says something, and is no assumption
-theorem-says : (symbols : Symbols) (name : List ℕ) (number : ℕ → ℕ) (c : Content) → (declaration_of symbols name (renumbered_content number c)).form ≡ Thm → says c ≡ None → ⊥
+theorem-says : (symbols : Symbols) (name : List ℕ) (number : ℕ → ℕ) (c : Content) → (declaration_of symbols name (renumbered_content number c)).form ≡ Thm
+    → says c ≡ None → ⊥
 theorem-says symbols name number (operator n k) f e = absurd (cc)
 theorem-says symbols name number (constant n a) f e = absurd (cc)
 theorem-says symbols name number (defined_constant n a t) f e = absurd (cc)
@@ -97,7 +99,8 @@ module _ (run : Accepted) (named : HasNames run) (sound : IsSoundRun run) (carri
   origins = origins-all run [] (items run named sound) (made-origins run run.made)
 
   -- The theorem of a kept item
-  item-theorem : (z : Item) → IsIn (items run named sound) z → keep run named sound z.symbol ≡ true → (declared run named sound z).form ≡ Thm → IsStepTheorem run (declared run named sound z)
+  item-theorem : (z : Item) → IsIn (items run named sound) z → keep run named sound z.symbol ≡ true → (declared run named sound z).form ≡ Thm
+      → IsStepTheorem run (declared run named sound z)
   item-theorem z i kept f = by_name (item_name-is run named sound.assumptions Always z (All-at (Origin run run.made Always) (items run named sound) z origins i))
     where
       by_name : IsItemName run Always z → IsStepTheorem run (declared run named sound z)

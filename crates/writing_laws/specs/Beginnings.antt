@@ -1,23 +1,18 @@
 -- How an article begins: what says version 6 stands before its body, and an article of version 5 is its body.
-use Rattle.std.proofs.Common.{◌≡◌, Bool, true, false, cond, pos, List, [], ◌∷◌, Ok, refl, sym, ap, subst, ◌∙◌, inl, inr, ◌⊎◌}
+use Rattle.std.proofs.Common.{◌≡◌, Bool, true, false, cond, pos, List, [], ◌∷◌, Ok, refl, sym, ap, subst, ◌∙◌, inl, inr}
 use Rattle.std.specs.Ordering.{int_eq}
 use Rattle.hol_spec.specs.declared.Version.{Version}
 use Rattle.hol_spec.specs.declared.Version.TheVariants.{Five, Six}
 use Rattle.article_spec.specs.declared.commands.Item.{Item}
 use Rattle.article_spec.specs.declared.commands.Item.TheVariants as item
-use Rattle.article_spec.specs.declared.commands.Word.{Word}
 use Rattle.article_spec.specs.declared.commands.Word.TheVariants as word
 use Rattle.article_spec.specs.State.{Object, State, initial, start, version, body}
 use Rattle.article_spec.specs.Results.{◌>>=◌}
-use Rattle.article_spec.specs.Step.{obey, in_body, second_word, finish}
+use Rattle.article_spec.specs.Step.{in_body, finish}
+use Rattle.article_laws.specs.SecondWords.{second_word-cases}
 use Rattle.trial_laws.specs.TrialSteps.{obeyed}
 use Rattle.writing_spec.specs.Versions.{version_of}
 use Rattle.writing_laws.specs.Scenes.{Leads}
-
--- a word as the second command is `version`, or it stands in the body of an article of version 5
-pub second-word : (s : State) (w : Word) → (w ≡ word.Version) ⊎ (second_word s w ≡ obey (in_body Five s) w)
-second-word s word.Version = inl refl
-second-word s w = inr refl
 
 -- the commands lead to a state that ends like another
 pub record EndsLike (first : State) (items : List Item) (t : State) : Type 0 where
@@ -29,7 +24,7 @@ at_second : (s : State) (items : List Item) (t : State) → obeyed (in_body Five
 at_second s [] t e = let f : in_body Five s ≡ t = cc in record { after = record s { place = version }; obeys = refl; ends = ap finish f }
 at_second s (item.Number z ∷ is) t e = record { after = t; obeys = e; ends = refl }
 at_second s (item.Name n ∷ is) t e = record { after = t; obeys = e; ends = refl }
-at_second s (item.Word w ∷ is) t e = elim (second-word (record s { place = version }) w) [
+at_second s (item.Word w ∷ is) t e = elim (second_word-cases (record s { place = version }) w) [
   | inl f ↦ absurd (let g : obeyed (in_body Five s) (item.Word word.Version ∷ is) ≡ Ok t = ap (λ u. obeyed (in_body Five s) (item.Word u ∷ is)) (sym f) ∙ e in cc)
   | inr f ↦ record { after = t; obeys = ap (λ r. r >>= (λ next. obeyed next is)) f ∙ e; ends = refl }
 ]

@@ -15,10 +15,10 @@ use Rattle.article_spec.specs.State.{Object, State, Place, initial, start, versi
 use Rattle.article_spec.specs.Step.{obey, in_body, obey_item, second_word, step_at, step, finish}
 use Rattle.article_spec.specs.Lines.{Lines, End, ended, refused}
 use Rattle.article_spec.specs.Run.{machine, at_line, obey_all, obey_article, accepted_state, Outcome, accepted, refused_at, RunsFrom, finished, passed, stopped, Run}
+use Rattle.article_laws.specs.SecondWords.{second_word-cases}
 use Rattle.article_laws.specs.Soundness.{IsSound}
 use Rattle.article_laws.specs.SoundStates.{bound}
 use Rattle.article_laws.specs.SoundSteps.{step-sound, finish-sound, initial-sound, on_line}
-use Rattle.writing_laws.specs.Beginnings.{second-word}
 use Rattle.writing_laws.specs.Histories.{History}
 use Rattle.writing_laws.specs.Histories as histories
 use Rattle.writing_laws.specs.GoodStates.{IsGoodObject, IsGoodState, answered-good, restacked-good}
@@ -82,7 +82,7 @@ obey_item-good s t (item.Name m) h g n e = answered-good (record s { stack = Obj
 obey_item-good s t (item.Word w) h g n e = obey-good s t w h g e
 
 second_word-good : (s t : State) (w : Word) → IsSound s → IsGoodState s → second_word s w ≡ Ok t → IsGoodState t
-second_word-good s t w h g e = elim (second-word s w) [
+second_word-good s t w h g e = elim (second_word-cases s w) [
   | inl f ↦ answered-good (record s { stack = drop 1 s.stack; place = body Six }) t (let k : second_word s word.Version ≡ Ok t = ap (second_word s) (sym f) ∙ e in k) (placed s (drop 1 s.stack) (body Six) g (dropped s.stack g.stack))
   | inr f ↦ obey-good (in_body Five s) t w (in_body-sound s h) (in_body-good s g) (sym f ∙ e)
 ]
@@ -120,7 +120,8 @@ all-kept (c ∷ cs) s t h n e =
     let one = on_line c.line (step s c) next.0 next.1 in
     all-kept cs next.0 t (record { sound = step-sound s next.0 c h.sound one; good = step_at-good s next.0 s.place c.item h.sound h.good n.0 one }) n.1 next.2
 
-article-kept : (s t : State) (text : List ℕ) (commands : List Command) (end : End) → IsKept s → Lines text commands end → obey_article machine s commands end ≡ Ok t → IsKept t
+article-kept : (s t : State) (text : List ℕ) (commands : List Command) (end : End) → IsKept s → Lines text commands end
+    → obey_article machine s commands end ≡ Ok t → IsKept t
 article-kept s t text commands (ended line) h l e =
     let last = bound (obey_all machine s commands) _ t e in
     let k = all-kept commands s last.0 h (lines-good text commands (ended line) l tt) last.1 in
@@ -141,7 +142,8 @@ the_accepted a (refused_at k line kind) = a
 good-run : (s : State) → IsKept s → IsGoodRun (accepted_state s)
 good-run s h = record { proof = h.sound.proof; over = h.sound.over; history = h.good.history }
 
-from-good : (k : ℕ) (s : State) (articles : List (List ℕ)) (o : Outcome) (a : Accepted) → IsKept s → o ≡ accepted a → RunsFrom machine k s articles o → IsGoodRun a
+from-good : (k : ℕ) (s : State) (articles : List (List ℕ)) (o : Outcome) (a : Accepted) → IsKept s → o ≡ accepted a → RunsFrom machine k s articles o
+    → IsGoodRun a
 unfolding the_accepted
 from-good k s [] o a h e (finished f) = subst IsGoodRun (ap (the_accepted a) (sym f ∙ e)) (good-run s h)
 from-good k s (bytes ∷ rest) o a h e (passed {next = t} {commands = cs} {end = x} l p r) = from-good (k + 1) t rest o a (article-kept s t bytes cs x h l p) e r
