@@ -13,13 +13,7 @@ use Rattle.lp_term.specs.declared.shapes.Slot.{Slot}
 use Rattle.lp_term.specs.declared.shapes.Slot.TheVariants as slot
 use Rattle.lp_term.specs.Shapes.{node_of}
 use Rattle.lp_term.specs.Tables.{PartsBelow}
-use Rattle.std.specs.Prelude.{IfSome}
-use Rattle.std.proofs.lemmas.Map.Entries.{hash_map_get_place}
-use Rattle.indexmap.specs.IndexMap.{IndexMap, Updates}
-use Rattle.lp_term.specs.contracts.shape.ShapePartialEq.TheImpl as shape_eq
-use Rattle.lp_term.specs.contracts.shape.ShapeEq.TheImpl.Laws.{laws-law}
-use Rattle.lp_term.specs.ShapeLaws.{same_shape}
-use Rattle.lp_term.specs.Indexed.{kept_in, IsFrom, greater_part, nothing, no_children, with_child, IsChild, HasRoom, Has, Lacks, IsFull, IsWith, IsApart, IsIndexed, Finds, FindsOther}
+use Rattle.lp_term.specs.Indexed.{greater_part, nothing, no_children, with_child, IsChild, HasRoom, Has, Lacks, IsFull, IsWith, IsApart, IsIndexed, Finds, FindsOther}
 
 -- an item of a list in which one was set
 slice_get-set : {X : Type 0} (xs : List X) (p : ℕ) (x : X) → p < length xs → slice_get (slice_set xs p x) p ≡ Some x
@@ -69,7 +63,7 @@ with_child-new c n = new_by c n (c.first == nothing) (c.second == nothing)
 
 -- what a search finds
 module _ (shapes : List Shape) (children : List Children) (kept : Shape → Option ℕ) (s : Shape) (t : IsIndexed shapes children kept) where
-  -- a shape that does not stand with its greater part is told by the hash table
+  -- a shape that does not stand with its greater part is told by the tree
   pub finds_other : (p : Slot) → ((n : ℕ) → Has shapes n s → IsWith children s n → ⊥) → IsFull children s → FindsOther shapes kept s p → Finds shapes children s p
   finds_other (slot.At n) apart full f = f
   finds_other (slot.With p) apart full f = absurd f
@@ -153,7 +147,7 @@ module _ (shapes : List Shape) (children : List Children) (kept : Shape → Opti
           (λ k. inl (record { part = p; with = with_child c (length shapes); greater = ap greater_part (sym k.1) ∙ greater; at = here; child = subst (IsChild (with_child c (length shapes))) (sym k.0) (with_child-new c (length shapes)) }))
           (slice_get-one_more shapes s u n h)
 
--- where a new shape found no memory, the hash table may tell more
+-- where a new shape found no memory, the tree may tell more
 pub IsIndexed-more : (shapes : List Shape) (children : List Children) (kept more : Shape → Option ℕ) (s : Shape) → IsIndexed shapes children kept → Lacks shapes s → ((u : Shape) → (s ≡ u → ⊥) → more u ≡ kept u) → IsIndexed shapes children more
 IsIndexed-more shapes children kept more s t lacks others = record {
   each = λ n u h. ⊎_elim (λ w. inl w) (λ a. inr (record { found = others u (λ e. lacks n (subst (λ v. Has shapes n v) (sym e) h)) ∙ a.found; full = a.full })) (t.each n u h);
@@ -177,17 +171,3 @@ IsIndexed-take n shapes children kept less t stay = record { each = each; lower 
         (λ w. inl (record { part = w.part; with = w.with; greater = w.greater; at = slice_get-take n children w.part (let l = t.lower i s w.part (slice_get-of_take n shapes i s h) w.greater in let k = slice_get_within (take n shapes) i s h in omega (arith, l, k, length-take n shapes)) ∙ w.at; child = w.child }))
         (λ a. inr (record { found = stay s i (let k = slice_get_within (take n shapes) i s h in omega (arith, k, length-take n shapes)) a.found; full = λ p c g e r. a.full p c g (slice_get-of_take n children p c e) r }))
         (t.each i s (slice_get-of_take n shapes i s h))
-
--- a hash table tells the lower numbers as before, once an entry with a higher one has gone
-pub kept_in-gone : {S : Type 0} (old new : IndexMap Shape ℕ S) (place len : ℕ) (gone : Option (Shape × ℕ)) → IsFrom old place len → gone ≡ slice_get old.entries place → IfSome gone (λ e. Updates shape_eq.eq-value.it old new e.0 None) → (s : Shape) (n : ℕ) → n < len → kept_in old s ≡ Some n → kept_in new s ≡ Some n
-kept_in-gone old new place len gone f is updates s n low k = go (shape_eq.eq-value.it f.entry.0 s) refl
-  where
-    changed : Updates shape_eq.eq-value.it old new f.entry.0 None
-    changed = subst (λ (o : Option (Shape × ℕ)). IfSome o (λ e. Updates shape_eq.eq-value.it old new e.0 None)) (is ∙ f.at) updates
-
-    go : (b : Bool) → shape_eq.eq-value.it f.entry.0 s ≡ b → kept_in new s ≡ Some n
-    go true e =
-        let here : kept_in old f.entry.0 ≡ Some f.entry.1 = hash_map_get_place laws-law old place f.entry.0 f.entry.1 f.unique f.at in
-        let same : n ≡ f.entry.1 = same_Some n f.entry.1 (sym k ∙ ap (kept_in old) (sym (same_shape f.entry.0 s e)) ∙ here) in
-        absurd (omega (arith, low, same, f.from))
-    go false e = changed.2 s e ∙ k

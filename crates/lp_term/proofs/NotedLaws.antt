@@ -1,18 +1,18 @@
--- A memo's entries.
-use Rattle.std.proofs.Common.{◌≡◌, ℕ, zero, suc, refl, sym, ap, ◌∙◌, arith, List, [], ◌∷◌, Option, Some, None, Bool, true, false, inl, inr, ◌⊎◌, ⊎_elim}
+-- What a memo has for a place, after another note.
+use Rattle.std.proofs.Common.{◌≡◌, ℕ, refl, sym, ap, ◌∙◌, arith, List, Option, Some, None, Bool, true, false, cond, inl, inr, ◌⊎◌}
 use Rattle.std.proofs.lemmas.Bool.{eqb-true, and_parts}
-use Rattle.std.specs.Prelude.{slice_get, nat_eq, ◌&&◌, if◌then◌else◌, IfSome}
+use Rattle.std.specs.Prelude.{nat_eq, ◌&&◌, IfSome}
 use Rattle.std.specs.Map.{lookup}
+use Rattle.std.specs.BTreeMap.{is_at}
 use Rattle.std.proofs.lemmas.Option.{same_Some}
-use Rattle.std.proofs.Math.Path.{ap₂}
-use Rattle.indexmap.specs.IndexMap.{insert_entry}
 use Rattle.lp_term.specs.declared.LpId.{LpId}
 use Rattle.lp_term.specs.declared.memo.Place.{Place}
 use Rattle.lp_term.specs.declared.memo.Change.{Change}
 use Rattle.lp_term.specs.declared.memo.Change.TheVariants.{Raise, Replace}
 use Rattle.lp_term.specs.contracts.memo.ChangePartialEq.TheImpl as change_eq
 use Rattle.lp_term.specs.contracts.memo.PlacePartialEq.TheImpl as place_eq
-use Rattle.lp_term.specs.Noted.{IsNoted}
+use Rattle.lp_term.specs.contracts.memo.PlaceOrd.TheImpl.Laws.{matches_eq-law}
+use Rattle.lp_term.specs.Noted.{place_cmp, IsNoted}
 
 change_same : (c d : Change) → change_eq.eq-value.it c d ≡ true → c ≡ d
 change_same (Raise k) (Raise j) h = grind arith
@@ -20,7 +20,7 @@ change_same Replace Replace h = refl
 change_same _ _ h = absurd (cc)
 
 -- places that are equal by their test are one
-pub place_same : (p q : Place) → place_eq.eq-value.it p q ≡ true → p ≡ q
+place_same : (p q : Place) → place_eq.eq-value.it p q ≡ true → p ≡ q
 place_same p q h =
     let a = and_parts (nat_eq p.id.0 q.id.0) (nat_eq p.depth q.depth && change_eq.eq-value.it p.change q.change) h in
     let b = and_parts (nat_eq p.depth q.depth) (change_eq.eq-value.it p.change q.change) a.1 in
@@ -29,46 +29,18 @@ place_same p q h =
     let z = change_same p.change q.change b.1 in
     λ i. record { id = record { 0 = x i }; depth = y i; change = z i }
 
-key_of : Option (Place × LpId) → Place → Place
-key_of None p = p
-key_of (Some e) p = e.0
+-- places that are equal in their order are one
+place_exact : (p q : Place) → is_at (place_cmp p) q ≡ true → p ≡ q
+place_exact p q h = place_same p q (matches_eq-law p q ∙ h)
 
-value_of : Option (Place × LpId) → LpId → LpId
-value_of None r = r
-value_of (Some e) r = e.1
-
-entry_key : (e : Place × LpId) (p : Place) (r : LpId) → Some e ≡ Some (p, r) → (e.0 ≡ p) × (e.1 ≡ r)
-unfolding key_of value_of
-entry_key e p r h = (ap (λ o. key_of o p) h, ap (λ o. value_of o r) h)
-
-pub found : (p : Place) (es : List (Place × LpId)) (r : LpId) → lookup (place_eq.eq-value.it p) es ≡ Some r → IsNoted es p r
-found p [] r h = absurd (cc)
-found p (e ∷ es) r h = go (λ w. found p es r w) (place_eq.eq-value.it p e.0) refl
+pub noted : (k : Place) (v : LpId) (old new : List (Place × LpId)) → ((q : Place) → lookup (is_at (place_cmp q)) new ≡ cond (is_at (place_cmp k) q) (Some v) (lookup (is_at (place_cmp q)) old))
+    → (p : Place) (r : LpId) → IsNoted new p r → IsNoted old p r ⊎ ((p ≡ k) × (r ≡ v))
+noted k v old new updates p r at = go (is_at (place_cmp k) p) refl
   where
-    go : (lookup (place_eq.eq-value.it p) es ≡ Some r → IsNoted es p r) → (b : Bool) → place_eq.eq-value.it p e.0 ≡ b → IsNoted (e ∷ es) p r
-    go on true q = (0, let v : e.1 ≡ r = same_Some _ _ (sym (ap (λ b. if b then Some e.1 else lookup (place_eq.eq-value.it p) es) q) ∙ h) in ap Some (ap₂ (λ a b. (a, b)) (sym (place_same p e.0 q)) v))
-    go on false q = let w = on (sym (ap (λ b. if b then Some e.1 else lookup (place_eq.eq-value.it p) es) q) ∙ h) in (suc w.0, w.1)
+    go : (b : Bool) → is_at (place_cmp k) p ≡ b → IsNoted old p r ⊎ ((p ≡ k) × (r ≡ v))
+    go true e = inr (sym (place_exact k p e), same_Some r v (sym at ∙ updates p ∙ ap (λ b. cond b (Some v) (lookup (is_at (place_cmp p)) old)) e))
+    go false e = inl (sym (updates p ∙ ap (λ b. cond b (Some v) (lookup (is_at (place_cmp p)) old)) e) ∙ at)
 
-pub noted : (k : Place) (v : LpId) (es : List (Place × LpId)) (p : Place) (r : LpId) → IsNoted (insert_entry place_eq.eq-value.it es k v) p r → IsNoted es p r ⊎ ((p ≡ k) × (r ≡ v))
-noted k v [] p r h = one h.0 h.1
-  where
-    one : (i : ℕ) → slice_get {X = Place × LpId} ((k, v) ∷ []) i ≡ Some (p, r) → IsNoted [] p r ⊎ ((p ≡ k) × (r ≡ v))
-    one zero e = let q = entry_key (k, v) p r e in inr (sym q.0, sym q.1)
-    one (suc i) e = inl (i, e)
-noted k v (e ∷ es) p r h = go (λ w. noted k v es p r w) (place_eq.eq-value.it k e.0) refl
-  where
-    same_key : (i : ℕ) → slice_get {X = Place × LpId} ((e.0, v) ∷ es) i ≡ Some (p, r) → place_eq.eq-value.it k e.0 ≡ true → IsNoted (e ∷ es) p r ⊎ ((p ≡ k) × (r ≡ v))
-    same_key zero h q = let w = entry_key (e.0, v) p r h in inr (sym (place_same k e.0 q ∙ w.0), sym w.1)
-    same_key (suc i) h q = inl (suc i, h)
-
-    other_key : (IsNoted (insert_entry place_eq.eq-value.it es k v) p r → IsNoted es p r ⊎ ((p ≡ k) × (r ≡ v))) → (i : ℕ) → slice_get (e ∷ insert_entry place_eq.eq-value.it es k v) i ≡ Some (p, r) → IsNoted (e ∷ es) p r ⊎ ((p ≡ k) × (r ≡ v))
-    other_key on zero h = inl (0, h)
-    other_key on (suc i) h = ⊎_elim (λ n. inl (suc n.0, n.1)) (λ n. inr n) (on (i, h))
-
-    go : (IsNoted (insert_entry place_eq.eq-value.it es k v) p r → IsNoted es p r ⊎ ((p ≡ k) × (r ≡ v))) → (b : Bool) → place_eq.eq-value.it k e.0 ≡ b → IsNoted (e ∷ es) p r ⊎ ((p ≡ k) × (r ≡ v))
-    go on true q = same_key h.0 (ap (λ b. slice_get {X = Place × LpId} (if b then (e.0, v) ∷ es else e ∷ insert_entry place_eq.eq-value.it es k v) h.0) (sym q) ∙ h.1) q
-    go on false q = other_key on h.0 (ap (λ b. slice_get {X = Place × LpId} (if b then (e.0, v) ∷ es else e ∷ insert_entry place_eq.eq-value.it es k v) h.0) (sym q) ∙ h.1)
-
-pub found_if : (p : Place) (es : List (Place × LpId)) (o : Option LpId) → o ≡ lookup (place_eq.eq-value.it p) es → IfSome o (λ r. IsNoted es p r)
+pub found_if : (p : Place) (es : List (Place × LpId)) (o : Option LpId) → o ≡ lookup (is_at (place_cmp p)) es → IfSome o (λ r. IsNoted es p r)
 found_if p es None h = tt
-found_if p es (Some r) h = found p es r (sym h)
+found_if p es (Some r) h = sym h

@@ -1,12 +1,13 @@
 -- Where a shape is found among shapes by number.
-use Rattle.std.specs.Prelude.{◌≡◌, ◌⊎◌, ℕ, ◌<◌, ◌≤◌, ◌-◌, ◌^◌, ◌==◌, max, if◌then◌else◌, List, length, Option, None, Some, slice_get}
-use Rattle.indexmap.specs.IndexMap.{IndexMap, get, IsUnique}
+use Rattle.std.specs.Prelude.{◌≡◌, ◌⊎◌, ℕ, ◌<◌, ◌-◌, ◌^◌, ◌==◌, max, if◌then◌else◌, List, length, Option, None, Some, slice_get}
+use Rattle.std.specs.BTreeMap.{BTreeMap, get}
+use Rattle.std.specs.declared.cmp.Ordering.{Ordering}
 use Rattle.lp_term.specs.declared.shape.Shape.{Shape}
 use Rattle.lp_term.specs.declared.shape.Shape.TheVariants as shape
 use Rattle.lp_term.specs.declared.shapes.Children.{Children}
 use Rattle.lp_term.specs.declared.shapes.Slot.{Slot}
 use Rattle.lp_term.specs.declared.shapes.Slot.TheVariants as slot
-use Rattle.lp_term.specs.contracts.shape.ShapePartialEq.TheImpl as shape_eq
+use Rattle.lp_term.specs.contracts.shape.ShapeOrd.TheImpl as shape_ord
 
 -- the greater part of a shape, if it has parts
 abbrev pub greater_part : Shape → Option ℕ
@@ -18,16 +19,13 @@ greater_part (shape.App a b) = Some (max a b)
 greater_part (shape.Lam a b) = Some (max a b)
 greater_part (shape.Pi a b) = Some (max a b)
 
--- the number that a hash table has for a shape
-abbrev pub kept_in : {S : Type 0} → IndexMap Shape ℕ S → Shape → Option ℕ
-kept_in others s = get shape_eq.eq-value.it others s
+-- the order of shapes
+abbrev pub shape_cmp : Shape → Shape → Ordering
+shape_cmp = (shape_ord.ghosts).cmp
 
--- at this place of a hash table, which has no shape twice, stands a number of n or more
-pub record IsFrom {S : Type 0} (others : IndexMap Shape ℕ S) (place n : ℕ) : Type 0 where
-  pub unique : IsUnique shape_eq.eq-value.it others
-  pub entry : Shape × ℕ
-  pub at : slice_get others.entries place ≡ Some entry
-  pub from : n ≤ entry.1
+-- the number that a tree has for a shape
+abbrev pub kept_in : BTreeMap Shape ℕ → Shape → Option ℕ
+kept_in others s = get shape_cmp others s
 
 -- the number of no shape
 abbrev pub nothing : ℕ
@@ -71,7 +69,7 @@ pub record IsWith (children : List Children) (s : Shape) (n : ℕ) : Type 0 wher
   pub at : slice_get children part ≡ Some with
   pub child : IsChild with n
 
--- the shape of a number stands in the hash table, as its greater part has no room
+-- the shape of a number stands in the tree, as its greater part has no room
 pub record IsApart (children : List Children) (kept : Shape → Option ℕ) (s : Shape) (n : ℕ) : Type 0 where
   pub found : kept s ≡ Some n
   pub full : IsFull children s
@@ -89,7 +87,7 @@ Finds shapes children s (slot.At n) = Has shapes n s
 Finds shapes children s (slot.With p) = Lacks shapes s × (greater_part s ≡ Some p) × ((c : Children) × (slice_get children p ≡ Some c) × HasRoom c)
 Finds shapes children s slot.Apart = Lacks shapes s × IsFull children s
 
--- the number that the hash table has for the shape, or that it has none
+-- the number that the tree has for the shape, or that it has none
 abbrev pub FindsOther : List Shape → (Shape → Option ℕ) → Shape → Slot → Type 0
 FindsOther shapes kept s (slot.At n) = Has shapes n s
 FindsOther shapes kept s (slot.With p) = ⊥

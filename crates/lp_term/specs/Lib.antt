@@ -1,7 +1,6 @@
 pub mod Tables
 pub mod TableLaws
 pub mod Shapes
-pub mod ShapeLaws
 pub mod Measured
 pub mod Columns
 pub mod Indexed

@@ -21,6 +21,7 @@ ghost use Rattle.lp_term.specs.Measured.{IsMeasured};
 mod binding;
 mod measures;
 mod memo;
+mod recent;
 mod shape;
 mod shapes;
 mod walk;
@@ -34,7 +35,7 @@ use std::alloc::Global;
 use std::marker::Model;
 
 /// The number of a tree in its table. A number that no call of the table gave means nothing there.
-#[derive(Clone, Copy, Debug, PartialEq, Eq, Hash)]
+#[derive(Clone, Copy, Debug, PartialEq, Eq, PartialOrd, Ord, Hash)]
 pub struct LpId(pub usize);
 
 /// The head of a tree, with the numbers of its parts.

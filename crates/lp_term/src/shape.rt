@@ -1,16 +1,12 @@
 //! What a table keeps of a tree: its node, with numbers that are narrow.
 ghost use Rattle.std.specs.Prelude.{◌≡◌, IfOk};
-ghost use Rattle.std.specs.Hash as fed;
-ghost use Rattle.std.proofs.Common.{ap};
-ghost use Rattle.lp_term.specs.Shapes.{node_of, placed as placed_at, word_of};
-ghost use Rattle.lp_term.specs.ShapeLaws.{same_shape};
+ghost use Rattle.lp_term.specs.Shapes.{node_of};
 
 use crate::{LpId, LpNode};
 use bridge_base::Memory;
-use std::hash::{Hash, Hasher};
 
 /// A node whose numbers are below 2^32.
-#[derive(Clone, Copy, PartialEq, Eq)]
+#[derive(Clone, Copy, PartialEq, Eq, PartialOrd, Ord)]
 pub(crate) enum Shape {
     SortType,
     SortKind,
@@ -40,21 +36,6 @@ impl Shape {
         }
     }
 
-    // The shape as one number, which a hasher reads at once.
-    fn word(&self) -> u128
-        ensures { result ≡ word_of self.now }
-    {
-        match *self {
-            Shape::SortType => placed(0, 0, 0),
-            Shape::SortKind => placed(1, 0, 0),
-            Shape::Var(n) => placed(2, n, 0),
-            Shape::Sym(s) => placed(3, s, 0),
-            Shape::App(f, x) => placed(4, f, x),
-            Shape::Lam(a, b) => placed(5, a, b),
-            Shape::Pi(a, b) => placed(6, a, b),
-        }
-    }
-
     /// The node of this shape.
     pub(crate) fn node(self) -> LpNode
         ensures { result ≡ node_of self }
@@ -69,24 +50,6 @@ impl Shape {
             Shape::Pi(a, b) => LpNode::Pi(LpId(a as usize), LpId(b as usize)),
         }
     }
-}
-
-// One write for the whole shape, where a derived `hash` would make three: a hasher's work is by the write.
-impl Hash for Shape {
-    ghost hash_input = { λ s. fed.u128 (word_of s) };
-
-    ghost respects_eq = { λ x y h. ap (λ s. fed.u128 (word_of s)) (same_shape x y h) };
-
-    fn hash<H: Hasher>(&self, state: &mut H) {
-        state.write_u128(self.word());
-    }
-}
-
-// A kind and two numbers as one number, each in bits of its own.
-fn placed(kind: u8, first: u32, second: u32) -> u128
-    ensures { result ≡ placed_at kind first second }
-{
-    kind as u128 * (1 << 64) + first as u128 * (1 << 32) + second as u128
 }
 
 // The number in 32 bits, if they are enough.

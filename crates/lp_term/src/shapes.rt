@@ -1,19 +1,21 @@
 //! Shapes by number, each once, and where each is found.
 //!
 //! A node has a higher number than its parts, and most nodes are made soon after them. So a shape with parts stands with the
-//! greater of its two parts, as far as there is room: to look for it reads what was written last, and no table is hashed
-//! anew as it grows. Where there is no room, and where a shape has no parts, it stands in a hash table.
+//! greater of its two parts, as far as there is room: to look for it reads what was written last, and no table is ordered
+//! anew as it grows. Where there is no room, and where a shape has no parts, it stands in a tree, which no choice of shapes
+//! can slow. What was lately looked for there is noted, and found without the way through the tree.
 ghost use Rattle.std.specs.Prelude.{◌≡◌, ℕ, ◌<◌, ◌-◌, ◌^◌, [], ◌∷◌, ◌++◌, length, take, Some, slice_get, slice_set, IfOk, IfSome, IfNone, OnOk, OnErr};
 ghost use Rattle.std.specs.Bool.{OnTrue, OnFalse};
 ghost use Rattle.lp_term.specs.Columns.{IsInserted};
 ghost use Rattle.lp_term.specs.declared.shape.Shape.{Shape as AShape};
 ghost use Rattle.lp_term.specs.declared.shapes.Children.{Children as AChildren};
-ghost use Rattle.lp_term.specs.Indexed.{greater_part as greater_part_of, kept_in, no_children, with_child, Has, Finds, FindsOther, IsFrom, IsIndexed};
+ghost use Rattle.lp_term.specs.Indexed.{greater_part as greater_part_of, kept_in, no_children, with_child, Has, Finds, FindsOther, IsIndexed};
 
+use crate::recent::{guess, note, widen};
 use crate::shape::Shape;
 use bridge_base::Memory;
-use indexmap::IndexMap;
 use std::alloc::Global;
+use std::collections::BTreeMap;
 use std::marker::Model;
 
 // The number of no shape.
@@ -34,7 +36,7 @@ pub(crate) enum Slot {
     At(u32),
     /// With this part of its own.
     With(u32),
-    /// In the hash table.
+    /// In the tree.
     Apart,
 }
 
@@ -43,7 +45,9 @@ pub(crate) enum Slot {
 pub(crate) struct Shapes {
     shapes: Vec<Shape>,
     children: Vec<Children>,
-    others: IndexMap<Shape, u32>,
+    others: BTreeMap<Shape, u32>,
+    // Numbers of shapes that were lately looked for in the tree.
+    recent: Vec<u32>,
 }
 
 impl Model for Shapes {
@@ -67,7 +71,8 @@ impl Shapes {
         Shapes {
             shapes: Vec::new(alloc),
             children: Vec::new(alloc),
-            others: IndexMap::new(alloc),
+            others: BTreeMap::new(alloc),
+            recent: Vec::new(alloc),
         }
     }
 
@@ -93,7 +98,13 @@ impl Shapes {
         ensures inserted { IfOk result (λ r. IsInserted self.old self.new shape r.0 r.1) }
         ensures unchanged { OnErr result (self.new ≡ self.old) }
     {
-        match find(&self.shapes, &self.children, &self.others, shape) {
+        match find(
+            &self.shapes,
+            &self.children,
+            &self.others,
+            &mut self.recent,
+            shape,
+        ) {
             Slot::At(number) => Ok((number as usize, false)),
             Slot::With(part) => {
                 let number = put_with(&mut self.shapes, &mut self.children, shape, part)?;
@@ -104,6 +115,7 @@ impl Shapes {
                     &mut self.shapes,
                     &mut self.children,
                     &mut self.others,
+                    &mut self.recent,
                     shape,
                 )?;
                 Ok((number as usize, true))
@@ -115,9 +127,9 @@ impl Shapes {
     pub(crate) fn truncate(&mut self, len: usize)
         ensures { self.new ≡ take len self.old }
     {
+        forget(&self.shapes, &self.children, &mut self.others, len);
         self.shapes.truncate(len);
         self.children.truncate(len);
-        forget(&mut self.others, len);
     }
 }
 
@@ -131,8 +143,8 @@ fn greater_part(shape: Shape) -> Option<u32>
     }
 }
 
-// Whether a number is that of the shape.
-fn has(shapes: &[Shape], number: u32, shape: Shape) -> bool
+/// Whether a number is that of the shape.
+pub(crate) fn has(shapes: &[Shape], number: u32, shape: Shape) -> bool
     ensures yes { OnTrue result (Has shapes.now number shape) }
     ensures no { OnFalse result (Has shapes.now number shape → ⊥) }
 {
@@ -142,8 +154,8 @@ fn has(shapes: &[Shape], number: u32, shape: Shape) -> bool
     }
 }
 
-// The number of a shape that stands in the hash table.
-fn find_apart(shapes: &[Shape], others: &IndexMap<Shape, u32>, shape: Shape) -> Option<u32>
+// The number of a shape that stands in the tree.
+fn find_apart(shapes: &[Shape], others: &BTreeMap<Shape, u32>, shape: Shape) -> Option<u32>
     ensures found { IfSome result (λ number. Has shapes.now number shape) }
     ensures none { IfNone result ((number : ℕ) → Has shapes.now number shape → kept_in others.now shape ≡ Some number → ⊥) }
 {
@@ -154,11 +166,22 @@ fn find_apart(shapes: &[Shape], others: &IndexMap<Shape, u32>, shape: Shape) -> 
 }
 
 // Where a shape is that does not stand with its greater part, or is to be put.
-fn find_other(shapes: &[Shape], others: &IndexMap<Shape, u32>, shape: Shape) -> Slot
+fn find_other(
+    shapes: &[Shape],
+    others: &BTreeMap<Shape, u32>,
+    recent: &mut Vec<u32>,
+    shape: Shape,
+) -> Slot
     ensures { FindsOther shapes.now (kept_in others.now) shape result }
 {
+    if let Some(number) = guess(shapes, recent, shape) {
+        return Slot::At(number);
+    }
     match find_apart(shapes, others, shape) {
-        Some(number) => Slot::At(number),
+        Some(number) => {
+            note(recent, shape, number);
+            Slot::At(number)
+        }
         None => Slot::Apart,
     }
 }
@@ -167,7 +190,8 @@ fn find_other(shapes: &[Shape], others: &IndexMap<Shape, u32>, shape: Shape) -> 
 fn find_with(
     shapes: &[Shape],
     children: &[Children],
-    others: &IndexMap<Shape, u32>,
+    others: &BTreeMap<Shape, u32>,
+    recent: &mut Vec<u32>,
     shape: Shape,
     part: u32,
 ) -> Slot
@@ -176,7 +200,7 @@ fn find_with(
     ensures { Finds shapes.now children.now shape result }
 {
     let Some(with) = children.get(part as usize) else {
-        return find_other(shapes, others, shape);
+        return find_other(shapes, others, recent, shape);
     };
     let with = *with;
     if has(shapes, with.first, shape) {
@@ -191,22 +215,23 @@ fn find_with(
     if with.third == NONE {
         return Slot::With(part);
     }
-    find_other(shapes, others, shape)
+    find_other(shapes, others, recent, shape)
 }
 
 // Where a shape is, or is to be put.
 fn find(
     shapes: &[Shape],
     children: &[Children],
-    others: &IndexMap<Shape, u32>,
+    others: &BTreeMap<Shape, u32>,
+    recent: &mut Vec<u32>,
     shape: Shape,
 ) -> Slot
     requires { IsIndexed shapes.now children.now (kept_in others.now) }
     ensures { Finds shapes.now children.now shape result }
 {
     match greater_part(shape) {
-        Some(part) => find_with(shapes, children, others, shape, part),
-        None => find_other(shapes, others, shape),
+        Some(part) => find_with(shapes, children, others, recent, shape, part),
+        None => find_other(shapes, others, recent, shape),
     }
 }
 
@@ -276,11 +301,12 @@ fn put_with(
     Ok(number)
 }
 
-// Puts a new shape last, and into the hash table.
+// Puts a new shape last, and into the tree.
 fn put_apart(
     shapes: &mut Vec<Shape>,
     children: &mut Vec<Children>,
-    others: &mut IndexMap<Shape, u32>,
+    others: &mut BTreeMap<Shape, u32>,
+    recent: &mut Vec<u32>,
     shape: Shape,
 ) -> Result<u32, Memory>
     ensures number { IfOk result (λ n. (n ≡ length shapes.old.items) × (n < 2 ^ 32 - 1)) }
@@ -293,27 +319,54 @@ fn put_apart(
     let number = next(shapes)?;
     others.insert(shape, number)?;
     push(shapes, children, shape)?;
+    widen(recent, others.len());
+    note(recent, shape, number);
     Ok(number)
 }
 
-// Takes the last shapes out of the hash table, as long as their numbers are `len` or more.
-fn forget(others: &mut IndexMap<Shape, u32>, len: usize)
+// Takes the shapes from the number `len` on out of the tree.
+fn forget(shapes: &[Shape], children: &[Children], others: &mut BTreeMap<Shape, u32>, len: usize)
     ensures lower_stay { (s : AShape) (n : ℕ) → n < len → kept_in others.old s ≡ Some n → kept_in others.new s ≡ Some n }
 {
-    while let Some(place) = last_from(others, len) {
-        others.swap_remove_index(place);
+    let mut number = len;
+    while let Some(shape) = shapes.get(number) {
+        if !is_with(children, *shape, number) {
+            take_out(others, *shape, len);
+        }
+        number += 1;
     }
 }
 
-// The place of the last shape in the hash table, if its number is `len` or more.
-fn last_from(others: &IndexMap<Shape, u32>, len: usize) -> Option<usize>
-    ensures { IfSome result (λ place. IsFrom others.now place len) }
+// Whether the shape of a number stands with the greater of its parts, so that it need not be taken out of the tree.
+fn is_with(children: &[Children], shape: Shape, number: usize) -> bool {
+    let Some(part) = greater_part(shape) else {
+        return false;
+    };
+    match children.get(part as usize) {
+        Some(with) => {
+            with.first as usize == number
+                || with.second as usize == number
+                || with.third as usize == number
+        }
+        None => false,
+    }
+}
+
+// Takes a shape out of the tree, if its number there is `len` or more.
+fn take_out(others: &mut BTreeMap<Shape, u32>, shape: Shape, len: usize)
+    ensures lower_stay { (s : AShape) (n : ℕ) → n < len → kept_in others.old s ≡ Some n → kept_in others.new s ≡ Some n }
 {
-    let place = others.len().checked_sub(1)?;
-    let (_shape, number) = others.get_index(place)?;
-    if *number as usize >= len {
-        Some(place)
-    } else {
-        None
+    if is_from(others, shape, len) {
+        others.remove(&shape);
+    }
+}
+
+// Whether the number of a shape in the tree is `len` or more.
+fn is_from(others: &BTreeMap<Shape, u32>, shape: Shape, len: usize) -> bool
+    ensures { OnTrue result ((n : ℕ) → n < len → kept_in others.now shape ≡ Some n → ⊥) }
+{
+    match others.get(&shape) {
+        Some(number) => *number as usize >= len,
+        None => false,
     }
 }

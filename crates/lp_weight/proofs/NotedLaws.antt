@@ -1,104 +1,50 @@
 -- What a memo has for a place, after another note.
-use Rattle.std.proofs.Common.{◌≡◌, ℕ, zero, suc, refl, sym, ap, ◌∙◌, List, [], ◌∷◌, Option, Some, None, Bool, true, false, inl, inr, ◌⊎◌, ⊎_elim, arith}
+use Rattle.std.proofs.Common.{◌≡◌, ℕ, refl, sym, ap, ◌∙◌, List, Option, Some, None, Bool, true, false, cond, inl, inr, ◌⊎◌}
 use Rattle.std.proofs.lemmas.Bool.{eqb-true, and_parts}
-use Rattle.std.specs.Prelude.{slice_get, nat_eq, if◌then◌else◌, IfNone, IfSome}
+use Rattle.std.specs.Prelude.{nat_eq, IfNone, IfSome}
 use Rattle.std.specs.Map.{lookup}
-use Rattle.indexmap.specs.IndexMap.{insert_entry}
+use Rattle.std.specs.BTreeMap.{is_at}
+use Rattle.std.proofs.lemmas.Option.{same_Some}
 use Rattle.lp_weight.specs.declared.memo.Place.{Place}
 use Rattle.lp_weight.specs.contracts.memo.PlacePartialEq.TheImpl as place_eq
-use Rattle.lp_weight.specs.Noted.{IsNoted}
-use Rattle.std.proofs.Math.Path.{ap₂}
-use Rattle.std.proofs.lemmas.Option.{same_Some}
+use Rattle.lp_weight.specs.contracts.memo.PlaceOrd.TheImpl.Laws.{matches_eq-law}
+use Rattle.lp_weight.specs.Noted.{place_cmp, IsNoted}
 
 -- places that are equal by their test are one
-pub place_same : (p q : Place) → place_eq.eq-value.it p q ≡ true → p ≡ q
+place_same : (p q : Place) → place_eq.eq-value.it p q ≡ true → p ≡ q
 place_same p q h =
     let a = and_parts (nat_eq p.id.0 q.id.0) (nat_eq p.depth q.depth) h in
     let x = eqb-true p.id.0 q.id.0 a.0 in
     let y = eqb-true p.depth q.depth a.1 in
     λ i. record { id = record { 0 = x i }; depth = y i }
 
--- a place is equal to itself by their test
-place_own : (p : Place) → place_eq.eq-value.it p p ≡ true
-place_own p = grind arith
+-- places that are equal in their order are one
+place_exact : (p q : Place) → is_at (place_cmp p) q ≡ true → p ≡ q
+place_exact p q h = place_same p q (matches_eq-law p q ∙ h)
 
-key_of : Option (Place × ℕ) → Place → Place
-key_of None p = p
-key_of (Some e) p = e.0
-
-value_of : Option (Place × ℕ) → ℕ → ℕ
-value_of None r = r
-value_of (Some e) r = e.1
-
-entry_is : (e : Place × ℕ) (p : Place) (r : ℕ) → Some e ≡ Some (p, r) → (e.0 ≡ p) × (e.1 ≡ r)
-unfolding key_of value_of
-entry_is e p r h = (ap (λ o. key_of o p) h, ap (λ o. value_of o r) h)
-
--- what is noted on a list with one entry more is noted behind it, or the entry
-IsNoted-cons : (e : Place × ℕ) (es : List (Place × ℕ)) (p : Place) (r : ℕ) → IsNoted (e ∷ es) p r → ((e.0 ≡ p) × (e.1 ≡ r)) ⊎ IsNoted es p r
-IsNoted-cons e es p r h = go h.0 h.1
-  where
-    go : (i : ℕ) → slice_get (e ∷ es) i ≡ Some (p, r) → ((e.0 ≡ p) × (e.1 ≡ r)) ⊎ IsNoted es p r
-    go zero q = inl (entry_is e p r q)
-    go (suc i) q = inr (i, q)
-
-IsNoted-behind : (e : Place × ℕ) (es : List (Place × ℕ)) (p : Place) (r : ℕ) → IsNoted es p r → IsNoted (e ∷ es) p r
-IsNoted-behind e es p r h = (suc h.0, h.1)
-
-found : (p : Place) (es : List (Place × ℕ)) (r : ℕ) → lookup (place_eq.eq-value.it p) es ≡ Some r → IsNoted es p r
-found p [] r h = absurd (cc)
-found p (e ∷ es) r h = go (λ w. found p es r w) (place_eq.eq-value.it p e.0) refl
-  where
-    go : (lookup (place_eq.eq-value.it p) es ≡ Some r → IsNoted es p r) → (b : Bool) → place_eq.eq-value.it p e.0 ≡ b → IsNoted (e ∷ es) p r
-    go on true q = (0, let v : e.1 ≡ r = same_Some _ _ (sym (ap (λ b. if b then Some e.1 else lookup (place_eq.eq-value.it p) es) q) ∙ h) in ap Some (ap₂ (λ a b. (a, b)) (sym (place_same p e.0 q)) v))
-    go on false q = let w = on (sym (ap (λ b. if b then Some e.1 else lookup (place_eq.eq-value.it p) es) q) ∙ h) in (suc w.0, w.1)
-
-pub found_if : (p : Place) (es : List (Place × ℕ)) (o : Option ℕ) → o ≡ lookup (place_eq.eq-value.it p) es → IfSome o (λ r. IsNoted es p r)
+pub found_if : (p : Place) (es : List (Place × ℕ)) (o : Option ℕ) → o ≡ lookup (is_at (place_cmp p)) es → IfSome o (λ r. IsNoted es p r)
 found_if p es None h = tt
-found_if p es (Some r) h = found p es r (sym h)
+found_if p es (Some r) h = sym h
 
-absent : (p : Place) (r : ℕ) (es : List (Place × ℕ)) → lookup (place_eq.eq-value.it p) es ≡ None → IsNoted es p r → ⊥
-absent p r [] h n = go n.0 n.1
-  where
-    go : (i : ℕ) → slice_get {X = Place × ℕ} [] i ≡ Some (p, r) → ⊥
-    go i q = cc
-absent p r (e ∷ es) h n = go (λ k w. absent p r es k w) (place_eq.eq-value.it p e.0) refl (IsNoted-cons e es p r n)
-  where
-    go : (lookup (place_eq.eq-value.it p) es ≡ None → IsNoted es p r → ⊥) → (b : Bool) → place_eq.eq-value.it p e.0 ≡ b → ((e.0 ≡ p) × (e.1 ≡ r)) ⊎ IsNoted es p r → ⊥
-    go on true q w = let k = sym (ap (λ b. if b then Some e.1 else lookup (place_eq.eq-value.it p) es) q) ∙ h in cc
-    go on false q (inl w) = let k : place_eq.eq-value.it p e.0 ≡ true = ap (place_eq.eq-value.it p) w.0 ∙ place_own p in let m = sym k ∙ q in cc
-    go on false q (inr w) = on (sym (ap (λ b. if b then Some e.1 else lookup (place_eq.eq-value.it p) es) q) ∙ h) w
-
-pub absent_if : (p : Place) (es : List (Place × ℕ)) (o : Option ℕ) → o ≡ lookup (place_eq.eq-value.it p) es → IfNone o ((r : ℕ) → IsNoted es p r → ⊥)
-absent_if p es None h = λ r. absent p r es (sym h)
+pub absent_if : (p : Place) (es : List (Place × ℕ)) (o : Option ℕ) → o ≡ lookup (is_at (place_cmp p)) es → IfNone o ((r : ℕ) → IsNoted es p r → ⊥)
+absent_if p es None h = λ r at. absurd (let clash = h ∙ at in cc)
 absent_if p es (Some r) h = tt
 
-module _ (k : Place) (v : ℕ) where
-  pub noted : (es : List (Place × ℕ)) (p : Place) (r : ℕ) → IsNoted (insert_entry place_eq.eq-value.it es k v) p r → IsNoted es p r ⊎ ((p ≡ k) × (r ≡ v))
-  noted [] p r h = ⊎_elim (λ w. inr (sym w.0, sym w.1)) (λ w. inl w) (IsNoted-cons (k, v) [] p r h)
-  noted (e ∷ es) p r h = go (λ w. noted es p r w) (place_eq.eq-value.it k e.0) refl h
-    where
-      go : (IsNoted (insert_entry place_eq.eq-value.it es k v) p r → IsNoted es p r ⊎ ((p ≡ k) × (r ≡ v))) → (b : Bool) → place_eq.eq-value.it k e.0 ≡ b → IsNoted (if b then (e.0, v) ∷ es else e ∷ insert_entry place_eq.eq-value.it es k v) p r → IsNoted (e ∷ es) p r ⊎ ((p ≡ k) × (r ≡ v))
-      go on true q w = ⊎_elim (λ a. inr (sym (place_same k e.0 q ∙ a.0), sym a.1)) (λ a. inl (IsNoted-behind e es p r a)) (IsNoted-cons (e.0, v) es p r w)
-      go on false q w = ⊎_elim
-          (λ a. inl (0, ap Some (ap₂ (λ x y. (x, y)) a.0 a.1)))
-          (λ a. ⊎_elim (λ b. inl (IsNoted-behind e es p r b)) (λ b. inr b) (on a))
-          (IsNoted-cons e (insert_entry place_eq.eq-value.it es k v) p r w)
+module _ (k : Place) (v : ℕ) (old new : List (Place × ℕ)) (updates : (q : Place) → lookup (is_at (place_cmp q)) new ≡ cond (is_at (place_cmp k) q) (Some v) (lookup (is_at (place_cmp q)) old)) where
+  -- what is noted of a place, where another note is of it or not
+  updated : (p : Place) (b : Bool) → is_at (place_cmp k) p ≡ b → lookup (is_at (place_cmp p)) new ≡ cond b (Some v) (lookup (is_at (place_cmp p)) old)
+  updated p b e = updates p ∙ ap (λ c. cond c (Some v) (lookup (is_at (place_cmp p)) old)) e
 
-  pub noted_new : (es : List (Place × ℕ)) → IsNoted (insert_entry place_eq.eq-value.it es k v) k v
-  noted_new [] = (0, refl)
-  noted_new (e ∷ es) = go (noted_new es) (place_eq.eq-value.it k e.0) refl
+  pub noted : (p : Place) (r : ℕ) → IsNoted new p r → IsNoted old p r ⊎ ((p ≡ k) × (r ≡ v))
+  noted p r at = go (is_at (place_cmp k) p) refl
     where
-      go : IsNoted (insert_entry place_eq.eq-value.it es k v) k v → (b : Bool) → place_eq.eq-value.it k e.0 ≡ b → IsNoted (if b then (e.0, v) ∷ es else e ∷ insert_entry place_eq.eq-value.it es k v) k v
-      go on true q = (0, ap (λ x. Some (x, v)) (sym (place_same k e.0 q)))
-      go on false q = IsNoted-behind e (insert_entry place_eq.eq-value.it es k v) k v on
+      go : (b : Bool) → is_at (place_cmp k) p ≡ b → IsNoted old p r ⊎ ((p ≡ k) × (r ≡ v))
+      go true e = inr (sym (place_exact k p e), same_Some r v (sym at ∙ updated p true e))
+      go false e = inl (sym (updated p false e) ∙ at)
 
-  pub noted_kept : (es : List (Place × ℕ)) (p : Place) (r : ℕ) → IsNoted es p r → (p ≡ k) ⊎ IsNoted (insert_entry place_eq.eq-value.it es k v) p r
-  noted_kept [] p r h = inr (IsNoted-behind (k, v) [] p r h)
-  noted_kept (e ∷ es) p r h = go (λ w. noted_kept es p r w) (place_eq.eq-value.it k e.0) refl (IsNoted-cons e es p r h)
+  pub noted_kept : (p : Place) (r : ℕ) → IsNoted old p r → (p ≡ k) ⊎ IsNoted new p r
+  noted_kept p r at = go (is_at (place_cmp k) p) refl
     where
-      go : (IsNoted es p r → (p ≡ k) ⊎ IsNoted (insert_entry place_eq.eq-value.it es k v) p r) → (b : Bool) → place_eq.eq-value.it k e.0 ≡ b → ((e.0 ≡ p) × (e.1 ≡ r)) ⊎ IsNoted es p r → (p ≡ k) ⊎ IsNoted (if b then (e.0, v) ∷ es else e ∷ insert_entry place_eq.eq-value.it es k v) p r
-      go on true q (inl a) = inl (sym (place_same k e.0 q ∙ a.0))
-      go on true q (inr a) = inr (IsNoted-behind (e.0, v) es p r a)
-      go on false q (inl a) = inr (0, ap Some (ap₂ (λ x y. (x, y)) a.0 a.1))
-      go on false q (inr a) = ⊎_elim (λ b. inl b) (λ b. inr (IsNoted-behind e (insert_entry place_eq.eq-value.it es k v) p r b)) (on a)
+      go : (b : Bool) → is_at (place_cmp k) p ≡ b → (p ≡ k) ⊎ IsNoted new p r
+      go true e = inl (sym (place_exact k p e))
+      go false e = inr (updated p false e ∙ at)

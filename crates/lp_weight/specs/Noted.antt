@@ -1,7 +1,15 @@
 -- The entries of a memo.
-use Rattle.std.specs.Prelude.{◌≡◌, ℕ, List, Some, slice_get}
+use Rattle.std.specs.Prelude.{◌≡◌, ℕ, List, Some}
+use Rattle.std.specs.Map.{lookup}
+use Rattle.std.specs.BTreeMap.{is_at}
+use Rattle.std.specs.declared.cmp.Ordering.{Ordering}
 use Rattle.lp_weight.specs.declared.memo.Place.{Place}
+use Rattle.lp_weight.specs.contracts.memo.PlaceOrd.TheImpl as place_ord
+
+-- the order of places
+abbrev pub place_cmp : Place → Place → Ordering
+place_cmp = (place_ord.ghosts).cmp
 
 -- the memo has this amount for the place
 abbrev pub IsNoted : List (Place × ℕ) → Place → ℕ → Type 0
-IsNoted entries place amount = (i : ℕ) × (slice_get entries i ≡ Some (place, amount))
+IsNoted entries place amount = lookup (is_at (place_cmp place)) entries ≡ Some amount

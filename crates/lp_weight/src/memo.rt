@@ -4,13 +4,13 @@ ghost use Rattle.lp_weight.specs.declared.memo.Place.{Place as APlace};
 ghost use Rattle.lp_weight.specs.Noted.{IsNoted};
 
 use bridge_base::Memory;
-use indexmap::IndexMap;
 use lp_term::LpId;
 use std::alloc::Global;
+use std::collections::BTreeMap;
 use std::marker::Model;
 
 /// A tree as a part of another, under so many of its binders.
-#[derive(Clone, Copy, PartialEq, Eq, Hash)]
+#[derive(Clone, Copy, PartialEq, Eq, PartialOrd, Ord)]
 pub(crate) struct Place {
     pub(crate) id: LpId,
     pub(crate) depth: u64,
@@ -19,7 +19,7 @@ pub(crate) struct Place {
 /// The amounts that were summed, by their places.
 #[derive(Drop)]
 pub(crate) struct Memo {
-    amounts: IndexMap<Place, u128>,
+    amounts: BTreeMap<Place, u128>,
 }
 
 impl Model for Memo {
@@ -36,7 +36,7 @@ impl Memo {
         ensures empty { (p : APlace) (n : ℕ) → IsNoted result p n → ⊥ }
     {
         Memo {
-            amounts: IndexMap::new(alloc),
+            amounts: BTreeMap::new(alloc),
         }
     }
 
@@ -61,7 +61,7 @@ impl Memo {
         self.amounts.len()
     }
 
-    /// Forgets all amounts, and keeps the memory that they took.
+    /// Forgets all amounts.
     pub(crate) fn clear(&mut self)
         ensures empty { (p : APlace) (n : ℕ) → IsNoted self.new p n → ⊥ }
     {
