@@ -1,6 +1,7 @@
 mod EquationLaws
 mod FirstTermLaws
 mod IndexLaws
+mod Inserting
 mod JudgeLaws
 mod ListEnds
 mod ListFaults

@@ -11,14 +11,14 @@ use bridge_base::Memory;
 use hol_name::Name;
 use hol_term::{TermId, Variable};
 use hol_type::TypeId;
-use indexmap::{IndexMap, IndexSet};
 use std::alloc::Global;
 use std::marker::Model;
+use tree_map::{TreeMap, TreeSet};
 
 /// Names, each once, in order of coming. Contracts see the list of them.
 #[derive(Drop)]
 pub(crate) struct NameSet {
-    names: IndexSet<Name>,
+    names: TreeSet<Name>,
 }
 
 impl Model for NameSet {
@@ -27,7 +27,7 @@ impl Model for NameSet {
 
     ghost Value = { List AName };
 
-    ghost view = { λ s. s.names.keys };
+    ghost view = { λ s. s.names };
 }
 
 impl NameSet {
@@ -35,7 +35,7 @@ impl NameSet {
         ensures empty { result ≡ [] }
     {
         NameSet {
-            names: IndexSet::new(alloc),
+            names: TreeSet::new(alloc),
         }
     }
 
@@ -90,7 +90,7 @@ impl NameSet {
 /// Variables, each once, in order of coming. Contracts see the list of them.
 #[derive(Drop)]
 pub(crate) struct VariableSet {
-    variables: IndexSet<Variable>,
+    variables: TreeSet<Variable>,
 }
 
 impl Model for VariableSet {
@@ -99,7 +99,7 @@ impl Model for VariableSet {
 
     ghost Value = { List AVariable };
 
-    ghost view = { λ s. s.variables.keys };
+    ghost view = { λ s. s.variables };
 }
 
 impl VariableSet {
@@ -107,7 +107,7 @@ impl VariableSet {
         ensures empty { result ≡ [] }
     {
         VariableSet {
-            variables: IndexSet::new(alloc),
+            variables: TreeSet::new(alloc),
         }
     }
 
@@ -135,7 +135,7 @@ impl VariableSet {
 /// The terms of variables, of each the one that came first. Contracts see the list of the pairs.
 #[derive(Drop)]
 pub(crate) struct FirstTerms {
-    terms: IndexMap<Variable, TermId>,
+    terms: TreeMap<Variable, TermId>,
 }
 
 impl Model for FirstTerms {
@@ -145,7 +145,7 @@ impl Model for FirstTerms {
 
     ghost Value = { List (AVariable × AnId) };
 
-    ghost view = { λ s. s.terms.entries };
+    ghost view = { λ s. s.terms };
 }
 
 impl FirstTerms {
@@ -153,14 +153,14 @@ impl FirstTerms {
         ensures empty { result ≡ [] }
     {
         FirstTerms {
-            terms: IndexMap::new(alloc),
+            terms: TreeMap::new(alloc),
         }
     }
 
     pub(crate) fn find(&self, variable: &Variable) -> Option<TermId>
         ensures { result ≡ lookup (same_variable variable.now) self.now }
     {
-        self.terms.get(variable).copied()
+        self.terms.get(variable)
     }
 
     // Notes the term of a variable, if it has none.
@@ -178,7 +178,7 @@ impl FirstTerms {
 /// Names of operators, each with a number of arguments. Contracts see the list of the pairs.
 #[derive(Drop)]
 pub(crate) struct Uses {
-    uses: IndexSet<(Name, usize)>,
+    uses: TreeSet<(Name, usize)>,
 }
 
 impl Model for Uses {
@@ -187,7 +187,7 @@ impl Model for Uses {
 
     ghost Value = { List (AName × ℕ) };
 
-    ghost view = { λ s. s.uses.keys };
+    ghost view = { λ s. s.uses };
 }
 
 impl Uses {
@@ -195,7 +195,7 @@ impl Uses {
         ensures empty { result ≡ [] }
     {
         Uses {
-            uses: IndexSet::new(alloc),
+            uses: TreeSet::new(alloc),
         }
     }
 
@@ -231,7 +231,7 @@ impl Uses {
 /// The generic types of constants, by name. Contracts see the list of the pairs.
 #[derive(Drop)]
 pub(crate) struct Generics {
-    types: IndexMap<Name, TypeId>,
+    types: TreeMap<Name, TypeId>,
 }
 
 impl Model for Generics {
@@ -241,7 +241,7 @@ impl Model for Generics {
 
     ghost Value = { List (AName × AnId) };
 
-    ghost view = { λ s. s.types.entries };
+    ghost view = { λ s. s.types };
 }
 
 impl Generics {
@@ -249,14 +249,14 @@ impl Generics {
         ensures empty { result ≡ [] }
     {
         Generics {
-            types: IndexMap::new(alloc),
+            types: TreeMap::new(alloc),
         }
     }
 
     pub(crate) fn find(&self, name: &Name) -> Option<TypeId>
         ensures { result ≡ lookup (name_eq name.now) self.now }
     {
-        self.types.get(name).copied()
+        self.types.get(name)
     }
 
     pub(crate) fn len(&self) -> usize
@@ -287,7 +287,7 @@ impl Generics {
 /// How many arguments operators take, by name. Contracts see the list of the pairs.
 #[derive(Drop)]
 pub(crate) struct Arities {
-    counts: IndexMap<Name, usize>,
+    counts: TreeMap<Name, usize>,
 }
 
 impl Model for Arities {
@@ -296,7 +296,7 @@ impl Model for Arities {
 
     ghost Value = { List (AName × ℕ) };
 
-    ghost view = { λ s. s.counts.entries };
+    ghost view = { λ s. s.counts };
 }
 
 impl Arities {
@@ -304,14 +304,14 @@ impl Arities {
         ensures empty { result ≡ [] }
     {
         Arities {
-            counts: IndexMap::new(alloc),
+            counts: TreeMap::new(alloc),
         }
     }
 
     pub(crate) fn find(&self, name: &Name) -> Option<usize>
         ensures { result ≡ lookup (name_eq name.now) self.now }
     {
-        self.counts.get(name).copied()
+        self.counts.get(name)
     }
 
     // Notes how many arguments an operator takes of which this isn't known.

@@ -16,7 +16,6 @@ use Rattle.hol_term.specs.declared.TermId.{TermId}
 use Rattle.hol_term.specs.declared.node.Node.{Node}
 use Rattle.hol_term.specs.declared.node.Node.TheVariants as node
 use Rattle.hol_term.specs.declared.node.Entry.{Entry}
-use Rattle.hol_term.specs.contracts.node.EntryPartialEq.TheImpl as entry_eq
 use Rattle.hol_term.specs.contracts.node.NodePartialEq.TheImpl as node_eq
 use Rattle.hol_term.specs.Tables.{Trees, IsDistinct, Stays}
 use Rattle.hol_term.specs.TableLaws.{Stays-refl, Stays-trans, Stays-append, tree_of_node-Stays, term_in-same}
@@ -115,14 +114,6 @@ node_eq-refl (node.Bound n) = number-refl n
 node_eq-refl (node.Const m t) = and_from (name_eq m m) (nat_eq t.0 t.0) ((name_eq-Decides m m).1 refl) (number-refl t.0)
 node_eq-refl (node.App f x) = and_from (nat_eq f.0 f.0) (nat_eq x.0 x.0) (number-refl f.0) (number-refl x.0)
 node_eq-refl (node.Lam t x) = and_from (nat_eq t.0 t.0) (nat_eq x.0 x.0) (number-refl t.0) (number-refl x.0)
-
--- entries that are equal by their test have one node
-pub entry_eq-true : (x y : Entry) → entry_eq.eq-value.it x y ≡ true → x.node ≡ y.node
-entry_eq-true x y h = node_eq-true x.node y.node h
-
--- entries with one node are equal by their test
-pub entry_eq-same : (x y : Entry) → x.node ≡ y.node → entry_eq.eq-value.it x y ≡ true
-entry_eq-same x y e = subst (λ n. node_eq.eq-value.it x.node n ≡ true) e (node_eq-refl x.node)
 
 -- the parts of a tree's head
 name_of : Term → Name

@@ -1,19 +1,19 @@
 -- A table into which an entry is put.
-use Rattle.std.proofs.Common.{◌≡◌, ℕ, zero, suc, ◌<◌, refl, sym, ap, ◌∙◌, subst, arith, List, [], ◌∷◌, ◌++◌, length, get_or, Some, ⊎_elim, inl, inr, ◌⊎◌, Bool, true, false, length-append}
-use Rattle.std.specs.Prelude.{slice_get, if◌then◌else◌, ◌||◌}
-use Rattle.std.specs.List.{list_any}
+use Rattle.std.proofs.Common.{◌≡◌, ℕ, ◌<◌, refl, sym, ap, ◌∙◌, subst, arith, List, [], ◌∷◌, ◌++◌, length, get_or, Some, ⊎_elim, inl, inr, ◌⊎◌, Bool, true, false, length-append}
+use Rattle.std.specs.Prelude.{slice_get}
 use Rattle.std.proofs.lemmas.Option.{slice_get_within, slice_get-get_or, same_Some}
 use Rattle.std.proofs.Math.Path.{subst₂}
-use Rattle.indexmap.specs.IndexSet.{insert_key}
 use Rattle.hol_spec.specs.Types.{HolType}
 use Rattle.hol_spec.specs.Terms.{Term}
 use Rattle.hol_type.specs.TableLaws as type_law
+use Rattle.hol_term.specs.declared.node.Node.{Node}
 use Rattle.hol_term.specs.declared.node.Entry.{Entry}
-use Rattle.hol_term.specs.contracts.node.EntryPartialEq.TheImpl as entry_eq
 use Rattle.hol_term.specs.Tables.{Stays, Keeps}
 use Rattle.hol_term.specs.TableLaws.{Stays-refl, Stays-append, tree_of_node-Stays, PartsBelow-more}
 use Rattle.hol_term.specs.Nodes.{tree_of_node, PartsBelow, IsMeasured, terms_of, IsTable}
-use Rattle.hol_term.proofs.EntryLaws.{over, terms_from-append, length-terms_of, slice_get-one_more, terms_of-Some, entry_eq-true, entry_eq-same, tree_of_node-same}
+use Rattle.hol_term.specs.Indexed.{greater_part, IsInserted}
+use Rattle.hol_term.proofs.EntryLaws.{over, terms_from-append, length-terms_of, slice_get-last, slice_get-one_more, terms_of-Some, tree_of_node-same}
+use Rattle.hol_term.proofs.Indexing.{greater_part-below}
 
 -- the tree of an entry over a table's entries
 abbrev pub tree_over : List HolType → List Entry → Entry → Term
@@ -55,16 +55,7 @@ module _ (types : List HolType) (es : List Entry) (e : Entry) (t : IsTable types
   pub grown_table : IsTable types (es ++ e ∷ [])
   grown_table = record { one_each = t.one_each; lower = low; distinct = record { each = distinct }; measured = measured }
 
-any_at : {X : Type 0} (p : X → Bool) (xs : List X) (j : ℕ) (x : X) → slice_get xs j ≡ Some x → p x ≡ true → list_any p xs ≡ true
-any_at p [] j x e h = absurd (cc)
-any_at p (y ∷ ys) zero x e h = let q = ap p (same_Some _ _ e) ∙ h in ap (λ b. b || list_any p ys) q
-any_at p (y ∷ ys) (suc j) x e h = go (p y) (any_at p ys j x e h)
-  where
-    go : (b : Bool) → list_any p ys ≡ true → (b || list_any p ys) ≡ true
-    go true q = refl
-    go false q = q
-
--- a set's insertion
+-- a table after an entry was put
 pub record Inserted (types : List HolType) (es new : List Entry) (e : Entry) : Type 0 where
   pub table : IsTable types new
   pub adds : (terms_of types new ≡ terms_of types es) ⊎ (terms_of types new ≡ terms_of types es ++ tree_over types es e ∷ [])
@@ -72,15 +63,14 @@ pub record Inserted (types : List HolType) (es new : List Entry) (e : Entry) : T
 pub unchanged : (types : List HolType) (es new : List Entry) (e : Entry) → IsTable types es → new ≡ es → Inserted types es new e
 unchanged types es new e t same = subst (λ w. Inserted types es w e) (sym same) (record { table = t; adds = inl refl })
 
-pub inserted : (types : List HolType) (es new : List Entry) (e : Entry) → IsTable types es → PartsBelow (length (terms_of types es)) (length types) e.node → IsMeasured types e (tree_over types es e) → new ≡ insert_key entry_eq.eq-value.it es e → Inserted types es new e
-inserted types es new e t p m q = go (list_any (entry_eq.eq-value.it e) es) refl
-  where
-    go : (b : Bool) → list_any (entry_eq.eq-value.it e) es ≡ b → Inserted types es new e
-    go true h = unchanged types es new e t (q ∙ ap (λ b. if b then es else es ++ e ∷ []) h)
-    go false h =
-        let n = q ∙ ap (λ b. if b then es else es ++ e ∷ []) h in
-        let absent : (j : ℕ) (o : Entry) → slice_get es j ≡ Some o → o.node ≡ e.node → ⊥ = λ j o at same. let y = any_at (entry_eq.eq-value.it e) es j o at (entry_eq-same e o (sym same)) in let w = sym y ∙ h in cc in
-        subst (λ w. Inserted types es w e) (sym n) (record { table = grown_table types es e t p m absent; adds = inr (terms_from-append types [] es e) })
+pub inserted : (types : List HolType) (es new : List Entry) (e : Entry) (r : ℕ) (b : Bool) → IsTable types es → PartsBelow (length (terms_of types es)) (length types) e.node → IsMeasured types e (tree_over types es e) → IsInserted es new e r b → Inserted types es new e
+inserted types es new e r true t p m h = subst (λ w. Inserted types es w e) (sym h.0) (record { table = grown_table types es e t p m h.2; adds = inr (terms_from-append types [] es e) })
+inserted types es new e r false t p m h = unchanged types es new e t h.0
+
+-- the entry that has the number
+stored : (es new : List Entry) (e : Entry) (r : ℕ) (b : Bool) → IsInserted es new e r b → (o : Entry) × (slice_get new r ≡ Some o) × (o.node ≡ e.node)
+stored es new e r true h = (e, ap (λ w. slice_get w r) h.0 ∙ ap (slice_get (es ++ e ∷ [])) h.1 ∙ slice_get-last es e, refl)
+stored es new e r false h = (h.1.0, ap (λ w. slice_get w r) h.0 ∙ h.1.1, h.1.2)
 
 pub inserted_keeps : (types : List HolType) (es new : List Entry) (e : Entry) → Inserted types es new e → Keeps (over types (terms_of types es)) (over types (terms_of types new))
 inserted_keeps types es new e ins = ⊎_elim
@@ -94,8 +84,13 @@ inserted_keeps types es new e ins = ⊎_elim
     ins.adds
 
 -- the tree that is stored at the number given
-pub stored_tree : (types : List HolType) (es new : List Entry) (e k : Entry) (r : ℕ) → Inserted types es new e → PartsBelow (length (terms_of types es)) (length types) e.node → slice_get new r ≡ Some k → entry_eq.eq-value.it e k ≡ true → slice_get (terms_of types new) r ≡ Some (tree_over types es e)
-stored_tree types es new e k r ins p at same =
-    terms_of-Some types new r k (ins.table.lower r k at) at
-    ∙ ap (λ w. Some (tree_of_node (over types (terms_of types new)) w)) (sym (entry_eq-true e k same))
+pub stored_tree : (types : List HolType) (es new : List Entry) (e : Entry) (r : ℕ) (b : Bool) → Inserted types es new e → PartsBelow (length (terms_of types es)) (length types) e.node → IsInserted es new e r b → slice_get (terms_of types new) r ≡ Some (tree_over types es e)
+stored_tree types es new e r b ins p h =
+    let k = stored es new e r b h in
+    terms_of-Some types new r k.0 (ins.table.lower r k.0 k.1) k.1
+    ∙ ap (λ w. Some (tree_of_node (over types (terms_of types new)) w)) k.2
     ∙ ap Some (sym (tree_of_node-Stays (over types (terms_of types es)) (over types (terms_of types new)) (type_law.Stays-refl types) (inserted_keeps types es new e ins).stays e.node p))
+
+-- the greatest part of the entry's node has a number already
+pub greater_part-known : (types : List HolType) (es : List Entry) (s : Node) → PartsBelow (length (terms_of types es)) (length types) s → (p : ℕ) → greater_part s ≡ Some p → p < length es
+greater_part-known types es s h p g = omega (arith, greater_part-below (length (terms_of types es)) (length types) s p h g, length-terms_of types es)

@@ -1,11 +1,14 @@
 pub mod EntryLaws
+pub mod Indexing
 pub mod Inserted
 pub mod Cut
 pub mod Retyped
 pub mod NotedLaws
+mod NotedInOrder
 pub mod Typings
 pub mod ScopeLaws
 pub mod Seated
+pub mod MaskLaws
 pub mod Remade
 pub mod Settled
 pub mod Shaped

@@ -1,14 +1,16 @@
 -- The lists of some scopes.
-use Rattle.std.proofs.Common.{◌≡◌, ℕ, zero, suc, ◌+◌, ◌-◌, ◌<◌, get_or, Option, None, ◌≤◌, refl, sym, ap, ◌∙◌, subst, arith, List, [], ◌∷◌, ◌++◌, length, Some, length-append, ◌⊎◌, ⊎_elim, inl, inr, Bool, true, false}
-use Rattle.std.specs.Prelude.{slice_get, unwrap_or, nat_eq, if◌then◌else◌, IfSome, IfNone}
-use Rattle.std.specs.List.{list_any}
+use Rattle.std.proofs.Common.{◌≡◌, ℕ, zero, suc, ◌+◌, ◌-◌, ◌<◌, Option, None, ◌≤◌, refl, sym, ap, ◌∙◌, subst, arith, List, [], ◌∷◌, ◌++◌, length, Some, length-append, ◌⊎◌, ⊎_elim, inl, inr, Bool, true, false, cond}
+use Rattle.std.specs.Prelude.{slice_get, unwrap_or, nat_eq, ◌&&◌, Result, Ok, Err, IfOk, OnOk, OnErr}
+use Rattle.std.specs.Map.{lookup}
+use Rattle.std.specs.Ordering.{is_eq}
+use Rattle.std.specs.BTreeMap.{BTreeMap, is_at, Updates}
+use Rattle.std.proofs.lemmas.Cmp.{tied_itself}
 use Rattle.std.proofs.lemmas.Option.{slice_get_within, slice_get-get_or, unwrap_or-slice_get, same_Some}
 use Rattle.std.proofs.lemmas.Bool.{eqb-true}
-use Rattle.indexmap.specs.IndexSet.{insert_key}
 use Rattle.hol_type.specs.declared.table.TypeId.{TypeId}
 use Rattle.hol_term.specs.declared.scopes.Scope.{Scope}
-use Rattle.hol_term.specs.contracts.scopes.ScopePartialEq.TheImpl as scope_eq
-use Rattle.hol_term.specs.Scopes.{list_in, lists_from, lists_of, AreInner, KeepsLists, AddsList}
+use Rattle.hol_term.specs.contracts.scopes.ScopeOrd.TheImpl.Laws.{matches_eq-law, total-law}
+use Rattle.hol_term.specs.Scopes.{list_in, lists_from, lists_of, scope_cmp, place_in, AreInner, ArePlaced, KeepsLists, AddsList}
 use Rattle.hol_term.proofs.EntryLaws.{slice_get-last, slice_get-one_more}
 use Rattle.hol_term.proofs.NotedLaws.{and_both}
 use Rattle.hol_laws.specs.PlaceLaws.{slice_get-append}
@@ -81,13 +83,54 @@ lists_of-Some ss i s h e =
     let lt : s.outer.0 < 1 + i = omega (arith, h.each i s e) in
     ap (slice_get (lists_of ss)) z ∙ list_from ([] ∷ []) ss i s e lt
 
--- scopes that are equal by their test are one
-pub scope_eq-same : (s t : Scope) → scope_eq.eq-value.it s t ≡ true → s ≡ t
-scope_eq-same s t h =
-    let a = and_both (nat_eq s.outer.0 t.outer.0) (nat_eq s.ty.0 t.ty.0) h in
+-- scopes that are equal in their order are one
+scope_cmp-same : (s t : Scope) → is_eq (scope_cmp s t) ≡ true → s ≡ t
+scope_cmp-same s t h =
+    let e : (nat_eq s.outer.0 t.outer.0 && nat_eq s.ty.0 t.ty.0) ≡ true = matches_eq-law s t ∙ h in
+    let a = and_both (nat_eq s.outer.0 t.outer.0) (nat_eq s.ty.0 t.ty.0) e in
     let x = eqb-true s.outer.0 t.outer.0 a.0 in
     let y = eqb-true s.ty.0 t.ty.0 a.1 in
     λ i. record { outer = record { 0 = x i }; ty = record { 0 = y i } }
+
+-- scopes that have their places, once one more is put last
+pub ArePlaced-more : (ss : List Scope) (old new : Scope → Option ℕ) (s : Scope) → ArePlaced ss old → old s ≡ None → ((t : Scope) → new t ≡ cond (is_eq (scope_cmp s t)) (Some (length ss)) (old t)) → ArePlaced (ss ++ s ∷ []) new
+ArePlaced-more ss old new s h none updates = record { each = each; told = told }
+  where
+    same : (t : Scope) → is_eq (scope_cmp s t) ≡ true → new t ≡ Some (length ss)
+    same t e = updates t ∙ ap (λ b. cond b (Some (length ss)) (old t)) e
+
+    other : (t : Scope) → is_eq (scope_cmp s t) ≡ false → new t ≡ old t
+    other t e = updates t ∙ ap (λ b. cond b (Some (length ss)) (old t)) e
+
+    old_each : (i : ℕ) (t : Scope) → slice_get ss i ≡ Some t → (b : Bool) → is_eq (scope_cmp s t) ≡ b → new t ≡ Some i
+    old_each i t at true e = absurd (let w = sym none ∙ ap old (scope_cmp-same s t e) ∙ h.each i t at in cc)
+    old_each i t at false e = other t e ∙ h.each i t at
+
+    each : (i : ℕ) (t : Scope) → slice_get (ss ++ s ∷ []) i ≡ Some t → new t ≡ Some i
+    each i t at = ⊎_elim
+        (λ k. old_each i t k (is_eq (scope_cmp s t)) refl)
+        (λ k. ap new (sym k.1) ∙ same s (ap is_eq (tied_itself total-law s)) ∙ ap Some (sym k.0))
+        (slice_get-one_more ss s t i at)
+
+    told_by : (i : ℕ) (t : Scope) → new t ≡ Some i → (b : Bool) → is_eq (scope_cmp s t) ≡ b → slice_get (ss ++ s ∷ []) i ≡ Some t
+    told_by i t k true e = ap (slice_get (ss ++ s ∷ [])) (sym (same_Some (length ss) i (sym (same t e) ∙ k))) ∙ slice_get-last ss s ∙ ap Some (scope_cmp-same s t e)
+    told_by i t k false e = slice_get-append ss (s ∷ []) i t (h.told i t (sym (other t e) ∙ k))
+
+    told : (i : ℕ) (t : Scope) → new t ≡ Some i → slice_get (ss ++ s ∷ []) i ≡ Some t
+    told i t k = told_by i t k (is_eq (scope_cmp s t)) refl
+
+-- scopes after one more was put last, or memory was wanting
+pub put-at : {E : Type 0} (ss new : List Scope) (s : Scope) (r : Result ℕ E) → IfOk r (λ p. p ≡ length ss) → OnOk r (new ≡ ss ++ s ∷ []) → IfOk r (λ p. slice_get new p ≡ Some s)
+put-at ss new s (Ok p) e q = ap (λ l. slice_get l p) q ∙ ap (slice_get (ss ++ s ∷ [])) e ∙ slice_get-last ss s
+put-at ss new s (Err m) e q = tt
+
+pub put-adds : {E : Type 0} (ss new : List Scope) (old now : BTreeMap Scope ℕ) (s : Scope) (r : Result ℕ E) → OnOk r (new ≡ ss ++ s ∷ []) → OnErr r ((new ≡ ss) × (now.entries ≡ old.entries)) → (new ≡ ss) ⊎ (new ≡ ss ++ s ∷ [])
+put-adds ss new old now s (Ok p) q u = inr q
+put-adds ss new old now s (Err m) q u = inl u.0
+
+pub put-placed : {E : Type 0} (ss new : List Scope) (old now : BTreeMap Scope ℕ) (s : Scope) (r : Result ℕ E) → ArePlaced ss (place_in old) → place_in old s ≡ None → OnOk r (new ≡ ss ++ s ∷ []) → OnOk r (Updates scope_cmp old now s (Some (length ss))) → OnErr r ((new ≡ ss) × (now.entries ≡ old.entries)) → ArePlaced new (place_in now)
+put-placed ss new old now s (Ok p) t none q k u = subst (λ l. ArePlaced l (place_in now)) (sym q) (ArePlaced-more ss (place_in old) (place_in now) s t none k.0)
+put-placed ss new old now s (Err m) t none q k u = subst (λ l. ArePlaced l (place_in now)) (sym u.0) (subst (λ (l : List (Scope × ℕ)). ArePlaced ss (λ t. lookup (is_at (scope_cmp t)) l)) (sym u.1) t)
 
 -- scopes among which one is put
 pub record Entered (ss new : List Scope) (s : Scope) : Type 0 where
@@ -98,8 +141,8 @@ pub record Entered (ss new : List Scope) (s : Scope) : Type 0 where
 pub same_scopes : (ss new : List Scope) (s : Scope) → AreInner ss → new ≡ ss → Entered ss new s
 same_scopes ss new s h e = subst (λ w. Entered ss w s) (sym e) (record { inner = h; keeps = KeepsLists-refl (lists_of ss); adds = record { each = λ i l at. inl at } })
 
-pub entered : (ss new : List Scope) (s : Scope) → AreInner ss → s.outer.0 < length (lists_of ss) → new ≡ insert_key scope_eq.eq-value.it ss s → Entered ss new s
-entered ss new s h lt q = go (list_any (scope_eq.eq-value.it s) ss) refl
+pub entered : (ss new : List Scope) (s : Scope) → AreInner ss → s.outer.0 < length (lists_of ss) → (new ≡ ss) ⊎ (new ≡ ss ++ s ∷ []) → Entered ss new s
+entered ss new s h lt q = ⊎_elim (λ e. same_scopes ss new s h e) (λ e. subst (λ w. Entered ss w s) (sym e) grown) q
   where
     list : List TypeId
     list = s.ty ∷ list_in (lists_of ss) s.outer.0
@@ -120,38 +163,22 @@ entered ss new s h lt q = go (list_any (scope_eq.eq-value.it s) ss) refl
       adds = subst (λ ls. AddsList (lists_of ss) ls list) (sym (lists_from-append ([] ∷ []) ss s)) (record { each = adds_last });
     }
 
-    go : (b : Bool) → list_any (scope_eq.eq-value.it s) ss ≡ b → Entered ss new s
-    go true e = same_scopes ss new s h (q ∙ ap (λ b. if b then ss else ss ++ s ∷ []) e)
-    go false e = subst (λ w. Entered ss w s) (sym (q ∙ ap (λ b. if b then ss else ss ++ s ∷ []) e)) grown
-
 -- the list of the scope that was put
-pub entered_at : (ss new : List Scope) (s k : Scope) (r : ℕ) → Entered ss new s → s.outer.0 < length (lists_of ss) → slice_get new r ≡ Some k → scope_eq.eq-value.it s k ≡ true → slice_get (lists_of new) (r + 1) ≡ Some (s.ty ∷ list_in (lists_of ss) s.outer.0)
-entered_at ss new s k r e lt at same =
-    lists_of-Some new r k e.inner at
-    ∙ ap (λ (w : Scope). Some (w.ty ∷ list_in (lists_of new) w.outer.0)) (sym (scope_eq-same s k same))
-    ∙ ap (λ l. Some (s.ty ∷ l)) (sym (list_in-Keeps e.keeps s.outer.0 lt))
+pub entered_at : (ss new : List Scope) (s : Scope) (r : ℕ) → Entered ss new s → s.outer.0 < length (lists_of ss) → slice_get new r ≡ Some s → slice_get (lists_of new) (r + 1) ≡ Some (s.ty ∷ list_in (lists_of ss) s.outer.0)
+entered_at ss new s r e lt at = lists_of-Some new r s e.inner at ∙ ap (λ l. Some (s.ty ∷ l)) (sym (list_in-Keeps e.keeps s.outer.0 lt))
 
 -- the innermost binder of a number's list, with those round it
 module _ (ss : List Scope) (n : ℕ) (h : AreInner ss) (lt : n < length (lists_of ss)) (some : n ≡ 0 → ⊥) where
   same_number : (n - 1) + 1 ≡ n
   same_number = omega (arith, some)
 
-  pub innermost_list : (o : Option Scope) → o ≡ slice_get ss (n - 1) → IfSome o (λ s. list_in (lists_of ss) n ≡ s.ty ∷ list_in (lists_of ss) s.outer.0)
-  innermost_list None e = tt
-  innermost_list (Some s) e =
-      let at = lists_of-Some ss (n - 1) s h (sym e) in
+  pub innermost_within : n - 1 < length ss
+  innermost_within = omega (arith, lt, length-lists_of ss, some)
+
+  pub innermost_list : (s : Scope) → slice_get ss (n - 1) ≡ Some s → list_in (lists_of ss) n ≡ s.ty ∷ list_in (lists_of ss) s.outer.0
+  innermost_list s e =
+      let at = lists_of-Some ss (n - 1) s h e in
       Some-list_in (lists_of ss) n (s.ty ∷ list_in (lists_of ss) s.outer.0) (ap (slice_get (lists_of ss)) (sym same_number) ∙ at)
 
-  pub innermost_outer : (o : Option Scope) → o ≡ slice_get ss (n - 1) → IfSome o (λ s. s.outer.0 < n)
-  innermost_outer None e = tt
-  innermost_outer (Some s) e = omega (arith, h.each (n - 1) s (sym e), some)
-
-  pub innermost_there : (o : Option Scope) → o ≡ slice_get ss (n - 1) → IfNone o (list_in (lists_of ss) n ≡ [])
-  innermost_there None e =
-      let at : slice_get ss (n - 1) ≡ Some (get_or ss (n - 1) filler) = slice_get-get_or ss (n - 1) filler (omega (arith, lt, length-lists_of ss, some)) in
-      let w : None ≡ Some (get_or ss (n - 1) filler) = e ∙ at in
-      absurd (cc)
-    where
-      filler : Scope
-      filler = record { outer = record { 0 = 0 }; ty = record { 0 = 0 } }
-  innermost_there (Some s) e = tt
+  pub innermost_outer : (s : Scope) → slice_get ss (n - 1) ≡ Some s → s.outer.0 < n
+  innermost_outer s e = omega (arith, h.each (n - 1) s e, some)

@@ -90,14 +90,15 @@ module _ (l r : Term) (a b : HolType) (hl : HasType l a) (hr : HasType r b) wher
 pub types_apart : (types : List HolType) → type.IsDistinct types → (t u : TypeId) → t.0 < length types → u.0 < length types → (t.0 ≡ u.0 → ⊥) → tree_at types t.0 ≡ tree_at types u.0 → ⊥
 types_apart types c t u ht hu n e = n (ap (λ (i : TypeId). i.0) (type_law.tree_at-same c t u ht hu e))
 
--- an abstraction whose body is closed over a variable of the table
-pub made_abs : (a b d g : Trees) (v ty body id r : ℕ) (name : Name) (t : HolType) → Keeps a b → Keeps b d → id < length a.terms → ty < length a.types → type_at a ty ≡ t → Holds b v (free name (type_at a ty)) → Holds d body (changed (term_at b v ∷ []) Close 0 (term_at b id)) → Holds g r (lam (type_at d ty) (term_at d body)) → Holds g r (lam t (close (name, t) (term_at a id)))
-made_abs a b d g v ty body id r name t k l lt lty is hv hb h =
+-- a body that is closed over a variable of the table
+pub made_closed : (a b d : Trees) (v ty body id : ℕ) (name : Name) → Keeps a b → id < length a.terms → Holds b v (free name (type_at a ty)) → Holds d body (changed (term_at b v ∷ []) Close 0 (term_at b id)) → Holds d body (close (name, type_at a ty) (term_at a id))
+made_closed a b d v ty body id name k lt hv hb =
     let vt = Some-term_in b.terms v (free name (type_at a ty)) hv in
-    let inner : term_at d body ≡ close (name, type_at a ty) (term_at a id)
-    = Some-term_in d.terms body (changed (term_at b v ∷ []) Close 0 (term_at b id)) hb ∙ ap₂ (λ w u. changed (w ∷ []) Close 0 u) vt (sym (term_in-Stays k.stays id lt)) in
-    let outer : type_at d ty ≡ type_at a ty = sym (type_law.tree_at-Stays (type_law.Stays-trans k.types.stays l.types.stays) ty lty) in
-    h ∙ ap Some (ap₂ lam outer inner ∙ ap (λ u. lam u (close (name, u) (term_at a id))) is)
+    hb ∙ ap Some (ap₂ (λ w u. changed (w ∷ []) Close 0 u) vt (sym (term_in-Stays k.stays id lt)))
+
+-- an abstraction whose body is closed
+pub made_abs : (a d g : Trees) (ty body r : ℕ) (t : Term) → Keeps a d → ty < length a.types → Holds d body t → Holds g r (lam (type_at d ty) (term_at d body)) → Holds g r (lam (type_at a ty) t)
+made_abs a d g ty body r t k lt hb h = h ∙ ap Some (ap₂ lam (sym (type_law.tree_at-Stays k.types.stays ty lt)) (Some-term_in d.terms body t hb))
 
 -- an equation whose sides are of the table
 pub made_equation : (a b d g : Trees) (e l m r id : ℕ) (t : HolType) → Keeps a b → Keeps b d → l < length a.terms → r < length a.terms → Holds b e (constant equality_name (equality_type t)) → Holds d m (app (term_at b e) (term_at b l)) → Holds g id (app (term_at d m) (term_at d r)) → Holds g id (equation t (term_at a l) (term_at a r))

@@ -1,10 +1,9 @@
 -- What a turn does to a walk that lifts, puts or closes.
-use Rattle.std.proofs.Common.{◌≡◌, ℕ, suc, ◌+◌, ◌<◌, ◌≤◌, ◌^◌, refl, sym, ap, ◌∙◌, subst, arith, List, [], ◌∷◌, length, Some, ◌⊎◌, ⊎_elim, inl, inr}
+use Rattle.std.proofs.Common.{◌≡◌, ℕ, suc, ◌+◌, ◌<◌, ◌≤◌, ◌^◌, refl, sym, ap, ◌∙◌, subst, arith, List, [], ◌∷◌, length, Some, ◌⊎◌, ⊎_elim}
 use Rattle.std.specs.Prelude.{Result, Ok, Err, OnOk}
 use Rattle.std.proofs.Math.Path.{ap₂}
 use Rattle.std.proofs.lemmas.Option.{slice_get_within}
 use Rattle.hol_spec.specs.Terms.{Term, free, bound, constant, app, lam}
-use Rattle.hol_spec.specs.TermBinding.{loose}
 use Rattle.hol_type.specs.declared.table.TypeId.{TypeId}
 use Rattle.hol_type.specs.TableLaws as type_law
 use Rattle.hol_term.specs.declared.TermId.{TermId}
@@ -128,15 +127,12 @@ module _ (a b : Trees) (root : Term) (ids : List TermId) (p : Place) (tasks : Li
     pub visit_closing : CanClose (terms_at b ids) p.change
     visit_closing = CanClose-Keeps a b w.keeps ids w.known p.change w.ends.0.1
 
-    pub walk_found : (r : TermId) → ((r ≡ p.id) × IsLeftAlone b p) ⊎ IsNoted memo p r → IsWalk a root b ids tasks (r ∷ made) memo
+    pub walk_found : (r : TermId) → ((r ≡ p.id) × IsLeftAlone (terms_at b ids) b p) ⊎ IsNoted memo p r → IsWalk a root b ids tasks (r ∷ made) memo
     walk_found r h = record { keeps = w.keeps; known = w.known; terms = wanted (terms_at a ids) a p ∷ w.terms; held = (own, w.held); ends = w.ends.1; noted = w.noted }
       where
         own : Holds b r.0 (wanted (terms_at a ids) a p)
         own = ⊎_elim
-            (λ alone.
-            let same = same_tree p.id (omega arith) in
-            let left : IsLeftAlone a p = ⊎_elim (λ none. inl none) (λ closed. inr (closed.0, subst (λ t. loose t ≤ p.depth) (sym same) closed.1)) alone.1 in
-            subst (λ (v : TermId). Holds b v.0 (wanted (terms_at a ids) a p)) (sym alone.0) (w.keeps.stays.each p.id.0 _ (alone_wanted a ids p w.ends.0.0.0 left)))
+            (λ alone. subst (λ (v : TermId). Holds b v.0 (wanted (terms_at a ids) a p)) (sym alone.0) (alone_wanted b ids p visit_known alone.1 ∙ ap Some (sym (wanted-Keeps a b w.keeps ids w.known p w.ends.0.0.0))))
             (λ n. w.noted p r n)
             h
 

@@ -1,6 +1,8 @@
 pub mod Tables
 pub mod TableLaws
+pub mod Masks
 pub mod Nodes
+pub mod Indexed
 pub mod Noted
 pub mod Scopes
 pub mod Typing

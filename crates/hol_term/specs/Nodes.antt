@@ -11,6 +11,7 @@ use Rattle.hol_term.specs.declared.node.Node.TheVariants as node
 use Rattle.hol_term.specs.declared.node.Measures.{Measures}
 use Rattle.hol_term.specs.declared.node.Entry.{Entry}
 use Rattle.hol_term.specs.Tables.{Trees, term_in, IsDistinct, IsTypeNumber}
+use Rattle.hol_term.specs.Masks.{HasBits}
 
 -- the tree of a node, of these types, whose parts have these numbers
 abbrev pub tree_of_node : Trees → Node → Term
@@ -28,11 +29,12 @@ PartsBelow n m (node.Const name ty) = ty.0 < m
 PartsBelow n m (node.App f x) = (f.0 < n) × (x.0 < n)
 PartsBelow n m (node.Lam ty b) = (ty.0 < m) × (b.0 < n)
 
--- the measures are the tree's: size and depth as far as their types go
+-- the measures are the tree's: size and depth as far as their types go, and a mask with the bits of its free variables
 pub record AreMeasures (measures : Measures) (tree : Term) : Type 0 where
   pub size : measures.size ≡ min (term_size tree) (2 ^ 64 - 1)
   pub depth : measures.depth ≡ min (term_depth tree) (2 ^ 64 - 1)
   pub loose : measures.loose ≡ loose tree
+  pub mask : HasBits measures.mask tree
 
 -- the entry has the measures of the tree, and the number of its type if it has one
 pub record IsMeasured (types : List HolType) (entry : Entry) (tree : Term) : Type 0 where

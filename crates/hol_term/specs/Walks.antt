@@ -14,6 +14,7 @@ use Rattle.hol_term.specs.declared.walk.Task.TheVariants.{Visit, Apply, Abstract
 use Rattle.hol_term.specs.Tables.{Trees, term_at, terms_at, AreKnown, Holds, Keeps}
 use Rattle.hol_type.specs.Tables as type
 use Rattle.hol_term.specs.Noted.{IsNoted}
+use Rattle.hol_term.specs.Masks.{IsWithout}
 
 -- the free variable that is the one argument
 abbrev pub variable_of : List Term → Variable
@@ -38,9 +39,10 @@ CanClose args change = change ≡ Close → (v : Variable) × (args ≡ free v.0
 abbrev pub IsPlace : Trees → Place → Type 0
 IsPlace trees place = (place.id.0 < length trees.terms) × (place.depth + place.id.0 < 2 ^ 64)
 
--- the change leaves the place's tree alone: it lifts by nothing, or no number of the tree passes the binders
-abbrev pub IsLeftAlone : Trees → Place → Type 0
-IsLeftAlone trees place = (place.change ≡ Raise 0) ⊎ ((place.change ≡ Close → ⊥) × (loose (term_at trees place.id.0) ≤ place.depth))
+-- the change leaves the place's tree alone: it lifts by nothing, or no number of the tree passes the binders and no free variable of it has the name of the one that is closed over
+abbrev pub IsLeftAlone : List Term → Trees → Place → Type 0
+IsLeftAlone args trees place =
+    (place.change ≡ Raise 0) ⊎ ((place.change ≡ Close → IsWithout (variable_of args).0 (term_at trees place.id.0)) × (loose (term_at trees place.id.0) ≤ place.depth))
 
 -- what stands for the number n of a place, whatever the arguments
 abbrev pub IsReplaced : List TermId → Place → ℕ → Replacement → Type 0

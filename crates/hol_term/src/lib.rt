@@ -7,7 +7,8 @@
 //! `application`, `abstraction`, `instance`, `equation` and `substituted`, which judge nothing and refuse nothing. No
 //! binder captures: to put a term into what closed a variable is to substitute it. `subst` puts types and then terms, each
 //! list all at once. The free variables and the type variables of a term are listed in order of first occurrence, each
-//! once. Walks come once to each part, or where binders matter once to each part under the same binders.
+//! once. Walks come once to each part, or where binders matter once to each part under the same binders. What lifts, puts,
+//! closes or substitutes passes over a tree where a node's measures tell that nothing in it changes.
 //!
 //! ```
 //! let mut table = TermTable::new(alloc);
@@ -29,7 +30,9 @@ ghost use Rattle.hol_term.specs.Owned.{HasItsTypes, IsEarlier};
 ghost use Rattle.hol_term.specs.Refusals.{RefusesTerm};
 
 mod binding;
+mod entries;
 mod makers;
+mod masks;
 mod memo;
 mod names;
 mod node;
@@ -42,21 +45,21 @@ mod typing;
 mod variables;
 mod walk;
 
+use crate::entries::Entries;
 pub use crate::names::Names;
 use crate::node::{Entry, Measures, Node};
 use bridge_base::{Fault, Memory};
 use hol_name::Name;
 use hol_type::{TypeId, TypeTable};
-use indexmap::IndexSet;
 use std::alloc::Global;
 use std::marker::Model;
 
 /// The number of a term in its table. A number that no call of the table gave means nothing there.
-#[derive(Clone, Copy, Debug, PartialEq, Eq, Hash)]
+#[derive(Clone, Copy, Debug, PartialEq, Eq, PartialOrd, Ord, Hash)]
 pub struct TermId(pub usize);
 
 /// A free variable: its name and its type.
-#[derive(PartialEq, Eq, Hash, Drop)]
+#[derive(PartialEq, Eq, PartialOrd, Ord, Hash, Drop)]
 pub struct Variable {
     pub name: Name,
     pub ty: TypeId,
@@ -102,7 +105,7 @@ pub(crate) struct Mark {
 pub struct TermTable {
     alloc: Global,
     types: TypeTable,
-    entries: IndexSet<Entry>,
+    entries: Entries,
 }
 
 impl Model for TermTable {
@@ -114,9 +117,9 @@ impl Model for TermTable {
 
     ghost use Rattle.hol_term.specs.Nodes.{terms_of, IsTable};
 
-    ghost view = { λ t. record { types = t.types; terms = terms_of t.types t.entries.keys } };
+    ghost view = { λ t. record { types = t.types; terms = terms_of t.types t.entries } };
 
-    ghost invariant = { λ t. IsTable t.types t.entries.keys };
+    ghost invariant = { λ t. IsTable t.types t.entries };
 }
 
 impl TermTable {
@@ -127,7 +130,7 @@ impl TermTable {
         TermTable {
             alloc,
             types: TypeTable::new(alloc),
-            entries: IndexSet::new(alloc),
+            entries: Entries::new(alloc),
         }
     }
 
@@ -149,7 +152,7 @@ impl TermTable {
         ensures small { length self.now.terms < 2 ^ 63 }
     {
         let _count = self.entries.len();
-        self.entries.get_index(id.0).unwrap()
+        self.entries.get(id.0)
     }
 
     // What a tree is made of.
@@ -203,7 +206,7 @@ impl TermTable {
     {
         match self.entries.insert_full(entry) {
             Ok((index, _)) => Ok(TermId(index)),
-            Err(_) => Err(Memory),
+            Err(memory) => Err(memory),
         }
     }
 

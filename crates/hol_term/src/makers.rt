@@ -1,12 +1,12 @@
 //! The calls that make types and terms.
-ghost use Rattle.std.specs.Prelude.{◌≡◌, ◌<◌, ◌≤◌, [], ◌∷◌, None, Some, length, IfOk, IfErr, IfSome, OnErr, MatchOption};
+ghost use Rattle.std.specs.Prelude.{◌≡◌, ◌<◌, ◌≤◌, [], ◌∷◌, None, Some, length, IfOk, IfErr, IfSome, IsTrue, OnErr, MatchOption};
 ghost use Rattle.bridge_base.specs.declared.faults.Fault.TheVariants as the_fault;
 ghost use Rattle.hol_spec.specs.Limits.{TermWithin, TypeWithin};
 ghost use Rattle.hol_spec.specs.Substitution.{TypePairs, substitute};
 ghost use Rattle.hol_spec.specs.TermBinding.{close, put as put_term};
 ghost use Rattle.hol_spec.specs.Terms.{Term, IsTerm, HasType, free as free_tree, constant as constant_tree, app as app_tree, lam, equation as equation_tree};
 ghost use Rattle.hol_spec.specs.Primitives.{equality_name, equality_type};
-ghost use Rattle.hol_spec.specs.Types.{variable, operator, types_of};
+ghost use Rattle.hol_spec.specs.Types.{HolType, variable, operator, types_of};
 ghost use Rattle.hol_type.specs.Refusals.{RefusesType};
 ghost use Rattle.hol_type.specs.Tables as type;
 ghost use Rattle.hol_term.specs.Owned.{IsEarlier};
@@ -15,6 +15,7 @@ ghost use Rattle.hol_term.specs.Shapes.{equation_of};
 ghost use Rattle.hol_term.specs.Tables.{Trees, term_at, type_at, terms_at, AreKnown, Holds, IsBodyFor, IsDistinct, IsTermAt, Keeps};
 ghost use Rattle.hol_term.specs.Walks.{CanClose, changed};
 
+use crate::masks::bit_mask;
 use crate::memo::{Change, Place};
 use crate::node::Node;
 use crate::{Mark, TermId, TermTable, Variable};
@@ -242,9 +243,36 @@ impl TermTable {
         ensures made { IfOk result (λ r. Holds self.new r.0 (lam (type_at self.old var.now.ty.0) (close (var.now.name, type_at self.old var.now.ty.0) (term_at self.old id.0)))) }
         ensures keeps { Keeps self.old self.new }
     {
-        let variable = self.free_node(&var.name, var.ty)?;
-        let body = self.changed(&[variable], Change::Close, id)?;
+        let body = self.closed(var, id)?;
         self.add(Node::Lam(var.ty, body))
+    }
+
+    // The body of a new binder that binds a free variable of a tree. Where the measures tell that nothing changes, no
+    // variable is made.
+    fn closed(&mut self, var: &Variable, id: TermId) -> Result<TermId, Memory>
+        requires variable { var.now.ty.0 < length self.old.types }
+        requires body { id.0 < length self.old.terms }
+        ensures known { IfOk result (λ r. r.0 < length self.new.terms) }
+        ensures made { IfOk result (λ r. Holds self.new r.0 (close (var.now.name, type_at self.old var.now.ty.0) (term_at self.old id.0))) }
+        ensures keeps { Keeps self.old self.new }
+    {
+        if self.is_closed_as_it_is(&var.name, id) {
+            return Ok(id);
+        }
+        let variable = self.free_node(&var.name, var.ty)?;
+        self.changed(&[variable], Change::Close, id)
+    }
+
+    // Whether the measures tell that to close a tree over a variable of this name leaves it alone.
+    fn is_closed_as_it_is(&self, name: &Name, id: TermId) -> bool
+        requires { id.0 < length self.now.terms }
+        ensures { IsTrue result → (ty : HolType) → close (name.now, ty) (term_at self.now id.0) ≡ term_at self.now id.0 }
+    {
+        let measures = self.measures_of(id);
+        if measures.loose > 0 {
+            return false;
+        }
+        measures.mask & bit_mask(name) == 0
     }
 
     /// The body of a binder with `arg` put for its variable, whatever its size and depth.
@@ -319,6 +347,9 @@ impl TermTable {
             depth: 0,
             change,
         };
+        if self.is_left_alone(args, root) {
+            return Ok(id);
+        }
         self.remade(args, root)
     }
 

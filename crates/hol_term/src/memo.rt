@@ -6,12 +6,12 @@ ghost use Rattle.hol_term.specs.Noted.{IsNoted};
 
 use crate::TermId;
 use bridge_base::Memory;
-use indexmap::IndexMap;
 use std::alloc::Global;
+use std::collections::BTreeMap;
 use std::marker::Model;
 
 /// What is made of a tree.
-#[derive(Clone, Copy, PartialEq, Eq, Hash)]
+#[derive(Clone, Copy, PartialEq, Eq, PartialOrd, Ord)]
 pub(crate) enum Change {
     /// Its loose numbers rise by this number.
     Raise(u128),
@@ -22,7 +22,7 @@ pub(crate) enum Change {
 }
 
 /// A tree as a part under some binders of another, and what is made of it there.
-#[derive(Clone, Copy, PartialEq, Eq, Hash)]
+#[derive(Clone, Copy, PartialEq, Eq, PartialOrd, Ord)]
 pub(crate) struct Place {
     pub(crate) id: TermId,
     pub(crate) depth: u128,
@@ -32,7 +32,7 @@ pub(crate) struct Place {
 /// The trees that were made, by their places.
 #[derive(Drop)]
 pub(crate) struct Memo {
-    made: IndexMap<Place, TermId>,
+    made: BTreeMap<Place, TermId>,
 }
 
 impl Model for Memo {
@@ -50,7 +50,7 @@ impl Memo {
         ensures empty { (p : APlace) (r : AnId) → IsNoted result p r → ⊥ }
     {
         Memo {
-            made: IndexMap::new(alloc),
+            made: BTreeMap::new(alloc),
         }
     }
 

@@ -3,16 +3,17 @@ ghost use Rattle.std.specs.Prelude.{◌≡◌, [], ◌∷◌, IfOk, OnOk};
 ghost use Rattle.hol_spec.specs.Lists.{union};
 ghost use Rattle.hol_spec.specs.NameEquality.{name_eq};
 
+use crate::Variable;
 use bridge_base::Memory;
 use hol_name::Name;
-use indexmap::IndexSet;
-use std::alloc::Global;
+use std::alloc::{AllocError, Global};
 use std::marker::Model;
+use tree_map::TreeSet;
 
 /// Names without repeats. Contracts see the list of them.
 #[derive(Drop)]
 pub struct Names {
-    names: IndexSet<Name>,
+    names: TreeSet<Name>,
 }
 
 impl Model for Names {
@@ -21,7 +22,7 @@ impl Model for Names {
 
     ghost Value = { List AName };
 
-    ghost view = { λ n. n.names.keys };
+    ghost view = { λ n. n.names };
 }
 
 impl Names {
@@ -30,7 +31,7 @@ impl Names {
         ensures empty { result ≡ [] }
     {
         Names {
-            names: IndexSet::new(alloc),
+            names: TreeSet::new(alloc),
         }
     }
 
@@ -88,4 +89,16 @@ fn push_copies(names: &[Name], copy: &mut Vec<Name>) -> Result<(), Memory>
         copy.push(name.clone()?)?;
     }
     Ok(())
+}
+
+// A variable is copied with its name.
+impl Clone for Variable {
+    ghost is_clone = { λ variable copy. copy ≡ variable };
+
+    fn clone(&self) -> Result<Variable, AllocError> {
+        Ok(Variable {
+            name: self.name.clone()?,
+            ty: self.ty,
+        })
+    }
 }

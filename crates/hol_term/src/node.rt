@@ -1,5 +1,6 @@
 //! Nodes of a table of terms, and their measures.
 ghost use Rattle.std.specs.Prelude.{◌≡◌, ◌≤◌, ◌+◌, ◌-◌, ◌^◌, min, max, OnOk, IfErr};
+ghost use Rattle.std.specs.Int.Bits.{bit_or};
 ghost use Rattle.bridge_base.specs.declared.faults.Fault.TheVariants as the_fault;
 ghost use Rattle.hol_spec.specs.Limits.{greatest_size, greatest_depth};
 ghost use Rattle.hol_type.specs.Refusals.{Refuses};
@@ -11,7 +12,7 @@ use hol_spec::{GREATEST_DEPTH, GREATEST_SIZE};
 use hol_type::TypeId;
 
 /// The head of a tree, with the numbers of its parts.
-#[derive(PartialEq, Eq, Hash, Drop)]
+#[derive(PartialEq, Eq, PartialOrd, Ord, Drop)]
 pub(crate) enum Node {
     /// A free variable.
     Free(Name, TypeId),
@@ -25,19 +26,20 @@ pub(crate) enum Node {
     Lam(TypeId, TermId),
 }
 
-/// How large and how deep a tree is, and how many binders round it leave it no loose number. At the greatest number of
-/// its type, size or depth says no more than that.
+/// How large and how deep a tree is, how many binders round it leave it no loose number, and a mask with the bits of its
+/// free variables. At the greatest number of its type, size or depth says no more than that.
 #[derive(Clone, Copy)]
 pub(crate) struct Measures {
     pub(crate) size: u64,
     pub(crate) depth: u64,
     pub(crate) loose: u128,
+    pub(crate) mask: u64,
 }
 
 /// A node with the measures of its tree, and the number of its type if it is a term. Entries are equal where their
 /// nodes are.
 #[derive(Drop)]
-#[derive_where(PartialEq, Eq, Hash)]
+#[derive_where(PartialEq, Eq)]
 pub(crate) struct Entry {
     pub(crate) node: Node,
     #[derive_where(skip)]
@@ -64,15 +66,17 @@ impl Measures {
     }
 
     // The measures of a tree without parts, over a type of this size and depth.
-    pub(crate) fn leaf(size: u64, depth: u64, loose: u128) -> Measures
+    pub(crate) fn leaf(size: u64, depth: u64, loose: u128, mask: u64) -> Measures
         ensures size { result.size ≡ min (1 + size) (2 ^ 64 - 1) }
         ensures depth { result.depth ≡ min (1 + depth) (2 ^ 64 - 1) }
         ensures loose { result.loose ≡ loose }
+        ensures mask { result.mask ≡ mask }
     {
         Measures {
             size: size.saturating_add(1),
             depth: depth.saturating_add(1),
             loose,
+            mask,
         }
     }
 
@@ -81,11 +85,13 @@ impl Measures {
         ensures size { result.size ≡ min (1 + self.size + other.size) (2 ^ 64 - 1) }
         ensures depth { result.depth ≡ min (1 + max self.depth other.depth) (2 ^ 64 - 1) }
         ensures loose { result.loose ≡ max self.loose other.loose }
+        ensures mask { result.mask ≡ bit_or self.mask other.mask }
     {
         Measures {
             size: self.size.saturating_add(other.size).saturating_add(1),
             depth: self.depth.max(other.depth).saturating_add(1),
             loose: self.loose.max(other.loose),
+            mask: self.mask | other.mask,
         }
     }
 
@@ -94,6 +100,7 @@ impl Measures {
         ensures size { result.size ≡ self.size }
         ensures depth { result.depth ≡ self.depth }
         ensures loose { result.loose ≡ self.loose - 1 }
+        ensures mask { result.mask ≡ self.mask }
     {
         Measures {
             loose: self.loose.saturating_sub(1),

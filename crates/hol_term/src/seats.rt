@@ -11,12 +11,12 @@ use crate::TermId;
 use crate::scopes::{ScopeId, Scopes};
 use bridge_base::{Memory, Stack};
 use hol_type::TypeId;
-use indexmap::IndexMap;
 use std::alloc::Global;
+use std::collections::BTreeMap;
 use std::marker::Model;
 
 /// A tree as a part under binders.
-#[derive(Clone, Copy, PartialEq, Eq, Hash)]
+#[derive(Clone, Copy, PartialEq, Eq, PartialOrd, Ord)]
 pub(crate) struct Seat {
     pub(crate) id: TermId,
     pub(crate) scope: ScopeId,
@@ -25,7 +25,7 @@ pub(crate) struct Seat {
 /// The types that were found, by their seats: `None` where there is no type.
 #[derive(Drop)]
 pub(crate) struct Found {
-    types: IndexMap<Seat, Option<TypeId>>,
+    types: BTreeMap<Seat, Option<TypeId>>,
 }
 
 /// What is still to do to find a type.
@@ -64,7 +64,7 @@ impl Found {
         ensures empty { (s : ASeat) (ty : Option AnId) → IsNoted result s ty → ⊥ }
     {
         Found {
-            types: IndexMap::new(alloc),
+            types: BTreeMap::new(alloc),
         }
     }
 

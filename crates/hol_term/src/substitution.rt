@@ -7,12 +7,14 @@ ghost use Rattle.hol_spec.specs.TermSubstitution.{sub};
 ghost use Rattle.hol_type.specs.Tables as type;
 ghost use Rattle.hol_term.specs.declared.TermId.{TermId as AnId};
 ghost use Rattle.hol_term.specs.declared.substitution.Turn.TheVariants as the_turn;
+ghost use Rattle.hol_term.specs.Masks.{with_pairs};
 ghost use Rattle.hol_term.specs.Noted.{IsNoted};
 ghost use Rattle.hol_term.specs.Substituting.{IsSubstituting, steps};
 ghost use Rattle.hol_term.specs.Walks.{NotEmpty};
-ghost use Rattle.hol_term.specs.Substitutions.{term_pairs_at, AreTermPairs, ArePairsFitting, RefusesSubst, AreTermPairsKnown, AreKnownPairs, image_of, IsPutFor};
+ghost use Rattle.hol_term.specs.Substitutions.{term_pairs_at, AreTermPairs, ArePairsFitting, RefusesSubst, AreTermPairsKnown, AreKnownPairs, image_of, IsItsImage, IsPutFor};
 ghost use Rattle.hol_term.specs.Tables.{Trees, term_at, type_at, Holds, IsDistinct, IsTermAt, Keeps};
 
+use crate::masks::pairs_mask;
 use crate::node::Node;
 use crate::{TermId, TermTable, TermView, Variable};
 use bridge_base::{Fault, Kind, Memory, Stack};
@@ -194,12 +196,62 @@ impl TermTable {
         ensures made { IfOk result (λ r. Holds self.new r.0 (image_of self.old type_pairs.now term_pairs.now (term_at self.old id.0))) }
         ensures keeps { Keeps self.old self.new }
     {
+        let mask = pairs_mask(term_pairs);
+        if self.is_its_image(type_pairs, mask, id) {
+            return Ok(id);
+        }
+        self.substituted_by_parts(type_pairs, term_pairs, mask, id)
+    }
+
+    // What pairs, whose variables have this mask, make of a tree.
+    fn substituted_by_parts(
+        &mut self,
+        type_pairs: &[(Name, TypeId)],
+        term_pairs: &[(Variable, TermId)],
+        mask: u64,
+        id: TermId,
+    ) -> Result<TermId, Memory>
+        requires pairs { AreKnownPairs self.old type_pairs.now term_pairs.now }
+        requires mask { mask ≡ with_pairs 0 term_pairs.now }
+        requires id { id.0 < length self.old.terms }
+        ensures known { IfOk result (λ r. r.0 < length self.new.terms) }
+        ensures made { IfOk result (λ r. Holds self.new r.0 (image_of self.old type_pairs.now term_pairs.now (term_at self.old id.0))) }
+        ensures keeps { Keeps self.old self.new }
+    {
         let mut walk = Substituting::new(self.alloc);
         walk.tasks.push(Turn::Visit(id))?;
         while let Some(task) = walk.tasks.pop() {
-            self.substitution_turn(type_pairs, term_pairs, task, &mut walk)?;
+            self.substitution_turn(type_pairs, term_pairs, mask, task, &mut walk)?;
         }
         Ok(walk.take())
+    }
+
+    // Whether the masks tell that the pairs leave a tree alone. With types to put they do not.
+    fn is_its_image(&self, type_pairs: &[(Name, TypeId)], mask: u64, id: TermId) -> bool
+        requires { id.0 < length self.now.terms }
+        ensures { IsTrue result → IsItsImage self.now type_pairs.now mask id }
+    {
+        if !type_pairs.is_empty() {
+            return false;
+        }
+        self.measures_of(id).mask & mask == 0
+    }
+
+    // What is made of a tree, if the pairs leave it alone or it is made already.
+    fn image_found(
+        &self,
+        type_pairs: &[(Name, TypeId)],
+        mask: u64,
+        images: &Images,
+        id: TermId,
+    ) -> Option<TermId>
+        requires { id.0 < length self.now.terms }
+        ensures { IfSome result (λ r. ((r ≡ id) × IsItsImage self.now type_pairs.now mask id) ⊎ IsNoted images.now id r) }
+    {
+        if self.is_its_image(type_pairs, mask, id) {
+            return Some(id);
+        }
+        images.find(id)
     }
 
     // One turn of a substitution.
@@ -207,16 +259,18 @@ impl TermTable {
         &mut self,
         type_pairs: &[(Name, TypeId)],
         term_pairs: &[(Variable, TermId)],
+        mask: u64,
         task: Turn,
         walk: &mut Substituting,
     ) -> Result<(), Memory>
-        requires { (from : Trees) × (root : ATerm) × IsSubstituting from root self.old type_pairs.now term_pairs.now (task ∷ walk.old.tasks) walk.old.made walk.old.images }
+        requires mask { mask ≡ with_pairs 0 term_pairs.now }
+        requires walk { (from : Trees) × (root : ATerm) × IsSubstituting from root self.old type_pairs.now term_pairs.now (task ∷ walk.old.tasks) walk.old.made walk.old.images }
         ensures keeps { Keeps self.old self.new }
         ensures walk { OnOk result ((from : Trees) (root : ATerm) → IsSubstituting from root self.old type_pairs.now term_pairs.now (task ∷ walk.old.tasks) walk.old.made walk.old.images → IsSubstituting from root self.new type_pairs.now term_pairs.now walk.new.tasks walk.new.made walk.new.images) }
         ensures less { OnOk result ((from : Trees) (root : ATerm) → IsSubstituting from root self.old type_pairs.now term_pairs.now (task ∷ walk.old.tasks) walk.old.made walk.old.images → steps from walk.new.tasks < steps from (task ∷ walk.old.tasks)) }
     {
         match task {
-            Turn::Visit(id) => self.visit_image(type_pairs, term_pairs, id, walk),
+            Turn::Visit(id) => self.visit_image(type_pairs, term_pairs, mask, id, walk),
             Turn::Apply(id) => self.apply_images(type_pairs, term_pairs, id, walk),
             Turn::Abstract(id, ty) => self.abstract_image(type_pairs, term_pairs, id, ty, walk),
         }
@@ -227,15 +281,17 @@ impl TermTable {
         &mut self,
         type_pairs: &[(Name, TypeId)],
         term_pairs: &[(Variable, TermId)],
+        mask: u64,
         id: TermId,
         walk: &mut Substituting,
     ) -> Result<(), Memory>
-        requires { (from : Trees) × (root : ATerm) × IsSubstituting from root self.old type_pairs.now term_pairs.now (the_turn.Visit id ∷ walk.old.tasks) walk.old.made walk.old.images }
+        requires mask { mask ≡ with_pairs 0 term_pairs.now }
+        requires walk { (from : Trees) × (root : ATerm) × IsSubstituting from root self.old type_pairs.now term_pairs.now (the_turn.Visit id ∷ walk.old.tasks) walk.old.made walk.old.images }
         ensures keeps { Keeps self.old self.new }
         ensures walk { OnOk result ((from : Trees) (root : ATerm) → IsSubstituting from root self.old type_pairs.now term_pairs.now (the_turn.Visit id ∷ walk.old.tasks) walk.old.made walk.old.images → IsSubstituting from root self.new type_pairs.now term_pairs.now walk.new.tasks walk.new.made walk.new.images) }
         ensures less { OnOk result ((from : Trees) (root : ATerm) → IsSubstituting from root self.old type_pairs.now term_pairs.now (the_turn.Visit id ∷ walk.old.tasks) walk.old.made walk.old.images → steps from walk.new.tasks < steps from (the_turn.Visit id ∷ walk.old.tasks)) }
     {
-        match walk.images.find(id) {
+        match self.image_found(type_pairs, mask, &walk.images, id) {
             Some(made) => walk.made.push(made),
             None => self.visit_image_anew(type_pairs, term_pairs, id, walk),
         }

@@ -16,6 +16,7 @@ ghost use Rattle.hol_term.specs.Nodes.{tree_of_node, PartsBelow, AreMeasures};
 ghost use Rattle.hol_term.specs.Typing.{seat_type, AreTypings, IsSeat};
 ghost use Rattle.hol_term.specs.Inferring.{IsInferring, count};
 
+use crate::masks::bit_mask;
 use crate::node::{Entry, Measures, Node};
 use crate::scopes::NO_BINDERS;
 use crate::seats::{Found, Seat, Step, Typings};
@@ -42,8 +43,9 @@ impl TermTable {
         ensures { AreMeasures result (tree_of_node self.now node.now) }
     {
         match node {
-            Node::Free(_, ty) | Node::Const(_, ty) => self.leaf_measures(*ty),
-            Node::Bound(n) => Measures::leaf(0, 0, n + 1),
+            Node::Free(name, ty) => self.leaf_measures(*ty, bit_mask(name)),
+            Node::Bound(n) => Measures::leaf(0, 0, n + 1, 0),
+            Node::Const(_, ty) => self.leaf_measures(*ty, 0),
             Node::App(f, x) => self.measures_of(*f).joined(self.measures_of(*x)),
             Node::Lam(ty, body) => {
                 let body = self.measures_of(*body).under_binder();
@@ -238,14 +240,15 @@ impl TermTable {
         typings.keep(seat, made)
     }
 
-    // The measures of a free variable or a constant of this type.
-    fn leaf_measures(&self, ty: TypeId) -> Measures
+    // The measures of a free variable or a constant of this type, with this mask.
+    fn leaf_measures(&self, ty: TypeId, mask: u64) -> Measures
         requires { ty.0 < length self.now.types }
         ensures size { result.size ≡ min (1 + type_size (type_at self.now ty.0)) (2 ^ 64 - 1) }
         ensures depth { result.depth ≡ min (1 + type_depth (type_at self.now ty.0)) (2 ^ 64 - 1) }
         ensures loose { result.loose ≡ 0 }
+        ensures mask { result.mask ≡ mask }
     {
-        Measures::leaf(self.types.size(ty), self.types.depth(ty), 0)
+        Measures::leaf(self.types.size(ty), self.types.depth(ty), 0, mask)
     }
 
     // The measures of a type, as of a tree.
@@ -259,6 +262,7 @@ impl TermTable {
             size: self.types.size(ty),
             depth: self.types.depth(ty),
             loose: 0,
+            mask: 0,
         }
     }
 }

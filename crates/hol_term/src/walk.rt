@@ -7,9 +7,10 @@ ghost use Rattle.hol_term.specs.declared.walk.Task.TheVariants as the_task;
 ghost use Rattle.std.specs.Prelude.{◌≡◌, ◌⊎◌, ℕ, ◌<◌, ◌≤◌, ◌+◌, ◌-◌, ◌^◌, ◌↔◌, [], ◌∷◌, length, reverse, slice_get, Some, IfOk, IfSome, IfNone, OnOk, IsTrue};
 ghost use Rattle.hol_term.specs.declared.memo.Change.TheVariants as the_change;
 ghost use Rattle.hol_term.specs.declared.walk.Replacement.TheVariants as the_replacement;
+ghost use Rattle.hol_term.specs.Masks.{IsWithout};
 ghost use Rattle.hol_term.specs.Noted.{IsNoted};
 ghost use Rattle.hol_term.specs.Tables.{AreKnown, Holds, Keeps, Trees, term_at, terms_at};
-ghost use Rattle.hol_term.specs.Walks.{CanClose, IsLeftAlone, IsPlace, IsReplaced, IsWalk, NotEmpty, wanted, work};
+ghost use Rattle.hol_term.specs.Walks.{CanClose, IsLeftAlone, IsPlace, IsReplaced, IsWalk, NotEmpty, variable_of, wanted, work};
 ghost use Rattle.hol_term.specs.Parts.{IsLeaf};
 
 use crate::memo::{Change, Memo, Place};
@@ -144,7 +145,7 @@ impl TermTable {
         ensures walk { OnOk result ((from : Trees) (root : Term) → IsWalk from root self.old args.now (the_task.Visit place ∷ walk.old.tasks) walk.old.made walk.old.memo → IsWalk from root self.new args.now walk.new.tasks walk.new.made walk.new.memo) }
         ensures less { OnOk result ((from : Trees) (root : Term) → IsWalk from root self.old args.now (the_task.Visit place ∷ walk.old.tasks) walk.old.made walk.old.memo → work from args.now walk.new.tasks < work from args.now (the_task.Visit place ∷ walk.old.tasks)) }
     {
-        match self.already(&walk.memo, place) {
+        match self.already(args, &walk.memo, place) {
             Some(id) => walk.made.push(id),
             None => self.visit_anew(args, place, walk),
         }
@@ -243,17 +244,47 @@ impl TermTable {
     }
 
     // The tree of a place, if the change leaves it alone or it is made already.
-    fn already(&self, memo: &Memo, place: Place) -> Option<TermId>
-        requires { place.id.0 < length self.now.terms }
-        ensures { IfSome result (λ r. ((r ≡ place.id) × IsLeftAlone self.now place) ⊎ IsNoted memo.now place r) }
+    fn already(&self, args: &[TermId], memo: &Memo, place: Place) -> Option<TermId>
+        requires place { place.id.0 < length self.now.terms }
+        requires args { AreKnown self.now args.now }
+        requires closing { CanClose (terms_at self.now args.now) place.change }
+        ensures { IfSome result (λ r. ((r ≡ place.id) × IsLeftAlone (terms_at self.now args.now) self.now place) ⊎ IsNoted memo.now place r) }
     {
-        if place.change == Change::Raise(0) {
-            return Some(place.id);
-        }
-        if place.change != Change::Close && self.measures_of(place.id).loose <= place.depth {
+        if self.is_left_alone(args, place) {
             return Some(place.id);
         }
         memo.find(place)
+    }
+
+    // Whether the measures tell that the change leaves the place's tree alone.
+    pub(crate) fn is_left_alone(&self, args: &[TermId], place: Place) -> bool
+        requires place { place.id.0 < length self.now.terms }
+        requires args { AreKnown self.now args.now }
+        requires closing { CanClose (terms_at self.now args.now) place.change }
+        ensures { IsTrue result → IsLeftAlone (terms_at self.now args.now) self.now place }
+    {
+        if place.change == Change::Raise(0) {
+            return true;
+        }
+        if self.measures_of(place.id).loose > place.depth {
+            return false;
+        }
+        place.change != Change::Close || self.is_without(args, place)
+    }
+
+    // Whether the masks tell that the name of the variable that is closed over is not in the place's tree.
+    fn is_without(&self, args: &[TermId], place: Place) -> bool
+        requires place { place.id.0 < length self.now.terms }
+        requires args { AreKnown self.now args.now }
+        requires closing { CanClose (terms_at self.now args.now) place.change }
+        ensures { IsTrue result → place.change ≡ the_change.Close → IsWithout (variable_of (terms_at self.now args.now)).0 (term_at self.now place.id.0) }
+    {
+        match args {
+            [variable] => {
+                self.measures_of(place.id).mask & self.measures_of(*variable).mask == 0
+            }
+            _ => false,
+        }
     }
 }
 

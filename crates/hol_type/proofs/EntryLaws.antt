@@ -14,7 +14,6 @@ use Rattle.hol_type.specs.declared.table.TypeId.{TypeId}
 use Rattle.hol_type.specs.declared.node.Node.{Node}
 use Rattle.hol_type.specs.declared.node.Node.TheVariants as node
 use Rattle.hol_type.specs.declared.node.Entry.{Entry}
-use Rattle.hol_type.specs.contracts.node.EntryPartialEq.TheImpl as entry_eq
 use Rattle.hol_type.specs.contracts.node.NodePartialEq.TheImpl as node_eq
 use Rattle.hol_type.specs.contracts.table.TypeIdPartialEq.TheImpl as id_eq
 use Rattle.hol_type.specs.Tables.{types_at, Holds, IsDistinct, Stays}
@@ -87,12 +86,12 @@ ids_eq-true (x ∷ xs) (y ∷ ys) h = let p = and_parts (id_eq.eq-value.it x y) 
 ids_eq-true [] (y ∷ ys) h = absurd (cc)
 ids_eq-true (x ∷ xs) [] h = absurd (cc)
 
-ids_eq-refl : (xs : List TypeId) → pointwise id_eq.eq-value.it xs xs ≡ true
+pub ids_eq-refl : (xs : List TypeId) → pointwise id_eq.eq-value.it xs xs ≡ true
 ids_eq-refl [] = refl
 ids_eq-refl (x ∷ xs) = rw (id_eq-refl x) (ids_eq-refl xs)
 
 -- nodes that are equal by their test have one type
-node_eq-true : (ts : List HolType) (x y : Node) → node_eq.eq-value.it x y ≡ true → tree_of_node ts x ≡ tree_of_node ts y
+pub node_eq-true : (ts : List HolType) (x y : Node) → node_eq.eq-value.it x y ≡ true → tree_of_node ts x ≡ tree_of_node ts y
 node_eq-true ts (node.Var m) (node.Var n) h = ap variable ((name_eq-Decides m n).0 h)
 node_eq-true ts (node.Op m is) (node.Op n js) h =
     let p = and_parts (name_eq m n) (pointwise id_eq.eq-value.it is.items js.items) h in
@@ -100,10 +99,7 @@ node_eq-true ts (node.Op m is) (node.Op n js) h =
 node_eq-true ts (node.Var m) (node.Op n js) h = absurd (cc)
 node_eq-true ts (node.Op m is) (node.Var n) h = absurd (cc)
 
-pub entry_eq-true : (ts : List HolType) (x y : Entry) → entry_eq.eq-value.it x y ≡ true → tree_of_node ts x.node ≡ tree_of_node ts y.node
-entry_eq-true ts x y h = node_eq-true ts x.node y.node h
-
--- where no type has two numbers, nodes of one type are equal by their test
+-- the parts of a type's head
 name_of : HolType → Name
 name_of (variable n) = n
 name_of (operator n ts) = n
@@ -112,7 +108,8 @@ parts_of : HolType → HolTypes
 parts_of (variable n) = none
 parts_of (operator n ts) = ts
 
-node_same : {ts : List HolType} → IsDistinct ts → (m n : Node) → PartsBelow (length ts) m → PartsBelow (length ts) n → tree_of_node ts m ≡ tree_of_node ts n → node_eq.eq-value.it m n ≡ true
+-- where no type has two numbers, nodes of one type are equal by their test
+pub node_same : {ts : List HolType} → IsDistinct ts → (m n : Node) → PartsBelow (length ts) m → PartsBelow (length ts) n → tree_of_node ts m ≡ tree_of_node ts n → node_eq.eq-value.it m n ≡ true
 unfolding name_of parts_of
 node_same d (node.Var m) (node.Var n) a b e = (name_eq-Decides m n).1 (ap name_of e)
 node_same {ts = ts} d (node.Op m is) (node.Op n js) a b e =
@@ -121,9 +118,6 @@ node_same {ts = ts} d (node.Op m is) (node.Op n js) a b e =
     and_from (name_eq m n) (pointwise id_eq.eq-value.it is.items js.items) p (subst (λ l. pointwise id_eq.eq-value.it is.items l ≡ true) q (ids_eq-refl is.items))
 node_same d (node.Var m) (node.Op n js) a b e = absurd (cc)
 node_same d (node.Op m is) (node.Var n) a b e = absurd (cc)
-
-pub tree_of_node-same : {ts : List HolType} → IsDistinct ts → (x y : Entry) → PartsBelow (length ts) x.node → PartsBelow (length ts) y.node → tree_of_node ts x.node ≡ tree_of_node ts y.node → entry_eq.eq-value.it x y ≡ true
-tree_of_node-same d x y a b e = node_same d x.node y.node a b e
 
 pub id_eq-same : (x y : TypeId) → x ≡ y → id_eq.eq-value.it x y ≡ true
 id_eq-same x y e = subst (λ z. id_eq.eq-value.it x z ≡ true) e (id_eq-refl x)

@@ -1,4 +1,5 @@
 mod EntryLaws
+mod Numbering
 mod Inserted
 mod Cut
 mod NotedLaws

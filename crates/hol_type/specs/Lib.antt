@@ -4,5 +4,6 @@ pub mod Views
 pub mod Refusals
 pub mod Measured
 pub mod Entries
+pub mod Numbered
 pub mod Walks
 pub mod Matchings

@@ -12,6 +12,7 @@
 //! ```
 #![tactic(auto)]
 
+mod entries;
 mod marks;
 mod matching;
 mod node;

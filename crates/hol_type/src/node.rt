@@ -12,7 +12,7 @@ use hol_name::Name;
 use hol_spec::{GREATEST_DEPTH, GREATEST_SIZE};
 
 /// A type's head, with the numbers of its arguments.
-#[derive(PartialEq, Eq, Hash, Drop)]
+#[derive(PartialEq, Eq, PartialOrd, Ord, Drop)]
 pub(crate) enum Node {
     /// A variable.
     Var(Name),
@@ -27,12 +27,10 @@ pub(crate) struct Measures {
     pub(crate) depth: u64,
 }
 
-/// A node with the measures of its type. Entries are equal where their nodes are.
+/// A node with the measures of its type.
 #[derive(Drop)]
-#[derive_where(PartialEq, Eq, Hash)]
 pub(crate) struct Entry {
     pub(crate) node: Node,
-    #[derive_where(skip)]
     pub(crate) measures: Measures,
 }
 

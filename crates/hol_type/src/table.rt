@@ -14,17 +14,17 @@ ghost use Rattle.hol_type.specs.Measured.{IsMeasured};
 ghost use Rattle.hol_type.specs.Views.{tree_of_view, ViewBelow};
 
 use crate::TypeMap;
+use crate::entries::Entries;
 use crate::matching::matched;
 use crate::node::{Entry, Measures, Node};
 use crate::variables::variables;
 use bridge_base::{Fault, Memory};
 use hol_name::Name;
-use indexmap::IndexSet;
 use std::alloc::Global;
 use std::marker::Model;
 
 /// The number of a type in its table. A number that no call of the table gave means nothing there.
-#[derive(Clone, Copy, Debug, PartialEq, Eq, Hash)]
+#[derive(Clone, Copy, Debug, PartialEq, Eq, PartialOrd, Ord, Hash)]
 pub struct TypeId(pub usize);
 
 /// The head of a type, with the numbers of its parts.
@@ -40,7 +40,7 @@ pub enum TypeView<'a> {
 #[derive(Drop)]
 pub struct TypeTable {
     pub(crate) alloc: Global,
-    entries: IndexSet<Entry>,
+    entries: Entries,
 }
 
 impl Model for TypeTable {
@@ -56,9 +56,9 @@ impl Model for TypeTable {
 
     ghost use Rattle.hol_type.specs.Entries.{trees_of, IsTable};
 
-    ghost view = { λ t. trees_of t.entries.keys };
+    ghost view = { λ t. trees_of t.entries };
 
-    ghost invariant = { λ t. IsTable t.entries.keys };
+    ghost invariant = { λ t. IsTable t.entries };
 }
 
 impl TypeTable {
@@ -68,7 +68,7 @@ impl TypeTable {
     {
         TypeTable {
             alloc,
-            entries: IndexSet::new(alloc),
+            entries: Entries::new(alloc),
         }
     }
 
@@ -269,7 +269,7 @@ impl TypeTable {
     {
         match self.entries.insert_full(Entry { node, measures }) {
             Ok((index, _)) => Ok(TypeId(index)),
-            Err(_) => Err(Memory),
+            Err(memory) => Err(memory),
         }
     }
 
@@ -281,8 +281,7 @@ impl TypeTable {
         ensures measured { IsMeasured result.now.measures (tree_at self.now id.0) }
         ensures distinct { IsDistinct self.now }
     {
-        let _count = self.entries.len();
-        self.entries.get_index(id.0).unwrap()
+        self.entries.get(id.0)
     }
 
     // The measures of a type.

@@ -10,9 +10,9 @@ ghost use Rattle.sequent.specs.Params.{same_variable};
 
 use bridge_base::Memory;
 use hol_term::{Names, TermId, TermTable, Variable};
-use indexmap::IndexSet;
 use std::alloc::Global;
 use std::marker::Model;
+use tree_map::TreeSet;
 
 /// The parameters of a sequent, in order of first occurrence.
 #[derive(Drop)]
@@ -24,7 +24,7 @@ pub struct Params {
 /// Variables without repeats. Contracts see the list of them.
 #[derive(Drop)]
 pub struct Variables {
-    variables: IndexSet<Variable>,
+    variables: TreeSet<Variable>,
 }
 
 impl Model for Variables {
@@ -33,7 +33,7 @@ impl Model for Variables {
 
     ghost Value = { List AVariable };
 
-    ghost view = { λ v. v.variables.keys };
+    ghost view = { λ v. v.variables };
 }
 
 impl Params {
@@ -66,7 +66,7 @@ impl Variables {
         ensures empty { result ≡ [] }
     {
         Variables {
-            variables: IndexSet::new(alloc),
+            variables: TreeSet::new(alloc),
         }
     }
 

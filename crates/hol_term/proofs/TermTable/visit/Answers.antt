@@ -1,6 +1,12 @@
 use Rattle.std.proofs.Common.{refl, ◌∷◌}
-use Rattle.hol_term.proofs.WalkTurns.{OnOk-map, same_walk, walk_found, visit_less}
+use Rattle.hol_term.proofs.WalkTurns.{OnOk-map, same_walk, visit_arguments, visit_closing, walk_found, visit_less}
 use Rattle.hol_term.proofs.TermTable.visit.Goals as goal
+
+pub already-requires-clause-args : goal.already-requires-clause-args
+already-requires-clause-args c = visit_arguments _ _ _ _ _ _ _ _ c.requires.2
+
+pub already-requires-clause-closing : goal.already-requires-clause-closing
+already-requires-clause-closing c = visit_closing _ _ _ _ _ _ _ _ c.requires.2
 
 pub returns-in-Some-clause-walk : goal.returns-in-Some-clause-walk
 returns-in-Some-clause-walk c =

@@ -1,12 +1,12 @@
 use Rattle.std.proofs.Common.{ap, ◌∙◌, ◌++◌, ◌∷◌, []}
 use Rattle.std.specs.Map.{lookup}
-use Rattle.indexmap.specs.IndexMap.{insert_entry}
-use Rattle.indexmap.proofs.CallerLemmas.{insert_entry-new}
+use Rattle.tree_map.specs.Entries.{insert_entry}
 use Rattle.hol_spec.specs.NameEquality.{name_eq}
+use Rattle.hol_defs.proofs.Inserting.{insert_entry-absent}
 use Rattle.hol_defs.proofs.tables.Arities.add.Goals as goal
 
 pub returns-clause-added : goal.returns-clause-added
 returns-clause-added c =
-    c.in_ok-insert.ensures.entries ∙ ap (λ n. insert_entry name_eq c.self.inside.counts.entries n c.args.count) c.in_ok-own.ensures.cases
-    ∙ insert_entry-new name_eq c.self.inside.counts c.args.name.now c.args.count (ap (lookup (name_eq c.args.name.now)) c.self.view_is ∙ c.requires)
+    c.in_ok-insert.ensures.entries ∙ ap (λ n. insert_entry name_eq c.self.inside.counts n c.args.count) c.in_ok-own.ensures.cases
+    ∙ insert_entry-absent name_eq c.args.name.now c.args.count c.self.inside.counts (ap (lookup (name_eq c.args.name.now)) c.self.view_is ∙ c.requires)
     ∙ ap (λ l. l ++ (c.args.name.now, c.args.count) ∷ []) c.self.view_is

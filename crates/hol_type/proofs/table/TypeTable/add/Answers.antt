@@ -7,17 +7,17 @@ use Rattle.hol_type.proofs.table.TypeTable.add.Goals as goal
 use Rattle.hol_type.proofs.table.TypeTable.add.Goals.{in-Ok, in-Err}
 
 -- what the node's type takes, of the entries
-parts_below : (c : goal.Joined-insert_full-2) → PartsBelow (length (trees_of c.self.inside.entries.keys)) c.args.node
+parts_below : (c : goal.Joined-insert_full) → PartsBelow (length (trees_of c.self.inside.entries)) c.args.node
 parts_below c = rw c.self.view_is c.requires.parts
 
-measured : (c : goal.Joined-insert_full-2) → IsMeasured c.args.measures (tree_of_node (trees_of c.self.inside.entries.keys) c.args.node)
+measured : (c : goal.Joined-insert_full) → IsMeasured c.args.measures (tree_of_node (trees_of c.self.inside.entries) c.args.node)
 measured c = rw c.self.view_is c.requires.measured
 
 -- the new entries, whatever was answered
-after : (c : goal.Joined-insert_full-2) → Inserted c.self.inside.entries.keys c.insert_full.new.self.keys (record { node = c.args.node; measures = c.args.measures })
+after : (c : goal.Joined-insert_full) → Inserted c.self.inside.entries c.insert_full.new.self (record { node = c.args.node; measures = c.args.measures })
 after c = elim c.match-insert_full.branch [
-  | in-Ok w ↦ inserted _ _ _ c.self.invariant (parts_below c) (measured c) w.in-Ok.ensures.keys
-  | in-Err w ↦ unchanged _ _ _ c.self.invariant w.in-Err.ensures.err
+  | in-Ok w ↦ inserted _ _ _ _ _ c.self.invariant (parts_below c) (measured c) w.in-Ok.ensures.inserted
+  | in-Err w ↦ unchanged _ _ _ c.self.invariant w.in-Err.ensures.unchanged
 ]
 
 pub invariant_of-self : goal.invariant_of-self
@@ -25,7 +25,7 @@ invariant_of-self c = (after c).table
 
 pub returns-clause-made : goal.returns-clause-made
 returns-clause-made c = elim c.match-insert_full.branch [
-  | in-Ok w ↦ let s = w.in-Ok.ensures.stored in rw (w.result-is, ← c.self.view_is) (stored_tree _ _ _ s.0 w.in-Ok.index (after c) (parts_below c) s.1 s.2)
+  | in-Ok w ↦ rw (w.result-is, ← c.self.view_is) (stored_tree _ _ _ w.in-Ok.index _ (after c) (parts_below c) w.in-Ok.ensures.inserted)
   | in-Err w ↦ rw w.result-is tt
 ]
 
@@ -40,6 +40,6 @@ returns-clause-distinct c = (after c).table.distinct
 
 pub returns-clause-known : goal.returns-clause-known
 returns-clause-known c = elim c.match-insert_full.branch [
-  | in-Ok w ↦ let s = w.in-Ok.ensures.stored in rw w.result-is (Holds-within _ _ _ (stored_tree _ _ _ s.0 w.in-Ok.index (after c) (parts_below c) s.1 s.2))
+  | in-Ok w ↦ rw w.result-is (Holds-within _ _ _ (stored_tree _ _ _ w.in-Ok.index _ (after c) (parts_below c) w.in-Ok.ensures.inserted))
   | in-Err w ↦ rw w.result-is tt
 ]

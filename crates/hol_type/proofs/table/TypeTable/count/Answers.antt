@@ -3,4 +3,4 @@ use Rattle.hol_type.proofs.EntryLaws.{length-trees_of}
 use Rattle.hol_type.proofs.table.TypeTable.count.Goals as goal
 
 pub returns-clause-count : goal.returns-clause-count
-returns-clause-count c = rw (← c.self.view_is) (c.len.ensures.len ∙ sym (length-trees_of c.self.inside.entries.keys))
+returns-clause-count c = rw (← c.self.view_is) (c.len.ensures ∙ sym (length-trees_of c.self.inside.entries))
