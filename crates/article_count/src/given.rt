@@ -37,7 +37,7 @@ impl TermCount {
             Parameters::Nothing => Ok(()),
             Parameters::Term(id) => self.count_term(terms, *id),
             Parameters::Variable(variable) => self.count_free_variable(terms, variable),
-            Parameters::Subst(pairs) => self.count_substitution(terms, pairs),
+            Parameters::Subst(pairs) => self.count_substitution(terms, pairs.get()),
             Parameters::Sequent(sequent) => self.count_sequent(terms, sequent),
             Parameters::Const(name, id) => self.count_named(terms, name, *id),
             Parameters::List(pairs) => self.count_constants(terms, pairs),

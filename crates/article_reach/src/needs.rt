@@ -65,7 +65,10 @@ impl Walk {
             Parameters::Nothing | Parameters::TypeOp { .. } => Ok(()),
             Parameters::Term(term) => self.want_term(proof, *term),
             Parameters::Variable(variable) => self.want_variable(proof, variable),
-            Parameters::Subst(put) => self.want_put(proof, &put.types, &put.terms),
+            Parameters::Subst(put) => {
+                let put = put.get();
+                self.want_put(proof, &put.types, &put.terms)
+            }
             Parameters::Sequent(sequent) => self.want_sequent(proof, sequent),
             Parameters::Const(_, term) => self.want_term(proof, *term),
             Parameters::List(pairs) => self.want_constants(proof, pairs),

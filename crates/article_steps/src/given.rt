@@ -45,6 +45,7 @@ pub(crate) fn write_given<S: Sink>(
         Parameters::Term(id) => write_term(terms, number, *id, keys, room, sink),
         Parameters::Variable(variable) => write_variable(terms, variable, keys, room, sink),
         Parameters::Subst(put) => {
+            let put = put.get();
             write_substitution(terms, number, &put.types, &put.terms, keys, room, sink)
         }
         Parameters::Sequent(sequent) => { write_sequent(terms, number, sequent, keys, room, sink) }

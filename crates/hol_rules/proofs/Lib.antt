@@ -25,6 +25,7 @@ mod LawTrees
 mod TypeEnds
 mod TypeKept
 mod TypeConcluded
+mod SamePairs
 mod SubstitutionEnds
 mod ListConditions
 mod ListSymbols

@@ -1,9 +1,15 @@
 //! What a proof made, as numbers of its table.
+ghost use Rattle.std.specs.Prelude.{◌≡◌, IfOk};
+
+use bridge_base::Memory;
 use hol_name::Name;
 use hol_spec::{StepKind, Version};
 use hol_term::{TermId, Variable};
 use hol_type::TypeId;
 use sequent::Sequent;
+use std::alloc::{AllocError, Global};
+use std::marker::Model;
+use std::rc::Rc;
 
 /// The number of a step in its proof: steps are numbered from 0 in order of making.
 pub type StepId = usize;
@@ -17,6 +23,55 @@ pub struct Substitution {
     pub terms: Vec<(Variable, TermId)>,
 }
 
+/// What is put for variables, which steps that put the same share. Contracts see the substitution.
+#[derive(Drop)]
+pub struct Put {
+    shared: Rc<Substitution>,
+}
+
+impl Model for Put {
+    ghost use Rattle.hol_rules.specs.declared.made.Substitution.{Substitution as ASubstitution};
+
+    ghost Value = { ASubstitution };
+
+    ghost view = { λ put. put.shared.value };
+}
+
+impl Put {
+    /// What is put.
+    pub fn get(&self) -> &Substitution
+        ensures { result.now ≡ self.now }
+    {
+        self.shared.as_ref()
+    }
+
+    pub(crate) fn new(alloc: Global, put: Substitution) -> Result<Put, Memory>
+        ensures { IfOk result (λ shared. shared ≡ put) }
+    {
+        match Rc::new(alloc, put) {
+            Ok(shared) => Ok(Put { shared }),
+            Err(_) => Err(Memory),
+        }
+    }
+
+    // Nothing is put.
+    pub(crate) fn nothing(alloc: Global) -> Result<Put, Memory> {
+        let types = Vec::new(alloc);
+        let terms = Vec::new(alloc);
+        Put::new(alloc, Substitution { types, terms })
+    }
+
+    // The same substitution. It takes no memory, and fails only where it has as many copies as can be counted.
+    pub(crate) fn again(&self) -> Result<Put, Memory>
+        ensures { IfOk result (λ put. put ≡ self.now) }
+    {
+        match self.shared.clone() {
+            Ok(shared) => Ok(Put { shared }),
+            Err(AllocError) => Err(Memory),
+        }
+    }
+}
+
 /// What a rule was given beside its premises.
 #[derive(Drop)]
 pub enum Parameters {
@@ -27,7 +82,7 @@ pub enum Parameters {
     /// A free variable.
     Variable(Variable),
     /// What is put for variables.
-    Subst(Substitution),
+    Subst(Put),
     /// A sequent that was stated.
     Sequent(Sequent),
     /// A constant, and the term that it stands for.

@@ -1,5 +1,5 @@
 //! The rule of substitution.
-ghost use Rattle.std.specs.Prelude.{◌≡◌, ◌<◌, length, IfOk};
+ghost use Rattle.std.specs.Prelude.{◌≡◌, ◌<◌, length, IfOk, IsTrue};
 ghost use Rattle.hol_spec.specs.Proofs.{sequent_at};
 ghost use Rattle.hol_type.specs.Tables as type;
 ghost use Rattle.hol_term.specs.Substitutions.{term_pairs_at, AreKnownPairs, AreTermPairs};
@@ -12,7 +12,7 @@ ghost use Rattle.hol_rules.specs.Premises.{IsNumberOf, IsStated};
 ghost use Rattle.hol_rules.specs.Steps.{subst_step, substituted};
 
 use crate::functions::own_variable;
-use crate::made::{Parameters, StepId, Substitution};
+use crate::made::{Parameters, Put, StepId, Substitution};
 use crate::proof::Proof;
 use bridge_base::{Fault, Kind, Memory};
 use hol_name::Name;
@@ -54,16 +54,17 @@ impl Proof {
         self.conclude(StepKind::Subst, &[one], Parameters::Subst(given), sequent)
     }
 
-    // What is put, copied.
+    // What is put, copied, or shared with the step that put it last.
     fn given(
-        &self,
+        &mut self,
         type_pairs: &[(Name, TypeId)],
         term_pairs: &[(Variable, TermId)],
-    ) -> Result<Substitution, Memory>
+    ) -> Result<Put, Memory>
         ensures types { IfOk result (λ put. put.types.items ≡ type_pairs.now) }
         ensures terms { IfOk result (λ put. put.terms.items ≡ term_pairs.now) }
+        ensures unchanged { self.new ≡ self.old }
     {
-        own_substitution(self.alloc, type_pairs, term_pairs)
+        put_again(self.alloc, &mut self.put, type_pairs, term_pairs)
     }
 
     // What the pairs make of a step's sequent.
@@ -140,6 +141,35 @@ fn unlinked(alloc: Global, terms: &TermTable, whole: TermId, count: usize) -> Re
         rest = next;
     }
     Ok(Links { terms: links, rest })
+}
+
+// What is put: what was put last where it is the same, and else a copy, which is then the last.
+fn put_again(
+    alloc: Global,
+    last: &mut Put,
+    type_pairs: &[(Name, TypeId)],
+    term_pairs: &[(Variable, TermId)],
+) -> Result<Put, Memory>
+    ensures types { IfOk result (λ put. put.types.items ≡ type_pairs.now) }
+    ensures terms { IfOk result (λ put. put.terms.items ≡ term_pairs.now) }
+{
+    if puts(last.get(), type_pairs, term_pairs) {
+        return last.again();
+    }
+    *last = Put::new(alloc, own_substitution(alloc, type_pairs, term_pairs)?)?;
+    last.again()
+}
+
+// Whether these types and terms are what is put, in the same order.
+fn puts(
+    put: &Substitution,
+    type_pairs: &[(Name, TypeId)],
+    term_pairs: &[(Variable, TermId)],
+) -> bool
+    ensures types { IsTrue result → put.now.types.items ≡ type_pairs.now }
+    ensures terms { IsTrue result → put.now.terms.items ≡ term_pairs.now }
+{
+    put.types.as_slice() == type_pairs && put.terms.as_slice() == term_pairs
 }
 
 // What is put, copied.

@@ -267,7 +267,7 @@ fn subst_row(
     let Parameters::Subst(put) = proof.params(id) else {
         unreachable!()
     };
-    subst(target, proof, env, kept, id, put, one)
+    subst(target, proof, env, kept, id, put.get(), one)
 }
 
 // The row of a list of constants, by what the step was given.

@@ -21,8 +21,10 @@ returns-in-Variable g c = adds-same c.args.terms.now _ _ _ _ _ _ _ _ _ _ (λ d. 
 
 pub returns-in-Subst : goal.returns-in-Subst
 returns-in-Subst g c =
+    let types = rw c.get-put.ensures at c.deref.ensures.value in
+    let terms = rw c.get-put.ensures at c.deref-in-Subst.ensures.value in
     adds-same c.args.terms.now (substitution_writer c.args.number (type.pairs_at c.args.terms.now.types c.deref.result.now) (term_pairs_at c.args.terms.now c.deref-in-Subst.result.now)) _ _ _ _ _ _ _ _ _
-    (λ d. ap₂ (λ ts us. substitution_writer c.args.number (type.pairs_at c.args.terms.now.types ts) (term_pairs_at c.args.terms.now us) d) c.deref.ensures.value c.deref-in-Subst.ensures.value ∙ ap (λ x. write_given c.args.number (parameters_view c.args.terms.now x) d) (sym c.in-Subst.is)) c.write_substitution.ensures
+    (λ d. ap₂ (λ ts us. substitution_writer c.args.number (type.pairs_at c.args.terms.now.types ts) (term_pairs_at c.args.terms.now us) d) types terms ∙ ap (λ x. write_given c.args.number (parameters_view c.args.terms.now x) d) (sym c.in-Subst.is)) c.write_substitution.ensures
 
 pub returns-in-Sequent : goal.returns-in-Sequent
 returns-in-Sequent g c = adds-same c.args.terms.now _ _ _ _ _ _ _ _ _ _ (λ d. ap (λ x. write_given c.args.number (parameters_view c.args.terms.now x) d) (sym c.in-Sequent.is)) c.write_sequent.ensures
@@ -65,10 +67,10 @@ pub write_constant_pairs-requires-clause-known : goal.write_constant_pairs-requi
 write_constant_pairs-requires-clause-known g c = rw c.deref-in-List.ensures.value (subst (AreParametersKnown c.args.terms.now) c.in-List.is c.requires.known)
 
 pub write_substitution-requires-clause-closed : goal.write_substitution-requires-clause-closed
-write_substitution-requires-clause-closed g c = rw c.deref-in-Subst.ensures.value (subst (λ x. AreClosed (parameters_view c.args.terms.now x)) c.in-Subst.is c.requires.closed)
+write_substitution-requires-clause-closed g c = rw (c.deref-in-Subst.ensures.value, c.get-put.ensures) (subst (λ x. AreClosed (parameters_view c.args.terms.now x)) c.in-Subst.is c.requires.closed)
 
 pub write_substitution-requires-clause-types : goal.write_substitution-requires-clause-types
-write_substitution-requires-clause-types g c = let known = subst (AreParametersKnown c.args.terms.now) c.in-Subst.is c.requires.known in rw c.deref.ensures.value known.known_types
+write_substitution-requires-clause-types g c = let known = subst (AreParametersKnown c.args.terms.now) c.in-Subst.is c.requires.known in rw (c.deref.ensures.value, c.get-put.ensures) known.known_types
 
 pub write_substitution-requires-clause-terms : goal.write_substitution-requires-clause-terms
-write_substitution-requires-clause-terms g c = let known = subst (AreParametersKnown c.args.terms.now) c.in-Subst.is c.requires.known in rw c.deref-in-Subst.ensures.value known.known_terms
+write_substitution-requires-clause-terms g c = let known = subst (AreParametersKnown c.args.terms.now) c.in-Subst.is c.requires.known in rw (c.deref-in-Subst.ensures.value, c.get-put.ensures) known.known_terms

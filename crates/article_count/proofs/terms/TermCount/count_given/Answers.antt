@@ -14,7 +14,7 @@ pub returns-in-Variable : goal.returns-in-Variable
 returns-in-Variable c = rw c.in-Variable.is c.count_free_variable.ensures
 
 pub returns-in-Subst : goal.returns-in-Subst
-returns-in-Subst c = rw c.in-Subst.is c.count_substitution.ensures
+returns-in-Subst c = rw c.in-Subst.is (rw c.get.ensures at c.count_substitution.ensures)
 
 pub returns-in-Sequent : goal.returns-in-Sequent
 returns-in-Sequent c = rw c.in-Sequent.is c.count_sequent.ensures

@@ -12,8 +12,10 @@ returns-in-Subst c = on_ok_weaker c.want_put.result
     (λ walks.
     let trees = c.args.proof.now.trees in
     let put = c.in-Subst.put in
+    let types = rw c.get-put.ensures at c.deref.ensures.value in
+    let terms = rw c.get-put.ensures at c.deref-in-Subst.ensures.value in
     subst (λ fs. WalksOn c.args.proof.now fs c.args.self.now c.want_put.new.self)
-    (ap₂ (λ a b. types_put trees a ++ terms_put trees b) c.deref.ensures.value c.deref-in-Subst.ensures.value ∙ ap₂ (λ a b. a ++ b) (types-put trees put.types.items) (terms-put trees put.terms.items)
+    (ap₂ (λ a b. types_put trees a ++ terms_put trees b) types terms ∙ ap₂ (λ a b. a ++ b) (types-put trees put.types.items) (terms-put trees put.terms.items)
     ∙ ap (λ g. given_found (parameters_view trees g)) (sym c.in-Subst.is)) walks)
     c.want_put.ensures
 

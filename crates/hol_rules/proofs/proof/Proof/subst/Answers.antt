@@ -18,14 +18,18 @@ image-requires-clause-pairs c = record { known_types = c.requires.type_pairs; kn
 pub conclude-requires-clause-parameters : goal.conclude-requires-clause-parameters
 conclude-requires-clause-parameters c =
     let pairs : AreKnownPairs c.args.self.now.trees c.args.type_pairs.now c.args.term_pairs.now = record { known_types = c.requires.type_pairs; known_terms = AreTermPairs-known c.args.self.now.trees c.args.term_pairs.now c.requires.term_pairs } in
+    rw c.given.ensures.unchanged (
     given_known c.args.self.now c.args.type_pairs.now c.args.term_pairs.now c.args.one pairs c.image.new.self c.image.ensures.grows c.in_ok-given.given c.in_ok-given.ensures.types c.in_ok-given.ensures.terms
+    )
 
 pub conclude-requires-clause-follows : goal.conclude-requires-clause-follows
 conclude-requires-clause-follows c =
     let pairs : AreKnownPairs c.args.self.now.trees c.args.type_pairs.now c.args.term_pairs.now = record { known_types = c.requires.type_pairs; known_terms = AreTermPairs-known c.args.self.now.trees c.args.term_pairs.now c.requires.term_pairs } in
     let d = rw c.terms.ensures at c.fits.ensures in
+    rw c.given.ensures.unchanged (
     (subst-ends c.args.self.now c.args.type_pairs.now c.args.term_pairs.now c.args.one pairs c.image.new.self c.image.ensures.grows c.in_ok-given.given c.in_ok-given.ensures.types c.in_ok-given.ensures.terms
     c.fits.result d c.if-not-fits.false c.requires.one c.in_ok-sequent.sequent c.in_ok-sequent.ensures.made).follows
+    )
 
 pub returns : goal.returns
 returns c =
@@ -33,13 +37,13 @@ returns c =
     let d = rw c.terms.ensures at c.fits.ensures in
     ended (subst-ends c.args.self.now c.args.type_pairs.now c.args.term_pairs.now c.args.one pairs c.image.new.self c.image.ensures.grows c.in_ok-given.given c.in_ok-given.ensures.types c.in_ok-given.ensures.terms
     c.fits.result d c.if-not-fits.false c.requires.one c.in_ok-sequent.sequent c.in_ok-sequent.ensures.made)
-    c.conclude.new.self c.conclude.result c.conclude.ensures
+    c.conclude.new.self c.conclude.result (rw c.given.ensures.unchanged at c.conclude.ensures)
 
 pub returns-in_err-sequent : goal.returns-in_err-sequent
 returns-in_err-sequent c = stopped c.image.ensures.grows _ c.from_residual.result c.from_residual.ensures.1
 
 pub conclude-requires-clause-sequent : goal.conclude-requires-clause-sequent
-conclude-requires-clause-sequent c = c.in_ok-sequent.ensures.made.known
+conclude-requires-clause-sequent c = rw c.given.ensures.unchanged c.in_ok-sequent.ensures.made.known
 
 pub returns-in_err-given : goal.returns-in_err-given
-returns-in_err-given c = stopped c.image.ensures.grows _ c.from_residual-in_err-given.result c.from_residual-in_err-given.ensures.1
+returns-in_err-given c = rw c.given.ensures.unchanged (stopped c.image.ensures.grows _ c.from_residual-in_err-given.result c.from_residual-in_err-given.ensures.1)
