@@ -6,14 +6,14 @@ ghost use Rattle.hol_spec.specs.NameEquality.{name_eq};
 
 use bridge_base::Memory;
 use hol_name::Name;
-use indexmap::IndexSet;
 use std::alloc::Global;
+use std::collections::BTreeSet;
 use std::marker::Model;
 
 /// Names, each once. Contracts see the list of them.
 #[derive(Drop)]
 pub(crate) struct NameSet {
-    names: IndexSet<Name>,
+    names: BTreeSet<Name>,
 }
 
 impl Model for NameSet {
@@ -31,7 +31,7 @@ impl NameSet {
         ensures empty { result ≡ [] }
     {
         NameSet {
-            names: IndexSet::new(alloc),
+            names: BTreeSet::new(alloc),
         }
     }
 
@@ -49,7 +49,7 @@ impl NameSet {
         if self.has(name) {
             return Ok(());
         }
-        self.names.insert_full(name.clone()?)?;
+        self.names.insert(name.clone()?)?;
         Ok(())
     }
 }

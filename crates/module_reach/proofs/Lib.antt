@@ -3,6 +3,7 @@ pub mod Fronts
 pub mod Given
 pub mod Listed
 pub mod Looked
+pub mod Ordered
 pub mod Parts
 pub mod Stacked
 pub mod Taken

@@ -5,14 +5,14 @@ ghost use Rattle.module_reach.specs.Indexes.{found};
 
 use bridge_base::Memory;
 use hol_name::Name;
-use indexmap::IndexMap;
 use std::alloc::Global;
+use std::collections::BTreeMap;
 
 /// The items of constants, by name, and those of operators, by name and number of arguments.
 #[derive(Drop)]
 pub(crate) struct Index {
-    constants: IndexMap<Name, usize>,
-    operators: IndexMap<(Name, usize), usize>,
+    constants: BTreeMap<Name, usize>,
+    operators: BTreeMap<(Name, usize), usize>,
 }
 
 impl Index {
@@ -20,8 +20,8 @@ impl Index {
         ensures empty { (q : Key) → found result q ≡ None }
     {
         Index {
-            constants: IndexMap::new(alloc),
-            operators: IndexMap::new(alloc),
+            constants: BTreeMap::new(alloc),
+            operators: BTreeMap::new(alloc),
         }
     }
 

@@ -3,7 +3,7 @@ use Rattle.std.proofs.Common.{◌≡◌, Bool, true, false, cond, refl, sym, ap,
 use Rattle.std.specs.Bool.{Decides}
 use Rattle.std.specs.List.{AllByRecursion}
 use Rattle.std.specs.Map.{lookup}
-use Rattle.indexmap.specs.IndexMap.{insert_entry}
+use Rattle.tree_map.specs.Entries.{insert_entry}
 
 module _ {K V X Y : Type 0} (same : K → K → Bool) (eq : X → X → Bool) (decides : (x y : X) → Decides (eq x y) (x ≡ y)) (seen : K → X) (made : V → Y) where
   -- each key by what it stands for, with what its value stands for

@@ -6,7 +6,7 @@ use Rattle.std.specs.Map.{lookup}
 use Rattle.std.specs.Option.{unwrap_or}
 use Rattle.std.specs.Prelude.{nat_eq}
 use Rattle.std.proofs.Math.Path.{ap₂}
-use Rattle.indexmap.specs.IndexMap.{insert_entry}
+use Rattle.tree_map.specs.Entries.{insert_entry}
 use Rattle.hol_spec.specs.Names.{Name}
 use Rattle.hol_spec.specs.NameEquality.{name_eq}
 use Rattle.hol_laws.specs.NameEqualityLaws.{name_eq-Decides}

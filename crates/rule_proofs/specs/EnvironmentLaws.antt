@@ -47,7 +47,7 @@ Stands-Grows {m = m} {n = n} g given terms env h = record {
   one_term = h.one_term;
   same_types = h.same_types;
   same_terms = h.same_terms;
-  types = TellTypes-Keeps g.table env.types.entries given.scope.types h.types;
-  terms_told = TellTerms-Keeps g.table terms.types env.terms.entries (filled_terms given.symbols given.scope.types) given.scope.terms h.terms_told;
-  proofs = TellProofs-Keeps g.table terms env.proofs.entries unproved given.scope.proofs h.proofs;
+  types = TellTypes-Keeps g.table env.types given.scope.types h.types;
+  terms_told = TellTerms-Keeps g.table terms.types env.terms (filled_terms given.symbols given.scope.types) given.scope.terms h.terms_told;
+  proofs = TellProofs-Keeps g.table terms env.proofs unproved given.scope.proofs h.proofs;
 }

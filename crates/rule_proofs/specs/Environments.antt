@@ -65,11 +65,11 @@ pub record Stands (given : Given) (m : Module) (terms : Trees) (env : Environmen
   pub declared : declarations_of m ≡ given.declarations
   pub one_type : type.IsDistinct terms.types
   pub one_term : IsDistinct terms.terms
-  pub same_types : env.scope.types ≡ env.types.entries
-  pub same_terms : env.scope.terms ≡ env.terms.entries
-  pub types : TellTypes m.table env.types.entries given.scope.types
-  pub terms_told : TellTerms terms.types m.table env.terms.entries (filled_terms given.symbols given.scope.types) given.scope.terms
-  pub proofs : TellProofs terms m.table env.proofs.entries unproved given.scope.proofs
+  pub same_types : env.scope.types ≡ env.types
+  pub same_terms : env.scope.terms ≡ env.terms
+  pub types : TellTypes m.table env.types given.scope.types
+  pub terms_told : TellTerms terms.types m.table env.terms (filled_terms given.symbols given.scope.types) given.scope.terms
+  pub proofs : TellProofs terms m.table env.proofs unproved given.scope.proofs
 
 -- and some arguments are made, which are these trees
 pub record Ready (given : Given) (m : Module) (terms : Trees) (env : Environment) (args : List LpId) (made : List Tree) : Type 0 where

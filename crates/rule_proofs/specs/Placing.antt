@@ -20,14 +20,14 @@ pub record TypesAlone (old new : Environment) : Type 0 where
   pub terms : new.terms ≡ old.terms
   pub proofs : new.proofs ≡ old.proofs
   pub scope_terms : new.scope.terms ≡ old.scope.terms
-  pub same : old.scope.types ≡ old.types.entries → new.scope.types ≡ new.types.entries
+  pub same : old.scope.types ≡ old.types → new.scope.types ≡ new.types
 
 -- at most what stands for free variables differs
 pub record TermsAlone (old new : Environment) : Type 0 where
   pub types : new.types ≡ old.types
   pub proofs : new.proofs ≡ old.proofs
   pub scope_types : new.scope.types ≡ old.scope.types
-  pub same : old.scope.terms ≡ old.terms.entries → new.scope.terms ≡ new.terms.entries
+  pub same : old.scope.terms ≡ old.terms → new.scope.terms ≡ new.terms
 
 -- at most what proves hypotheses differs
 pub record ProofsAlone (old new : Environment) : Type 0 where

@@ -75,7 +75,7 @@ impl Environment {
 
     // What stands for a type variable: `bool` where nothing is told.
     fn type_variable(&self, target: &mut Module, name: &Name) -> Result<LpId, Memory>
-        ensures made { IfOk result (λ r. (scope : TypeScope) → TellTypes target.old.table self.now.types.entries scope → Holds target.new.table r.0 (scope name.now)) }
+        ensures made { IfOk result (λ r. (scope : TypeScope) → TellTypes target.old.table self.now.types scope → Holds target.new.table r.0 (scope name.now)) }
         ensures grows { Grows target.old target.new }
     {
         match self.find_type(name) {

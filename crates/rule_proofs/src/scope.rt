@@ -7,7 +7,7 @@ ghost use Rattle.hol_type.specs.Tables as type;
 ghost use Rattle.hol_term.specs.Subterms.{HaveTypes, variables_of};
 ghost use Rattle.hol_term.specs.Tables.{Trees, term_at, terms_at, AreKnown, IsDistinct};
 ghost use Rattle.hol_rules.specs.Views.{variable_view};
-ghost use Rattle.indexmap.specs.IndexMap.{insert_entry};
+ghost use Rattle.tree_map.specs.Entries.{insert_entry};
 ghost use Rattle.lp_spec.specs.Trees.{Tree, Var};
 ghost use Rattle.module_spec.specs.Scopes.{TypeScope, set_proof, set_term};
 ghost use Rattle.sequent.specs.Params.{same_variable};
@@ -22,11 +22,11 @@ use bridge_base::Memory;
 use hol_name::Name;
 use hol_term::{TermId, Variable};
 use holide_sig::Module;
-use indexmap::IndexMap;
 use lp_term::{LpId, LpNode};
 use sequent::Params;
 use std::alloc::Global;
 use translate_term::Scope;
+use tree_map::TreeMap;
 
 /// The trees that stand for type variables, free variables and hypotheses. The scope of translations has those for variables once
 /// more, since it isn't read by name.
@@ -34,9 +34,9 @@ use translate_term::Scope;
 pub struct Environment {
     pub(crate) alloc: Global,
     pub(crate) scope: Scope,
-    pub(crate) types: IndexMap<Name, LpId>,
-    pub(crate) terms: IndexMap<Variable, LpId>,
-    pub(crate) proofs: IndexMap<TermId, LpId>,
+    pub(crate) types: TreeMap<Name, LpId>,
+    pub(crate) terms: TreeMap<Variable, LpId>,
+    pub(crate) proofs: TreeMap<TermId, LpId>,
 }
 
 impl Environment {
@@ -82,9 +82,9 @@ impl Environment {
         inside: u128,
     ) -> Result<(), Memory>
         requires inside { inside < 2 ^ 64 }
-        requires types { self.old.types.entries ≡ [] }
-        requires terms { self.old.terms.entries ≡ [] }
-        requires proofs { self.old.proofs.entries ≡ [] }
+        requires types { self.old.types ≡ [] }
+        requires terms { self.old.terms ≡ [] }
+        requires proofs { self.old.proofs ≡ [] }
         requires scope_types { self.old.scope.types ≡ [] }
         requires scope_terms { self.old.scope.terms ≡ [] }
         ensures made { OnOk result ((given : Given) (trees : Trees) → IsPlaced given target.old trees params.now.type_vars params.now.free_vars hyps.now inside → Stands given target.new trees self.new) }
@@ -155,18 +155,18 @@ impl Environment {
 
     // The environment in which nothing is told.
     fn new(alloc: Global) -> Environment
-        ensures types { result.types.entries ≡ [] }
-        ensures terms { result.terms.entries ≡ [] }
-        ensures proofs { result.proofs.entries ≡ [] }
+        ensures types { result.types ≡ [] }
+        ensures terms { result.terms ≡ [] }
+        ensures proofs { result.proofs ≡ [] }
         ensures scope_types { result.scope.types ≡ [] }
         ensures scope_terms { result.scope.terms ≡ [] }
     {
         Environment {
             alloc,
             scope: Scope::new(alloc),
-            types: IndexMap::new(alloc),
-            terms: IndexMap::new(alloc),
-            proofs: IndexMap::new(alloc),
+            types: TreeMap::new(alloc),
+            terms: TreeMap::new(alloc),
+            proofs: TreeMap::new(alloc),
         }
     }
 
@@ -177,7 +177,7 @@ impl Environment {
         names: &[Name],
         depth: u128,
     ) -> Result<(), Memory>
-        ensures types { OnOk result ((scope : TypeScope) → TellTypes target.old.table self.old.types.entries scope → TellTypes target.new.table self.new.types.entries (placed name_eq depth names.now scope)) }
+        ensures types { OnOk result ((scope : TypeScope) → TellTypes target.old.table self.old.types scope → TellTypes target.new.table self.new.types (placed name_eq depth names.now scope)) }
         ensures alone { OnOk result (TypesAlone self.old self.new) }
         ensures grows { Grows target.old target.new }
     {
@@ -197,7 +197,7 @@ impl Environment {
         variables: &[Variable],
         depth: u128,
     ) -> Result<(), Memory>
-        ensures terms { OnOk result ((trees : Trees) (other scope : ATerm → Tree) → type.IsDistinct trees.types → HaveTypes trees variables.now → TellTerms trees.types target.old.table self.old.terms.entries other scope → TellTerms trees.types target.new.table self.new.terms.entries other (placed variable_eq depth (variables_of trees variables.now) scope)) }
+        ensures terms { OnOk result ((trees : Trees) (other scope : ATerm → Tree) → type.IsDistinct trees.types → HaveTypes trees variables.now → TellTerms trees.types target.old.table self.old.terms other scope → TellTerms trees.types target.new.table self.new.terms other (placed variable_eq depth (variables_of trees variables.now) scope)) }
         ensures alone { OnOk result (TermsAlone self.old self.new) }
         ensures grows { Grows target.old target.new }
     {
@@ -217,7 +217,7 @@ impl Environment {
         hyps: &[TermId],
         depth: u128,
     ) -> Result<(), Memory>
-        ensures proofs { OnOk result ((trees : Trees) (other scope : Term → Tree) → IsDistinct trees.terms → AreKnown trees hyps.now → TellProofs trees target.old.table self.old.proofs.entries other scope → TellProofs trees target.new.table self.new.proofs.entries other (placed term_eq depth (terms_at trees hyps.now) scope)) }
+        ensures proofs { OnOk result ((trees : Trees) (other scope : Term → Tree) → IsDistinct trees.terms → AreKnown trees hyps.now → TellProofs trees target.old.table self.old.proofs other scope → TellProofs trees target.new.table self.new.proofs other (placed term_eq depth (terms_at trees hyps.now) scope)) }
         ensures alone { OnOk result (ProofsAlone self.old self.new) }
         ensures grows { Grows target.old target.new }
     {
@@ -232,28 +232,28 @@ impl Environment {
 
     // What is told of a type variable.
     pub(crate) fn find_type(&self, name: &Name) -> Option<LpId>
-        ensures { result ≡ lookup (name_eq name.now) self.now.types.entries }
+        ensures { result ≡ lookup (name_eq name.now) self.now.types }
     {
-        self.types.get(name).copied()
+        self.types.get(name)
     }
 
     // What is told of a free variable.
     pub(crate) fn find_term(&self, variable: &Variable) -> Option<LpId>
-        ensures { result ≡ lookup (same_variable variable.now) self.now.terms.entries }
+        ensures { result ≡ lookup (same_variable variable.now) self.now.terms }
     {
-        self.terms.get(variable).copied()
+        self.terms.get(variable)
     }
 
     // What is told of a hypothesis.
     pub(crate) fn find_proof(&self, id: TermId) -> Option<LpId>
-        ensures { result ≡ lookup (same_id id) self.now.proofs.entries }
+        ensures { result ≡ lookup (same_id id) self.now.proofs }
     {
-        self.proofs.get(&id).copied()
+        self.proofs.get(&id)
     }
 
     // Lets a tree stand for a type variable.
     fn set_type(&mut self, name: &Name, tree: LpId) -> Result<(), Memory>
-        ensures types { OnOk result (self.new.types.entries ≡ insert_entry name_eq self.old.types.entries name.now tree) }
+        ensures types { OnOk result (self.new.types ≡ insert_entry name_eq self.old.types name.now tree) }
         ensures alone { OnOk result (TypesAlone self.old self.new) }
     {
         self.scope.types.set(name.clone()?, tree)?;
@@ -263,7 +263,7 @@ impl Environment {
 
     // Lets a tree stand for a free variable.
     pub(crate) fn set_term(&mut self, variable: &Variable, tree: LpId) -> Result<(), Memory>
-        ensures terms { OnOk result (self.new.terms.entries ≡ insert_entry same_variable self.old.terms.entries variable.now tree) }
+        ensures terms { OnOk result (self.new.terms ≡ insert_entry same_variable self.old.terms variable.now tree) }
         ensures alone { OnOk result (TermsAlone self.old self.new) }
     {
         self.scope.terms.set(copied(variable)?, tree)?;
@@ -273,7 +273,7 @@ impl Environment {
 
     // Lets a tree prove a hypothesis.
     pub(crate) fn set_proof(&mut self, id: TermId, tree: LpId) -> Result<(), Memory>
-        ensures proofs { OnOk result (self.new.proofs.entries ≡ insert_entry same_id self.old.proofs.entries id tree) }
+        ensures proofs { OnOk result (self.new.proofs ≡ insert_entry same_id self.old.proofs id tree) }
         ensures alone { OnOk result (ProofsAlone self.old self.new) }
     {
         self.proofs.insert(id, tree)?;

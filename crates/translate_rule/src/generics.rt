@@ -1,7 +1,7 @@
 //! What stands under the binders of a generic type's variables.
 ghost use Rattle.std.specs.Prelude.{◌≡◌, ◌<◌, [], length, replicate, IfOk, OnOk};
 ghost use Rattle.hol_spec.specs.NameEquality.{name_eq};
-ghost use Rattle.indexmap.specs.IndexMap.{insert_entry};
+ghost use Rattle.tree_map.specs.Entries.{insert_entry};
 ghost use Rattle.lp_spec.specs.Modules.{abstractions, products, term_of as terms_of, types as simple_types};
 ghost use Rattle.lp_spec.specs.Trees.{Pi, Var};
 ghost use Rattle.lp_term.specs.Tables.{tree_at, Holds, Keeps};

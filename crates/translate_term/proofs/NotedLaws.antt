@@ -1,13 +1,17 @@
--- What was noted in a memo, after another note: for any keys with an exact test.
+-- What was noted in a memo, after another note: for any keys with an exact test, or an exact order.
 use Rattle.std.proofs.Common.{◌≡◌, ℕ, zero, suc, refl, sym, ap, ◌∙◌, List, [], ◌∷◌, Option, Some, None, Bool, true, false, inl, inr, ◌⊎◌, ⊎_elim}
 use Rattle.std.specs.Prelude.{slice_get, if◌then◌else◌, IfSome, IfNone}
 use Rattle.std.specs.Map.{lookup}
+use Rattle.std.specs.BTreeMap.{insert_entry as put_entry}
+use Rattle.std.specs.Ordering.{match_ordering}
+use Rattle.std.specs.declared.cmp.Ordering.{Ordering}
+use Rattle.std.specs.declared.cmp.Ordering.TheVariants.{Less, Equal, Greater}
 use Rattle.indexmap.specs.IndexMap.{insert_entry}
 use Rattle.translate_term.specs.Tasks.{IsNoted}
 use Rattle.std.proofs.Math.Path.{ap₂}
 use Rattle.std.proofs.lemmas.Option.{same_Some}
 
-module _ {K V : Type 0} (eq : K → K → Bool) (exact : (a b : K) → eq a b ≡ true → a ≡ b) (own : (a : K) → eq a a ≡ true) where
+module _ {K V : Type 0} where
   key_of : Option (K × V) → K → K
   key_of None p = p
   key_of (Some e) p = e.0
@@ -31,6 +35,8 @@ module _ {K V : Type 0} (eq : K → K → Bool) (exact : (a b : K) → eq a b �
   IsNoted-behind : (e : K × V) (es : List (K × V)) (p : K) (r : V) → IsNoted es p r → IsNoted (e ∷ es) p r
   IsNoted-behind e es p r h = (suc h.0, h.1)
 
+-- keys with an exact test
+module _ {K V : Type 0} (eq : K → K → Bool) (exact : (a b : K) → eq a b ≡ true → a ≡ b) (own : (a : K) → eq a a ≡ true) where
   found : (p : K) (es : List (K × V)) (r : V) → lookup (eq p) es ≡ Some r → IsNoted es p r
   found p [] r h = absurd (cc)
   found p (e ∷ es) r h = go (λ w. found p es r w) (eq p e.0) refl
@@ -88,3 +94,39 @@ module _ {K V : Type 0} (eq : K → K → Bool) (exact : (a b : K) → eq a b �
         go on true q (inr a) = inr (IsNoted-behind (e.0, v) es p r a)
         go on false q (inl a) = inr (0, ap Some (ap₂ (λ x y. (x, y)) a.0 a.1))
         go on false q (inr a) = ⊎_elim (λ b. inl b) (λ b. inr (IsNoted-behind e (insert_entry eq es k v) p r b)) (on a)
+
+-- keys with an exact order
+module _ {K V : Type 0} (cmp : K → K → Ordering) (exact : (a b : K) → cmp a b ≡ Equal → a ≡ b) (k : K) (v : V) where
+  pub put : (es : List (K × V)) (p : K) (r : V) → IsNoted (put_entry cmp es k v) p r → IsNoted es p r ⊎ ((p ≡ k) × (r ≡ v))
+  put [] p r h = ⊎_elim (λ w. inr (sym w.0, sym w.1)) (λ w. inl w) (IsNoted-cons (k, v) [] p r h)
+  put (e ∷ es) p r h = go (λ w. put es p r w) (cmp k e.0) refl h
+    where
+      go : (IsNoted (put_entry cmp es k v) p r → IsNoted es p r ⊎ ((p ≡ k) × (r ≡ v))) → (o : Ordering) → cmp k e.0 ≡ o
+          → IsNoted (match_ordering o ((k, v) ∷ e ∷ es) ((e.0, v) ∷ es) (e ∷ put_entry cmp es k v)) p r → IsNoted (e ∷ es) p r ⊎ ((p ≡ k) × (r ≡ v))
+      go on Less q w = ⊎_elim (λ a. inr (sym a.0, sym a.1)) (λ a. inl a) (IsNoted-cons (k, v) (e ∷ es) p r w)
+      go on Equal q w = ⊎_elim (λ a. inr (sym (exact k e.0 q ∙ a.0), sym a.1)) (λ a. inl (IsNoted-behind e es p r a)) (IsNoted-cons (e.0, v) es p r w)
+      go on Greater q w = ⊎_elim
+          (λ a. inl (0, ap Some (ap₂ (λ x y. (x, y)) a.0 a.1)))
+          (λ a. ⊎_elim (λ b. inl (IsNoted-behind e es p r b)) (λ b. inr b) (on a))
+          (IsNoted-cons e (put_entry cmp es k v) p r w)
+
+  pub put_new : (es : List (K × V)) → IsNoted (put_entry cmp es k v) k v
+  put_new [] = (0, refl)
+  put_new (e ∷ es) = go (put_new es) (cmp k e.0) refl
+    where
+      go : IsNoted (put_entry cmp es k v) k v → (o : Ordering) → cmp k e.0 ≡ o → IsNoted (match_ordering o ((k, v) ∷ e ∷ es) ((e.0, v) ∷ es) (e ∷ put_entry cmp es k v)) k v
+      go on Less q = (0, refl)
+      go on Equal q = (0, ap (λ x. Some (x, v)) (sym (exact k e.0 q)))
+      go on Greater q = IsNoted-behind e (put_entry cmp es k v) k v on
+
+  pub put_kept : (es : List (K × V)) (p : K) (r : V) → IsNoted es p r → (p ≡ k) ⊎ IsNoted (put_entry cmp es k v) p r
+  put_kept [] p r h = inr (IsNoted-behind (k, v) [] p r h)
+  put_kept (e ∷ es) p r h = go (λ w. put_kept es p r w) (cmp k e.0) refl (IsNoted-cons e es p r h)
+    where
+      go : (IsNoted es p r → (p ≡ k) ⊎ IsNoted (put_entry cmp es k v) p r) → (o : Ordering) → cmp k e.0 ≡ o → ((e.0 ≡ p) × (e.1 ≡ r)) ⊎ IsNoted es p r
+          → (p ≡ k) ⊎ IsNoted (match_ordering o ((k, v) ∷ e ∷ es) ((e.0, v) ∷ es) (e ∷ put_entry cmp es k v)) p r
+      go on Less q a = inr (IsNoted-behind (k, v) (e ∷ es) p r h)
+      go on Equal q (inl a) = inl (sym (exact k e.0 q ∙ a.0))
+      go on Equal q (inr a) = inr (IsNoted-behind (e.0, v) es p r a)
+      go on Greater q (inl a) = inr (0, ap Some (ap₂ (λ x y. (x, y)) a.0 a.1))
+      go on Greater q (inr a) = ⊎_elim (λ b. inl b) (λ b. inr (IsNoted-behind e (put_entry cmp es k v) p r b)) (on a)

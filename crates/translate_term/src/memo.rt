@@ -1,5 +1,9 @@
 //! What a walk has made already, so that it makes each part once.
 ghost use Rattle.std.specs.Prelude.{◌≡◌, ◌⊎◌, IfSome, IfNone, OnOk};
+ghost use Rattle.std.proofs.Common.{rules};
+ghost use Rattle.std.specs.Cmp.{partial_order_from_own_ties};
+ghost use Rattle.std.specs.Cmp.Rules.{comparing};
+ghost use Rattle.std.specs.Ordering.{as_partial_cmp, nat_cmp, on, then_cmp};
 ghost use Rattle.hol_type.specs.declared.table.TypeId.{TypeId as ATypeId};
 ghost use Rattle.lp_term.specs.declared.LpId.{LpId as AnId};
 ghost use Rattle.translate_term.specs.declared.memo.Place.{Place as APlace};
@@ -11,13 +15,43 @@ use hol_type::TypeId;
 use indexmap::IndexMap;
 use lp_term::LpId;
 use std::alloc::Global;
+use std::cmp::Ordering;
+use std::collections::BTreeMap;
 use std::marker::Model;
 
 /// A term as a part of another, under so many of its binders.
-#[derive(Clone, Copy, PartialEq, Eq, Hash)]
+#[derive(Clone, Copy, PartialEq, Eq)]
 pub(crate) struct Place {
     pub(crate) id: TermId,
     pub(crate) depth: u128,
+}
+
+// By the number of the term, and then by how many binders it stands under.
+impl Ord for Place {
+    ghost cmp = { then_cmp (on (λ p. p.id.0) nat_cmp) (on (λ p. p.depth) nat_cmp) };
+
+    ghost total = { Prim.search (comparing, rules) };
+
+    ghost matches_partial_cmp = { Prim.search (comparing, rules) };
+
+    ghost matches_eq = { Prim.search (comparing, rules) };
+
+    fn cmp(&self, other: &Place) -> Ordering {
+        self.id
+            .0
+            .cmp(&other.id.0)
+            .then(self.depth.cmp(&other.depth))
+    }
+}
+
+impl PartialOrd for Place {
+    ghost partial_cmp = { as_partial_cmp (then_cmp (on (λ p. p.id.0) nat_cmp) (on (λ p. p.depth) nat_cmp)) };
+
+    ghost laws = { partial_order_from_own_ties (Prim.search (comparing, rules)) (Prim.search (comparing, rules)) };
+
+    fn partial_cmp(&self, other: &Place) -> Option<Ordering> {
+        Some(self.cmp(other))
+    }
 }
 
 /// The tree of each type that was made.
@@ -29,7 +63,7 @@ pub(crate) struct TypeMemo {
 /// The tree of the term at each place that was made.
 #[derive(Drop)]
 pub(crate) struct TermMemo {
-    made: IndexMap<Place, LpId>,
+    made: BTreeMap<Place, LpId>,
 }
 
 impl Model for TypeMemo {
@@ -83,7 +117,7 @@ impl TermMemo {
         ensures empty { (k : APlace) (r : AnId) → IsNoted result k r → ⊥ }
     {
         TermMemo {
-            made: IndexMap::new(alloc),
+            made: BTreeMap::new(alloc),
         }
     }
 

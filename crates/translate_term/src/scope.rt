@@ -5,15 +5,15 @@ ghost use Rattle.hol_spec.specs.Names.{Name as AName};
 ghost use Rattle.hol_spec.specs.NameEquality.{name_eq};
 ghost use Rattle.hol_term.specs.declared.Variable.{Variable as AVariable};
 ghost use Rattle.sequent.specs.Params.{same_variable};
-ghost use Rattle.indexmap.specs.IndexMap.{insert_entry};
+ghost use Rattle.tree_map.specs.Entries.{insert_entry};
 
 use bridge_base::Memory;
 use hol_name::Name;
 use hol_term::Variable;
-use indexmap::IndexMap;
 use lp_term::LpId;
 use std::alloc::Global;
 use std::marker::Model;
+use tree_map::TreeMap;
 
 /// The context of a translation: the trees that stand for type variables and for free variables.
 #[derive(Drop)]
@@ -25,13 +25,13 @@ pub struct Scope {
 /// The trees that stand for type variables. Contracts see the list of pairs.
 #[derive(Drop)]
 pub struct ScopeTypes {
-    pairs: IndexMap<Name, LpId>,
+    pairs: TreeMap<Name, LpId>,
 }
 
 /// The trees that stand for free variables. Contracts see the list of pairs.
 #[derive(Drop)]
 pub struct ScopeTerms {
-    pairs: IndexMap<Variable, LpId>,
+    pairs: TreeMap<Variable, LpId>,
 }
 
 impl Model for ScopeTypes {
@@ -41,7 +41,7 @@ impl Model for ScopeTypes {
 
     ghost Value = { List (AName × AnId) };
 
-    ghost view = { λ s. s.pairs.entries };
+    ghost view = { λ s. s.pairs };
 }
 
 impl Model for ScopeTerms {
@@ -51,7 +51,7 @@ impl Model for ScopeTerms {
 
     ghost Value = { List (AVariable × AnId) };
 
-    ghost view = { λ s. s.pairs.entries };
+    ghost view = { λ s. s.pairs };
 }
 
 impl Scope {
@@ -73,7 +73,7 @@ impl ScopeTypes {
         ensures empty { result ≡ [] }
     {
         ScopeTypes {
-            pairs: IndexMap::new(alloc),
+            pairs: TreeMap::new(alloc),
         }
     }
 
@@ -90,7 +90,7 @@ impl ScopeTypes {
     pub(crate) fn find(&self, name: &Name) -> Option<LpId>
         ensures { result ≡ lookup (name_eq name.now) self.now }
     {
-        self.pairs.get(name).copied()
+        self.pairs.get(name)
     }
 }
 
@@ -100,7 +100,7 @@ impl ScopeTerms {
         ensures empty { result ≡ [] }
     {
         ScopeTerms {
-            pairs: IndexMap::new(alloc),
+            pairs: TreeMap::new(alloc),
         }
     }
 
@@ -117,6 +117,6 @@ impl ScopeTerms {
     pub(crate) fn find(&self, variable: &Variable) -> Option<LpId>
         ensures { result ≡ lookup (same_variable variable.now) self.now }
     {
-        self.pairs.get(variable).copied()
+        self.pairs.get(variable)
     }
 }

@@ -18,11 +18,11 @@ loop-id-preserved c =
       grows = Grows-trans c.loop-id.invariant.grows (Grows-table _ _ keeps);
       alone = ProofsAlone-trans c.loop-id.invariant.alone c.in_ok-set_proof.ensures.alone;
       places = λ trees other one have. rw c.in_ok-set_proof.ensures.proofs (
-          places-next term_eq (λ ts es scope. TellProofs trees ts es other scope) _ c.loop-id.target.table _ _ c.loop-id.self.proofs.entries _ _ _ _ _ _ c.loop-id.place _ (ap (terms_at trees) split)
+          places-next term_eq (λ ts es scope. TellProofs trees ts es other scope) _ c.loop-id.target.table _ _ c.loop-id.self.proofs _ _ _ _ _ _ c.loop-id.place _ (ap (terms_at trees) split)
           c.saturating_sub-place.ensures
           (λ scope h.
           let own = (subst (AreKnown trees) split (AreKnown-drop trees c.loop-id.id-index c.args.hyps.now have)).0 in
-          TellProofs-set trees one _ _ c.in_ok-tree.tree _ c.loop-id.self.proofs.entries other scope own c.in_ok-tree.ensures.made (TellProofs-Keeps keeps trees c.loop-id.self.proofs.entries other scope h))
+          TellProofs-set trees one _ _ c.in_ok-tree.tree _ c.loop-id.self.proofs other scope own c.in_ok-tree.ensures.made (TellProofs-Keeps keeps trees c.loop-id.self.proofs other scope h))
           (c.loop-id.invariant.places trees other one have));
     }
 

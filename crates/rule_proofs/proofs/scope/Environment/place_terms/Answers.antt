@@ -17,11 +17,11 @@ loop-variable-preserved c =
       grows = Grows-trans c.loop-variable.invariant.grows (Grows-table _ _ keeps);
       alone = TermsAlone-trans c.loop-variable.invariant.alone c.in_ok-set_term.ensures.alone;
       places = λ trees other one have. rw c.in_ok-set_term.ensures.terms (
-          places-next variable_eq (λ ts es scope. TellTerms trees.types ts es other scope) _ c.loop-variable.target.table _ _ c.loop-variable.self.terms.entries _ _ _ _ _ _ c.loop-variable.place _ (ap (variables_of trees) split)
+          places-next variable_eq (λ ts es scope. TellTerms trees.types ts es other scope) _ c.loop-variable.target.table _ _ c.loop-variable.self.terms _ _ _ _ _ _ c.loop-variable.place _ (ap (variables_of trees) split)
           c.saturating_sub-place.ensures
           (λ scope h.
           let own = (subst (HaveTypes trees) split (HaveTypes-drop trees c.loop-variable.variable-index c.args.variables.now have)).0 in
-          TellTerms-set trees.types one _ c.variable-item.result c.in_ok-tree.tree _ c.loop-variable.self.terms.entries other scope own c.in_ok-tree.ensures.made (TellTerms-Keeps keeps trees.types c.loop-variable.self.terms.entries other scope h))
+          TellTerms-set trees.types one _ c.variable-item.result c.in_ok-tree.tree _ c.loop-variable.self.terms other scope own c.in_ok-tree.ensures.made (TellTerms-Keeps keeps trees.types c.loop-variable.self.terms other scope h))
           (c.loop-variable.invariant.places trees other one have));
     }
 

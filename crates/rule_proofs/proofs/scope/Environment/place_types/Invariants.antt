@@ -10,5 +10,5 @@ abbrev pub invariant-loop-name : goal.invariant-loop-name
 invariant-loop-name l = record {
   grows : Grows l.fn.target l.target;
   alone : TypesAlone l.fn.self l.self;
-  places : Places name_eq TellTypes l.fn.target.table l.target.table l.fn.self.types.entries l.self.types.entries l.names (drop l.name-index l.names) l.depth l.place;
+  places : Places name_eq TellTypes l.fn.target.table l.target.table l.fn.self.types l.self.types l.names (drop l.name-index l.names) l.depth l.place;
 }
