@@ -36,7 +36,8 @@ pub record AreDistinct (trees : Trees) : Type 0 where
   pub types : type.IsDistinct trees.types
   pub terms : IsDistinct trees.terms
 
-same-type : (trees : Trees) (i j : ℕ) → AreDistinct trees → i < length trees.types → j < length trees.types → type_eq (type_at trees i) (type_at trees j) ≡ (i == j)
+same-type : (trees : Trees) (i j : ℕ) → AreDistinct trees → i < length trees.types → j < length trees.types
+    → type_eq (type_at trees i) (type_at trees j) ≡ (i == j)
 same-type trees i j d low high = go (type_eq (type_at trees i) (type_at trees j)) (i == j) refl refl
   where
     same : (i == j) ≡ true → type_eq (type_at trees i) (type_at trees j) ≡ true
@@ -54,7 +55,8 @@ same-type trees i j d low high = go (type_eq (type_at trees i) (type_at trees j)
     go true false e f = sym (one e) ∙ f
     go false true e f = sym e ∙ same f
 
-same-term : (trees : Trees) (i j : ℕ) → AreDistinct trees → i < length trees.terms → j < length trees.terms → term_eq (term_at trees i) (term_at trees j) ≡ (i == j)
+same-term : (trees : Trees) (i j : ℕ) → AreDistinct trees → i < length trees.terms → j < length trees.terms
+    → term_eq (term_at trees i) (term_at trees j) ≡ (i == j)
 same-term trees i j d low high = go (term_eq (term_at trees i) (term_at trees j)) (i == j) refl refl
   where
     same : (i == j) ≡ true → term_eq (term_at trees i) (term_at trees j) ≡ true
@@ -73,7 +75,8 @@ same-term trees i j d low high = go (term_eq (term_at trees i) (term_at trees j)
     go false true e f = sym e ∙ same f
 
 -- two things are one exactly where they stand for one
-pub kept_eq-thing_eq : (trees : Trees) (count : ℕ) (x y : Thing) → AreDistinct trees → IsThing trees count x → IsThing trees count y → kept_eq (kept_at trees x) (kept_at trees y) ≡ thing_eq x y
+pub kept_eq-thing_eq : (trees : Trees) (count : ℕ) (x y : Thing) → AreDistinct trees → IsThing trees count x → IsThing trees count y
+    → kept_eq (kept_at trees x) (kept_at trees y) ≡ thing_eq x y
 kept_eq-thing_eq trees count (thing.Type a) (thing.Type b) d h k = same-type trees a.0 b.0 d h k
 kept_eq-thing_eq trees count (thing.Type a) (thing.Term u) d h k = refl
 kept_eq-thing_eq trees count (thing.Type a) (thing.Theorem j) d h k = refl
@@ -84,7 +87,8 @@ kept_eq-thing_eq trees count (thing.Theorem i) (thing.Type b) d h k = refl
 kept_eq-thing_eq trees count (thing.Theorem i) (thing.Term u) d h k = refl
 kept_eq-thing_eq trees count (thing.Theorem i) (thing.Theorem j) d h k = refl
 
-position-kept : (trees : Trees) (count start : ℕ) (things : List Thing) (x : Thing) → AreDistinct trees → AllByRecursion (IsThing trees count) things → IsThing trees count x
+position-kept : (trees : Trees) (count start : ℕ) (things : List Thing) (x : Thing) → AreDistinct trees → AllByRecursion (IsThing trees count) things
+    → IsThing trees count x
     → position_from (kept_eq (kept_at trees x)) start (all_kept_at trees things) ≡ position_from (thing_eq x) start things
 position-kept trees count start [] x d all h = refl
 position-kept trees count start (y ∷ things) x d all h =
@@ -92,11 +96,13 @@ position-kept trees count start (y ∷ things) x d all h =
     ∙ ap (λ o. cond (thing_eq x y) (Some start) o) (position-kept trees count (start + 1) things x d all.1 h)
 
 -- The key of what a thing stands for is the thing's.
-pub key_in-thing : (trees : Trees) (count : ℕ) (things : List Thing) (x : Thing) → AreDistinct trees → AllByRecursion (IsThing trees count) things → IsThing trees count x
+pub key_in-thing : (trees : Trees) (count : ℕ) (things : List Thing) (x : Thing) → AreDistinct trees → AllByRecursion (IsThing trees count) things
+    → IsThing trees count x
     → key_in (all_kept_at trees things) (kept_at trees x) ≡ position_from (thing_eq x) 0 things
 key_in-thing trees count things x d all h = position-kept trees count 0 things x d all h
 
 -- one thing more
-pub all_kept_at-push : (trees : Trees) (things : List Thing) (x : Thing) → all_kept_at trees (things ++ x ∷ []) ≡ all_kept_at trees things ++ kept_at trees x ∷ []
+pub all_kept_at-push : (trees : Trees) (things : List Thing) (x : Thing)
+    → all_kept_at trees (things ++ x ∷ []) ≡ all_kept_at trees things ++ kept_at trees x ∷ []
 all_kept_at-push trees [] x = refl
 all_kept_at-push trees (y ∷ things) x = ap (λ l. kept_at trees y ∷ l) (all_kept_at-push trees things x)

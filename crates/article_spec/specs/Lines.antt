@@ -65,16 +65,20 @@ pub record LongArticle (o : ℕ) (text : List ℕ) : Type 0 where
 -- From line n at offset o on, the ended lines of the text give these commands; the open line behind them has this number, offset and text.
 pub data Opens : ℕ → ℕ → List ℕ → List Command → ℕ → ℕ → List ℕ → Type 0 where
   open_line : {n o : ℕ} {line : List ℕ} → OpenLine o line → Opens n o line [] n o line
-  skips : {n o m p : ℕ} {text line more rest : List ℕ} {commands : List Command} → EndedLine o text line more skipped → Opens (n + 1) (o + length line + 1) more commands m p rest → Opens n o text commands m p rest
-  gives : {n o m p : ℕ} {text line more rest : List ℕ} {i : Item} {commands : List Command} → EndedLine o text line more (command i) → Opens (n + 1) (o + length line + 1) more commands m p rest → Opens n o text (command_at n i ∷ commands) m p rest
+  skips : {n o m p : ℕ} {text line more rest : List ℕ} {commands : List Command} → EndedLine o text line more skipped
+      → Opens (n + 1) (o + length line + 1) more commands m p rest → Opens n o text commands m p rest
+  gives : {n o m p : ℕ} {text line more rest : List ℕ} {i : Item} {commands : List Command} → EndedLine o text line more (command i)
+      → Opens (n + 1) (o + length line + 1) more commands m p rest → Opens n o text (command_at n i ∷ commands) m p rest
 
 -- From line n at offset o on, the text gives these commands before a line that is ended and at fault, or past a limit; that line has this number and the fault this kind.
 pub data Stops : ℕ → ℕ → List ℕ → List Command → ℕ → Kind → Type 0 where
   faults : {n o : ℕ} {text line more : List ℕ} {k : Kind} → EndedLine o text line more (faulty k) → Stops n o text [] n k
   long_line : {n o : ℕ} {text : List ℕ} → LongLine o text → Stops n o text [] n kind.LineTooLong
   long_article : {n o : ℕ} {text : List ℕ} → LongArticle o text → Stops n o text [] n kind.InputTooLong
-  skips_on : {n o m : ℕ} {text line more : List ℕ} {commands : List Command} {k : Kind} → EndedLine o text line more skipped → Stops (n + 1) (o + length line + 1) more commands m k → Stops n o text commands m k
-  gives_on : {n o m : ℕ} {text line more : List ℕ} {i : Item} {commands : List Command} {k : Kind} → EndedLine o text line more (command i) → Stops (n + 1) (o + length line + 1) more commands m k → Stops n o text (command_at n i ∷ commands) m k
+  skips_on : {n o m : ℕ} {text line more : List ℕ} {commands : List Command} {k : Kind} → EndedLine o text line more skipped
+      → Stops (n + 1) (o + length line + 1) more commands m k → Stops n o text commands m k
+  gives_on : {n o m : ℕ} {text line more : List ℕ} {i : Item} {commands : List Command} {k : Kind} → EndedLine o text line more (command i)
+      → Stops (n + 1) (o + length line + 1) more commands m k → Stops n o text (command_at n i ∷ commands) m k
 
 -- an article ends at a line, or it has a first faulty line
 pub data End : Type 0 where
@@ -83,7 +87,10 @@ pub data End : Type 0 where
 
 -- The text of an article gives these commands and has this end. Its last line needs no newline: the open line behind the ended ones is the line of the end, and it too may give a command or be at fault.
 pub data Lines : List ℕ → List Command → End → Type 0 where
-  last_skipped : {text line : List ℕ} {commands : List Command} {n o : ℕ} → Opens 1 0 text commands n o line → content line ≡ skipped → Lines text commands (ended n)
-  last_gives : {text line : List ℕ} {commands all : List Command} {n o : ℕ} {i : Item} → Opens 1 0 text commands n o line → content line ≡ command i → all ≡ commands ++ command_at n i ∷ [] → Lines text all (ended n)
-  last_faults : {text line : List ℕ} {commands : List Command} {n o : ℕ} {k : Kind} → Opens 1 0 text commands n o line → content line ≡ faulty k → Lines text commands (refused n k)
+  last_skipped : {text line : List ℕ} {commands : List Command} {n o : ℕ} → Opens 1 0 text commands n o line → content line ≡ skipped
+      → Lines text commands (ended n)
+  last_gives : {text line : List ℕ} {commands all : List Command} {n o : ℕ} {i : Item} → Opens 1 0 text commands n o line → content line ≡ command i
+      → all ≡ commands ++ command_at n i ∷ [] → Lines text all (ended n)
+  last_faults : {text line : List ℕ} {commands : List Command} {n o : ℕ} {k : Kind} → Opens 1 0 text commands n o line → content line ≡ faulty k
+      → Lines text commands (refused n k)
   stops : {text : List ℕ} {commands : List Command} {n : ℕ} {k : Kind} → Stops 1 0 text commands n k → Lines text commands (refused n k)

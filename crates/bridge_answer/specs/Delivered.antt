@@ -18,7 +18,8 @@ of_ok (Ok value) e fact = fact
 of_ok (Err error) e fact = cc
 
 -- the note that is to tell of a write fault does, or it failed
-pub told_of_fault : {T E : Type 0} (result : Result T E) (note : Sunk) → OnOk result (Gained note write_fault_line) → OnErr result (GainedFront note write_fault_line)
+pub told_of_fault : {T E : Type 0} (result : Result T E) (note : Sunk) → OnOk result (Gained note write_fault_line)
+    → OnErr result (GainedFront note write_fault_line)
     → OnErr result (Failed note) → TellsWriteFault note
 told_of_fault (Ok value) note whole front failed = inl whole
 told_of_fault (Err error) note whole front failed = inr (failed, front)

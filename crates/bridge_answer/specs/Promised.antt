@@ -39,7 +39,8 @@ form-headline share (Some (trial n)) told run h = trial-headline share n run h
 form-headline share (Some (Form.article names)) told run h = run-headline share told names run h
 
 -- The law of articles, for the article that a form writes
-run-retold : (told : Option Files) (names : List (List ℕ)) (version : Version) (run : Accepted) → IsRunOfVersion told names version run → IsWritable version run → IsRetold version run
+run-retold : (told : Option Files) (names : List (List ℕ)) (version : Version) (run : Accepted) → IsRunOfVersion told names version run → IsWritable version run
+    → IsRetold version run
 run-retold told names version run r h = each_run_is_retold r.of.texts version run r.of.runs h
 
 form-retold : (form : Option Form) (told : Option Files) (version : Version) (run : Accepted) → FormArticle form told version run → IsRetold version run
@@ -66,7 +67,8 @@ outputs-Promise call result h told shelf_count out_count note_count = record {
 }
 
 -- Words that are no form: the usage line is delivered, and nothing else is done.
-pub usage-Promise : (call : Call) (result : Status) → call.form ≡ None → Delivers Usage [] usage_line call.out call.note result → call.shelf.begun ≡ call.shelf.begun_before → call.shelf.told ≡ call.shelf.told_before
+pub usage-Promise : (call : Call) (result : Status) → call.form ≡ None → Delivers Usage [] usage_line call.out call.note result
+    → call.shelf.begun ≡ call.shelf.begun_before → call.shelf.told ≡ call.shelf.told_before
     → call.shelf.faults_before ≤ call.shelf.faults → call.out.faults_before ≤ call.out.faults → call.note.faults_before ≤ call.note.faults → Promise call result
 usage-Promise call result none d begun =
     outputs-Promise call result (record {
@@ -90,7 +92,8 @@ memory-answers (Some (trial n)) shelf = (refl, refl)
 memory-answers (Some (Form.article names)) shelf = (refl, refl)
 
 -- Where there is no memory for the words, that is told, and nothing else is done.
-pub memory-Promise : (call : Call) (result : Status) → Delivers Memory [] memory_line call.out call.note result → call.shelf.begun ≡ call.shelf.begun_before → call.shelf.told ≡ call.shelf.told_before
+pub memory-Promise : (call : Call) (result : Status) → Delivers Memory [] memory_line call.out call.note result → call.shelf.begun ≡ call.shelf.begun_before
+    → call.shelf.told ≡ call.shelf.told_before
     → call.shelf.faults_before ≤ call.shelf.faults → call.out.faults_before ≤ call.out.faults → call.note.faults_before ≤ call.note.faults → Promise call result
 memory-Promise call result d begun =
     outputs-Promise call result (record {

@@ -166,12 +166,15 @@ pub record Consequences (call : Call) (result : Status) : Type 0 where
   -- Unwritable is answered only where `article` was asked for, and one article cannot say what the run of its files exports.
   pub unwritable : result ≡ Unwritable → FormUnwritable call.form call.shelf.told_before
   -- A file with the module of a run passes under a budget of at least each of its bounds ..
-  pub passes : ReadWell call.shelf → (fast : Bool) (name : List ℕ) (budget : ℕ) → call.form ≡ Some (check fast name budget) → (file : HasModule call.shelf.told_before name) → AllByRecursion (λ bound. bound ≤ budget) (module_bounds file.share file.run)
+  pub passes : ReadWell call.shelf → (fast : Bool) (name : List ℕ) (budget : ℕ) → call.form ≡ Some (check fast name budget)
+      → (file : HasModule call.shelf.told_before name) → AllByRecursion (λ bound. bound ≤ budget) (module_bounds file.share file.run)
       → Aside result (result ≡ Done)
   -- .. and is ill typed under no budget.
-  pub never_ill_typed : ReadWell call.shelf → (fast : Bool) (name : List ℕ) (budget i : ℕ) → call.form ≡ Some (check fast name budget) → HasModule call.shelf.told_before name → result ≡ IllTyped i → ⊥
+  pub never_ill_typed : ReadWell call.shelf → (fast : Bool) (name : List ℕ) (budget i : ℕ) → call.form ≡ Some (check fast name budget)
+      → HasModule call.shelf.told_before name → result ≡ IllTyped i → ⊥
   -- The checker's law: a file that is told and accepted reads as one module, and that module is well typed.
-  pub checked : (fast : Bool) (name : List ℕ) (budget : ℕ) (files : Files) → call.form ≡ Some (check fast name budget) → call.shelf.told_before ≡ Some files → result ≡ Done → ReadsWellTyped (file files name)
+  pub checked : (fast : Bool) (name : List ℕ) (budget : ℕ) (files : Files) → call.form ≡ Some (check fast name budget) → call.shelf.told_before ≡ Some files
+      → result ≡ Done → ReadsWellTyped (file files name)
   -- A trial is done, whatever the shelf tells and does.
   pub trial_done : (n : ℕ) → call.form ≡ Some (trial n) → Aside result (result ≡ Done)
   -- Words that are no form are answered with Usage ..

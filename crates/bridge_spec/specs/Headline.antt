@@ -42,9 +42,11 @@ pub record Headline (share : Bool) (run : Accepted) : Type 0 where
   -- it is well typed, and faithful to its run
   pub stands : ModuleStands share run
   -- the check of each declaration says yes within the bound that is printed before it, if it is a theorem
-  pub within : (i : ℕ) (d : Declaration) → slice_get (module_of share run) i ≡ Some d → EndsWithin true (module_of share run) (bound (module_of share run) d) i (Found d.ty)
+  pub within : (i : ℕ) (d : Declaration) → slice_get (module_of share run) i ≡ Some d
+      → EndsWithin true (module_of share run) (bound (module_of share run) d) i (Found d.ty)
   -- and without rechecks of sorts within 64 times the square of the declaration's weight
-  pub within_fast : (i : ℕ) (d : Declaration) → slice_get (module_of share run) i ≡ Some d → EndsWithin false (module_of share run) (fast_bound (module_of share run) d) i (Found d.ty)
+  pub within_fast : (i : ℕ) (d : Declaration) → slice_get (module_of share run) i ≡ Some d
+      → EndsWithin false (module_of share run) (fast_bound (module_of share run) d) i (Found d.ty)
   -- what has an abbreviation is written out once
   pub once : WritesOnce share run
   -- what the run made is a proof, in which no name is taken twice, each type definition is made from an earlier step, and its laws from that step

@@ -58,7 +58,8 @@ pub record IsStruck (held : List Said) (place : ℕ) (old new : List ℕ) : Type
 pub record IsListed (held : List Said) (id : TermId) (list : List ℕ) : Type 0 where
   pub within : (i : ℕ) → i < length list → (s : Said) × (slice_get held (place_at list i) ≡ Some s) × (s.sequent.concl ≡ id)
   pub ordered : AreOrdered held list
-  pub first : (p : ℕ) (s : Said) → slice_get held p ≡ Some s → s.sequent.concl ≡ id → (q : ℕ) × IsAmong list q × (q ≤ p) × AreSame (set_at held q) s.sequent.hyps
+  pub first : (p : ℕ) (s : Said) → slice_get held p ≡ Some s → s.sequent.concl ≡ id
+      → (q : ℕ) × IsAmong list q × (q ≤ p) × AreSame (set_at held q) s.sequent.hyps
 
 -- the list of a conclusion
 abbrev pub items_of : {Z : Type 0} → Option (Vec ℕ Z) → List ℕ

@@ -70,7 +70,8 @@ pub record IsNoType (level : ℕ) (d : List Declaration) (at : Place) (count : �
   pub rest : List Tree
   pub is : args ≡ taken ++ X ∷ rest
   pub few : length taken < count
-  pub none : (t : ClosedType) → type_of_tree d at X ≡ Some t → type_size (open_type parameter_name t) ≤ greatest_size → type_depth (open_type parameter_name t) ≤ level → ⊥
+  pub none : (t : ClosedType) → type_of_tree d at X ≡ Some t → type_size (open_type parameter_name t) ≤ greatest_size
+      → type_depth (open_type parameter_name t) ≤ level → ⊥
 
 -- why the types of the first arguments weren't found
 pub data LacksTypes (level : ℕ) (d : List Declaration) (at : Place) (count : ℕ) (args : List Tree) : Type 0 where

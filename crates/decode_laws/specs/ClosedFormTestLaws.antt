@@ -52,7 +52,8 @@ module _ (named : ℕ → Name) (apart : (i j : ℕ) → named i ≡ named j →
           omega (arith, p, r)
 
   -- the place of a new variable is its number
-  variable-place : (i j : ℕ) (u : HolType) (ts : List ClosedType) → IsIn (open_variables named j ts) (named i, u) → j + position_or_len (variable_eq (named i, u)) (open_variables named j ts) ≡ i
+  variable-place : (i j : ℕ) (u : HolType) (ts : List ClosedType) → IsIn (open_variables named j ts) (named i, u)
+      → j + position_or_len (variable_eq (named i, u)) (open_variables named j ts) ≡ i
   variable-place i j u [] k = absurd k
   variable-place i j u (t ∷ ts) k =
       go (variable_eq (named i, u) (named j, open_type named t)) refl (variable_eq-Decides (named i, u) (named j, open_type named t)) (λ l. variable-place i (suc j) u ts l) k
@@ -73,11 +74,13 @@ module _ (named : ℕ → Name) (apart : (i j : ℕ) → named i ≡ named j →
   module _ (n : ℕ) (types : List ClosedType) where
     mutual
       -- to open a type whose variables are among these and close it again changes nothing
-      close-open_type : (t : ClosedType) → AllByRecursion (IsIn (map named (numbers 0 n))) (variable_places (open_type named t)) → close_type (map named (numbers 0 n)) (open_type named t) ≡ t
+      close-open_type : (t : ClosedType) → AllByRecursion (IsIn (map named (numbers 0 n))) (variable_places (open_type named t))
+          → close_type (map named (numbers 0 n)) (open_type named t) ≡ t
       close-open_type (ClosedType.parameter i) h = let p = name-place i 0 n h.0 in let z : position_or_len (name_eq (named i)) (map named (numbers 0 n)) ≡ i = omega (arith, p) in ap ClosedType.parameter z
       close-open_type (ClosedType.operator m ts) h = ap (ClosedType.operator m) (close-open_types ts h)
 
-      close-open_types : (ts : ClosedTypes) → AllByRecursion (IsIn (map named (numbers 0 n))) (variable_places_of_all (open_types named ts)) → close_types (map named (numbers 0 n)) (open_types named ts) ≡ ts
+      close-open_types : (ts : ClosedTypes) → AllByRecursion (IsIn (map named (numbers 0 n))) (variable_places_of_all (open_types named ts))
+          → close_types (map named (numbers 0 n)) (open_types named ts) ≡ ts
       close-open_types ClosedTypes.none h = refl
       close-open_types (ClosedTypes.more t ts) h =
           ap₂ ClosedTypes.more (close-open_type t (All-left _ (variable_places (open_type named t)) (variable_places_of_all (open_types named ts)) h))
@@ -102,7 +105,8 @@ module _ (named : ℕ → Name) (apart : (i j : ℕ) → named i ≡ named j →
         ap₂ ClosedTerm.lam (close-open_type t (All-left _ (variable_places (open_type named t)) (type_variable_places y) h.types))
         (close-open_term b (record { types = All-right _ (variable_places (open_type named t)) (type_variable_places y) h.types; terms = h.terms }))
 
-    close-open_terms : (ts : List ClosedTerm) → AllByRecursion (IsOver (map named (numbers 0 n)) (open_variables named 0 types)) (map (open_term named types) ts)
+    close-open_terms : (ts : List ClosedTerm)
+        → AllByRecursion (IsOver (map named (numbers 0 n)) (open_variables named 0 types)) (map (open_term named types) ts)
         → map (close_term (map named (numbers 0 n)) (open_variables named 0 types)) (map (open_term named types) ts) ≡ ts
     close-open_terms [] h = refl
     close-open_terms (t ∷ ts) h = λ i. close-open_term t h.0 i ∷ close-open_terms ts h.1 i
@@ -187,7 +191,8 @@ is_within-Decides s =
     (λ a b. record { size = a; depth = b.0; parameters = b.1 }) (λ h. (h.size, (h.depth, h.parameters)))
 
 -- the whole test
-pub is_closed_form-Decides : (named : ℕ → Name) → ((i j : ℕ) → named i ≡ named j → i ≡ j) → (s : ClosedSequent) → Decides (is_closed_form named s) (IsClosedForm s)
+pub is_closed_form-Decides : (named : ℕ → Name) → ((i j : ℕ) → named i ≡ named j → i ≡ j) → (s : ClosedSequent)
+    → Decides (is_closed_form named s) (IsClosedForm s)
 is_closed_form-Decides named apart s =
     let o = opened named s in
     both-Decides (is_sequent o) (is_within o && is_numbered named s) (is_sequent-Decides o)

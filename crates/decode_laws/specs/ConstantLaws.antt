@@ -129,7 +129,8 @@ module _ (d : List Declaration) where
       subst (Means s) (some-injective q.1) (constants.MeansConstant.input
       (record { is_name = h.is_name; not_primitive = (is_lacking-Decides (primitive_type p.0)).0 r.0; text = h.text }) ((has_type-Decides (symbol_type d s) input_type).0 r.1))
 
-  input_constant-means : (s : ℕ) (n : Name) → NamesConstant d s (codes "i_") n → symbol_type d s ≡ Some input_type → input_constant d s ≡ Some (constant_with n 1 (ClosedType.parameter 0))
+  input_constant-means : (s : ℕ) (n : Name) → NamesConstant d s (codes "i_") n → symbol_type d s ≡ Some input_type
+      → input_constant d s ≡ Some (constant_with n 1 (ClosedType.parameter 0))
   input_constant-means s n h f =
       let test : Name → Bool = λ m. is_lacking (primitive_type m) && has_type (symbol_type d s) input_type in
       ap (λ o. bind o (λ m. provided (test m) (Some (constant_with m 1 (ClosedType.parameter 0))))) (name_behind-has d s (codes "i_") n (record { is_name = h.is_name; text = h.text }))
@@ -146,7 +147,8 @@ module _ (d : List Declaration) where
       subst (Means s) r.2 (constants.MeansConstant.defined
       (record { is_name = h.is_name; not_primitive = (is_lacking-Decides (primitive_type p.0)).0 q.0; text = h.text }) (generic_of-is (symbol_type d s) s r.0.0 r.0.1 refl r.1))
 
-  defined_constant-means : (s : ℕ) (n : Name) (k : ℕ) (t : ClosedType) → NamesConstant d s (codes "c_") n → HasGenericType d s k t → defined_constant d s ≡ Some (constant_with n k t)
+  defined_constant-means : (s : ℕ) (n : Name) (k : ℕ) (t : ClosedType) → NamesConstant d s (codes "c_") n → HasGenericType d s k t
+      → defined_constant d s ≡ Some (constant_with n k t)
   defined_constant-means s n k t h g =
       let made : Name → Option Constant = λ m. option_map (λ (x : ℕ × ClosedType). constant_with m x.0 x.1) (generic_of d (symbol_type d s)) in
       ap (λ o. bind o (λ m. provided (is_lacking (primitive_type m)) (made m))) (name_behind-has d s (codes "c_") n (record { is_name = h.is_name; text = h.text }))
@@ -160,12 +162,14 @@ module _ (d : List Declaration) where
   primitive_constant-begins : (s : ℕ) (c : Constant) → primitive_constant s ≡ Some c → (begins (symbol_name d s) ≡ 101) ⊎ (begins (symbol_name d s) ≡ 115)
   primitive_constant-begins s c e = ⊎_elim equal chosen (or_else-is _ _ c e)
     where
-      equal : provided (nat_eq s eq_symbol) (Some (constant_with equality_name 1 equality_type)) ≡ Some c → (begins (symbol_name d s) ≡ 101) ⊎ (begins (symbol_name d s) ≡ 115)
+      equal : provided (nat_eq s eq_symbol) (Some (constant_with equality_name 1 equality_type)) ≡ Some c
+          → (begins (symbol_name d s) ≡ 101) ⊎ (begins (symbol_name d s) ≡ 115)
       equal f =
           let p = provided-is (nat_eq s eq_symbol) (Some (constant_with equality_name 1 equality_type)) c f in
           inl (ap (λ r. begins (symbol_name d r)) ((Decides-eqb s eq_symbol).0 p.0))
 
-      chosen : provided (nat_eq s select_symbol) (Some (constant_with select_name 1 choice_type)) ≡ Some c → (begins (symbol_name d s) ≡ 101) ⊎ (begins (symbol_name d s) ≡ 115)
+      chosen : provided (nat_eq s select_symbol) (Some (constant_with select_name 1 choice_type)) ≡ Some c
+          → (begins (symbol_name d s) ≡ 101) ⊎ (begins (symbol_name d s) ≡ 115)
       chosen f =
           let p = provided-is (nat_eq s select_symbol) (Some (constant_with select_name 1 choice_type)) c f in
           inr (ap (λ r. begins (symbol_name d r)) ((Decides-eqb s select_symbol).0 p.0))

@@ -26,7 +26,8 @@ own_name-apart i j e = cc
 abbrev headed : ℕ → List Tree → List Tree
 headed s xs = map (λ a. App (Sym s) a) xs
 
-peel_on-is : (s : ℕ) (o : Option Tree) (a b : Tree) (rest : List Tree × Tree) → ((x : Tree) → o ≡ Some x → a ≡ App (Sym s) x) → b ≡ products (headed s rest.0) rest.1
+peel_on-is : (s : ℕ) (o : Option Tree) (a b : Tree) (rest : List Tree × Tree) → ((x : Tree) → o ≡ Some x → a ≡ App (Sym s) x)
+    → b ≡ products (headed s rest.0) rest.1
     → Pi a b ≡ products (headed s (peel_on o (Pi a b) rest).0) (peel_on o (Pi a b) rest).1
 peel_on-is s None a b rest f e = refl
 peel_on-is s (Some x) a b rest f e = λ i. Pi (f x refl i) (e i)
@@ -50,7 +51,8 @@ products-append : (xs ys : List Tree) (c : Tree) → products (xs ++ ys) c ≡ p
 products-append [] ys c = refl
 products-append (x ∷ xs) ys c = ap (Pi x) (products-append xs ys c)
 
-products-domains : (n : ℕ) (vs hs : List Tree) (c : Tree) → products (domains n vs hs) c ≡ products (replicate n types) (products (map term_of vs) (products (map proof_of hs) c))
+products-domains : (n : ℕ) (vs hs : List Tree) (c : Tree)
+    → products (domains n vs hs) c ≡ products (replicate n types) (products (map term_of vs) (products (map proof_of hs) c))
 products-domains n vs hs c = products-append (replicate n types ++ map term_of vs) (map proof_of hs) c ∙ products-append (replicate n types) (map term_of vs) (products (map proof_of hs) c)
 
 -- the parts are those of the product

@@ -66,7 +66,8 @@ pub record IsNamed (text : List ℕ) (name : Name) : Type 0 where
   pub is_name : IsName name
   pub has : mangled name ≡ text
 
-named-with_byte : (b : ℕ) (text whole : List ℕ) (name : Name) → b < 256 → IsNamed text name → ((rest : List ℕ) (bytes : List ℕ) → mangled_before bytes rest ≡ text → mangled_before (b ∷ bytes) rest ≡ whole) → IsNamed whole (with_byte b name)
+named-with_byte : (b : ℕ) (text whole : List ℕ) (name : Name) → b < 256 → IsNamed text name
+    → ((rest : List ℕ) (bytes : List ℕ) → mangled_before bytes rest ≡ text → mangled_before (b ∷ bytes) rest ≡ whole) → IsNamed whole (with_byte b name)
 named-with_byte b text whole [] h p f = absurd p.is_name
 named-with_byte b text whole (bytes ∷ name) h p f = record { is_name = ((h, p.is_name.0), p.is_name.1); has = f (mangled_more name) bytes p.has }
 
@@ -78,10 +79,12 @@ option_map-is : {A B : Type 0} (f : A → B) (o : Option A) (y : B) → option_m
 option_map-is f None y e = absurd (cc)
 option_map-is f (Some x) y e = (x, refl, sym (some-injective e))
 
-plain-written : (b : ℕ) (bytes rest text : List ℕ) → is_ascii_alphanumeric b ≡ true → mangled_before bytes rest ≡ text → mangled_before (b ∷ bytes) rest ≡ b ∷ text
+plain-written : (b : ℕ) (bytes rest text : List ℕ) → is_ascii_alphanumeric b ≡ true → mangled_before bytes rest ≡ text
+    → mangled_before (b ∷ bytes) rest ≡ b ∷ text
 plain-written b bytes rest text f h = rw f (ap (λ l. b ∷ l) h)
 
-other-written : (b : ℕ) (bytes rest text : List ℕ) (c e : ℕ) → Writes c e b → mangled_before bytes rest ≡ text → mangled_before (b ∷ bytes) rest ≡ underscore ∷ c ∷ e ∷ text
+other-written : (b : ℕ) (bytes rest text : List ℕ) (c e : ℕ) → Writes c e b → mangled_before bytes rest ≡ text
+    → mangled_before (b ∷ bytes) rest ≡ underscore ∷ c ∷ e ∷ text
 other-written b bytes rest text c e w h = rw w.other (λ i. underscore ∷ w.high i ∷ w.low i ∷ h i)
 
 mutual
@@ -89,7 +92,8 @@ mutual
   demangled-is [] name e = subst (IsNamed []) (some-injective e) (record { is_name = (tt {0}, tt {0}); has = refl })
   demangled-is (b ∷ text) name e = go (is_ascii_alphanumeric b) refl e (λ n p. demangled-is text n p) (λ n p. escaped-is text n p)
     where
-      go : (t : Bool) → is_ascii_alphanumeric b ≡ t → cond t (option_map (with_byte b) (demangled text)) (provided (nat_eq b underscore) (escaped text)) ≡ Some name
+      go : (t : Bool) → is_ascii_alphanumeric b ≡ t
+          → cond t (option_map (with_byte b) (demangled text)) (provided (nat_eq b underscore) (escaped text)) ≡ Some name
           → ((n : Name) → demangled text ≡ Some n → IsNamed text n) → ((n : Name) → escaped text ≡ Some n → IsNamed (underscore ∷ text) n) → IsNamed (b ∷ text) name
       go true f e p q =
           let m = option_map-is (with_byte b) (demangled text) name e in
@@ -125,11 +129,13 @@ demangled-other b text name l f h =
     ∙ ap (λ o. both with_byte o (demangled text)) (byte_of-digits b l f)
     ∙ ap (both with_byte (Some b)) h
 
-demangled-bytes : (bs : List ℕ) (name : Name) (rest : List ℕ) → AreBytes bs → demangled rest ≡ Some ([] ∷ name) → demangled (mangled_before bs rest) ≡ Some (bs ∷ name)
+demangled-bytes : (bs : List ℕ) (name : Name) (rest : List ℕ) → AreBytes bs → demangled rest ≡ Some ([] ∷ name)
+    → demangled (mangled_before bs rest) ≡ Some (bs ∷ name)
 demangled-bytes [] name rest h e = e
 demangled-bytes (b ∷ bs) name rest h e = go (is_ascii_alphanumeric b) refl (demangled-bytes bs name rest h.1 e)
   where
-    go : (t : Bool) → is_ascii_alphanumeric b ≡ t → demangled (mangled_before bs rest) ≡ Some (bs ∷ name) → demangled (mangled_before (b ∷ bs) rest) ≡ Some ((b ∷ bs) ∷ name)
+    go : (t : Bool) → is_ascii_alphanumeric b ≡ t → demangled (mangled_before bs rest) ≡ Some (bs ∷ name)
+        → demangled (mangled_before (b ∷ bs) rest) ≡ Some ((b ∷ bs) ∷ name)
     go true f k =
         ap demangled (plain-written b bs rest (mangled_before bs rest) f refl)
         ∙ ap (λ t. cond t (option_map (with_byte b) (demangled (mangled_before bs rest))) (provided (nat_eq b underscore) (escaped (mangled_before bs rest)))) f

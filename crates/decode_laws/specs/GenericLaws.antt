@@ -63,8 +63,10 @@ module _ (named : ℕ → Name) where
         λ i. apart x y f i ∷ map-apart xs ys g i
 
     -- they are numbered in order exactly where the variables are
-    pub numbered-in_order : (t : ClosedType) (k : ℕ) → type_variables (open_type named t) ≡ map named (numbers 0 k) → distinct nat_eq (parameter_places t) ≡ numbers 0 k
+    pub numbered-in_order : (t : ClosedType) (k : ℕ) → type_variables (open_type named t) ≡ map named (numbers 0 k)
+        → distinct nat_eq (parameter_places t) ≡ numbers 0 k
     numbered-in_order t k e = map-apart (distinct nat_eq (parameter_places t)) (numbers 0 k) (sym (type_variables-open t) ∙ e)
 
-    pub in_order-numbered : (t : ClosedType) (k : ℕ) → distinct nat_eq (parameter_places t) ≡ numbers 0 k → type_variables (open_type named t) ≡ map named (numbers 0 k)
+    pub in_order-numbered : (t : ClosedType) (k : ℕ) → distinct nat_eq (parameter_places t) ≡ numbers 0 k
+        → type_variables (open_type named t) ≡ map named (numbers 0 k)
     in_order-numbered t k e = type_variables-open t ∙ ap (map named) e

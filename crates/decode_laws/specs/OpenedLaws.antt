@@ -62,7 +62,8 @@ module _ (named : ℕ → Name) (apart : (i j : ℕ) → named i ≡ named j →
   type_at-position f [] v k = absurd k
   type_at-position f (w ∷ vs) v k = go (variable_eq v w) refl (variable_eq-Decides v w) (λ i. type_at-position f vs v i) k
     where
-      go : (b : Bool) → variable_eq v w ≡ b → Decides (variable_eq v w) (v ≡ w) → (IsIn vs v → type_at (map f vs) (position_or_len (variable_eq v) vs) ≡ f v) → IsIn (w ∷ vs) v
+      go : (b : Bool) → variable_eq v w ≡ b → Decides (variable_eq v w) (v ≡ w) → (IsIn vs v → type_at (map f vs) (position_or_len (variable_eq v) vs) ≡ f v)
+          → IsIn (w ∷ vs) v
           → type_at (map f (w ∷ vs)) (position_or_len (variable_eq v) (w ∷ vs)) ≡ f v
       go true e d later k = ap (type_at (map f (w ∷ vs))) (position-cons (variable_eq v) w vs true e) ∙ ap f (sym (d.0 e))
       go false e d later (inl is) = absurd (let yes = d.1 is in cc)
@@ -94,7 +95,8 @@ module _ (named : ℕ → Name) (apart : (i j : ℕ) → named i ≡ named j →
       shifted w e = let p = position-later variable_eq variable_eq-Decides v w vs e in let z : suc k + position_or_len (variable_eq w) vs ≡ k + position_or_len (variable_eq w) (v ∷ vs) = omega (arith, p) in λ i. (named (z i), renamed_type (new_name ns) w.1)
 
   module _ (s : Sequent) where
-    kept_apart : (m n : Name) → IsIn (type_variables_of s) m → IsIn (type_variables_of s) n → new_name (type_variables_of s) m ≡ new_name (type_variables_of s) n → m ≡ n
+    kept_apart : (m n : Name) → IsIn (type_variables_of s) m → IsIn (type_variables_of s) n
+        → new_name (type_variables_of s) m ≡ new_name (type_variables_of s) n → m ≡ n
     kept_apart m n h k e = position-injective name_eq name_eq-Decides (type_variables_of s) m n h k (apart _ _ e)
 
     variables_apart : (v w : Variable) → IsIn (free_variables_of s) v → IsIn (free_variables_of s) w

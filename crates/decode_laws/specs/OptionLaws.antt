@@ -10,7 +10,8 @@ pub bind-is : {A B : Type 0} (o : Option A) (f : A → Option B) (y : B) → bin
 bind-is None f y e = absurd (cc)
 bind-is (Some x) f y e = (x, refl, e)
 
-pub both-is : {A B C : Type 0} (f : A → B → C) (o : Option A) (p : Option B) (z : C) → both f o p ≡ Some z → (x : A) × (y : B) × (o ≡ Some x) × (p ≡ Some y) × (z ≡ f x y)
+pub both-is : {A B C : Type 0} (f : A → B → C) (o : Option A) (p : Option B) (z : C) → both f o p ≡ Some z
+    → (x : A) × (y : B) × (o ≡ Some x) × (p ≡ Some y) × (z ≡ f x y)
 both-is f None p z e = absurd (cc)
 both-is f (Some x) None z e = absurd (cc)
 both-is f (Some x) (Some y) z e = (x, y, refl, refl, sym (some-injective e))

@@ -68,7 +68,8 @@ module _ (named : ℕ → Name) (d : List Declaration) where
   hypotheses-size variables (t ∷ ts) [] n m l h = absurd h
   hypotheses-size variables (t ∷ ts) (A ∷ As) n m l h = omega (arith, term-size named d variables t (place n m l 0) A h.0, hypotheses-size variables ts As n m (suc l) h.1)
 
-pub Enc-size : (named : ℕ → Name) → ((i j : ℕ) → named i ≡ named j → i ≡ j) → (d : List Declaration) (s : ClosedSequent) (A : Tree) → Enc d s A → size A ≤ greatest_tree
+pub Enc-size : (named : ℕ → Name) → ((i j : ℕ) → named i ≡ named j → i ≡ j) → (d : List Declaration) (s : ClosedSequent) (A : Tree) → Enc d s A
+    → size A ≤ greatest_tree
 Enc-size named apart d s A h =
     let is = IsClosedForm-IsOpen named apart s h.closed in
     let o = opened named s in

@@ -26,7 +26,8 @@ pub summed-union : {A : Type 0} (same : A → A → Bool) (f : A → ℕ) (ys xs
 summed-union same f [] xs = omega arith
 summed-union same f (y ∷ ys) xs = go (is_in same y xs) (summed-union same f ys (cond (is_in same y xs) xs (xs ++ y ∷ [])))
   where
-    go : (b : Bool) → summed f (union same (cond b xs (xs ++ y ∷ [])) ys) ≤ summed f (cond b xs (xs ++ y ∷ [])) + summed f ys → summed f (union same (cond b xs (xs ++ y ∷ [])) ys) ≤ summed f xs + (f y + summed f ys)
+    go : (b : Bool) → summed f (union same (cond b xs (xs ++ y ∷ [])) ys) ≤ summed f (cond b xs (xs ++ y ∷ [])) + summed f ys
+        → summed f (union same (cond b xs (xs ++ y ∷ [])) ys) ≤ summed f xs + (f y + summed f ys)
     go true l = omega (arith, l)
     go false l = omega (arith, l, summed-append f xs (y ∷ []))
 
@@ -119,7 +120,8 @@ module _ (named : ℕ → Name) where
         omega (arith, e, m, applied-size h.arguments at h.args (Sym h.symbol) h.args_stand, arguments-size h.arguments h.generic k)
 
     -- a tree that stands for a term has fewer than twice the term's nodes
-    pub term-size : (types : List ClosedType) (c : ClosedTerm) (at : Place) (A : Tree) → StandsForTerm d c at A → size A + 1 ≤ 2 * term_size (open_term named types c)
+    pub term-size : (types : List ClosedType) (c : ClosedTerm) (at : Place) (A : Tree) → StandsForTerm d c at A
+        → size A + 1 ≤ 2 * term_size (open_term named types c)
     term-size types (ClosedTerm.parameter j) at A h = let e : size A ≡ 1 = ap size h.1 in omega (arith, e)
     term-size types (ClosedTerm.bound k) at A h = let e : size A ≡ 1 = ap size h.1 in omega (arith, e)
     term-size types (ClosedTerm.constant n t) at A h = constant-size n t at A h

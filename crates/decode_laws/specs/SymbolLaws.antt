@@ -57,7 +57,8 @@ name_behind-has d s front name h =
     ap (λ text. bind (behind front text) demangled) h.text ∙ ap (λ o. bind o demangled) (behind-front front (mangled name)) ∙ demangled-mangled name h.is_name
 
 -- a named operator is found exactly where the symbol names it
-pub named_operator-is : (d : List Declaration) (s : ℕ) (front : List ℕ) (k : ℕ) (name : Name) → named_operator d s front k ≡ Some name → NamesOperator d s front name k
+pub named_operator-is : (d : List Declaration) (s : ℕ) (front : List ℕ) (k : ℕ) (name : Name) → named_operator d s front k ≡ Some name
+    → NamesOperator d s front name k
 named_operator-is d s front k name e =
     let tree = products (replicate k types) types in
     let test : Name → Bool = λ n. is_lacking (primitive_arity n) && has_type (symbol_type d s) tree in
@@ -73,7 +74,8 @@ named_operator-is d s front k name e =
       ty = (has_type-Decides (symbol_type d s) tree).0 both.1;
     })
 
-pub named_operator-names : (d : List Declaration) (s : ℕ) (front : List ℕ) (k : ℕ) (name : Name) → NamesOperator d s front name k → named_operator d s front k ≡ Some name
+pub named_operator-names : (d : List Declaration) (s : ℕ) (front : List ℕ) (k : ℕ) (name : Name) → NamesOperator d s front name k
+    → named_operator d s front k ≡ Some name
 named_operator-names d s front k name h =
     let tree = products (replicate k types) types in
     let test : Name → Bool = λ n. is_lacking (primitive_arity n) && has_type (symbol_type d s) tree in
@@ -125,7 +127,8 @@ primitive_operator-begins d s k m e = ⊎_elim arrow (λ g. ⊎_elim truth indiv
     individual : provided (nat_eq s ind_symbol && nat_eq k 0) (Some ind_name) ≡ Some m → begins (symbol_name d s) ≤ 105
     individual f = let p = one_primitive s k ind_symbol 0 ind_name m f in let b : begins (symbol_name d s) ≡ 105 = ap (λ r. begins (symbol_name d r)) p.0 in omega (arith, b)
 
-input_operator-begins : (d : List Declaration) (s k : ℕ) (m : Name) → NamesOperator d s (codes "t" ++ numeral k ++ codes "_") m k → begins (symbol_name d s) ≡ 116
+input_operator-begins : (d : List Declaration) (s k : ℕ) (m : Name) → NamesOperator d s (codes "t" ++ numeral k ++ codes "_") m k
+    → begins (symbol_name d s) ≡ 116
 input_operator-begins d s k m h = ap begins h.text
 
 defined_operator-begins : (d : List Declaration) (s k : ℕ) (m : Name) → NamesOperator d s (codes "o_") m k → begins (symbol_name d s) ≡ 111

@@ -53,7 +53,8 @@ argument_count (Pi a b) = 0
 
 module _ (d : List Declaration) where
   module _ (at : Place) where
-    pub constant_from-is : (A : Tree) (args : ClosedTypes) (c : ClosedTerm) → constant_from d at A args ≡ Some c → (Xs : List Tree) → StandForTypes d args at Xs → IsConstantAt d at c (applied A Xs)
+    pub constant_from-is : (A : Tree) (args : ClosedTypes) (c : ClosedTerm) → constant_from d at A args ≡ Some c → (Xs : List Tree) → StandForTypes d args at Xs
+        → IsConstantAt d at c (applied A Xs)
     constant_from-is SortType args c e Xs h = absurd (cc)
     constant_from-is SortKind args c e Xs h = absurd (cc)
     constant_from-is (Var v) args c e Xs h = absurd (cc)
@@ -82,7 +83,8 @@ module _ (d : List Declaration) where
     constant_from-is (Lam a b) args c e Xs h = absurd (cc)
     constant_from-is (Pi a b) args c e Xs h = absurd (cc)
 
-    pub constants-stand : (ts : ClosedTypes) (As : List Tree) (f : Tree) (acc : ClosedTypes) → StandForTypes d ts at As → constant_from d at (applied f As) acc ≡ constant_from d at f (joined ts acc)
+    pub constants-stand : (ts : ClosedTypes) (As : List Tree) (f : Tree) (acc : ClosedTypes) → StandForTypes d ts at As
+        → constant_from d at (applied f As) acc ≡ constant_from d at f (joined ts acc)
     constants-stand ClosedTypes.none [] f acc h = refl
     constants-stand ClosedTypes.none (A ∷ As) f acc h = absurd h
     constants-stand (ClosedTypes.more t ts) [] f acc h = absurd h
@@ -90,7 +92,8 @@ module _ (d : List Declaration) where
         constants-stand ts As (App f A) acc h.1
         ∙ ap (λ o. bind o (λ u. constant_from d at f (ClosedTypes.more u (joined ts acc)))) (type_of_tree-stands d at t A h.0)
 
-    pub constant_from-stands : (n : Name) (t : ClosedType) (A : Tree) → StandsForConstant d n t at A → constant_from d at A ClosedTypes.none ≡ Some (ClosedTerm.constant n t)
+    pub constant_from-stands : (n : Name) (t : ClosedType) (A : Tree) → StandsForConstant d n t at A
+        → constant_from d at A ClosedTypes.none ≡ Some (ClosedTerm.constant n t)
     constant_from-stands n t A h =
         let made : ClosedTypes → Constant → Option ClosedTerm = λ us k. provided (nat_eq k.variables (closed_count us)) (Some (ClosedTerm.constant k.name (instance_of us k.generic))) in
         ap (λ B. constant_from d at B ClosedTypes.none) h.tree
@@ -204,7 +207,8 @@ module _ (d : List Declaration) where
   term_from-constant (Pi a b) at c e = absurd (cc)
 
   -- the tree of a term whose head is the symbol of a constant has an argument at least for each variable of its generic type
-  pub enough_arguments : (c : ClosedTerm) (at : Place) (A : Tree) (s : ℕ) (k : Constant) → StandsForTerm d c at A → head_of A ≡ Sym s → constant_at d s ≡ Some k → k.variables ≤ argument_count A
+  pub enough_arguments : (c : ClosedTerm) (at : Place) (A : Tree) (s : ℕ) (k : Constant) → StandsForTerm d c at A → head_of A ≡ Sym s → constant_at d s ≡ Some k
+      → k.variables ≤ argument_count A
   enough_arguments (ClosedTerm.parameter j) at A s k h e f = let g : Var (depth_of at - suc (at.type_variables + j)) ≡ Sym s = sym (ap head_of h.1) ∙ e in absurd (cc)
   enough_arguments (ClosedTerm.bound i) at A s k h e f = let g : Var i ≡ Sym s = sym (ap head_of h.1) ∙ e in absurd (cc)
   enough_arguments (ClosedTerm.constant n t) at A s k h e f =

@@ -27,32 +27,38 @@ use Rattle.decode_laws.specs.WalkLaws.{NoType, depth-positive}
 -- An argument of a constant stands in its instance.
 module _ (named : ℕ → Name) where
   mutual
-    argument-size : (ts : ClosedTypes) (g : ClosedType) (i : ℕ) → IsIn (parameter_places g) i → type_size (open_type named (argument ts i)) ≤ type_size (open_type named (instance_of ts g))
+    argument-size : (ts : ClosedTypes) (g : ClosedType) (i : ℕ) → IsIn (parameter_places g) i
+        → type_size (open_type named (argument ts i)) ≤ type_size (open_type named (instance_of ts g))
     argument-size ts (ClosedType.parameter j) i (inl e) = let f : type_size (open_type named (argument ts i)) ≡ type_size (open_type named (argument ts j)) = ap (λ k. type_size (open_type named (argument ts k))) e in omega (arith, f)
     argument-size ts (ClosedType.parameter j) i (inr h) = absurd h
     argument-size ts (ClosedType.operator n us) i h = omega (arith, arguments-size ts us i h)
 
-    arguments-size : (ts us : ClosedTypes) (i : ℕ) → IsIn (parameter_places_of_all us) i → type_size (open_type named (argument ts i)) ≤ types_size (open_types named (instances_of ts us))
+    arguments-size : (ts us : ClosedTypes) (i : ℕ) → IsIn (parameter_places_of_all us) i
+        → type_size (open_type named (argument ts i)) ≤ types_size (open_types named (instances_of ts us))
     arguments-size ts ClosedTypes.none i h = absurd h
     arguments-size ts (ClosedTypes.more u us) i h = go (IsIn-either (parameter_places u) (parameter_places_of_all us) i h) (argument-size ts u i) (arguments-size ts us i)
       where
-        go : IsIn (parameter_places u) i ⊎ IsIn (parameter_places_of_all us) i → (IsIn (parameter_places u) i → type_size (open_type named (argument ts i)) ≤ type_size (open_type named (instance_of ts u)))
+        go : IsIn (parameter_places u) i ⊎ IsIn (parameter_places_of_all us) i
+            → (IsIn (parameter_places u) i → type_size (open_type named (argument ts i)) ≤ type_size (open_type named (instance_of ts u)))
             → (IsIn (parameter_places_of_all us) i → type_size (open_type named (argument ts i)) ≤ types_size (open_types named (instances_of ts us)))
             → type_size (open_type named (argument ts i)) ≤ types_size (open_types named (instances_of ts (ClosedTypes.more u us)))
         go (inl k) f g = let l = f k in omega (arith, l)
         go (inr k) f g = let l = g k in omega (arith, l)
 
   mutual
-    argument-depth : (ts : ClosedTypes) (g : ClosedType) (i : ℕ) → IsIn (parameter_places g) i → type_depth (open_type named (argument ts i)) ≤ type_depth (open_type named (instance_of ts g))
+    argument-depth : (ts : ClosedTypes) (g : ClosedType) (i : ℕ) → IsIn (parameter_places g) i
+        → type_depth (open_type named (argument ts i)) ≤ type_depth (open_type named (instance_of ts g))
     argument-depth ts (ClosedType.parameter j) i (inl e) = let f : type_depth (open_type named (argument ts i)) ≡ type_depth (open_type named (argument ts j)) = ap (λ k. type_depth (open_type named (argument ts k))) e in omega (arith, f)
     argument-depth ts (ClosedType.parameter j) i (inr h) = absurd h
     argument-depth ts (ClosedType.operator n us) i h = omega (arith, arguments-depth ts us i h)
 
-    arguments-depth : (ts us : ClosedTypes) (i : ℕ) → IsIn (parameter_places_of_all us) i → type_depth (open_type named (argument ts i)) ≤ types_depth (open_types named (instances_of ts us))
+    arguments-depth : (ts us : ClosedTypes) (i : ℕ) → IsIn (parameter_places_of_all us) i
+        → type_depth (open_type named (argument ts i)) ≤ types_depth (open_types named (instances_of ts us))
     arguments-depth ts ClosedTypes.none i h = absurd h
     arguments-depth ts (ClosedTypes.more u us) i h = go (IsIn-either (parameter_places u) (parameter_places_of_all us) i h) (argument-depth ts u i) (arguments-depth ts us i)
       where
-        go : IsIn (parameter_places u) i ⊎ IsIn (parameter_places_of_all us) i → (IsIn (parameter_places u) i → type_depth (open_type named (argument ts i)) ≤ type_depth (open_type named (instance_of ts u)))
+        go : IsIn (parameter_places u) i ⊎ IsIn (parameter_places_of_all us) i
+            → (IsIn (parameter_places u) i → type_depth (open_type named (argument ts i)) ≤ type_depth (open_type named (instance_of ts u)))
             → (IsIn (parameter_places_of_all us) i → type_depth (open_type named (argument ts i)) ≤ types_depth (open_types named (instances_of ts us)))
             → type_depth (open_type named (argument ts i)) ≤ types_depth (open_types named (instances_of ts (ClosedTypes.more u us)))
         go (inl k) f g = let l = f k in omega (arith, l)
@@ -135,7 +141,8 @@ module _ (named : ℕ → Name) (variables : List ClosedType) where
     dead-applied size level F (x ∷ xs) h = dead-applied size level (App F x) xs (dead-more size level F x h)
 
     -- what is no constant with any arguments before those that follow is none
-    pub no_constant : (F : Tree) → ((acc : ClosedTypes) → constant_from d at F acc ≡ None) → (rest : List Tree) (acc : ClosedTypes) → constant_from d at (applied F rest) acc ≡ None
+    pub no_constant : (F : Tree) → ((acc : ClosedTypes) → constant_from d at F acc ≡ None) → (rest : List Tree) (acc : ClosedTypes)
+        → constant_from d at (applied F rest) acc ≡ None
     no_constant F h [] acc = h acc
     no_constant F h (x ∷ rest) acc = no_constant (App F x) (λ us. go (type_of_tree d at x) us) rest acc
       where
@@ -143,7 +150,8 @@ module _ (named : ℕ → Name) (variables : List ClosedType) where
         go None us = refl
         go (Some t) us = h (ClosedTypes.more t us)
 
-    pub dead-no_constant : (size level : ℕ) (F : Tree) → ((acc : ClosedTypes) → constant_from d at F acc ≡ None) → NoTerm size level (term_from d F at) → IsDead size level F
+    pub dead-no_constant : (size level : ℕ) (F : Tree) → ((acc : ClosedTypes) → constant_from d at F acc ≡ None) → NoTerm size level (term_from d F at)
+        → IsDead size level F
     dead-no_constant size level F h k = record {
       here = k;
       constants = λ rest c e. let f : ◌≡◌ {A = Option ClosedTerm} None (Some c) = sym (no_constant F h rest ClosedTypes.none) ∙ e in absurd (cc);
@@ -155,7 +163,8 @@ module _ (named : ℕ → Name) (variables : List ClosedType) where
       pub stand : StandForTypes d types at xs
       pub is : constant_from d at F (joined types acc) ≡ Some c
 
-    constant_from-types : (F : Tree) (xs : List Tree) (acc : ClosedTypes) (c : ClosedTerm) → constant_from d at (applied F xs) acc ≡ Some c → HasTypes F xs acc c
+    constant_from-types : (F : Tree) (xs : List Tree) (acc : ClosedTypes) (c : ClosedTerm) → constant_from d at (applied F xs) acc ≡ Some c
+        → HasTypes F xs acc c
     constant_from-types F [] acc c e = record { types = ClosedTypes.none; stand = tt {0}; is = e }
     constant_from-types F (x ∷ xs) acc c e =
         let h = constant_from-types (App F x) xs acc c e in
@@ -171,7 +180,8 @@ module _ (named : ℕ → Name) (variables : List ClosedType) where
       pub count : constant.variables ≡ length xs
       pub is : c ≡ ClosedTerm.constant constant.name (instance_of types constant.generic)
 
-    pub constant_from-instance : (s : ℕ) (xs : List Tree) (c : ClosedTerm) → constant_from d at (applied (Sym s) xs) ClosedTypes.none ≡ Some c → IsInstance s xs c
+    pub constant_from-instance : (s : ℕ) (xs : List Tree) (c : ClosedTerm) → constant_from d at (applied (Sym s) xs) ClosedTypes.none ≡ Some c
+        → IsInstance s xs c
     constant_from-instance s xs c e =
         let h = constant_from-types (Sym s) xs ClosedTypes.none c e in
         let made : ClosedTypes → Constant → Option ClosedTerm = λ us k. provided (nat_eq k.variables (closed_count us)) (Some (ClosedTerm.constant k.name (instance_of us k.generic))) in
@@ -187,7 +197,8 @@ module _ (named : ℕ → Name) (variables : List ClosedType) where
           is = sym (some-injective q.1);
         }
 
-    pub constant_from-stand : (s : ℕ) (xs : List Tree) (types : ClosedTypes) (k : Constant) → constant_at d s ≡ Some k → StandForTypes d types at xs → k.variables ≡ length xs
+    pub constant_from-stand : (s : ℕ) (xs : List Tree) (types : ClosedTypes) (k : Constant) → constant_at d s ≡ Some k → StandForTypes d types at xs
+        → k.variables ≡ length xs
         → constant_from d at (applied (Sym s) xs) ClosedTypes.none ≡ Some (ClosedTerm.constant k.name (instance_of types k.generic))
     constant_from-stand s xs types k found stand count =
         let made : ClosedTypes → Constant → Option ClosedTerm = λ us c. provided (nat_eq c.variables (closed_count us)) (Some (ClosedTerm.constant c.name (instance_of us c.generic))) in
@@ -198,7 +209,9 @@ module _ (named : ℕ → Name) (variables : List ClosedType) where
         ((Decides-eqb k.variables (closed_count types)).1 (count ∙ sym (count-stand d at types xs stand)))
 
     -- the symbol of no constant within the limits
-    pub dead-symbol : (size level s : ℕ) → ((k : Constant) → constant_at d s ≡ Some k → 1 + type_size (open_type named k.generic) ≤ size → 1 + type_depth (open_type named k.generic) ≤ level → ⊥) → IsDead size level (Sym s)
+    pub dead-symbol : (size level s : ℕ)
+        → ((k : Constant) → constant_at d s ≡ Some k → 1 + type_size (open_type named k.generic) ≤ size → 1 + type_depth (open_type named k.generic) ≤ level → ⊥)
+        → IsDead size level (Sym s)
     dead-symbol size level s h = record { here = none []; constants = none }
       where
         none : (rest : List Tree) → NoTerm size level (constant_from d at (applied (Sym s) rest) ClosedTypes.none)
@@ -212,13 +225,15 @@ module _ (named : ℕ → Name) (variables : List ClosedType) where
     one_found s k l e f = some-injective (sym e ∙ f)
 
     -- fewer arguments than the constant has variables
-    pub too_few : (s : ℕ) (k : Constant) (xs : List Tree) → constant_at d s ≡ Some k → length xs < k.variables → (c : ClosedTerm) → term_from d (applied (Sym s) xs) at ≡ Some c → ⊥
+    pub too_few : (s : ℕ) (k : Constant) (xs : List Tree) → constant_at d s ≡ Some k → length xs < k.variables → (c : ClosedTerm)
+        → term_from d (applied (Sym s) xs) at ≡ Some c → ⊥
     too_few s k xs found l c e =
         let a = enough_arguments d c at (applied (Sym s) xs) s k (term_from-is d (applied (Sym s) xs) at c e) (head_of-applied (Sym s) xs) found in
         let b = argument_count-applied (Sym s) xs in
         omega (arith, a, b, l)
 
-    argument-stands : (types : ClosedTypes) (taken rest : List Tree) (X : Tree) → StandForTypes d types at (taken ++ X ∷ rest) → StandsForType d (argument types (length taken)) at X
+    argument-stands : (types : ClosedTypes) (taken rest : List Tree) (X : Tree) → StandForTypes d types at (taken ++ X ∷ rest)
+        → StandsForType d (argument types (length taken)) at X
     argument-stands ClosedTypes.none [] rest X h = absurd h
     argument-stands (ClosedTypes.more t ts) [] rest X h = h.0
     argument-stands ClosedTypes.none (y ∷ taken) rest X h = absurd h
@@ -255,7 +270,8 @@ module _ (named : ℕ → Name) (variables : List ClosedType) where
               too_few s k taken found l m.0 m.2
 
     -- an instance that passes the limits
-    pub dead-instance : (size level s : ℕ) (k : Constant) (xs : List Tree) (types : ClosedTypes) → constant_at d s ≡ Some k → StandForTypes d types at xs → k.variables ≡ length xs
+    pub dead-instance : (size level s : ℕ) (k : Constant) (xs : List Tree) (types : ClosedTypes) → constant_at d s ≡ Some k → StandForTypes d types at xs
+        → k.variables ≡ length xs
         → (1 + type_size (open_type named (instance_of types k.generic)) ≤ size → 1 + type_depth (open_type named (instance_of types k.generic)) ≤ level → ⊥) → IsDead size level (applied (Sym s) xs)
     dead-instance size level s k xs types found stand count large = record {
       here = λ c e a b. one c (some-injective (sym is_term ∙ e)) a b;
@@ -268,7 +284,8 @@ module _ (named : ℕ → Name) (variables : List ClosedType) where
         is_term : term_from d (applied (Sym s) xs) at ≡ Some (ClosedTerm.constant k.name (instance_of types k.generic))
         is_term = term_from-constant d (applied (Sym s) xs) at _ is_constant
 
-        one : (c : ClosedTerm) → ClosedTerm.constant k.name (instance_of types k.generic) ≡ c → term_size (open_term named variables c) ≤ size → term_depth (open_term named variables c) ≤ level → ⊥
+        one : (c : ClosedTerm) → ClosedTerm.constant k.name (instance_of types k.generic) ≡ c → term_size (open_term named variables c) ≤ size
+            → term_depth (open_term named variables c) ≤ level → ⊥
         one c e a b =
             let m : term_size (open_term named variables c) ≡ 1 + type_size (open_type named (instance_of types k.generic)) = ap (λ u. term_size (open_term named variables u)) (sym e) in
             let n : term_depth (open_term named variables c) ≡ 1 + type_depth (open_type named (instance_of types k.generic)) = ap (λ u. term_depth (open_term named variables u)) (sym e) in
@@ -283,7 +300,8 @@ module _ (named : ℕ → Name) (variables : List ClosedType) where
             omega (arith, z, count, i.count, n)
 
     -- a term applied to arguments is no constant
-    pub no_longer_constant : (f c : ClosedTerm) (F X : Tree) (rest : List Tree) → StandsForTerm d f at F → constant_from d at (applied F (X ∷ rest)) ClosedTypes.none ≡ Some c → ⊥
+    pub no_longer_constant : (f c : ClosedTerm) (F X : Tree) (rest : List Tree) → StandsForTerm d f at F
+        → constant_from d at (applied F (X ∷ rest)) ClosedTypes.none ≡ Some c → ⊥
     no_longer_constant f c F X rest h e =
         let a = constant_from-applied d at (applied F (X ∷ rest)) ClosedTypes.none c e in
         let l = enough_arguments d f at F a.symbol a.constant h (sym (head_of-applied F (X ∷ rest)) ∙ a.head) a.found in

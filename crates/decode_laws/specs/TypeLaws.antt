@@ -51,7 +51,8 @@ module _ (d : List Declaration) (at : Place) where
       (and_from (nat_lt (D - suc i) D) (nat_lt (D - suc (D - suc i)) at.type_variables) ((Decides-ltb (D - suc i) D).1 below) ((Decides-ltb (D - suc (D - suc i)) at.type_variables).1 own))
       ∙ ap (λ j. Some (ClosedType.parameter j)) back
 
-  pub type_from-is : (A : Tree) (args : ClosedTypes) (t : ClosedType) → type_from d at A args ≡ Some t → (Xs : List Tree) → StandForTypes d args at Xs → StandsForType d t at (applied A Xs)
+  pub type_from-is : (A : Tree) (args : ClosedTypes) (t : ClosedType) → type_from d at A args ≡ Some t → (Xs : List Tree) → StandForTypes d args at Xs
+      → StandsForType d t at (applied A Xs)
   type_from-is SortType args t e Xs h = absurd (cc)
   type_from-is SortKind args t e Xs h = absurd (cc)
   type_from-is (Var v) ClosedTypes.none t e [] h = type_parameter-is v t e
@@ -80,7 +81,8 @@ module _ (d : List Declaration) (at : Place) where
         ∙ ap (λ us. option_map (λ m. ClosedType.operator m us) (operator_at d h.0 (closed_count us))) (joined-none ts)
         ∙ ap (option_map (λ m. ClosedType.operator m ts)) (operator_at-means d h.0 (closed_count ts) n (subst (λ k. MeansOperator d h.0 n k) (sym (count-stand ts h.1 h.3)) h.2))
 
-    pub types-stand : (ts : ClosedTypes) (As : List Tree) (f : Tree) (acc : ClosedTypes) → StandForTypes d ts at As → type_from d at (applied f As) acc ≡ type_from d at f (joined ts acc)
+    pub types-stand : (ts : ClosedTypes) (As : List Tree) (f : Tree) (acc : ClosedTypes) → StandForTypes d ts at As
+        → type_from d at (applied f As) acc ≡ type_from d at f (joined ts acc)
     types-stand ClosedTypes.none [] f acc h = refl
     types-stand ClosedTypes.none (A ∷ As) f acc h = absurd h
     types-stand (ClosedTypes.more t ts) [] f acc h = absurd h

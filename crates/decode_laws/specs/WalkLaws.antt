@@ -53,7 +53,8 @@ module _ (named : ℕ → Name) (d : List Declaration) (at : Place) where
   arguments-within (Pi a b) acc t e = absurd (cc)
 
   -- where an argument is none within the limits, the whole is none within them and one level more
-  pub none-argument : (size level below : ℕ) (f x : Tree) (acc : ClosedTypes) → level ≤ below + 1 → NoType named size below (type_from d at x ClosedTypes.none) → NoType named size level (type_from d at (App f x) acc)
+  pub none-argument : (size level below : ℕ) (f x : Tree) (acc : ClosedTypes) → level ≤ below + 1 → NoType named size below (type_from d at x ClosedTypes.none)
+      → NoType named size level (type_from d at (App f x) acc)
   none-argument size level below f x acc l h t e a b =
       let p = bind-is (type_from d at x ClosedTypes.none) (λ u. type_from d at f (ClosedTypes.more u acc)) t e in
       let k = arguments-within f (ClosedTypes.more p.0 acc) t p.2 in
@@ -67,5 +68,6 @@ module _ (named : ℕ → Name) (d : List Declaration) (at : Place) where
       f (subst (λ u. type_size (open_type named u) ≤ size) (sym same) a) (subst (λ u. type_depth (open_type named u) ≤ level) (sym same) b)
 
   -- an argument more, the next of the spine
-  pub some-argument : (f x : Tree) (acc : ClosedTypes) (u : ClosedType) → type_from d at x ClosedTypes.none ≡ Some u → type_from d at (App f x) acc ≡ type_from d at f (ClosedTypes.more u acc)
+  pub some-argument : (f x : Tree) (acc : ClosedTypes) (u : ClosedType) → type_from d at x ClosedTypes.none ≡ Some u
+      → type_from d at (App f x) acc ≡ type_from d at f (ClosedTypes.more u acc)
   some-argument f x acc u e = ap (λ o. bind o (λ t. type_from d at f (ClosedTypes.more t acc))) e

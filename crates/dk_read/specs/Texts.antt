@@ -70,8 +70,10 @@ pub record Signs (piece : List ℕ) (n : ℕ) (token : Token) : Type 0 where
   pub some : 1 ≤ n
   pub within : n ≤ length piece
   pub known : IsTokenKnown [] token
-  pub goes : (p : ℕ) (m m2 : List Declaration) (s s2 : reading.State) → reading.advance m s p (token_in [] token) ≡ reading.Goes m2 s2 → reading.read_bytes (reading.Inside p tokens.Nothing m s) piece ≡ reading.read_bytes (reading.Inside (p + n) tokens.Nothing m2 s2) (drop n piece)
-  pub stops : (p : ℕ) (m : List Declaration) (s : reading.State) (r : reading.Refusal) → reading.advance m s p (token_in [] token) ≡ reading.Stops r → reading.read_bytes (reading.Inside p tokens.Nothing m s) piece ≡ reading.Refused r
+  pub goes : (p : ℕ) (m m2 : List Declaration) (s s2 : reading.State) → reading.advance m s p (token_in [] token) ≡ reading.Goes m2 s2
+      → reading.read_bytes (reading.Inside p tokens.Nothing m s) piece ≡ reading.read_bytes (reading.Inside (p + n) tokens.Nothing m2 s2) (drop n piece)
+  pub stops : (p : ℕ) (m : List Declaration) (s : reading.State) (r : reading.Refusal) → reading.advance m s p (token_in [] token) ≡ reading.Stops r
+      → reading.read_bytes (reading.Inside p tokens.Nothing m s) piece ≡ reading.Refused r
 
 -- a refusal as it is answered: a place past what a number holds is the greatest
 pub record Refuses (a : reading.Answer) (p : ℕ) (k : DkKind) : Type 0 where

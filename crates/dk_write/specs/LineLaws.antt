@@ -46,12 +46,14 @@ pub length-shortened : (before ds : List Declaration) → length (shortened_afte
 length-shortened before [] = refl
 length-shortened before (d ∷ ds) = omega (arith, length-shortened (before ++ d ∷ []) ds)
 
-slice_get-shortened : (before ds : List Declaration) (i : ℕ) (d : Declaration) → slice_get ds i ≡ Some d → slice_get (shortened_after before ds) i ≡ Some (shortened_declaration (before ++ take i ds) d)
+slice_get-shortened : (before ds : List Declaration) (i : ℕ) (d : Declaration) → slice_get ds i ≡ Some d
+    → slice_get (shortened_after before ds) i ≡ Some (shortened_declaration (before ++ take i ds) d)
 slice_get-shortened before [] i d e = absurd (cc)
 slice_get-shortened before (x ∷ ds) zero d e = ap (λ y. Some (shortened_declaration before y)) (same_Some x d e) ∙ ap (λ l. Some (shortened_declaration l d)) (sym (append-nil before))
 slice_get-shortened before (x ∷ ds) (suc i) d e = slice_get-shortened (before ++ x ∷ []) ds i d e ∙ ap (λ l. Some (shortened_declaration l d)) (append_assoc before (x ∷ []) (take i ds))
 
-pub shortened-at : (m : List Declaration) (i : ℕ) (d : Declaration) → slice_get m i ≡ Some d → slice_get (shortened_after [] m) i ≡ Some (shortened_declaration (take i m) d)
+pub shortened-at : (m : List Declaration) (i : ℕ) (d : Declaration) → slice_get m i ≡ Some d
+    → slice_get (shortened_after [] m) i ≡ Some (shortened_declaration (take i m) d)
 shortened-at m i d e = slice_get-shortened [] m i d e
 
 -- the lines of the declarations from one on

@@ -60,7 +60,8 @@ item_names-short (i ∷ items) = go i (item_names-short items)
     line : length ((item_text i ++ newline ∷ []) ++ text_of items) ≡ (length (item_text i) + 1) + length (text_of items)
     line = length-append (item_text i ++ newline ∷ []) (text_of items) ∙ ap (λ n. n + length (text_of items)) (length-append (item_text i) (newline ∷ []))
 
-    go : (j : Item) → length (item_names items) ≤ length (text_of items) → length (item_names (j ∷ items)) ≤ length ((item_text i ++ newline ∷ []) ++ text_of items)
+    go : (j : Item) → length (item_names items) ≤ length (text_of items)
+        → length (item_names (j ∷ items)) ≤ length ((item_text i ++ newline ∷ []) ++ text_of items)
     go (item.Number z) h = omega (arith, line, h)
     go (item.Name n) h = omega (arith, line, h)
     go (item.Word w) h = omega (arith, line, h)
@@ -70,7 +71,8 @@ union-short : {A : Type 0} (same : A → A → Bool) (ys xs : List A) → length
 union-short same [] xs = omega arith
 union-short {A = A} same (y ∷ ys) xs = go (is_in same y xs) (union-short same ys)
   where
-    go : (b : Bool) → ((zs : List A) → length (union same zs ys) ≤ length zs + length ys) → length (union same (cond b xs (xs ++ y ∷ [])) ys) ≤ length xs + suc (length ys)
+    go : (b : Bool) → ((zs : List A) → length (union same zs ys) ≤ length zs + length ys)
+        → length (union same (cond b xs (xs ++ y ∷ [])) ys) ≤ length xs + suc (length ys)
     go true more = let h = more xs in omega (arith, h)
     go false more = let h = more (xs ++ y ∷ []) in let long = length-append xs (y ∷ []) in omega (arith, h, long)
 
@@ -134,7 +136,8 @@ module _ (P : Name → Type 0) (new : P (codes "a" ∷ [])) (old : P (codes "r" 
     abbrev AreIn : List Made → Type 0
     AreIn part = (k : ℕ) (x : Step) → slice_get (steps_of part) k ≡ Some x → flag k ≡ true → SequentIn P x.sequent
 
-    premises-In : (before rest : List Made) → run.made ≡ before ++ rest → AreIn before → (k : ℕ) (x : Step) → k ≡ length (steps_of before) → slice_get all k ≡ Some x → flag k ≡ true
+    premises-In : (before rest : List Made) → run.made ≡ before ++ rest → AreIn before → (k : ℕ) (x : Step) → k ≡ length (steps_of before)
+        → slice_get all k ≡ Some x → flag k ≡ true
         → (is : List ℕ) (ss : List Sequent) → ((i : ℕ) → IsIn is i → IsIn x.premises i) → ArePremises (sequents_of before) is ss → AllByRecursion (SequentIn P) ss
     premises-In before rest whole h k x last at on [] [] some e = tt
     premises-In before rest whole h k x last at on [] (s ∷ ss) some e = absurd e
@@ -206,7 +209,8 @@ steps-places P (y ∷ ys) h k =
     (steps-places P ys h.1 k.1)
 
 -- The names are few
-pub names-few : (version : Version) (run : Accepted) → IsProof run.made → length (article version run) ≤ max_article → length (variable_names (reached_steps run)) < 2 ^ 64
+pub names-few : (version : Version) (run : Accepted) → IsProof run.made → length (article version run) ≤ max_article
+    → length (variable_names (reached_steps run)) < 2 ^ 64
 names-few version run proof short =
     let items = article_items version run in
     let own : List Name = (codes "a" ∷ []) ∷ (codes "r" ∷ []) ∷ [] in

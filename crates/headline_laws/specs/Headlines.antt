@@ -26,7 +26,8 @@ use Rattle.headline_laws.specs.FoldedHeadlines.{each_folded_run_carries}
 use Rattle.text_laws.specs.ReadTrees.{unshort-AreLong}
 
 -- what is written of it reads as it, and as no other
-written-ReadsBack : (texts : List (List ℕ)) (run : Accepted) → AllByRecursion AreBytes texts → Run texts (accepted run) → ReadsBack (image run) (module_bounds false run)
+written-ReadsBack : (texts : List (List ℕ)) (run : Accepted) → AllByRecursion AreBytes texts → Run texts (accepted run)
+    → ReadsBack (image run) (module_bounds false run)
 written-ReadsBack texts run bytes r =
     let named = run-has_names texts run bytes r in
     written_reads (image run) (module_bounds false run) (runs_are_modules texts run r named) (unshort-AreLong (image run) (image-NoneShort run named (runs_are_sound texts run r))) (image-ArePlain run named (runs_are_sound texts run r)) (runs_are_shallow texts run r) (length-map (image run) (bound (image run)))

@@ -77,7 +77,8 @@ digits-words : (ds : List ℕ) → list_all is_decimal_digit ds ≡ true → Are
 digits-words [] h = refl
 digits-words (d ∷ ds) h = go (is_decimal_digit d) refl h (digits-words ds)
   where
-    go : (b : Bool) → is_decimal_digit d ≡ b → (b && list_all is_decimal_digit ds) ≡ true → (list_all is_decimal_digit ds ≡ true → AreWordBytes ds) → AreWordBytes (d ∷ ds)
+    go : (b : Bool) → is_decimal_digit d ≡ b → (b && list_all is_decimal_digit ds) ≡ true → (list_all is_decimal_digit ds ≡ true → AreWordBytes ds)
+        → AreWordBytes (d ∷ ds)
     go true e k rest = word-more d ds (digit-word d e) (rest k)
     go false e k rest = absurd (cc)
 
@@ -117,7 +118,8 @@ other-word name word low high = go (bytes_eq name word) (bytes_eq-Decides name w
     go true d = let same = ap second_byte (d.0 refl) in absurd (omega (arith, low, high, same))
     go false d = refl
 
-plain-name : (first : ℕ) (more name : List ℕ) → name ≡ first ∷ more → is_letter first ≡ true → (first ≡ 118 → ⊥) → AreWordBytes more → second_byte name ≤ 95 → IsPlainName name
+plain-name : (first : ℕ) (more name : List ℕ) → name ≡ first ∷ more → is_letter first ≡ true → (first ≡ 118 → ⊥) → AreWordBytes more → second_byte name ≤ 95
+    → IsPlainName name
 plain-name first more name is letter other bytes low = record {
   word = record { first = first; more = more; is = is; letter = letter; bytes = bytes };
   no_key = rw (other-word name (codes "Type") low (omega arith), other-word name (codes "def") low (omega arith), other-word name (codes "thm") low (omega arith)) refl;
@@ -172,7 +174,8 @@ declared-plain : (symbols : _) (number : ℕ → ℕ) (keep : ℕ → Bool) (xs 
 declared-plain symbols number keep [] h = tt
 declared-plain symbols number keep (x ∷ xs) h = go (keep x.symbol) (declared-plain symbols number keep xs h.1)
   where
-    go : (b : Bool) → ArePlain (map (declaration symbols) (map (renumbered number) (kept keep xs))) → ArePlain (map (declaration symbols) (map (renumbered number) (cond b (x ∷ kept keep xs) (kept keep xs))))
+    go : (b : Bool) → ArePlain (map (declaration symbols) (map (renumbered number) (kept keep xs)))
+        → ArePlain (map (declaration symbols) (map (renumbered number) (cond b (x ∷ kept keep xs) (kept keep xs))))
     go true rest = (subst IsPlainName (sym (declared-name symbols (renumbered number x))) h.0, rest)
     go false rest = rest
 
@@ -221,7 +224,8 @@ declared-unshort : (symbols : _) (number : ℕ → ℕ) (keep : ℕ → Bool) (x
 declared-unshort symbols number keep [] h = tt
 declared-unshort symbols number keep (x ∷ xs) h = go (keep x.symbol) (declared-unshort symbols number keep xs h.1)
   where
-    go : (b : Bool) → NoneShort (map (declaration symbols) (map (renumbered number) (kept keep xs))) → NoneShort (map (declaration symbols) (map (renumbered number) (cond b (x ∷ kept keep xs) (kept keep xs))))
+    go : (b : Bool) → NoneShort (map (declaration symbols) (map (renumbered number) (kept keep xs)))
+        → NoneShort (map (declaration symbols) (map (renumbered number) (cond b (x ∷ kept keep xs) (kept keep xs))))
     go true rest = (subst (λ name. is_short_name name ≡ false) (sym (declared-name symbols (renumbered number x))) h.0, rest)
     go false rest = rest
 

@@ -123,7 +123,8 @@ module _ (P : Name → Type 0) where
   predicate-In names c f one d h = let k : TermIn P (term.Term.app f d.witness) = subst (TermIn P) d.holds h.conclusion in k.0
 
   -- The names of what a rule concludes
-  pub rule-In : P (codes "a" ∷ []) → P (codes "r" ∷ []) → (kind : StepKind) (premises : List Sequent) (given : Parameters) (s : Sequent) → Rule kind premises given s → AllByRecursion (SequentIn P) premises → GivenIn P given → SequentIn P s
+  pub rule-In : P (codes "a" ∷ []) → P (codes "r" ∷ []) → (kind : StepKind) (premises : List Sequent) (given : Parameters) (s : Sequent)
+      → Rule kind premises given s → AllByRecursion (SequentIn P) premises → GivenIn P given → SequentIn P s
   rule-In new old kind premises given s (rule.refl {t = t} {a = a} h e) p g = concludes [] (equation a t t) s e (tt {0}) (of_equation t t a g g)
   rule-In new old kind premises given s (rule.assume {p = q} h e) p g = concludes (q ∷ []) q s e (g, tt {0}) g
   rule-In new old kind premises given s (rule.eq_mp {p = x} {q = y} {one = one} {two = two} e f i) p g =

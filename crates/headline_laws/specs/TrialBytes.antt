@@ -14,7 +14,8 @@ bytes-told : (bs : List ℕ) → list_all (λ b. nat_lt b 256) bs ≡ true → A
 bytes-told [] h = tt
 bytes-told (b ∷ bs) h = go (nat_lt b 256) refl h (bytes-told bs)
   where
-    go : (t : Bool) → nat_lt b 256 ≡ t → (t && list_all (λ b. nat_lt b 256) bs) ≡ true → (list_all (λ b. nat_lt b 256) bs ≡ true → AreBytes bs) → AreBytes (b ∷ bs)
+    go : (t : Bool) → nat_lt b 256 ≡ t → (t && list_all (λ b. nat_lt b 256) bs) ≡ true → (list_all (λ b. nat_lt b 256) bs ≡ true → AreBytes bs)
+        → AreBytes (b ∷ bs)
     go true e k rest = ((let less : b < 256 = grind (arith, nat_tests, e) in less), rest k)
     go false e k rest = absurd (cc)
 

@@ -101,14 +101,17 @@ module _ (P : Name → Type 0) where
   consed zero h = h
   consed (suc k) h = consed k (word_said word.Cons h)
 
-  each : {A : Type 0} (write : A → Draft → Draft) (F : A → Type 0) → ((x : A) (d : Draft) → Wrote d (write x d) (F x)) → (xs : List A) (d : Draft) → Wrote d (write_each write xs d) (AllByRecursion F xs)
+  each : {A : Type 0} (write : A → Draft → Draft) (F : A → Type 0) → ((x : A) (d : Draft) → Wrote d (write x d) (F x)) → (xs : List A) (d : Draft)
+      → Wrote d (write_each write xs d) (AllByRecursion F xs)
   each write F h [] d = nothing d
   each write F h (x ∷ xs) d = after (h x d) (each write F h xs (write x d))
 
-  listed : {A : Type 0} (write : A → Draft → Draft) (F : A → Type 0) → ((x : A) (d : Draft) → Wrote d (write x d) (F x)) → (xs : List A) (d : Draft) → Wrote d (write_list write xs d) (AllByRecursion F xs)
+  listed : {A : Type 0} (write : A → Draft → Draft) (F : A → Type 0) → ((x : A) (d : Draft) → Wrote d (write x d) (F x)) → (xs : List A) (d : Draft)
+      → Wrote d (write_list write xs d) (AllByRecursion F xs)
   listed write F h xs d = consed (length xs) (word_said word.Nil (each write F h xs d))
 
-  paired : (one two : Draft → Draft) (F G : Type 0) → ((d : Draft) → Wrote d (one d) F) → ((d : Draft) → Wrote d (two d) G) → (d : Draft) → Wrote d (write_pair one two d) (F × G)
+  paired : (one two : Draft → Draft) (F G : Type 0) → ((d : Draft) → Wrote d (one d) F) → ((d : Draft) → Wrote d (two d) G) → (d : Draft)
+      → Wrote d (write_pair one two d) (F × G)
   paired one two F G f g d = consed 2 (word_said word.Nil (after (f d) (g (one d))))
 
   mutual
@@ -213,7 +216,8 @@ module _ (P : Name → Type 0) where
     exported : (x : Step) (d : Draft) → Wrote d (write_export q x d) (GivenIn P x.parameters)
     exported x d = word_said word.Thm (second (premises x.premises d) (given x.parameters (write_each write_premise x.premises d)))
 
-    by_kind : (kind : StepKind) (is_export : Bool) (i : ℕ) (x : Step) (d : Draft) → (kind ≡ SecondLaw → GivenIn P x.parameters) → Wrote d (write_by q kind is_export i x d) (GivenIn P x.parameters)
+    by_kind : (kind : StepKind) (is_export : Bool) (i : ℕ) (x : Step) (d : Draft) → (kind ≡ SecondLaw → GivenIn P x.parameters)
+        → Wrote d (write_by q kind is_export i x d) (GivenIn P x.parameters)
     by_kind SecondLaw is_export i x d h = infer (λ k. h refl) (nothing d)
     by_kind Axiom is_export i x d h = assumed i x d
     by_kind Restate true i x d h = exported x d

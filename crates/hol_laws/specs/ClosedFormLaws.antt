@@ -34,7 +34,8 @@ module _ {A : Type 0} (same : A → A → Bool) (decides : (x y : A) → Decides
   position-within [] x k = absurd k
   position-within (y ∷ ys) x k = go (same x y) refl (decides x y) (λ i. position-within ys x i) k
     where
-      go : (b : Bool) → same x y ≡ b → Decides (same x y) (x ≡ y) → (IsIn ys x → position_or_len (same x) ys < length ys) → IsIn (y ∷ ys) x → position_or_len (same x) (y ∷ ys) < length (y ∷ ys)
+      go : (b : Bool) → same x y ≡ b → Decides (same x y) (x ≡ y) → (IsIn ys x → position_or_len (same x) ys < length ys) → IsIn (y ∷ ys) x
+          → position_or_len (same x) (y ∷ ys) < length (y ∷ ys)
       go true e d later k = let p = position-cons (same x) y ys true e in omega (arith, p)
       go false e d later (inl is) = absurd (let yes = d.1 is in cc)
       go false e d later (inr i) = let p = position-cons (same x) y ys false e in let l = later i in omega (arith, p, l)
@@ -44,7 +45,8 @@ module _ {A : Type 0} (same : A → A → Bool) (decides : (x y : A) → Decides
   get_or-position [] x d k = absurd k
   get_or-position (y ∷ ys) x d k = go (same x y) refl (decides x y) (λ i. get_or-position ys x d i) k
     where
-      go : (b : Bool) → same x y ≡ b → Decides (same x y) (x ≡ y) → (IsIn ys x → get_or ys (position_or_len (same x) ys) d ≡ x) → IsIn (y ∷ ys) x → get_or (y ∷ ys) (position_or_len (same x) (y ∷ ys)) d ≡ x
+      go : (b : Bool) → same x y ≡ b → Decides (same x y) (x ≡ y) → (IsIn ys x → get_or ys (position_or_len (same x) ys) d ≡ x) → IsIn (y ∷ ys) x
+          → get_or (y ∷ ys) (position_or_len (same x) (y ∷ ys)) d ≡ x
       go true e p later k = ap (λ n. get_or (y ∷ ys) n d) (position-cons (same x) y ys true e) ∙ sym (p.0 e)
       go false e p later (inl is) = absurd (let yes = p.1 is in cc)
       go false e p later (inr i) = ap (λ n. get_or (y ∷ ys) n d) (position-cons (same x) y ys false e) ∙ later i
@@ -69,7 +71,8 @@ position-map : {A B : Type 0} (same : A → A → Bool) (eq : B → B → Bool) 
 position-map same eq f x [] h = refl
 position-map same eq f x (y ∷ ys) h = go (same x y) refl (position-map same eq f x ys h.1)
   where
-    go : (b : Bool) → same x y ≡ b → position_or_len (eq (f x)) (map f ys) ≡ position_or_len (same x) ys → position_or_len (eq (f x)) (f y ∷ map f ys) ≡ position_or_len (same x) (y ∷ ys)
+    go : (b : Bool) → same x y ≡ b → position_or_len (eq (f x)) (map f ys) ≡ position_or_len (same x) ys
+        → position_or_len (eq (f x)) (f y ∷ map f ys) ≡ position_or_len (same x) (y ∷ ys)
     go b e later = position-cons (eq (f x)) (f y) (map f ys) b (h.0 ∙ e) ∙ ap (λ k. cond b 0 (suc k)) later ∙ sym (position-cons (same x) y ys b e)
 
 type_variables-distinct : (s : Sequent) → IsDistinct name_eq (type_variables_of s)
@@ -86,7 +89,8 @@ module _ (r : Name → Name) (ns : List Name) (one : (m n : Name) → IsIn ns m 
         ap ClosedType.parameter (position-map name_eq name_eq r n ns (All-each _ ns (λ m k. agree name_eq name_eq name_eq-Decides name_eq-Decides r n m (one n m h.0 k))))
     close_type-renamed (type.HolType.operator n ts) h = ap (ClosedType.operator n) (close_types-renamed ts h)
 
-    close_types-renamed : (ts : HolTypes) → AllByRecursion (IsIn ns) (variable_places_of_all ts) → close_types (map r ns) (renamed_types r ts) ≡ close_types ns ts
+    close_types-renamed : (ts : HolTypes) → AllByRecursion (IsIn ns) (variable_places_of_all ts)
+        → close_types (map r ns) (renamed_types r ts) ≡ close_types ns ts
     close_types-renamed type.HolTypes.none h = refl
     close_types-renamed (type.HolTypes.more t ts) h =
         ap₂ ClosedTypes.more (close_type-renamed t (All-left _ (variable_places t) (variable_places_of_all ts) h)) (close_types-renamed ts (All-right _ (variable_places t) (variable_places_of_all ts) h))
@@ -154,7 +158,8 @@ module _ (ns ns' : List Name) where
         let g : close_types ns ts ≡ close_types ns' us = cc in
         ap₂ type.HolType.operator f (types-taken ts us h g)
 
-    types-taken : (ts us : HolTypes) → AllByRecursion (IsIn ns') (variable_places_of_all us) → close_types ns ts ≡ close_types ns' us → renamed_types name_of ts ≡ us
+    types-taken : (ts us : HolTypes) → AllByRecursion (IsIn ns') (variable_places_of_all us) → close_types ns ts ≡ close_types ns' us
+        → renamed_types name_of ts ≡ us
     types-taken type.HolTypes.none type.HolTypes.none h e = refl
     types-taken type.HolTypes.none (type.HolTypes.more u us) h e = absurd (cc)
     types-taken (type.HolTypes.more t ts) type.HolTypes.none h e = absurd (cc)
@@ -205,7 +210,8 @@ module _ (ns ns' : List Name) where
         let t : renamed_type name_of v.1 ≡ (variable_at v).1 = type-taken v.1 (variable_at v).1 (All-at _ vs' (variable_at v) known (variable_at-IsIn v i)) (variable_at-type v i) in
         λ j. ((variable_at v).0, t j)
 
-    variables-apart : IsDistinct variable_eq vs' → (v w : Variable) → IsIn vs v → IsIn vs w → renamed_variable name_of variable_name v ≡ renamed_variable name_of variable_name w → v ≡ w
+    variables-apart : IsDistinct variable_eq vs' → (v w : Variable) → IsIn vs v → IsIn vs w
+        → renamed_variable name_of variable_name v ≡ renamed_variable name_of variable_name w → v ≡ w
     variables-apart d v w h k e =
         let a = position-within variable_eq variable_eq-Decides vs v h in
         let b = position-within variable_eq variable_eq-Decides vs w k in
@@ -214,7 +220,8 @@ module _ (ns ns' : List Name) where
         (get_or-injective variable_eq variable_eq-Decides vs' (position_or_len (variable_eq v) vs) (position_or_len (variable_eq w) vs) v w d (omega (arith, a, c)) (omega (arith, b, c))
         (sym (variable-taken v h) ∙ e ∙ variable-taken w k))
 
-    term-taken : (t u : Term) → AllByRecursion (IsIn vs) (free_places t) → AllByRecursion (IsIn ns') (type_variable_places u) → AllByRecursion (IsIn vs') (free_places u)
+    term-taken : (t u : Term) → AllByRecursion (IsIn vs) (free_places t) → AllByRecursion (IsIn ns') (type_variable_places u)
+        → AllByRecursion (IsIn vs') (free_places u)
         → close_term ns vs t ≡ close_term ns' vs' u → renamed name_of variable_name t ≡ u
     term-taken (term.Term.free m t) (term.Term.free n u) o h k e =
         let f : position_or_len (variable_eq (m, t)) vs ≡ position_or_len (variable_eq (n, u)) vs' = cc in

@@ -75,7 +75,8 @@ type_arguments-filled_in f t =
     ∙ ap (λ o. unwrap_or o (variable n)) (lookup-told f (variable_places t) n (IsIn-distinct_of name_eq name_eq-Decides (variable_places t) n k))))
 
 -- the type arguments of an instance after a substitution
-pub type_arguments-substitute : (s : TypePairs) (generic t : HolType) → Instance generic t → type_arguments generic (substitute s t) ≡ map (substitute s) (type_arguments generic t)
+pub type_arguments-substitute : (s : TypePairs) (generic t : HolType) → Instance generic t
+    → type_arguments generic (substitute s t) ≡ map (substitute s) (type_arguments generic t)
 type_arguments-substitute s generic t h =
     let is : filled_in (image h.0) generic ≡ t = sym (substitute-is h.0 generic) ∙ h.1 in
     ap (λ u. type_arguments generic (substitute s u)) (sym is)
@@ -96,12 +97,14 @@ Instance-filled_in generic t h = (image h.0, sym (substitute-is h.0 generic) ∙
 module _ (P : Name → Type 0) where
   mutual
     -- what holds of the variables of an instance holds of those of what was filled in
-    places-filled_in : (f : Name → HolType) (t : HolType) (n : Name) → IsIn (variable_places t) n → AllByRecursion P (variable_places (filled_in f t)) → AllByRecursion P (variable_places (f n))
+    places-filled_in : (f : Name → HolType) (t : HolType) (n : Name) → IsIn (variable_places t) n → AllByRecursion P (variable_places (filled_in f t))
+        → AllByRecursion P (variable_places (f n))
     places-filled_in f (variable m) n (inl e) h = subst (λ k. AllByRecursion P (variable_places (f k))) (sym e) h
     places-filled_in f (variable m) n (inr k) h = absurd k
     places-filled_in f (operator m ts) n k h = all_places-filled_in f ts n k h
 
-    all_places-filled_in : (f : Name → HolType) (ts : HolTypes) (n : Name) → IsIn (variable_places_of_all ts) n → AllByRecursion P (variable_places_of_all (filled_in_all f ts)) → AllByRecursion P (variable_places (f n))
+    all_places-filled_in : (f : Name → HolType) (ts : HolTypes) (n : Name) → IsIn (variable_places_of_all ts) n
+        → AllByRecursion P (variable_places_of_all (filled_in_all f ts)) → AllByRecursion P (variable_places (f n))
     all_places-filled_in f none n k h = absurd k
     all_places-filled_in f (more t ts) n k h =
         ⊎_elim

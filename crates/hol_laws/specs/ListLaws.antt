@@ -45,7 +45,8 @@ all_with_new P true xs y h p = h
 all_with_new P false xs y h p = AllByRecursion-push P xs y h p
 
 -- What holds of the elements of two lists holds of those of their union.
-pub union-All : {A : Type 0} (P : A → Type 0) (same : A → A → Bool) (ys xs : List A) → AllByRecursion P xs → AllByRecursion P ys → AllByRecursion P (union same xs ys)
+pub union-All : {A : Type 0} (P : A → Type 0) (same : A → A → Bool) (ys xs : List A) → AllByRecursion P xs → AllByRecursion P ys
+    → AllByRecursion P (union same xs ys)
 union-All P same [] xs h k = h
 union-All P same (y ∷ ys) xs h k = union-All P same ys (cond (is_in same y xs) xs (xs ++ y ∷ [])) (all_with_new P (is_in same y xs) xs y h k.0) k.1
 
@@ -126,7 +127,8 @@ module _ {A : Type 0} (same : A → A → Bool) (decides : (x y : A) → Decides
       (λ a. is_in-union ys more x (subst (λ z. is_in same z more ≡ true) (sym ((decides x y).0 a)) (is_in-itself (is_in same y xs) y xs refl)))
       (λ b. is_in-union_second ys more x b) e
 
-  union-if_new : (b : Bool) (xs found : List A) (y : A) → is_in same y found ≡ b → union same xs (cond b found (found ++ y ∷ [])) ≡ cond (is_in same y (union same xs found)) (union same xs found) (union same xs found ++ y ∷ [])
+  union-if_new : (b : Bool) (xs found : List A) (y : A) → is_in same y found ≡ b
+      → union same xs (cond b found (found ++ y ∷ [])) ≡ cond (is_in same y (union same xs found)) (union same xs found) (union same xs found ++ y ∷ [])
   union-if_new true xs found y e = ap (λ b. cond b (union same xs found) (union same xs found ++ y ∷ [])) (sym (is_in-union_second found xs y e))
   union-if_new false xs found y e = union-append same found (y ∷ []) xs
 

@@ -58,7 +58,8 @@ pub follows-byteless : (r : List ℕ) → Follows r → IsByteless r
 follows-byteless r f = record { none = λ b bs q small e. not_followed r b bs q small f e }
 
 -- a first byte and what comes after it
-same_first : (b c : ℕ) (bs cs r q : List ℕ) → b < 256 → c < 256 → mangled_before (b ∷ bs) r ≡ mangled_before (c ∷ cs) q → (b ≡ c) × (mangled_before bs r ≡ mangled_before cs q)
+same_first : (b c : ℕ) (bs cs r q : List ℕ) → b < 256 → c < 256 → mangled_before (b ∷ bs) r ≡ mangled_before (c ∷ cs) q
+    → (b ≡ c) × (mangled_before bs r ≡ mangled_before cs q)
 same_first b c bs cs r q l m e = go (is_ascii_alphanumeric b) (is_ascii_alphanumeric c) refl refl
   where
     go : (t u : Bool) → is_ascii_alphanumeric b ≡ t → is_ascii_alphanumeric c ≡ u → (b ≡ c) × (mangled_before bs r ≡ mangled_before cs q)
@@ -86,7 +87,8 @@ same_first b c bs cs r q l m e = go (is_ascii_alphanumeric b) (is_ascii_alphanum
         (halves b c eh el, rest-is (hex_digit (b % 16)) (hex_digit (c % 16)) (mangled_before bs r) (mangled_before cs q) after)
 
 -- a component is told from its text before what doesn't go on with a byte
-pub same_component : (bs cs r q : List ℕ) → AreBytes bs → AreBytes cs → IsByteless r → IsByteless q → mangled_before bs r ≡ mangled_before cs q → (bs ≡ cs) × (r ≡ q)
+pub same_component : (bs cs r q : List ℕ) → AreBytes bs → AreBytes cs → IsByteless r → IsByteless q → mangled_before bs r ≡ mangled_before cs q
+    → (bs ≡ cs) × (r ≡ q)
 same_component [] [] r q a b f g e = (refl, e)
 same_component [] (c ∷ cs) r q a b f g e = absurd (f.none c cs q b.0 e)
 same_component (b ∷ bs) [] r q a k f g e = absurd (g.none b bs r a.0 (sym e))

@@ -82,7 +82,8 @@ unfolding onto
 with_byte-onto b bytes [] = refl
 with_byte-onto b bytes (component ∷ name) = refl
 
-from-component : {text bytes : List ℕ} → IsComponent text bytes → (rest : List ℕ) (name : Name) → name_from rest ≡ Some name → name_from (text ++ rest) ≡ Some (onto bytes name)
+from-component : {text bytes : List ℕ} → IsComponent text bytes → (rest : List ℕ) (name : Name) → name_from rest ≡ Some name
+    → name_from (text ++ rest) ≡ Some (onto bytes name)
 from-component nothing rest name e = rw onto-nil e
 from-component {text = b ∷ text} (plain {bytes = bytes} p h) rest name e =
     rw (ne_eqb b quote p.no_quote, ne_eqb b dot p.no_dot, ne_eqb b backslash p.no_backslash)

@@ -24,7 +24,8 @@ get_or-seam [] ys y d = refl
 get_or-seam (x ∷ xs) ys y d = get_or-seam xs ys y d
 
 -- an item of a list with one more is an item of the list, or the new one at its place
-pub slice_get-one_more : {X : Type 0} (xs : List X) (x y : X) (i : ℕ) → slice_get (xs ++ x ∷ []) i ≡ Some y → (slice_get xs i ≡ Some y) ⊎ ((i ≡ length xs) × (x ≡ y))
+pub slice_get-one_more : {X : Type 0} (xs : List X) (x y : X) (i : ℕ) → slice_get (xs ++ x ∷ []) i ≡ Some y
+    → (slice_get xs i ≡ Some y) ⊎ ((i ≡ length xs) × (x ≡ y))
 slice_get-one_more [] x y zero e = inr (refl, same_Some _ _ e)
 slice_get-one_more [] x y (suc i) e = inl e
 slice_get-one_more (z ∷ xs) x y zero e = inl e

@@ -4,7 +4,8 @@ use Rattle.std.specs.Bool.{Decides}
 use Rattle.std.specs.List.{position_or_len}
 use Rattle.hol_spec.specs.Lists.{IsIn}
 
-pub position-cons : {A : Type 0} (test : A → Bool) (x : A) (xs : List A) (b : Bool) → test x ≡ b → position_or_len test (x ∷ xs) ≡ cond b 0 (suc (position_or_len test xs))
+pub position-cons : {A : Type 0} (test : A → Bool) (x : A) (xs : List A) (b : Bool) → test x ≡ b
+    → position_or_len test (x ∷ xs) ≡ cond b 0 (suc (position_or_len test xs))
 position-cons test x xs true e = rw e refl
 position-cons test x xs false e = rw e (omega arith)
 

@@ -83,7 +83,8 @@ module _ (r : Name → Name) (q : Variable → Name) where
   term_depth-renamed (lam t b) = ap₂ (λ a b. 1 + max a b) (type_depth-renamed r t) (term_depth-renamed b)
 
   -- a renamed term has its type renamed
-  pub type_under-renamed : (binders : List HolType) (t : Term) (a : HolType) → type_under binders t ≡ Some a → type_under (map (renamed_type r) binders) (renamed r q t) ≡ Some (renamed_type r a)
+  pub type_under-renamed : (binders : List HolType) (t : Term) (a : HolType) → type_under binders t ≡ Some a
+      → type_under (map (renamed_type r) binders) (renamed r q t) ≡ Some (renamed_type r a)
   type_under-renamed binders (free n c) a e = ap (option_map (renamed_type r)) e
   type_under-renamed binders (bound k) a e = slice_get-map (renamed_type r) binders k ∙ ap (option_map (renamed_type r)) e
   type_under-renamed binders (constant n c) a e = ap (option_map (renamed_type r)) e
@@ -97,7 +98,8 @@ module _ (r : Name → Name) (q : Variable → Name) where
 -- names that stay apart
 module _ (r : Name → Name) (ns : List Name) (one : (m n : Name) → IsIn ns m → IsIn ns n → r m ≡ r n → m ≡ n) where
   mutual
-    pub renamed_type-injective : (t u : HolType) → AllByRecursion (IsIn ns) (variable_places t) → AllByRecursion (IsIn ns) (variable_places u) → renamed_type r t ≡ renamed_type r u → t ≡ u
+    pub renamed_type-injective : (t u : HolType) → AllByRecursion (IsIn ns) (variable_places t) → AllByRecursion (IsIn ns) (variable_places u)
+        → renamed_type r t ≡ renamed_type r u → t ≡ u
     renamed_type-injective (variable m) (variable n) h k e = let f : r m ≡ r n = cc in ap variable (one m n h.0 k.0 f)
     renamed_type-injective (variable m) (operator n us) h k e = absurd (cc)
     renamed_type-injective (operator m ts) (variable n) h k e = absurd (cc)
@@ -106,7 +108,8 @@ module _ (r : Name → Name) (ns : List Name) (one : (m n : Name) → IsIn ns m 
         let g : renamed_types r ts ≡ renamed_types r us = cc in
         ap₂ operator f (renamed_types-injective ts us h k g)
 
-    pub renamed_types-injective : (ts us : HolTypes) → AllByRecursion (IsIn ns) (variable_places_of_all ts) → AllByRecursion (IsIn ns) (variable_places_of_all us) → renamed_types r ts ≡ renamed_types r us → ts ≡ us
+    pub renamed_types-injective : (ts us : HolTypes) → AllByRecursion (IsIn ns) (variable_places_of_all ts)
+        → AllByRecursion (IsIn ns) (variable_places_of_all us) → renamed_types r ts ≡ renamed_types r us → ts ≡ us
     renamed_types-injective none none h k e = refl
     renamed_types-injective none (more u us) h k e = absurd (cc)
     renamed_types-injective (more t ts) none h k e = absurd (cc)
@@ -161,7 +164,8 @@ module _ {A B : Type 0} (f : A → B) (same : A → A → Bool) (eq : B → B �
   IsDistinct-map [] h k = tt
   IsDistinct-map (x ∷ xs) h k = (apart-map x xs h.0 h.1 k.0, IsDistinct-map xs h.1 k.1)
 
-pub flat_map-map : {A B C D : Type 0} (f : A → B) (g : B → List D) (h : A → List C) (k : C → D) (says : (x : A) → g (f x) ≡ map k (h x)) (xs : List A) → flat_map g (map f xs) ≡ map k (flat_map h xs)
+pub flat_map-map : {A B C D : Type 0} (f : A → B) (g : B → List D) (h : A → List C) (k : C → D) (says : (x : A) → g (f x) ≡ map k (h x)) (xs : List A)
+    → flat_map g (map f xs) ≡ map k (flat_map h xs)
 flat_map-map f g h k says [] = refl
 flat_map-map f g h k says (x ∷ xs) = ap₂ (λ a b. a ++ b) (says x) (flat_map-map f g h k says xs) ∙ sym (map-append k (h x) (flat_map h xs))
 
@@ -169,7 +173,8 @@ pub sum_by-map : {A B : Type 0} (f : A → B) (g : B → ℕ) (h : A → ℕ) (s
 sum_by-map f g h says [] = refl
 sum_by-map f g h says (x ∷ xs) = sum_by-cons g (f x) (map f xs) ∙ ap₂ (λ a b. a + b) (says x) (sum_by-map f g h says xs) ∙ sym (sum_by-cons h x xs)
 
-pub greatest_by-map : {A B : Type 0} (f : A → B) (g : B → ℕ) (h : A → ℕ) (says : (x : A) → g (f x) ≡ h x) (xs : List A) → greatest_by g (map f xs) ≡ greatest_by h xs
+pub greatest_by-map : {A B : Type 0} (f : A → B) (g : B → ℕ) (h : A → ℕ) (says : (x : A) → g (f x) ≡ h x) (xs : List A)
+    → greatest_by g (map f xs) ≡ greatest_by h xs
 greatest_by-map f g h says [] = refl
 greatest_by-map f g h says (x ∷ xs) = ap₂ max (says x) (greatest_by-map f g h says xs)
 

@@ -19,7 +19,8 @@ all_in gs (h ∷ hs) t e f =
     or_elim (IsTrue (is_in term_eq t gs)) (term_eq t h) (is_in term_eq t hs) f
     (λ k. subst (λ u. IsTrue (is_in term_eq u gs)) (sym ((term_eq-Decides t h).0 k)) parts.0) (λ k. all_in gs hs t parts.1 k)
 
-all_among : (fs gs hs : List Term) → IsTrue (list_all (λ h. is_in term_eq h gs) hs) → IsTrue (list_all (λ g. is_in term_eq g fs) gs) → IsTrue (list_all (λ h. is_in term_eq h fs) hs)
+all_among : (fs gs hs : List Term) → IsTrue (list_all (λ h. is_in term_eq h gs) hs) → IsTrue (list_all (λ g. is_in term_eq g fs) gs)
+    → IsTrue (list_all (λ h. is_in term_eq h fs) hs)
 all_among fs gs [] e f = refl
 all_among fs gs (h ∷ hs) e f =
     let parts = and_parts (is_in term_eq h gs) (list_all (λ k. is_in term_eq k gs) hs) e in

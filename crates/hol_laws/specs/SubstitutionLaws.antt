@@ -28,7 +28,8 @@ mutual
   read_off_all-substitute s none = refl
   read_off_all-substitute s (more t ts) = rw (read_off-substitute s t, read_off_all-substitute s ts) (sym (said-append s (variable_places t) (variable_places_of_all ts)))
 
-lookup-head : (b : Bool) (s : TypePairs) (m n : Name) (rest : Option HolType) → (b ≡ true → n ≡ m) → rest ≡ Some (image s n) → cond b (Some (image s m)) rest ≡ Some (image s n)
+lookup-head : (b : Bool) (s : TypePairs) (m n : Name) (rest : Option HolType) → (b ≡ true → n ≡ m) → rest ≡ Some (image s n)
+    → cond b (Some (image s m)) rest ≡ Some (image s n)
 lookup-head true s m n rest f e = ap (λ k. Some (image s k)) (sym (f refl))
 lookup-head false s m n rest f e = e
 
@@ -42,7 +43,8 @@ mutual
   substitute-said s (variable n) ms os = rw (lookup-said s n ms os) refl
   substitute-said s (operator n ts) ms os = ap (operator n) (substitute_all-said s ts ms os)
 
-  substitute_all-said : (s : TypePairs) (ts : HolTypes) (ms os : List Name) → substitute_all (said s (ms ++ (variable_places_of_all ts ++ os))) ts ≡ substitute_all s ts
+  substitute_all-said : (s : TypePairs) (ts : HolTypes) (ms os : List Name)
+      → substitute_all (said s (ms ++ (variable_places_of_all ts ++ os))) ts ≡ substitute_all s ts
   substitute_all-said s none ms os = refl
   substitute_all-said s (more t ts) ms os =
       let left : substitute (said s (ms ++ ((variable_places t ++ variable_places_of_all ts) ++ os))) t ≡ substitute s t

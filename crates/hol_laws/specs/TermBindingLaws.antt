@@ -54,7 +54,8 @@ cons_lift k u a = ap (replace (cons (lift k u) bound)) (sym (suc_lift k a)) ∙ 
 
 -- A put more among the variables of a list.
 module _ (k : ℕ) (u : Term) where
-  one_more : (xs : List Term) (n : ℕ) → replace (cons (lift k u) bound) (option_map_or (lift (suc k)) (slice_get xs n) (bound (n - length xs))) ≡ option_map_or (lift k) (slice_get (xs ++ u ∷ []) n) (bound (n - suc (length xs)))
+  one_more : (xs : List Term) (n : ℕ)
+      → replace (cons (lift k u) bound) (option_map_or (lift (suc k)) (slice_get xs n) (bound (n - length xs))) ≡ option_map_or (lift k) (slice_get (xs ++ u ∷ []) n) (bound (n - suc (length xs)))
   one_more [] zero = refl
   one_more [] (suc n) =
       let a : suc n - 0 ≡ suc n = omega arith in

@@ -35,7 +35,8 @@ loose-IsTerm u h = let p = typed (type_of u) h in loose-typed [] u p.0 p.1
 put_bound-raised : (d : ℕ) (u : Term) (n : ℕ) → put_bound d u (raised d 1 n) ≡ bound n
 put_bound-raised d u n = grind arith
 
-put_closed_free : (b : Bool) (d : ℕ) (u : Term) (w : Variable) → loose u ≤ 0 → put_at d u (cond b (bound d) (free w.0 w.1)) ≡ unwrap_or (cond b (Some u) None) (free w.0 w.1)
+put_closed_free : (b : Bool) (d : ℕ) (u : Term) (w : Variable) → loose u ≤ 0
+    → put_at d u (cond b (bound d) (free w.0 w.1)) ≡ unwrap_or (cond b (Some u) None) (free w.0 w.1)
 put_closed_free true d u w h = own ∙ lift_at-closed 0 d u h
   where
     own : put_bound d u d ≡ lift d u

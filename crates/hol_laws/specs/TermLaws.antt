@@ -49,11 +49,13 @@ pub type_eq-refl : (a : HolType) → type_eq a a ≡ true
 type_eq-refl a = (type_eq-Decides a a).1 refl
 
 -- A function applied to an argument of its argument's type has its result's type, under any binders.
-pub type_under-app : (binders : List HolType) (f x : Term) (a b : HolType) → type_under binders f ≡ Some (function a b) → type_under binders x ≡ Some a → type_under binders (app f x) ≡ Some b
+pub type_under-app : (binders : List HolType) (f x : Term) (a b : HolType) → type_under binders f ≡ Some (function a b) → type_under binders x ≡ Some a
+    → type_under binders (app f x) ≡ Some b
 type_under-app binders f x a b p q = rw (p, q, type_eq-refl a) refl
 
 -- An abstraction is a function from its binder's type to its body's.
-pub type_under-lam : (binders : List HolType) (a : HolType) (t : Term) (b : HolType) → type_under (a ∷ binders) t ≡ Some b → type_under binders (lam a t) ≡ Some (function a b)
+pub type_under-lam : (binders : List HolType) (a : HolType) (t : Term) (b : HolType) → type_under (a ∷ binders) t ≡ Some b
+    → type_under binders (lam a t) ≡ Some (function a b)
 type_under-lam binders a t b p = rw p refl
 
 -- An equation between two terms of one type is of type `bool`.

@@ -156,11 +156,13 @@ option_map_or-lift d m None = refl
 option_map_or-lift d m (Some a) = suc_lift d a
 
 -- A variable that passes d binders is an argument or a lower variable.
-pub put_all_bound-high : (d : ℕ) (us : List Term) (n : ℕ) → d ≤ n → put_all_bound d us n ≡ option_map_or (lift d) (slice_get (reverse us) (n - d)) (bound (n - length us))
+pub put_all_bound-high : (d : ℕ) (us : List Term) (n : ℕ) → d ≤ n
+    → put_all_bound d us n ≡ option_map_or (lift d) (slice_get (reverse us) (n - d)) (bound (n - length us))
 put_all_bound-high d us n h = grind arith
 
 -- A variable for which there is no argument passes them all.
-suc_lowered : (d : ℕ) (us : List Term) (n : ℕ) → option_map_or (lift (suc d)) (slice_get (reverse us) (n - d)) (bound (suc (n - length us))) ≡ option_map_or (lift (suc d)) (slice_get (reverse us) (n - d)) (bound (suc n - length us))
+suc_lowered : (d : ℕ) (us : List Term) (n : ℕ)
+    → option_map_or (lift (suc d)) (slice_get (reverse us) (n - d)) (bound (suc (n - length us))) ≡ option_map_or (lift (suc d)) (slice_get (reverse us) (n - d)) (bound (suc n - length us))
 suc_lowered d us n = go (slice_get_cases (reverse us) (n - d)).1
   where
     go : ((x : Term) × (n - d < length (reverse us)) × (slice_get (reverse us) (n - d) ≡ Some x) × (get_or (reverse us) (n - d) x ≡ x)) ⊎ ((length (reverse us) ≤ n - d) × (slice_get (reverse us) (n - d) ≡ None))

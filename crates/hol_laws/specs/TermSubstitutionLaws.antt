@@ -25,7 +25,8 @@ type_under-any binders u a h =
     ∙ type_under-lift_at [] binders [] u
     ∙ h
 
-image_of : (b : Bool) (binders : List HolType) (v w : Variable) (u : Term) (rest : Option Term) → (b ≡ true → v ≡ w) → HasType u w.1 → type_under binders (unwrap_or rest (free v.0 v.1)) ≡ Some v.1 → type_under binders (unwrap_or (cond b (Some u) rest) (free v.0 v.1)) ≡ Some v.1
+image_of : (b : Bool) (binders : List HolType) (v w : Variable) (u : Term) (rest : Option Term) → (b ≡ true → v ≡ w) → HasType u w.1
+    → type_under binders (unwrap_or rest (free v.0 v.1)) ≡ Some v.1 → type_under binders (unwrap_or (cond b (Some u) rest) (free v.0 v.1)) ≡ Some v.1
 image_of true binders v w u rest e h r = type_under-any binders u w.1 h ∙ ap (λ (x : Variable). Some x.1) (sym (e refl))
 image_of false binders v w u rest e h r = r
 
@@ -74,7 +75,8 @@ application_type-is (Some p) None b e = absurd (cc)
 application_type-is (Some p) (Some q) b e = (q, (ap Some (function_parts-is p q b (result_type-is (function_parts p) q b e)), refl))
 
 -- An abstraction that has a type has that of functions from its variable's type to its body's.
-pub abstraction_type-is : (c : HolType) (t : Option HolType) (a : HolType) → option_map (function c) t ≡ Some a → (d : HolType) × ((t ≡ Some d) × (a ≡ function c d))
+pub abstraction_type-is : (c : HolType) (t : Option HolType) (a : HolType) → option_map (function c) t ≡ Some a
+    → (d : HolType) × ((t ≡ Some d) × (a ≡ function c d))
 abstraction_type-is c None a e = absurd (cc)
 abstraction_type-is c (Some d) a e = (d, (refl, is (sym e)))
   where
@@ -86,7 +88,8 @@ abstraction_type-is c (Some d) a e = (d, (refl, is (sym e)))
     is e = ap or_else e
 
 -- The law of substitution: under binders whose types are put too, a typed term has its type with the types put.
-pub type_under-sub : (types : TypePairs) (terms : TermPairs) → AreFitting terms → (binders : List HolType) (t : Term) (a : HolType) → type_under binders t ≡ Some a → type_under (map (substitute types) binders) (sub types terms t) ≡ Some (substitute types a)
+pub type_under-sub : (types : TypePairs) (terms : TermPairs) → AreFitting terms → (binders : List HolType) (t : Term) (a : HolType)
+    → type_under binders t ≡ Some a → type_under (map (substitute types) binders) (sub types terms t) ≡ Some (substitute types a)
 type_under-sub types terms f binders (free n c) a e = type_under-term_image (map (substitute types) binders) terms (n, substitute types c) f ∙ ap (option_map (substitute types)) e
 type_under-sub types terms f binders (bound k) a e = slice_get-map (substitute types) binders k ∙ ap (option_map (substitute types)) e
 type_under-sub types terms f binders (constant n c) a e = ap (option_map (substitute types)) e

@@ -14,7 +14,8 @@ use Rattle.hol_laws.specs.TermClosed.{lift_at-zero}
 use Rattle.hol_spec.specs.BindingStatements.{TypeOfAbstraction, TypeOfInstance, LooseTyped}
 
 -- Of a list with something in between, what stands before and behind it stays.
-slice_get-raised : (front mid back : List HolType) (n : ℕ) → slice_get (front ++ (mid ++ back)) (raised (length front) (length mid) n) ≡ slice_get (front ++ back) n
+slice_get-raised : (front mid back : List HolType) (n : ℕ)
+    → slice_get (front ++ (mid ++ back)) (raised (length front) (length mid) n) ≡ slice_get (front ++ back) n
 slice_get-raised [] [] back n = grind arith
 slice_get-raised [] (m ∷ mid) back n = ap (slice_get (m ∷ (mid ++ back))) (more (length mid)) ∙ slice_get-raised [] mid back n
   where
@@ -30,7 +31,8 @@ slice_get-raised (f ∷ front) mid back (suc n) = ap (slice_get (f ∷ (front ++
     one d = grind arith
 
 -- A lifted term has the same type under more binders.
-pub type_under-lift_at : (front mid back : List HolType) (t : Term) → type_under (front ++ (mid ++ back)) (lift_at (length front) (length mid) t) ≡ type_under (front ++ back) t
+pub type_under-lift_at : (front mid back : List HolType) (t : Term)
+    → type_under (front ++ (mid ++ back)) (lift_at (length front) (length mid) t) ≡ type_under (front ++ back) t
 type_under-lift_at front mid back (free m c) = refl
 type_under-lift_at front mid back (bound n) = slice_get-raised front mid back n
 type_under-lift_at front mid back (constant m c) = refl
@@ -42,12 +44,14 @@ slice_get-seam : (front back : List HolType) (a : HolType) → slice_get (front 
 slice_get-seam [] back a = refl
 slice_get-seam (f ∷ front) back a = slice_get-seam front back a
 
-close_free : (b : Bool) (front back : List HolType) (v w : Variable) → (b ≡ true → w ≡ v) → type_under (front ++ v.1 ∷ back) (cond b (bound (length front)) (free w.0 w.1)) ≡ Some w.1
+close_free : (b : Bool) (front back : List HolType) (v w : Variable) → (b ≡ true → w ≡ v)
+    → type_under (front ++ v.1 ∷ back) (cond b (bound (length front)) (free w.0 w.1)) ≡ Some w.1
 close_free true front back v w e = slice_get-seam front back v.1 ∙ ap (λ (x : Variable). Some x.1) (sym (e refl))
 close_free false front back v w e = refl
 
 -- Closing keeps the type.
-pub type_under-close_at : (front back : List HolType) (v : Variable) (t : Term) → type_under (front ++ v.1 ∷ back) (close_at (length front) v t) ≡ type_under (front ++ back) t
+pub type_under-close_at : (front back : List HolType) (v : Variable) (t : Term)
+    → type_under (front ++ v.1 ∷ back) (close_at (length front) v t) ≡ type_under (front ++ back) t
 type_under-close_at front back v (free m c) = close_free (variable_eq (m, c) v) front back v (m, c) (variable_eq-Decides (m, c) v).0
 type_under-close_at front back v (bound n) = slice_get-raised front (v.1 ∷ []) back n
 type_under-close_at front back v (constant m c) = refl
@@ -63,7 +67,8 @@ put_bound-suc d u n =
     sym (up_terms_put_bound d u (suc n)) ∙ ap (λ r. rename r (put_bound d u n)) (fun_ext (λ m. let e : suc m ≡ m + 1 = omega arith in e)) ∙ sym (lift_is 1 (put_bound d u n))
 
 -- What is put for a number has its type, where the term put has the type of the binder that goes.
-type_under-put_bound : (front back : List HolType) (a : HolType) (u : Term) → type_under back u ≡ Some a → (n : ℕ) → type_under (front ++ back) (put_bound (length front) u n) ≡ slice_get (front ++ a ∷ back) n
+type_under-put_bound : (front back : List HolType) (a : HolType) (u : Term) → type_under back u ≡ Some a → (n : ℕ)
+    → type_under (front ++ back) (put_bound (length front) u n) ≡ slice_get (front ++ a ∷ back) n
 type_under-put_bound [] back a u e zero = ap (type_under back) (lift_at-zero 0 u) ∙ e
 type_under-put_bound [] back a u e (suc n) = ap (type_under back) lowered
   where
@@ -79,7 +84,8 @@ type_under-put_bound (f ∷ front) back a u e (suc n) =
     ∙ type_under-put_bound front back a u e n
 
 -- To put a term of a binder's type for its variable keeps the type.
-pub type_under-put_at : (front back : List HolType) (a : HolType) (u : Term) → type_under back u ≡ Some a → (t : Term) → type_under (front ++ back) (put_at (length front) u t) ≡ type_under (front ++ a ∷ back) t
+pub type_under-put_at : (front back : List HolType) (a : HolType) (u : Term) → type_under back u ≡ Some a → (t : Term)
+    → type_under (front ++ back) (put_at (length front) u t) ≡ type_under (front ++ a ∷ back) t
 type_under-put_at front back a u e (free m c) = refl
 type_under-put_at front back a u e (bound n) = type_under-put_bound front back a u e n
 type_under-put_at front back a u e (constant m c) = refl

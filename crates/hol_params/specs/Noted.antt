@@ -35,5 +35,7 @@ pub record AreNoted (trees : Trees) (memo : ParamMemo) : Type 0 where
 
 -- what was found in some terms, with what is new of the term with this number
 pub record Gathers (trees : Trees) (id : TermId) (old new : Found) : Type 0 where
-  pub names : (places : List Name) → AreNames trees.types places old.names → AreNames trees.types (places ++ type_variable_places (term_at trees id.0)) new.names
-  pub variables : (places : List AVariable) → AreVariables trees places old.variables → AreVariables trees (places ++ free_places (term_at trees id.0)) new.variables
+  pub names : (places : List Name) → AreNames trees.types places old.names
+      → AreNames trees.types (places ++ type_variable_places (term_at trees id.0)) new.names
+  pub variables : (places : List AVariable) → AreVariables trees places old.variables
+      → AreVariables trees (places ++ free_places (term_at trees id.0)) new.variables

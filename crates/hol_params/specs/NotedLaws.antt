@@ -27,7 +27,8 @@ pub variable_at-is : (trees : Trees) (i : ℕ) (h : IsVariableAt trees i) → va
 variable_at-is trees i h = ap variable_of (Some-term_in trees.terms i (free h.name h.ty) h.is)
 
 -- where the first implies the second, and lists are kept, what tells the first tells the second
-pub Tells-weaker : {P Q : List ℕ → Type 0} {old new : List (List ℕ)} → KeepsLists old new → ((l : List ℕ) → P l → Q l) → (o : Option ListId) → Tells P old o → Tells Q new o
+pub Tells-weaker : {P Q : List ℕ → Type 0} {old new : List (List ℕ)} → KeepsLists old new → ((l : List ℕ) → P l → Q l) → (o : Option ListId) → Tells P old o
+    → Tells Q new o
 Tells-weaker k f None h = tt
 Tells-weaker k f (Some id) h = record { list = h.list; is = k.each id.0 h.list h.is; such = f h.list h.such }
 
@@ -67,7 +68,8 @@ module _ (a b : Trees) (k : Stays a.terms b.terms) where
   })
 
 -- what was noted of types stays right
-AreTypesNoted-Keeps : (a b : List HolType) → type.Keeps a b → (names : List (List ℕ)) (noted : List (Option ListId)) → AreTypesNoted a names noted → AreTypesNoted b names noted
+AreTypesNoted-Keeps : (a b : List HolType) → type.Keeps a b → (names : List (List ℕ)) (noted : List (Option ListId)) → AreTypesNoted a names noted
+    → AreTypesNoted b names noted
 AreTypesNoted-Keeps a b k names noted h = record {
   few = omega (arith, h.few, k.longer);
   each = λ i o e.
@@ -76,7 +78,8 @@ AreTypesNoted-Keeps a b k names noted h = record {
 }
 
 -- and of terms
-AreTermsNoted-Keeps : (a b : Trees) → Keeps a b → (names variables : List (List ℕ)) (noted : List Own) → AreTermsNoted a names variables noted → AreTermsNoted b names variables noted
+AreTermsNoted-Keeps : (a b : Trees) → Keeps a b → (names variables : List (List ℕ)) (noted : List Own) → AreTermsNoted a names variables noted
+    → AreTermsNoted b names variables noted
 AreTermsNoted-Keeps a b k names variables noted h = record {
   few = omega (arith, h.few, k.longer);
   each = λ i own e.

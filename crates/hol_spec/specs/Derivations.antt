@@ -42,4 +42,5 @@ mutual
 
   pub data DerivesAll (definitions : List Definition) (assumptions : List Sequent) : List Sequent → Type 0 where
     none : DerivesAll definitions assumptions []
-    more : {s : Sequent} {rest : List Sequent} → Derives definitions assumptions s → DerivesAll definitions assumptions rest → DerivesAll definitions assumptions (s ∷ rest)
+    more : {s : Sequent} {rest : List Sequent} → Derives definitions assumptions s → DerivesAll definitions assumptions rest
+        → DerivesAll definitions assumptions (s ∷ rest)

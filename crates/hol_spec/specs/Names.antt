@@ -31,7 +31,8 @@ pub data IsComponent : List ℕ → List ℕ → Type 0 where
 -- a text that writes these components, with a dot between any two
 pub data AreComponents : List ℕ → Name → Type 0 where
   one : {text bytes : List ℕ} → IsComponent text bytes → AreComponents text (bytes ∷ [])
-  dotted : {text more whole bytes : List ℕ} {name : Name} → IsComponent text bytes → whole ≡ text ++ dot ∷ more → AreComponents more name → AreComponents whole (bytes ∷ name)
+  dotted : {text more whole bytes : List ℕ} {name : Name} → IsComponent text bytes → whole ≡ text ++ dot ∷ more → AreComponents more name
+      → AreComponents whole (bytes ∷ name)
 
 -- a line that writes this name: its components between two quotes
 pub record IsNameLine (line : List ℕ) (name : Name) : Type 0 where

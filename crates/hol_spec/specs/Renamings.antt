@@ -33,7 +33,8 @@ renamed_sequent r q s = record { hypotheses = map (renamed r q) s.hypotheses; co
 -- names, hypotheses in order, is the other.
 pub record IsRenaming (r : Name → Name) (q : Variable → Name) (s t : Sequent) : Type 0 where
   pub type_variables_apart : (m n : Name) → IsIn (type_variables_of s) m → IsIn (type_variables_of s) n → r m ≡ r n → m ≡ n
-  pub free_variables_apart : (v w : Variable) → IsIn (free_variables_of s) v → IsIn (free_variables_of s) w → renamed_variable r q v ≡ renamed_variable r q w → v ≡ w
+  pub free_variables_apart : (v w : Variable) → IsIn (free_variables_of s) v → IsIn (free_variables_of s) w → renamed_variable r q v ≡ renamed_variable r q w
+      → v ≡ w
   pub takes : renamed_sequent r q s ≡ t
 
 -- Some renaming takes the first to the second.

@@ -78,12 +78,14 @@ pub data Rule : StepKind → List Sequent → Parameters → Sequent → Type 0 
   beta_conv : {a b : HolType} {t u : Term} {s : Sequent} → HasType (app (lam a t) u) b
       → s ≡ derived [] (equation b (app (lam a t) u) (put u t)) → Rule BetaConv [] (term (app (lam a t) u)) s
   -- from G |- x = y: G |- y = x
-  sym : {a : HolType} {x y : Term} {one s : Sequent} → one.conclusion ≡ equation a x y → s ≡ derived one.hypotheses (equation a y x) → Rule Sym (one ∷ []) nothing s
+  sym : {a : HolType} {x y : Term} {one s : Sequent} → one.conclusion ≡ equation a x y → s ≡ derived one.hypotheses (equation a y x)
+      → Rule Sym (one ∷ []) nothing s
   -- from G |- x = y and D |- y = z: G u D |- x = z
   trans : {a : HolType} {x y z : Term} {one two s : Sequent} → one.conclusion ≡ equation a x y → two.conclusion ≡ equation a y z
       → s ≡ derived (joined one.hypotheses two.hypotheses) (equation a x z) → Rule Trans (one ∷ two ∷ []) nothing s
   -- from G |- p and D |- q: G u (D - {p}) |- q
-  prove_hyp : {one two s : Sequent} → s ≡ derived (joined one.hypotheses (removed two.hypotheses one.conclusion)) two.conclusion → Rule ProveHyp (one ∷ two ∷ []) nothing s
+  prove_hyp : {one two s : Sequent} → s ≡ derived (joined one.hypotheses (removed two.hypotheses one.conclusion)) two.conclusion
+      → Rule ProveHyp (one ∷ two ∷ []) nothing s
   -- the premise with types put, then terms; hypotheses that become equal are one, the first
   subst : {types : TypePairs} {terms : TermPairs} {one s : Sequent} → AreFitting terms
       → s ≡ derived (distinct term_eq (map (sub types terms) one.hypotheses)) (sub types terms one.conclusion) → Rule Subst (one ∷ []) (substitution types terms) s
@@ -92,7 +94,8 @@ pub data Rule : StepKind → List Sequent → Parameters → Sequent → Type 0 
   -- the premise's conclusion, under its hypotheses and perhaps more
   restate : {one s : Sequent} → IsSequent s → IsTrue (within one s) → Rule Restate (one ∷ []) (sequent s) s
   -- |- n = t
-  define_const : {n : Name} {t : Term} {a : HolType} {s : Sequent} → IsDefining a t → s ≡ derived [] (equation a (Term.constant n a) t) → Rule DefineConst [] (constant n t) s
+  define_const : {n : Name} {t : Term} {a : HolType} {s : Sequent} → IsDefining a t → s ≡ derived [] (equation a (Term.constant n a) t)
+      → Rule DefineConst [] (constant n t) s
   -- from the hypotheses v = t, .. and p: p[c/v, ..], where each t can define its c
   define_const_list : {pairs : ConstantPairs} {one s : Sequent}
       → AllByRecursion (λ e. IsDefining e.0.1 e.1) (defining_equations pairs one.hypotheses) → IsTrue (is_definition_list pairs one)

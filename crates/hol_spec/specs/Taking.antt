@@ -24,9 +24,11 @@ pub data Takes (symbols : List Symbol) : Symbol → Type 0 where
   -- an input constant, at any type
   input_constant : {n : Name} → is_taken_constant symbols n ≡ false → Takes symbols (Symbol.input_constant n)
   -- an input operator, one for each arity
-  input_operator : {n : Name} {k : ℕ} → is_some (operator_arity symbols n) ≡ false → list_any (is_input_operator n k) symbols ≡ false → Takes symbols (Symbol.input_operator n k)
+  input_operator : {n : Name} {k : ℕ} → is_some (operator_arity symbols n) ≡ false → list_any (is_input_operator n k) symbols ≡ false
+      → Takes symbols (Symbol.input_operator n k)
   -- a constant by its term
-  constant : {n : Name} {a : HolType} {t : Term} → is_taken_constant symbols n ≡ false → IsDefining a t → Takes symbols (Symbol.defined (Definition.constant n t))
+  constant : {n : Name} {a : HolType} {t : Term} → is_taken_constant symbols n ≡ false → IsDefining a t
+      → Takes symbols (Symbol.defined (Definition.constant n t))
   -- an operator by its predicate
   type_operator : {names : TypeNames} {c : HolType} {f : Term} → AreNew symbols names → HasType f (function c bool) → IsTrue (is_closed f)
       → IsTrue (are_type_variables_of names.variables f) → Takes symbols (Symbol.defined (Definition.type_operator names c f))

@@ -57,7 +57,8 @@ IsHeld-Keeps m new k h = record {
   distinct = k.distinct h.distinct;
 }
 
-body-Keeps : {old new : List Tree} → Keeps old new → (body : Option LpId) → IsBodyKnown old body → option_map (λ id. tree_at new id.0) body ≡ option_map (λ id. tree_at old id.0) body
+body-Keeps : {old new : List Tree} → Keeps old new → (body : Option LpId) → IsBodyKnown old body
+    → option_map (λ id. tree_at new id.0) body ≡ option_map (λ id. tree_at old id.0) body
 body-Keeps k None h = refl
 body-Keeps k (Some id) h = ap Some (sym (tree_at-Stays k.stays id.0 h))
 
@@ -89,7 +90,8 @@ pub symbols-length : (ts : List Tree) (ds : List Decl) → length (signature ++ 
 symbols-length ts ds = length-append signature (map (declaration_in ts) ds) ∙ ap (λ n. length signature + n) (length-map ds (declaration_in ts))
 
 -- a symbol beyond them has no declaration
-pub symbol_declaration-beyond : (ts : List Tree) (ds : List Decl) (s : ℕ) → length signature + length ds ≤ s → symbol_declaration (map (declaration_in ts) ds) s ≡ None
+pub symbol_declaration-beyond : (ts : List Tree) (ds : List Decl) (s : ℕ) → length signature + length ds ≤ s
+    → symbol_declaration (map (declaration_in ts) ds) s ≡ None
 symbol_declaration-beyond ts ds s h = slice_get_past (signature ++ map (declaration_in ts) ds) s (omega (arith, symbols-length ts ds, h))
 
 module _ {X : Type 0} (p : X → Bool) where

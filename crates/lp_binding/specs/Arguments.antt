@@ -65,7 +65,8 @@ AreArguments m G before _ _ = ⊥
 
 module _ (m : List Declaration) (G : List Tree) where
   -- a function at arguments has what remains of its product, with the arguments put in
-  pub Typed-applied : (domains args before : List Tree) (f t : Tree) → Typed m G f (put_all before (products domains t)) → AreArguments m G before domains args → Typed m G (applied f args) (put_all (before ++ args) t)
+  pub Typed-applied : (domains args before : List Tree) (f t : Tree) → Typed m G f (put_all before (products domains t)) → AreArguments m G before domains args
+      → Typed m G (applied f args) (put_all (before ++ args) t)
   Typed-applied [] [] before f t h k = subst (λ l. Typed m G f (put_all l t)) (sym (append-nil before)) h
   Typed-applied [] (x ∷ args) before f t h k = absurd k
   Typed-applied (a ∷ domains) [] before f t h k = absurd k
@@ -74,6 +75,7 @@ module _ (m : List Declaration) (G : List Tree) where
       (Typed-applied domains args (before ++ x ∷ []) (App f x) t (of_application h k.0 (put-put_all x before (products domains t))) k.1)
 
   -- a symbol with a closed product for its type, at arguments
-  pub Typed-call : (domains args : List Tree) (s : ℕ) (t : Tree) → symbol_type m s ≡ Some (products domains t) → loose (products domains t) ≡ 0 → AreArguments m G [] domains args → Typed m G (applied (Sym s) args) (put_all args t)
+  pub Typed-call : (domains args : List Tree) (s : ℕ) (t : Tree) → symbol_type m s ≡ Some (products domains t) → loose (products domains t) ≡ 0
+      → AreArguments m G [] domains args → Typed m G (applied (Sym s) args) (put_all args t)
   Typed-call domains args s t e c k =
       Typed-applied domains args [] (Sym s) t (of_symbol (e ∙ ap Some (sym (put_all_at-closed 0 [] (products domains t) (omega (arith, c)))))) k

@@ -53,7 +53,8 @@ cons_lift k u a = ap (sub (cons (lift k u) Var)) (sym (suc_lift k a)) ∙ sub_re
 
 -- a put more among the variables of a list
 module _ (k : ℕ) (u : Tree) where
-  one_more : (xs : List Tree) (n : ℕ) → sub (cons (lift k u) Var) (option_map_or (lift (suc k)) (slice_get xs n) (Var (n - length xs))) ≡ option_map_or (lift k) (slice_get (xs ++ u ∷ []) n) (Var (n - suc (length xs)))
+  one_more : (xs : List Tree) (n : ℕ)
+      → sub (cons (lift k u) Var) (option_map_or (lift (suc k)) (slice_get xs n) (Var (n - length xs))) ≡ option_map_or (lift k) (slice_get (xs ++ u ∷ []) n) (Var (n - suc (length xs)))
   one_more [] zero = refl
   one_more [] (suc n) =
       let a : suc n - 0 ≡ suc n = omega arith in

@@ -20,7 +20,8 @@ pub slice_get-last : {X : Type 0} (xs : List X) (x : X) → slice_get (xs ++ x �
 slice_get-last xs x = slice_get-seam xs [] x
 
 -- an item of a list with one more is an item of the list, or the new one at its place
-pub slice_get-one_more : {X : Type 0} (xs : List X) (x y : X) (i : ℕ) → slice_get (xs ++ x ∷ []) i ≡ Some y → (slice_get xs i ≡ Some y) ⊎ ((i ≡ length xs) × (x ≡ y))
+pub slice_get-one_more : {X : Type 0} (xs : List X) (x y : X) (i : ℕ) → slice_get (xs ++ x ∷ []) i ≡ Some y
+    → (slice_get xs i ≡ Some y) ⊎ ((i ≡ length xs) × (x ≡ y))
 slice_get-one_more [] x y zero e = inr (refl, same_Some _ _ e)
 slice_get-one_more [] x y (suc i) e = inl e
 slice_get-one_more (z ∷ xs) x y zero e = inl e
@@ -31,13 +32,15 @@ pub slice_get-of_take : {X : Type 0} (n : ℕ) (xs : List X) (i : ℕ) (x : X) �
 slice_get-of_take n xs i x e = ap (λ l. slice_get l i) (sym (take-append-drop n xs)) ∙ slice_get-append (take n xs) (drop n xs) i x e
 
 -- what is read off an item of a list is read off that of a longer list
-pub option_map-append : {X Y : Type 0} (f : X → Y) (xs ys : List X) (i : ℕ) (y : Y) → option_map f (slice_get xs i) ≡ Some y → option_map f (slice_get (xs ++ ys) i) ≡ Some y
+pub option_map-append : {X Y : Type 0} (f : X → Y) (xs ys : List X) (i : ℕ) (y : Y) → option_map f (slice_get xs i) ≡ Some y
+    → option_map f (slice_get (xs ++ ys) i) ≡ Some y
 option_map-append f [] ys i y e = absurd (cc)
 option_map-append f (z ∷ xs) ys zero y e = e
 option_map-append f (z ∷ xs) ys (suc i) y e = option_map-append f xs ys i y e
 
 -- the same of what an item may lack
-pub option_and_then-append : {X Y : Type 0} (f : X → Option Y) (xs ys : List X) (i : ℕ) (y : Y) → option_and_then f (slice_get xs i) ≡ Some y → option_and_then f (slice_get (xs ++ ys) i) ≡ Some y
+pub option_and_then-append : {X Y : Type 0} (f : X → Option Y) (xs ys : List X) (i : ℕ) (y : Y) → option_and_then f (slice_get xs i) ≡ Some y
+    → option_and_then f (slice_get (xs ++ ys) i) ≡ Some y
 option_and_then-append f [] ys i y e = absurd (cc)
 option_and_then-append f (z ∷ xs) ys zero y e = e
 option_and_then-append f (z ∷ xs) ys (suc i) y e = option_and_then-append f xs ys i y e

@@ -18,12 +18,14 @@ use Rattle.lp_fast.specs.FastTyping.{infer-fast, check-fast}
 use Rattle.lp_fast.specs.FastStatements.{CheckerLawBy}
 
 -- what is found over well-typed declarations is typed, with rechecks or without
-pub infer-typed : (r : Bool) (m : List Declaration) → WellTyped m → (G : List Tree) (t A : Tree) (n : ℕ) → IsContext m G → Ends m r (infer m r G t) (Found A) n → Typed m G t A
+pub infer-typed : (r : Bool) (m : List Declaration) → WellTyped m → (G : List Tree) (t A : Tree) (n : ℕ) → IsContext m G → Ends m r (infer m r G t) (Found A) n
+    → Typed m G t A
 infer-typed true m well G t A n c h = infer-sound m (WellTyped-IsSound m well) G t A n c h
 infer-typed false m well G t A n c h = infer-fast m well G t A n c h
 
 -- a declaration that passes over well-typed ones is typed, with rechecks or without
-pub check-typed : (r : Bool) (m : List Declaration) → WellTyped m → (d : Declaration) (u : Tree) (n : ℕ) → HasBody d.form d.body → Ends m r (declaration_plan d) (Found u) n → IsTypedAfter m d
+pub check-typed : (r : Bool) (m : List Declaration) → WellTyped m → (d : Declaration) (u : Tree) (n : ℕ) → HasBody d.form d.body
+    → Ends m r (declaration_plan d) (Found u) n → IsTypedAfter m d
 check-typed true m well d u n b h = check-sound m (WellTyped-IsSound m well) d u n b h
 check-typed false m well d u n b h = check-fast m well d u n b h
 
@@ -45,7 +47,8 @@ module _ (r : Bool) where
       let t = check-typed r before well d h.0.found h.0.price (HasBody-IsBodyOver (length (signature ++ before)) d.form d.body a.0.body) h.0.by in
       (t, passed (before ++ d ∷ []) ds (WellTyped-after before d well t) (subst (λ l. AreDeclared l ds) (append_assoc signature before (d ∷ [])) a.1) h.1)
 
-  each_passed : (before ds : List Declaration) → ((i : ℕ) (d : Declaration) → slice_get ds i ≡ Some d → PassesBy r (before ++ ds) (length before + i)) → ArePassed r before ds
+  each_passed : (before ds : List Declaration) → ((i : ℕ) (d : Declaration) → slice_get ds i ≡ Some d → PassesBy r (before ++ ds) (length before + i))
+      → ArePassed r before ds
   each_passed before [] h = tt
   each_passed before (d ∷ ds) h = (first (h 0 d refl), each_passed (before ++ d ∷ []) ds (λ i e at. further i (h (suc i) e at)))
     where

@@ -14,7 +14,8 @@ use Rattle.lp_fast.specs.FastStatements.{FastPasses, OneCheck, ShapedFast}
 
 module _ (m : List Declaration) (i : ℕ) where
   -- what a check is made of, with rechecks or without
-  pub check-made : (r : Bool) (reply : Reply) (price : ℕ) (d : Declaration) → slice_get m i ≡ Some d → Ends (take i m) r (declaration_plan d) reply price → CheckBy r m i reply price
+  pub check-made : (r : Bool) (reply : Reply) (price : ℕ) (d : Declaration) → slice_get m i ≡ Some d → Ends (take i m) r (declaration_plan d) reply price
+      → CheckBy r m i reply price
   check-made true reply price d at ends = record { declaration = d; at = at; ends = ends }
   check-made false reply price d at ends = record { declaration = d; at = at; ends = ends }
 
@@ -24,7 +25,8 @@ module _ (m : List Declaration) (i : ℕ) where
   check-at false reply price c = (c.declaration, c.at)
 
   -- how the plan of that declaration ends
-  pub check-ends : (r : Bool) (reply : Reply) (price : ℕ) (d : Declaration) → slice_get m i ≡ Some d → CheckBy r m i reply price → Ends (take i m) r (declaration_plan d) reply price
+  pub check-ends : (r : Bool) (reply : Reply) (price : ℕ) (d : Declaration) → slice_get m i ≡ Some d → CheckBy r m i reply price
+      → Ends (take i m) r (declaration_plan d) reply price
   check-ends true reply price d at c = subst (λ e. Ends (take i m) true (declaration_plan e) reply price) (same_Some _ _ (sym c.at ∙ at)) c.ends
   check-ends false reply price d at c = subst (λ e. Ends (take i m) false (declaration_plan e) reply price) (same_Some _ _ (sym c.at ∙ at)) c.ends
 
@@ -39,7 +41,8 @@ fast_passes m i found price c =
     (f.price, record { declaration = c.declaration; at = c.at; ends = f.ends }, f.within)
 
 -- a declaration that is found its type within a price is found it without rechecks within that price
-pub priced-fast : (m : List Declaration) (i : ℕ) (d : Declaration) → IsPriced m i d → (price : ℕ) × FastCheck m i (Found d.ty) price × price ≤ 64 * (weight m d * weight m d)
+pub priced-fast : (m : List Declaration) (i : ℕ) (d : Declaration) → IsPriced m i d
+    → (price : ℕ) × FastCheck m i (Found d.ty) price × price ≤ 64 * (weight m d * weight m d)
 priced-fast m i d p =
     let f = fast_passes m i d.ty p.price p.check in
     (f.0, f.1, omega (arith, f.2, p.within))
@@ -48,5 +51,6 @@ pub shaped_fast : ShapedFast
 shaped_fast m h i d e = priced-fast m i d (shaped-priced m h i d e)
 
 -- and within the bound, where that isn't cut off
-pub fast-within : (m : List Declaration) (d : Declaration) (price : ℕ) → price ≤ 64 * (weight m d * weight m d) → 64 * (weight m d * weight m d * weight m d) ≤ greatest → price ≤ fast_bound m d
+pub fast-within : (m : List Declaration) (d : Declaration) (price : ℕ) → price ≤ 64 * (weight m d * weight m d)
+    → 64 * (weight m d * weight m d * weight m d) ≤ greatest → price ≤ fast_bound m d
 fast-within m d price h fits = let w = weight m d in omega (arith, h, fits, square-cube w)

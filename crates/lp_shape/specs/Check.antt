@@ -109,7 +109,8 @@ plan m r (Convert E F) = convert m E F
 pub data Ends (m : List Declaration) (r : Bool) : Plan → Reply → ℕ → Type 0 where
   said : {reply : Reply} → Ends m r (Say reply) reply 0
   refused : {q : Question} {rest : Tree → Plan} {n : ℕ} → Ends m r (plan m r q) No n → Ends m r (Ask q rest) No (suc n)
-  asked : {q : Question} {rest : Tree → Plan} {t : Tree} {reply : Reply} {n k : ℕ} → Ends m r (plan m r q) (Found t) n → Ends m r (rest t) reply k → Ends m r (Ask q rest) reply (suc (n + k))
+  asked : {q : Question} {rest : Tree → Plan} {t : Tree} {reply : Reply} {n k : ℕ} → Ends m r (plan m r q) (Found t) n → Ends m r (rest t) reply k
+      → Ends m r (Ask q rest) reply (suc (n + k))
 
 -- the question alone
 abbrev pub alone : Question → Plan

@@ -254,7 +254,8 @@ pub record PassesAt (m : List Declaration) (i : ℕ) : Type 0 where
   pub price : ℕ
   pub by : Check m i (Found found) price
 
-each_passed : (before ds : List Declaration) → ((i : ℕ) (d : Declaration) → slice_get ds i ≡ Some d → PassesAt (before ++ ds) (length before + i)) → ArePassed before ds
+each_passed : (before ds : List Declaration) → ((i : ℕ) (d : Declaration) → slice_get ds i ≡ Some d → PassesAt (before ++ ds) (length before + i))
+    → ArePassed before ds
 each_passed before [] h = tt
 each_passed before (d ∷ ds) h = (first (h 0 d refl), each_passed (before ++ d ∷ []) ds (λ i e at. further i (h (suc i) e at)))
   where

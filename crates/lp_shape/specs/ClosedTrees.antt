@@ -136,7 +136,8 @@ module _ (m : List Declaration) (closed : IsClosed m) (r : Bool) where
       go None h = no_alike
       go (Some t) h = found_alike (h t refl)
 
-  recheck-alike : (r : Bool) (d e : ℕ) {G D : List Tree} (t : Tree) {p q : Plan} → Agrees d G D → loose t ≤ d → Alike e p q → Alike e (recheck r G t p) (recheck r D t q)
+  recheck-alike : (r : Bool) (d e : ℕ) {G D : List Tree} (t : Tree) {p q : Plan} → Agrees d G D → loose t ≤ d → Alike e p q
+      → Alike e (recheck r G t p) (recheck r D t q)
   recheck-alike true d e t a h k = ask_alike (one_infer a h) (λ s l. if_sort-alike e s k)
   recheck-alike false d e t a h k = k
 
@@ -153,12 +154,14 @@ module _ (m : List Declaration) (closed : IsClosed m) (r : Bool) where
   if_product-alike d e (App f x) h on = no_alike
   if_product-alike d e (Lam a b) h on = no_alike
 
-  step-alike : (d e : ℕ) {G D : List Tree} (F : Tree) {f g : Tree → Tree → Plan} → Agrees d G D → loose F ≤ d → On d e f g → (o : Option Tree) → head_step m F ≡ o
+  step-alike : (d e : ℕ) {G D : List Tree} (F : Tree) {f g : Tree → Tree → Plan} → Agrees d G D → loose F ≤ d → On d e f g → (o : Option Tree)
+      → head_step m F ≡ o
       → Alike e (if_step o (λ H. Ask (Reach H) (λ P. recheck r G P (if_product P f)))) (if_step o (λ H. Ask (Reach H) (λ P. recheck r D P (if_product P g))))
   step-alike d e F a h on None q = no_alike
   step-alike d e F a h on (Some H) q = ask_alike (one_reach (loose-head m closed d F H q h)) (λ P l. recheck-alike r d e P a l (if_product-alike d e P l on))
 
-  product-alike : (d e : ℕ) {G D : List Tree} (F : Tree) {f g : Tree → Tree → Plan} → Agrees d G D → loose F ≤ d → On d e f g → Alike e (product_of m r G F f) (product_of m r D F g)
+  product-alike : (d e : ℕ) {G D : List Tree} (F : Tree) {f g : Tree → Tree → Plan} → Agrees d G D → loose F ≤ d → On d e f g
+      → Alike e (product_of m r G F f) (product_of m r D F g)
   product-alike d e (Pi A B) a h on = on A B (omega (arith, h)) (omega (arith, h))
   product-alike d e SortType a h on = no_alike
   product-alike d e SortKind a h on = no_alike
@@ -167,7 +170,8 @@ module _ (m : List Declaration) (closed : IsClosed m) (r : Bool) where
   product-alike d e (App f x) a h on = step-alike d e (App f x) a h on (head_step m (App f x)) refl
   product-alike d e (Lam b t) a h on = step-alike d e (Lam b t) a h on (head_step m (Lam b t)) refl
 
-  entry-seen : (d : ℕ) {G D : List Tree} (n : ℕ) → Agrees d G D → n < d → (o : Option Tree) → slice_get G n ≡ o → (t : Tree) → option_map (lift (suc n)) o ≡ Some t → loose t ≤ d
+  entry-seen : (d : ℕ) {G D : List Tree} (n : ℕ) → Agrees d G D → n < d → (o : Option Tree) → slice_get G n ≡ o → (t : Tree)
+      → option_map (lift (suc n)) o ≡ Some t → loose t ≤ d
   entry-seen d n a l (Some A) e t q = subst (λ u. loose u ≤ d) (same_Some _ _ q) (loose-lift (suc n) d A (a.seen n A l e))
   entry-seen d n a l None e t q = absurd (cc)
 
@@ -221,7 +225,8 @@ module _ (m : List Declaration) (closed : IsClosed m) (r : Bool) where
   parts-alike d (Pi a b) (Pi c e) h k = ask_alike (one_convert {d = d} (omega (arith, h)) (omega (arith, k))) (λ u l. ask_alike (one_convert {d = suc d} (omega (arith, h)) (omega (arith, k))) (λ v n. found_alike h))
   parts-alike d _ _ h k = no_alike
 
-  by-alike : (d : ℕ) (E F : Tree) (o u : Option Tree) → head_step m E ≡ o → head_step m F ≡ u → loose E ≤ d → loose F ≤ d → Alike d (convert_by E F o u) (convert_by E F o u)
+  by-alike : (d : ℕ) (E F : Tree) (o u : Option Tree) → head_step m E ≡ o → head_step m F ≡ u → loose E ≤ d → loose F ≤ d
+      → Alike d (convert_by E F o u) (convert_by E F o u)
   by-alike d E F (Some H) u e q h k = ask_alike (one_convert (loose-head m closed d E H e h) k) (λ v n. found_alike h)
   by-alike d E F None (Some H) e q h k = ask_alike (one_convert h (loose-head m closed d F H q k)) (λ v n. found_alike h)
   by-alike d E F None None e q h k = parts-alike d E F h k
@@ -236,7 +241,8 @@ module _ (m : List Declaration) (closed : IsClosed m) (r : Bool) where
       go false = recheck-alike r d d E a h (ask_alike (one_convert h k) (λ u l. found_alike h))
   plan-alike (one_convert {d = d} {E = E} {F = F} h k) = go (tree_eq E F)
     where
-      go : (b : Bool) → Alike d (if b then Say (Found E) else convert_by E F (head_step m E) (head_step m F)) (if b then Say (Found E) else convert_by E F (head_step m E) (head_step m F))
+      go : (b : Bool)
+          → Alike d (if b then Say (Found E) else convert_by E F (head_step m E) (head_step m F)) (if b then Say (Found E) else convert_by E F (head_step m E) (head_step m F))
       go true = found_alike h
       go false = by-alike d E F (head_step m E) (head_step m F) refl refl h k
 

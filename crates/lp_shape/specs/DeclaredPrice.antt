@@ -16,7 +16,8 @@ use Rattle.lp_shape.specs.SizedTerms.{sized, find-term}
 
 module _ (m : List Declaration) (closed : IsClosed m) where
   -- an equation of terms
-  pub find-equation : {G : List Tree} {a x y : Tree} {k l : ℕ} → IsSimple m G a → FindsTerm m closed G x a k → FindsTerm m closed G y a l → FindsTerm m closed G (eq_of a x y) bools (k + l + 23 * size a + 81)
+  pub find-equation : {G : List Tree} {a x y : Tree} {k l : ℕ} → IsSimple m G a → FindsTerm m closed G x a k → FindsTerm m closed G y a l
+      → FindsTerm m closed G (eq_of a x y) bools (k + l + 23 * size a + 81)
   find-equation {G = G} {a = a} ha hx hy =
       let bool : IsSimple m G bools = constant refl tt in
       let predicates : IsSimple m G (arr_of a bools) = at_type (at_type (constant refl tt) ha refl) bool refl in
@@ -37,7 +38,8 @@ module _ (m : List Declaration) (closed : IsClosed m) where
       Finds-more m (omega arith) (find_application m symbol found (meet_same m G (term_of bools)))
 
   -- a declared type
-  pub find-declared : {G : List Tree} {A : Tree} (w e : ℕ) → IsDeclared m G A → AreSmall m e G → size A ≤ e → size A + spreads m [] A + e ≤ suc w → Finds m (Infer G A) SortType (7 * suc w * size A)
+  pub find-declared : {G : List Tree} {A : Tree} (w e : ℕ) → IsDeclared m G A → AreSmall m e G → size A ≤ e → size A + spreads m [] A + e ≤ suc w
+      → Finds m (Infer G A) SortType (7 * suc w * size A)
   find-declared w e of_types g le less = record { steps = 0; ends = said; within = omega arith }
   find-declared w e (of_terms h) g le less = Finds-more m (omega arith) (find_terms m h)
   find-declared w e (of_proofs h) g le less = Finds-more m (omega arith) (find-proofs (find-term m closed w (sized m closed (suc w) e h g (omega (arith, le)) (omega (arith, less)))))

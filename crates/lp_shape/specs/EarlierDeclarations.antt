@@ -157,7 +157,8 @@ module _ (m : List Declaration) where
       go None h = no_alike
       go (Some t) h = found_alike (h t refl)
 
-  recheck-alike : (r : Bool) (G : List Tree) (t : Tree) {p q : Plan} → IsContextOver m G → IsTreeOver m t → Alike m p q → Alike m (recheck r G t p) (recheck r G t q)
+  recheck-alike : (r : Bool) (G : List Tree) (t : Tree) {p q : Plan} → IsContextOver m G → IsTreeOver m t → Alike m p q
+      → Alike m (recheck r G t p) (recheck r G t q)
   recheck-alike true G t g h k = ask_alike (over_infer g h) (λ s l. if_sort-alike s k)
   recheck-alike false G t g h k = k
 
@@ -190,14 +191,16 @@ module _ (m : List Declaration) (own : IsSelfContained m) (more : List Declarati
   head : (F : Tree) → IsTreeOver m F → Head F
   head F h = record { step = head_step m F; here = refl; longer = head_step-longer m more F h; over = λ H e. symbols-head_step m own F H e h }
 
-  step-alike : (F : Tree) → IsTreeOver m F → (f g : Tree → Plan) → ((H : Tree) → IsTreeOver m H → Alike m (f H) (g H)) → Alike m (if_step (head_step (m ++ more) F) f) (if_step (head_step m F) g)
+  step-alike : (F : Tree) → IsTreeOver m F → (f g : Tree → Plan) → ((H : Tree) → IsTreeOver m H → Alike m (f H) (g H))
+      → Alike m (if_step (head_step (m ++ more) F) f) (if_step (head_step m F) g)
   step-alike F h f g on = let k = head F h in subst (λ o. Alike m (if_step o f) (if_step (head_step m F) g)) (sym k.longer) (subst (λ o. Alike m (if_step k.step f) (if_step o g)) (sym k.here) (go k.step k.over))
     where
       go : (o : Option Tree) → ((H : Tree) → o ≡ Some H → IsTreeOver m H) → Alike m (if_step o f) (if_step o g)
       go None w = no_alike
       go (Some H) w = on H (w H refl)
 
-  product-alike : (G : List Tree) (F : Tree) {f g : Tree → Tree → Plan} → IsContextOver m G → IsTreeOver m F → On m f g → Alike m (product_of (m ++ more) r G F f) (product_of m r G F g)
+  product-alike : (G : List Tree) (F : Tree) {f g : Tree → Tree → Plan} → IsContextOver m G → IsTreeOver m F → On m f g
+      → Alike m (product_of (m ++ more) r G F f) (product_of m r G F g)
   product-alike G (Pi A B) c h on = on A B (omega (arith, h)) (omega (arith, h))
   product-alike G SortType c h on = no_alike
   product-alike G SortKind c h on = no_alike
@@ -236,7 +239,8 @@ module _ (m : List Declaration) (own : IsSelfContained m) (more : List Declarati
   parts-alike (Pi a b) (Pi c e) h k = ask_alike (over_convert (omega (arith, h)) (omega (arith, k))) (λ u l. ask_alike (over_convert (omega (arith, h)) (omega (arith, k))) (λ v n. found_alike h))
   parts-alike _ _ h k = no_alike
 
-  by-alike : (E F : Tree) (o u : Option Tree) → ((H : Tree) → o ≡ Some H → IsTreeOver m H) → ((H : Tree) → u ≡ Some H → IsTreeOver m H) → IsTreeOver m E → IsTreeOver m F → Alike m (convert_by E F o u) (convert_by E F o u)
+  by-alike : (E F : Tree) (o u : Option Tree) → ((H : Tree) → o ≡ Some H → IsTreeOver m H) → ((H : Tree) → u ≡ Some H → IsTreeOver m H) → IsTreeOver m E
+      → IsTreeOver m F → Alike m (convert_by E F o u) (convert_by E F o u)
   by-alike E F (Some H) u e q h k = ask_alike (over_convert (e H refl) k) (λ v n. found_alike h)
   by-alike E F None (Some H) e q h k = ask_alike (over_convert h (q H refl)) (λ v n. found_alike h)
   by-alike E F None None e q h k = parts-alike E F h k
@@ -252,7 +256,8 @@ module _ (m : List Declaration) (own : IsSelfContained m) (more : List Declarati
           (subst (λ o. Alike m (convert_by E F (head_step m E) o) (convert_by E F (head_step m E) (head_step m F))) f
           (by-alike E F (head_step m E) (head_step m F) (λ H q. symbols-head_step m own E H q h) (λ H q. symbols-head_step m own F H q k) h k))
 
-      go : (b : Bool) → Alike m (if b then Say (Found E) else convert_by E F (head_step (m ++ more) E) (head_step (m ++ more) F)) (if b then Say (Found E) else convert_by E F (head_step m E) (head_step m F))
+      go : (b : Bool)
+          → Alike m (if b then Say (Found E) else convert_by E F (head_step (m ++ more) E) (head_step (m ++ more) F)) (if b then Say (Found E) else convert_by E F (head_step m E) (head_step m F))
       go true = found_alike h
       go false = same
 
@@ -293,15 +298,18 @@ module _ (m : List Declaration) (own : IsSelfContained m) (more : List Declarati
   ends-both a reply n = (λ h. (ends-shorter h a).0, λ h. (ends-longer h a).0)
 
   -- Earlier declarations alone: the type of a tree over the symbols of the module
-  pub infer-longer : (G : List Tree) (t : Tree) → IsContextOver m G → IsTreeOver m t → (reply : Reply) (n : ℕ) → Ends (m ++ more) r (infer (m ++ more) r G t) reply n ↔ Ends m r (infer m r G t) reply n
+  pub infer-longer : (G : List Tree) (t : Tree) → IsContextOver m G → IsTreeOver m t → (reply : Reply) (n : ℕ)
+      → Ends (m ++ more) r (infer (m ++ more) r G t) reply n ↔ Ends m r (infer m r G t) reply n
   infer-longer G t c h = ends-both (infer-alike G t c h)
 
   -- the conversion of two such trees
-  pub convert-longer : (E F : Tree) → IsTreeOver m E → IsTreeOver m F → (reply : Reply) (n : ℕ) → Ends (m ++ more) r (convert (m ++ more) E F) reply n ↔ Ends m r (convert m E F) reply n
+  pub convert-longer : (E F : Tree) → IsTreeOver m E → IsTreeOver m F → (reply : Reply) (n : ℕ)
+      → Ends (m ++ more) r (convert (m ++ more) E F) reply n ↔ Ends m r (convert m E F) reply n
   convert-longer E F h k = ends-both (convert-alike E F h k)
 
   -- any question of such trees
-  pub plan-longer : (q : Question) → IsQuestionOver m q → (reply : Reply) (n : ℕ) → Ends (m ++ more) r (plan (m ++ more) r q) reply n ↔ Ends m r (plan m r q) reply n
+  pub plan-longer : (q : Question) → IsQuestionOver m q → (reply : Reply) (n : ℕ)
+      → Ends (m ++ more) r (plan (m ++ more) r q) reply n ↔ Ends m r (plan m r q) reply n
   plan-longer q h = ends-both (plan-alike q h)
 
 -- the body, where there is one, is over the symbols of the module
@@ -323,7 +331,8 @@ declaration-alike m d h = ask_alike (over_infer tt h.ty) (λ s l. if_type-alike 
     body (Some t) k = ask_alike (over_infer tt k) (λ F l. ask_alike (over_convert h.ty l) (λ v n. found_alike h.ty))
 
 -- The check of a declaration over the symbols of the module
-pub declaration_plan-longer : (m : List Declaration) (own : IsSelfContained m) (more : List Declaration) (r : Bool) (d : Declaration) → IsDeclarationOver m d → (reply : Reply) (n : ℕ)
+pub declaration_plan-longer : (m : List Declaration) (own : IsSelfContained m) (more : List Declaration) (r : Bool) (d : Declaration) → IsDeclarationOver m d
+    → (reply : Reply) (n : ℕ)
     → Ends (m ++ more) r (declaration_plan d) reply n ↔ Ends m r (declaration_plan d) reply n
 declaration_plan-longer m own more r d h = ends-both m own more r (declaration-alike m d h)
 
@@ -340,11 +349,13 @@ AreSettled-more : (count most : ℕ) → count ≤ most → (ds : List Declarati
 AreSettled-more count most l [] h = tt
 AreSettled-more count most l (d ∷ ds) h = (IsSettled-more count most l d h.0, AreSettled-more count most l ds h.1)
 
-AreSettled-append : (count : ℕ) (ds es : List Declaration) → AllByRecursion (IsSettled count) ds → AllByRecursion (IsSettled count) es → AllByRecursion (IsSettled count) (ds ++ es)
+AreSettled-append : (count : ℕ) (ds es : List Declaration) → AllByRecursion (IsSettled count) ds → AllByRecursion (IsSettled count) es
+    → AllByRecursion (IsSettled count) (ds ++ es)
 AreSettled-append count [] es h k = k
 AreSettled-append count (d ∷ ds) es h k = (h.0, AreSettled-append count ds es h.1 k)
 
-definition-settled : (count : ℕ) (f : Form) (body : Option Tree) → IsBodyOver count f body → (t : Tree) → definition_of f body ≡ Some t → (loose t ≡ 0) × (symbols t ≤ count)
+definition-settled : (count : ℕ) (f : Form) (body : Option Tree) → IsBodyOver count f body → (t : Tree) → definition_of f body ≡ Some t
+    → (loose t ≡ 0) × (symbols t ≤ count)
 definition-settled count Symbol body h t e = absurd (cc)
 definition-settled count Def None h t e = absurd (cc)
 definition-settled count Def (Some u) h t e = subst (λ w. (loose w ≡ 0) × (symbols w ≤ count)) (same_Some _ _ e) (h.closed, h.known)
@@ -353,7 +364,8 @@ definition-settled count Thm body h t e = absurd (cc)
 follows-settled : (before : List Declaration) (d : Declaration) → MayFollow before d → IsSettled (length before) d
 follows-settled before d h = record { closed = h.ty.closed; known = h.ty.known; definition = definition-settled (length before) d.form d.body h.body }
 
-declared-settled : (before ds : List Declaration) → AllByRecursion (IsSettled (length before)) before → AreDeclared before ds → AllByRecursion (IsSettled (length (before ++ ds))) (before ++ ds)
+declared-settled : (before ds : List Declaration) → AllByRecursion (IsSettled (length before)) before → AreDeclared before ds
+    → AllByRecursion (IsSettled (length (before ++ ds))) (before ++ ds)
 declared-settled before [] h a = subst (λ l. AllByRecursion (IsSettled (length l)) l) (sym (append-nil before)) h
 declared-settled before (d ∷ ds) h a =
     let more : length before ≤ length (before ++ d ∷ []) = omega (arith, length-append before (d ∷ [])) in
@@ -397,7 +409,8 @@ AreDeclared-take before ds zero a = tt
 AreDeclared-take before [] (suc i) a = tt
 AreDeclared-take before (d ∷ ds) (suc i) a = (a.0, AreDeclared-take (before ++ d ∷ []) ds i a.1)
 
-pub MayFollow-at : (before ds : List Declaration) (i : ℕ) (d : Declaration) → AreDeclared before ds → slice_get ds i ≡ Some d → MayFollow (before ++ take i ds) d
+pub MayFollow-at : (before ds : List Declaration) (i : ℕ) (d : Declaration) → AreDeclared before ds → slice_get ds i ≡ Some d
+    → MayFollow (before ++ take i ds) d
 MayFollow-at before [] i d a e = absurd (cc)
 MayFollow-at before (x ∷ xs) zero d a e = subst₂ MayFollow (sym (append-nil before)) (same_Some _ _ e) a.0
 MayFollow-at before (x ∷ xs) (suc i) d a e = subst (λ l. MayFollow l d) (append_assoc before (x ∷ []) (take i xs)) (MayFollow-at (before ++ x ∷ []) xs i d a.1 e)

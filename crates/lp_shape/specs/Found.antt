@@ -82,7 +82,8 @@ module _ (m : List Declaration) (closed : IsClosed m) where
   simple-weaken {G = G} {C = C} {a = a} h = subst (IsSimple m (C ∷ G)) (sym (lift_one a)) (constant-weaken h)
 
   -- the type of functions of terms
-  pub find_functions : {G : List Tree} {a b : Tree} → IsSimple m G a → IsSimple m G b → Finds m (Infer G (Pi (term_of a) (lift 1 (term_of b)))) SortType (2 * size a + 2 * size b + 7)
+  pub find_functions : {G : List Tree} {a b : Tree} → IsSimple m G a → IsSimple m G b
+      → Finds m (Infer G (Pi (term_of a) (lift 1 (term_of b)))) SortType (2 * size a + 2 * size b + 7)
   find_functions {b = b} ha hb =
       let p = find_terms m ha in
       let q = find_terms m (simple-weaken {C = term_of _} hb) in
@@ -112,7 +113,8 @@ module _ (m : List Declaration) (closed : IsClosed m) where
       F : Tree
       F = Pi (term_of a) S
 
-      go : (q : Bool) → tree_eq E F ≡ q → Finds m (Convert (term_of (lift 1 b)) S) (term_of (lift 1 b)) (3 * size S) → Finds m (Convert (term_of (arr_of a b)) F) (term_of (arr_of a b)) (3 * size F)
+      go : (q : Bool) → tree_eq E F ≡ q → Finds m (Convert (term_of (lift 1 b)) S) (term_of (lift 1 b)) (3 * size S)
+          → Finds m (Convert (term_of (arr_of a b)) F) (term_of (arr_of a b)) (3 * size F)
       go true e k = record { steps = _; ends = asked (subst (λ q. Ends m true (if q then Say (Found E) else convert_by E F None None) (Found E) 0) (sym e) said) said; within = omega arith }
       go false e k =
           let d = convert_same m (term_of a) in

@@ -23,7 +23,8 @@ module _ (m : List Declaration) where
   given-Steps before (Lam (Sym zero) b) [] u e = absurd (cc)
   given-Steps before t args u e = Steps-equal (same_Some _ _ e)
 
-  unfolded-Steps : (s : ℕ) (body : Option Tree) (args : List Tree) (u : Tree) → symbol_definition m s ≡ body → unfolded body args ≡ Some u → Steps m (applied (Sym s) args) u
+  unfolded-Steps : (s : ℕ) (body : Option Tree) (args : List Tree) (u : Tree) → symbol_definition m s ≡ body → unfolded body args ≡ Some u
+      → Steps m (applied (Sym s) args) u
   unfolded-Steps s None args u d e = absurd (cc)
   unfolded-Steps s (Some t) args u d e =
       next (Step-applied args (delta d))

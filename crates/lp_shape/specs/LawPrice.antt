@@ -25,21 +25,24 @@ times k (suc a) (suc b) h = let l = times k a b (omega (arith, h)) in omega (ari
 law-cost : (w a b t u : ℕ) → 7 * suc w * (t + u + 2) + 16 * a + 37 * b + 130 ≤ cost w * (13 + a + b + t + u)
 law-cost w a b t u = omega arith
 
-law-paid : (w f h a E F sf sl sh d pf ph pe pc : ℕ) → pf + cost w * (E + d) ≤ cost w * (f + sf) → ph + cost w * F ≤ 2 * (cost w * (h + sh)) → pe ≤ cost w * E → pc + 5 ≤ 3 + 6 * F → cost w * sh ≤ cost w * sl
+law-paid : (w f h a E F sf sl sh d pf ph pe pc : ℕ) → pf + cost w * (E + d) ≤ cost w * (f + sf) → ph + cost w * F ≤ 2 * (cost w * (h + sh)) → pe ≤ cost w * E
+    → pc + 5 ≤ 3 + 6 * F → cost w * sh ≤ cost w * sl
     → (1 + pf + (1 + (2 * a + 3) + ph) + (1 + pe + (2 + pc))) + cost w * d ≤ 2 * (cost w * ((1 + f + (1 + (1 + 1 + a) + h)) + (sf + sl)))
 law-paid w f h a E F sf sl sh d pf ph pe pc x y z c s = omega (arith, x, y, z, c, s)
 
 equation-cost : (w l r : ℕ) → (7 * suc w * l + 7 * suc w * r + 23 * 1 + 81 + 3) + 1 ≤ cost w * (7 + l + r)
 equation-cost w l r = omega arith
 
-equation-paid : (w f h E F sf sh d pf ph pe pc : ℕ) → pf + cost w * (E + d) ≤ cost w * (f + sf) → ph + cost w * F ≤ 2 * (cost w * (h + sh)) → pe + 1 ≤ cost w * E → pc + 5 ≤ 3 + 6 * F
+equation-paid : (w f h E F sf sh d pf ph pe pc : ℕ) → pf + cost w * (E + d) ≤ cost w * (f + sf) → ph + cost w * F ≤ 2 * (cost w * (h + sh))
+    → pe + 1 ≤ cost w * E → pc + 5 ≤ 3 + 6 * F
     → (1 + pf + ph + (1 + pe + pc)) + cost w * d ≤ 2 * (cost w * ((1 + f + h) + (sf + sh)))
 equation-paid w f h E F sf sh d pf ph pe pc x y z c = omega (arith, x, y, z, c)
 
 squares : (x s y : ℕ) → 3 ≤ y → 7 * ((x + s + y) + (x + s + y)) * x + 2 * ((7 * ((x + s + y) + (x + s + y)) + 40) * y) + 1 ≤ 64 * ((x + s + y) * (x + s + y))
 squares x s y big = let y' = y - 3 in let is : y ≡ 3 + y' = omega (arith, big) in subst (λ n. 7 * ((x + s + n) + (x + s + n)) * x + 2 * ((7 * ((x + s + n) + (x + s + n)) + 40) * n) + 1 ≤ 64 * ((x + s + n) * (x + s + n))) (sym is) (above x s y')
   where
-    above : (x s z : ℕ) → 7 * ((x + s + (3 + z)) + (x + s + (3 + z))) * x + 2 * ((7 * ((x + s + (3 + z)) + (x + s + (3 + z))) + 40) * (3 + z)) + 1 ≤ 64 * ((x + s + (3 + z)) * (x + s + (3 + z)))
+    above : (x s z : ℕ)
+        → 7 * ((x + s + (3 + z)) + (x + s + (3 + z))) * x + 2 * ((7 * ((x + s + (3 + z)) + (x + s + (3 + z))) + 40) * (3 + z)) + 1 ≤ 64 * ((x + s + (3 + z)) * (x + s + (3 + z)))
     above x s z = omega arith
 
 module _ (m : List Declaration) (closed : IsClosed m) where
@@ -137,13 +140,15 @@ module _ (m : List Declaration) (closed : IsClosed m) where
     pub finds : Finds m (Infer G t) A most
     pub paid : most + cost w * size A ≤ 2 * (cost w * (size t + spreads m [] t))
 
-  law-unless-kind : {G : List Tree} {t A rest : Tree} {n : ℕ} → IsLaw m G t A → Ends m true (Say (Found rest)) (Found rest) n → Ends m true (unless_kind A (Say (Found rest))) (Found rest) n
+  law-unless-kind : {G : List Tree} {t A rest : Tree} {n : ℕ} → IsLaw m G t A → Ends m true (Say (Found rest)) (Found rest) n
+      → Ends m true (unless_kind A (Say (Found rest))) (Found rest) n
   law-unless-kind (at_close_abstractions f ha hb ht hu h c q) e = e
   law-unless-kind (law_last big h) e = e
   law-unless-kind (at_close_equation f hl hr ss sp h c q) e = e
   law-unless-kind (law_under ha h) e = e
 
-  last-unless-kind : {n : ℕ} {E F rest : Tree} {k : ℕ} → Close m n (proof_of E) F → Ends m true (Say (Found rest)) (Found rest) k → Ends m true (unless_kind F (Say (Found rest))) (Found rest) k
+  last-unless-kind : {n : ℕ} {E F rest : Tree} {k : ℕ} → Close m n (proof_of E) F → Ends m true (Say (Found rest)) (Found rest) k
+      → Ends m true (unless_kind F (Say (Found rest))) (Found rest) k
   last-unless-kind close_same e = e
   last-unless-kind (close_step d h) e = absurd (cc)
   last-unless-kind (close_application p q f x) e = e
@@ -220,7 +225,8 @@ module _ (m : List Declaration) (closed : IsClosed m) where
     pub plain : {rest : Tree} {n : ℕ} → Ends m true (Say (Found rest)) (Found rest) n → Ends m true (unless_kind found (Say (Found rest))) (Found rest) n
     pub paid : most + near ≤ 2 * (cost w * (size t + spreads m [] t))
 
-  pub find-call-definition : (w e : ℕ) {G : List Tree} {t A : Tree} → IsCallDefinition m G t A → AreSmall m e G → size t ≤ e → size t + spreads m [] t + e ≤ suc w → Defines w G t A
+  pub find-call-definition : (w e : ℕ) {G : List Tree} {t A : Tree} → IsCallDefinition m G t A → AreSmall m e G → size t ≤ e
+      → size t + spreads m [] t + e ≤ suc w → Defines w G t A
   find-call-definition w e {t = t} (by_type h) g le less =
       let p = priced m closed w e h [] g le less in
       record { found = types; most = p.most; finds = p.finds; near = 1; converts = convert_same m types; plain = λ e. e; paid = omega (arith, p.paid, size-positive t) }

@@ -29,14 +29,16 @@ positive before x (Sym s) = size-positive (put_all before (Sym s))
 positive before x (App f y) = size-positive (put_all before (App f y))
 positive before x (Lam a b) = size-positive (put_all before (Lam a b))
 
-same_domains : (before xs domains : List Tree) (x B : Tree) → length xs ≡ length domains → spread_after before xs (products domains types) ≤ spread_after before (xs ++ x ∷ []) (products domains B)
+same_domains : (before xs domains : List Tree) (x B : Tree) → length xs ≡ length domains
+    → spread_after before xs (products domains types) ≤ spread_after before (xs ++ x ∷ []) (products domains B)
 same_domains before [] [] x B e = positive before x B
 same_domains before [] (d ∷ ds) x B e = absurd (omega (arith, e))
 same_domains before (u ∷ us) [] x B e = absurd (omega (arith, e))
 same_domains before (u ∷ us) (d ∷ ds) x B e = let h = same_domains (before ++ u ∷ []) us ds x B (omega (arith, e)) in omega (arith, h)
 
 -- the premises of a law's last call at a term of a defined type
-pub spreads-same : (m : List Declaration) (s r : ℕ) (domains xs : List Tree) (x B : Tree) → symbol_type m s ≡ Some (products domains types) → symbol_type m r ≡ Some (products domains B) → length xs ≡ length domains
+pub spreads-same : (m : List Declaration) (s r : ℕ) (domains xs : List Tree) (x B : Tree) → symbol_type m s ≡ Some (products domains types)
+    → symbol_type m r ≡ Some (products domains B) → length xs ≡ length domains
     → (size (applied (Sym s) xs) ≤ size (applied (Sym r) xs)) × (spreads m [] (applied (Sym s) xs) ≤ spreads m (x ∷ []) (applied (Sym r) xs))
 spreads-same m s r domains xs x B e f l =
     let sizes = size-applied (Sym s) (Sym r) xs refl in

@@ -41,7 +41,8 @@ module _ (m : List Declaration) (r : Bool) where
     in_no : {n : ℕ} → Ends m r p No n → Splits p rest No n
     in_found : {t : Tree} {reply : Reply} {n k : ℕ} → Ends m r p (Found t) n → Ends m r (rest t) reply k → Splits p rest reply (n + k)
 
-  split_after : {q : Question} {more : Tree → Plan} {rest : Tree → Plan} {t : Tree} {reply : Reply} {n k : ℕ} → Ends m r (plan m r q) (Found t) n → Splits (more t) rest reply k → Splits (Ask q more) rest reply (suc (n + k))
+  split_after : {q : Question} {more : Tree → Plan} {rest : Tree → Plan} {t : Tree} {reply : Reply} {n k : ℕ} → Ends m r (plan m r q) (Found t) n
+      → Splits (more t) rest reply k → Splits (Ask q more) rest reply (suc (n + k))
   split_after h (in_no e) = in_no (asked h e)
   split_after {q = q} {more = more} {rest = rest} {reply = reply} {n = n} h (in_found {n = a} {k = b} e f) =
       let is : suc (n + a) + b ≡ suc (n + (a + b)) = omega arith in subst (Splits (Ask q more) rest reply) is (in_found (asked h e) f)
@@ -52,7 +53,8 @@ module _ (m : List Declaration) (r : Bool) where
   split (Ask o more) rest (refused h) = in_no (refused h)
   split (Ask o more) rest (asked {t = t} h g) = split_after h (split (more t) rest g)
 
-  pub then_found : {p : Plan} (rest : Tree → Plan) {t : Tree} {f reply : Reply} {n k : ℕ} → Ends m r p f n → f ≡ Found t → Ends m r (rest t) reply k → Ends m r (and_then p rest) reply (n + k)
+  pub then_found : {p : Plan} (rest : Tree → Plan) {t : Tree} {f reply : Reply} {n k : ℕ} → Ends m r p f n → f ≡ Found t → Ends m r (rest t) reply k
+      → Ends m r (and_then p rest) reply (n + k)
   then_found rest {reply = reply} {k = k} (said {reply = Found u}) e h =
       let is : k ≡ 0 + k = omega arith in subst (λ n. Ends m r (rest u) reply n) is (subst (λ w. Ends m r (rest w) reply k) (sym (Found-injective e)) h)
   then_found rest (said {reply = No}) e h = absurd (cc)
@@ -79,7 +81,8 @@ module _ (m : List Declaration) (r : Bool) where
       down reply (asked h g) = (_, then_found rest h refl g, omega arith)
 
   -- a plan whose end is known goes on with what it found, and ends where it found nothing
-  pub leaves_found : (p : Plan) (rest : Tree → Plan) (t : Tree) (steps spent : ℕ) → Ends m r p (Found t) steps → spent ≤ steps → Leaves (and_then p rest) spent (rest t)
+  pub leaves_found : (p : Plan) (rest : Tree → Plan) (t : Tree) (steps spent : ℕ) → Ends m r p (Found t) steps → spent ≤ steps
+      → Leaves (and_then p rest) spent (rest t)
   leaves_found p rest t steps spent h le = record {
     up = λ reply n g. (steps + n, then_found rest h refl g, omega (arith, le));
     down = λ reply n g. down reply (split p rest g);
@@ -102,7 +105,8 @@ module _ (m : List Declaration) (r : Bool) where
       down reply (in_found g l) = absurd (Found-No (sym (one_reply m r h g).0))
 
   -- where a plan doesn't end within the budget, it doesn't with what goes on with it
-  pub over_then : (p : Plan) (rest : Tree → Plan) (left : ℕ) → ((reply : Reply) (n : ℕ) → Ends m r p reply n → left < n) → (reply : Reply) (n : ℕ) → Ends m r (and_then p rest) reply n → left < n
+  pub over_then : (p : Plan) (rest : Tree → Plan) (left : ℕ) → ((reply : Reply) (n : ℕ) → Ends m r p reply n → left < n) → (reply : Reply) (n : ℕ)
+      → Ends m r (and_then p rest) reply n → left < n
   over_then p rest left over reply n h = go (split p rest h)
     where
       go : {o : Reply} {n : ℕ} → Splits p rest o n → left < n
@@ -110,5 +114,6 @@ module _ (m : List Declaration) (r : Bool) where
       go (in_found {n = a} g l) = omega (arith, over _ a g)
 
   -- and where what is left of a plan doesn't end within what is left of the budget, the plan doesn't within the budget
-  pub over_leaves : {p q : Plan} {spent left all : ℕ} → Leaves p spent q → all ≤ spent + left → ((reply : Reply) (n : ℕ) → Ends m r q reply n → left < n) → (reply : Reply) (n : ℕ) → Ends m r p reply n → all < n
+  pub over_leaves : {p q : Plan} {spent left all : ℕ} → Leaves p spent q → all ≤ spent + left → ((reply : Reply) (n : ℕ) → Ends m r q reply n → left < n)
+      → (reply : Reply) (n : ℕ) → Ends m r p reply n → all < n
   over_leaves a le over reply n h = let c = a.down reply n h in omega (arith, c.2, over reply c.0 c.1, le)

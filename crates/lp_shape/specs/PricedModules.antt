@@ -92,7 +92,8 @@ module _ (m more : List Declaration) where
   weight-known : (t : Tree) → IsKnown m t → tree_weight (m ++ more) t ≡ tree_weight m t
   weight-known t h = ap (λ n. size t + n) (spreads-more [] t h)
 
-  body-weight : (f : Form) (body : Option Tree) (A : Tree) → IsBodyShaped m f body A → option_map_or (tree_weight (m ++ more)) body 0 ≡ option_map_or (tree_weight m) body 0
+  body-weight : (f : Form) (body : Option Tree) (A : Tree) → IsBodyShaped m f body A
+      → option_map_or (tree_weight (m ++ more)) body 0 ≡ option_map_or (tree_weight m) body 0
   body-weight f None A h = refl
   body-weight Symbol (Some t) A h = absurd (cc)
   body-weight Def (Some t) A (inl h) = weight-known t (definition-known m h)
@@ -113,7 +114,8 @@ record Placed (m : List Declaration) (i : ℕ) (d : Declaration) : Type 0 where
   sound : IsSound front
   shaped : IsShaped front d
 
-placed : (before ds : List Declaration) → IsSound before → AreShaped before ds → (i : ℕ) (d : Declaration) → slice_get ds i ≡ Some d → Placed (before ++ ds) (length before + i) d
+placed : (before ds : List Declaration) → IsSound before → AreShaped before ds → (i : ℕ) (d : Declaration) → slice_get ds i ≡ Some d
+    → Placed (before ++ ds) (length before + i) d
 placed before [] sound h i d e = absurd (cc)
 placed before (x ∷ xs) sound h zero d e =
     record {
@@ -154,7 +156,8 @@ pub shaped-priced : (m : List Declaration) → AreShaped [] m → (i : ℕ) (d :
 shaped-priced m h i d e = let zero_first : 0 + i ≡ i = omega arith in priced m i d (subst (λ n. Placed m n d) zero_first (placed [] m signature_sound h i d e))
 
 -- within the bound that is written, where that isn't cut off
-pub IsPriced-bound : (m : List Declaration) (i : ℕ) (d : Declaration) → (p : IsPriced m i d) → 64 * (weight m d * weight m d * weight m d) ≤ greatest → p.price ≤ bound m d
+pub IsPriced-bound : (m : List Declaration) (i : ℕ) (d : Declaration) → (p : IsPriced m i d) → 64 * (weight m d * weight m d * weight m d) ≤ greatest
+    → p.price ≤ bound m d
 IsPriced-bound m i d p fits =
     let w = weight m d in
     let most : 64 * (w * w) ≤ bound m d = omega (arith, square-cube w, fits) in

@@ -55,11 +55,13 @@ module _ (m : List Declaration) (closed : IsClosed m) where
   call-solid (at_abstractions {a = a} {h = h} {A = A} f ha hb ht hu k e) = subst Solid e (solid-put 0 (Lam (term_of a) h) A (call-solid f))
 
   -- how far a call's type spreads at an argument and further ones
-  pub call-spread : {G : List Tree} {f E A B : Tree} (x : Tree) (args : List Tree) → IsProof m true G f (Pi E A) → put x A ≡ B → spread (x ∷ args) (Pi E A) ≡ size E + spread args B
+  pub call-spread : {G : List Tree} {f E A B : Tree} (x : Tree) (args : List Tree) → IsProof m true G f (Pi E A) → put x A ≡ B
+      → spread (x ∷ args) (Pi E A) ≡ size E + spread args B
   call-spread {E = E} {A = A} x args hf e = spread-product x args E A (call-solid hf) ∙ ap₂ (λ n k. n + k) (ap size (put_all-nil E)) (ap (spread args) e)
 
   -- a proof's type is no sort
-  proof-unless-kind : {G : List Tree} {t A rest : Tree} {n : ℕ} → IsProof m false G t A → Ends m true (Say (Found rest)) (Found rest) n → Ends m true (unless_kind A (Say (Found rest))) (Found rest) n
+  proof-unless-kind : {G : List Tree} {t A rest : Tree} {n : ℕ} → IsProof m false G t A → Ends m true (Say (Found rest)) (Found rest) n
+      → Ends m true (unless_kind A (Say (Found rest))) (Found rest) n
   proof-unless-kind (called h) e = e
   proof-unless-kind {rest = rest} {n = n} (hypothesis at q) e = subst (λ A. Ends m true (unless_kind A (Say (Found rest))) (Found rest) n) q e
   proof-unless-kind (under_binder ha h) e = e
@@ -80,7 +82,8 @@ module _ (m : List Declaration) (closed : IsClosed m) where
   pointwise-near a b t u =
       near_product near_same (near_application refl refl near_same (near_application refl refl (near_application refl refl near_same (near_head (ap Some (put-lift_at t)))) (near_head (ap Some (put-lift_at u)))))
 
-  pub find-pointwise : (w e : ℕ) {G : List Tree} {a b t u : Tree} → IsSimple m G a → IsSimple m G b → IsTerm m (term_of a ∷ G) t (lift 1 b) → IsTerm m (term_of a ∷ G) u (lift 1 b) → AreSmall m e G
+  pub find-pointwise : (w e : ℕ) {G : List Tree} {a b t u : Tree} → IsSimple m G a → IsSimple m G b → IsTerm m (term_of a ∷ G) t (lift 1 b)
+      → IsTerm m (term_of a ∷ G) u (lift 1 b) → AreSmall m e G
       → size (Lam (term_of a) t) ≤ e → size (Lam (term_of a) u) ≤ e
       → size (Lam (term_of a) t) + spreads m [] (Lam (term_of a) t) + e ≤ suc w → size (Lam (term_of a) u) + spreads m [] (Lam (term_of a) u) + e ≤ suc w
       → Finds m (Infer G (pointwise a b t u)) SortType (7 * suc w * (size (Lam (term_of a) t) + size (Lam (term_of a) u) + 2) + 16 * size a + 37 * size b + 130)
@@ -99,11 +102,13 @@ module _ (m : List Declaration) (closed : IsClosed m) where
       }
 
   -- what is paid at an argument: for the function, for the argument, and for the meeting of the expected type
-  paid-at : (k f x E sf sx d pf px pm : ℕ) → pf + k * (E + d) ≤ k * (f + sf) → px ≤ k * (x + sx) → 1 + pm ≤ k * E → (1 + pf + px + pm) + k * d ≤ k * ((1 + f + x) + (sf + sx))
+  paid-at : (k f x E sf sx d pf px pm : ℕ) → pf + k * (E + d) ≤ k * (f + sf) → px ≤ k * (x + sx) → 1 + pm ≤ k * E
+      → (1 + pf + px + pm) + k * d ≤ k * ((1 + f + x) + (sf + sx))
   paid-at k f x E sf sx d pf px pm a b c = omega (arith, a, b, c)
 
   -- The price of a proof.
-  pub priced : (w e : ℕ) {b : Bool} {G : List Tree} {t A : Tree} → IsProof m b G t A → (args : List Tree) → AreSmall m e G → size t ≤ e → size t + spreads m args t + e ≤ suc w → IsPriced (cost w) b G t A args
+  pub priced : (w e : ℕ) {b : Bool} {G : List Tree} {t A : Tree} → IsProof m b G t A → (args : List Tree) → AreSmall m e G → size t ≤ e
+      → size t + spreads m args t + e ≤ suc w → IsPriced (cost w) b G t A args
   priced w e {G = G} (call {s = s} {A = A} at k) args g le less =
       let is : symbol_spread m s args ≡ spread args A = ap (λ o. option_map_or (spread args) o 0) at in
       record {

@@ -28,7 +28,8 @@ pub data IsTerm (m : List Declaration) : List Tree → Tree → Tree → Type 0 
   of_entry : {G : List Tree} {n : ℕ} {a b : Tree} → slice_get G n ≡ Some (term_of b) → lift (suc n) b ≡ a → IsSimple m G a → IsTerm m G (Var n) a
   of_constant : {G : List Tree} {t a : Tree} → IsConstant m G t (term_of a) → IsSimple m G a → IsTerm m G t a
   of_function : {G : List Tree} {f x a b : Tree} → IsTerm m G f (arr_of a b) → IsTerm m G x a → IsTerm m G (App f x) b
-  of_binder : {G : List Tree} {t a b : Tree} → IsSimple m G a → IsSimple m G b → IsTerm m (term_of a ∷ G) t (lift 1 b) → IsTerm m G (Lam (term_of a) t) (arr_of a b)
+  of_binder : {G : List Tree} {t a b : Tree} → IsSimple m G a → IsSimple m G b → IsTerm m (term_of a ∷ G) t (lift 1 b)
+      → IsTerm m G (Lam (term_of a) t) (arr_of a b)
 
 -- a declared type: a product over types, terms and proofs
 pub data IsDeclared (m : List Declaration) : List Tree → Tree → Type 0 where
@@ -66,10 +67,12 @@ pub data IsProof (m : List Declaration) : Bool → List Tree → Tree → Tree �
   at_a_term : {G : List Tree} {f x a A B : Tree} → IsProof m true G f (Pi (term_of a) A) → IsTerm m G x a → put x A ≡ B → IsProof m true G (App f x) B
   at_a_proof : {G : List Tree} {f h E A B : Tree} → IsProof m true G f (Pi E A) → IsProof m false G h E → put h A ≡ B → IsProof m true G (App f h) B
   -- reflexivity where the expected equation has a defined constant on its left
-  at_a_definition : {G : List Tree} {f a c t A B : Tree} → IsProof m true G f (Pi (proof_of (eq_of a c t)) A) → IsConstant m G c (term_of a) → IsTerm m G t a → head_step m c ≡ Some t
+  at_a_definition : {G : List Tree} {f a c t A B : Tree} → IsProof m true G f (Pi (proof_of (eq_of a c t)) A) → IsConstant m G c (term_of a) → IsTerm m G t a
+      → head_step m c ≡ Some t
       → IsProof m false G (refl_of a t) (proof_of (eq_of a t t)) → put (refl_of a t) A ≡ B → IsProof m true G (App f (refl_of a t)) B
   -- extensionality of two abstractions, whose values a proof under the binder equates
-  at_abstractions : {G : List Tree} {a b t u h A B : Tree} → IsProof m true G (two_abstractions a b t u) (Pi (pointwise a b t u) A) → IsSimple m G a → IsSimple m G b
+  at_abstractions : {G : List Tree} {a b t u h A B : Tree} → IsProof m true G (two_abstractions a b t u) (Pi (pointwise a b t u) A) → IsSimple m G a
+      → IsSimple m G b
       → IsTerm m (term_of a ∷ G) t (lift 1 b) → IsTerm m (term_of a ∷ G) u (lift 1 b) → IsProof m false (term_of a ∷ G) h (proof_of (eq_of (lift 1 b) t u))
       → put (Lam (term_of a) h) A ≡ B → IsProof m true G (App (two_abstractions a b t u) (Lam (term_of a) h)) B
   called : {G : List Tree} {t p : Tree} → IsProof m true G t (proof_of p) → IsProof m false G t (proof_of p)
@@ -86,25 +89,30 @@ pub data IsDefinition (m : List Declaration) : List Tree → Tree → Tree → T
 pub data Close (m : List Declaration) : ℕ → Tree → Tree → Type 0 where
   close_same : {n : ℕ} {t : Tree} → Close m (suc n) t t
   close_step : {n : ℕ} {E H F : Tree} → head_step m E ≡ Some H → Close m n H F → Close m (suc n) E F
-  close_arrow : {n : ℕ} {a b c d : Tree} → Close m 3 (term_of a) (term_of c) → Close m 3 (lift 1 (term_of b)) (lift 1 (term_of d)) → Close m (suc n) (term_of (arr_of a b)) (term_of (arr_of c d))
-  close_application : {n : ℕ} {f g x y : Tree} → head_step m (App f x) ≡ None → head_step m (App g y) ≡ None → Close m 3 f g → Close m 3 x y → Close m (suc n) (App f x) (App g y)
+  close_arrow : {n : ℕ} {a b c d : Tree} → Close m 3 (term_of a) (term_of c) → Close m 3 (lift 1 (term_of b)) (lift 1 (term_of d))
+      → Close m (suc n) (term_of (arr_of a b)) (term_of (arr_of c d))
+  close_application : {n : ℕ} {f g x y : Tree} → head_step m (App f x) ≡ None → head_step m (App g y) ≡ None → Close m 3 f g → Close m 3 x y
+      → Close m (suc n) (App f x) (App g y)
   close_product : {n : ℕ} {a b c d : Tree} → Close m 3 a c → Close m 3 b d → Close m (suc n) (Pi a b) (Pi c d)
 
 -- the last call of a law: one of the families so far, or one at a term of a defined type where the type that it stands for is expected
 pub data IsLast (m : List Declaration) : List Tree → Tree → Tree → Type 0 where
   last_call : {G : List Tree} {h F : Tree} → IsProof m true G h F → IsLast m G h F
-  last_defined : {G : List Tree} {f x n S A F : Tree} → IsProof m true G f (Pi (term_of S) A) → IsTerm m G x n → head_step m n ≡ Some S → head_step m S ≡ None → head_step m (term_of n) ≡ None → head_step m (term_of S) ≡ None
+  last_defined : {G : List Tree} {f x n S A F : Tree} → IsProof m true G f (Pi (term_of S) A) → IsTerm m G x n → head_step m n ≡ Some S → head_step m S ≡ None
+      → head_step m (term_of n) ≡ None → head_step m (term_of S) ≡ None
       → IsProof m true G S types → size S ≤ size f → spreads m [] S ≤ spreads m (x ∷ []) f → put x A ≡ F → IsLast m G (App f x) F
 
 -- a law's body, and the type that it is found to have: extensionality of two abstractions, whose values a last call equates; a last call alone; or
 -- a call whose last argument is one, where an equation is expected
 pub data IsLaw (m : List Declaration) : List Tree → Tree → Tree → Type 0 where
-  at_close_abstractions : {G : List Tree} {a b t u h F B A : Tree} → IsProof m true G (two_abstractions a b t u) (Pi (pointwise a b t u) A) → IsSimple m G a → IsSimple m G b
+  at_close_abstractions : {G : List Tree} {a b t u h F B A : Tree} → IsProof m true G (two_abstractions a b t u) (Pi (pointwise a b t u) A) → IsSimple m G a
+      → IsSimple m G b
       → IsTerm m (term_of a ∷ G) t (lift 1 b) → IsTerm m (term_of a ∷ G) u (lift 1 b) → IsLast m (term_of a ∷ G) h F
       → Close m 3 (proof_of (eq_of (lift 1 b) (App (lift 1 (Lam (term_of a) t)) (Var 0)) (App (lift 1 (Lam (term_of a) u)) (Var 0)))) F
       → put (Lam (term_of a) h) A ≡ proof_of B → IsLaw m G (App (two_abstractions a b t u) (Lam (term_of a) h)) (proof_of B)
   law_last : {G : List Tree} {h p : Tree} → 3 ≤ size h → IsLast m G h (proof_of p) → IsLaw m G h (proof_of p)
-  at_close_equation : {G : List Tree} {f h l r A F B : Tree} → IsProof m true G f (Pi (proof_of (eq_of bools l r)) A) → IsTerm m G l bools → IsTerm m G r bools → size l + size r ≤ size f
+  at_close_equation : {G : List Tree} {f h l r A F B : Tree} → IsProof m true G f (Pi (proof_of (eq_of bools l r)) A) → IsTerm m G l bools → IsTerm m G r bools
+      → size l + size r ≤ size f
       → spreads m [] l + spreads m [] r ≤ spreads m (h ∷ []) f → IsLast m G h F → Close m 3 (proof_of (eq_of bools l r)) F → put h A ≡ proof_of B → IsLaw m G (App f h) (proof_of B)
   law_under : {G : List Tree} {a t A : Tree} → IsDeclared m G a → IsLaw m (a ∷ G) t A → IsLaw m G (Lam a t) (Pi a A)
 

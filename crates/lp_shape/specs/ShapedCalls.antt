@@ -28,7 +28,8 @@ module _ (m : List Declaration) (G : List Tree) where
   at_argument h (a_proof k) e = at_a_proof h k e
 
   -- a call at further arguments
-  shaped-applied : (domains args before : List Tree) (f t : Tree) → IsProof m true G f (put_all before (products domains t)) → AreArguments m G before domains args → IsProof m true G (applied f args) (put_all (before ++ args) t)
+  shaped-applied : (domains args before : List Tree) (f t : Tree) → IsProof m true G f (put_all before (products domains t))
+      → AreArguments m G before domains args → IsProof m true G (applied f args) (put_all (before ++ args) t)
   shaped-applied [] [] before f t h k = subst (λ l. IsProof m true G f (put_all l t)) (sym (append-nil before)) h
   shaped-applied [] (x ∷ args) before f t h k = absurd k
   shaped-applied (a ∷ domains) [] before f t h k = absurd k
@@ -37,7 +38,8 @@ module _ (m : List Declaration) (G : List Tree) where
       (shaped-applied domains args (before ++ x ∷ []) (App f x) t (at_argument h k.0 (put-put_all x before (products domains t))) k.1)
 
   -- a symbol with a closed product for its type, at arguments
-  pub shaped-call : (domains args : List Tree) (s : ℕ) (t : Tree) → symbol_type m s ≡ Some (products domains t) → Solid (products domains t) → loose (products domains t) ≡ 0 → AreArguments m G [] domains args → IsProof m true G (applied (Sym s) args) (put_all args t)
+  pub shaped-call : (domains args : List Tree) (s : ℕ) (t : Tree) → symbol_type m s ≡ Some (products domains t) → Solid (products domains t)
+      → loose (products domains t) ≡ 0 → AreArguments m G [] domains args → IsProof m true G (applied (Sym s) args) (put_all args t)
   shaped-call domains args s t e solid c k =
       shaped-applied domains args [] (Sym s) t (subst (IsProof m true G (Sym s)) (sym (put_all_at-closed 0 [] (products domains t) (omega (arith, c)))) (call e solid)) k
 
@@ -54,13 +56,15 @@ module _ (m : List Declaration) where
       let h = shaped-call m G (types ∷ term_of (Var 0) ∷ []) (a ∷ x ∷ []) refl_symbol (proof_of (eq_of (Var 1) (Var 0) (Var 0))) refl tt refl (a_type ha, (a_term (simp lift_zero hx), tt {0})) in
       called (simp lift_zero at h)
 
-  pub shaped-eq_mp : {G : List Tree} {p q h k : Tree} → IsTerm m G p bools → IsTerm m G q bools → IsProof m false G h (proof_of (eq_of bools p q)) → IsProof m false G k (proof_of p) → IsProof m false G (applied (Sym eq_mp_symbol) (p ∷ q ∷ h ∷ k ∷ [])) (proof_of q)
+  pub shaped-eq_mp : {G : List Tree} {p q h k : Tree} → IsTerm m G p bools → IsTerm m G q bools → IsProof m false G h (proof_of (eq_of bools p q))
+      → IsProof m false G k (proof_of p) → IsProof m false G (applied (Sym eq_mp_symbol) (p ∷ q ∷ h ∷ k ∷ [])) (proof_of q)
   shaped-eq_mp {G = G} {p = p} {q = q} {h = h} {k = k} hp hq hh hk =
       let domains = term_of bools ∷ term_of bools ∷ proof_of (eq_of bools (Var 1) (Var 0)) ∷ proof_of (Var 2) ∷ [] in
       let c = shaped-call m G domains (p ∷ q ∷ h ∷ k ∷ []) eq_mp_symbol (proof_of (Var 2)) refl tt refl (a_term hp, (a_term hq, (a_proof (simp lift_zero hh), (a_proof (simp lift_zero hk), tt {0})))) in
       called (simp lift_zero at c)
 
-  pub shaped-app_thm : {G : List Tree} {a b f g x y h k : Tree} → IsSimple m G a → IsSimple m G b → IsTerm m G f (arr_of a b) → IsTerm m G g (arr_of a b) → IsTerm m G x a → IsTerm m G y a
+  pub shaped-app_thm : {G : List Tree} {a b f g x y h k : Tree} → IsSimple m G a → IsSimple m G b → IsTerm m G f (arr_of a b) → IsTerm m G g (arr_of a b)
+      → IsTerm m G x a → IsTerm m G y a
       → IsProof m false G h (proof_of (eq_of (arr_of a b) f g)) → IsProof m false G k (proof_of (eq_of a x y))
       → IsProof m false G (applied (Sym app_thm_symbol) (a ∷ b ∷ f ∷ g ∷ x ∷ y ∷ h ∷ k ∷ [])) (proof_of (eq_of b (App f x) (App g y)))
   shaped-app_thm {G = G} {a = a} {b = b} {f = f} {g = g} {x = x} {y = y} {h = h} {k = k} ha hb hf hg hx hy hh hk =
@@ -70,7 +74,8 @@ module _ (m : List Declaration) where
       called (simp lift_zero at c)
 
   -- from x = y to y = x
-  pub shaped-sym_proof : {G : List Tree} {a x y h : Tree} → IsSimple m G a → IsTerm m G x a → IsTerm m G y a → IsProof m false G h (proof_of (eq_of a x y)) → IsProof m false G (sym_proof a x y h) (proof_of (eq_of a y x))
+  pub shaped-sym_proof : {G : List Tree} {a x y h : Tree} → IsSimple m G a → IsTerm m G x a → IsTerm m G y a → IsProof m false G h (proof_of (eq_of a x y))
+      → IsProof m false G (sym_proof a x y h) (proof_of (eq_of a y x))
   shaped-sym_proof {G = G} {a = a} {x = x} {y = y} ha hx hy hh =
       let bool : IsSimple m G bools = constant refl tt in
       let predicates : IsSimple m G (arr_of a bools) = at_type (at_type (constant refl tt) ha refl) bool refl in

@@ -48,7 +48,8 @@ abbrev pub part_of : ℕ → Tree → Tree → Tree → Tree → Tree
 part_of s C F W H = applied (Sym s) (C ∷ F ∷ W ∷ H ∷ [])
 
 module _ (m : List Declaration) {G : List Tree} (C F W H : Tree) (p : IsPartAt m G C F W H) where
-  part_call : (s : ℕ) (t : Tree) → symbol_type m s ≡ Some (products part_domains t) → Solid (products part_domains t) → loose (products part_domains t) ≡ 0 → IsProof m true G (part_of s C F W H) (put_all (C ∷ F ∷ W ∷ H ∷ []) t)
+  part_call : (s : ℕ) (t : Tree) → symbol_type m s ≡ Some (products part_domains t) → Solid (products part_domains t) → loose (products part_domains t) ≡ 0
+      → IsProof m true G (part_of s C F W H) (put_all (C ∷ F ∷ W ∷ H ∷ []) t)
   part_call s t e solid c =
       shaped-call m G part_domains (C ∷ F ∷ W ∷ H ∷ []) s t e solid c (a_type p.ty, (a_term (simp lift_zero p.predicate), (a_term (simp lift_zero p.witness), (a_proof (simp lift_zero p.proof), tt {0}))))
 
@@ -84,7 +85,8 @@ module _ (m : List Declaration) {G : List Tree} (C F W H : Tree) (p : IsPartAt m
   put-part s x i = part_of s (put-lift x C i) (put-lift x F i) (put-lift x W i) (put-lift x H i)
 
   -- the last call of the first law, at a term of a type that becomes the part
-  first-last : (n x : Tree) → IsTerm m G x n → head_step m n ≡ Some (part_of sub_symbol C F W H) → IsLast m G (App (part_of sub_abs_rep_symbol C F W H) x) (undone x)
+  first-last : (n x : Tree) → IsTerm m G x n → head_step m n ≡ Some (part_of sub_symbol C F W H)
+      → IsLast m G (App (part_of sub_abs_rep_symbol C F W H) x) (undone x)
   first-last n x hx step =
       let le = spreads-same m sub_symbol sub_abs_rep_symbol part_domains (C ∷ F ∷ W ∷ H ∷ []) x abstraction_undoes refl refl refl in
       let x0 : put x (Var 0) ≡ x = lift_zero x in
@@ -107,10 +109,12 @@ module _ (m : List Declaration) {G : List Tree} (C F W H : Tree) (p : IsPartAt m
     terms-close : Close m 3 (lift 1 (term_of N)) (lift 1 (term_of (part_of sub_symbol C F W H)))
     terms-close = close_application (no-arrow m (lift 1 N) _ step) refl close_same (close_step step close_same)
 
-  pub abstraction-definition : (N : Tree) → head_step m (lift 1 N) ≡ Some (lift 1 (part_of sub_symbol C F W H)) → IsCallDefinition m G (part_of sub_abs_symbol C F W H) (term_of (arr_of C N))
+  pub abstraction-definition : (N : Tree) → head_step m (lift 1 N) ≡ Some (lift 1 (part_of sub_symbol C F W H))
+      → IsCallDefinition m G (part_of sub_abs_symbol C F W H) (term_of (arr_of C N))
   abstraction-definition N step = by_term (sub_abs-call m C F W H p) (close_arrow close_same (terms-close N step))
 
-  pub representation-definition : (N : Tree) → head_step m N ≡ Some (part_of sub_symbol C F W H) → IsCallDefinition m G (part_of sub_rep_symbol C F W H) (term_of (arr_of N C))
+  pub representation-definition : (N : Tree) → head_step m N ≡ Some (part_of sub_symbol C F W H)
+      → IsCallDefinition m G (part_of sub_rep_symbol C F W H) (term_of (arr_of N C))
   representation-definition N step =
       by_term (sub_rep-call m C F W H p) (close_arrow (close_application (no-arrow m N _ step) refl close_same (close_step step close_same)) close_same)
 
@@ -125,11 +129,13 @@ module _ (m : List Declaration) {G : List Tree} {a b t u : Tree} (ha : IsSimple 
       simp lift_zero at c
 
   -- the equation that extensionality proves
-  concluded : (h : Tree) → put h (proof_of (eq_of (arr_of (lift 1 a) (lift 1 b)) (lift 1 (Lam (term_of a) t)) (lift 1 (Lam (term_of a) u)))) ≡ proof_of (eq_of (arr_of a b) (Lam (term_of a) t) (Lam (term_of a) u))
+  concluded : (h : Tree)
+      → put h (proof_of (eq_of (arr_of (lift 1 a) (lift 1 b)) (lift 1 (Lam (term_of a) t)) (lift 1 (Lam (term_of a) u)))) ≡ proof_of (eq_of (arr_of a b) (Lam (term_of a) t) (Lam (term_of a) u))
   concluded h i = proof_of (eq_of (arr_of (put-lift h a i) (put-lift h b i)) (put-lift h (Lam (term_of a) t) i) (put-lift h (Lam (term_of a) u) i))
 
 -- The first law: abs undoes rep at each term of the new type, where the type and both constants become those of the part by head steps
-pub first_law-shaped : (m : List Declaration) {G : List Tree} (N C F W H A R : Tree) → IsSimple m G N → IsSimple m (term_of N ∷ G) (lift 1 N) → IsPartAt m (term_of N ∷ G) C F W H
+pub first_law-shaped : (m : List Declaration) {G : List Tree} (N C F W H A R : Tree) → IsSimple m G N → IsSimple m (term_of N ∷ G) (lift 1 N)
+    → IsPartAt m (term_of N ∷ G) C F W H
     → IsTerm m (term_of N ∷ G) A (arr_of C (lift 1 N)) → IsTerm m (term_of N ∷ G) R (arr_of (lift 1 N) C) → head_step m (lift 1 N) ≡ Some (part_of sub_symbol C F W H)
     → ((y : Tree) → head_step m (App A y) ≡ Some (App (part_of sub_abs_symbol C F W H) y)) → ((y : Tree) → head_step m (App R y) ≡ Some (App (part_of sub_rep_symbol C F W H) y))
     → IsLaw m G (App (two_abstractions N N (App A (App R (Var 0))) (Var 0)) (Lam (term_of N) (App (part_of sub_abs_rep_symbol C F W H) (Var 0))))
@@ -172,7 +178,8 @@ second_law-shaped m {G = G} B N C F W H A R hB same p hA hR stepA stepR =
     (concluded m hB bool t u h)
 
 -- In version 5: abs undoes rep at a term of the new type
-pub first_law_free-shaped : (m : List Declaration) {G : List Tree} (N C F W H x : Tree) → IsPartAt m G C F W H → IsTerm m G x N → head_step m N ≡ Some (part_of sub_symbol C F W H)
+pub first_law_free-shaped : (m : List Declaration) {G : List Tree} (N C F W H x : Tree) → IsPartAt m G C F W H → IsTerm m G x N
+    → head_step m N ≡ Some (part_of sub_symbol C F W H)
     → IsLaw m G (App (part_of sub_abs_rep_symbol C F W H) x) (proof_of (eq_of (part_of sub_symbol C F W H) (App (part_of sub_abs_symbol C F W H) (App (part_of sub_rep_symbol C F W H) x)) x))
 first_law_free-shaped m N C F W H x p hx stepN = law_last (omega arith) (first-last m C F W H p N x hx stepN)
 
@@ -188,7 +195,8 @@ first_law_free-close m N C F W H A R x stepN stepA stepR =
     close_same)
 
 -- and rep undoes abs at a term of the old type where the predicate holds of it, turned round
-pub second_law_free-shaped : (m : List Declaration) {G : List Tree} (N C F W H A R x : Tree) → IsPartAt m G C F W H → IsTerm m G x C → IsTerm m G A (arr_of C N) → IsTerm m G R (arr_of N C)
+pub second_law_free-shaped : (m : List Declaration) {G : List Tree} (N C F W H A R x : Tree) → IsPartAt m G C F W H → IsTerm m G x C → IsTerm m G A (arr_of C N)
+    → IsTerm m G R (arr_of N C)
     → ((y : Tree) → head_step m (App A y) ≡ Some (App (part_of sub_abs_symbol C F W H) y)) → ((y : Tree) → head_step m (App R y) ≡ Some (App (part_of sub_rep_symbol C F W H) y))
     → symbol_type m (length signature) ≡ Some sym_lemma.ty
     → IsLaw m G (applied (Sym (length signature)) (bools ∷ eq_of C (App R (App A x)) x ∷ App F x ∷ App (part_of sub_rep_abs_symbol C F W H) x ∷ [])) (proof_of (eq_of bools (App F x) (eq_of C (App R (App A x)) x)))

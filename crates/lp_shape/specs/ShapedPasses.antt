@@ -28,7 +28,8 @@ square zero = omega arith
 square (suc n) = omega arith
 
 -- the sum of what the type and the body cost
-whole' : (x s y z : ℕ) → 7 * ((x + s + (y + z)) + (x + s + (y + z))) * x + (7 * ((x + s + (y + z)) + (x + s + (y + z))) + 40) * (y + z) + 3 * x ≤ 64 * ((x + s + (y + z)) * (x + s + (y + z)))
+whole' : (x s y z : ℕ)
+    → 7 * ((x + s + (y + z)) + (x + s + (y + z))) * x + (7 * ((x + s + (y + z)) + (x + s + (y + z))) + 40) * (y + z) + 3 * x ≤ 64 * ((x + s + (y + z)) * (x + s + (y + z)))
 whole' x s y z = omega (arith, square (x + s + (y + z)))
 
 -- what the type costs alone
@@ -46,7 +47,8 @@ module _ (m : List Declaration) (closed : IsClosed m) where
     plain : {rest : Tree} {n : ℕ} → Ends m true (Say (Found rest)) (Found rest) n → Ends m true (unless_kind found (Say (Found rest))) (Found rest) n
     finds : Finds m (Infer G t) found most
 
-  find-definition : (w e : ℕ) {G : List Tree} {t A : Tree} → IsDefinition m G t A → AreSmall m e G → size t ≤ e → size t + spreads m [] t + e ≤ suc w → FindsDefinition G t A (7 * suc w * size t)
+  find-definition : (w e : ℕ) {G : List Tree} {t A : Tree} → IsDefinition m G t A → AreSmall m e G → size t ≤ e → size t + spreads m [] t + e ≤ suc w
+      → FindsDefinition G t A (7 * suc w * size t)
   find-definition w e (defined h) g le less =
       let k = find-term m closed w (sized m closed (suc w) e h g le less) in
       record { found = k.found; near = near_arrows k.unfolded; plain = λ h. unless-kind m closed k.unfolded h; finds = k.finds }
@@ -148,7 +150,8 @@ square-cube zero = omega arith
 square-cube (suc n) = omega arith
 
 -- a shaped declaration whose bound is within the greatest number passes within its bound
-pub shaped-within : (m : List Declaration) (closed : IsClosed m) (d : Declaration) → IsShaped m d → 64 * (weight m d * weight m d * weight m d) ≤ greatest → Passes m closed (declaration_plan d) d.ty (bound m d)
+pub shaped-within : (m : List Declaration) (closed : IsClosed m) (d : Declaration) → IsShaped m d → 64 * (weight m d * weight m d * weight m d) ≤ greatest
+    → Passes m closed (declaration_plan d) d.ty (bound m d)
 shaped-within m closed d h fits =
     let p = shaped-passes m closed d h in
     let w = weight m d in

@@ -10,7 +10,8 @@ use Rattle.lp_shape.specs.ShapedCalls.{a_type, a_term, shaped-call}
 
 module _ (m : List Declaration) where
   -- extensionality at two abstractions
-  pub shaped-fun_ext : {G : List Tree} {a b t u h : Tree} → IsSimple m G a → IsSimple m G b → IsTerm m (term_of a ∷ G) t (lift 1 b) → IsTerm m (term_of a ∷ G) u (lift 1 b) → IsProof m false (term_of a ∷ G) h (proof_of (eq_of (lift 1 b) t u))
+  pub shaped-fun_ext : {G : List Tree} {a b t u h : Tree} → IsSimple m G a → IsSimple m G b → IsTerm m (term_of a ∷ G) t (lift 1 b)
+      → IsTerm m (term_of a ∷ G) u (lift 1 b) → IsProof m false (term_of a ∷ G) h (proof_of (eq_of (lift 1 b) t u))
       → IsProof m false G (applied (Sym fun_ext_symbol) (a ∷ b ∷ Lam (term_of a) t ∷ Lam (term_of a) u ∷ Lam (term_of a) h ∷ [])) (proof_of (eq_of (arr_of a b) (Lam (term_of a) t) (Lam (term_of a) u)))
   shaped-fun_ext {G = G} {a = a} {b = b} {t = t} {u = u} {h = h} ha hb ht hu hh =
       let f = Lam (term_of a) t in

@@ -20,8 +20,10 @@ use Rattle.lp_shape.specs.TermPrice.{size-positive, term-spreads, AreSmall, smal
 pub data IsSized (m : List Declaration) (w : ℕ) : List Tree → Tree → Tree → Type 0 where
   by_entry : {G : List Tree} {n : ℕ} {a b : Tree} → slice_get G n ≡ Some (term_of b) → lift (suc n) b ≡ a → IsSimple m G a → IsSized m w G (Var n) a
   by_constant : {G : List Tree} {t a : Tree} → IsConstant m G t (term_of a) → IsSimple m G a → IsSized m w G t a
-  by_function : {G : List Tree} {f x a b : Tree} → size (arr_of a b) ≤ w → IsSimple m G a → IsSimple m G b → IsSized m w G f (arr_of a b) → IsSized m w G x a → IsSized m w G (App f x) b
-  by_binder : {G : List Tree} {t a b : Tree} → IsSimple m G a → IsSimple m G b → IsSized m w (term_of a ∷ G) t (lift 1 b) → IsSized m w G (Lam (term_of a) t) (arr_of a b)
+  by_function : {G : List Tree} {f x a b : Tree} → size (arr_of a b) ≤ w → IsSimple m G a → IsSimple m G b → IsSized m w G f (arr_of a b) → IsSized m w G x a
+      → IsSized m w G (App f x) b
+  by_binder : {G : List Tree} {t a b : Tree} → IsSimple m G a → IsSimple m G b → IsSized m w (term_of a ∷ G) t (lift 1 b)
+      → IsSized m w G (Lam (term_of a) t) (arr_of a b)
 
 -- the renaming takes the entries of a context to those of one with an entry more
 pub data Weakens : (ℕ → ℕ) → List Tree → List Tree → Type 0 where

@@ -26,7 +26,8 @@ solid-put d x (Lam a b) h = tt
 solid-put d x (Pi a b) h = solid-put (suc d) x b h
 
 -- how far a type spreads after an argument is how far it spreads with the argument put in
-spread_after-put : (x : Tree) (before args : List Tree) (t : Tree) → Solid t → spread_after (x ∷ before) args t ≡ spread_after before args (put_at (length before) x t)
+spread_after-put : (x : Tree) (before args : List Tree) (t : Tree) → Solid t
+    → spread_after (x ∷ before) args t ≡ spread_after before args (put_at (length before) x t)
 spread_after-put x before (u ∷ us) (Pi a b) h =
     let e : length (before ++ u ∷ []) ≡ suc (length before) = length-append before (u ∷ []) ∙ omega arith in
     ap₂ (λ n k. n + k) (ap size (put_all-cons x before a)) (spread_after-put x (before ++ u ∷ []) us b h ∙ ap (λ n. spread_after (before ++ u ∷ []) us (put_at n x b)) e)
@@ -58,7 +59,8 @@ module _ (m : List Declaration) where
   constant-solid (at_type {a = a} {A = A} f h e) = subst Solid e (solid-put 0 a A (constant-solid f))
 
   -- the spread of a function's type at a type and further arguments
-  pub spread-type : {G : List Tree} {f A B : Tree} (a : Tree) (args : List Tree) → IsConstant m G f (Pi types A) → put a A ≡ B → spread (a ∷ args) (Pi types A) ≡ 1 + spread args B
+  pub spread-type : {G : List Tree} {f A B : Tree} (a : Tree) (args : List Tree) → IsConstant m G f (Pi types A) → put a A ≡ B
+      → spread (a ∷ args) (Pi types A) ≡ 1 + spread args B
   spread-type {A = A} a args hf e = spread-product a args types A (constant-solid hf) ∙ ap (λ t. 1 + spread args t) e
 
   -- what remains of a constant's type is in the constant's weight
@@ -125,7 +127,8 @@ module _ (m : List Declaration) (closed : IsClosed m) where
     pub finds : Finds m (Infer G t) found most
 
   -- the application of a function of terms, whose type may be unfolded
-  pub find-apply : {G : List Tree} {f x a b F : Tree} {k l : ℕ} → IsSimple m G a → IsSimple m G b → Unfolded (arr_of a b) F → Finds m (Infer G f) F k → FindsTerm G x a l
+  pub find-apply : {G : List Tree} {f x a b F : Tree} {k l : ℕ} → IsSimple m G a → IsSimple m G b → Unfolded (arr_of a b) F → Finds m (Infer G f) F k
+      → FindsTerm G x a l
       → FindsTerm G (App f x) b (k + l + 7 * size (arr_of a b))
   find-apply {b = b} ha hb folded hf hx =
       let p = find_functions m closed ha hb in
@@ -144,6 +147,7 @@ module _ (m : List Declaration) (closed : IsClosed m) where
       record { found = _; unfolded = unfolded-put m closed x h; finds = Finds-more m (omega arith) (find_application m hf hx.finds q) }
 
   -- a type of terms is not Kind
-  pub unless-kind : {a S : Tree} → Unfolded a S → {rest : Tree} {n : ℕ} → Ends m true (Say (Found rest)) (Found rest) n → Ends m true (unless_kind S (Say (Found rest))) (Found rest) n
+  pub unless-kind : {a S : Tree} → Unfolded a S → {rest : Tree} {n : ℕ} → Ends m true (Say (Found rest)) (Found rest) n
+      → Ends m true (unless_kind S (Say (Found rest))) (Found rest) n
   unless-kind folded h = h
   unless-kind (arrow u) h = h

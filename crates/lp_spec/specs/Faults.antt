@@ -28,8 +28,10 @@ mutual
     application : {tokens more rest : List Placed} → BareAtom tokens more → BareArguments more rest → BareApplication tokens rest
 
   pub data BareTerm : List Placed → List Placed → Type 0 where
-    product : {tokens more rest : List Placed} {p q r : ℕ} {name : List ℕ} → BareApplication tokens (at r Arrow ∷ more) → BareTerm more rest → BareTerm (at p (Name name) ∷ at q Colon ∷ tokens) rest
-    abstraction : {tokens more rest : List Placed} {p q r : ℕ} {name : List ℕ} → BareApplication tokens (at r FatArrow ∷ more) → BareTerm more rest → BareTerm (at p (Name name) ∷ at q Colon ∷ tokens) rest
+    product : {tokens more rest : List Placed} {p q r : ℕ} {name : List ℕ} → BareApplication tokens (at r Arrow ∷ more) → BareTerm more rest
+        → BareTerm (at p (Name name) ∷ at q Colon ∷ tokens) rest
+    abstraction : {tokens more rest : List Placed} {p q r : ℕ} {name : List ℕ} → BareApplication tokens (at r FatArrow ∷ more) → BareTerm more rest
+        → BareTerm (at p (Name name) ∷ at q Colon ∷ tokens) rest
     nameless : {tokens more rest : List Placed} {r : ℕ} → BareApplication tokens (at r Arrow ∷ more) → BareTerm more rest → BareTerm tokens rest
     plain : {tokens rest : List Placed} → BareApplication tokens rest → BareTerm tokens rest
 
@@ -44,50 +46,69 @@ HasBody Thm = Unit {0}
 mutual
   pub data DeclarationBegins (all : List Placed) : List (List ℕ) → List Placed → Type 0 where
     first : DeclarationBegins all [] all
-    next : {names : List (List ℕ)} {name : List ℕ} {tokens rest : List Placed} {p : ℕ} → WholeBegins all names name Dot tokens → BareTerm tokens (at p Dot ∷ rest) → DeclarationBegins all (names ++ name ∷ []) rest
+    next : {names : List (List ℕ)} {name : List ℕ} {tokens rest : List Placed} {p : ℕ} → WholeBegins all names name Dot tokens
+        → BareTerm tokens (at p Dot ∷ rest) → DeclarationBegins all (names ++ name ∷ []) rest
 
   pub data NameStands (all : List Placed) : List (List ℕ) → Form → List Placed → Type 0 where
     of_symbol : {names : List (List ℕ)} {tokens : List Placed} → DeclarationBegins all names tokens → NameStands all names Symbol tokens
-    of_definition : {names : List (List ℕ)} {tokens : List Placed} {p : ℕ} → DeclarationBegins all names (at p DefWord ∷ tokens) → NameStands all names Def tokens
+    of_definition : {names : List (List ℕ)} {tokens : List Placed} {p : ℕ} → DeclarationBegins all names (at p DefWord ∷ tokens)
+        → NameStands all names Def tokens
     of_theorem : {names : List (List ℕ)} {tokens : List Placed} {p : ℕ} → DeclarationBegins all names (at p ThmWord ∷ tokens) → NameStands all names Thm tokens
 
   pub data WholeBegins (all : List Placed) : List (List ℕ) → List ℕ → Token → List Placed → Type 0 where
-    only_type : {names : List (List ℕ)} {name : List ℕ} {tokens : List Placed} {p q : ℕ} → NameStands all names Symbol (at p (Name name) ∷ at q Colon ∷ tokens) → WholeBegins all names name Dot tokens
-    type_before_body : {names : List (List ℕ)} {name : List ℕ} {form : Form} {tokens : List Placed} {p q : ℕ} → HasBody form → NameStands all names form (at p (Name name) ∷ at q Colon ∷ tokens) → WholeBegins all names name Assign tokens
-    body : {names : List (List ℕ)} {name : List ℕ} {tokens rest : List Placed} {p : ℕ} → WholeBegins all names name Assign tokens → BareTerm tokens (at p Assign ∷ rest) → WholeBegins all names name Dot rest
+    only_type : {names : List (List ℕ)} {name : List ℕ} {tokens : List Placed} {p q : ℕ} → NameStands all names Symbol (at p (Name name) ∷ at q Colon ∷ tokens)
+        → WholeBegins all names name Dot tokens
+    type_before_body : {names : List (List ℕ)} {name : List ℕ} {form : Form} {tokens : List Placed} {p q : ℕ} → HasBody form
+        → NameStands all names form (at p (Name name) ∷ at q Colon ∷ tokens) → WholeBegins all names name Assign tokens
+    body : {names : List (List ℕ)} {name : List ℕ} {tokens rest : List Placed} {p : ℕ} → WholeBegins all names name Assign tokens
+        → BareTerm tokens (at p Assign ∷ rest) → WholeBegins all names name Dot rest
 
 -- What has been read before these tokens: these declarations; the name of one more, of this form and with a new name; or all of its declaration
 -- before the type or the body that that token ends.
 pub data Declared (all : List Placed) : List Declaration → List Placed → Type 0 where
   none_yet : Declared all [] all
-  one_more : {m : List Declaration} {tokens rest : List Placed} {d : Declaration} → Declared all m tokens → Declares m tokens rest d → Declared all (m ++ d ∷ []) rest
+  one_more : {m : List Declaration} {tokens rest : List Placed} {d : Declaration} → Declared all m tokens → Declares m tokens rest d
+      → Declared all (m ++ d ∷ []) rest
 
 pub data NameReads (all : List Placed) (m : List Declaration) : Form → List ℕ → List Placed → Type 0 where
-  symbol_name : {name : List ℕ} {tokens : List Placed} {p q : ℕ} → Declared all m (at p (Name name) ∷ at q Colon ∷ tokens) → IsNew m name → NameReads all m Symbol name tokens
-  definition_name : {name : List ℕ} {tokens : List Placed} {o p q : ℕ} → Declared all m (at o DefWord ∷ at p (Name name) ∷ at q Colon ∷ tokens) → IsNew m name → NameReads all m Def name tokens
-  theorem_name : {name : List ℕ} {tokens : List Placed} {o p q : ℕ} → Declared all m (at o ThmWord ∷ at p (Name name) ∷ at q Colon ∷ tokens) → IsNew m name → NameReads all m Thm name tokens
+  symbol_name : {name : List ℕ} {tokens : List Placed} {p q : ℕ} → Declared all m (at p (Name name) ∷ at q Colon ∷ tokens) → IsNew m name
+      → NameReads all m Symbol name tokens
+  definition_name : {name : List ℕ} {tokens : List Placed} {o p q : ℕ} → Declared all m (at o DefWord ∷ at p (Name name) ∷ at q Colon ∷ tokens) → IsNew m name
+      → NameReads all m Def name tokens
+  theorem_name : {name : List ℕ} {tokens : List Placed} {o p q : ℕ} → Declared all m (at o ThmWord ∷ at p (Name name) ∷ at q Colon ∷ tokens) → IsNew m name
+      → NameReads all m Thm name tokens
 
 pub data WholeReads (all : List Placed) (m : List Declaration) : Token → List Placed → Type 0 where
   symbol_type : {name : List ℕ} {tokens : List Placed} → NameReads all m Symbol name tokens → WholeReads all m Dot tokens
   bodied_type : {name : List ℕ} {form : Form} {tokens : List Placed} → HasBody form → NameReads all m form name tokens → WholeReads all m Assign tokens
-  body_after : {name : List ℕ} {form : Form} {tokens rest : List Placed} {p : ℕ} {t : Tree} → HasBody form → NameReads all m form name tokens → IsWhole m tokens (at p Assign ∷ rest) t → WholeReads all m Dot rest
+  body_after : {name : List ℕ} {form : Form} {tokens rest : List Placed} {p : ℕ} {t : Tree} → HasBody form → NameReads all m form name tokens
+      → IsWhole m tokens (at p Assign ∷ rest) t → WholeReads all m Dot rest
 
 -- And in this scope: a term; an application, or an atom, where a binder may or may not be introduced in its place.
 mutual
   pub data TermBegins (all : List Placed) (names : List (List ℕ)) : Scope → List Placed → Type 0 where
     of_whole : {name : List ℕ} {end : Token} {tokens : List Placed} → WholeBegins all names name end tokens → TermBegins all names [] tokens
-    after_product : {scope : Scope} {name : List ℕ} {tokens rest : List Placed} {p q r : ℕ} → TermBegins all names scope (at p (Name name) ∷ at q Colon ∷ tokens) → BareApplication tokens (at r Arrow ∷ rest) → TermBegins all names (name ∷ scope) rest
-    after_abstraction : {scope : Scope} {name : List ℕ} {tokens rest : List Placed} {p q r : ℕ} → TermBegins all names scope (at p (Name name) ∷ at q Colon ∷ tokens) → BareApplication tokens (at r FatArrow ∷ rest) → TermBegins all names (name ∷ scope) rest
-    after_nameless : {scope : Scope} {tokens rest : List Placed} {r : ℕ} → TermBegins all names scope tokens → BareApplication tokens (at r Arrow ∷ rest) → TermBegins all names ([] ∷ scope) rest
-    enclosed_term : {scope : Scope} {binder : Bool} {tokens : List Placed} {p : ℕ} → AtomStands all names scope binder (at p LeftParen ∷ tokens) → TermBegins all names scope tokens
+    after_product : {scope : Scope} {name : List ℕ} {tokens rest : List Placed} {p q r : ℕ}
+        → TermBegins all names scope (at p (Name name) ∷ at q Colon ∷ tokens) → BareApplication tokens (at r Arrow ∷ rest)
+        → TermBegins all names (name ∷ scope) rest
+    after_abstraction : {scope : Scope} {name : List ℕ} {tokens rest : List Placed} {p q r : ℕ}
+        → TermBegins all names scope (at p (Name name) ∷ at q Colon ∷ tokens) → BareApplication tokens (at r FatArrow ∷ rest)
+        → TermBegins all names (name ∷ scope) rest
+    after_nameless : {scope : Scope} {tokens rest : List Placed} {r : ℕ} → TermBegins all names scope tokens → BareApplication tokens (at r Arrow ∷ rest)
+        → TermBegins all names ([] ∷ scope) rest
+    enclosed_term : {scope : Scope} {binder : Bool} {tokens : List Placed} {p : ℕ} → AtomStands all names scope binder (at p LeftParen ∷ tokens)
+        → TermBegins all names scope tokens
 
   pub data ApplicationBegins (all : List Placed) (names : List (List ℕ)) : Scope → Bool → List Placed → Type 0 where
     of_term : {scope : Scope} {tokens : List Placed} → TermBegins all names scope tokens → ApplicationBegins all names scope true tokens
-    of_domain : {scope : Scope} {name : List ℕ} {tokens : List Placed} {p q : ℕ} → TermBegins all names scope (at p (Name name) ∷ at q Colon ∷ tokens) → ApplicationBegins all names scope false tokens
+    of_domain : {scope : Scope} {name : List ℕ} {tokens : List Placed} {p q : ℕ} → TermBegins all names scope (at p (Name name) ∷ at q Colon ∷ tokens)
+        → ApplicationBegins all names scope false tokens
 
   pub data AtomStands (all : List Placed) (names : List (List ℕ)) : Scope → Bool → List Placed → Type 0 where
-    of_application : {scope : Scope} {binder : Bool} {tokens : List Placed} → ApplicationBegins all names scope binder tokens → AtomStands all names scope binder tokens
-    further : {scope : Scope} {binder : Bool} {tokens rest : List Placed} → ApplicationBegins all names scope binder tokens → BareApplication tokens rest → AtomStands all names scope false rest
+    of_application : {scope : Scope} {binder : Bool} {tokens : List Placed} → ApplicationBegins all names scope binder tokens
+        → AtomStands all names scope binder tokens
+    further : {scope : Scope} {binder : Bool} {tokens rest : List Placed} → ApplicationBegins all names scope binder tokens → BareApplication tokens rest
+        → AtomStands all names scope false rest
 
 -- tokens that are declarations to their end
 abbrev pub IsText : List Placed → Type 0
@@ -115,24 +136,31 @@ tokens_after text = tokens_from (length prelude) text
 -- the tokens of a text show this fault
 pub data TokensShow (all : List Placed) : Refusal → Type 0 where
   -- a token can't follow those before it: with it they begin no text
-  bad_token : (front rest : List Placed) {p : ℕ} (token : Token) → all ≡ front ++ at p token ∷ rest → ((more : List Placed) → IsText (front ++ at p token ∷ more) → ⊥) → TokensShow all (refusal p BadText)
+  bad_token : (front rest : List Placed) {p : ℕ} (token : Token) → all ≡ front ++ at p token ∷ rest
+      → ((more : List Placed) → IsText (front ++ at p token ∷ more) → ⊥) → TokensShow all (refusal p BadText)
   -- an identifier at a place where an atom may stand names no binder in scope and no earlier symbol, and is no binder
-  unknown_name : {names : List (List ℕ)} {scope : Scope} {binder : Bool} {name : List ℕ} {rest : List Placed} {p : ℕ} → AtomStands all names scope binder (at p (Name name) ∷ rest) → variable_of scope name ≡ None → IsFalse (is_symbol names name) → IsNoBinder binder rest → TokensShow all (refusal p (UnknownName name))
+  unknown_name : {names : List (List ℕ)} {scope : Scope} {binder : Bool} {name : List ℕ} {rest : List Placed} {p : ℕ}
+      → AtomStands all names scope binder (at p (Name name) ∷ rest) → variable_of scope name ≡ None → IsFalse (is_symbol names name) → IsNoBinder binder rest
+      → TokensShow all (refusal p (UnknownName name))
   -- the identifier in a declaration's name place is a symbol already
-  name_twice : {names : List (List ℕ)} {form : Form} {name : List ℕ} {rest : List Placed} {p : ℕ} → NameStands all names form (at p (Name name) ∷ rest) → IsTrue (is_symbol names name) → TokensShow all (refusal p (NameTwice name))
+  name_twice : {names : List (List ℕ)} {form : Form} {name : List ℕ} {rest : List Placed} {p : ℕ} → NameStands all names form (at p (Name name) ∷ rest)
+      → IsTrue (is_symbol names name) → TokensShow all (refusal p (NameTwice name))
   -- a type or a body is too deep, as it is read: at the token that ends it
-  too_deep : {m : List Declaration} {end : Token} {tokens rest : List Placed} {p : ℕ} {t : Tree} → WholeReads all m end tokens → Term m [] tokens (at p end ∷ rest) t → max_depth < depth t → TokensShow all (refusal p DkTooDeep)
+  too_deep : {m : List Declaration} {end : Token} {tokens rest : List Placed} {p : ℕ} {t : Tree} → WholeReads all m end tokens
+      → Term m [] tokens (at p end ∷ rest) t → max_depth < depth t → TokensShow all (refusal p DkTooDeep)
 
 -- a text of any length shows this fault
 pub data Shows (bytes : List ℕ) : Refusal → Type 0 where
   -- the signature's text doesn't begin it: at the first byte that differs, or at the text's length
-  no_prelude : (front wanted rest : List ℕ) → prelude ≡ front ++ wanted → bytes ≡ front ++ rest → Differs wanted rest → Shows bytes (refusal (length front) NoPrelude)
+  no_prelude : (front wanted rest : List ℕ) → prelude ≡ front ++ wanted → bytes ≡ front ++ rest → Differs wanted rest
+      → Shows bytes (refusal (length front) NoPrelude)
   -- a fault of its tokens
   by_tokens : (text : List ℕ) {r : Refusal} → bytes ≡ prelude ++ text → TokensShow (tokens_after text).tokens r → Shows bytes r
   -- a byte begins no token, or a comment doesn't end: at that byte, or at the comment's `(;`
   no_token : (text : List ℕ) {p : ℕ} → bytes ≡ prelude ++ text → (tokens_after text).end ≡ stuck p → Shows bytes (refusal p BadText)
   -- a declaration doesn't end: at the text's length
-  no_end : (text : List ℕ) {p : ℕ} → bytes ≡ prelude ++ text → (tokens_after text).end ≡ ended p → (IsText (tokens_after text).tokens → ⊥) → Shows bytes (refusal p BadText)
+  no_end : (text : List ℕ) {p : ℕ} → bytes ≡ prelude ++ text → (tokens_after text).end ≡ ended p → (IsText (tokens_after text).tokens → ⊥)
+      → Shows bytes (refusal p BadText)
 
 -- a fault that a text shows, before all others of it
 pub record IsLeastFault (bytes : List ℕ) (r : Refusal) : Type 0 where

@@ -30,23 +30,32 @@ max_depth = 262144
 -- an atom, an atom and its arguments, or a term. A short name is read as the tree for which it is short.
 mutual
   pub data Atom (m : List Declaration) : Scope → List Placed → List Placed → Tree → Type 0 where
-    variable : {scope : Scope} {rest : List Placed} {p n : ℕ} {name : List ℕ} → variable_of scope name ≡ Some n → Atom m scope (at p (Name name) ∷ rest) rest (Var n)
-    symbol : {scope : Scope} {rest : List Placed} {p s : ℕ} {name : List ℕ} → variable_of scope name ≡ None → symbol_of m name ≡ Some s → Atom m scope (at p (Name name) ∷ rest) rest (named_tree m s)
+    variable : {scope : Scope} {rest : List Placed} {p n : ℕ} {name : List ℕ} → variable_of scope name ≡ Some n
+        → Atom m scope (at p (Name name) ∷ rest) rest (Var n)
+    symbol : {scope : Scope} {rest : List Placed} {p s : ℕ} {name : List ℕ} → variable_of scope name ≡ None → symbol_of m name ≡ Some s
+        → Atom m scope (at p (Name name) ∷ rest) rest (named_tree m s)
     sort : {scope : Scope} {rest : List Placed} {p : ℕ} → Atom m scope (at p TypeWord ∷ rest) rest SortType
-    enclosed : {scope : Scope} {tokens rest : List Placed} {p q : ℕ} {t : Tree} → Term m scope tokens (at q RightParen ∷ rest) t → Atom m scope (at p LeftParen ∷ tokens) rest t
+    enclosed : {scope : Scope} {tokens rest : List Placed} {p q : ℕ} {t : Tree} → Term m scope tokens (at q RightParen ∷ rest) t
+        → Atom m scope (at p LeftParen ∷ tokens) rest t
 
   -- the tree f and its arguments are this tree
   pub data Arguments (m : List Declaration) : Scope → Tree → List Placed → List Placed → Tree → Type 0 where
     none : {scope : Scope} {tokens : List Placed} {f : Tree} → Arguments m scope f tokens tokens f
-    argument : {scope : Scope} {tokens more rest : List Placed} {f x t : Tree} → Atom m scope tokens more x → Arguments m scope (App f x) more rest t → Arguments m scope f tokens rest t
+    argument : {scope : Scope} {tokens more rest : List Placed} {f x t : Tree} → Atom m scope tokens more x → Arguments m scope (App f x) more rest t
+        → Arguments m scope f tokens rest t
 
   pub data Application (m : List Declaration) : Scope → List Placed → List Placed → Tree → Type 0 where
-    application : {scope : Scope} {tokens more rest : List Placed} {f t : Tree} → Atom m scope tokens more f → Arguments m scope f more rest t → Application m scope tokens rest t
+    application : {scope : Scope} {tokens more rest : List Placed} {f t : Tree} → Atom m scope tokens more f → Arguments m scope f more rest t
+        → Application m scope tokens rest t
 
   pub data Term (m : List Declaration) : Scope → List Placed → List Placed → Tree → Type 0 where
-    product : {scope : Scope} {tokens more rest : List Placed} {p q r : ℕ} {name : List ℕ} {a b : Tree} → Application m scope tokens (at r Arrow ∷ more) a → Term m (name ∷ scope) more rest b → Term m scope (at p (Name name) ∷ at q Colon ∷ tokens) rest (Pi a b)
-    abstraction : {scope : Scope} {tokens more rest : List Placed} {p q r : ℕ} {name : List ℕ} {a b : Tree} → Application m scope tokens (at r FatArrow ∷ more) a → Term m (name ∷ scope) more rest b → Term m scope (at p (Name name) ∷ at q Colon ∷ tokens) rest (Lam a b)
-    nameless : {scope : Scope} {tokens more rest : List Placed} {r : ℕ} {a b : Tree} → Application m scope tokens (at r Arrow ∷ more) a → Term m ([] ∷ scope) more rest b → Term m scope tokens rest (Pi a b)
+    product : {scope : Scope} {tokens more rest : List Placed} {p q r : ℕ} {name : List ℕ} {a b : Tree} → Application m scope tokens (at r Arrow ∷ more) a
+        → Term m (name ∷ scope) more rest b → Term m scope (at p (Name name) ∷ at q Colon ∷ tokens) rest (Pi a b)
+    abstraction : {scope : Scope} {tokens more rest : List Placed} {p q r : ℕ} {name : List ℕ} {a b : Tree}
+        → Application m scope tokens (at r FatArrow ∷ more) a → Term m (name ∷ scope) more rest b
+        → Term m scope (at p (Name name) ∷ at q Colon ∷ tokens) rest (Lam a b)
+    nameless : {scope : Scope} {tokens more rest : List Placed} {r : ℕ} {a b : Tree} → Application m scope tokens (at r Arrow ∷ more) a
+        → Term m ([] ∷ scope) more rest b → Term m scope tokens rest (Pi a b)
     plain : {scope : Scope} {tokens rest : List Placed} {t : Tree} → Application m scope tokens rest t → Term m scope tokens rest t
 
 -- the name is no symbol's yet
@@ -67,7 +76,8 @@ pub data Declares (m : List Declaration) : List Placed → List Placed → Decla
 -- the tokens declare what comes after these declarations, and all together are these
 pub data Completes : List Declaration → List Placed → List Declaration → Type 0 where
   complete : {m : List Declaration} → Completes m [] m
-  next : {m all : List Declaration} {tokens rest : List Placed} {d : Declaration} → Declares m tokens rest d → Completes (m ++ d ∷ []) rest all → Completes m tokens all
+  next : {m all : List Declaration} {tokens rest : List Placed} {d : Declaration} → Declares m tokens rest d → Completes (m ++ d ∷ []) rest all
+      → Completes m tokens all
 
 -- the text reads as the module of these declarations
 pub record Reads (bytes : List ℕ) (m : List Declaration) : Type 0 where

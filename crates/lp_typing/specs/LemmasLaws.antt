@@ -17,14 +17,16 @@ module _ (m : List Declaration) (closed : IsClosed m) where
   equals {a = a} ha hx = Typed-apply m closed a (arr_of a bools) ha (Typed-arr_of m ha (Typed-bools m)) (Typed-eq m ha) hx
 
   -- from x = y to that `eq a x` is `eq a y`
-  sym_functions-typed : {G : List Tree} {a x y h : Tree} → Typed m G a types → Typed m G x (term_of a) → Typed m G y (term_of a) → Typed m G h (proof_of (eq_of a x y))
+  sym_functions-typed : {G : List Tree} {a x y h : Tree} → Typed m G a types → Typed m G x (term_of a) → Typed m G y (term_of a)
+      → Typed m G h (proof_of (eq_of a x y))
       → Typed m G (sym_functions a x y h) (proof_of (eq_of (arr_of a bools) (App (App (Sym eq_symbol) a) x) (App (App (Sym eq_symbol) a) y)))
   sym_functions-typed ha hx hy hh =
       let predicates = Typed-arr_of m ha (Typed-bools m) in
       Typed-app_thm m ha predicates (Typed-eq m ha) (Typed-eq m ha) hx hy (Typed-refl_of m (Typed-arr_of m ha predicates) (Typed-eq m ha)) hh
 
   -- from x = y to y = x
-  pub sym_proof-typed : {G : List Tree} {a x y h : Tree} → Typed m G a types → Typed m G x (term_of a) → Typed m G y (term_of a) → Typed m G h (proof_of (eq_of a x y))
+  pub sym_proof-typed : {G : List Tree} {a x y h : Tree} → Typed m G a types → Typed m G x (term_of a) → Typed m G y (term_of a)
+      → Typed m G h (proof_of (eq_of a x y))
       → Typed m G (sym_proof a x y h) (proof_of (eq_of a y x))
   sym_proof-typed ha hx hy hh =
       Typed-eq_mp m (Typed-eq_of m closed ha hx hx) (Typed-eq_of m closed ha hy hx)

@@ -14,7 +14,8 @@ module _ (m : List Declaration) where
       simp lift_zero at call
 
   -- `fun_ext a b f g h` proves f = g, from h of f x = g x for each x
-  pub Typed-fun_ext : {G : List Tree} {a b f g h : Tree} → Typed m G a types → Typed m G b types → Typed m G f (term_of (arr_of a b)) → Typed m G g (term_of (arr_of a b))
+  pub Typed-fun_ext : {G : List Tree} {a b f g h : Tree} → Typed m G a types → Typed m G b types → Typed m G f (term_of (arr_of a b))
+      → Typed m G g (term_of (arr_of a b))
       → Typed m G h (Pi (term_of a) (proof_of (eq_of (lift 1 b) (App (lift 1 f) (Var 0)) (App (lift 1 g) (Var 0)))))
       → Typed m G (applied (Sym fun_ext_symbol) (a ∷ b ∷ f ∷ g ∷ h ∷ [])) (proof_of (eq_of (arr_of a b) f g))
   Typed-fun_ext {G = G} {a = a} {b = b} {f = f} {g = g} {h = h} ha hb hf hg hh =
@@ -23,7 +24,8 @@ module _ (m : List Declaration) where
       simp lift_zero at call
 
   -- `app_thm a b f g x y h k` proves f x = g y, from h of f = g and k of x = y
-  pub Typed-app_thm : {G : List Tree} {a b f g x y h k : Tree} → Typed m G a types → Typed m G b types → Typed m G f (term_of (arr_of a b)) → Typed m G g (term_of (arr_of a b))
+  pub Typed-app_thm : {G : List Tree} {a b f g x y h k : Tree} → Typed m G a types → Typed m G b types → Typed m G f (term_of (arr_of a b))
+      → Typed m G g (term_of (arr_of a b))
       → Typed m G x (term_of a) → Typed m G y (term_of a) → Typed m G h (proof_of (eq_of (arr_of a b) f g)) → Typed m G k (proof_of (eq_of a x y))
       → Typed m G (applied (Sym app_thm_symbol) (a ∷ b ∷ f ∷ g ∷ x ∷ y ∷ h ∷ k ∷ [])) (proof_of (eq_of b (App f x) (App g y)))
   Typed-app_thm {G = G} {a = a} {b = b} {f = f} {g = g} {x = x} {y = y} {h = h} {k = k} ha hb hf hg hx hy hh hk =
@@ -42,7 +44,8 @@ module _ (m : List Declaration) where
       simp lift_zero at call
 
   -- `eq_mp p q h k` proves q, from h of p = q and k of p
-  pub Typed-eq_mp : {G : List Tree} {p q h k : Tree} → Typed m G p (term_of bools) → Typed m G q (term_of bools) → Typed m G h (proof_of (eq_of bools p q)) → Typed m G k (proof_of p)
+  pub Typed-eq_mp : {G : List Tree} {p q h k : Tree} → Typed m G p (term_of bools) → Typed m G q (term_of bools) → Typed m G h (proof_of (eq_of bools p q))
+      → Typed m G k (proof_of p)
       → Typed m G (applied (Sym eq_mp_symbol) (p ∷ q ∷ h ∷ k ∷ [])) (proof_of q)
   Typed-eq_mp {G = G} {p = p} {q = q} {h = h} {k = k} hp hq hh hk =
       let domains = term_of bools ∷ term_of bools ∷ proof_of (eq_of bools (Var 1) (Var 0)) ∷ proof_of (Var 2) ∷ [] in

@@ -48,15 +48,18 @@ module _ (m : List Declaration) (closed : IsClosed m) where
   Typed-term_under b hb = weaken m closed (Typed-term_of m hb)
 
   -- a term of a type of functions is a function of terms
-  pub Typed-function : {G : List Tree} {f : Tree} (a b : Tree) → Typed m G a types → Typed m G b types → Typed m G f (term_of (arr_of a b)) → Typed m G f (Pi (term_of a) (lift 1 (term_of b)))
+  pub Typed-function : {G : List Tree} {f : Tree} (a b : Tree) → Typed m G a types → Typed m G b types → Typed m G f (term_of (arr_of a b))
+      → Typed m G f (Pi (term_of a) (lift 1 (term_of b)))
   Typed-function a b ha hb hf = of_conversion hf (forth (rule refl) same) (of_product (Typed-term_of m ha) (Typed-term_under b hb) is_type) is_type
 
   -- a term of a type of functions at a term
-  pub Typed-apply : {G : List Tree} {f x : Tree} (a b : Tree) → Typed m G a types → Typed m G b types → Typed m G f (term_of (arr_of a b)) → Typed m G x (term_of a) → Typed m G (App f x) (term_of b)
+  pub Typed-apply : {G : List Tree} {f x : Tree} (a b : Tree) → Typed m G a types → Typed m G b types → Typed m G f (term_of (arr_of a b))
+      → Typed m G x (term_of a) → Typed m G (App f x) (term_of b)
   Typed-apply {x = x} a b ha hb hf hx = of_application (Typed-function a b ha hb hf) hx (put-lift x (term_of b))
 
   -- `eq a x y` is a term of type bool
-  pub Typed-eq_of : {G : List Tree} {a x y : Tree} → Typed m G a types → Typed m G x (term_of a) → Typed m G y (term_of a) → Typed m G (eq_of a x y) (term_of bools)
+  pub Typed-eq_of : {G : List Tree} {a x y : Tree} → Typed m G a types → Typed m G x (term_of a) → Typed m G y (term_of a)
+      → Typed m G (eq_of a x y) (term_of bools)
   Typed-eq_of {a = a} ha hx hy =
       let predicates = Typed-arr_of m ha (Typed-bools m) in
       Typed-apply a bools ha (Typed-bools m) (Typed-apply a (arr_of a bools) ha predicates (Typed-eq m ha) hx) hy

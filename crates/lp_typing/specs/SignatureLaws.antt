@@ -48,7 +48,8 @@ module _ (m : List Declaration) (closed : IsClosed m) where
       (Typed-proof_of m (Typed-eq_of m closed (of_variable refl refl) (of_variable refl refl) (of_variable refl refl))) is_type) is_type
 
   -- a product over a, b and two functions from a to b
-  over_functions : {t : Tree} → Typed m (term_of (arr_of (Var 2) (Var 1)) ∷ term_of (arr_of (Var 1) (Var 0)) ∷ types ∷ types ∷ []) t SortType → Typed m [] (products two_functions t) SortType
+  over_functions : {t : Tree} → Typed m (term_of (arr_of (Var 2) (Var 1)) ∷ term_of (arr_of (Var 1) (Var 0)) ∷ types ∷ types ∷ []) t SortType
+      → Typed m [] (products two_functions t) SortType
   over_functions h =
       of_product (Typed-types m) (of_product (Typed-types m)
       (of_product (Typed-term_of m (Typed-arr_of m (of_variable refl refl) (of_variable refl refl)))
@@ -112,12 +113,14 @@ module _ (m : List Declaration) (closed : IsClosed m) where
     sub_inside : Typed m (A ∷ part) (applied (Sym sub_symbol) part_arguments_inside) types
     sub_inside = of_application (of_application (of_application (of_application (of_symbol refl) (of_variable refl refl) refl) (of_variable refl refl) refl) (of_variable refl refl) refl) (of_variable refl refl) refl
 
-    abs_inside : {x : Tree} → Typed m (A ∷ part) x (term_of (Var 4)) → Typed m (A ∷ part) (App (applied (Sym sub_abs_symbol) part_arguments_inside) x) (term_of (applied (Sym sub_symbol) part_arguments_inside))
+    abs_inside : {x : Tree} → Typed m (A ∷ part) x (term_of (Var 4))
+        → Typed m (A ∷ part) (App (applied (Sym sub_abs_symbol) part_arguments_inside) x) (term_of (applied (Sym sub_symbol) part_arguments_inside))
     abs_inside h =
         Typed-apply m closed (Var 4) (applied (Sym sub_symbol) part_arguments_inside) (of_variable refl refl) sub_inside
         (of_application (of_application (of_application (of_application (of_symbol refl) (of_variable refl refl) refl) (of_variable refl refl) refl) (of_variable refl refl) refl) (of_variable refl refl) refl) h
 
-    rep_inside : {x : Tree} → Typed m (A ∷ part) x (term_of (applied (Sym sub_symbol) part_arguments_inside)) → Typed m (A ∷ part) (App (applied (Sym sub_rep_symbol) part_arguments_inside) x) (term_of (Var 4))
+    rep_inside : {x : Tree} → Typed m (A ∷ part) x (term_of (applied (Sym sub_symbol) part_arguments_inside))
+        → Typed m (A ∷ part) (App (applied (Sym sub_rep_symbol) part_arguments_inside) x) (term_of (Var 4))
     rep_inside h =
         Typed-apply m closed (applied (Sym sub_symbol) part_arguments_inside) (Var 4) sub_inside (of_variable refl refl)
         (of_application (of_application (of_application (of_application (of_symbol refl) (of_variable refl refl) refl) (of_variable refl refl) refl) (of_variable refl refl) refl) (of_variable refl refl) refl) h

@@ -17,12 +17,14 @@ AreDomains m G (a ∷ domains) = Typed m G a SortType × AreDomains m (a ∷ G) 
 
 module _ (m : List Declaration) where
   -- a product over domains is a type
-  pub Typed-products : {G : List Tree} (domains : List Tree) {t : Tree} → AreDomains m G domains → Typed m (under G domains) t SortType → Typed m G (products domains t) SortType
+  pub Typed-products : {G : List Tree} (domains : List Tree) {t : Tree} → AreDomains m G domains → Typed m (under G domains) t SortType
+      → Typed m G (products domains t) SortType
   Typed-products [] h ht = ht
   Typed-products (a ∷ domains) h ht = of_product h.0 (Typed-products domains h.1 ht) is_type
 
   -- an abstraction over domains has the product over them
-  pub Typed-abstractions : {G : List Tree} (domains : List Tree) {t A : Tree} → AreDomains m G domains → Typed m (under G domains) A SortType → Typed m (under G domains) t A
+  pub Typed-abstractions : {G : List Tree} (domains : List Tree) {t A : Tree} → AreDomains m G domains → Typed m (under G domains) A SortType
+      → Typed m (under G domains) t A
       → Typed m G (abstractions domains t) (products domains A)
   Typed-abstractions [] h hA ht = ht
   Typed-abstractions (a ∷ domains) h hA ht = of_abstraction (of_product h.0 (Typed-products domains h.1 hA) is_type) is_type (Typed-abstractions domains h.1 hA ht)
@@ -33,6 +35,7 @@ module _ (m : List Declaration) where
   IsContext-under (a ∷ domains) c h = IsContext-under domains (entry c h.0) h.1
 
   -- the theorem of a type with a proof of that type, both under domains
-  pub IsTypedAfter-theorem : (name : List ℕ) (domains : List Tree) (A t : Tree) → AreDomains m [] domains → Typed m (under [] domains) A SortType → Typed m (under [] domains) t A
+  pub IsTypedAfter-theorem : (name : List ℕ) (domains : List Tree) (A t : Tree) → AreDomains m [] domains → Typed m (under [] domains) A SortType
+      → Typed m (under [] domains) t A
       → IsTypedAfter m (theorem name domains A t)
   IsTypedAfter-theorem name domains A t h hA ht = record { ty = Typed-products domains h hA; body = Typed-abstractions domains h hA ht }

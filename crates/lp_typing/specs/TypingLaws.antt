@@ -60,7 +60,8 @@ pub record Moves (r : ℕ → ℕ) (G D : List Tree) : Type 0 where
 Moves-up : {r : ℕ → ℕ} {G D : List Tree} {A : Tree} → Moves r G D → Moves (up r) (A ∷ G) (ren r A ∷ D)
 Moves-up {r = r} {G = G} {D = D} {A = A} m = record { each = go }
   where
-    go : (n : ℕ) (B : Tree) → slice_get (A ∷ G) n ≡ Some B → (C : Tree) × (slice_get (ren r A ∷ D) (up r n) ≡ Some C) × (lift (suc (up r n)) C ≡ ren (up r) (lift (suc n) B))
+    go : (n : ℕ) (B : Tree) → slice_get (A ∷ G) n ≡ Some B
+        → (C : Tree) × (slice_get (ren r A ∷ D) (up r n) ≡ Some C) × (lift (suc (up r n)) C ≡ ren (up r) (lift (suc n) B))
     go zero B e = (ren r A, refl, sym (ren-lift r A) ∙ ap (λ o. ren (up r) (lift 1 o)) (same_Some _ _ e))
     go (suc n) B e =
         let h = m.each n B e in (

@@ -29,7 +29,8 @@ use Rattle.module_laws.specs.ShapedRows.{Stands, type-here}
 
 module _ (m : List Declaration) (closed : IsClosed m) (symbols : Symbols) (G : List Tree) (scope : Scope) (hypotheses : List Term) (stands : Stands m symbols G scope hypotheses) where
   -- under the binder of a variable that isn't free in it, a hypothesis keeps its entry
-  fresh-HasEntry : (v : Variable) (h : Term) → TermOver m symbols h → IsFresh v h → HasEntry symbols G scope h → HasEntry symbols (term_of (type_tree symbols scope.types v.1) ∷ G) (under_term v scope) h
+  fresh-HasEntry : (v : Variable) (h : Term) → TermOver m symbols h → IsFresh v h → HasEntry symbols G scope h
+      → HasEntry symbols (term_of (type_tree symbols scope.types v.1) ∷ G) (under_term v scope) h
   fresh-HasEntry v h o fresh p =
       subst (λ t. IsEntry (term_of (type_tree symbols scope.types v.1) ∷ G) (lift 1 (scope.proofs h)) t)
       (term_tree-lift symbols scope h

@@ -150,7 +150,8 @@ premises-joined ps sequents same [] (s ∷ ss) h = absurd h
 premises-joined ps sequents same (k ∷ ks) [] h = absurd h
 
 -- the type definition whose law a step is
-law-part : (before : List Made) (ps : List Item) → AllByRecursion (IsPartHeld ps) before → (ks : List ℕ) (names : TypeNames) (one : Sequent) (law : IsOfDefinition before names ks)
+law-part : (before : List Made) (ps : List Item) → AllByRecursion (IsPartHeld ps) before
+    → (ks : List ℕ) (names : TypeNames) (one : Sequent) (law : IsOfDefinition before names ks)
     → map (λ k. (premise_at ps k).1) ks ≡ one ∷ [] → HasPart ps names (premise_at ps law.number).0 one
 law-part before ps parts ks names one law same =
     let q = All-among (IsPartHeld ps) before parts (Made.type_definition names law.c law.f law.number) law.among in
@@ -161,7 +162,8 @@ law-part before ps parts ks names one law same =
     (record { c = law.c; f = law.f; defines = q.defines; operator = q.operator; abstraction = q.abstraction; representation = q.representation })
 
 -- what a step defines is among the items
-rule-defines : (before : List Made) (ps : List Item) → AllByRecursion (IsPartHeld ps) before → (ks : List ℕ) (kind : StepKind) (premises : List Sequent) (p : Parameters) (s : Sequent) → Rule kind premises p s → AllByRecursion IsSequent premises
+rule-defines : (before : List Made) (ps : List Item) → AllByRecursion (IsPartHeld ps) before
+    → (ks : List ℕ) (kind : StepKind) (premises : List Sequent) (p : Parameters) (s : Sequent) → Rule kind premises p s → AllByRecursion IsSequent premises
     → AllByRecursion (IsDefinitionHeld ps) (definitions_used kind premises p) → map (λ k. (premise_at ps k).1) ks ≡ premises → IsLawOfDefinition before kind ks p
     → DefinesAmong ps kind (map (λ k. (premise_at ps k).0) ks) premises p
 rule-defines before ps parts ks kind premises p s (rule.refl h e) are held same law = tt
@@ -192,11 +194,13 @@ pub says-step : (b : Bool) (kind : StepKind) (js : List ℕ) (ss : List Sequent)
 says-step false kind js ss g s = refl
 says-step true kind js ss g s = refl
 
-named-step : (symbols : List Symbol) (b : Bool) (kind : StepKind) (js : List ℕ) (ss : List Sequent) (g : Parameters) (s : Sequent) → IsNamed symbols (content_by b kind js ss g s)
+named-step : (symbols : List Symbol) (b : Bool) (kind : StepKind) (js : List ℕ) (ss : List Sequent) (g : Parameters) (s : Sequent)
+    → IsNamed symbols (content_by b kind js ss g s)
 named-step symbols false kind js ss g s = tt
 named-step symbols true kind js ss g s = tt
 
-new-step : (ps : List Item) (b : Bool) (kind : StepKind) (js : List ℕ) (ss : List Sequent) (g : Parameters) (s : Sequent) → IsNew ps (content_by b kind js ss g s)
+new-step : (ps : List Item) (b : Bool) (kind : StepKind) (js : List ℕ) (ss : List Sequent) (g : Parameters) (s : Sequent)
+    → IsNew ps (content_by b kind js ss g s)
 new-step ps false kind js ss g s = tt
 new-step ps true kind js ss g s = tt
 
@@ -217,7 +221,8 @@ premise-sequents : (before : List Made) → IsProof before → (x : Step) (h : I
 premise-sequents before proof x h = premises-All IsSequent (sequents_of before) (proof-sequents before proof) x.premises h.premises h.earlier
 
 -- a step as it is shown asks for nothing but what was made before it
-shown-content : (before : List Made) (ps : List Item) → IsProof before → Joined before ps → (x : Step) → IsStep before x → IsStepOver before x → IsContent ps (shown_content ps x)
+shown-content : (before : List Made) (ps : List Item) → IsProof before → Joined before ps → (x : Step) → IsStep before x → IsStepOver before x
+    → IsContent ps (shown_content ps x)
 shown-content before ps proof j x h over =
     go (has_row x.kind) refl
     (rule-defines before ps j.parts x.premises x.kind h.premises x.parameters x.sequent h.follows.rule are_sequents
@@ -246,7 +251,8 @@ shown-content before ps proof j x h over =
       subst (λ ss. DefinesAmong ps x.kind (map (λ k. (premise_at ps k).0) x.premises) ss x.parameters) (sym joined.1) d,
     )
 
-step-content : (before : List Made) (ps : List Item) → IsProof before → Joined before ps → (x : Step) → IsStep before x → IsStepOver before x → IsContent ps (step_content ps x)
+step-content : (before : List Made) (ps : List Item) → IsProof before → Joined before ps → (x : Step) → IsStep before x → IsStepOver before x
+    → IsContent ps (step_content ps x)
 step-content before ps proof j x h over =
     let same : sequents_at ps x.premises ≡ h.premises = (joined-premises before ps j x h).1 in
     subst (λ ss. IsContent ps (shown_content ps (needed ss x))) (sym same)
@@ -264,7 +270,8 @@ input-named n k (x ∷ ss) e =
     one (Symbol.input_operator m j) e = ap (λ b. b && (k == j)) e
     one (Symbol.defined d) e = refl
 
-any-append : (test : Content → Bool) (ps : List Item) (x : Item) → any_content test ps ≡ false → test x.content ≡ false → any_content test (ps ++ x ∷ []) ≡ false
+any-append : (test : Content → Bool) (ps : List Item) (x : Item) → any_content test ps ≡ false → test x.content ≡ false
+    → any_content test (ps ++ x ∷ []) ≡ false
 any-append test [] x h e = ap (λ b. b || false) e
 any-append test (z ∷ zs) x h e =
     let parts = or_parts (test z.content) (any_content test zs) h in ap (λ b. b || any_content test (zs ++ x ∷ [])) parts.0 ∙ any-append test zs x parts.1 e
@@ -273,7 +280,8 @@ variables-taken : (ps : List Item) (ns : List Name) → TypesTaken ps (types_of 
 variables-taken ps [] = tt
 variables-taken ps (n ∷ ns) = (tt {0}, variables-taken ps ns)
 
-new_type-taken : (ps : List Item) (names : TypeNames) (c : HolType) (u : Term) (j : ℕ) (one : Sequent) → Has ps (type_operator names c u j one) → TypeTaken ps (new_type names)
+new_type-taken : (ps : List Item) (names : TypeNames) (c : HolType) (u : Term) (j : ℕ) (one : Sequent) → Has ps (type_operator names c u j one)
+    → TypeTaken ps (new_type names)
 new_type-taken ps names c u j one h = (items.OperatorTaken.part names c u j one h refl (count-variables names.variables), variables-taken ps names.variables)
 
 function-taken : (ps : List Item) (a b : HolType) → TypeTaken ps a → TypeTaken ps b → TypeTaken ps (function a b)
@@ -288,7 +296,8 @@ symbol-names ss (Symbol.defined (Definition.constant n t)) p (taking.Takes.const
     (new-constant-taken ss n t new (type_or t) (h.typed ∙ ap Some (sym (type_or-is t a h.typed))), tt {0})
 symbol-names ss (Symbol.defined (Definition.type_operator names c f)) p h = absurd p
 
-part-names : (ss : List Symbol) (names : TypeNames) (c : HolType) (f : Term) (one : ℕ × Sequent) → Takes ss (Symbol.defined (Definition.type_operator names c f))
+part-names : (ss : List Symbol) (names : TypeNames) (c : HolType) (f : Term) (one : ℕ × Sequent)
+    → Takes ss (Symbol.defined (Definition.type_operator names c f))
     → AllByRecursion (IsNamed (ss ++ Symbol.defined (Definition.type_operator names c f) ∷ [])) (type_contents names c f one)
 part-names ss names c f one (taking.Takes.type_operator new typed closed variables) =
     let h = new-operator-taken ss names c f new.operator new.abstraction new.representation new.apart in
@@ -322,7 +331,8 @@ module _ (named : Content → List ℕ) where
       (refl, new-constant ss n new ps names, is-defining ps a t h (held-term ps ss held t o), tt {0})
   symbol-order ss ps held names (Symbol.defined (Definition.type_operator names_of_type c f)) p h o = absurd p
 
-  premise-more : (ps xs : List Item) (names : TypeNames) (c : HolType) (u : Term) (k : ℕ) (one : Sequent) → TypeTaken (ps ++ xs) c → IsPart ps names c u k one → IsPart (ps ++ xs) names c u k one
+  premise-more : (ps xs : List Item) (names : TypeNames) (c : HolType) (u : Term) (k : ℕ) (one : Sequent) → TypeTaken (ps ++ xs) c → IsPart ps names c u k one
+      → IsPart (ps ++ xs) names c u k one
   premise-more ps xs names c u k one ty h = record { defines = h.defines; among = ((h.among.0.0, IsIn-left ps xs h.among.0.0 h.among.0.1, h.among.0.2, h.among.0.3), tt {0}); ty = ty }
 
   part-order : (ss : List Symbol) (ps : List Item) → AllByRecursion (IsHeld ps) ss → AllByRecursion (λ (z : Item). IsNamed ss z.content) ps → (names_of_type : TypeNames) (c : HolType) (f : Term) (k : ℕ) (s : Sequent)
@@ -453,7 +463,8 @@ module _ (named : Content → List ℕ) where
       }
 
 module _ (named : Naming) where
-  joined-after : (before : List Made) (ps : List Item) → IsProof before → Joined before ps → (xs : List Made) → EachAfter IsMade before xs → EachAfter IsMadeOver before xs → Joined (before ++ xs) (items_after named ps xs)
+  joined-after : (before : List Made) (ps : List Item) → IsProof before → Joined before ps → (xs : List Made) → EachAfter IsMade before xs
+      → EachAfter IsMadeOver before xs → Joined (before ++ xs) (items_after named ps xs)
   joined-after before ps proof j [] h k = subst (λ l. Joined l ps) (sym (append-nil before)) j
   joined-after before ps proof j (x ∷ xs) h k =
       subst (λ l. Joined l (items_after named ps (x ∷ xs))) (append_assoc before (x ∷ []) xs)

@@ -53,7 +53,8 @@ one_premise m symbols [] one h = absurd h
 one_premise m symbols (j ∷ []) one h = record { j = j; is = refl; first = h.0 }
 one_premise m symbols (j ∷ k ∷ js) one h = absurd h.1
 
-pub two_premises : (m : List Declaration) (symbols : Symbols) (js : List ℕ) (one two : Sequent) → ArePremises m symbols js (one ∷ two ∷ []) → Two m symbols js one two
+pub two_premises : (m : List Declaration) (symbols : Symbols) (js : List ℕ) (one two : Sequent) → ArePremises m symbols js (one ∷ two ∷ [])
+    → Two m symbols js one two
 two_premises m symbols [] one two h = absurd h
 two_premises m symbols (j ∷ []) one two h = absurd h.1
 two_premises m symbols (j ∷ k ∷ []) one two h = record { j = j; k = k; is = refl; first = h.0; second = h.1.0 }

@@ -69,7 +69,8 @@ sub-closed terms (app f x) h = ap₂ app (sub-closed terms f (All-left (λ v. �
 sub-closed terms (lam t b) h = ap₂ lam (substitute-nothing t) (sub-closed terms b h)
 
 -- the constant of a definition is over the symbols
-pub constant-over : (m : List Declaration) (symbols : Symbols) (n : Name) (a : HolType) (t : Term) → DeclaresConstant m symbols n → IsDefinition m symbols n a t → TypeOver m symbols a → ConstantOver m symbols n a
+pub constant-over : (m : List Declaration) (symbols : Symbols) (n : Name) (a : HolType) (t : Term) → DeclaresConstant m symbols n → IsDefinition m symbols n a t
+    → TypeOver m symbols a → ConstantOver m symbols n a
 constant-over m symbols n a t declared d o = record { declared = declared; instance = subst (λ g. Instance g a) (sym d.generic) ([], substitute-nothing a); ty = o }
 
 module _ (m : List Declaration) (symbols : Symbols) (scope : Scope) (n : Name) (a : HolType) (t : Term) (d : IsDefinition m symbols n a t) where

@@ -58,7 +58,8 @@ spine-applied m f [] args = refl
 spine-applied m f (x ∷ xs) args = spine-applied m (App f x) xs args
 
 -- a symbol with a definition takes its head step by it
-pub symbol_step-defined : (m : List Declaration) (s : ℕ) (args : List Tree) (t : Tree) → symbol_definition m s ≡ Some t → symbol_step m s args ≡ unfolded (Some t) args
+pub symbol_step-defined : (m : List Declaration) (s : ℕ) (args : List Tree) (t : Tree) → symbol_definition m s ≡ Some t
+    → symbol_step m s args ≡ unfolded (Some t) args
 symbol_step-defined m zero args t d = ap (λ o. unfolded o args) d
 symbol_step-defined m (suc zero) args t d = ap (λ o. unfolded o args) d
 symbol_step-defined m (suc (suc zero)) args t d = ap (λ o. unfolded o args) d
@@ -105,7 +106,8 @@ module _ (m : List Declaration) (closed : IsClosed m) (symbols : Symbols) (n : N
 
 module _ (m : List Declaration) (closed : IsClosed m) (symbols : Symbols) (G : List Tree) (scope : Scope) (hypotheses : List Term) (stands : Stands m symbols G scope hypotheses) where
   -- reflexivity of what the left side becomes
-  refl-computed : (a : HolType) (x y : Term) → TermOver m symbols (equation a x y) → HasType (equation a x y) bool → head_step m (term_tree symbols scope x) ≡ Some (term_tree symbols scope y)
+  refl-computed : (a : HolType) (x y : Term) → TermOver m symbols (equation a x y) → HasType (equation a x y) bool
+      → head_step m (term_tree symbols scope x) ≡ Some (term_tree symbols scope y)
       → Shown m G (refl_of (type_tree symbols scope.types a) (term_tree symbols scope y)) (term_tree symbols scope (equation a x y))
   refl-computed a x y o h step =
       let parts = equation-over m symbols a x y o in
@@ -119,12 +121,14 @@ module _ (m : List Declaration) (closed : IsClosed m) (symbols : Symbols) (G : L
       }
 
   -- betaConv
-  pub beta-row : (a b : HolType) (t u : Term) → TermOver m symbols (equation b (app (lam a t) u) (binding.put u t)) → HasType (equation b (app (lam a t) u) (binding.put u t)) bool
+  pub beta-row : (a b : HolType) (t u : Term) → TermOver m symbols (equation b (app (lam a t) u) (binding.put u t))
+      → HasType (equation b (app (lam a t) u) (binding.put u t)) bool
       → Shown m G (refl_of (type_tree symbols scope.types b) (term_tree symbols scope (binding.put u t))) (term_tree symbols scope (equation b (app (lam a t) u) (binding.put u t)))
   beta-row a b t u o h = refl-computed b (app (lam a t) u) (binding.put u t) o h (ap Some (term_tree-put symbols u scope t))
 
   -- defineConst
-  pub define_const-row : (n : Name) (a : HolType) (t : Term) → IsDefinition m symbols n a t → TermOver m symbols (equation a (constant n a) t) → HasType (equation a (constant n a) t) bool
+  pub define_const-row : (n : Name) (a : HolType) (t : Term) → IsDefinition m symbols n a t → TermOver m symbols (equation a (constant n a) t)
+      → HasType (equation a (constant n a) t) bool
       → Shown m G (refl_of (type_tree symbols scope.types a) (term_tree symbols scope t)) (term_tree symbols scope (equation a (constant n a) t))
   define_const-row n a t d o h = refl-computed a (constant n a) t o h (constant-head m closed symbols n a t d scope)
 
@@ -152,7 +156,8 @@ module _ (m : List Declaration) (closed : IsClosed m) (symbols : Symbols) (G : L
       subst (λ w. IsProof m false G (theorem_tree inner j one) (proof_of w)) (sym (same one.conclusion (AreInstances-over m symbols one.conclusion p.over.conclusion)))
       (theorem_tree-shaped m symbols G inner one j p.declared p.is (SequentOver-instances m symbols one p.over) fits)
     where
-      proof : (h : Term) → TermOver m symbols h → (d : DefinesConstant m symbols terms h) → term_tree symbols scope (sub [] terms h) ≡ term_tree symbols (constants_scope symbols scope terms) h
+      proof : (h : Term) → TermOver m symbols h → (d : DefinesConstant m symbols terms h)
+          → term_tree symbols scope (sub [] terms h) ≡ term_tree symbols (constants_scope symbols scope terms) h
           → Argument m G ((constants_scope symbols scope terms).proofs h) (proof_of (term_tree symbols (constants_scope symbols scope terms) h))
       proof h o d e =
           let a = d.variable.1 in

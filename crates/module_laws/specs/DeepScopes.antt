@@ -52,7 +52,8 @@ deep-suc d scope = same_scope (inside (deep d scope)) (deep (suc d) scope) (λ n
         own : lift 1 (Var k) ≡ Var (suc k)
         own = grind arith
 
-        by : (b : Bool) → nat_lt k d ≡ b → lift 1 (cond (nat_lt k d) (Var k) (lift d (scope.bounds (k - d)))) ≡ cond (nat_lt (suc k) (suc d)) (Var (suc k)) (lift (suc d) (scope.bounds (suc k - suc d)))
+        by : (b : Bool) → nat_lt k d ≡ b
+            → lift 1 (cond (nat_lt k d) (Var k) (lift d (scope.bounds (k - d)))) ≡ cond (nat_lt (suc k) (suc d)) (Var (suc k)) (lift (suc d) (scope.bounds (suc k - suc d)))
         by true e = ap (λ b. lift 1 (cond b (Var k) (lift d (scope.bounds (k - d))))) e ∙ own ∙ ap (λ b. cond b (Var (suc k)) (lift (suc d) (scope.bounds (suc k - suc d)))) (sym (next ∙ e))
         by false e =
             ap (λ b. lift 1 (cond b (Var k) (lift d (scope.bounds (k - d))))) e ∙ lift-lift 1 d (scope.bounds (k - d)) ∙ one (scope.bounds (k - d)) ∙ ap (λ j. lift (suc d) (scope.bounds j)) (sym less)

@@ -38,7 +38,8 @@ abbrev pub IsDefinitionHeld : List Item → Definition → Type 0
 IsDefinitionHeld ps (Definition.constant n t) = Has ps (defined_constant n (type_or t) t)
 IsDefinitionHeld ps (Definition.type_operator names c f) = Unit {0}
 
-pub held-definitions : (ps : List Item) (ss : List Symbol) → AllByRecursion (IsHeld ps) ss → AllByRecursion (IsDefinitionHeld ps) (filter_map symbol_definition ss)
+pub held-definitions : (ps : List Item) (ss : List Symbol) → AllByRecursion (IsHeld ps) ss
+    → AllByRecursion (IsDefinitionHeld ps) (filter_map symbol_definition ss)
 held-definitions ps [] h = tt
 held-definitions ps (Symbol.input_constant n ∷ ss) h = held-definitions ps ss h.1
 held-definitions ps (Symbol.input_operator n k ∷ ss) h = held-definitions ps ss h.1
@@ -78,7 +79,8 @@ module _ (vs : List Variable) (apart : IsDistinct variable_eq vs) where
       go true h = refl
       go false h = h
 
-  dropped : (q : Variable) (x : Variable × Term) (post : TermPairs) → (variable_eq q x.0 ≡ true → is_some (lookup (variable_eq q) post) ≡ true) → (pre : TermPairs)
+  dropped : (q : Variable) (x : Variable × Term) (post : TermPairs) → (variable_eq q x.0 ≡ true → is_some (lookup (variable_eq q) post) ≡ true)
+      → (pre : TermPairs)
       → is_some (lookup (variable_eq q) (pre ++ x ∷ post)) ≡ true → is_some (lookup (variable_eq q) (pre ++ post)) ≡ true
   dropped q x post f [] h = go (variable_eq q x.0) refl h
     where
@@ -87,12 +89,14 @@ module _ (vs : List Variable) (apart : IsDistinct variable_eq vs) where
       go false is h = h
   dropped q x post f (y ∷ pre) h = go (variable_eq q y.0) h (dropped q x post f pre)
     where
-      go : (b : Bool) → is_some (cond b (Some y.1) (lookup (variable_eq q) (pre ++ x ∷ post))) ≡ true → (is_some (lookup (variable_eq q) (pre ++ x ∷ post)) ≡ true → is_some (lookup (variable_eq q) (pre ++ post)) ≡ true)
+      go : (b : Bool) → is_some (cond b (Some y.1) (lookup (variable_eq q) (pre ++ x ∷ post))) ≡ true
+          → (is_some (lookup (variable_eq q) (pre ++ x ∷ post)) ≡ true → is_some (lookup (variable_eq q) (pre ++ post)) ≡ true)
           → is_some (cond b (Some y.1) (lookup (variable_eq q) (pre ++ post))) ≡ true
       go true h rest = refl
       go false h rest = rest h
 
-  unique : (pre post : TermPairs) → length (pre ++ post) ≤ length vs → Covers (pre ++ post) → (e : Variable × Term) → IsIn post e → lookup (variable_eq e.0) post ≡ Some e.1
+  unique : (pre post : TermPairs) → length (pre ++ post) ≤ length vs → Covers (pre ++ post) → (e : Variable × Term) → IsIn post e
+      → lookup (variable_eq e.0) post ≡ Some e.1
   unique pre [] l c e k = absurd k
   unique pre (x ∷ post) l c e (inl same) =
       ap (λ b. cond b (Some x.1) (lookup (variable_eq e.0) post)) ((variable_eq-Decides e.0 x.0).1 (ap (λ (z : Variable × Term). z.0) same)) ∙ ap (λ (z : Variable × Term). Some z.1) (sym same)
@@ -121,7 +125,8 @@ module _ (f : Term → Option (Variable × Term)) (p : Variable × Term → Bool
       subst (λ o. IsIn (filter p (cons_option o (filter_map f hs))) e) (sym (ap f (sym same) ∙ is)) (subst (λ b. IsIn (cond b (e ∷ filter p (filter_map f hs)) (filter p (filter_map f hs))) e) (sym good) (inl refl))
   filtered (x ∷ hs) h e (inr k) is good = go (f x) (filtered hs h e k is good)
     where
-      by_test : (y : Variable × Term) (b : Bool) → IsIn (filter p (filter_map f hs)) e → IsIn (cond b (y ∷ filter p (filter_map f hs)) (filter p (filter_map f hs))) e
+      by_test : (y : Variable × Term) (b : Bool) → IsIn (filter p (filter_map f hs)) e
+          → IsIn (cond b (y ∷ filter p (filter_map f hs)) (filter p (filter_map f hs))) e
       by_test y true i = inr i
       by_test y false i = i
 
@@ -185,7 +190,8 @@ list-defines ps pairs one is defining good held = (
     equations : AllByRecursion (λ h. (e : Variable × Term) × ((variable_equation h ≡ Some e) × (is_in variable_eq e.0 (variables_of pairs) ≡ true))) one.hypotheses
     equations = every-hypothesis pairs one is good
 
-    covers : (q : Variable) → list_any (variable_eq q) (variables_of pairs) ≡ true → is_some (lookup (variable_eq q) (defining_equations pairs one.hypotheses)) ≡ true
+    covers : (q : Variable) → list_any (variable_eq q) (variables_of pairs) ≡ true
+        → is_some (lookup (variable_eq q) (defining_equations pairs one.hypotheses)) ≡ true
     covers = passes (λ v. is_some (definiens pairs one.hypotheses v)) (variables_of pairs) parts.defined
 
     as_many : length one.hypotheses ≡ length pairs

@@ -19,7 +19,8 @@ module _ (symbols : Symbols) where
   items-front before [] rest h = tt
   items-front before (x ∷ xs) rest h = (h.0, h.1, h.2, items-front (before ++ x ∷ []) xs rest h.3)
 
-  items-hold : (m : List Declaration) (before xs : List Item) → length m ≡ length lemmas + length before → AllByRecursion (HoldsItem m symbols) before → AreItems symbols before xs
+  items-hold : (m : List Declaration) (before xs : List Item) → length m ≡ length lemmas + length before → AllByRecursion (HoldsItem m symbols) before
+      → AreItems symbols before xs
       → AllByRecursion (HoldsItem (m ++ map D xs) symbols) (before ++ xs)
   items-hold m before [] size holds h = subst (λ l. AllByRecursion (HoldsItem l symbols) (before ++ [])) (sym (append-nil m)) (subst (AllByRecursion (HoldsItem m symbols)) (sym (append-nil before)) holds)
   items-hold m before (x ∷ xs) size holds h =

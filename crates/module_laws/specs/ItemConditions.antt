@@ -30,14 +30,17 @@ Has items c = (x : Item) × IsIn items x × (x.content ≡ c)
 pub data OperatorTaken (items : List Item) (n : Name) (k : ℕ) : Type 0 where
   primitive : primitive_arity n ≡ Some k → OperatorTaken items n k
   declared : Has items (operator n k) → OperatorTaken items n k
-  part : (names : TypeNames) (c : HolType) (u : Term) (j : ℕ) (one : Sequent) → Has items (type_operator names c u j one) → n ≡ names.operator → k ≡ length names.variables → OperatorTaken items n k
+  part : (names : TypeNames) (c : HolType) (u : Term) (j : ℕ) (one : Sequent) → Has items (type_operator names c u j one) → n ≡ names.operator
+      → k ≡ length names.variables → OperatorTaken items n k
 
 pub data ConstantTaken (items : List Item) (n : Name) (t : HolType) : Type 0 where
   primitive : (g : HolType) → primitive_type n ≡ Some g → Instance g t → ConstantTaken items n t
   declared : (a : HolType) → Has items (constant n a) → Instance a t → ConstantTaken items n t
   defined : (a : HolType) (u : Term) → Has items (defined_constant n a u) → Instance a t → ConstantTaken items n t
-  abstraction : (names : TypeNames) (c : HolType) (u : Term) (j : ℕ) (one : Sequent) → Has items (type_abstraction names c u j one) → n ≡ names.abstraction → Instance (abstraction_type names c) t → ConstantTaken items n t
-  representation : (names : TypeNames) (c : HolType) (u : Term) (j : ℕ) (one : Sequent) → Has items (type_representation names c u j one) → n ≡ names.representation → Instance (representation_type names c) t → ConstantTaken items n t
+  abstraction : (names : TypeNames) (c : HolType) (u : Term) (j : ℕ) (one : Sequent) → Has items (type_abstraction names c u j one) → n ≡ names.abstraction
+      → Instance (abstraction_type names c) t → ConstantTaken items n t
+  representation : (names : TypeNames) (c : HolType) (u : Term) (j : ℕ) (one : Sequent) → Has items (type_representation names c u j one)
+      → n ≡ names.representation → Instance (representation_type names c) t → ConstantTaken items n t
 
 -- a type, a term and a sequent over what is taken
 abbrev mutual

@@ -50,7 +50,8 @@ use Rattle.module_spec.specs.Rows.{proof_tree}
 
 module _ (m : List Declaration) where
   -- from x = y and y = z to x = z
-  shaped-trans_proof : {G : List Tree} {a x y z g h : Tree} → IsSimple m G a → IsTerm m G x a → IsTerm m G y a → IsTerm m G z a → IsProof m false G g (proof_of (eq_of a x y)) → IsProof m false G h (proof_of (eq_of a y z))
+  shaped-trans_proof : {G : List Tree} {a x y z g h : Tree} → IsSimple m G a → IsTerm m G x a → IsTerm m G y a → IsTerm m G z a
+      → IsProof m false G g (proof_of (eq_of a x y)) → IsProof m false G h (proof_of (eq_of a y z))
       → IsProof m false G (trans_proof a x y z g h) (proof_of (eq_of a x z))
   shaped-trans_proof {G = G} {a = a} {x = x} ha hx hy hz hg hh =
       let bool : IsSimple m G bools = constant refl tt in
@@ -84,7 +85,8 @@ module _ (m : List Declaration) where
   definition-abstractions (n ∷ ns) h = under_type (definition-abstractions ns h)
 
   -- a law under its binders
-  law-abstractions : {G : List Tree} (domains : List Tree) {t A : Tree} → AreDeclared m G domains → IsLaw m (under G domains) t A → IsLaw m G (abstractions domains t) (products domains A)
+  law-abstractions : {G : List Tree} (domains : List Tree) {t A : Tree} → AreDeclared m G domains → IsLaw m (under G domains) t A
+      → IsLaw m G (abstractions domains t) (products domains A)
   law-abstractions [] h ht = ht
   law-abstractions (a ∷ domains) h ht = law_under h.0 (law-abstractions domains h.1 ht)
 
@@ -175,7 +177,8 @@ AreShaped-append before (d ∷ ds) es h k =
 
 module _ (symbols : Symbols) where
   -- each of the items is shaped after those before it
-  items-shaped : (m : List Declaration) (before xs : List Item) → IsSound m → HasLemmas m → length m ≡ length lemmas + length before → AllByRecursion (HoldsItem m symbols) before → AreItems symbols before xs
+  items-shaped : (m : List Declaration) (before xs : List Item) → IsSound m → HasLemmas m → length m ≡ length lemmas + length before
+      → AllByRecursion (HoldsItem m symbols) before → AreItems symbols before xs
       → AreShaped m (map (declaration symbols) xs)
   items-shaped m before [] sound has size holds h = tt
   items-shaped m before (x ∷ xs) sound has size holds h =

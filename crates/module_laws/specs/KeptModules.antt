@@ -56,13 +56,15 @@ module _ (keep : ℕ → Bool) (before : List Item) where
   Has-kept : (c : Content) (keys : List Key) → ((i : ℕ) → IsIn keys (gives_of i c)) → AreKept keep before keys → Has before c → Has (kept keep before) c
   Has-kept c keys needed h (x, i, e) = (x, IsIn-kept keep before x i (h x i (subst (λ d. IsIn keys (gives_of x.symbol d)) (sym e) (needed x.symbol))), e)
 
-  operator-kept : (n : Name) (k : ℕ) (keys : List Key) → IsIn keys (operator_key n k) → AreKept keep before keys → OperatorTaken before n k → OperatorTaken (kept keep before) n k
+  operator-kept : (n : Name) (k : ℕ) (keys : List Key) → IsIn keys (operator_key n k) → AreKept keep before keys → OperatorTaken before n k
+      → OperatorTaken (kept keep before) n k
   operator-kept n k keys i h (items.OperatorTaken.primitive e) = items.OperatorTaken.primitive e
   operator-kept n k keys i h (items.OperatorTaken.declared t) = items.OperatorTaken.declared (Has-kept (operator n k) keys (λ j. i) h t)
   operator-kept n k keys i h (items.OperatorTaken.part names c u j one t e f) =
       items.OperatorTaken.part names c u j one (Has-kept (type_operator names c u j one) keys (λ l. subst (λ q. IsIn keys q) (λ w. operator_key (e w) (f w)) i) h t) e f
 
-  constant-kept : (n : Name) (a : HolType) (keys : List Key) → IsIn keys (constant_key n) → AreKept keep before keys → ConstantTaken before n a → ConstantTaken (kept keep before) n a
+  constant-kept : (n : Name) (a : HolType) (keys : List Key) → IsIn keys (constant_key n) → AreKept keep before keys → ConstantTaken before n a
+      → ConstantTaken (kept keep before) n a
   constant-kept n a keys i h (items.ConstantTaken.primitive g e w) = items.ConstantTaken.primitive g e w
   constant-kept n a keys i h (items.ConstantTaken.declared g t w) = items.ConstantTaken.declared g (Has-kept (constant n g) keys (λ j. i) h t) w
   constant-kept n a keys i h (items.ConstantTaken.defined g u t w) = items.ConstantTaken.defined g u (Has-kept (defined_constant n g u) keys (λ j. i) h t) w
@@ -87,7 +89,8 @@ module _ (keep : ℕ → Bool) (before : List Item) where
   term-kept (term.Term.app f x) h o = (term-kept f (AreKept-left (term_keys f) (term_keys x) h) o.0, term-kept x (AreKept-right (term_keys f) (term_keys x) h) o.1)
   term-kept (term.Term.lam t b) h o = (type-kept t (AreKept-left (type_keys t) (term_keys b) h) o.0, term-kept b (AreKept-right (type_keys t) (term_keys b) h) o.1)
 
-  terms-kept : (ts : List Term) → AreKept keep before (flat_map term_keys ts) → AllByRecursion (TermTaken before) ts → AllByRecursion (TermTaken (kept keep before)) ts
+  terms-kept : (ts : List Term) → AreKept keep before (flat_map term_keys ts) → AllByRecursion (TermTaken before) ts
+      → AllByRecursion (TermTaken (kept keep before)) ts
   terms-kept [] h o = tt
   terms-kept (t ∷ ts) h o = (term-kept t (AreKept-left (term_keys t) (flat_map term_keys ts) h) o.0, terms-kept ts (AreKept-right (term_keys t) (flat_map term_keys ts) h) o.1)
 
@@ -98,7 +101,8 @@ module _ (keep : ℕ → Bool) (before : List Item) where
     conclusion = term-kept s.conclusion (AreKept-right (flat_map term_keys s.hypotheses) (term_keys s.conclusion) h) o.conclusion;
   }
 
-  premises-kept : (js : List ℕ) (ss : List Sequent) → AreKept keep before (map number_key js) → ArePremisesAmong before js ss → ArePremisesAmong (kept keep before) js ss
+  premises-kept : (js : List ℕ) (ss : List Sequent) → AreKept keep before (map number_key js) → ArePremisesAmong before js ss
+      → ArePremisesAmong (kept keep before) js ss
   premises-kept [] [] h o = tt
   premises-kept [] (s ∷ ss) h o = absurd o
   premises-kept (j ∷ js) [] h o = absurd o
@@ -117,17 +121,20 @@ module _ (keep : ℕ → Bool) (before : List Item) where
       go true later e = IsIn-left (term_keys p.1) (flat_map (λ (p : Variable × Term). term_keys p.1) ps) (constant_key n) (subst (λ t. IsIn (term_keys t) (constant_key n)) (sym e) (inl refl))
       go false later e = IsIn-right (term_keys p.1) (flat_map (λ (p : Variable × Term). term_keys p.1) ps) (constant_key n) (later e)
 
-  defined-kept : (terms : TermPairs) (v : Variable) (t : Term) → AreKept keep before (flat_map (λ p. term_keys p.1) terms) → IsDefinedBy before terms v t → IsDefinedBy (kept keep before) terms v t
+  defined-kept : (terms : TermPairs) (v : Variable) (t : Term) → AreKept keep before (flat_map (λ p. term_keys p.1) terms) → IsDefinedBy before terms v t
+      → IsDefinedBy (kept keep before) terms v t
   defined-kept terms v t h d = record {
     name = d.name;
     image = d.image;
     has = Has-kept (defined_constant d.name v.1 t) (flat_map (λ p. term_keys p.1) terms) (λ i. image-key terms v d.name v.1 d.image) h d.has;
   }
 
-  equation-kept : (terms : TermPairs) → AreKept keep before (flat_map (λ p. term_keys p.1) terms) → (p : Term) → IsDefiningEquation before terms p → IsDefiningEquation (kept keep before) terms p
+  equation-kept : (terms : TermPairs) → AreKept keep before (flat_map (λ p. term_keys p.1) terms) → (p : Term) → IsDefiningEquation before terms p
+      → IsDefiningEquation (kept keep before) terms p
   equation-kept terms h p d = record { variable = d.variable; term = d.term; is = d.is; defined = defined-kept terms d.variable d.term h d.defined }
 
-  list-kept : (js : List ℕ) (premises : List Sequent) (given : Parameters) → AreKept keep before (given_keys given) → DefinesAmong before kinds.DefineConstList js premises given → DefinesAmong (kept keep before) kinds.DefineConstList js premises given
+  list-kept : (js : List ℕ) (premises : List Sequent) (given : Parameters) → AreKept keep before (given_keys given)
+      → DefinesAmong before kinds.DefineConstList js premises given → DefinesAmong (kept keep before) kinds.DefineConstList js premises given
   list-kept js (one ∷ []) (Parameters.constants pairs) h d = (
     All-weaker _ _ (equation-kept (constants_put pairs) h) one.hypotheses d.0,
     All-weaker _ _ (λ (v : Variable) (w : (t : Term) × IsDefinedBy before (constants_put pairs) v t). (w.0, defined-kept (constants_put pairs) v w.0 h w.1)) (free_variables_of one) d.1,
@@ -142,7 +149,8 @@ module _ (keep : ℕ → Bool) (before : List Item) where
   list-kept js (one ∷ []) (Parameters.sequent s) h d = tt
   list-kept js (one ∷ []) (Parameters.type_operator names version) h d = tt
 
-  one-kept : (js : List ℕ) (premises : List Sequent) (given : Parameters) → AreKept keep before (given_keys given) → DefinesAmong before kinds.DefineConst js premises given → DefinesAmong (kept keep before) kinds.DefineConst js premises given
+  one-kept : (js : List ℕ) (premises : List Sequent) (given : Parameters) → AreKept keep before (given_keys given)
+      → DefinesAmong before kinds.DefineConst js premises given → DefinesAmong (kept keep before) kinds.DefineConst js premises given
   one-kept js premises (Parameters.constant n t) h d = Has-kept (defined_constant n (type_or t) t) (constant_key n ∷ []) (λ i. inl refl) h d
   one-kept js premises Parameters.nothing h d = tt
   one-kept js premises (Parameters.term t) h d = tt
@@ -152,7 +160,8 @@ module _ (keep : ℕ → Bool) (before : List Item) where
   one-kept js premises (Parameters.sequent s) h d = tt
   one-kept js premises (Parameters.type_operator names version) h d = tt
 
-  part-kept : (names : TypeNames) (c : HolType) (u : Term) (j : ℕ) (one : Sequent) → AreKept keep before (number_key j ∷ type_keys c) → IsPart before names c u j one → IsPart (kept keep before) names c u j one
+  part-kept : (names : TypeNames) (c : HolType) (u : Term) (j : ℕ) (one : Sequent) → AreKept keep before (number_key j ∷ type_keys c)
+      → IsPart before names c u j one → IsPart (kept keep before) names c u j one
   part-kept names c u j one h o = record {
     defines = o.defines;
     among = premises-kept (j ∷ []) (one ∷ []) (AreKept-left (number_key j ∷ []) (type_keys c) h) o.among;
@@ -165,11 +174,13 @@ module _ (keep : ℕ → Bool) (before : List Item) where
       let both = AreKept-right (operator_key arrow_name 2 ∷ []) (type_keys a ++ (type_keys b ++ [])) h in
       (AreKept-left (type_keys a) (type_keys b ++ []) both, AreKept-left (type_keys b) [] (AreKept-right (type_keys a) (type_keys b ++ []) both))
 
-  operator-of-new : (names : TypeNames) → AreKept keep before (type_keys (new_type names)) → AreKept keep before (operator_key names.operator (length names.variables) ∷ [])
+  operator-of-new : (names : TypeNames) → AreKept keep before (type_keys (new_type names))
+      → AreKept keep before (operator_key names.operator (length names.variables) ∷ [])
   operator-of-new names h x i (inl e) = h x i (inl (e ∙ ap (operator_key names.operator) (sym (count-variables names.variables))))
   operator-of-new names h x i (inr n) = absurd n
 
-  law-kept : (names : TypeNames) (j : ℕ) (one : Sequent) → AreKept keep before (given_keys (Parameters.type_operator names Six)) → HasPart before names j one → HasPart (kept keep before) names j one
+  law-kept : (names : TypeNames) (j : ℕ) (one : Sequent) → AreKept keep before (given_keys (Parameters.type_operator names Six)) → HasPart before names j one
+      → HasPart (kept keep before) names j one
   law-kept names j one h o = record {
     c = o.c;
     f = o.f;
@@ -179,7 +190,8 @@ module _ (keep : ℕ → Bool) (before : List Item) where
     representation = Has-kept (type_representation names o.c o.f j one) (given_keys (Parameters.type_operator names Six)) (λ i. inr (inr (inl refl))) h o.representation;
   }
 
-  defines-kept : (kind : StepKind) (js : List ℕ) (premises : List Sequent) (given : Parameters) → AreKept keep before (given_keys given) → DefinesAmong before kind js premises given → DefinesAmong (kept keep before) kind js premises given
+  defines-kept : (kind : StepKind) (js : List ℕ) (premises : List Sequent) (given : Parameters) → AreKept keep before (given_keys given)
+      → DefinesAmong before kind js premises given → DefinesAmong (kept keep before) kind js premises given
   defines-kept kinds.DefineConst js premises given h d = one-kept js premises given h d
   defines-kept kinds.DefineConstList js premises given h d = list-kept js premises given h d
   defines-kept kinds.Refl js premises given h d = tt
@@ -321,7 +333,8 @@ module _ (number : ℕ → ℕ) (xs : List Item) where
   defined-renumbered : (terms : TermPairs) (v : Variable) (t : Term) → IsDefinedBy xs terms v t → IsDefinedBy ys terms v t
   defined-renumbered terms v t d = record { name = d.name; image = d.image; has = Has-renumbered (defined_constant d.name v.1 t) d.has }
 
-  list-renumbered : (js : List ℕ) (premises : List Sequent) (given : Parameters) → DefinesAmong xs kinds.DefineConstList js premises given → DefinesAmong ys kinds.DefineConstList (map number js) premises given
+  list-renumbered : (js : List ℕ) (premises : List Sequent) (given : Parameters) → DefinesAmong xs kinds.DefineConstList js premises given
+      → DefinesAmong ys kinds.DefineConstList (map number js) premises given
   list-renumbered js (one ∷ []) (Parameters.constants pairs) d = (
     All-weaker _ _ (λ (p : Term) (w : IsDefiningEquation xs (constants_put pairs) p). record { variable = w.variable; term = w.term; is = w.is; defined = defined-renumbered (constants_put pairs) w.variable w.term w.defined }) one.hypotheses d.0,
     All-weaker _ _ (λ (v : Variable) (w : (t : Term) × IsDefinedBy xs (constants_put pairs) v t). (w.0, defined-renumbered (constants_put pairs) v w.0 w.1)) (free_variables_of one) d.1,
@@ -336,7 +349,8 @@ module _ (number : ℕ → ℕ) (xs : List Item) where
   list-renumbered js (one ∷ []) (Parameters.sequent s) d = tt
   list-renumbered js (one ∷ []) (Parameters.type_operator names version) d = tt
 
-  one-renumbered : (js : List ℕ) (premises : List Sequent) (given : Parameters) → DefinesAmong xs kinds.DefineConst js premises given → DefinesAmong ys kinds.DefineConst (map number js) premises given
+  one-renumbered : (js : List ℕ) (premises : List Sequent) (given : Parameters) → DefinesAmong xs kinds.DefineConst js premises given
+      → DefinesAmong ys kinds.DefineConst (map number js) premises given
   one-renumbered js premises (Parameters.constant n t) d = Has-renumbered (defined_constant n (type_or t) t) d
   one-renumbered js premises Parameters.nothing d = tt
   one-renumbered js premises (Parameters.term t) d = tt
@@ -359,7 +373,8 @@ module _ (number : ℕ → ℕ) (xs : List Item) where
     representation = Has-renumbered (type_representation names o.c o.f j one) o.representation;
   }
 
-  defines-renumbered : (kind : StepKind) (js : List ℕ) (premises : List Sequent) (given : Parameters) → DefinesAmong xs kind js premises given → DefinesAmong ys kind (map number js) premises given
+  defines-renumbered : (kind : StepKind) (js : List ℕ) (premises : List Sequent) (given : Parameters) → DefinesAmong xs kind js premises given
+      → DefinesAmong ys kind (map number js) premises given
   defines-renumbered kinds.DefineConst js premises given d = one-renumbered js premises given d
   defines-renumbered kinds.DefineConstList js premises given d = list-renumbered js premises given d
   defines-renumbered kinds.Refl js premises given d = tt
@@ -438,7 +453,8 @@ module _ (number : ℕ → ℕ) (xs : List Item) where
   is_constant-renumbered n (unproved s) = refl
   is_constant-renumbered n (step kind js premises given s) = refl
 
-any-renumbered : (number : ℕ → ℕ) (test : Content → Bool) → ((c : Content) → test (renumbered_content number c) ≡ test c) → (xs : List Item) → any_content test (map (renumbered number) xs) ≡ any_content test xs
+any-renumbered : (number : ℕ → ℕ) (test : Content → Bool) → ((c : Content) → test (renumbered_content number c) ≡ test c) → (xs : List Item)
+    → any_content test (map (renumbered number) xs) ≡ any_content test xs
 any-renumbered number test e [] = refl
 any-renumbered number test e (x ∷ xs) = λ i. e x.content i || any-renumbered number test e xs i
 
@@ -464,11 +480,13 @@ kept-last : (keep : ℕ → Bool) (before : List Item) (x : Item) → kept keep 
 kept-last keep [] x = refl
 kept-last keep (y ∷ ys) x = go (keep y.symbol) (kept-last keep ys x)
   where
-    go : (b : Bool) → kept keep (ys ++ x ∷ []) ≡ kept keep ys ++ kept keep (x ∷ []) → cond b (y ∷ kept keep (ys ++ x ∷ [])) (kept keep (ys ++ x ∷ [])) ≡ cond b (y ∷ kept keep ys) (kept keep ys) ++ kept keep (x ∷ [])
+    go : (b : Bool) → kept keep (ys ++ x ∷ []) ≡ kept keep ys ++ kept keep (x ∷ [])
+        → cond b (y ∷ kept keep (ys ++ x ∷ [])) (kept keep (ys ++ x ∷ [])) ≡ cond b (y ∷ kept keep ys) (kept keep ys) ++ kept keep (x ∷ [])
     go true e = ap (λ l. y ∷ l) e
     go false e = e
 
-pub image-made : (keep : ℕ → Bool) (before xs : List Item) → length (kept keep before) ≡ count_kept keep (length before) → AreNumbered keep before xs → AreMade (image_items keep before) (image_items keep xs)
+pub image-made : (keep : ℕ → Bool) (before xs : List Item) → length (kept keep before) ≡ count_kept keep (length before) → AreNumbered keep before xs
+    → AreMade (image_items keep before) (image_items keep xs)
 image-made keep before [] c h = tt
 image-made keep before (x ∷ xs) c h = go (keep x.symbol) refl (λ size. image-made keep (before ++ x ∷ []) xs size h.4)
   where
@@ -484,7 +502,8 @@ image-made keep before (x ∷ xs) c h = go (keep x.symbol) refl (λ size. image-
     same : keep x.symbol ≡ keep (length before)
     same = ap keep h.0
 
-    go : (b : Bool) → keep x.symbol ≡ b → (length (kept keep (before ++ x ∷ [])) ≡ count_kept keep (length (before ++ x ∷ [])) → AreMade (image_items keep (before ++ x ∷ [])) (image_items keep xs))
+    go : (b : Bool) → keep x.symbol ≡ b
+        → (length (kept keep (before ++ x ∷ [])) ≡ count_kept keep (length (before ++ x ∷ [])) → AreMade (image_items keep (before ++ x ∷ [])) (image_items keep xs))
         → AreMade (image_items keep before) (map (renumbered number) (cond b (x ∷ kept keep xs) (kept keep xs)))
     go true e later =
         let one : kept keep (x ∷ []) ≡ x ∷ [] = ap (λ b. cond b (x ∷ []) []) e in

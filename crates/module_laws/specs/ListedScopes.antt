@@ -57,13 +57,15 @@ module _ {A : Type 0} (same : A → A → Bool) where
   under_all [] f = f
   under_all (x ∷ xs) f = under_all xs (λ y. cond (same y x) (Var 0) (lift 1 (f y)))
 
-  absent : (y x : A) (xs : List A) (d from : ℕ) → ((a b c : A) → same a b ≡ true → same b c ≡ false → same a c ≡ false) → same y x ≡ true → AllByRecursion (λ z. same x z ≡ false) xs → lookup (same y) (parameters d from xs) ≡ None
+  absent : (y x : A) (xs : List A) (d from : ℕ) → ((a b c : A) → same a b ≡ true → same b c ≡ false → same a c ≡ false) → same y x ≡ true
+      → AllByRecursion (λ z. same x z ≡ false) xs → lookup (same y) (parameters d from xs) ≡ None
   absent y x [] d from apart e h = refl
   absent y x (z ∷ zs) d from apart e h =
       let n : same y z ≡ false = apart y x z e h.0 in
       ap (λ b. cond b (Some (parameter d from)) (lookup (same y) (parameters d (suc from) zs))) n ∙ absent y x zs d (suc from) apart e h.1
 
-  pub under_all-is : (apart : (a b c : A) → same a b ≡ true → same b c ≡ false → same a c ≡ false) (xs : List A) (f : A → Tree) (from : ℕ) (y : A) → IsDistinct same xs
+  pub under_all-is : (apart : (a b c : A) → same a b ≡ true → same b c ≡ false → same a c ≡ false) (xs : List A) (f : A → Tree) (from : ℕ) (y : A)
+      → IsDistinct same xs
       → under_all xs f y ≡ unwrap_or (lookup (same y) (parameters (from + length xs) from xs)) (lift (length xs) (f y))
   unfolding IsDistinct
   under_all-is apart [] f from y h = sym (lift_zero (f y))

@@ -33,19 +33,23 @@ abbrev pub AreMade : List Item → List Item → Type 0
 AreMade before [] = Unit {0}
 AreMade before (x ∷ xs) = (x.symbol ≡ length signature + (length lemmas + length before)) × IsNew before x.content × IsContent before x.content × AreMade (before ++ x ∷ []) xs
 
-first_symbol-new : (test : Content → Bool) (before xs : List Item) (x : Item) → any_content test before ≡ false → test x.content ≡ true → first_symbol test (before ++ x ∷ xs) ≡ x.symbol
+first_symbol-new : (test : Content → Bool) (before xs : List Item) (x : Item) → any_content test before ≡ false → test x.content ≡ true
+    → first_symbol test (before ++ x ∷ xs) ≡ x.symbol
 first_symbol-new test [] xs x h e = ap (λ b. cond b x.symbol (first_symbol test xs)) e
 first_symbol-new test (y ∷ ys) xs x h e = go (test y.content) h (λ k. first_symbol-new test ys xs x k e)
   where
-    go : (b : Bool) → (b || any_content test ys) ≡ false → (any_content test ys ≡ false → first_symbol test (ys ++ x ∷ xs) ≡ x.symbol) → cond b y.symbol (first_symbol test (ys ++ x ∷ xs)) ≡ x.symbol
+    go : (b : Bool) → (b || any_content test ys) ≡ false → (any_content test ys ≡ false → first_symbol test (ys ++ x ∷ xs) ≡ x.symbol)
+        → cond b y.symbol (first_symbol test (ys ++ x ∷ xs)) ≡ x.symbol
     go true h f = absurd (cc)
     go false h f = f h
 
-first_type-new : (test : Content → Bool) (before xs : List Item) (x : Item) → any_content test before ≡ false → test x.content ≡ true → first_type test (before ++ x ∷ xs) ≡ generic_of x.content
+first_type-new : (test : Content → Bool) (before xs : List Item) (x : Item) → any_content test before ≡ false → test x.content ≡ true
+    → first_type test (before ++ x ∷ xs) ≡ generic_of x.content
 first_type-new test [] xs x h e = ap (λ b. cond b (generic_of x.content) (first_type test xs)) e
 first_type-new test (y ∷ ys) xs x h e = go (test y.content) h (λ k. first_type-new test ys xs x k e)
   where
-    go : (b : Bool) → (b || any_content test ys) ≡ false → (any_content test ys ≡ false → first_type test (ys ++ x ∷ xs) ≡ generic_of x.content) → cond b (generic_of y.content) (first_type test (ys ++ x ∷ xs)) ≡ generic_of x.content
+    go : (b : Bool) → (b || any_content test ys) ≡ false → (any_content test ys ≡ false → first_type test (ys ++ x ∷ xs) ≡ generic_of x.content)
+        → cond b (generic_of y.content) (first_type test (ys ++ x ∷ xs)) ≡ generic_of x.content
     go true h f = absurd (cc)
     go false h f = f h
 
@@ -54,7 +58,8 @@ module _ (symbols : Symbols) where
   operator-input : (n : Name) (k : ℕ) → primitive_arity n ≡ None → operator_symbol symbols n k ≡ symbols.operator n k
   operator-input n k h = first (name_eq n arrow_name) refl
     where
-      third : (b : Bool) → name_eq n ind_name ≡ b → name_eq n bool_name ≡ false → name_eq n arrow_name ≡ false → operator_symbol symbols n k ≡ symbols.operator n k
+      third : (b : Bool) → name_eq n ind_name ≡ b → name_eq n bool_name ≡ false → name_eq n arrow_name ≡ false
+          → operator_symbol symbols n k ≡ symbols.operator n k
       third true e f g = let a : primitive_arity n ≡ Some 0 = rw (g, f, e) refl in absurd (cc)
       third false e f g = rw (g, f, e) refl
 

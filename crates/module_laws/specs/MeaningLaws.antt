@@ -49,7 +49,8 @@ get-at : (vs : List Name) (n : Name) → IsIn vs n → slice_get vs (at vs n) �
 get-at [] n k = absurd k
 get-at (v ∷ vs) n k = go (name_eq n v) refl (name_eq-Decides n v) (λ i. get-at vs n i) k
   where
-    go : (b : Bool) → name_eq n v ≡ b → Decides (name_eq n v) (n ≡ v) → (IsIn vs n → slice_get vs (at vs n) ≡ Some n) → IsIn (v ∷ vs) n → slice_get (v ∷ vs) (at (v ∷ vs) n) ≡ Some n
+    go : (b : Bool) → name_eq n v ≡ b → Decides (name_eq n v) (n ≡ v) → (IsIn vs n → slice_get vs (at vs n) ≡ Some n) → IsIn (v ∷ vs) n
+        → slice_get (v ∷ vs) (at (v ∷ vs) n) ≡ Some n
     go true e d later k = ap (slice_get (v ∷ vs)) (at-cons v vs n true e) ∙ ap Some (sym (d.0 e))
     go false e d later (inl is) = absurd (let yes = d.1 is in cc)
     go false e d later (inr i) = ap (slice_get (v ∷ vs)) (at-cons v vs n false e) ∙ later i
@@ -86,7 +87,8 @@ generic-in_order g =
     ∙ in-order vs (distinct-IsDistinct name_eq (symmetric name_eq name_eq-Decides) (variable_places g))
 
 -- A symbol means its constant: named by `c_` and the name, and declared at its generic type
-pub constant-means : (d : List Declaration) (symbols : Symbols) (n : Name) → DeclaresConstant d symbols n → IsName n → primitive_type n ≡ None → symbol_name d (constant_symbol symbols n) ≡ codes "c_" ++ mangled n → TypeMeant d symbols (generic_type symbols n)
+pub constant-means : (d : List Declaration) (symbols : Symbols) (n : Name) → DeclaresConstant d symbols n → IsName n → primitive_type n ≡ None
+    → symbol_name d (constant_symbol symbols n) ≡ codes "c_" ++ mangled n → TypeMeant d symbols (generic_type symbols n)
     → MeansConstant d (constant_symbol symbols n) n (length (type_variables (generic_type symbols n))) (close_type (type_variables (generic_type symbols n)) (generic_type symbols n))
 constant-means d symbols n declared is not_primitive text meant =
     let g = generic_type symbols n in

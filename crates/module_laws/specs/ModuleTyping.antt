@@ -71,10 +71,12 @@ module _ (m rest : List Declaration) (symbols : Symbols) where
     over = record { hypotheses = All-weaker (TermOver m symbols) (TermOver (m ++ rest) symbols) TermOver-append s.hypotheses p.over.hypotheses; conclusion = TermOver-append s.conclusion p.over.conclusion };
   }
 
-  IsPartPremise-append : (names : TypeNames) (c : HolType) (j : ℕ) (one : Sequent) → IsPartPremise m symbols names c j one → IsPartPremise (m ++ rest) symbols names c j one
+  IsPartPremise-append : (names : TypeNames) (c : HolType) (j : ℕ) (one : Sequent) → IsPartPremise m symbols names c j one
+      → IsPartPremise (m ++ rest) symbols names c j one
   IsPartPremise-append names c j one h = record { f = h.f; defines = h.defines; premise = IsPremise-append j one h.premise; ty = TypeOver-append c h.ty }
 
-  IsPartConstant-append : (n : Name) (a : HolType) (s : ℕ) (c : HolType) (j : ℕ) (one : Sequent) → IsPartConstant m symbols n a s c j one → IsPartConstant (m ++ rest) symbols n a s c j one
+  IsPartConstant-append : (n : Name) (a : HolType) (s : ℕ) (c : HolType) (j : ℕ) (one : Sequent) → IsPartConstant m symbols n a s c j one
+      → IsPartConstant (m ++ rest) symbols n a s c j one
   IsPartConstant-append n a s c j one h = record {
     declared = symbol_type-append m rest (constant_symbol symbols n) _ h.declared;
     generic = h.generic;
@@ -102,7 +104,8 @@ module _ (m rest : List Declaration) (symbols : Symbols) where
 operator_declared : (m : List Declaration) (symbols : Symbols) (n : Name) (k : ℕ) → primitive_arity n ≡ Some k → DeclaresOperator m symbols n k
 operator_declared m symbols n k h = first (name_eq n arrow_name) refl
   where
-    at : (s j : ℕ) → primitive_arity n ≡ Some j → ((i : ℕ) → operator_symbol symbols n i ≡ s) → symbol_type m s ≡ Some (products (replicate j types) types) → DeclaresOperator m symbols n k
+    at : (s j : ℕ) → primitive_arity n ≡ Some j → ((i : ℕ) → operator_symbol symbols n i ≡ s) → symbol_type m s ≡ Some (products (replicate j types) types)
+        → DeclaresOperator m symbols n k
     at s j a e d =
         let same : j ≡ k = same_Some _ _ (sym a ∙ h) in
         subst (λ i. symbol_type m (operator_symbol symbols n i) ≡ Some (products (replicate i types) types)) same (ap (symbol_type m) (e j) ∙ d)
@@ -130,7 +133,8 @@ constant_declared m symbols n g h = first (name_eq n equality_name) refl
     own : generic_type symbols n ≡ g
     own = ap (λ o. unwrap_or o (symbols.generic n)) h
 
-    at : (s : ℕ) (t : HolType) → primitive_type n ≡ Some t → constant_symbol symbols n ≡ s → symbol_type m s ≡ Some (generic_tree symbols t) → PrimitiveDeclared m symbols n g
+    at : (s : ℕ) (t : HolType) → primitive_type n ≡ Some t → constant_symbol symbols n ≡ s → symbol_type m s ≡ Some (generic_tree symbols t)
+        → PrimitiveDeclared m symbols n g
     at s t a e d =
         let same : t ≡ generic_type symbols n = same_Some _ _ (sym a ∙ h) ∙ sym own in
         record { declared = ap (symbol_type m) e ∙ d ∙ ap (λ u. Some (generic_tree symbols u)) same; is = own }
@@ -162,7 +166,8 @@ module _ (m : List Declaration) (symbols : Symbols) (before : List Item) (holds 
     TypesOver-taken none h = tt
     TypesOver-taken (more t ts) h = (TypeOver-taken t h.0, TypesOver-taken ts h.1)
 
-  part_taken : (k : Name) (a : HolType) (s : ℕ) (c : HolType) (j : ℕ) (one : Sequent) (n : Name) (t : HolType) → IsPartConstant m symbols k a s c j one → n ≡ k → Instance a t → DeclaresConstant m symbols n × Instance (generic_type symbols n) t
+  part_taken : (k : Name) (a : HolType) (s : ℕ) (c : HolType) (j : ℕ) (one : Sequent) (n : Name) (t : HolType) → IsPartConstant m symbols k a s c j one → n ≡ k
+      → Instance a t → DeclaresConstant m symbols n × Instance (generic_type symbols n) t
   part_taken k a s c j one n t d e i = subst (λ (l : Name). DeclaresConstant m symbols l × Instance (generic_type symbols l) t) (sym e) (d.declared, subst (λ u. Instance u t) (sym d.generic) i)
 
   constant_taken : (n : Name) (t : HolType) → ConstantTaken before n t → DeclaresConstant m symbols n × Instance (generic_type symbols n) t
@@ -210,7 +215,8 @@ module _ (m : List Declaration) (symbols : Symbols) (before : List Item) (holds 
       let k = held (defined_constant d.1.name v.1 d.0) d.1.has in
       record { name = d.1.name; term = d.0; image = d.1.image; declared = k.0; definition = k.1 }
 
-  defined_list : (js : List ℕ) (premises : List Sequent) (given : Parameters) → DefinesAmong before kinds.DefineConstList js premises given → Defined m symbols kinds.DefineConstList js premises given
+  defined_list : (js : List ℕ) (premises : List Sequent) (given : Parameters) → DefinesAmong before kinds.DefineConstList js premises given
+      → Defined m symbols kinds.DefineConstList js premises given
   defined_list js (one ∷ []) (Parameters.constants pairs) h = (
     All-weaker _ _ (defined_equation (constants_put pairs)) one.hypotheses h.0,
     All-weaker _ _ (defined_variable (constants_put pairs)) (free_variables_of one) h.1,
@@ -225,7 +231,8 @@ module _ (m : List Declaration) (symbols : Symbols) (before : List Item) (holds 
   defined_list js (one ∷ []) (Parameters.sequent s) h = tt
   defined_list js (one ∷ []) (Parameters.type_operator names version) h = tt
 
-  defined_one : (js : List ℕ) (premises : List Sequent) (given : Parameters) → DefinesAmong before kinds.DefineConst js premises given → Defined m symbols kinds.DefineConst js premises given
+  defined_one : (js : List ℕ) (premises : List Sequent) (given : Parameters) → DefinesAmong before kinds.DefineConst js premises given
+      → Defined m symbols kinds.DefineConst js premises given
   defined_one js premises (Parameters.constant n t) h = (held (defined_constant n (type_or t) t) h).1
   defined_one js premises Parameters.nothing h = tt
   defined_one js premises (Parameters.term t) h = tt
@@ -245,7 +252,8 @@ module _ (m : List Declaration) (symbols : Symbols) (before : List Item) (holds 
     representation = (held (type_representation names h.c h.f j one) h.representation).1;
   }
 
-  pub defined_among : (kind : StepKind) (js : List ℕ) (premises : List Sequent) (given : Parameters) → DefinesAmong before kind js premises given → Defined m symbols kind js premises given
+  pub defined_among : (kind : StepKind) (js : List ℕ) (premises : List Sequent) (given : Parameters) → DefinesAmong before kind js premises given
+      → Defined m symbols kind js premises given
   defined_among kinds.DefineConst js premises given h = defined_one js premises given h
   defined_among kinds.DefineConstList js premises given h = defined_list js premises given h
   defined_among kinds.Refl js premises given h = tt
@@ -297,7 +305,8 @@ slice_get-last (x ∷ xs) ys d =
     ap (slice_get (x ∷ (xs ++ (ys ++ d ∷ [])))) e ∙ slice_get-last xs ys d
 
 module _ (symbols : Symbols) where
-  IsPremise-new : (m : List Declaration) (before : List Item) (i : ℕ) (s : Sequent) (d : Declaration) → AllByRecursion (HoldsItem m symbols) before → SequentTaken before s
+  IsPremise-new : (m : List Declaration) (before : List Item) (i : ℕ) (s : Sequent) (d : Declaration) → AllByRecursion (HoldsItem m symbols) before
+      → SequentTaken before s
       → symbol_type (m ++ d ∷ []) i ≡ Some (sequent_tree symbols s) → IsPremise (m ++ d ∷ []) symbols i s
   IsPremise-new m before i s d holds h e =
       let over = SequentOver-taken m symbols before holds s h in
@@ -311,13 +320,15 @@ module _ (symbols : Symbols) where
       }
 
   -- the premise of a type definition, and a constant of one
-  part-premise : (m : List Declaration) (before : List Item) (names : TypeNames) (c : HolType) (u : Term) (j : ℕ) (one : Sequent) (d : Declaration) → AllByRecursion (HoldsItem m symbols) before → IsPart before names c u j one
+  part-premise : (m : List Declaration) (before : List Item) (names : TypeNames) (c : HolType) (u : Term) (j : ℕ) (one : Sequent) (d : Declaration)
+      → AllByRecursion (HoldsItem m symbols) before → IsPart before names c u j one
       → IsPartPremise (m ++ d ∷ []) symbols names c j one
   part-premise m before names c u j one d holds h =
       IsPartPremise-append m (d ∷ []) symbols names c j one
       (record { f = u; defines = h.defines; premise = (ArePremises-among m symbols before holds (j ∷ []) (one ∷ []) h.among).0; ty = TypeOver-taken m symbols before holds c h.ty })
 
-  part-constant : (m : List Declaration) (i : ℕ) (name : List ℕ) (n : Name) (a : HolType) (s : ℕ) (c : HolType) (j : ℕ) (one : Sequent) → constant_symbol symbols n ≡ i → generic_type symbols n ≡ a
+  part-constant : (m : List Declaration) (i : ℕ) (name : List ℕ) (n : Name) (a : HolType) (s : ℕ) (c : HolType) (j : ℕ) (one : Sequent)
+      → constant_symbol symbols n ≡ i → generic_type symbols n ≡ a
       → symbol_declaration (m ++ part_constant symbols name a s c j one ∷ []) i ≡ Some (part_constant symbols name a s c j one) → IsPartConstant (m ++ part_constant symbols name a s c j one ∷ []) symbols n a s c j one
   part-constant m i name n a s c j one t g e =
       let d = part_constant symbols name a s c j one in
@@ -328,7 +339,8 @@ module _ (symbols : Symbols) where
       }
 
   -- what the module has of an item once it is declared
-  pub content-holds : (m : List Declaration) (before : List Item) (i : ℕ) (name : List ℕ) (c : Content) → AllByRecursion (HoldsItem m symbols) before → IsContent before c → Tells symbols i c
+  pub content-holds : (m : List Declaration) (before : List Item) (i : ℕ) (name : List ℕ) (c : Content) → AllByRecursion (HoldsItem m symbols) before
+      → IsContent before c → Tells symbols i c
       → symbol_declaration (m ++ declaration_of symbols name c ∷ []) i ≡ Some (declaration_of symbols name c) → Holds (m ++ declaration_of symbols name c ∷ []) symbols i c
   content-holds m before i name (operator n k) holds h t e =
       ap (symbol_type (m ++ declaration_of symbols name (operator n k) ∷ [])) t ∙ ap (λ o. option_map (λ (d : Declaration). d.ty) o) e

@@ -47,12 +47,14 @@ second-within one two s lacks e =
     differ : (b : Bool) → b ≡ true → b ≡ false → ⊥
     differ b e f = let g : true ≡ false = sym e ∙ f in absurd (cc)
 
-    left_out : (h : Term) → (h ≡ one.conclusion → ⊥) → (h ≡ one.conclusion) ⊎ IsIn (without term_eq two.hypotheses one.conclusion) h → IsIn (without term_eq two.hypotheses one.conclusion) h
+    left_out : (h : Term) → (h ≡ one.conclusion → ⊥) → (h ≡ one.conclusion) ⊎ IsIn (without term_eq two.hypotheses one.conclusion) h
+        → IsIn (without term_eq two.hypotheses one.conclusion) h
     left_out h other (inl is) = absurd (other is)
     left_out h other (inr i) = i
 
 -- what proves nothing by its first premise follows from the others
-restated-rule : (kind : StepKind) (ss : List Sequent) (g : Parameters) (s : Sequent) → Rule kind ss g s → AllByRecursion IsSequent ss → proves_nothing kind ss ≡ true → Rule kinds.Restate (drop 1 ss) (Parameters.sequent s) s
+restated-rule : (kind : StepKind) (ss : List Sequent) (g : Parameters) (s : Sequent) → Rule kind ss g s → AllByRecursion IsSequent ss
+    → proves_nothing kind ss ≡ true → Rule kinds.Restate (drop 1 ss) (Parameters.sequent s) s
 restated-rule kind ss g s (rule.prove_hyp {one = one} {two = two} e) are n =
     rule.restate (rule-IsSequent kinds.ProveHyp (one ∷ two ∷ []) g s (rule.prove_hyp e) are) (second-within one two s (not-true (is_in term_eq one.conclusion two.hypotheses) n) e)
 restated-rule kind ss g s (rule.refl h e) are n = absurd (cc)

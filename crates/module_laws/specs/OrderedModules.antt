@@ -40,7 +40,8 @@ over : (m : List Declaration) (t : Tree) → loose t ≡ 0 → IsKnown m t → I
 over m t c h = record { closed = c; kindless = known-kindless m t h; known = known-symbols m t h }
 
 -- what is shaped may follow, where its name is new
-pub shaped-over : (m : List Declaration) (d : Declaration) → IsSound m → IsShaped m d → IsOver (length (signature ++ m)) d.ty × IsBodyOver (length (signature ++ m)) d.form d.body
+pub shaped-over : (m : List Declaration) (d : Declaration) → IsSound m → IsShaped m d
+    → IsOver (length (signature ++ m)) d.ty × IsBodyOver (length (signature ++ m)) d.form d.body
 shaped-over m d sound h =
     let t = shaped-typed m d sound h in
     (over m d.ty (Typed-closed t.ty) (declared-known m h.ty), body d.form d.body d.ty h.body t.body)

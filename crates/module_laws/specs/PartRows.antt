@@ -68,7 +68,8 @@ pub record PartFacts (m : List Declaration) (symbols : Symbols) (c : HolType) (f
   pub predicate_over : TermOver m symbols (predicate p)
   pub witness_over : TermOver m symbols (witness p)
 
-pub part-facts : (m : List Declaration) (symbols : Symbols) (names : TypeNames) (c : HolType) (j : ℕ) (one : Sequent) (d : IsPartPremise m symbols names c j one) → PartFacts m symbols c d.f one.conclusion
+pub part-facts : (m : List Declaration) (symbols : Symbols) (names : TypeNames) (c : HolType) (j : ℕ) (one : Sequent) (d : IsPartPremise m symbols names c j one)
+    → PartFacts m symbols c d.f one.conclusion
 part-facts m symbols names c j one d =
     let o : TermOver m symbols (app d.f d.defines.witness) = subst (TermOver m symbols) d.defines.holds d.premise.over.conclusion in
     subst (PartFacts m symbols c d.f) (sym d.defines.holds)
@@ -81,7 +82,8 @@ part-facts m symbols names c j one d =
       witness_over = o.1;
     })
 
-pub part-shut : (m : List Declaration) (symbols : Symbols) (names : TypeNames) (c : HolType) (j : ℕ) (one : Sequent) → IsPartPremise m symbols names c j one → IsShut one
+pub part-shut : (m : List Declaration) (symbols : Symbols) (names : TypeNames) (c : HolType) (j : ℕ) (one : Sequent) → IsPartPremise m symbols names c j one
+    → IsShut one
 part-shut m symbols names c j one d =
     let k = part-facts m symbols names c j one d in
     let f = loose-typed [] (predicate one.conclusion) (function c bool) k.predicate_typed in
@@ -93,7 +95,8 @@ pub part-type : (names : TypeNames) (c : HolType) (f : Term) (one : Sequent) →
 part-type names c f one d = ap (λ p. type_or (witness p)) d.holds ∙ ap (λ (o : Option HolType). unwrap_or o bool) d.typed
 
 -- The type variables of a term's type are among those of the term
-pub type-places : (P : Name → Type 0) (binders : List HolType) → ((k : ℕ) (a : HolType) → slice_get binders k ≡ Some a → AllByRecursion P (variable_places a)) → (t : Term) (a : HolType)
+pub type-places : (P : Name → Type 0) (binders : List HolType) → ((k : ℕ) (a : HolType) → slice_get binders k ≡ Some a → AllByRecursion P (variable_places a))
+    → (t : Term) (a : HolType)
     → AllByRecursion P (type_variable_places t) → type_under binders t ≡ Some a → AllByRecursion P (variable_places a)
 type-places P binders b (term.Term.free n t) a h e = subst (λ u. AllByRecursion P (variable_places u)) (same_Some _ _ e) h
 type-places P binders b (term.Term.bound k) a h e = b k a e
@@ -108,7 +111,8 @@ type-places P binders b (term.Term.lam t c) a h e =
     let second = type-places P (t ∷ binders) (inner t first) c p.0 (All-right P (variable_places t) (type_variable_places c) h) p.1.0 in
     subst (λ u. AllByRecursion P (variable_places u)) (sym p.1.1) (All-append P (variable_places t) (variable_places p.0 ++ []) first (All-append P (variable_places p.0) [] second (tt {0})))
   where
-    inner : (t : HolType) → AllByRecursion P (variable_places t) → (k : ℕ) (a : HolType) → slice_get (t ∷ binders) k ≡ Some a → AllByRecursion P (variable_places a)
+    inner : (t : HolType) → AllByRecursion P (variable_places t) → (k : ℕ) (a : HolType) → slice_get (t ∷ binders) k ≡ Some a
+        → AllByRecursion P (variable_places a)
     inner t h zero a e = subst (λ u. AllByRecursion P (variable_places u)) (same_Some _ _ e) h
     inner t h (suc k) a e = b k a e
 
@@ -116,7 +120,8 @@ listed : (ns ms : List Name) → list_all (λ n. is_in name_eq n ns) ms ≡ true
 listed ns [] e = tt
 listed ns (n ∷ ms) e = let h = and_parts (is_in name_eq n ns) (list_all (λ n. is_in name_eq n ns) ms) e in (is_in-IsIn name_eq name_eq-Decides ns n h.0, listed ns ms h.1)
 
-pub predicate-places : (names : TypeNames) (f : Term) → IsTrue (are_type_variables_of names.variables f) → AllByRecursion (IsIn names.variables) (type_variable_places f)
+pub predicate-places : (names : TypeNames) (f : Term) → IsTrue (are_type_variables_of names.variables f)
+    → AllByRecursion (IsIn names.variables) (type_variable_places f)
 predicate-places names f h = listed names.variables (type_variable_places f) (and_parts _ (list_all (λ n. is_in name_eq n names.variables) (type_variable_places f)) h).1
 
 -- names without repeats are distinct
@@ -158,7 +163,8 @@ module _ (names : TypeNames) (c : HolType) (f : Term) (one : Sequent) (d : IsTyp
   new-listed : AllByRecursion (IsIn names.variables) (variable_places (new_type names))
   new-listed = own-places names.variables (IsIn names.variables) (all-own names.variables names.variables (λ n i. i))
 
-  pub function-listed : (a b : HolType) → AllByRecursion (IsIn names.variables) (variable_places a) → AllByRecursion (IsIn names.variables) (variable_places b) → AllByRecursion (IsIn names.variables) (variable_places (function a b))
+  pub function-listed : (a b : HolType) → AllByRecursion (IsIn names.variables) (variable_places a) → AllByRecursion (IsIn names.variables) (variable_places b)
+      → AllByRecursion (IsIn names.variables) (variable_places (function a b))
   function-listed a b h k = All-append (IsIn names.variables) (variable_places a) (variable_places b ++ []) h (All-append (IsIn names.variables) (variable_places b) [] k (tt {0}))
 
   pub abstraction-listed : AllByRecursion (IsIn names.variables) (variable_places (abstraction_type names c))
@@ -168,10 +174,12 @@ module _ (names : TypeNames) (c : HolType) (f : Term) (one : Sequent) (d : IsTyp
   representation-listed = function-listed (new_type names) c new-listed type-listed
 
 -- what is listed of a type stands among its type variables, and the reverse
-pub among-listed : (names : TypeNames) (a : HolType) → AllByRecursion (IsIn names.variables) (variable_places a) → (n : Name) → IsIn (type_variables a) n → IsIn names.variables n
+pub among-listed : (names : TypeNames) (a : HolType) → AllByRecursion (IsIn names.variables) (variable_places a) → (n : Name) → IsIn (type_variables a) n
+    → IsIn names.variables n
 among-listed names a h n i = All-at (IsIn names.variables) (variable_places a) n h (IsIn-distinct_of name_eq name_eq-Decides (variable_places a) n i)
 
-new-own : (names : TypeNames) (a : HolType) → ((n : Name) → IsIn (variable_places (new_type names)) n → IsIn (variable_places a) n) → (n : Name) → IsIn names.variables n → IsIn (type_variables a) n
+new-own : (names : TypeNames) (a : HolType) → ((n : Name) → IsIn (variable_places (new_type names)) n → IsIn (variable_places a) n) → (n : Name)
+    → IsIn names.variables n → IsIn (type_variables a) n
 new-own names a h n i = IsIn-distinct name_eq name_eq-Decides (variable_places a) n (h n (places-own names.variables n i))
 
 pub abstraction-own : (names : TypeNames) (c : HolType) (n : Name) → IsIn names.variables n → IsIn (type_variables (abstraction_type names c)) n
@@ -226,16 +234,19 @@ module _ (m : List Declaration) (closed : IsClosed m) (symbols : Symbols) (names
     representation-over = function-over (new_type names) c new_type-over d.ty
 
     -- the new type under its part, in a filled scope and under a binder more
-    new-head : (other : TypeScope) → Covers names.variables other → head_step m (type_tree symbols other (new_type names)) ≡ Some (part_tree symbols (filled symbols other) sub_symbol c (j, one))
+    new-head : (other : TypeScope) → Covers names.variables other
+        → head_step m (type_tree symbols other (new_type names)) ≡ Some (part_tree symbols (filled symbols other) sub_symbol c (j, one))
     new-head other covers = operator-head m symbols c j one shut names sub_symbol op.definition other covers
 
-    new-head-lifted : (other : TypeScope) → Covers names.variables other → head_step m (lift 1 (type_tree symbols other (new_type names))) ≡ Some (lift 1 (part_tree symbols (filled symbols other) sub_symbol c (j, one)))
+    new-head-lifted : (other : TypeScope) → Covers names.variables other
+        → head_step m (lift 1 (type_tree symbols other (new_type names))) ≡ Some (lift 1 (part_tree symbols (filled symbols other) sub_symbol c (j, one)))
     new-head-lifted other covers =
         ap (head_step m) (type_tree-lift symbols other (new_type names)) ∙ new-head (lifted_types other) (Covers-lifted names.variables other covers)
         ∙ ap Some (sym (part_tree-lifted symbols other sub_symbol c (j, one) shut) ∙ sym (part_tree-lift symbols (filled symbols other) sub_symbol c (j, one)))
 
     -- The definitions
-    pub abstraction-called : (ns : List Name) → ((n : Name) → IsIn ns n → IsIn names.variables n) → IsCallDefinition m (under [] (map (λ n. types) ns)) (part_tree symbols (filled symbols (under_types ns unfilled)) sub_abs_symbol c (j, one))
+    pub abstraction-called : (ns : List Name) → ((n : Name) → IsIn ns n → IsIn names.variables n)
+        → IsCallDefinition m (under [] (map (λ n. types) ns)) (part_tree symbols (filled symbols (under_types ns unfilled)) sub_abs_symbol c (j, one))
         (term_of (type_tree symbols (under_types ns unfilled) (abstraction_type names c)))
     abstraction-called ns h =
         let other = under_types ns unfilled in
@@ -244,7 +255,8 @@ module _ (m : List Declaration) (closed : IsClosed m) (symbols : Symbols) (names
         let is = filled-shaped m closed symbols G other (under_types-shaped m closed symbols ns [] unfilled (λ n. shape.IsConstant.constant refl tt)) in
         abstraction-definition m _ _ _ _ (part-at G (filled symbols other) is) (type_tree symbols other (new_type names)) (new-head-lifted other covers)
 
-    pub representation-called : (ns : List Name) → ((n : Name) → IsIn ns n → IsIn names.variables n) → IsCallDefinition m (under [] (map (λ n. types) ns)) (part_tree symbols (filled symbols (under_types ns unfilled)) sub_rep_symbol c (j, one))
+    pub representation-called : (ns : List Name) → ((n : Name) → IsIn ns n → IsIn names.variables n)
+        → IsCallDefinition m (under [] (map (λ n. types) ns)) (part_tree symbols (filled symbols (under_types ns unfilled)) sub_rep_symbol c (j, one))
         (term_of (type_tree symbols (under_types ns unfilled) (representation_type names c)))
     representation-called ns h =
         let other = under_types ns unfilled in
@@ -271,20 +283,23 @@ module _ (m : List Declaration) (closed : IsClosed m) (symbols : Symbols) (names
       constant-over-own : (n : Name) (a : HolType) (s : ℕ) → IsPartConstant m symbols n a s c j one → TypeOver m symbols a → TermOver m symbols (constant n a)
       constant-over-own n a s k o = record { declared = k.declared; instance = subst (λ g. Instance g a) (sym k.generic) ([], substitute-nothing a); ty = o }
 
-      own-shaped : (A : Tree) (n : Name) (a : HolType) (s : ℕ) → IsPartConstant m symbols n a s c j one → TypeOver m symbols a → IsTerm m (A ∷ G) (constant_tree symbols (lifted_types other) n a) (type_tree symbols (lifted_types other) a)
+      own-shaped : (A : Tree) (n : Name) (a : HolType) (s : ℕ) → IsPartConstant m symbols n a s c j one → TypeOver m symbols a
+          → IsTerm m (A ∷ G) (constant_tree symbols (lifted_types other) n a) (type_tree symbols (lifted_types other) a)
       own-shaped A n a s k o =
           term_tree-shaped m closed symbols (A ∷ G) (lifted (filled symbols other)) [] (lifted-shaped m closed symbols G A (filled symbols other) is) (λ k a e. absurd (cc)) (λ k a e. absurd (cc)) (constant n a) a (constant-over-own n a s k o) refl
 
       part-same : (s : ℕ) → part_tree symbols (filled symbols (lifted_types other)) s c (j, one) ≡ part s
       part-same s = sym (part_tree-lifted symbols other s c (j, one) shut)
 
-      abs-head : (y : Tree) → head_step m (App (constant_tree symbols (lifted_types other) names.abstraction (abstraction_type names c)) y) ≡ Some (App (part sub_abs_symbol) y)
+      abs-head : (y : Tree)
+          → head_step m (App (constant_tree symbols (lifted_types other) names.abstraction (abstraction_type names c)) y) ≡ Some (App (part sub_abs_symbol) y)
       abs-head y =
           constant-part m symbols c j one shut names.abstraction (abstraction_type names c) sub_abs_symbol abs.generic abs.definition (lifted_types other)
           (Covers-lifted (type_variables (abstraction_type names c)) other (Covers-more names.variables (type_variables (abstraction_type names c)) other (abstraction-own names c) covers)) y
           ∙ ap (λ t. Some (App t y)) (part-same sub_abs_symbol)
 
-      rep-head : (y : Tree) → head_step m (App (constant_tree symbols (lifted_types other) names.representation (representation_type names c)) y) ≡ Some (App (part sub_rep_symbol) y)
+      rep-head : (y : Tree)
+          → head_step m (App (constant_tree symbols (lifted_types other) names.representation (representation_type names c)) y) ≡ Some (App (part sub_rep_symbol) y)
       rep-head y =
           constant-part m symbols c j one shut names.representation (representation_type names c) sub_rep_symbol rep.generic rep.definition (lifted_types other)
           (Covers-lifted (type_variables (representation_type names c)) other (Covers-more names.variables (type_variables (representation_type names c)) other (representation-own names c) covers)) y
@@ -343,17 +358,20 @@ module _ (m : List Declaration) (closed : IsClosed m) (symbols : Symbols) (names
       at-filled : IsPartAt m G C0 F0 W0 H0
       at-filled = part-at G (filled symbols scope.types) (filled-shaped m closed symbols G scope.types is.types)
 
-      free-abs : (y : Tree) → head_step m (App (constant_tree symbols scope.types names.abstraction (abstraction_type names c)) y) ≡ Some (App (K sub_abs_symbol) y)
+      free-abs : (y : Tree)
+          → head_step m (App (constant_tree symbols scope.types names.abstraction (abstraction_type names c)) y) ≡ Some (App (K sub_abs_symbol) y)
       free-abs y =
           constant-part m symbols c j one shut names.abstraction (abstraction_type names c) sub_abs_symbol abs.generic abs.definition scope.types
           (Covers-more names.variables (type_variables (abstraction_type names c)) scope.types (abstraction-own names c) covers) y
 
-      free-rep : (y : Tree) → head_step m (App (constant_tree symbols scope.types names.representation (representation_type names c)) y) ≡ Some (App (K sub_rep_symbol) y)
+      free-rep : (y : Tree)
+          → head_step m (App (constant_tree symbols scope.types names.representation (representation_type names c)) y) ≡ Some (App (K sub_rep_symbol) y)
       free-rep y =
           constant-part m symbols c j one shut names.representation (representation_type names c) sub_rep_symbol rep.generic rep.definition scope.types
           (Covers-more names.variables (type_variables (representation_type names c)) scope.types (representation-own names c) covers) y
 
-      free-constant : (n : Name) (a : HolType) (s : ℕ) → IsPartConstant m symbols n a s c j one → TypeOver m symbols a → IsTerm m G (constant_tree symbols scope.types n a) (type_tree symbols scope.types a)
+      free-constant : (n : Name) (a : HolType) (s : ℕ) → IsPartConstant m symbols n a s c j one → TypeOver m symbols a
+          → IsTerm m G (constant_tree symbols scope.types n a) (type_tree symbols scope.types a)
       free-constant n a s k o =
           term_tree-shaped m closed symbols G scope [] is (λ k a e. absurd (cc)) (λ k a e. absurd (cc)) (constant n a) a
           (record { declared = k.declared; instance = subst (λ g. Instance g a) (sym k.generic) ([], substitute-nothing a); ty = o }) refl
@@ -391,7 +409,8 @@ module _ (m : List Declaration) (closed : IsClosed m) (symbols : Symbols) (names
           }
 
 -- The scope of a law: it has type variables alone
-law-scope : (symbols : Symbols) (s : Sequent) → free_variables_of s ≡ [] → s.hypotheses ≡ [] → scope_of symbols s ≡ filled symbols (under_types (type_variables_of s) unfilled)
+law-scope : (symbols : Symbols) (s : Sequent) → free_variables_of s ≡ [] → s.hypotheses ≡ []
+    → scope_of symbols s ≡ filled symbols (under_types (type_variables_of s) unfilled)
 law-scope symbols s e h i = under_proofs (h i) (under_terms (e i) (scope_of_types symbols s))
 
 -- the type variables of a law are those that the definition lists
@@ -399,7 +418,8 @@ module _ (names : TypeNames) (c : HolType) (f : Term) (one : Sequent) (d : IsTyp
   abbrev Listed : List Name → Type 0
   Listed = AllByRecursion (IsIn names.variables)
 
-  equation-listed : (a : HolType) (x y : Term) → Listed (variable_places a) → Listed (type_variable_places x) → Listed (type_variable_places y) → Listed (type_variable_places (equation a x y))
+  equation-listed : (a : HolType) (x y : Term) → Listed (variable_places a) → Listed (type_variable_places x) → Listed (type_variable_places y)
+      → Listed (type_variable_places (equation a x y))
   equation-listed a x y h k l =
       let places = function-listed names c f one d typed a (function a bool) h (function-listed names c f one d typed a bool h (tt {0})) in
       All-append (IsIn names.variables) (variable_places (equality_type a) ++ type_variable_places x) (type_variable_places y) (All-append (IsIn names.variables) (variable_places (equality_type a)) (type_variable_places x) places k) l
@@ -442,7 +462,8 @@ module _ (names : TypeNames) (c : HolType) (f : Term) (one : Sequent) (d : IsTyp
       equation-listed bool (app f v) (equation c undone v) (tt {0}) (All-append (IsIn names.variables) (type_variable_places f) (type_variable_places v) (predicate-places names f d.variables) k)
       (equation-listed c undone v k (represented-listed (abstracted names c v) (abstracted-listed v k)) k)
 
-law-listed : (names : TypeNames) (s : Sequent) → s.hypotheses ≡ [] → AllByRecursion (IsIn names.variables) (type_variable_places s.conclusion) → (n : Name) → IsIn (type_variables_of s) n → IsIn names.variables n
+law-listed : (names : TypeNames) (s : Sequent) → s.hypotheses ≡ [] → AllByRecursion (IsIn names.variables) (type_variable_places s.conclusion) → (n : Name)
+    → IsIn (type_variables_of s) n → IsIn names.variables n
 law-listed names s none h n i =
     let places : IsIn (flat_map type_variable_places (s.hypotheses ++ s.conclusion ∷ [])) n = IsIn-distinct_of name_eq name_eq-Decides (flat_map type_variable_places (terms_of s)) n i in
     let own : IsIn (type_variable_places s.conclusion ++ []) n = subst (λ hs. IsIn (flat_map type_variable_places (hs ++ s.conclusion ∷ [])) n) none places in
@@ -537,7 +558,8 @@ module _ (m : List Declaration) (closed : IsClosed m) (symbols : Symbols) (names
       subst₂ (λ c p. ShownLaw m (context_of symbols s) (first_law_free_tree symbols (scope_of symbols s) names c (j, one)) (term_tree symbols (scope_of symbols s) p)) (sym own_type) (sym shown)
       (first_free m closed symbols names part.c j one premise part.operator part.abstraction part.representation (context_of symbols s) (scope_of symbols s) own.scope (law-covers none places))
 
-  pub second_law_free-row : symbol_type m sym_symbol ≡ Some sym_lemma.ty → (c : HolType) (f : Term) → IsTypeDefinition names c f one → s ≡ second_law_free names c f
+  pub second_law_free-row : symbol_type m sym_symbol ≡ Some sym_lemma.ty → (c : HolType) (f : Term) → IsTypeDefinition names c f one
+      → s ≡ second_law_free names c f
       → ShownLaw m (context_of symbols s) (second_law_free_tree symbols (scope_of symbols s) names (type_or (witness one.conclusion)) (j, one)) (term_tree symbols (scope_of symbols s) s.conclusion)
   second_law_free-row lemma c f d e =
       let says : s ≡ second_law_free names part.c (predicate one.conclusion) = e ∙ (λ i. second_law_free names (same_type c f d i) (same_predicate c f d i)) in
@@ -550,7 +572,8 @@ module _ (m : List Declaration) (closed : IsClosed m) (symbols : Symbols) (names
       (shut-places (free_places (predicate one.conclusion)) own_definition.closed))
 
 -- The definitions under their binders
-call-abstractions : (m : List Declaration) {G : List Tree} (ns : List Name) {t A : Tree} → IsCallDefinition m (under G (map (λ n. types) ns)) t A → IsCallDefinition m G (abstractions (map (λ n. types) ns) t) (products (map (λ n. types) ns) A)
+call-abstractions : (m : List Declaration) {G : List Tree} (ns : List Name) {t A : Tree} → IsCallDefinition m (under G (map (λ n. types) ns)) t A
+    → IsCallDefinition m G (abstractions (map (λ n. types) ns) t) (products (map (λ n. types) ns) A)
 call-abstractions m [] h = h
 call-abstractions m (n ∷ ns) h = call_under (call-abstractions m ns h)
 

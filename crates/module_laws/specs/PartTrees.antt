@@ -62,7 +62,8 @@ module _ (symbols : Symbols) where
       ∙ (λ i. (map-twice (sub s) scope.types (type_variables_of one) i ++ map-twice (sub s) scope.terms (free_variables_of one) i) ++ map-twice (sub s) scope.proofs one.hypotheses i))
 
   -- a part after a substitution, and under a binder more
-  pub part_tree-sub : (s : ℕ → Tree) (scope : Scope) (r : ℕ) (c : HolType) (p : Premise) → sub s (part_tree symbols scope r c p) ≡ part_tree symbols (through s scope) r c p
+  pub part_tree-sub : (s : ℕ → Tree) (scope : Scope) (r : ℕ) (c : HolType) (p : Premise)
+      → sub s (part_tree symbols scope r c p) ≡ part_tree symbols (through s scope) r c p
   part_tree-sub s scope r c p i =
       part_of r (type_tree-sub symbols s scope.types c i) (term_tree-sub symbols s scope (predicate p.1.conclusion) i) (term_tree-sub symbols s scope (witness p.1.conclusion) i) (theorem_tree-sub s scope p.0 p.1 i)
 
@@ -73,7 +74,8 @@ module _ (symbols : Symbols) where
       (same_scope (through (λ n. Var (suc n)) scope) (lifted scope) (λ n. sym (lift_sub (scope.types n))) (λ v. sym (lift_sub (scope.terms v))) (λ h. sym (lift_sub (scope.proofs h))) (λ k. sym (lift_sub (scope.bounds k))))
 
   -- a part owes nothing to bound numbers
-  part_tree-bounds : (scope : Scope) (bounds : ℕ → Tree) (r : ℕ) (c : HolType) (p : Premise) → IsShut p.1 → part_tree symbols scope r c p ≡ part_tree symbols (with_bounds bounds scope) r c p
+  part_tree-bounds : (scope : Scope) (bounds : ℕ → Tree) (r : ℕ) (c : HolType) (p : Premise) → IsShut p.1
+      → part_tree symbols scope r c p ≡ part_tree symbols (with_bounds bounds scope) r c p
   part_tree-bounds scope bounds r c p shut =
       let f = term_tree-bounds symbols 0 scope bounds (λ k l. absurd (omega (arith, l))) (predicate p.1.conclusion) (omega (arith, shut.predicate)) in
       let w = term_tree-bounds symbols 0 scope bounds (λ k l. absurd (omega (arith, l))) (witness p.1.conclusion) (omega (arith, shut.witness)) in
@@ -88,7 +90,8 @@ module _ (symbols : Symbols) where
       (same_scope (with_bounds Var (through s (filled symbols scope))) (filled symbols other) e
       (λ v. filler-sub s (type_tree symbols scope v.1) ∙ ap filler (type_tree-sub symbols s scope v.1 ∙ ap (λ w. type_tree symbols w v.1) (fun_ext e))) (λ h. refl) (λ k. refl))
 
-  pub part_tree-lifted : (scope : TypeScope) (r : ℕ) (c : HolType) (p : Premise) → IsShut p.1 → part_tree symbols (lifted (filled symbols scope)) r c p ≡ part_tree symbols (filled symbols (lifted_types scope)) r c p
+  pub part_tree-lifted : (scope : TypeScope) (r : ℕ) (c : HolType) (p : Premise) → IsShut p.1
+      → part_tree symbols (lifted (filled symbols scope)) r c p ≡ part_tree symbols (filled symbols (lifted_types scope)) r c p
   part_tree-lifted scope r c p shut =
       part_tree-bounds (lifted (filled symbols scope)) Var r c p shut
       ∙ ap (λ w. part_tree symbols w r c p)
@@ -140,7 +143,8 @@ Covers-under ns n = from ns unfilled refl
         later (inl i) = inl (inr i)
         later (inr f) = inr f
 
-        go : (b : Bool) → name_eq n k ≡ b → (b ≡ true → n ≡ k) → (bools ≡ under_type k scope n → IsIn ns n ⊎ (bools ≡ under_types ns (under_type k scope) n)) → IsIn (k ∷ ns) n ⊎ (bools ≡ under_types ns (under_type k scope) n)
+        go : (b : Bool) → name_eq n k ≡ b → (b ≡ true → n ≡ k) → (bools ≡ under_type k scope n → IsIn ns n ⊎ (bools ≡ under_types ns (under_type k scope) n))
+            → IsIn (k ∷ ns) n ⊎ (bools ≡ under_types ns (under_type k scope) n)
         go true is f rest = inl (inl (f refl))
         go false is f rest = later (rest (ap (lift 1) e ∙ ap (λ b. cond b (Var 0) (lift 1 (scope n))) (sym is)))
 
@@ -157,13 +161,15 @@ variable_trees symbols other (n ∷ ns) = ap (λ l. other n ∷ l) (variable_tre
 
 module _ (m : List Declaration) (symbols : Symbols) (c : HolType) (j : ℕ) (one : Sequent) (shut : IsShut one) where
   -- the definition with types put for its binders
-  part-put : (ns : List Name) (other : TypeScope) → Covers ns other → (r : ℕ) → put_all (map other ns) (part_tree symbols (filled symbols (under_types ns unfilled)) r c (j, one)) ≡ part_tree symbols (filled symbols other) r c (j, one)
+  part-put : (ns : List Name) (other : TypeScope) → Covers ns other → (r : ℕ)
+      → put_all (map other ns) (part_tree symbols (filled symbols (under_types ns unfilled)) r c (j, one)) ≡ part_tree symbols (filled symbols other) r c (j, one)
   part-put ns other covers r =
       put_all-after (map other ns) (part_tree symbols (filled symbols (under_types ns unfilled)) r c (j, one))
       ∙ part_tree-filled symbols (after Var (map other ns)) (under_types ns unfilled) other (λ n. types-agree m [] other ns unfilled Var n (covers n)) r c (j, one) shut
 
   -- a symbol that is defined by a part, at types and at what follows them
-  part-head : (s : ℕ) (ns : List Name) (r : ℕ) → symbol_definition m s ≡ Some (part_definition_tree symbols ns r c j one) → (other : TypeScope) → Covers ns other → (rest : List Tree)
+  part-head : (s : ℕ) (ns : List Name) (r : ℕ) → symbol_definition m s ≡ Some (part_definition_tree symbols ns r c j one) → (other : TypeScope)
+      → Covers ns other → (rest : List Tree)
       → spine_step m (applied (Sym s) (map other ns)) rest ≡ Some (applied (part_tree symbols (filled symbols other) r c (j, one)) rest)
   part-head s ns r d other covers rest =
       let outer = filled symbols (under_types ns unfilled) in
@@ -173,7 +179,8 @@ module _ (m : List Declaration) (symbols : Symbols) (c : HolType) (j : ℕ) (one
       ∙ ap (λ t. Some (applied t rest)) (part-put ns other covers r)
 
   -- the new type
-  pub operator-head : (names : TypeNames) (r : ℕ) → symbol_definition m (operator_symbol symbols names.operator (length names.variables)) ≡ Some (part_definition_tree symbols names.variables r c j one)
+  pub operator-head : (names : TypeNames) (r : ℕ)
+      → symbol_definition m (operator_symbol symbols names.operator (length names.variables)) ≡ Some (part_definition_tree symbols names.variables r c j one)
       → (other : TypeScope) → Covers names.variables other → head_step m (type_tree symbols other (new_type names)) ≡ Some (part_tree symbols (filled symbols other) r c (j, one))
   operator-head names r d other covers =
       ap (λ k. head_step m (applied (Sym (operator_symbol symbols names.operator k)) (type_trees symbols other (types_of (map variable names.variables))))) (count-variables names.variables)
@@ -181,14 +188,16 @@ module _ (m : List Declaration) (symbols : Symbols) (c : HolType) (j : ℕ) (one
       ∙ part-head (operator_symbol symbols names.operator (length names.variables)) names.variables r d other covers []
 
   -- a constant at its generic type and at a term
-  generic-arguments : (n : Name) (a : HolType) → generic_type symbols n ≡ a → (other : TypeScope) → map (type_tree symbols other) (type_arguments (generic_type symbols n) a) ≡ map other (type_variables a)
+  generic-arguments : (n : Name) (a : HolType) → generic_type symbols n ≡ a → (other : TypeScope)
+      → map (type_tree symbols other) (type_arguments (generic_type symbols n) a) ≡ map other (type_variables a)
   generic-arguments n a generic other =
       ap (λ g. map (type_tree symbols other) (type_arguments g a)) generic
       ∙ ap (λ u. map (type_tree symbols other) (type_arguments a u)) (sym (substitute-nothing a) ∙ substitute-is [] a)
       ∙ ap (map (type_tree symbols other)) (type_arguments-filled_in (image []) a)
       ∙ map-twice (type_tree symbols other) (image []) (type_variables a)
 
-  pub constant-part : (n : Name) (a : HolType) (r : ℕ) → generic_type symbols n ≡ a → symbol_definition m (constant_symbol symbols n) ≡ Some (part_definition_tree symbols (type_variables a) r c j one)
+  pub constant-part : (n : Name) (a : HolType) (r : ℕ) → generic_type symbols n ≡ a
+      → symbol_definition m (constant_symbol symbols n) ≡ Some (part_definition_tree symbols (type_variables a) r c j one)
       → (other : TypeScope) → Covers (type_variables a) other → (y : Tree) → head_step m (App (constant_tree symbols other n a) y) ≡ Some (App (part_tree symbols (filled symbols other) r c (j, one)) y)
   constant-part n a r generic d other covers y =
       ap (λ l. head_step m (App (applied (Sym (constant_symbol symbols n)) l) y)) (generic-arguments n a generic other)

@@ -13,7 +13,8 @@ use Rattle.module_laws.specs.ItemShapes.{reached-shaped}
 use Rattle.std.proofs.lemmas.Option.{same_Some}
 
 -- the module of what the roots reach of what was made is checked within the price
-pub reached-priced : (roots : List Key) (made : List Item) → AreMadeInOrder [] made → (i : ℕ) (d : Declaration) → slice_get (reached roots made) i ≡ Some d → IsPriced (reached roots made) i d
+pub reached-priced : (roots : List Key) (made : List Item) → AreMadeInOrder [] made → (i : ℕ) (d : Declaration) → slice_get (reached roots made) i ≡ Some d
+    → IsPriced (reached roots made) i d
 reached-priced roots made h = shaped-priced (reached roots made) (reached-shaped roots made h)
 
 -- a checker without rechecks finds it at no greater price

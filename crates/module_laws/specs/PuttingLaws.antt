@@ -52,7 +52,8 @@ module _ (symbols : Symbols) where
       go (suc k) = term_tree-passing scope (s k)
 
   -- the body of an abstraction with an argument put in
-  pub term_tree-put : (u : Term) (scope : Scope) (t : Term) → put (term_tree symbols scope u) (term_tree symbols (inside scope) t) ≡ term_tree symbols scope (binding.put u t)
+  pub term_tree-put : (u : Term) (scope : Scope) (t : Term)
+      → put (term_tree symbols scope u) (term_tree symbols (inside scope) t) ≡ term_tree symbols scope (binding.put u t)
   term_tree-put u scope t =
       put_is (term_tree symbols scope u) (term_tree symbols (inside scope) t)
       ∙ term_tree-sub symbols (cons (term_tree symbols scope u) Var) (inside scope) t

@@ -65,10 +65,14 @@ module _ (m : List Declaration) (closed : IsClosed m) (lemmas : HasLemmas m) (sy
       (f (context_of symbols s) (scope_of symbols s) (record { is = own.scope; proofs = λ h i. own.proofs h (subst (λ l. IsIn l h) (sym hs) i) })
       (subst (TermOver m symbols) c over.conclusion) (subst (λ p. HasType p bool) c is.conclusion))
 
-  row_of : (s : Sequent) (kind : StepKind) (ss : List Sequent) (given : Parameters) (js ks : List ℕ) → js ≡ ks → HasShapedBody m symbols (λ scope. proof_tree symbols scope kind ks ss given) s → HasShapedBody m symbols (λ scope. proof_tree symbols scope kind js ss given) s
+  row_of : (s : Sequent) (kind : StepKind) (ss : List Sequent) (given : Parameters) (js ks : List ℕ) → js ≡ ks
+      → HasShapedBody m symbols (λ scope. proof_tree symbols scope kind ks ss given) s
+      → HasShapedBody m symbols (λ scope. proof_tree symbols scope kind js ss given) s
   row_of s kind ss given js ks e h = subst (λ l. HasShapedBody m symbols (λ scope. proof_tree symbols scope kind l ss given) s) (sym e) h
 
-  pub rule-shaped : (kind : StepKind) (js : List ℕ) (premises : List Sequent) (given : Parameters) (s : Sequent) → Rule kind premises given s → has_row kind ≡ true → is_law kind ≡ false → ArePremises m symbols js premises → Defined m symbols kind js premises given → IsSequent s → SequentOver m symbols s
+  pub rule-shaped : (kind : StepKind) (js : List ℕ) (premises : List Sequent) (given : Parameters) (s : Sequent) → Rule kind premises given s
+      → has_row kind ≡ true → is_law kind ≡ false → ArePremises m symbols js premises → Defined m symbols kind js premises given → IsSequent s
+      → SequentOver m symbols s
       → HasShapedBody m symbols (λ scope. proof_tree symbols scope kind js premises given) s
   rule-shaped kind js premises given s (rule.refl {t = t} {a = a} h e) row lawless p d is over =
       in_scope (λ scope. refl_tree symbols scope (type_or t) t) s is over [] (equation a t t) e (λ G scope st o ty.
@@ -168,7 +172,8 @@ module _ (m : List Declaration) (closed : IsClosed m) (lemmas : HasLemmas m) (sy
   rule-shaped kind js premises given s (rule.second_law_free defining e) row lawless p d is over = absurd (cc)
 
   -- The laws: a law of a type definition has a law's body
-  pub law-shaped : (kind : StepKind) (js : List ℕ) (premises : List Sequent) (given : Parameters) (s : Sequent) → Rule kind premises given s → is_law kind ≡ true → ArePremises m symbols js premises → Defined m symbols kind js premises given → IsSequent s → SequentOver m symbols s
+  pub law-shaped : (kind : StepKind) (js : List ℕ) (premises : List Sequent) (given : Parameters) (s : Sequent) → Rule kind premises given s
+      → is_law kind ≡ true → ArePremises m symbols js premises → Defined m symbols kind js premises given → IsSequent s → SequentOver m symbols s
       → ShownLaw m (context_of symbols s) (proof_tree symbols (scope_of symbols s) kind js premises given) (term_tree symbols (scope_of symbols s) s.conclusion)
   law-shaped kind [] premises given s (rule.first_law defining e) law p d is over = absurd p
   law-shaped kind [] premises given s (rule.first_law_free defining e) law p d is over = absurd p
@@ -199,7 +204,8 @@ module _ (m : List Declaration) (closed : IsClosed m) (lemmas : HasLemmas m) (sy
   law-shaped kind js premises given s (rule.define_const_list h l e) law p d is over = absurd (cc)
 
   -- Every step with a body
-  pub step-shaped : (kind : StepKind) (js : List ℕ) (premises : List Sequent) (given : Parameters) (s : Sequent) → Rule kind premises given s → has_row kind ≡ true → ArePremises m symbols js premises → Defined m symbols kind js premises given → IsSequent s → SequentOver m symbols s
+  pub step-shaped : (kind : StepKind) (js : List ℕ) (premises : List Sequent) (given : Parameters) (s : Sequent) → Rule kind premises given s
+      → has_row kind ≡ true → ArePremises m symbols js premises → Defined m symbols kind js premises given → IsSequent s → SequentOver m symbols s
       → HasShapedBody m symbols (λ scope. proof_tree symbols scope kind js premises given) s
       ⊎ ShownLaw m (context_of symbols s) (proof_tree symbols (scope_of symbols s) kind js premises given) (term_tree symbols (scope_of symbols s) s.conclusion)
   step-shaped kind js premises given s r row p d is over = go (is_law kind) refl

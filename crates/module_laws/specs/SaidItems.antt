@@ -49,11 +49,13 @@ length-said_by_one z s e = ap length (said_by-one z (Some s) e)
 pub silent-length : (before : List Item) (z : Item) → says z.content ≡ None → length (said_by before) ≡ length (said_by (before ++ z ∷ []))
 silent-length before z e = let n = length-said_by before (z ∷ []) in let m = ap length (said_by-one z None e) in omega (arith, n, m)
 
-pub telling-length : (before : List Item) (z : Item) (s : Sequent) → says z.content ≡ Some s → suc (length (said_by before)) ≡ length (said_by (before ++ z ∷ []))
+pub telling-length : (before : List Item) (z : Item) (s : Sequent) → says z.content ≡ Some s
+    → suc (length (said_by before)) ≡ length (said_by (before ++ z ∷ []))
 telling-length before z s e = let n = length-said_by before (z ∷ []) in let m = ap length (said_by-one z (Some s) e) in omega (arith, n, m)
 
 -- what is said in a place has its item's number
-pub premise_at-said : (items before zs : List Item) (z : Item) (s : Sequent) → items ≡ before ++ z ∷ zs → says z.content ≡ Some s → premise_at items (length (said_by before)) ≡ (z.symbol, s)
+pub premise_at-said : (items before zs : List Item) (z : Item) (s : Sequent) → items ≡ before ++ z ∷ zs → says z.content ≡ Some s
+    → premise_at items (length (said_by before)) ≡ (z.symbol, s)
 premise_at-said items before zs z s whole e =
     let none : ℕ × Sequent = (0, record { hypotheses = []; conclusion = bound 0 }) in
     ap (λ l. slice_index_or l (length (said_by before)) none)

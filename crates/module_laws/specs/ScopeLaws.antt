@@ -36,7 +36,8 @@ through s scope = record {
 }
 
 -- scopes with equal parts are equal
-pub same_scope : (scope other : Scope) → ((n : Name) → scope.types n ≡ other.types n) → ((v : Variable) → scope.terms v ≡ other.terms v) → ((h : Term) → scope.proofs h ≡ other.proofs h) → ((k : ℕ) → scope.bounds k ≡ other.bounds k) → scope ≡ other
+pub same_scope : (scope other : Scope) → ((n : Name) → scope.types n ≡ other.types n) → ((v : Variable) → scope.terms v ≡ other.terms v)
+    → ((h : Term) → scope.proofs h ≡ other.proofs h) → ((k : ℕ) → scope.bounds k ≡ other.bounds k) → scope ≡ other
 same_scope scope other a b c d = λ i. record { types = fun_ext a i; terms = fun_ext b i; proofs = fun_ext c i; bounds = fun_ext d i }
 
 inside-through : (s : ℕ → Tree) (scope : Scope) → through (ups s) (inside scope) ≡ inside (through s scope)
@@ -55,7 +56,8 @@ module _ (symbols : Symbols) where
         sub-applied s (Sym (operator_symbol symbols n (count ts))) (type_trees symbols scope ts)
         ∙ ap (applied (Sym (operator_symbol symbols n (count ts)))) (type_trees-sub s scope ts)
 
-    type_trees-sub : (s : ℕ → Tree) (scope : TypeScope) (ts : HolTypes) → map (sub s) (type_trees symbols scope ts) ≡ type_trees symbols (through_types s scope) ts
+    type_trees-sub : (s : ℕ → Tree) (scope : TypeScope) (ts : HolTypes)
+        → map (sub s) (type_trees symbols scope ts) ≡ type_trees symbols (through_types s scope) ts
     type_trees-sub s scope none = refl
     type_trees-sub s scope (more t ts) = ap₂ (λ x xs. x ∷ xs) (type_tree-sub s scope t) (type_trees-sub s scope ts)
 

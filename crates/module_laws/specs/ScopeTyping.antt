@@ -59,18 +59,21 @@ AreInstances-over m symbols (lam t b) h = AreInstances-over m symbols b h.1
 module _ (m : List Declaration) (symbols : Symbols) where
   mutual
     -- the types filled in one over the symbols are over them
-    pub TypeOver-filled_in : (f : Name → HolType) (t : HolType) (n : Name) → IsIn (variable_places t) n → TypeOver m symbols (filled_in f t) → TypeOver m symbols (f n)
+    pub TypeOver-filled_in : (f : Name → HolType) (t : HolType) (n : Name) → IsIn (variable_places t) n → TypeOver m symbols (filled_in f t)
+        → TypeOver m symbols (f n)
     TypeOver-filled_in f (variable k) n (inl e) h = subst (λ k. TypeOver m symbols (f k)) (sym e) h
     TypeOver-filled_in f (variable k) n (inr i) h = absurd i
     TypeOver-filled_in f (operator k ts) n i h = TypesOver-filled_in f ts n i h.1
 
-    TypesOver-filled_in : (f : Name → HolType) (ts : HolTypes) (n : Name) → IsIn (variable_places_of_all ts) n → TypesOver m symbols (filled_in_all f ts) → TypeOver m symbols (f n)
+    TypesOver-filled_in : (f : Name → HolType) (ts : HolTypes) (n : Name) → IsIn (variable_places_of_all ts) n → TypesOver m symbols (filled_in_all f ts)
+        → TypeOver m symbols (f n)
     TypesOver-filled_in f none n i h = absurd i
     TypesOver-filled_in f (more t ts) n i h =
         ⊎_elim (λ l. TypeOver-filled_in f t n l h.0) (λ r. TypesOver-filled_in f ts n r h.1) (IsIn-either (variable_places t) (variable_places_of_all ts) n i)
 
   -- the type of a term over the symbols is over them
-  pub TypeOver-type_under : (binders : List HolType) → ((k : ℕ) (a : HolType) → slice_get binders k ≡ Some a → TypeOver m symbols a) → (t : Term) (a : HolType) → TermOver m symbols t → type_under binders t ≡ Some a → TypeOver m symbols a
+  pub TypeOver-type_under : (binders : List HolType) → ((k : ℕ) (a : HolType) → slice_get binders k ≡ Some a → TypeOver m symbols a) → (t : Term) (a : HolType)
+      → TermOver m symbols t → type_under binders t ≡ Some a → TypeOver m symbols a
   TypeOver-type_under binders b (free n t) a h e = subst (TypeOver m symbols) (same_Some _ _ e) h
   TypeOver-type_under binders b (bound k) a h e = b k a e
   TypeOver-type_under binders b (constant n t) a h e = subst (TypeOver m symbols) (same_Some _ _ e) h.ty
@@ -81,7 +84,8 @@ module _ (m : List Declaration) (symbols : Symbols) where
       let p = abstraction_type-is t (type_under (t ∷ binders) c) a e in
       subst (TypeOver m symbols) (sym p.1.1) (refl, (h.0, (TypeOver-type_under (t ∷ binders) (under t b h.0) c p.0 h.1 p.1.0, tt {0})))
     where
-      under : (t : HolType) → ((k : ℕ) (a : HolType) → slice_get binders k ≡ Some a → TypeOver m symbols a) → TypeOver m symbols t → (k : ℕ) (a : HolType) → slice_get (t ∷ binders) k ≡ Some a → TypeOver m symbols a
+      under : (t : HolType) → ((k : ℕ) (a : HolType) → slice_get binders k ≡ Some a → TypeOver m symbols a) → TypeOver m symbols t → (k : ℕ) (a : HolType)
+          → slice_get (t ∷ binders) k ≡ Some a → TypeOver m symbols a
       under t b h zero a e = subst (TypeOver m symbols) (same_Some _ _ e) h
       under t b h (suc k) a e = b k a e
 
@@ -91,17 +95,20 @@ length-type_trees symbols scope (more t ts) = omega (arith, length-type_trees sy
 
 -- Arguments for type variables: what stands for each in a scope other than the one under their binders.
 module _ (m : List Declaration) (G : List Tree) (other : TypeScope) where
-  set_agrees : (b : Bool) (s : ℕ → Tree) (n k : Name) (x : Tree) → (b ≡ true → n ≡ k) → (b ≡ false → sub s x ≡ other n) → sub (cons (other k) s) (cond b (Var 0) (lift 1 x)) ≡ other n
+  set_agrees : (b : Bool) (s : ℕ → Tree) (n k : Name) (x : Tree) → (b ≡ true → n ≡ k) → (b ≡ false → sub s x ≡ other n)
+      → sub (cons (other k) s) (cond b (Var 0) (lift 1 x)) ≡ other n
   set_agrees true s n k x e f = ap other (sym (e refl))
   set_agrees false s n k x e f = sub-cons_lift s (other k) x ∙ f refl
 
   -- each variable for which there is an argument, or on which the scopes agreed, has what stands for it
-  pub types-agree : (ns : List Name) (scope : TypeScope) (s : ℕ → Tree) (n : Name) → (IsIn ns n ⊎ (sub s (scope n) ≡ other n)) → sub (after s (map other ns)) (under_types ns scope n) ≡ other n
+  pub types-agree : (ns : List Name) (scope : TypeScope) (s : ℕ → Tree) (n : Name) → (IsIn ns n ⊎ (sub s (scope n) ≡ other n))
+      → sub (after s (map other ns)) (under_types ns scope n) ≡ other n
   types-agree [] scope s n (inl k) = absurd k
   types-agree [] scope s n (inr e) = e
   types-agree (k ∷ ns) scope s n h = types-agree ns (under_type k scope) (cons (other k) s) n (go (name_eq n k) (name_eq-Decides n k).0 (name_eq-Decides n k).1 h)
     where
-      go : (b : Bool) → (b ≡ true → n ≡ k) → (n ≡ k → b ≡ true) → (IsIn (k ∷ ns) n ⊎ (sub s (scope n) ≡ other n)) → IsIn ns n ⊎ (sub (cons (other k) s) (cond b (Var 0) (lift 1 (scope n))) ≡ other n)
+      go : (b : Bool) → (b ≡ true → n ≡ k) → (n ≡ k → b ≡ true) → (IsIn (k ∷ ns) n ⊎ (sub s (scope n) ≡ other n))
+          → IsIn ns n ⊎ (sub (cons (other k) s) (cond b (Var 0) (lift 1 (scope n))) ≡ other n)
       go b e f (inl (inl is)) = inr (set_agrees b s n k (scope n) e (λ no. absurd (let yes = f is in cc)))
       go b e f (inl (inr i)) = inl i
       go b e f (inr a) = inr (set_agrees b s n k (scope n) e (λ no. a))

@@ -44,7 +44,8 @@ pub record At {A : Type 0} (same : A → A → Bool) (d from : ℕ) (xs : List A
   pub within : position_or_len (same y) xs < length xs
   pub told : lookup (same y) (parameters d from xs) ≡ Some (parameter d (from + position_or_len (same y) xs))
 
-pub told-at : {A : Type 0} (same : A → A → Bool) → ((x y : A) → Decides (same x y) (x ≡ y)) → (d from : ℕ) (xs : List A) (y : A) → IsIn xs y → At same d from xs y
+pub told-at : {A : Type 0} (same : A → A → Bool) → ((x y : A) → Decides (same x y) (x ≡ y)) → (d from : ℕ) (xs : List A) (y : A) → IsIn xs y
+    → At same d from xs y
 told-at same decides d from [] y k = absurd k
 told-at same decides d from (x ∷ xs) y k = go (same y x) refl (decides y x).1 (λ i. told-at same decides d (suc from) xs y i) k
   where
@@ -66,11 +67,13 @@ closed_list names [] = ClosedTypes.none
 closed_list names (t ∷ ts) = ClosedTypes.more (close_type names t) (closed_list names ts)
 
 -- the argument for a variable is what is filled in for it
-argument-at : (names vs : List Name) (f : Name → HolType) (n : Name) → IsIn vs n → argument (closed_list names (map f vs)) (position_or_len (name_eq n) vs) ≡ close_type names (f n)
+argument-at : (names vs : List Name) (f : Name → HolType) (n : Name) → IsIn vs n
+    → argument (closed_list names (map f vs)) (position_or_len (name_eq n) vs) ≡ close_type names (f n)
 argument-at names [] f n k = absurd k
 argument-at names (v ∷ vs) f n k = go (name_eq n v) refl (name_eq-Decides n v) (λ i. argument-at names vs f n i) k
   where
-    go : (b : Bool) → name_eq n v ≡ b → Decides (name_eq n v) (n ≡ v) → (IsIn vs n → argument (closed_list names (map f vs)) (position_or_len (name_eq n) vs) ≡ close_type names (f n)) → IsIn (v ∷ vs) n
+    go : (b : Bool) → name_eq n v ≡ b → Decides (name_eq n v) (n ≡ v)
+        → (IsIn vs n → argument (closed_list names (map f vs)) (position_or_len (name_eq n) vs) ≡ close_type names (f n)) → IsIn (v ∷ vs) n
         → argument (closed_list names (map f (v ∷ vs))) (position_or_len (name_eq n) (v ∷ vs)) ≡ close_type names (f n)
     go true e d later k = ap (argument (closed_list names (map f (v ∷ vs)))) (position-cons (name_eq n) v vs true e) ∙ ap (λ u. close_type names (f u)) (sym (d.0 e))
     go false e d later (inl is) = absurd (let yes = d.1 is in cc)
@@ -79,11 +82,13 @@ argument-at names (v ∷ vs) f n k = go (name_eq n v) refl (name_eq-Decides n v)
 module _ (names vs : List Name) (f : Name → HolType) where
   mutual
     -- the closed form of an instance is the instance of the closed form
-    instance-closed : (g : HolType) → AllByRecursion (IsIn vs) (variable_places g) → close_type names (filled_in f g) ≡ instance_of (closed_list names (map f vs)) (close_type vs g)
+    instance-closed : (g : HolType) → AllByRecursion (IsIn vs) (variable_places g)
+        → close_type names (filled_in f g) ≡ instance_of (closed_list names (map f vs)) (close_type vs g)
     instance-closed (type.HolType.variable n) h = sym (argument-at names vs f n h.0)
     instance-closed (type.HolType.operator n ts) h = ap (ClosedType.operator n) (instances-closed ts h)
 
-    instances-closed : (gs : HolTypes) → AllByRecursion (IsIn vs) (variable_places_of_all gs) → close_types names (filled_in_all f gs) ≡ instances_of (closed_list names (map f vs)) (close_types vs gs)
+    instances-closed : (gs : HolTypes) → AllByRecursion (IsIn vs) (variable_places_of_all gs)
+        → close_types names (filled_in_all f gs) ≡ instances_of (closed_list names (map f vs)) (close_types vs gs)
     instances-closed type.HolTypes.none h = refl
     instances-closed (type.HolTypes.more g gs) h =
         λ i. ClosedTypes.more (instance-closed g (All-left (IsIn vs) (variable_places g) (variable_places_of_all gs) h) i) (instances-closed gs (All-right (IsIn vs) (variable_places g) (variable_places_of_all gs) h) i)
@@ -116,7 +121,8 @@ module _ (d : List Declaration) (symbols : Symbols) (names : List Name) where
   TypesPlaced at scope = (n : Name) → IsIn names n → (position_or_len (name_eq n) names < at.type_variables) × (scope n ≡ parameter (depth_of at) (position_or_len (name_eq n) names))
 
   mutual
-    pub type_stands : (at : Place) (scope : TypeScope) → TypesPlaced at scope → (t : HolType) → TypeMeant d symbols t → AllByRecursion (IsIn names) (variable_places t) → StandsForType d (close_type names t) at (type_tree symbols scope t)
+    pub type_stands : (at : Place) (scope : TypeScope) → TypesPlaced at scope → (t : HolType) → TypeMeant d symbols t
+        → AllByRecursion (IsIn names) (variable_places t) → StandsForType d (close_type names t) at (type_tree symbols scope t)
     type_stands at scope p (type.HolType.variable n) m h = p n h.0
     type_stands at scope p (type.HolType.operator n ts) m h = (
       operator_symbol symbols n (count ts),
@@ -126,7 +132,8 @@ module _ (d : List Declaration) (symbols : Symbols) (names : List Name) where
       refl,
     )
 
-    types_stand : (at : Place) (scope : TypeScope) → TypesPlaced at scope → (ts : HolTypes) → TypesMeant d symbols ts → AllByRecursion (IsIn names) (variable_places_of_all ts) → StandForTypes d (close_types names ts) at (type_trees symbols scope ts)
+    types_stand : (at : Place) (scope : TypeScope) → TypesPlaced at scope → (ts : HolTypes) → TypesMeant d symbols ts
+        → AllByRecursion (IsIn names) (variable_places_of_all ts) → StandForTypes d (close_types names ts) at (type_trees symbols scope ts)
     types_stand at scope p type.HolTypes.none m h = tt
     types_stand at scope p (type.HolTypes.more t ts) m h = (
       type_stands at scope p t m.0 (All-left (IsIn names) (variable_places t) (variable_places_of_all ts) h),
@@ -135,12 +142,15 @@ module _ (d : List Declaration) (symbols : Symbols) (names : List Name) where
 
   mutual
     -- the types filled in one
-    meant-filled_in : (f : Name → HolType) (t : HolType) (n : Name) → IsIn (variable_places t) n → TypeMeant d symbols (filled_in f t) → AllByRecursion (IsIn names) (variable_places (filled_in f t)) → TypeMeant d symbols (f n) × AllByRecursion (IsIn names) (variable_places (f n))
+    meant-filled_in : (f : Name → HolType) (t : HolType) (n : Name) → IsIn (variable_places t) n → TypeMeant d symbols (filled_in f t)
+        → AllByRecursion (IsIn names) (variable_places (filled_in f t)) → TypeMeant d symbols (f n) × AllByRecursion (IsIn names) (variable_places (f n))
     meant-filled_in f (type.HolType.variable k) n (inl e) m h = subst (λ k. TypeMeant d symbols (f k) × AllByRecursion (IsIn names) (variable_places (f k))) (sym e) (m, h)
     meant-filled_in f (type.HolType.variable k) n (inr i) m h = absurd i
     meant-filled_in f (type.HolType.operator k ts) n i m h = all_meant-filled_in f ts n i m.1 h
 
-    all_meant-filled_in : (f : Name → HolType) (ts : HolTypes) (n : Name) → IsIn (variable_places_of_all ts) n → TypesMeant d symbols (filled_in_all f ts) → AllByRecursion (IsIn names) (variable_places_of_all (filled_in_all f ts)) → TypeMeant d symbols (f n) × AllByRecursion (IsIn names) (variable_places (f n))
+    all_meant-filled_in : (f : Name → HolType) (ts : HolTypes) (n : Name) → IsIn (variable_places_of_all ts) n → TypesMeant d symbols (filled_in_all f ts)
+        → AllByRecursion (IsIn names) (variable_places_of_all (filled_in_all f ts))
+        → TypeMeant d symbols (f n) × AllByRecursion (IsIn names) (variable_places (f n))
     all_meant-filled_in f type.HolTypes.none n i m h = absurd i
     all_meant-filled_in f (type.HolTypes.more t ts) n i m h =
         ⊎_elim
@@ -152,7 +162,8 @@ module _ (d : List Declaration) (symbols : Symbols) (names : List Name) where
   list_stands at scope p [] h = tt
   list_stands at scope p (t ∷ ts) h = (type_stands at scope p t h.0.0 h.0.1, list_stands at scope p ts h.1)
 
-  constant_stands : (at : Place) (scope : TypeScope) → TypesPlaced at scope → (n : Name) (t : HolType) → ConstantMeant d symbols n t → AllByRecursion (IsIn names) (variable_places t) → StandsForConstant d n (close_type names t) at (constant_tree symbols scope n t)
+  constant_stands : (at : Place) (scope : TypeScope) → TypesPlaced at scope → (n : Name) (t : HolType) → ConstantMeant d symbols n t
+      → AllByRecursion (IsIn names) (variable_places t) → StandsForConstant d n (close_type names t) at (constant_tree symbols scope n t)
   constant_stands at scope p n t m h =
       let g = generic_type symbols n in
       let vs = type_variables g in
@@ -179,7 +190,8 @@ module _ (d : List Declaration) (symbols : Symbols) (names : List Name) where
     -- and what stands for each of these free variables, and for the numbers of a term's own binders
     pub record Placed (at : Place) (scope : Scope) : Type 0 where
       pub types : TypesPlaced at scope.types
-      pub terms : (v : Variable) → IsIn variables v → (position_or_len (variable_eq v) variables < at.free_variables) × (scope.terms v ≡ parameter (depth_of at) (at.type_variables + position_or_len (variable_eq v) variables))
+      pub terms : (v : Variable) → IsIn variables v
+          → (position_or_len (variable_eq v) variables < at.free_variables) × (scope.terms v ≡ parameter (depth_of at) (at.type_variables + position_or_len (variable_eq v) variables))
       pub bounds : (k : ℕ) → k < at.binders → scope.bounds k ≡ Var k
 
     Placed-inside : (at : Place) (scope : Scope) → Placed at scope → Placed (inside at) (scopes.inside scope)
@@ -199,7 +211,8 @@ module _ (d : List Declaration) (symbols : Symbols) (names : List Name) where
         go zero l = refl
         go (suc k) l = ap (lift 1) (p.bounds k (omega (arith, l))) ∙ grind arith
 
-    pub term_stands : (at : Place) (scope : Scope) → Placed at scope → (t : Term) → TermMeant d symbols t → AllByRecursion (IsIn names) (type_variable_places t) → AllByRecursion (IsIn variables) (free_places t) → loose t ≤ at.binders
+    pub term_stands : (at : Place) (scope : Scope) → Placed at scope → (t : Term) → TermMeant d symbols t → AllByRecursion (IsIn names) (type_variable_places t)
+        → AllByRecursion (IsIn variables) (free_places t) → loose t ≤ at.binders
         → StandsForTerm d (close_term names variables t) at (term_tree symbols scope t)
     term_stands at scope p (term.Term.free n t) m h k l = p.terms (n, t) k.0
     term_stands at scope p (term.Term.bound j) m h k l = let w : j < at.binders = omega (arith, l) in (w, p.bounds j w)
@@ -261,7 +274,8 @@ length-formula_trees symbols [] scope = refl
 length-formula_trees symbols (h ∷ hs) scope = ap suc (length-formula_trees symbols hs (under_proof h scope))
 
 module _ (d : List Declaration) (symbols : Symbols) (names : List Name) where
-  pub placed-types : (at : Place) (scope : TypeScope) → at.type_variables ≡ length names → TypesTold names (depth_of at) scope → TypesPlaced d symbols names at scope
+  pub placed-types : (at : Place) (scope : TypeScope) → at.type_variables ≡ length names → TypesTold names (depth_of at) scope
+      → TypesPlaced d symbols names at scope
   placed-types at scope many told n k =
       let t = told-at name_eq name_eq-Decides (depth_of at) 0 names n k in
       let z : 0 + position_or_len (name_eq n) names ≡ position_or_len (name_eq n) names = omega arith in
@@ -280,7 +294,8 @@ module _ (d : List Declaration) (symbols : Symbols) (names : List Name) where
       )
 
   module _ (variables : List Variable) where
-    placed-scope : (l : ℕ) (scope : Scope) → TypesTold names (length names + length variables + l) scope.types → TermsTold names variables (length names + length variables + l) scope
+    placed-scope : (l : ℕ) (scope : Scope) → TypesTold names (length names + length variables + l) scope.types
+        → TermsTold names variables (length names + length variables + l) scope
         → Placed d symbols names variables (place (length names) (length variables) l 0) scope
     placed-scope l scope told terms = record {
       types = placed-types at scope.types refl (subst (λ k. TypesTold names k scope.types) own told);
@@ -297,23 +312,28 @@ module _ (d : List Declaration) (symbols : Symbols) (names : List Name) where
         own : length names + length variables + l ≡ length names + length variables + l + 0
         own = omega arith
 
-    formula_stands : (l : ℕ) (scope : Scope) → TypesTold names (length names + length variables + l) scope.types → TermsTold names variables (length names + length variables + l) scope → (t : Term) → TermMeant d symbols t → IsFormula symbols (IsIn names) (IsIn variables) t
+    formula_stands : (l : ℕ) (scope : Scope) → TypesTold names (length names + length variables + l) scope.types
+        → TermsTold names variables (length names + length variables + l) scope → (t : Term) → TermMeant d symbols t
+        → IsFormula symbols (IsIn names) (IsIn variables) t
         → StandsForTerm d (close_term names variables t) (place (length names) (length variables) l 0) (term_tree symbols scope t)
     formula_stands l scope told terms t m f = term_stands d symbols names variables (place (length names) (length variables) l 0) scope (placed-scope l scope told terms) t m f.type_variables f.free_variables f.closed
 
-    under-types : (l : ℕ) (h : Term) (scope : Scope) → TypesTold names (length names + length variables + l) scope.types → TypesTold names (length names + length variables + suc l) (under_proof h scope).types
+    under-types : (l : ℕ) (h : Term) (scope : Scope) → TypesTold names (length names + length variables + l) scope.types
+        → TypesTold names (length names + length variables + suc l) (under_proof h scope).types
     under-types l h scope told =
         let low : length names ≤ length names + length variables + l = omega arith in
         let next : suc (length names + length variables + l) ≡ length names + length variables + suc l = omega arith in
         subst (λ k. TypesTold names k (under_proof h scope).types) next (TypesTold-lifted names (length names + length variables + l) scope.types low told)
 
-    under-terms : (l : ℕ) (h : Term) (scope : Scope) → TermsTold names variables (length names + length variables + l) scope → TermsTold names variables (length names + length variables + suc l) (under_proof h scope)
+    under-terms : (l : ℕ) (h : Term) (scope : Scope) → TermsTold names variables (length names + length variables + l) scope
+        → TermsTold names variables (length names + length variables + suc l) (under_proof h scope)
     under-terms l h scope terms =
         let low : length names + length variables ≤ length names + length variables + l = omega arith in
         let next : suc (length names + length variables + l) ≡ length names + length variables + suc l = omega arith in
         subst (λ k. TermsTold names variables k (under_proof h scope)) next (TermsTold-lifted names variables (length names + length variables + l) scope (under_proof h scope) low terms (λ v. refl))
 
-    hypotheses_stand : (hs : List Term) (l : ℕ) (scope : Scope) → TypesTold names (length names + length variables + l) scope.types → TermsTold names variables (length names + length variables + l) scope
+    hypotheses_stand : (hs : List Term) (l : ℕ) (scope : Scope) → TypesTold names (length names + length variables + l) scope.types
+        → TermsTold names variables (length names + length variables + l) scope
         → AllByRecursion (TermMeant d symbols) hs → AllByRecursion (IsFormula symbols (IsIn names) (IsIn variables)) hs → StandForHypotheses d (map (close_term names variables) hs) (length names) (length variables) l (formula_trees symbols hs scope)
     hypotheses_stand [] l scope told terms m f = tt
     hypotheses_stand (h ∷ hs) l scope told terms m f = (
@@ -321,7 +341,8 @@ module _ (d : List Declaration) (symbols : Symbols) (names : List Name) where
       hypotheses_stand hs (suc l) (under_proof h scope) (under-types l h scope told) (under-terms l h scope terms) m.1 f.1,
     )
 
-    conclusion_stands : (hs : List Term) (l : ℕ) (scope : Scope) (c : Term) → TypesTold names (length names + length variables + l) scope.types → TermsTold names variables (length names + length variables + l) scope → TermMeant d symbols c → IsFormula symbols (IsIn names) (IsIn variables) c
+    conclusion_stands : (hs : List Term) (l : ℕ) (scope : Scope) (c : Term) → TypesTold names (length names + length variables + l) scope.types
+        → TermsTold names variables (length names + length variables + l) scope → TermMeant d symbols c → IsFormula symbols (IsIn names) (IsIn variables) c
         → StandsForTerm d (close_term names variables c) (place (length names) (length variables) (l + length hs) 0) (term_tree symbols (under_proofs hs scope) c)
     conclusion_stands [] l scope c told terms m f =
         let z : l ≡ l + 0 = omega arith in
@@ -332,7 +353,8 @@ module _ (d : List Declaration) (symbols : Symbols) (names : List Name) where
         (conclusion_stands hs (suc l) (under_proof h scope) c (under-types l h scope told) (under-terms l h scope terms) m f)
 
 -- The tree of a sequent stands for its closed form
-pub sequent_tree-Enc : (d : List Declaration) (symbols : Symbols) (s : Sequent) → IsSequent s → SequentWithin s → HasInstances symbols s → AllByRecursion (TermMeant d symbols) (terms_of s) → Enc d (closed_form s) (sequent_tree symbols s)
+pub sequent_tree-Enc : (d : List Declaration) (symbols : Symbols) (s : Sequent) → IsSequent s → SequentWithin s → HasInstances symbols s
+    → AllByRecursion (TermMeant d symbols) (terms_of s) → Enc d (closed_form s) (sequent_tree symbols s)
 sequent_tree-Enc d symbols s is within instances meant =
     let names = type_variables_of s in
     let variables = free_variables_of s in

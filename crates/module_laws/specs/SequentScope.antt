@@ -38,7 +38,8 @@ pub record IsPremise (m : List Declaration) (symbols : Symbols) (symbol : ℕ) (
 abbrev pub with_proofs : (Term → Tree) → Scope → Scope
 with_proofs proofs scope = record { types = scope.types; terms = scope.terms; proofs = proofs; bounds = scope.bounds }
 
-pub term_tree-proofs : (symbols : Symbols) (proofs : Term → Tree) (scope : Scope) (t : Term) → term_tree symbols scope t ≡ term_tree symbols (with_proofs proofs scope) t
+pub term_tree-proofs : (symbols : Symbols) (proofs : Term → Tree) (scope : Scope) (t : Term)
+    → term_tree symbols scope t ≡ term_tree symbols (with_proofs proofs scope) t
 term_tree-proofs symbols proofs scope (free n t) = refl
 term_tree-proofs symbols proofs scope (bound k) = refl
 term_tree-proofs symbols proofs scope (constant n t) = refl
@@ -53,7 +54,8 @@ free_types-over m symbols (constant n t) h = tt
 free_types-over m symbols (app f x) h = All-append _ (free_places f) (free_places x) (free_types-over m symbols f h.0) (free_types-over m symbols x h.1)
 free_types-over m symbols (lam t b) h = free_types-over m symbols b h.1
 
-all_free_types-over : (m : List Declaration) (symbols : Symbols) (ts : List Term) → AllByRecursion (TermOver m symbols) ts → AllByRecursion (λ v. TypeOver m symbols v.1) (flat_map free_places ts)
+all_free_types-over : (m : List Declaration) (symbols : Symbols) (ts : List Term) → AllByRecursion (TermOver m symbols) ts
+    → AllByRecursion (λ v. TypeOver m symbols v.1) (flat_map free_places ts)
 all_free_types-over m symbols [] h = tt
 all_free_types-over m symbols (t ∷ ts) h = All-append _ (free_places t) (flat_map free_places ts) (free_types-over m symbols t h.0) (all_free_types-over m symbols ts h.1)
 
@@ -74,6 +76,7 @@ module _ (m : List Declaration) (symbols : Symbols) (s : Sequent) (over : Sequen
 
 module _ (m : List Declaration) (closed : IsClosed m) where
   -- an abstraction over the terms of a type is a term of a type of functions
-  pub Typed-abstraction : {G : List Tree} {t : Tree} (a b : Tree) → Typed m G a types → Typed m G b types → Typed m (term_of a ∷ G) t (lift 1 (term_of b)) → Typed m G (Lam (term_of a) t) (term_of (arr_of a b))
+  pub Typed-abstraction : {G : List Tree} {t : Tree} (a b : Tree) → Typed m G a types → Typed m G b types → Typed m (term_of a ∷ G) t (lift 1 (term_of b))
+      → Typed m G (Lam (term_of a) t) (term_of (arr_of a b))
   Typed-abstraction a b ha hb ht =
       of_conversion (of_abstraction (of_product (Typed-term_of m ha) (weaken m closed (Typed-term_of m hb)) is_type) is_type ht) (back (rule refl) same) (Typed-term_of m (Typed-arr_of m ha hb)) is_type

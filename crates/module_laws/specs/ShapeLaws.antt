@@ -63,7 +63,8 @@ pub data Argument (m : List Declaration) (G : List Tree) : Tree → Tree → Typ
   a_type : {x : Tree} → IsSimple m G x → Argument m G x types
   a_term : {x a : Tree} → IsTerm m G x a → Argument m G x (term_of a)
   a_proof : {x E : Tree} → IsProof m false G x E → Argument m G x E
-  a_definition : {a c t : Tree} → IsConstant m G c (term_of a) → IsTerm m G t a → head_step m c ≡ Some t → IsProof m false G (refl_of a t) (proof_of (eq_of a t t)) → Argument m G (refl_of a t) (proof_of (eq_of a c t))
+  a_definition : {a c t : Tree} → IsConstant m G c (term_of a) → IsTerm m G t a → head_step m c ≡ Some t
+      → IsProof m false G (refl_of a t) (proof_of (eq_of a t t)) → Argument m G (refl_of a t) (proof_of (eq_of a c t))
 
 -- the trees are shaped arguments for the domains after the substitution, each with those before it put in
 abbrev pub AreAfter : List Declaration → List Tree → (ℕ → Tree) → List Tree → List Tree → Type 0
@@ -86,7 +87,8 @@ module _ (m : List Declaration) (G : List Tree) where
   at_one h (a_definition c t s r) e = at_a_definition h c t s r e
 
   -- a call at arguments
-  pub shaped-at : (s : ℕ → Tree) (domains xs : List Tree) (f B : Tree) → IsProof m true G f (sub s (products domains B)) → AreAfter m G s domains xs → IsProof m true G (applied f xs) (sub (after s xs) B)
+  pub shaped-at : (s : ℕ → Tree) (domains xs : List Tree) (f B : Tree) → IsProof m true G f (sub s (products domains B)) → AreAfter m G s domains xs
+      → IsProof m true G (applied f xs) (sub (after s xs) B)
   shaped-at s [] [] f B h k = h
   shaped-at s [] (x ∷ xs) f B h k = absurd k
   shaped-at s (a ∷ domains) [] f B h k = absurd k
@@ -103,7 +105,8 @@ module _ (m : List Declaration) (G : List Tree) where
   put_at-types d x (suc k) = ap (Pi types) (put_at-types (suc d) x k)
 
   -- an operator at simple types is one
-  pub operator-at : (f : Tree) (xs : List Tree) → IsConstant m G f (products (replicate (length xs) types) types) → AllByRecursion (λ x. IsSimple m G x) xs → IsSimple m G (applied f xs)
+  pub operator-at : (f : Tree) (xs : List Tree) → IsConstant m G f (products (replicate (length xs) types) types) → AllByRecursion (λ x. IsSimple m G x) xs
+      → IsSimple m G (applied f xs)
   operator-at f [] h k = h
   operator-at f (x ∷ xs) h k = operator-at (App f x) xs (at_type h k.0 (put_at-types 0 x (length xs))) k.1
 
@@ -117,11 +120,13 @@ AreDeclared-append m G [] es h k = k
 AreDeclared-append m G (d ∷ ds) es h k = (h.0, AreDeclared-append m (d ∷ G) ds es h.1 k)
 
 module _ (m : List Declaration) where
-  pub declared-products : {G : List Tree} (domains : List Tree) {t : Tree} → AreDeclared m G domains → IsDeclared m (under G domains) t → IsDeclared m G (products domains t)
+  pub declared-products : {G : List Tree} (domains : List Tree) {t : Tree} → AreDeclared m G domains → IsDeclared m (under G domains) t
+      → IsDeclared m G (products domains t)
   declared-products [] h ht = ht
   declared-products (a ∷ domains) h ht = of_products h.0 (declared-products domains h.1 ht)
 
-  pub proof-abstractions : {G : List Tree} (domains : List Tree) {t A : Tree} → AreDeclared m G domains → IsProof m false (under G domains) t A → IsProof m false G (abstractions domains t) (products domains A)
+  pub proof-abstractions : {G : List Tree} (domains : List Tree) {t A : Tree} → AreDeclared m G domains → IsProof m false (under G domains) t A
+      → IsProof m false G (abstractions domains t) (products domains A)
   proof-abstractions [] h ht = ht
   proof-abstractions (a ∷ domains) h ht = under_binder h.0 (proof-abstractions domains h.1 ht)
 

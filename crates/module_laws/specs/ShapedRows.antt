@@ -26,7 +26,8 @@ use Rattle.module_laws.specs.ShapedSequents.{HasEntry, under_proof-shaped, under
 
 module _ (m : List Declaration) where
   -- `prop_ext p q h k` proves p = q, from h of q under p and k of p under q
-  pub shaped-prop_ext : {G : List Tree} {p q h k : Tree} → IsTerm m G p bools → IsTerm m G q bools → IsProof m false G h (Pi (proof_of p) (proof_of (lift 1 q))) → IsProof m false G k (Pi (proof_of q) (proof_of (lift 1 p)))
+  pub shaped-prop_ext : {G : List Tree} {p q h k : Tree} → IsTerm m G p bools → IsTerm m G q bools → IsProof m false G h (Pi (proof_of p) (proof_of (lift 1 q)))
+      → IsProof m false G k (Pi (proof_of q) (proof_of (lift 1 p)))
       → IsProof m false G (applied (Sym prop_ext_symbol) (p ∷ q ∷ h ∷ k ∷ [])) (proof_of (eq_of bools p q))
   shaped-prop_ext {G = G} {p = p} {q = q} {h = h} {k = k} hp hq hh hk =
       let domains = term_of bools ∷ term_of bools ∷ Pi (proof_of (Var 1)) (proof_of (Var 1)) ∷ Pi (proof_of (Var 1)) (proof_of (Var 3)) ∷ [] in
@@ -41,7 +42,8 @@ module _ (m : List Declaration) where
         (a_type ha, (a_term (simp lift_zero hx), (a_term (simp lift_zero hy), (a_proof (simp lift_zero hh), tt {0})))) in
         called (simp lift_zero at c)
 
-    pub shaped-trans_of : {G : List Tree} {a x y z g h : Tree} → IsSimple m G a → IsTerm m G x a → IsTerm m G y a → IsTerm m G z a → IsProof m false G g (proof_of (eq_of a x y)) → IsProof m false G h (proof_of (eq_of a y z))
+    pub shaped-trans_of : {G : List Tree} {a x y z g h : Tree} → IsSimple m G a → IsTerm m G x a → IsTerm m G y a → IsTerm m G z a
+        → IsProof m false G g (proof_of (eq_of a x y)) → IsProof m false G h (proof_of (eq_of a y z))
         → IsProof m false G (applied (Sym trans_symbol) (a ∷ x ∷ y ∷ z ∷ g ∷ h ∷ [])) (proof_of (eq_of a x z))
     shaped-trans_of {G = G} {a = a} {x = x} {y = y} {z = z} {g = g} {h = h} ha hx hy hz hg hh =
         let c = shaped-call m G trans_domains (a ∷ x ∷ y ∷ z ∷ g ∷ h ∷ []) trans_symbol (proof_of (eq_of (Var 5) (Var 4) (Var 2))) lemmas.transitivity tt refl
@@ -66,11 +68,13 @@ module _ (m : List Declaration) (closed : IsClosed m) (symbols : Symbols) (G : L
   type-here a o = type_tree-shaped m G symbols scope.types stands.is.types a o
 
   -- a premise whose hypotheses are all here
-  pub premise-here : (k : ℕ) (one : Sequent) → IsPremise m symbols k one → ((h : Term) → IsIn one.hypotheses h → IsIn hypotheses h) → Proves (theorem_tree scope k one) one.conclusion
+  pub premise-here : (k : ℕ) (one : Sequent) → IsPremise m symbols k one → ((h : Term) → IsIn one.hypotheses h → IsIn hypotheses h)
+      → Proves (theorem_tree scope k one) one.conclusion
   premise-here k one p inside = premise-shaped m closed symbols G scope stands.is k one p (λ h i. laws.Argument.a_proof (entry-proof m (stands.proofs h (inside h i))))
 
   -- refl
-  pub refl-row : (a : HolType) (t : Term) → TypeOver m symbols a → TermOver m symbols t → HasType t a → Proves (refl_of (type_tree symbols scope.types a) (term_tree symbols scope t)) (equation a t t)
+  pub refl-row : (a : HolType) (t : Term) → TypeOver m symbols a → TermOver m symbols t → HasType t a
+      → Proves (refl_of (type_tree symbols scope.types a) (term_tree symbols scope t)) (equation a t t)
   refl-row a t oa ot h = shaped-refl m (type-here a oa) (term-here t a ot h)
 
   -- assume
@@ -79,7 +83,8 @@ module _ (m : List Declaration) (closed : IsClosed m) (symbols : Symbols) (G : L
 
   module _ (lemmas : HasLemmas m) where
     -- trans
-    pub trans-row : (a : HolType) (x y z : Term) (j k : ℕ) (one two : Sequent) → IsPremise m symbols j one → IsPremise m symbols k two → one.conclusion ≡ equation a x y → two.conclusion ≡ equation a y z
+    pub trans-row : (a : HolType) (x y z : Term) (j k : ℕ) (one two : Sequent) → IsPremise m symbols j one → IsPremise m symbols k two
+        → one.conclusion ≡ equation a x y → two.conclusion ≡ equation a y z
         → ((h : Term) → IsIn one.hypotheses h → IsIn hypotheses h) → ((h : Term) → IsIn two.hypotheses h → IsIn hypotheses h)
         → Proves (trans_tree symbols scope a x y z (j, one) (k, two)) (equation a x z)
     trans-row a x y z j k one two p q e f i l =
@@ -92,7 +97,8 @@ module _ (m : List Declaration) (closed : IsClosed m) (symbols : Symbols) (G : L
         (subst (Proves (theorem_tree scope k two)) f (premise-here k two q l))
 
     -- sym
-    pub sym-row : (a : HolType) (x y : Term) (j : ℕ) (one : Sequent) → IsPremise m symbols j one → one.conclusion ≡ equation a x y → ((h : Term) → IsIn one.hypotheses h → IsIn hypotheses h)
+    pub sym-row : (a : HolType) (x y : Term) (j : ℕ) (one : Sequent) → IsPremise m symbols j one → one.conclusion ≡ equation a x y
+        → ((h : Term) → IsIn one.hypotheses h → IsIn hypotheses h)
         → Proves (sym_tree symbols scope a x y (j, one)) (equation a y x)
     sym-row a x y j one p e i =
         let parts = equation-over m symbols a x y (subst (TermOver m symbols) e p.over.conclusion) in
@@ -101,7 +107,8 @@ module _ (m : List Declaration) (closed : IsClosed m) (symbols : Symbols) (G : L
         (subst (Proves (theorem_tree scope j one)) e (premise-here j one p i))
 
   -- eqMp
-  pub eq_mp-row : (p q : Term) (j k : ℕ) (one two : Sequent) → IsPremise m symbols j one → IsPremise m symbols k two → one.conclusion ≡ equation bool p q → two.conclusion ≡ p
+  pub eq_mp-row : (p q : Term) (j k : ℕ) (one two : Sequent) → IsPremise m symbols j one → IsPremise m symbols k two → one.conclusion ≡ equation bool p q
+      → two.conclusion ≡ p
       → ((h : Term) → IsIn one.hypotheses h → IsIn hypotheses h) → ((h : Term) → IsIn two.hypotheses h → IsIn hypotheses h)
       → Proves (eq_mp_tree symbols scope p q (j, one) (k, two)) q
   eq_mp-row p q j k one two a b e f i l =
@@ -128,7 +135,8 @@ module _ (m : List Declaration) (closed : IsClosed m) (symbols : Symbols) (G : L
       (subst (Proves (theorem_tree scope k two)) e (premise-here k two q l))
 
   -- restate
-  pub restate-row : (j : ℕ) (one : Sequent) → IsPremise m symbols j one → ((h : Term) → IsIn one.hypotheses h → IsIn hypotheses h) → Proves (theorem_tree scope j one) one.conclusion
+  pub restate-row : (j : ℕ) (one : Sequent) → IsPremise m symbols j one → ((h : Term) → IsIn one.hypotheses h → IsIn hypotheses h)
+      → Proves (theorem_tree scope j one) one.conclusion
   restate-row j one p i = premise-here j one p i
 
   -- under a hypothesis more, a premise proves what it says outside
@@ -144,7 +152,8 @@ module _ (m : List Declaration) (closed : IsClosed m) (symbols : Symbols) (G : L
       under_binder (of_proofs (term-here p bool op tp)) (subst (λ t. IsProof m false (A ∷ G) (theorem_tree (under_proof p scope) k two) (proof_of t)) same inner)
 
   -- deductAntisym
-  pub prop_ext-row : (p q : Term) (j k : ℕ) (one two : Sequent) → IsPremise m symbols j one → IsPremise m symbols k two → one.conclusion ≡ p → two.conclusion ≡ q
+  pub prop_ext-row : (p q : Term) (j k : ℕ) (one two : Sequent) → IsPremise m symbols j one → IsPremise m symbols k two → one.conclusion ≡ p
+      → two.conclusion ≡ q
       → ((h : Term) → IsIn one.hypotheses h → (h ≡ q) ⊎ IsIn hypotheses h) → ((h : Term) → IsIn two.hypotheses h → (h ≡ p) ⊎ IsIn hypotheses h)
       → Proves (prop_ext_tree symbols scope p q (j, one) (k, two)) (equation bool p q)
   prop_ext-row p q j k one two a b e f i l =
@@ -155,13 +164,15 @@ module _ (m : List Declaration) (closed : IsClosed m) (symbols : Symbols) (G : L
       shaped-prop_ext m (term-here p bool op tp) (term-here q bool oq tq) (under-hypothesis p q k two b f op tp l) (under-hypothesis q p j one a e oq tq i)
 
   -- proveHyp: in the scope of premise 2 the proof of p is premise 1
-  set_proof-Argument : (p : Term) (x : Tree) (h : Term) → Proves x p → ((h ≡ p) ⊎ HasEntry symbols G scope h) → Argument m G ((set_proof p x scope).proofs h) (proof_of (term_tree symbols (set_proof p x scope) h))
+  set_proof-Argument : (p : Term) (x : Tree) (h : Term) → Proves x p → ((h ≡ p) ⊎ HasEntry symbols G scope h)
+      → Argument m G ((set_proof p x scope).proofs h) (proof_of (term_tree symbols (set_proof p x scope) h))
   set_proof-Argument p x h hx either = go (term_eq h p) (term_eq-Decides h p).0 (term_eq-Decides h p).1 either
     where
       is : (g : Term) → proof_of (term_tree symbols scope g) ≡ proof_of (term_tree symbols (set_proof p x scope) g)
       is g = ap proof_of (term_tree-proofs symbols (set_proof p x scope).proofs scope g)
 
-      go : (b : Bool) → (b ≡ true → h ≡ p) → (h ≡ p → b ≡ true) → ((h ≡ p) ⊎ HasEntry symbols G scope h) → Argument m G (cond b x (scope.proofs h)) (proof_of (term_tree symbols (set_proof p x scope) h))
+      go : (b : Bool) → (b ≡ true → h ≡ p) → (h ≡ p → b ≡ true) → ((h ≡ p) ⊎ HasEntry symbols G scope h)
+          → Argument m G (cond b x (scope.proofs h)) (proof_of (term_tree symbols (set_proof p x scope) h))
       go true e f either = subst (Argument m G x) (is p ∙ ap (λ g. proof_of (term_tree symbols (set_proof p x scope) g)) (sym (e refl))) (laws.Argument.a_proof hx)
       go false e f (inl k) = absurd (let yes = f k in cc)
       go false e f (inr k) = subst (Argument m G (scope.proofs h)) (is h) (laws.Argument.a_proof (entry-proof m k))

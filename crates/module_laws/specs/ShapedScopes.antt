@@ -71,7 +71,8 @@ module _ (m : List Declaration) (closed : IsClosed m) (symbols : Symbols) where
   pub inside-shaped : (G : List Tree) (A : Tree) (scope : Scope) → ShapedScope m symbols G scope → ShapedScope m symbols (A ∷ G) (inside scope)
   inside-shaped G A scope h = let l = lifted-shaped G A scope h in record { types = l.types; terms = l.terms }
 
-  bounds-inside : (G : List Tree) (scope : Scope) (binders : List HolType) (t : HolType) → ShapedTypes m G scope.types → TypeOver m symbols t → ShapedBounds m symbols G scope binders
+  bounds-inside : (G : List Tree) (scope : Scope) (binders : List HolType) (t : HolType) → ShapedTypes m G scope.types → TypeOver m symbols t
+      → ShapedBounds m symbols G scope binders
       → ShapedBounds m symbols (term_of (type_tree symbols scope.types t) ∷ G) (inside scope) (t ∷ binders)
   bounds-inside G scope binders t is o b zero a e =
       let A = type_tree symbols scope.types t in
@@ -81,7 +82,8 @@ module _ (m : List Declaration) (closed : IsClosed m) (symbols : Symbols) where
       subst (IsTerm m (term_of (type_tree symbols scope.types t) ∷ G) (lift 1 (scope.bounds k))) (type_tree-lift symbols scope.types a) (term-weaken m closed (b k a e))
 
   -- the tree of a constant has the tree of its type
-  pub constant_tree-shaped : (G : List Tree) (scope : TypeScope) → ShapedTypes m G scope → (n : Name) (t : HolType) → ConstantOver m symbols n t → IsConstant m G (constant_tree symbols scope n t) (term_of (type_tree symbols scope t))
+  pub constant_tree-shaped : (G : List Tree) (scope : TypeScope) → ShapedTypes m G scope → (n : Name) (t : HolType) → ConstantOver m symbols n t
+      → IsConstant m G (constant_tree symbols scope n t) (term_of (type_tree symbols scope t))
   constant_tree-shaped G scope is n t h =
       let generic = generic_type symbols n in
       let pairs = h.instance.0 in
@@ -106,7 +108,8 @@ module _ (m : List Declaration) (closed : IsClosed m) (symbols : Symbols) where
       subst₂ (λ xs a. IsConstant m G (applied (Sym (constant_symbol symbols n)) xs) (term_of a)) arguments result call
 
   -- Translated terms are shaped
-  pub term_tree-shaped : (G : List Tree) (scope : Scope) (binders : List HolType) → ShapedScope m symbols G scope → ShapedBounds m symbols G scope binders → ((k : ℕ) (a : HolType) → slice_get binders k ≡ Some a → TypeOver m symbols a)
+  pub term_tree-shaped : (G : List Tree) (scope : Scope) (binders : List HolType) → ShapedScope m symbols G scope → ShapedBounds m symbols G scope binders
+      → ((k : ℕ) (a : HolType) → slice_get binders k ≡ Some a → TypeOver m symbols a)
       → (t : Term) (a : HolType) → TermOver m symbols t → type_under binders t ≡ Some a → IsTerm m G (term_tree symbols scope t) (type_tree symbols scope.types a)
   term_tree-shaped G scope binders is b o (free n t) a h e = subst (λ u. IsTerm m G (scope.terms (n, t)) (type_tree symbols scope.types u)) (same_Some _ _ e) (is.terms (n, t) h)
   term_tree-shaped G scope binders is b o (bound k) a h e = b k a e

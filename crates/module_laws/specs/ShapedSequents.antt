@@ -59,7 +59,8 @@ module _ (m : List Declaration) (closed : IsClosed m) where
         go true = type_variable refl
         go false = simple-weaken m closed (h k)
 
-    pub under_types-shaped : (ns : List Name) (G : List Tree) (scope : TypeScope) → ShapedTypes m G scope → ShapedTypes m (under G (map (λ n. types) ns)) (under_types ns scope)
+    pub under_types-shaped : (ns : List Name) (G : List Tree) (scope : TypeScope) → ShapedTypes m G scope
+        → ShapedTypes m (under G (map (λ n. types) ns)) (under_types ns scope)
     under_types-shaped [] G scope h = h
     under_types-shaped (n ∷ ns) G scope h = under_types-shaped ns (types ∷ G) (under_type n scope) (under_type-shaped G n scope h)
 
@@ -72,7 +73,8 @@ module _ (m : List Declaration) (closed : IsClosed m) where
     filled-shaped G scope h = record { types = h; terms = λ v o. filler-shaped (type_tree symbols scope v.1) (type_tree-shaped m G symbols scope h v.1 o) }
 
     -- under the binder of a variable of a type over the symbols
-    pub under_term-shaped : (G : List Tree) (v : Variable) (scope : Scope) → TypeOver m symbols v.1 → ShapedScope m symbols G scope → ShapedScope m symbols (term_of (type_tree symbols scope.types v.1) ∷ G) (under_term v scope)
+    pub under_term-shaped : (G : List Tree) (v : Variable) (scope : Scope) → TypeOver m symbols v.1 → ShapedScope m symbols G scope
+        → ShapedScope m symbols (term_of (type_tree symbols scope.types v.1) ∷ G) (under_term v scope)
     under_term-shaped G v scope ov h = record { types = l.types; terms = λ w o. go w (variable_eq w v) (variable_eq-Decides w v).0 (l.terms w o) }
       where
         A : Tree
@@ -81,44 +83,52 @@ module _ (m : List Declaration) (closed : IsClosed m) where
         l : ShapedScope m symbols (term_of A ∷ G) (lifted scope)
         l = lifted-shaped m closed symbols G (term_of A) scope h
 
-        go : (w : Variable) (b : Bool) → (b ≡ true → w ≡ v) → IsTerm m (term_of A ∷ G) (lift 1 (scope.terms w)) (type_tree symbols (lifted_types scope.types) w.1)
+        go : (w : Variable) (b : Bool) → (b ≡ true → w ≡ v)
+            → IsTerm m (term_of A ∷ G) (lift 1 (scope.terms w)) (type_tree symbols (lifted_types scope.types) w.1)
             → IsTerm m (term_of A ∷ G) (cond b (Var 0) (lift 1 (scope.terms w))) (type_tree symbols (lifted_types scope.types) w.1)
         go w true e t =
             let same : lift 1 A ≡ type_tree symbols (lifted_types scope.types) w.1 = type_tree-lift symbols scope.types v.1 ∙ ap (λ (u : Variable). type_tree symbols (lifted_types scope.types) u.1) (sym (e refl)) in
             of_entry refl same (subst (IsSimple m (term_of A ∷ G)) same (simple-weaken m closed (type_tree-shaped m G symbols scope.types h.types v.1 ov)))
         go w false e t = t
 
-    under_terms-AreDeclared : (vs : List Variable) (G : List Tree) (scope : Scope) → ShapedScope m symbols G scope → AllByRecursion (λ v. TypeOver m symbols v.1) vs → AreDeclared m G (term_domains symbols vs scope)
+    under_terms-AreDeclared : (vs : List Variable) (G : List Tree) (scope : Scope) → ShapedScope m symbols G scope
+        → AllByRecursion (λ v. TypeOver m symbols v.1) vs → AreDeclared m G (term_domains symbols vs scope)
     under_terms-AreDeclared [] G scope h o = tt
     under_terms-AreDeclared (v ∷ vs) G scope h o = (
       of_terms (type_tree-shaped m G symbols scope.types h.types v.1 o.0),
       under_terms-AreDeclared vs (term_of (type_tree symbols scope.types v.1) ∷ G) (under_term v scope) (under_term-shaped G v scope o.0 h) o.1,
     )
 
-    under_terms-shaped : (vs : List Variable) (G : List Tree) (scope : Scope) → ShapedScope m symbols G scope → AllByRecursion (λ v. TypeOver m symbols v.1) vs → ShapedScope m symbols (under G (term_domains symbols vs scope)) (under_terms vs scope)
+    under_terms-shaped : (vs : List Variable) (G : List Tree) (scope : Scope) → ShapedScope m symbols G scope → AllByRecursion (λ v. TypeOver m symbols v.1) vs
+        → ShapedScope m symbols (under G (term_domains symbols vs scope)) (under_terms vs scope)
     under_terms-shaped [] G scope h o = h
     under_terms-shaped (v ∷ vs) G scope h o = under_terms-shaped vs (term_of (type_tree symbols scope.types v.1) ∷ G) (under_term v scope) (under_term-shaped G v scope o.0 h) o.1
 
-    pub under_proof-shaped : (G : List Tree) (A : Tree) (p : Term) (scope : Scope) → ShapedScope m symbols G scope → ShapedScope m symbols (A ∷ G) (under_proof p scope)
+    pub under_proof-shaped : (G : List Tree) (A : Tree) (p : Term) (scope : Scope) → ShapedScope m symbols G scope
+        → ShapedScope m symbols (A ∷ G) (under_proof p scope)
     under_proof-shaped G A p scope h = let l = lifted-shaped m closed symbols G A scope h in record { types = l.types; terms = l.terms }
 
     -- a formula over the symbols is a term of type bool
-    pub formula-shaped : (G : List Tree) (scope : Scope) → ShapedScope m symbols G scope → (p : Term) → TermOver m symbols p → HasType p bool → IsTerm m G (term_tree symbols scope p) bools
+    pub formula-shaped : (G : List Tree) (scope : Scope) → ShapedScope m symbols G scope → (p : Term) → TermOver m symbols p → HasType p bool
+        → IsTerm m G (term_tree symbols scope p) bools
     formula-shaped G scope h p o t = term_tree-shaped m closed symbols G scope [] h (λ k a e. absurd (cc)) (λ k a e. absurd (cc)) p bool o t
 
-    under_proofs-AreDeclared : (hs : List Term) (G : List Tree) (scope : Scope) → ShapedScope m symbols G scope → AllByRecursion (TermOver m symbols) hs → AllByRecursion (λ h. HasType h bool) hs → AreDeclared m G (proof_domains symbols hs scope)
+    under_proofs-AreDeclared : (hs : List Term) (G : List Tree) (scope : Scope) → ShapedScope m symbols G scope → AllByRecursion (TermOver m symbols) hs
+        → AllByRecursion (λ h. HasType h bool) hs → AreDeclared m G (proof_domains symbols hs scope)
     under_proofs-AreDeclared [] G scope h o t = tt
     under_proofs-AreDeclared (p ∷ ps) G scope h o t = (
       of_proofs (formula-shaped G scope h p o.0 t.0),
       under_proofs-AreDeclared ps (proof_of (term_tree symbols scope p) ∷ G) (under_proof p scope) (under_proof-shaped G (proof_of (term_tree symbols scope p)) p scope h) o.1 t.1,
     )
 
-    under_proofs-shaped : (hs : List Term) (G : List Tree) (scope : Scope) → ShapedScope m symbols G scope → ShapedScope m symbols (under G (proof_domains symbols hs scope)) (under_proofs hs scope)
+    under_proofs-shaped : (hs : List Term) (G : List Tree) (scope : Scope) → ShapedScope m symbols G scope
+        → ShapedScope m symbols (under G (proof_domains symbols hs scope)) (under_proofs hs scope)
     under_proofs-shaped [] G scope h = h
     under_proofs-shaped (p ∷ ps) G scope h = under_proofs-shaped ps (proof_of (term_tree symbols scope p) ∷ G) (under_proof p scope) (under_proof-shaped G (proof_of (term_tree symbols scope p)) p scope h)
 
     -- under the binder of a hypothesis that and each other that had an entry have one
-    pub under_proof-HasEntry : (G : List Tree) (p : Term) (scope : Scope) (h : Term) → ((h ≡ p) ⊎ HasEntry symbols G scope h) → HasEntry symbols (proof_of (term_tree symbols scope p) ∷ G) (under_proof p scope) h
+    pub under_proof-HasEntry : (G : List Tree) (p : Term) (scope : Scope) (h : Term) → ((h ≡ p) ⊎ HasEntry symbols G scope h)
+        → HasEntry symbols (proof_of (term_tree symbols scope p) ∷ G) (under_proof p scope) h
     under_proof-HasEntry G p scope h either = go (term_eq h p) (term_eq-Decides h p).0 (term_eq-Decides h p).1 either
       where
         D : List Tree
@@ -127,13 +137,15 @@ module _ (m : List Declaration) (closed : IsClosed m) where
         is : (g : Term) → lift 1 (term_tree symbols scope g) ≡ term_tree symbols (under_proof p scope) g
         is g = term_tree-lift symbols scope g ∙ term_tree-proofs symbols (under_proof p scope).proofs (lifted scope) g
 
-        go : (b : Bool) → (b ≡ true → h ≡ p) → (h ≡ p → b ≡ true) → ((h ≡ p) ⊎ HasEntry symbols G scope h) → IsEntry D (cond b (Var 0) (lift 1 (scope.proofs h))) (term_tree symbols (under_proof p scope) h)
+        go : (b : Bool) → (b ≡ true → h ≡ p) → (h ≡ p → b ≡ true) → ((h ≡ p) ⊎ HasEntry symbols G scope h)
+            → IsEntry D (cond b (Var 0) (lift 1 (scope.proofs h))) (term_tree symbols (under_proof p scope) h)
         go true e f either =
             record { number = 0; declared = term_tree symbols scope p; is = refl; at = refl; lifted = ap proof_of (is p ∙ ap (λ g. term_tree symbols (under_proof p scope) g) (sym (e refl))) }
         go false e f (inl k) = absurd (let yes = f k in cc)
         go false e f (inr k) = subst (IsEntry D (lift 1 (scope.proofs h))) (is h) (entry-weaken (proof_of (term_tree symbols scope p)) k)
 
-    under_proofs-HasEntry : (hs : List Term) (G : List Tree) (scope : Scope) (h : Term) → (IsIn hs h ⊎ HasEntry symbols G scope h) → HasEntry symbols (under G (proof_domains symbols hs scope)) (under_proofs hs scope) h
+    under_proofs-HasEntry : (hs : List Term) (G : List Tree) (scope : Scope) (h : Term) → (IsIn hs h ⊎ HasEntry symbols G scope h)
+        → HasEntry symbols (under G (proof_domains symbols hs scope)) (under_proofs hs scope) h
     under_proofs-HasEntry [] G scope h (inl k) = absurd k
     under_proofs-HasEntry [] G scope h (inr k) = k
     under_proofs-HasEntry (p ∷ ps) G scope h (inl (inl e)) = under_proofs-HasEntry ps (proof_of (term_tree symbols scope p) ∷ G) (under_proof p scope) h (inr (under_proof-HasEntry G p scope h (inl e)))

@@ -41,7 +41,8 @@ module _ (m : List Declaration) (G : List Tree) (symbols : Symbols) (other : Sco
     terms-after vs (under_term v scope) (cons (other.terms v) s) (TypesAgree-under m G symbols other P Q s (other.terms v) scope a) k.1 h.1,
   )
 
-  proofs-after : (hs : List Term) (scope : Scope) (s : ℕ → Tree) → TypesAgree m G symbols other P Q s scope → TermsAgree m G symbols other P Q s scope → AllByRecursion (IsFormula symbols P Q) hs
+  proofs-after : (hs : List Term) (scope : Scope) (s : ℕ → Tree) → TypesAgree m G symbols other P Q s scope → TermsAgree m G symbols other P Q s scope
+      → AllByRecursion (IsFormula symbols P Q) hs
       → AllByRecursion (λ h. Argument m G (other.proofs h) (proof_of (term_tree symbols other h))) hs → AreAfter m G s (proof_domains symbols hs scope) (map other.proofs hs)
   proofs-after [] scope s a b f h = tt
   proofs-after (p ∷ ps) scope s a b f h = (

@@ -54,7 +54,8 @@ module _ (m : List Declaration) where
     declared-typed (of_proofs h) = Typed-proof_of m (term-typed h)
     declared-typed (of_products a b) = of_product (declared-typed a) (declared-typed b) is_type
 
-    equation-sorted : {G : List Tree} {a x y : Tree} → Typed m G a types → Typed m G x (term_of a) → Typed m G y (term_of a) → Typed m G (proof_of (eq_of a x y)) SortType
+    equation-sorted : {G : List Tree} {a x y : Tree} → Typed m G a types → Typed m G x (term_of a) → Typed m G y (term_of a)
+        → Typed m G (proof_of (eq_of a x y)) SortType
     equation-sorted ha hx hy = Typed-proof_of m (Typed-eq_of m closed ha hx hy)
 
     -- an equation of two abstractions at the variable is one of their bodies

@@ -40,23 +40,27 @@ module _ (symbols : Symbols) where
   statement-proofs [] c scope proofs = ap proof_of (term_tree-proofs symbols proofs scope c)
   statement-proofs (h ∷ hs) c scope proofs = ap₂ (λ x y. Pi (proof_of x) y) (term_tree-proofs symbols proofs scope h) (statement-proofs hs c (lifted scope) (λ g. lift 1 (proofs g)))
 
-  pub rest-statement : (hs : List Term) (c : Term) (scope : Scope) → products (proof_domains symbols hs scope) (proof_of (term_tree symbols (under_proofs hs scope) c)) ≡ statement_tree symbols hs c scope
+  pub rest-statement : (hs : List Term) (c : Term) (scope : Scope)
+      → products (proof_domains symbols hs scope) (proof_of (term_tree symbols (under_proofs hs scope) c)) ≡ statement_tree symbols hs c scope
   rest-statement [] c scope = refl
   rest-statement (h ∷ hs) c scope = ap (Pi (proof_of (term_tree symbols scope h))) (rest-statement hs c (under_proof h scope) ∙ sym (statement-proofs hs c (lifted scope) (under_proof h scope).proofs))
 
   lifted-through : (s : ℕ → Tree) (scope : Scope) → through (ups s) (lifted scope) ≡ lifted (through s scope)
   lifted-through s scope = same_scope (through (ups s) (lifted scope)) (lifted (through s scope)) (λ n. sub-lift s (scope.types n)) (λ v. sub-lift s (scope.terms v)) (λ h. sub-lift s (scope.proofs h)) (λ k. sub-lift s (scope.bounds k))
 
-  statement-sub : (s : ℕ → Tree) (hs : List Term) (c : Term) (scope : Scope) → trees.sub s (statement_tree symbols hs c scope) ≡ statement_tree symbols hs c (through s scope)
+  statement-sub : (s : ℕ → Tree) (hs : List Term) (c : Term) (scope : Scope)
+      → trees.sub s (statement_tree symbols hs c scope) ≡ statement_tree symbols hs c (through s scope)
   statement-sub s [] c scope = ap proof_of (term_tree-sub symbols s scope c)
   statement-sub s (h ∷ hs) c scope =
       ap₂ (λ x y. Pi (proof_of x) y) (term_tree-sub symbols s scope h) (statement-sub (ups s) hs c (lifted scope) ∙ ap (statement_tree symbols hs c) (lifted-through s scope))
 
   module _ (P : Name → Type 0) (Q : Variable → Type 0) where
-    formula-agrees : (scope other : Scope) → Agrees symbols P Q 0 scope other → (h : Term) → IsFormula symbols P Q h → term_tree symbols scope h ≡ term_tree symbols other h
+    formula-agrees : (scope other : Scope) → Agrees symbols P Q 0 scope other → (h : Term) → IsFormula symbols P Q h
+        → term_tree symbols scope h ≡ term_tree symbols other h
     formula-agrees scope other a h f = term_tree-agrees symbols P Q 0 scope other a h f.instances f.type_variables f.free_variables f.closed
 
-    statement-agrees : (hs : List Term) (c : Term) (scope other : Scope) → Agrees symbols P Q 0 scope other → AllByRecursion (IsFormula symbols P Q) hs → IsFormula symbols P Q c
+    statement-agrees : (hs : List Term) (c : Term) (scope other : Scope) → Agrees symbols P Q 0 scope other → AllByRecursion (IsFormula symbols P Q) hs
+        → IsFormula symbols P Q c
         → statement_tree symbols hs c scope ≡ statement_tree symbols hs c other
     statement-agrees [] c scope other a f g = ap proof_of (formula-agrees scope other a c g)
     statement-agrees (h ∷ hs) c scope other a f g =
@@ -87,12 +91,14 @@ rest-put_all m symbols other s is instances =
     (record { types = types_two; terms = terms_two; bounds = λ k l. absurd (omega (arith, l)) }) formulas conclusion
 
 -- under a binder more, what stands for the images is lifted
-images-lifted : (symbols : Symbols) (pairs : TypePairs) (terms : TermPairs) (scope : Scope) → lifted (images symbols pairs terms scope) ≡ images symbols pairs terms (lifted scope)
+images-lifted : (symbols : Symbols) (pairs : TypePairs) (terms : TermPairs) (scope : Scope)
+    → lifted (images symbols pairs terms scope) ≡ images symbols pairs terms (lifted scope)
 images-lifted symbols pairs terms scope =
     same_scope (lifted (images symbols pairs terms scope)) (images symbols pairs terms (lifted scope))
     (λ n. type_tree-lift symbols scope.types (image pairs n)) (λ v. term_tree-lift symbols scope (term_image terms (v.0, substitute pairs v.1))) (λ h. refl) (λ k. refl)
 
-substituted-statement : (symbols : Symbols) (pairs : TypePairs) (terms : TermPairs) → AreClosed terms → (hs : List Term) (c : Term) (scope : Scope) → AllByRecursion (AreInstances symbols) hs → AreInstances symbols c
+substituted-statement : (symbols : Symbols) (pairs : TypePairs) (terms : TermPairs) → AreClosed terms → (hs : List Term) (c : Term) (scope : Scope)
+    → AllByRecursion (AreInstances symbols) hs → AreInstances symbols c
     → statement_tree symbols hs c (images symbols pairs terms scope) ≡ statement_tree symbols (map (sub pairs terms) hs) (sub pairs terms c) scope
 substituted-statement symbols pairs terms closed [] c scope i j = ap proof_of (sym (term_tree-substitution symbols pairs terms closed scope c j))
 substituted-statement symbols pairs terms closed (h ∷ hs) c scope i j =
@@ -102,7 +108,8 @@ substituted-statement symbols pairs terms closed (h ∷ hs) c scope i j =
 -- Translation of substitution for a sequent: what follows its products over type variables and free variables, with the translated images put
 -- in, is the product over the proofs of the substituted hypotheses, one for each also where two become equal, which ends in the proofs of the
 -- substituted conclusion.
-pub sequent-substitution : (m : List Declaration) (symbols : Symbols) (pairs : TypePairs) (terms : TermPairs) → AreClosed terms → (scope : Scope) (s : Sequent) → IsSequent s → HasInstances symbols s
+pub sequent-substitution : (m : List Declaration) (symbols : Symbols) (pairs : TypePairs) (terms : TermPairs) → AreClosed terms → (scope : Scope) (s : Sequent)
+    → IsSequent s → HasInstances symbols s
     → put_all (map (images symbols pairs terms scope).types (type_variables_of s) ++ map (images symbols pairs terms scope).terms (free_variables_of s)) (rest_tree symbols s)
     ≡ statement_tree symbols (map (sub pairs terms) s.hypotheses) (sub pairs terms s.conclusion) scope
 sequent-substitution m symbols pairs terms closed scope s is instances =
@@ -111,7 +118,8 @@ sequent-substitution m symbols pairs terms closed scope s is instances =
 
 -- Translation of substitution for a type and for a term under the binders of their variables: to put the translated images in its tree is to
 -- translate what was substituted.
-pub type-put_all : (symbols : Symbols) (pairs : TypePairs) (scope : TypeScope) (names : List Name) (t : HolType) → AllByRecursion (IsIn names) (variable_places t)
+pub type-put_all : (symbols : Symbols) (pairs : TypePairs) (scope : TypeScope) (names : List Name) (t : HolType)
+    → AllByRecursion (IsIn names) (variable_places t)
     → put_all (map (λ n. type_tree symbols scope (image pairs n)) names) (type_tree symbols (under_types names unfilled) t) ≡ type_tree symbols scope (substitute pairs t)
 type-put_all symbols pairs scope names t h =
     let other : TypeScope = λ n. type_tree symbols scope (image pairs n) in
@@ -121,7 +129,8 @@ type-put_all symbols pairs scope names t h =
     ∙ type_tree-agrees symbols (IsIn names) (λ n. trees.sub one (under_types names unfilled n)) other (λ n i. types-agree [] [] other names unfilled Var n (inl i)) t h
     ∙ sym (type_tree-substitute symbols pairs scope t)
 
-pub term-put_all : (symbols : Symbols) (pairs : TypePairs) (terms : TermPairs) → AreClosed terms → (scope : Scope) (names : List Name) (variables : List Variable) (t : Term)
+pub term-put_all : (symbols : Symbols) (pairs : TypePairs) (terms : TermPairs) → AreClosed terms
+    → (scope : Scope) (names : List Name) (variables : List Variable) (t : Term)
     → IsFormula symbols (IsIn names) (IsIn variables) t
     → put_all (map (images symbols pairs terms scope).types names ++ map (images symbols pairs terms scope).terms variables) (term_tree symbols (under_terms variables (filled symbols (under_types names unfilled))) t)
     ≡ term_tree symbols scope (sub pairs terms t)

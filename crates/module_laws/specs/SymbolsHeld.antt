@@ -70,7 +70,9 @@ module _ (ps : List Item) where
           items.ConstantTaken.representation names c f h.j h.one h.representation (same refl) (subst (λ b. Instance b t) (sym a) i)
       second false same e = absurd (cc)
 
-      go : (b : Bool) → (b ≡ true → n ≡ names.abstraction) → cond b (Some (abstraction_type names c)) (cond (name_eq n names.representation) (Some (representation_type names c)) None) ≡ Some g → ConstantTaken ps n t
+      go : (b : Bool) → (b ≡ true → n ≡ names.abstraction)
+          → cond b (Some (abstraction_type names c)) (cond (name_eq n names.representation) (Some (representation_type names c)) None) ≡ Some g
+          → ConstantTaken ps n t
       go true same e =
           let a : abstraction_type names c ≡ g = same_Some _ _ e in
           items.ConstantTaken.abstraction names c f h.j h.one h.abstraction (same refl) (subst (λ b. Instance b t) (sym a) i)
@@ -91,7 +93,8 @@ module _ (ps : List Item) where
   symbol-input_constant n t (Symbol.input_operator m j) h e = absurd (cc)
   symbol-input_constant n t (Symbol.defined d) h e = absurd (cc)
 
-  any-held : {R : Type 0} (p : Symbol → Bool) → ((x : Symbol) → IsHeld x → p x ≡ true → R) → (ss : List Symbol) → AllByRecursion IsHeld ss → list_any p ss ≡ true → R
+  any-held : {R : Type 0} (p : Symbol → Bool) → ((x : Symbol) → IsHeld x → p x ≡ true → R) → (ss : List Symbol) → AllByRecursion IsHeld ss
+      → list_any p ss ≡ true → R
   any-held p f [] h e = absurd (cc)
   any-held {R} p f (x ∷ ss) h e = go (p x) refl e (any-held p f ss h.1)
     where
@@ -103,15 +106,18 @@ module _ (ps : List Item) where
   first-operator n k [] h e = absurd (cc)
   first-operator n k (x ∷ ss) h e = go (defined_arity n x) refl e (first-operator n k ss h.1)
     where
-      go : (o : Option ℕ) → defined_arity n x ≡ o → option_or o (first_defined_arity n ss) ≡ Some k → (first_defined_arity n ss ≡ Some k → OperatorTaken ps n k) → OperatorTaken ps n k
+      go : (o : Option ℕ) → defined_arity n x ≡ o → option_or o (first_defined_arity n ss) ≡ Some k → (first_defined_arity n ss ≡ Some k → OperatorTaken ps n k)
+          → OperatorTaken ps n k
       go None is e rest = rest e
       go (Some j) is e rest = symbol-operator n k x h.0 (is ∙ e)
 
-  first-constant : (n : Name) (g : HolType) (ss : List Symbol) → AllByRecursion IsHeld ss → first_defined_type n ss ≡ Some g → (t : HolType) → Instance g t → ConstantTaken ps n t
+  first-constant : (n : Name) (g : HolType) (ss : List Symbol) → AllByRecursion IsHeld ss → first_defined_type n ss ≡ Some g → (t : HolType) → Instance g t
+      → ConstantTaken ps n t
   first-constant n g [] h e t i = absurd (cc)
   first-constant n g (x ∷ ss) h e t i = go (defined_type n x) refl e (λ e. first-constant n g ss h.1 e t i)
     where
-      go : (o : Option HolType) → defined_type n x ≡ o → option_or o (first_defined_type n ss) ≡ Some g → (first_defined_type n ss ≡ Some g → ConstantTaken ps n t) → ConstantTaken ps n t
+      go : (o : Option HolType) → defined_type n x ≡ o → option_or o (first_defined_type n ss) ≡ Some g
+          → (first_defined_type n ss ≡ Some g → ConstantTaken ps n t) → ConstantTaken ps n t
       go None is e rest = rest e
       go (Some j) is e rest = symbol-constant n g x h.0 (is ∙ e) t i
 
@@ -194,7 +200,8 @@ module _ (ss : List Symbol) (n : Name) where
   other-constant new (unproved s) h = refl
   other-constant new (step kind js premises given s) h = refl
 
-  another : (k : ℕ) (m : Name) (j : ℕ) → is_some (operator_arity ss n) ≡ false → list_any (is_input_operator n k) ss ≡ false → machine.OperatorTaken ss m j → (name_eq n m && (k == j)) ≡ false
+  another : (k : ℕ) (m : Name) (j : ℕ) → is_some (operator_arity ss n) ≡ false → list_any (is_input_operator n k) ss ≡ false → machine.OperatorTaken ss m j
+      → (name_eq n m && (k == j)) ≡ false
   another k m j undefined new h =
       false_from_ne_true (name_eq n m && (k == j))
       (λ e. let parts = and_parts (name_eq n m) (k == j) e in
@@ -202,7 +209,8 @@ module _ (ss : List Symbol) (n : Name) where
       let b : k ≡ j = (unsigned_Decides k j).0 parts.1 in
       no_such-operator k undefined new (subst (λ (l : Name). machine.OperatorTaken ss l k) (sym a) (subst (machine.OperatorTaken ss m) (sym b) h)))
 
-  other-operator : (k : ℕ) → is_some (operator_arity ss n) ≡ false → list_any (is_input_operator n k) ss ≡ false → (c : Content) → IsNamed ss c → is_operator n k c ≡ false
+  other-operator : (k : ℕ) → is_some (operator_arity ss n) ≡ false → list_any (is_input_operator n k) ss ≡ false → (c : Content) → IsNamed ss c
+      → is_operator n k c ≡ false
   other-operator k undefined new (operator m j) h = another k m j undefined new h
   other-operator k undefined new (constant m a) h = refl
   other-operator k undefined new (defined_constant m a t) h = refl

@@ -34,7 +34,8 @@ AreClosed terms = (v : Variable) → loose (term_image terms v) ≤ 0
 
 module _ (symbols : Symbols) where
   -- a term owes nothing to the bounds that it doesn't have
-  pub term_tree-bounds : (d : ℕ) (scope : Scope) (bounds : ℕ → Tree) → ((k : ℕ) → k < d → scope.bounds k ≡ bounds k) → (t : Term) → loose t ≤ d → term_tree symbols scope t ≡ term_tree symbols (with_bounds bounds scope) t
+  pub term_tree-bounds : (d : ℕ) (scope : Scope) (bounds : ℕ → Tree) → ((k : ℕ) → k < d → scope.bounds k ≡ bounds k) → (t : Term) → loose t ≤ d
+      → term_tree symbols scope t ≡ term_tree symbols (with_bounds bounds scope) t
   term_tree-bounds d scope bounds e (free n t) h = refl
   term_tree-bounds d scope bounds e (bound k) h = e k (omega (arith, h))
   term_tree-bounds d scope bounds e (constant n t) h = refl
@@ -50,7 +51,8 @@ module _ (symbols : Symbols) where
   term_tree-inside scope t h = term_tree-lift symbols scope t ∙ term_tree-bounds 0 (lifted scope) (inside scope).bounds (λ k l. absurd (omega (arith, l))) t h
 
   -- Translation of substitution: the tree of a term with types and terms substituted is the tree of the term in the scope of the images
-  pub term_tree-substitution : (pairs : TypePairs) (terms : TermPairs) → AreClosed terms → (scope : Scope) (t : Term) → AreInstances symbols t → term_tree symbols scope (sub pairs terms t) ≡ term_tree symbols (images symbols pairs terms scope) t
+  pub term_tree-substitution : (pairs : TypePairs) (terms : TermPairs) → AreClosed terms → (scope : Scope) (t : Term) → AreInstances symbols t
+      → term_tree symbols scope (sub pairs terms t) ≡ term_tree symbols (images symbols pairs terms scope) t
   term_tree-substitution pairs terms c scope (free n t) h = refl
   term_tree-substitution pairs terms c scope (bound k) h = refl
   term_tree-substitution pairs terms c scope (constant n t) h =
@@ -77,7 +79,8 @@ module _ (symbols : Symbols) where
     bounds = λ k. scope.bounds (raised d 1 k);
   }
 
-  closed_free : (b : Bool) (d : ℕ) (scope : Scope) (n : Name) (t : HolType) → term_tree symbols scope (cond b (bound d) (free n t)) ≡ cond b (scope.bounds d) (scope.terms (n, t))
+  closed_free : (b : Bool) (d : ℕ) (scope : Scope) (n : Name) (t : HolType)
+      → term_tree symbols scope (cond b (bound d) (free n t)) ≡ cond b (scope.bounds d) (scope.terms (n, t))
   closed_free true d scope n t = refl
   closed_free false d scope n t = refl
 
@@ -118,11 +121,13 @@ module _ (symbols : Symbols) where
   module _ (P : Name → Type 0) where
     mutual
       -- a type owes its tree to what stands for the variables that it has
-      pub type_tree-agrees : (scope other : TypeScope) → ((n : Name) → P n → scope n ≡ other n) → (t : HolType) → AllByRecursion P (variable_places t) → type_tree symbols scope t ≡ type_tree symbols other t
+      pub type_tree-agrees : (scope other : TypeScope) → ((n : Name) → P n → scope n ≡ other n) → (t : HolType) → AllByRecursion P (variable_places t)
+          → type_tree symbols scope t ≡ type_tree symbols other t
       type_tree-agrees scope other e (variable n) h = e n h.0
       type_tree-agrees scope other e (operator n ts) h = ap (applied (Sym (operator_symbol symbols n (count ts)))) (type_trees-agree scope other e ts h)
 
-      type_trees-agree : (scope other : TypeScope) → ((n : Name) → P n → scope n ≡ other n) → (ts : HolTypes) → AllByRecursion P (variable_places_of_all ts) → type_trees symbols scope ts ≡ type_trees symbols other ts
+      type_trees-agree : (scope other : TypeScope) → ((n : Name) → P n → scope n ≡ other n) → (ts : HolTypes) → AllByRecursion P (variable_places_of_all ts)
+          → type_trees symbols scope ts ≡ type_trees symbols other ts
       type_trees-agree scope other e none h = refl
       type_trees-agree scope other e (more t ts) h =
           ap₂ (λ x xs. x ∷ xs) (type_tree-agrees scope other e t (All-left P (variable_places t) (variable_places_of_all ts) h))
@@ -143,7 +148,8 @@ module _ (symbols : Symbols) where
           go (suc k) l = ap (lift 1) (a.bounds k (omega (arith, l)))
 
       -- a term owes its tree to what stands for what it has
-      pub term_tree-agrees : (d : ℕ) (scope other : Scope) → Agrees d scope other → (t : Term) → AreInstances symbols t → AllByRecursion P (type_variable_places t) → AllByRecursion Q (free_places t) → loose t ≤ d
+      pub term_tree-agrees : (d : ℕ) (scope other : Scope) → Agrees d scope other → (t : Term) → AreInstances symbols t
+          → AllByRecursion P (type_variable_places t) → AllByRecursion Q (free_places t) → loose t ≤ d
           → term_tree symbols scope t ≡ term_tree symbols other t
       term_tree-agrees d scope other a (free n t) i p q h = a.terms (n, t) q.0
       term_tree-agrees d scope other a (bound k) i p q h = a.bounds k (omega (arith, h))

@@ -17,7 +17,8 @@ use Rattle.module_spec.specs.Scopes.{Scope, TypeScope, lifted_types, under_types
 use Rattle.module_laws.specs.ListedScopes.{told_types, parameters, under_all-is, under_types-all, under_terms-all}
 
 -- equal elements are told apart from the same others
-pub same-apart : {A : Type 0} (same : A → A → Bool) → ((x y : A) → Decides (same x y) (x ≡ y)) → (a b c : A) → same a b ≡ true → same b c ≡ false → same a c ≡ false
+pub same-apart : {A : Type 0} (same : A → A → Bool) → ((x y : A) → Decides (same x y) (x ≡ y)) → (a b c : A) → same a b ≡ true → same b c ≡ false
+    → same a c ≡ false
 same-apart same decides a b c e f = ap (λ x. same x c) ((decides a b).0 e) ∙ f
 
 -- a list of parameters under a binder more
@@ -28,11 +29,13 @@ parameter-lift d p h = let e : suc d - suc p ≡ suc (d - suc p) = omega (arith,
     one n = grind arith
 
 module _ {A : Type 0} (test : A → Bool) where
-  lookup-shift : (d from : ℕ) (xs : List A) → from + length xs ≤ d → lookup test (parameters (suc d) from xs) ≡ option_map (lift 1) (lookup test (parameters d from xs))
+  lookup-shift : (d from : ℕ) (xs : List A) → from + length xs ≤ d
+      → lookup test (parameters (suc d) from xs) ≡ option_map (lift 1) (lookup test (parameters d from xs))
   lookup-shift d from [] h = refl
   lookup-shift d from (x ∷ xs) h = go (test x) (parameter-lift d from (omega (arith, h))) (lookup-shift d (suc from) xs (omega (arith, h)))
     where
-      go : (b : Bool) → lift 1 (parameter d from) ≡ parameter (suc d) from → lookup test (parameters (suc d) (suc from) xs) ≡ option_map (lift 1) (lookup test (parameters d (suc from) xs))
+      go : (b : Bool) → lift 1 (parameter d from) ≡ parameter (suc d) from
+          → lookup test (parameters (suc d) (suc from) xs) ≡ option_map (lift 1) (lookup test (parameters d (suc from) xs))
           → cond b (Some (parameter (suc d) from)) (lookup test (parameters (suc d) (suc from) xs)) ≡ option_map (lift 1) (cond b (Some (parameter d from)) (lookup test (parameters d (suc from) xs)))
       go true e f = ap Some (sym e)
       go false e f = f
@@ -45,7 +48,8 @@ unwrap-lift (Some a) x = refl
 abbrev pub TypesTold : List Name → ℕ → TypeScope → Type 0
 TypesTold names d scope = (n : Name) → scope n ≡ told_types (parameters d 0 names) n
 
-pub TypesTold-lifted : (names : List Name) (d : ℕ) (scope : TypeScope) → length names ≤ d → TypesTold names d scope → TypesTold names (suc d) (lifted_types scope)
+pub TypesTold-lifted : (names : List Name) (d : ℕ) (scope : TypeScope) → length names ≤ d → TypesTold names d scope
+    → TypesTold names (suc d) (lifted_types scope)
 TypesTold-lifted names d scope l h n =
     let low : 0 + length names ≤ d = omega (arith, l) in
     ap (lift 1) (h n) ∙ sym (unwrap-lift (lookup (name_eq n) (parameters d 0 names)) bools) ∙ ap (λ o. unwrap_or o bools) (sym (lookup-shift (name_eq n) d 0 names low))
@@ -57,11 +61,13 @@ TypesTold-own names h n =
     ∙ ap (λ d. unwrap_or (lookup (name_eq n) (parameters d 0 names)) bools) z
 
 -- an element of a list is told by its parameters
-told-in : {A : Type 0} (same : A → A → Bool) → ((x y : A) → Decides (same x y) (x ≡ y)) → (d from : ℕ) (xs : List A) (y : A) → IsIn xs y → (t : Tree) × (lookup (same y) (parameters d from xs) ≡ Some t)
+told-in : {A : Type 0} (same : A → A → Bool) → ((x y : A) → Decides (same x y) (x ≡ y)) → (d from : ℕ) (xs : List A) (y : A) → IsIn xs y
+    → (t : Tree) × (lookup (same y) (parameters d from xs) ≡ Some t)
 told-in same decides d from [] y k = absurd k
 told-in same decides d from (x ∷ xs) y k = go (same y x) refl (decides y x).1 (λ i. told-in same decides d (suc from) xs y i) k
   where
-    go : (b : Bool) → same y x ≡ b → (y ≡ x → same y x ≡ true) → (IsIn xs y → (t : Tree) × (lookup (same y) (parameters d (suc from) xs) ≡ Some t)) → IsIn (x ∷ xs) y
+    go : (b : Bool) → same y x ≡ b → (y ≡ x → same y x ≡ true) → (IsIn xs y → (t : Tree) × (lookup (same y) (parameters d (suc from) xs) ≡ Some t))
+        → IsIn (x ∷ xs) y
         → (t : Tree) × (lookup (same y) (parameters d from (x ∷ xs)) ≡ Some t)
     go true e f later k = (parameter d from, ap (λ b. cond b (Some (parameter d from)) (lookup (same y) (parameters d (suc from) xs))) e)
     go false e f later (inl is) = absurd (let yes = f is in cc)
@@ -74,7 +80,8 @@ whatever o t x y e = ap (λ p. unwrap_or p x) e ∙ ap (λ p. unwrap_or p y) (sy
 abbrev pub TermsTold : List Name → List Variable → ℕ → Scope → Type 0
 TermsTold names vs d scope = (v : Variable) → IsIn vs v → (x : Tree) → scope.terms v ≡ unwrap_or (lookup (variable_eq v) (parameters d (length names) vs)) x
 
-pub TermsTold-lifted : (names : List Name) (vs : List Variable) (d : ℕ) (scope other : Scope) → length names + length vs ≤ d → TermsTold names vs d scope → ((v : Variable) → other.terms v ≡ lift 1 (scope.terms v)) → TermsTold names vs (suc d) other
+pub TermsTold-lifted : (names : List Name) (vs : List Variable) (d : ℕ) (scope other : Scope) → length names + length vs ≤ d → TermsTold names vs d scope
+    → ((v : Variable) → other.terms v ≡ lift 1 (scope.terms v)) → TermsTold names vs (suc d) other
 TermsTold-lifted names vs d scope other l h e v k x =
     let t = told-in variable_eq variable_eq-Decides d (length names) vs v k in
     let shifted : lookup (variable_eq v) (parameters (suc d) (length names) vs) ≡ option_map (lift 1) (lookup (variable_eq v) (parameters d (length names) vs)) = lookup-shift (variable_eq v) d (length names) vs l in
@@ -82,13 +89,15 @@ TermsTold-lifted names vs d scope other l h e v k x =
     ∙ ap (λ o. unwrap_or o bools) (sym shifted)
     ∙ whatever (lookup (variable_eq v) (parameters (suc d) (length names) vs)) (lift 1 t.0) bools x (shifted ∙ ap (option_map (lift 1)) t.1)
 
-pub TermsTold-own : (names : List Name) (vs : List Variable) (scope : Scope) → IsDistinct variable_eq vs → TermsTold names vs (length names + length vs) (under_terms vs scope)
+pub TermsTold-own : (names : List Name) (vs : List Variable) (scope : Scope) → IsDistinct variable_eq vs
+    → TermsTold names vs (length names + length vs) (under_terms vs scope)
 TermsTold-own names vs scope h v k x =
     let t = told-in variable_eq variable_eq-Decides (length names + length vs) (length names) vs v k in
     under_terms-all vs scope v ∙ under_all-is variable_eq (same-apart variable_eq variable_eq-Decides) vs scope.terms (length names) v h
     ∙ whatever (lookup (variable_eq v) (parameters (length names + length vs) (length names) vs)) t.0 (lift (length vs) (scope.terms v)) x t.1
 
-pub TypesTold-terms : (names : List Name) (vs : List Variable) (d : ℕ) (scope : Scope) → length names ≤ d → TypesTold names d scope.types → TypesTold names (d + length vs) (under_terms vs scope).types
+pub TypesTold-terms : (names : List Name) (vs : List Variable) (d : ℕ) (scope : Scope) → length names ≤ d → TypesTold names d scope.types
+    → TypesTold names (d + length vs) (under_terms vs scope).types
 TypesTold-terms names [] d scope l h = let z : d ≡ d + 0 = omega arith in subst (λ k. TypesTold names k scope.types) z h
 TypesTold-terms names (v ∷ vs) d scope l h =
     let z : suc d + length vs ≡ d + suc (length vs) = omega arith in

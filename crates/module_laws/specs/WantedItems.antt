@@ -47,12 +47,14 @@ all-still wanted [] k h = h
 all-still wanted (x ∷ xs) k h = all-still (wanted_after wanted x) xs k (wanted_after-IsIn wanted x k h)
 
 -- what an item that was wanted when it was looked at needs is wanted in the end
-pub needs-wanted : (wanted : List Key) (x : Item) (earlier : List Item) → is_wanted wanted x ≡ true → (k : Key) → IsIn (needs x.content) k → IsIn (all_wanted wanted (x ∷ earlier)) k
+pub needs-wanted : (wanted : List Key) (x : Item) (earlier : List Item) → is_wanted wanted x ≡ true → (k : Key) → IsIn (needs x.content) k
+    → IsIn (all_wanted wanted (x ∷ earlier)) k
 needs-wanted wanted x earlier h k i =
     all-still (wanted_after wanted x) earlier k (subst (λ b. IsIn (cond b (wanted ++ needs x.content) wanted) k) (sym h) (IsIn-right wanted (needs x.content) k i))
 
 -- The law of wanted items: what gives a key that a wanted item needs is wanted in the end
-pub needed-is_wanted : (wanted : List Key) (x y : Item) (earlier : List Item) → is_wanted wanted x ≡ true → IsIn (needs x.content) (gives y) → is_wanted (all_wanted wanted (x ∷ earlier)) y ≡ true
+pub needed-is_wanted : (wanted : List Key) (x y : Item) (earlier : List Item) → is_wanted wanted x ≡ true → IsIn (needs x.content) (gives y)
+    → is_wanted (all_wanted wanted (x ∷ earlier)) y ≡ true
 needed-is_wanted wanted x y earlier h i = wanted-in (all_wanted wanted (x ∷ earlier)) (gives y) (needs-wanted wanted x earlier h (gives y) i)
 
 -- items numbered in order of making
@@ -99,7 +101,8 @@ module _ (roots : List Key) where
       ∙ keep-at zs xs x h.1
 
   -- what is wanted of those before is kept
-  pub keep-wanted : (i : ℕ) (before rest : List Item) (y : Item) → NumberedFrom i before → IsIn before y → IsIn (wanted_from roots rest) (gives y) → keep_of roots (before ++ rest) y.symbol ≡ true
+  pub keep-wanted : (i : ℕ) (before rest : List Item) (y : Item) → NumberedFrom i before → IsIn before y → IsIn (wanted_from roots rest) (gives y)
+      → keep_of roots (before ++ rest) y.symbol ≡ true
   keep-wanted i [] rest y n k w = absurd k
   keep-wanted i (z ∷ zs) rest y n (inl e) w =
       ap (λ (u : Item). keep_of roots (z ∷ zs ++ rest) u.symbol) e

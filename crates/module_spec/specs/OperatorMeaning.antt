@@ -21,5 +21,6 @@ pub data MeansOperator (declarations : List Declaration) (s : ℕ) : Name → �
   arrow : s ≡ arr_symbol → MeansOperator declarations s arrow_name 2
   truth_values : s ≡ bool_symbol → MeansOperator declarations s bool_name 0
   individuals : s ≡ ind_symbol → MeansOperator declarations s ind_name 0
-  input : {name : Name} {arity : ℕ} → NamesOperator declarations s (codes "t" ++ numeral arity ++ codes "_") name arity → MeansOperator declarations s name arity
+  input : {name : Name} {arity : ℕ} → NamesOperator declarations s (codes "t" ++ numeral arity ++ codes "_") name arity
+      → MeansOperator declarations s name arity
   defined : {name : Name} {arity : ℕ} → NamesOperator declarations s (codes "o_") name arity → MeansOperator declarations s name arity

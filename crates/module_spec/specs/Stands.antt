@@ -69,9 +69,12 @@ pub record IsConstantType (m : List Declaration) (generic : HolType) (A : Tree) 
 
 -- why a declaration may have no body
 pub data IsGiven (m : List Declaration) (run : Accepted) : Declaration → Type 0 where
-  input_constant : (n : Name) → IsAmong (symbols_of run.made) (Symbol.input_constant n) → IsGiven m run (symbol (input_constant_name n) (Pi types (term_of (Var 0))))
-  input_operator : (n : Name) (k : ℕ) → IsAmong (symbols_of run.made) (Symbol.input_operator n k) → IsGiven m run (symbol (input_operator_name k n) (products (replicate k types) types))
-  assumption : (k i : ℕ) (A : Tree) → slice_get run.assumptions k ≡ Some i → Enc m (closed_form (sequent_at run.made i)) A → IsGiven m run (symbol (codes "A" ++ numeral k) A)
+  input_constant : (n : Name) → IsAmong (symbols_of run.made) (Symbol.input_constant n)
+      → IsGiven m run (symbol (input_constant_name n) (Pi types (term_of (Var 0))))
+  input_operator : (n : Name) (k : ℕ) → IsAmong (symbols_of run.made) (Symbol.input_operator n k)
+      → IsGiven m run (symbol (input_operator_name k n) (products (replicate k types) types))
+  assumption : (k i : ℕ) (A : Tree) → slice_get run.assumptions k ≡ Some i → Enc m (closed_form (sequent_at run.made i)) A
+      → IsGiven m run (symbol (codes "A" ++ numeral k) A)
 
 -- a declaration defines a constant of a run by its term, over the type variables of its type
 pub record DefinesConstant (m : List Declaration) (run : Accepted) (d : Declaration) : Type 0 where
@@ -123,7 +126,8 @@ pub data IsDefined (m : List Declaration) (run : Accepted) : Declaration → Typ
 -- the declarations are E and the places from k on, each the theorem of the export at its place
 pub data AreExports (m : List Declaration) (run : Accepted) : ℕ → List ℕ → List Declaration → Type 0 where
   none : {k : ℕ} → AreExports m run k [] []
-  more : {k i : ℕ} {is : List ℕ} {d : Declaration} {ds : List Declaration} → d.name ≡ codes "E" ++ numeral k → d.form ≡ Thm → Enc m (closed_form (sequent_at run.made i)) d.ty
+  more : {k i : ℕ} {is : List ℕ} {d : Declaration} {ds : List Declaration} → d.name ≡ codes "E" ++ numeral k → d.form ≡ Thm
+      → Enc m (closed_form (sequent_at run.made i)) d.ty
       → AreExports m run (suc k) is ds → AreExports m run k (i ∷ is) (d ∷ ds)
 
 -- a declaration without a body is given, and an export reaches it

@@ -41,7 +41,8 @@ module _ {X : Type 0} (p : X → Bool) where
   first-append-Some [] ys n e = absurd (cc)
   first-append-Some (x ∷ xs) ys n e = later x xs ys n (p x) refl (first xs) refl (λ m g. first-append-Some xs ys m g) e
 
-  behind : (x : X) (xs ys : List X) (b : Bool) → p x ≡ b → (o : Option ℕ) → first xs ≡ o → (first xs ≡ None → first (xs ++ ys) ≡ option_map (λ n. length xs + n) (first ys))
+  behind : (x : X) (xs ys : List X) (b : Bool) → p x ≡ b → (o : Option ℕ) → first xs ≡ o
+      → (first xs ≡ None → first (xs ++ ys) ≡ option_map (λ n. length xs + n) (first ys))
       → first (x ∷ xs) ≡ None → first (x ∷ (xs ++ ys)) ≡ option_map (λ n. suc (length xs) + n) (first ys)
   behind x xs ys true h o _ _ e = absurd (let bad : Some 0 ≡ None = sym (first-yes x xs h) ∙ e in cc)
   behind x xs ys false h (Some m) g more e = absurd (let bad : Some (suc m) ≡ None = sym (ap (option_map suc) g) ∙ sym (first-no x xs h) ∙ e in cc)

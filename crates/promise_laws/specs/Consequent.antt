@@ -36,7 +36,8 @@ use Rattle.promise_laws.specs.OneRun as running
 -- What is asked of the answers of a form, before anything is written.
 pub record AreAnswers (form : Option Form) (shelf : Shelved) : Type 0 where
   -- the answer is the one that is due
-  pub exact : ReadWell shelf → (answer due : Status) (out note : List ℕ) → FormAnswers form shelf answer out note → IsDue form shelf.told_before due → Aside answer (answer ≡ due)
+  pub exact : ReadWell shelf → (answer due : Status) (out note : List ℕ) → FormAnswers form shelf answer out note → IsDue form shelf.told_before due
+      → Aside answer (answer ≡ due)
   -- only words that are no form are answered with Usage
   pub usage : (out note : List ℕ) → FormAnswers form shelf Usage out note → form ≡ None
   -- a read fault has its cause
@@ -100,18 +101,22 @@ no_form-answers shelf = record {
 }
 
 -- Files that are told have one outcome, so the answer that is due is that of it.
-run-due : (told : Option Files) (names : List (List ℕ)) → IsTrue (is_some told) → (outcome : Outcome) → RunsTo told names outcome → (due : Status) → IsAnswerOfRun told names due → answer_of outcome ≡ due
+run-due : (told : Option Files) (names : List (List ℕ)) → IsTrue (is_some told) → (outcome : Outcome) → RunsTo told names outcome → (due : Status)
+    → IsAnswerOfRun told names due → answer_of outcome ≡ due
 run-due told names tells outcome r due d = ap answer_of (RunsTo-unique told names outcome d.outcome tells r d.runs) ∙ sym d.is
 
-accepted-due : (told : Option Files) (names : List (List ℕ)) → IsTrue (is_some told) → (run : Accepted) → IsRunOf told names run → (due : Status) → IsAnswerOfRun told names due → Done ≡ due
+accepted-due : (told : Option Files) (names : List (List ℕ)) → IsTrue (is_some told) → (run : Accepted) → IsRunOf told names run → (due : Status)
+    → IsAnswerOfRun told names due → Done ≡ due
 accepted-due told names tells run r = run-due told names tells (accepted run) (record { texts = r.texts; read = r.read; runs = r.runs })
 
-refused_run-due : (told : Option Files) (names : List (List ℕ)) → IsTrue (is_some told) → (article line : ℕ) (kind : Kind) → RunsTo told names (refused_at article line kind) → (due : Status) → IsAnswerOfRun told names due
+refused_run-due : (told : Option Files) (names : List (List ℕ)) → IsTrue (is_some told) → (article line : ℕ) (kind : Kind)
+    → RunsTo told names (refused_at article line kind) → (due : Status) → IsAnswerOfRun told names due
     → Refused article line kind ≡ due
 refused_run-due told names tells article line kind r = run-due told names tells (refused_at article line kind) r
 
 -- A run of articles: the answer of the one outcome.
-run-exact : (out_of note_of : Accepted → List ℕ) (names : List (List ℕ)) (shelf : Shelved) → ReadWell shelf → (answer due : Status) (out note : List ℕ) → AnswersRun out_of note_of names shelf answer out note
+run-exact : (out_of note_of : Accepted → List ℕ) (names : List (List ℕ)) (shelf : Shelved) → ReadWell shelf → (answer due : Status) (out note : List ℕ)
+    → AnswersRun out_of note_of names shelf answer out note
     → IsAnswerOfRun shelf.told_before names due → Aside answer (answer ≡ due)
 run-exact out_of note_of names shelf well Done due out note h d = accepted-due shelf.told_before names well.tells h.0 h.1 due d
 run-exact out_of note_of names shelf well (Refused article line kind) due out note h d = refused_run-due shelf.told_before names well.tells article line kind h.0 due d
@@ -125,7 +130,8 @@ run-exact out_of note_of names shelf well (OverBudget i) due out note h d = absu
 run-exact out_of note_of names shelf well (NotSequent i) due out note h d = absurd h
 run-exact out_of note_of names shelf well Unwritable due out note h d = absurd h
 
-run-quiet : (out_of note_of : Accepted → List ℕ) (names : List (List ℕ)) (shelf : Shelved) (answer : Status) (out note : List ℕ) → AnswersRun out_of note_of names shelf answer out note → (answer ≡ Done → ⊥) → out ≡ []
+run-quiet : (out_of note_of : Accepted → List ℕ) (names : List (List ℕ)) (shelf : Shelved) (answer : Status) (out note : List ℕ)
+    → AnswersRun out_of note_of names shelf answer out note → (answer ≡ Done → ⊥) → out ≡ []
 run-quiet out_of note_of names shelf Done out note h differs = absurd (differs refl)
 run-quiet out_of note_of names shelf (Refused article line kind) out note h differs = h.1.0
 run-quiet out_of note_of names shelf Usage out note h differs = absurd h
@@ -169,7 +175,8 @@ show-answers names shelf = record {
 }
 
 -- `article`: files that are told have at most one answer that is due.
-article-exact : (names : List (List ℕ)) (shelf : Shelved) → ReadWell shelf → (answer due : Status) (out note : List ℕ) → FormAnswers (Some (Form.article names)) shelf answer out note
+article-exact : (names : List (List ℕ)) (shelf : Shelved) → ReadWell shelf → (answer due : Status) (out note : List ℕ)
+    → FormAnswers (Some (Form.article names)) shelf answer out note
     → IsDue (Some (Form.article names)) shelf.told_before due → Aside answer (answer ≡ due)
 article-exact names shelf well Done due out note h d = running.written-due shelf.told_before names well.tells h.0 h.1 h.2 h.3 due d
 article-exact names shelf well (Refused article line kind) due out note h d = running.refused_article-due shelf.told_before names well.tells article line kind h.0 due d
@@ -183,7 +190,8 @@ article-exact names shelf well (OverBudget i) due out note h d = absurd h
 article-exact names shelf well (NotSequent i) due out note h d = absurd h
 article-exact names shelf well Unwritable due out note h d = running.unwritable-due shelf.told_before names well.tells h.0 h.1 h.2 h.3 due d
 
-article-quiet : (names : List (List ℕ)) (shelf : Shelved) (answer : Status) (out note : List ℕ) → FormAnswers (Some (Form.article names)) shelf answer out note → (answer ≡ Done → ⊥) → out ≡ []
+article-quiet : (names : List (List ℕ)) (shelf : Shelved) (answer : Status) (out note : List ℕ) → FormAnswers (Some (Form.article names)) shelf answer out note
+    → (answer ≡ Done → ⊥) → out ≡ []
 article-quiet names shelf Done out note h differs = absurd (differs refl)
 article-quiet names shelf (Refused article line kind) out note h differs = h.1.0
 article-quiet names shelf Usage out note h differs = absurd h
@@ -207,7 +215,8 @@ article-answers names shelf = record {
 }
 
 -- `check`: a file that is told has at most one answer that is due, and one of another cause is not due.
-check-exact : (fast : Bool) (name : List ℕ) (budget : ℕ) (shelf : Shelved) → ReadWell shelf → (answer due : Status) (out note : List ℕ) → FormAnswers (Some (check fast name budget)) shelf answer out note
+check-exact : (fast : Bool) (name : List ℕ) (budget : ℕ) (shelf : Shelved) → ReadWell shelf → (answer due : Status) (out note : List ℕ)
+    → FormAnswers (Some (check fast name budget)) shelf answer out note
     → IsDue (Some (check fast name budget)) shelf.told_before due → Aside answer (answer ≡ due)
 check-exact fast name budget shelf well Done due out note h d = checking.accepted-due (not fast) shelf.told_before name budget well.tells h.0 h.1 due d
 check-exact fast name budget shelf well (Refused article line kind) due out note h d = absurd h
@@ -221,7 +230,8 @@ check-exact fast name budget shelf well (OverBudget i) due out note h d = absurd
 check-exact fast name budget shelf well (NotSequent i) due out note h d = absurd h
 check-exact fast name budget shelf well Unwritable due out note h d = absurd h
 
-check-quiet : (fast : Bool) (name : List ℕ) (budget : ℕ) (shelf : Shelved) (answer : Status) (out note : List ℕ) → FormAnswers (Some (check fast name budget)) shelf answer out note → (answer ≡ Done → ⊥) → out ≡ []
+check-quiet : (fast : Bool) (name : List ℕ) (budget : ℕ) (shelf : Shelved) (answer : Status) (out note : List ℕ)
+    → FormAnswers (Some (check fast name budget)) shelf answer out note → (answer ≡ Done → ⊥) → out ≡ []
 check-quiet fast name budget shelf Done out note h differs = absurd (differs refl)
 check-quiet fast name budget shelf (Refused article line kind) out note h differs = absurd h
 check-quiet fast name budget shelf Usage out note h differs = absurd h
@@ -245,7 +255,8 @@ check-answers fast name budget shelf = record {
 }
 
 -- `decode`: a file that is told has at most one answer that is due.
-decode-exact : (name : List ℕ) (shelf : Shelved) → ReadWell shelf → (answer due : Status) (out note : List ℕ) → FormAnswers (Some (decode name)) shelf answer out note
+decode-exact : (name : List ℕ) (shelf : Shelved) → ReadWell shelf → (answer due : Status) (out note : List ℕ)
+    → FormAnswers (Some (decode name)) shelf answer out note
     → IsDue (Some (decode name)) shelf.told_before due → Aside answer (answer ≡ due)
 decode-exact name shelf well Done due out note h d = decoding.decoded-due shelf.told_before name well.tells h.0 h.1 h.2 due d
 decode-exact name shelf well (Refused article line kind) due out note h d = absurd h
@@ -259,7 +270,8 @@ decode-exact name shelf well (OverBudget i) due out note h d = absurd h
 decode-exact name shelf well (NotSequent i) due out note h d = decoding.not_sequent-due shelf.told_before name well.tells i h.0 due d
 decode-exact name shelf well Unwritable due out note h d = absurd h
 
-decode-quiet : (name : List ℕ) (shelf : Shelved) (answer : Status) (out note : List ℕ) → FormAnswers (Some (decode name)) shelf answer out note → (answer ≡ Done → ⊥) → out ≡ []
+decode-quiet : (name : List ℕ) (shelf : Shelved) (answer : Status) (out note : List ℕ) → FormAnswers (Some (decode name)) shelf answer out note
+    → (answer ≡ Done → ⊥) → out ≡ []
 decode-quiet name shelf Done out note h differs = absurd (differs refl)
 decode-quiet name shelf (Refused article line kind) out note h differs = absurd h
 decode-quiet name shelf Usage out note h differs = absurd h
@@ -296,7 +308,8 @@ trial-done n shelf (OverBudget i) out note h = absurd h
 trial-done n shelf (NotSequent i) out note h = absurd h
 trial-done n shelf Unwritable out note h = absurd h
 
-trial-quiet : (n : ℕ) (shelf : Shelved) (answer : Status) (out note : List ℕ) → FormAnswers (Some (trial n)) shelf answer out note → (answer ≡ Done → ⊥) → out ≡ []
+trial-quiet : (n : ℕ) (shelf : Shelved) (answer : Status) (out note : List ℕ) → FormAnswers (Some (trial n)) shelf answer out note → (answer ≡ Done → ⊥)
+    → out ≡ []
 trial-quiet n shelf Done out note h differs = absurd (differs refl)
 trial-quiet n shelf (Refused article line kind) out note h differs = absurd h
 trial-quiet n shelf Usage out note h differs = absurd h
@@ -331,7 +344,8 @@ each-answers (Some (trial n)) shelf = trial-answers n shelf
 each-answers (Some (Form.article names)) shelf = article-answers names shelf
 
 -- The checker's law: what is accepted is well typed.
-accepted-well_typed : (rechecks : Bool) (told : Option Files) (name : List ℕ) (files : Files) (m : List Declaration) → told ≡ Some files → IsAccepted rechecks told name m → ReadsWellTyped (file files name)
+accepted-well_typed : (rechecks : Bool) (told : Option Files) (name : List ℕ) (files : Files) (m : List Declaration) → told ≡ Some files
+    → IsAccepted rechecks told name m → ReadsWellTyped (file files name)
 accepted-well_typed rechecks None name files m e h = absurd (cc)
 accepted-well_typed rechecks (Some others) name files m e h =
     let same : others ≡ files = cc in
@@ -339,7 +353,8 @@ accepted-well_typed rechecks (Some others) name files m e h =
     (subst ReadsWellTyped h.file.read (record { m = m; reads = h.file.reads; only = h.file.only; typed = h.typed }))
 
 -- What holds of the answer holds of the result, a failing write aside.
-delivered-Aside : (fact : Status → Type 0) (answer : Status) (out_text note_text : List ℕ) (out note : Sunk) (result : Status) → Delivers answer out_text note_text out note result
+delivered-Aside : (fact : Status → Type 0) (answer : Status) (out_text note_text : List ℕ) (out note : Sunk) (result : Status)
+    → Delivers answer out_text note_text out note result
     → Aside answer (fact answer) → Aside result (fact result)
 delivered-Aside fact answer out_text note_text out note result d h = elim d [
   | inl f ↦ subst (λ status. Aside status (fact status)) (sym f.0) h
@@ -435,7 +450,8 @@ module-ReadsAs told name file =
     record { text = module_text file.share file.run; read = file.read; within = file.within; reads = h.reads; only = h.only }
 
 -- each declaration passes within a budget of at least each bound
-bound-within : (m : List Declaration) (bounds : Declaration → ℕ) (budget i : ℕ) (d : Declaration) → slice_get m i ≡ Some d → AllByRecursion (λ bound. bound ≤ budget) (map bounds m) → bounds d ≤ budget
+bound-within : (m : List Declaration) (bounds : Declaration → ℕ) (budget i : ℕ) (d : Declaration) → slice_get m i ≡ Some d
+    → AllByRecursion (λ bound. bound ≤ budget) (map bounds m) → bounds d ≤ budget
 bound-within [] bounds budget i d e h = absurd (cc)
 bound-within (x ∷ m) bounds budget zero d e h = subst (λ y. bounds y ≤ budget) (same_Some x d e) h.0
 bound-within (x ∷ m) bounds budget (suc i) d e h = bound-within m bounds budget i d e h.1
@@ -472,7 +488,8 @@ module-passes rechecks (Some files) name i tells file ill =
     checking.not-both rechecks (module_of file.share file.run) i d.0.ty e.price ill.price e.by no
 
 -- All that follows from the promise of a call comes of its outputs, and of the law of articles.
-outputs-Consequences : (call : Call) (result : Status) → Outputs call result → ((version : Version) (run : Accepted) → HasArticle call version run → IsRetold version run) → Consequences call result
+outputs-Consequences : (call : Call) (result : Status) → Outputs call result
+    → ((version : Version) (run : Accepted) → HasArticle call version run → IsRetold version run) → Consequences call result
 outputs-Consequences call result h law = record {
   exact = exact;
   written = λ writes done. record {

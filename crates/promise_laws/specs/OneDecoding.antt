@@ -16,13 +16,15 @@ use Rattle.promise_laws.specs.OneDue.{neither-below, IsTextRefused, one_refusal,
 
 -- Of the declarations that are decoded, one that is an export says a closed sequent.
 module _ (m : List Declaration) where
-  chosen : (d : Declaration) (rest : List Declaration) (ss : List ClosedSequent) (b : Bool) → is_export_name d.name ≡ b → AreDecoded m (if b then d ∷ exports_of rest else exports_of rest) ss
+  chosen : (d : Declaration) (rest : List Declaration) (ss : List ClosedSequent) (b : Bool) → is_export_name d.name ≡ b
+      → AreDecoded m (if b then d ∷ exports_of rest else exports_of rest) ss
       → (is_export_name d.name ≡ true → (s : ClosedSequent) × Enc m s d.ty) × ((tail : List ClosedSequent) × AreDecoded m (exports_of rest) tail)
   chosen d rest [] true e h = absurd h
   chosen d rest (s ∷ ss) true e h = (λ f. (s, h.0), (ss, h.1))
   chosen d rest ss false e h = (λ f. absurd (cc), (ss, h))
 
-  AreDecoded-export : (ds : List Declaration) (ss : List ClosedSequent) → AreDecoded m (exports_of ds) ss → (i : ℕ) (d : Declaration) → slice_get ds i ≡ Some d → is_export_name d.name ≡ true
+  AreDecoded-export : (ds : List Declaration) (ss : List ClosedSequent) → AreDecoded m (exports_of ds) ss → (i : ℕ) (d : Declaration) → slice_get ds i ≡ Some d
+      → is_export_name d.name ≡ true
       → (s : ClosedSequent) × Enc m s d.ty
   AreDecoded-export [] ss h i d at export = absurd (cc)
   AreDecoded-export (c ∷ cs) ss h zero d at export =
@@ -41,7 +43,8 @@ module _ (m : List Declaration) where
   not_before i j less before none = let said = before i none.declaration less none.at none.export in absurd (none.nothing said.0 said.1)
 
 module _ (files : Files) (name : List ℕ) where
-  decoded_due : (m : List Declaration) (ss : List ClosedSequent) → Says (Some files) name m ss → (due : Status) → IsDueOfDecode (Some files) name due → Done ≡ due
+  decoded_due : (m : List Declaration) (ss : List ClosedSequent) → Says (Some files) name m ss → (due : Status) → IsDueOfDecode (Some files) name due
+      → Done ≡ due
   decoded_due m ss h Done d = refl
   decoded_due m ss h (DkRefused p k) d = read_or_refused files name m p k h.file d
   decoded_due m ss h (NotSequent i) d = not_nothing m ss i h.decoded (subst (λ n. SaysNothing n i) (one_module files name d.m m d.file h.file) d.nothing)
@@ -89,14 +92,16 @@ module _ (told : Option Files) (name : List ℕ) (tells : IsTrue (is_some told))
   pub decoded-due : (m : List Declaration) (ss : List ClosedSequent) → Says told name m ss → (due : Status) → IsDueOfDecode told name due → Done ≡ due
   decoded-due = by told tells
     where
-      by : (o : Option Files) → IsTrue (is_some o) → (m : List Declaration) (ss : List ClosedSequent) → Says o name m ss → (due : Status) → IsDueOfDecode o name due → Done ≡ due
+      by : (o : Option Files) → IsTrue (is_some o) → (m : List Declaration) (ss : List ClosedSequent) → Says o name m ss → (due : Status)
+          → IsDueOfDecode o name due → Done ≡ due
       by None t = absurd (cc)
       by (Some files) t = decoded_due files name
 
   pub refused-due : (p : ℕ) (k : DkKind) → IsRefusedAt told name p k → (due : Status) → IsDueOfDecode told name due → DkRefused p k ≡ due
   refused-due = by told tells
     where
-      by : (o : Option Files) → IsTrue (is_some o) → (p : ℕ) (k : DkKind) → IsRefusedAt o name p k → (due : Status) → IsDueOfDecode o name due → DkRefused p k ≡ due
+      by : (o : Option Files) → IsTrue (is_some o) → (p : ℕ) (k : DkKind) → IsRefusedAt o name p k → (due : Status) → IsDueOfDecode o name due
+          → DkRefused p k ≡ due
       by None t = absurd (cc)
       by (Some files) t = refused_due files name
 

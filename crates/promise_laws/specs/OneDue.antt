@@ -25,7 +25,8 @@ use Rattle.bridge_spec.specs.declared.status.Status.{Status}
 use Rattle.bridge_spec.specs.declared.status.Status.TheVariants.{Done, Refused, Usage, ReadFault, WriteFault, Memory, DkRefused, IllTyped, OverBudget, NotSequent, Unwritable}
 
 -- A declaration that passes doesn't fail.
-pub not-both : (rechecks : Bool) (m : List Declaration) (i : ℕ) (t : Tree) (n k : ℕ) {X : Type 0} → CheckBy rechecks m i (Found t) n → CheckBy rechecks m i No k → X
+pub not-both : (rechecks : Bool) (m : List Declaration) (i : ℕ) (t : Tree) (n k : ℕ) {X : Type 0} → CheckBy rechecks m i (Found t) n → CheckBy rechecks m i No k
+    → X
 not-both rechecks m i t n k c d = absurd (Found-No (one_check rechecks m i (Found t) No n k c d).0)
 
 -- Two numbers are equal where neither is below the other.
@@ -87,7 +88,8 @@ module _ (files : Files) (name : List ℕ) where
   read_or_refused m p k h g = reads-or-refused h.text m p k h.within h.reads (subst (λ text. IsTextRefused text p k) (g.read ∙ sym h.read) g.refused)
 
   module _ (rechecks : Bool) (budget : ℕ) where
-    accepted_due : (m : List Declaration) → IsAccepted rechecks (Some files) name m → (due : Status) → IsDueOfCheck rechecks (Some files) name budget due → Done ≡ due
+    accepted_due : (m : List Declaration) → IsAccepted rechecks (Some files) name m → (due : Status) → IsDueOfCheck rechecks (Some files) name budget due
+        → Done ≡ due
     accepted_due m h Done d = refl
     accepted_due m h (DkRefused p k) d = read_or_refused m p k h.file d
     accepted_due m h (IllTyped i) d =
@@ -104,7 +106,8 @@ module _ (files : Files) (name : List ℕ) where
     accepted_due m h (NotSequent i) d = absurd d
     accepted_due m h Unwritable d = absurd d
 
-    refused_due : (p : ℕ) (k : DkKind) → IsRefusedAt (Some files) name p k → (due : Status) → IsDueOfCheck rechecks (Some files) name budget due → DkRefused p k ≡ due
+    refused_due : (p : ℕ) (k : DkKind) → IsRefusedAt (Some files) name p k → (due : Status) → IsDueOfCheck rechecks (Some files) name budget due
+        → DkRefused p k ≡ due
     refused_due p k h Done d = read_or_refused d.m p k d.file h
     refused_due p k h (DkRefused q l) d = one_refusal h.text p q k l h.refused (subst (λ text. IsTextRefused text q l) (d.read ∙ sym h.read) d.refused)
     refused_due p k h (IllTyped i) d = read_or_refused d.m p k d.file h
@@ -164,27 +167,31 @@ module _ (rechecks : Bool) (told : Option Files) (name : List ℕ) (budget : ℕ
   pub accepted-due : (m : List Declaration) → IsAccepted rechecks told name m → (due : Status) → IsDueOfCheck rechecks told name budget due → Done ≡ due
   accepted-due = by told tells
     where
-      by : (o : Option Files) → IsTrue (is_some o) → (m : List Declaration) → IsAccepted rechecks o name m → (due : Status) → IsDueOfCheck rechecks o name budget due → Done ≡ due
+      by : (o : Option Files) → IsTrue (is_some o) → (m : List Declaration) → IsAccepted rechecks o name m → (due : Status)
+          → IsDueOfCheck rechecks o name budget due → Done ≡ due
       by None t = absurd (cc)
       by (Some files) t = accepted_due files name rechecks budget
 
   pub refused-due : (p : ℕ) (k : DkKind) → IsRefusedAt told name p k → (due : Status) → IsDueOfCheck rechecks told name budget due → DkRefused p k ≡ due
   refused-due = by told tells
     where
-      by : (o : Option Files) → IsTrue (is_some o) → (p : ℕ) (k : DkKind) → IsRefusedAt o name p k → (due : Status) → IsDueOfCheck rechecks o name budget due → DkRefused p k ≡ due
+      by : (o : Option Files) → IsTrue (is_some o) → (p : ℕ) (k : DkKind) → IsRefusedAt o name p k → (due : Status) → IsDueOfCheck rechecks o name budget due
+          → DkRefused p k ≡ due
       by None t = absurd (cc)
       by (Some files) t = refused_due files name rechecks budget
 
   pub ill_typed-due : (i : ℕ) → IsIllTyped rechecks told name i → (due : Status) → IsDueOfCheck rechecks told name budget due → IllTyped i ≡ due
   ill_typed-due = by told tells
     where
-      by : (o : Option Files) → IsTrue (is_some o) → (i : ℕ) → IsIllTyped rechecks o name i → (due : Status) → IsDueOfCheck rechecks o name budget due → IllTyped i ≡ due
+      by : (o : Option Files) → IsTrue (is_some o) → (i : ℕ) → IsIllTyped rechecks o name i → (due : Status) → IsDueOfCheck rechecks o name budget due
+          → IllTyped i ≡ due
       by None t = absurd (cc)
       by (Some files) t = ill_typed_due files name rechecks budget
 
   pub over_budget-due : (i : ℕ) → IsOverBudget rechecks told name budget i → (due : Status) → IsDueOfCheck rechecks told name budget due → ⊥
   over_budget-due = by told tells
     where
-      by : (o : Option Files) → IsTrue (is_some o) → (i : ℕ) → IsOverBudget rechecks o name budget i → (due : Status) → IsDueOfCheck rechecks o name budget due → ⊥
+      by : (o : Option Files) → IsTrue (is_some o) → (i : ℕ) → IsOverBudget rechecks o name budget i → (due : Status) → IsDueOfCheck rechecks o name budget due
+          → ⊥
       by None t = absurd (cc)
       by (Some files) t = over_budget_due files name rechecks budget

@@ -50,7 +50,8 @@ IsLastVersion-unique (last bytes commands end earlier e l is) (last others comma
     is ∙ ap (λ cs. version_of (map (λ c. c.item) cs)) (one ∙ sym two) ∙ sym is2
 
 -- a run that was read to its end is one that the files have
-read-RunsToVersion : {told : Option Files} {names : List (List ℕ)} {version : Version} {run : Accepted} → IsRunOfVersion told names version run → RunsToVersion told names version run
+read-RunsToVersion : {told : Option Files} {names : List (List ℕ)} {version : Version} {run : Accepted} → IsRunOfVersion told names version run
+    → RunsToVersion told names version run
 read-RunsToVersion h = record { to = record { texts = h.of.texts; read = h.of.read; runs = h.of.runs }; last = h.last }
 
 -- an article that can be written cannot be unwritable
@@ -68,12 +69,14 @@ module _ (told : Option Files) (names : List (List ℕ)) (tells : IsTrue (is_som
       version (Some files) t v w a b h g = IsLastVersion-unique h.last (subst (λ texts. IsLastVersion texts w) (g.to.read ∙ sym h.to.read) g.last)
 
   -- an accepted run isn't refused
-  accepted-or-refused : {X : Type 0} (run : Accepted) (place line : ℕ) (kind : Kind) → RunsTo told names (accepted run) → RunsTo told names (refused_at place line kind) → X
+  accepted-or-refused : {X : Type 0} (run : Accepted) (place line : ℕ) (kind : Kind) → RunsTo told names (accepted run)
+      → RunsTo told names (refused_at place line kind) → X
   accepted-or-refused run place line kind h g =
       let same : accepted run ≡ refused_at place line kind = RunsTo-unique told names (accepted run) (refused_at place line kind) tells h g in
       absurd (cc)
 
-  pub written-due : (version : Version) (run : Accepted) → IsRunOfVersion told names version run → IsWritable version run → (due : Status) → IsDueOfArticle told names due → Done ≡ due
+  pub written-due : (version : Version) (run : Accepted) → IsRunOfVersion told names version run → IsWritable version run → (due : Status)
+      → IsDueOfArticle told names due → Done ≡ due
   written-due version run h s Done d = refl
   written-due version run h s (Refused place line kind) d = accepted-or-refused run place line kind (read-RunsToVersion h).to d
   written-due version run h s Unwritable d =
@@ -88,7 +91,8 @@ module _ (told : Option Files) (names : List (List ℕ)) (tells : IsTrue (is_som
   written-due version run h s (OverBudget i) d = absurd d
   written-due version run h s (NotSequent i) d = absurd d
 
-  pub unwritable-due : (version : Version) (run : Accepted) → IsRunOfVersion told names version run → IsUnwritable version run → (due : Status) → IsDueOfArticle told names due → Unwritable ≡ due
+  pub unwritable-due : (version : Version) (run : Accepted) → IsRunOfVersion told names version run → IsUnwritable version run → (due : Status)
+      → IsDueOfArticle told names due → Unwritable ≡ due
   unwritable-due version run h s Done d =
       let one = one_run version d.0 run d.1 (read-RunsToVersion h) d.2 in
       absurd (writable-or-not d.0 d.1 d.3 (subst (λ v. IsUnwritable v d.1) one.0 (subst (IsUnwritable version) one.1 s)))
@@ -103,7 +107,8 @@ module _ (told : Option Files) (names : List (List ℕ)) (tells : IsTrue (is_som
   unwritable-due version run h s (OverBudget i) d = absurd d
   unwritable-due version run h s (NotSequent i) d = absurd d
 
-  pub refused_article-due : (place line : ℕ) (kind : Kind) → RunsTo told names (refused_at place line kind) → (due : Status) → IsDueOfArticle told names due → Refused place line kind ≡ due
+  pub refused_article-due : (place line : ℕ) (kind : Kind) → RunsTo told names (refused_at place line kind) → (due : Status) → IsDueOfArticle told names due
+      → Refused place line kind ≡ due
   refused_article-due place line kind h Done d = accepted-or-refused d.1 place line kind d.2.to h
   refused_article-due place line kind h (Refused place2 line2 kind2) d =
       let same : refused_at place line kind ≡ refused_at place2 line2 kind2 = RunsTo-unique told names (refused_at place line kind) (refused_at place2 line2 kind2) tells h d in

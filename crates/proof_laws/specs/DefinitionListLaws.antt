@@ -48,7 +48,8 @@ passes f (x ∷ xs) e q h =
     let parts = and_parts (f x) (list_all f xs) e in
     go (variable_eq q x) (variable_eq-Decides q x).0 h parts.0 (passes f xs parts.1 q)
   where
-    go : (b : Bool) → (b ≡ true → q ≡ x) → (b || list_any (variable_eq q) xs) ≡ true → f x ≡ true → (list_any (variable_eq q) xs ≡ true → f q ≡ true) → f q ≡ true
+    go : (b : Bool) → (b ≡ true → q ≡ x) → (b || list_any (variable_eq q) xs) ≡ true → f x ≡ true → (list_any (variable_eq q) xs ≡ true → f q ≡ true)
+        → f q ≡ true
     go true same h k later = ap f (same refl) ∙ k
     go false same h k later = later h
 
@@ -68,7 +69,8 @@ module _ (f : Term → Option (Variable × Term)) (p : Variable × Term → Bool
   counted [] = record { at_most = omega arith; all = λ l. tt {0} }
   counted (h ∷ hs) = by_option (f h) refl (counted hs)
     where
-      by_test : (e : Variable × Term) → f h ≡ Some e → (b : Bool) → p e ≡ b → Counted hs → (length (cond b (e ∷ kept hs) (kept hs)) ≤ suc (length hs)) × (suc (length hs) ≤ length (cond b (e ∷ kept hs) (kept hs)) → AllByRecursion Passes (h ∷ hs))
+      by_test : (e : Variable × Term) → f h ≡ Some e → (b : Bool) → p e ≡ b → Counted hs
+          → (length (cond b (e ∷ kept hs) (kept hs)) ≤ suc (length hs)) × (suc (length hs) ≤ length (cond b (e ∷ kept hs) (kept hs)) → AllByRecursion Passes (h ∷ hs))
       by_test e is true q c = (let l = c.at_most in omega (arith, l), λ l. ((e, (is, q)), c.all (omega (arith, l))))
       by_test e is false q c = (let l = c.at_most in omega (arith, l), λ l. absurd (let m = c.at_most in omega (arith, l, m)))
 
@@ -92,7 +94,8 @@ of_side : (l r : Term) (v : Variable) (t : Term) → variable_side l r ≡ Some 
 of_side (free n b) r v t e = let p : ((n, b), r) ≡ (v, t) = same_Some _ _ e in (ap (λ (q : Variable × Term). free q.0.0 q.0.1) p, ap (λ (q : Variable × Term). q.1) p)
 of_side l r v t e = absurd (cc)
 
-of_parts : (h : Term) (o : Option Equation) → equation_parts h ≡ o → HasType h bool → (v : Variable) (t : Term) → of_equation o ≡ Some (v, t) → h ≡ equation v.1 (free v.0 v.1) t
+of_parts : (h : Term) (o : Option Equation) → equation_parts h ≡ o → HasType h bool → (v : Variable) (t : Term) → of_equation o ≡ Some (v, t)
+    → h ≡ equation v.1 (free v.0 v.1) t
 of_parts h None is typed v t e = absurd (cc)
 of_parts h (Some q) is typed v t e =
     let whole = equation_parts-is h q is in

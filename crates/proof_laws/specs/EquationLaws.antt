@@ -35,7 +35,8 @@ equation-sides a x y t is typed =
     record { left = q.1.1 ∙ ap Some (sym first); right = p.1.1 ∙ ap Some (sym second) }
 
 -- under binders, an equation of two terms of one type is a truth value
-pub type_under-equation : (binders : List HolType) (a : HolType) (x y : Term) → type_under binders x ≡ Some a → type_under binders y ≡ Some a → type_under binders (equation a x y) ≡ Some bool
+pub type_under-equation : (binders : List HolType) (a : HolType) (x y : Term) → type_under binders x ≡ Some a → type_under binders y ≡ Some a
+    → type_under binders (equation a x y) ≡ Some bool
 type_under-equation binders a x y p q =
     type_under-app binders (app (constant equality_name (equality_type a)) x) y a bool (type_under-app binders (constant equality_name (equality_type a)) x a (function a bool) refl p) q
 
@@ -43,7 +44,8 @@ abbrev tree_of : Equation → Term
 tree_of e = equation e.ty e.left e.right
 
 -- what is taken apart is put together again
-equation_at-is : (c : HolType) (parts : Option (HolType × HolType)) (x y : Term) (e : Equation) → equation_at c parts x y ≡ Some e → app (app (constant equality_name c) x) y ≡ tree_of e
+equation_at-is : (c : HolType) (parts : Option (HolType × HolType)) (x y : Term) (e : Equation) → equation_at c parts x y ≡ Some e
+    → app (app (constant equality_name c) x) y ≡ tree_of e
 equation_at-is c None x y e h = absurd (cc)
 equation_at-is c (Some parts) x y e h = go (type_eq c (equality_type parts.0)) (type_eq-Decides c (equality_type parts.0)).0 h
   where

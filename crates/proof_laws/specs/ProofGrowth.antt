@@ -45,7 +45,8 @@ pub All-among : {A : Type 0} (P : A → Type 0) (xs : List A) → AllByRecursion
 All-among P xs h x k = subst P (sym k.1.1) (All-get_or P xs k.0 x k.1.0 h)
 
 -- the sequents of premises are sequents of steps
-pub premises-All : (P : Sequent → Type 0) (sequents : List Sequent) → AllByRecursion P sequents → (ns : List ℕ) (ss : List Sequent) → ArePremises sequents ns ss → AllByRecursion P ss
+pub premises-All : (P : Sequent → Type 0) (sequents : List Sequent) → AllByRecursion P sequents → (ns : List ℕ) (ss : List Sequent) → ArePremises sequents ns ss
+    → AllByRecursion P ss
 premises-All P sequents h [] [] k = tt
 premises-All P sequents h (n ∷ ns) (s ∷ ss) k = (All-get P sequents n s h k.0, premises-All P sequents h ns ss k.1)
 premises-All P sequents h [] (s ∷ ss) k = absurd k

@@ -69,17 +69,20 @@ constants-fit [] = tt
 constants-fit (p ∷ ps) = (refl, constants-fit ps)
 
 -- the predicate of a type definition is one of the type
-pub predicate-typed : (names : TypeNames) (c : HolType) (f : Term) (one : Sequent) → IsTypeDefinition names c f one → HasType one.conclusion bool → HasType f (function c bool)
+pub predicate-typed : (names : TypeNames) (c : HolType) (f : Term) (one : Sequent) → IsTypeDefinition names c f one → HasType one.conclusion bool
+    → HasType f (function c bool)
 predicate-typed names c f one d h =
     let p = application_type-is (type_of f) (type_of d.witness) bool (subst (λ t. HasType t bool) d.holds h) in
     let same : p.0 ≡ c = same_Some _ _ (sym p.1.1 ∙ d.typed) in
     p.1.0 ∙ ap (λ a. Some (function a bool)) same
 
 -- the two constants under a binder
-represented-typed : (names : TypeNames) (c : HolType) (t : Term) (binders : List HolType) → type_under binders t ≡ Some (new_type names) → type_under binders (represented names c t) ≡ Some c
+represented-typed : (names : TypeNames) (c : HolType) (t : Term) (binders : List HolType) → type_under binders t ≡ Some (new_type names)
+    → type_under binders (represented names c t) ≡ Some c
 represented-typed names c t binders h = type_under-app binders (constant names.representation (representation_type names c)) t (new_type names) c refl h
 
-abstracted-typed : (names : TypeNames) (c : HolType) (t : Term) (binders : List HolType) → type_under binders t ≡ Some c → type_under binders (abstracted names c t) ≡ Some (new_type names)
+abstracted-typed : (names : TypeNames) (c : HolType) (t : Term) (binders : List HolType) → type_under binders t ≡ Some c
+    → type_under binders (abstracted names c t) ≡ Some (new_type names)
 abstracted-typed names c t binders h = type_under-app binders (constant names.abstraction (abstraction_type names c)) t c (new_type names) refl h
 
 first_law-typed : (names : TypeNames) (c : HolType) → HasType (type_definition.first_law names c).conclusion bool
@@ -104,7 +107,8 @@ first_law_free-typed names c =
     let v = type_definition.new_variable names in
     type_of-equation n (abstracted names c (represented names c v)) v (abstracted-typed names c (represented names c v) [] (represented-typed names c v [] refl)) refl
 
-second_law_free-typed : (names : TypeNames) (c : HolType) (f : Term) → HasType f (function c bool) → HasType (type_definition.second_law_free names c f).conclusion bool
+second_law_free-typed : (names : TypeNames) (c : HolType) (f : Term) → HasType f (function c bool)
+    → HasType (type_definition.second_law_free names c f).conclusion bool
 second_law_free-typed names c f h =
     let v = type_definition.old_variable c in
     let back = represented names c (abstracted names c v) in
@@ -112,7 +116,8 @@ second_law_free-typed names c f h =
     (type_of-equation c back v (represented-typed names c (abstracted names c v) [] (abstracted-typed names c v [] refl)) refl)
 
 -- The law of rules.
-pub rule-IsSequent : (kind : StepKind) (premises : List Sequent) (given : Parameters) (s : Sequent) → Rule kind premises given s → AllByRecursion IsSequent premises → IsSequent s
+pub rule-IsSequent : (kind : StepKind) (premises : List Sequent) (given : Parameters) (s : Sequent) → Rule kind premises given s
+    → AllByRecursion IsSequent premises → IsSequent s
 rule-IsSequent kind premises given s (rule.refl {t = t} {a = a} h e) p = made [] (equation a t t) s e IsDistinct-none (tt {0}) (type_of-equation a t t h h)
 rule-IsSequent kind premises given s (rule.assume {p = q} h e) p = made (q ∷ []) q s e (IsDistinct-alone q) (h, tt {0}) h
 rule-IsSequent kind premises given s (rule.eq_mp {p = x} {q = y} {one = one} {two = two} e f i) p =

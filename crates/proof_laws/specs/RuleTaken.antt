@@ -63,7 +63,8 @@ module _ (symbols : List Symbol) where
   concludes : (hs : List Term) (c : Term) (s : Sequent) → s ≡ record { hypotheses = hs; conclusion = c } → AllByRecursion (TermTaken symbols) hs → TermTaken symbols c → TermsTaken symbols s
   concludes hs c s e h k = subst (TermsTaken symbols) (sym e) (record { hypotheses = h; conclusion = k })
 
-  joined-taken : (gs hs : List Term) → AllByRecursion (TermTaken symbols) gs → AllByRecursion (TermTaken symbols) hs → AllByRecursion (TermTaken symbols) (union term_eq gs hs)
+  joined-taken : (gs hs : List Term) → AllByRecursion (TermTaken symbols) gs → AllByRecursion (TermTaken symbols) hs
+      → AllByRecursion (TermTaken symbols) (union term_eq gs hs)
   joined-taken gs hs h k = union-All (TermTaken symbols) term_eq hs gs h k
 
   -- constants that the list defines
@@ -109,14 +110,17 @@ module _ (symbols : List Symbol) where
         representation = one_used.0.2;
       }
 
-  represented-taken : (names : TypeNames) (c : HolType) (f t : Term) → TypeDefinitionParts names c f → TermTaken symbols t → TermTaken symbols (represented names c t)
+  represented-taken : (names : TypeNames) (c : HolType) (f t : Term) → TypeDefinitionParts names c f → TermTaken symbols t
+      → TermTaken symbols (represented names c t)
   represented-taken names c f t p h = ((p.representation, function-taken symbols (new_type names) c p.part p.whole), h)
 
-  abstracted-taken : (names : TypeNames) (c : HolType) (f t : Term) → TypeDefinitionParts names c f → TermTaken symbols t → TermTaken symbols (abstracted names c t)
+  abstracted-taken : (names : TypeNames) (c : HolType) (f t : Term) → TypeDefinitionParts names c f → TermTaken symbols t
+      → TermTaken symbols (abstracted names c t)
   abstracted-taken names c f t p h = ((p.abstraction, function-taken symbols c (new_type names) p.whole p.part), h)
 
   -- The law of symbols.
-  pub rule-taken : (kind : StepKind) (premises : List Sequent) (given : Parameters) (s : Sequent) → Rule kind premises given s → AllByRecursion (TermsTaken symbols) premises → ParametersTaken symbols given
+  pub rule-taken : (kind : StepKind) (premises : List Sequent) (given : Parameters) (s : Sequent) → Rule kind premises given s
+      → AllByRecursion (TermsTaken symbols) premises → ParametersTaken symbols given
       → AllByRecursion (DefinitionTaken symbols) (definitions_used kind premises given) → TermsTaken symbols s
   rule-taken kind premises given s (rule.refl {t = t} {a = a} h e) p g d = concludes [] (equation a t t) s e (tt {0}) (equation-taken symbols a t t (type_of-taken symbols t a g h) g g)
   rule-taken kind premises given s (rule.assume {p = q} h e) p g d = concludes (q ∷ []) q s e (g, tt {0}) g

@@ -50,7 +50,8 @@ grown before x s h =
     (subst (λ bs. Derives (definitions_of before ++ definitions_of (x ∷ [])) bs s) (sym (assumptions_of-append before (x ∷ [])))
     (derives-more (definitions_of before) (definitions_of (x ∷ [])) (assumptions_of before) (assumptions_of (x ∷ [])) h))
 
-new : (before : List Made) (x : Step) → AllByRecursion (DerivesBy before) (sequents_of before) → IsStep before x → (b : Bool) → infers x.kind ≡ b → DerivesBy (before ++ Made.step x ∷ []) x.sequent
+new : (before : List Made) (x : Step) → AllByRecursion (DerivesBy before) (sequents_of before) → IsStep before x → (b : Bool) → infers x.kind ≡ b
+    → DerivesBy (before ++ Made.step x ∷ []) x.sequent
 new before x all h true e = grown before (Made.step x) x.sequent (derive.Derives.inferred e h.follows (derives-all (definitions_of before) (assumptions_of before) h.premises (premises-All (DerivesBy before) (sequents_of before) all x.premises h.premises h.earlier)))
 new before x all h false e =
     subst (λ bs. Derives (definitions_of (before ++ Made.step x ∷ [])) bs x.sequent)
@@ -68,7 +69,8 @@ proof-derives m (made.Each.more {made = before} x p h is) =
     subst (λ (w : List Made). AllByRecursion (DerivesBy w) (sequents_of w)) (sym is)
     (subst (AllByRecursion (DerivesBy (before ++ x ∷ []))) (sym (sequents_of-append before (x ∷ []))) (All-append (DerivesBy (before ++ x ∷ [])) (sequents_of before) (sequents_of (x ∷ [])) earlier (last x h (proof-derives before p))))
   where
-    last : (x : Made) → IsMade before x → AllByRecursion (DerivesBy before) (sequents_of before) → AllByRecursion (DerivesBy (before ++ x ∷ [])) (sequents_of (x ∷ []))
+    last : (x : Made) → IsMade before x → AllByRecursion (DerivesBy before) (sequents_of before)
+        → AllByRecursion (DerivesBy (before ++ x ∷ [])) (sequents_of (x ∷ []))
     last (Made.symbol y) h all = tt
     last (Made.type_definition names c f i) h all = tt
     last (Made.step y) h all = (new before y all h (infers y.kind) refl, tt {0})

@@ -47,7 +47,8 @@ first_defined_type-append : (n : Name) (xs ys : List Symbol) → first_defined_t
 first_defined_type-append n [] ys = refl
 first_defined_type-append n (x ∷ xs) ys = ap (option_or (defined_type n x)) (first_defined_type-append n xs ys) ∙ or-assoc (defined_type n x) (first_defined_type n xs) (first_defined_type n ys)
 
-first_defined_arity-append : (n : Name) (xs ys : List Symbol) → first_defined_arity n (xs ++ ys) ≡ option_or (first_defined_arity n xs) (first_defined_arity n ys)
+first_defined_arity-append : (n : Name) (xs ys : List Symbol)
+    → first_defined_arity n (xs ++ ys) ≡ option_or (first_defined_arity n xs) (first_defined_arity n ys)
 first_defined_arity-append n [] ys = refl
 first_defined_arity-append n (x ∷ xs) ys = ap (option_or (defined_arity n x)) (first_defined_arity-append n xs ys) ∙ or-assoc (defined_arity n x) (first_defined_arity n xs) (first_defined_arity n ys)
 
@@ -111,14 +112,16 @@ or-nothing None = refl
 or-nothing (Some x) = refl
 
 -- a definition of a new name is taken
-pub new-constant-taken : (xs : List Symbol) (n : Name) (t : Term) → is_taken_constant xs n ≡ false → DefinitionTaken (xs ++ defined (Definition.constant n t) ∷ []) (Definition.constant n t)
+pub new-constant-taken : (xs : List Symbol) (n : Name) (t : Term) → is_taken_constant xs n ≡ false
+    → DefinitionTaken (xs ++ defined (Definition.constant n t) ∷ []) (Definition.constant n t)
 new-constant-taken xs n t new a h =
     let unknown = (or_parts (is_some (generic_type xs n)) (list_any (is_input_constant n) xs) new).0 in
     let d = defined (Definition.constant n t) in
     taken.ConstantTaken.instance a
     (generic_type-new xs (d ∷ []) n unknown ∙ or-nothing (defined_type n d) ∙ ap (λ b. cond b (type_of t) None) (name_eq-refl n) ∙ h) (Instance-own a)
 
-pub new-operator-taken : (xs : List Symbol) (names : TypeNames) (c : HolType) (f : Term) → is_taken_operator xs names.operator ≡ false → is_taken_constant xs names.abstraction ≡ false → is_taken_constant xs names.representation ≡ false
+pub new-operator-taken : (xs : List Symbol) (names : TypeNames) (c : HolType) (f : Term) → is_taken_operator xs names.operator ≡ false
+    → is_taken_constant xs names.abstraction ≡ false → is_taken_constant xs names.representation ≡ false
     → name_eq names.abstraction names.representation ≡ false → DefinitionTaken (xs ++ defined (Definition.type_operator names c f) ∷ []) (Definition.type_operator names c f)
 new-operator-taken xs names c f new_operator new_abstraction new_representation apart =
     let d = defined (Definition.type_operator names c f) in

@@ -31,7 +31,8 @@ module _ (ps : List Symbol) where
   bool-taken = (items.OperatorTaken.of_arity refl, tt {0})
 
   -- the type of a term over what is taken is over it
-  type-taken : (binders : List HolType) → ((k : ℕ) (a : HolType) → slice_get binders k ≡ Some a → TypeTaken ps a) → (t : Term) (a : HolType) → TermTaken ps t → type_under binders t ≡ Some a → TypeTaken ps a
+  type-taken : (binders : List HolType) → ((k : ℕ) (a : HolType) → slice_get binders k ≡ Some a → TypeTaken ps a) → (t : Term) (a : HolType) → TermTaken ps t
+      → type_under binders t ≡ Some a → TypeTaken ps a
   type-taken binders b (term.Term.free n t) a h e = subst (TypeTaken ps) (same_Some _ _ e) h
   type-taken binders b (term.Term.bound k) a h e = b k a e
   type-taken binders b (term.Term.constant n t) a h e = subst (TypeTaken ps) (same_Some _ _ e) h.1
@@ -42,7 +43,8 @@ module _ (ps : List Symbol) where
       let p = abstraction_type-is t (type_under (t ∷ binders) c) a e in
       subst (TypeTaken ps) (sym p.1.1) (function-taken t p.0 h.0 (type-taken (t ∷ binders) (under t b h.0) c p.0 h.1 p.1.0))
     where
-      under : (t : HolType) → ((k : ℕ) (a : HolType) → slice_get binders k ≡ Some a → TypeTaken ps a) → TypeTaken ps t → (k : ℕ) (a : HolType) → slice_get (t ∷ binders) k ≡ Some a → TypeTaken ps a
+      under : (t : HolType) → ((k : ℕ) (a : HolType) → slice_get binders k ≡ Some a → TypeTaken ps a) → TypeTaken ps t → (k : ℕ) (a : HolType)
+          → slice_get (t ∷ binders) k ≡ Some a → TypeTaken ps a
       under t b h zero a e = subst (TypeTaken ps) (same_Some _ _ e) h
       under t b h (suc k) a e = b k a e
 
@@ -109,7 +111,8 @@ module _ (ps : List Symbol) (pairs : TypePairs) (terms : TermPairs) (types_taken
   image-taken [] n h = tt
   image-taken (q ∷ qs) n h = go (name_eq n q.0) (image-taken qs n h.1)
     where
-      go : (b : Bool) → TypeTaken ps (unwrap_or (lookup (name_eq n) qs) (type.HolType.variable n)) → TypeTaken ps (unwrap_or (cond b (Some q.1) (lookup (name_eq n) qs)) (type.HolType.variable n))
+      go : (b : Bool) → TypeTaken ps (unwrap_or (lookup (name_eq n) qs) (type.HolType.variable n))
+          → TypeTaken ps (unwrap_or (cond b (Some q.1) (lookup (name_eq n) qs)) (type.HolType.variable n))
       go true k = h.0
       go false k = k
 

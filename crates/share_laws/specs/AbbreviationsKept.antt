@@ -112,7 +112,8 @@ module _ (before more : List Declaration) (two : 2 ≤ length (signature ++ befo
       let b = and_then-Some (λ t. if tree_eq t types then at_a_type (constant_type before G f) a else None) (constant_type before G a) A e in
       by_test (tree_eq b.0 types) b.2 (λ t i. constant-below G f t (omega (arith, h)) i)
     where
-      by_test : (c : Bool) → (if c then at_a_type (constant_type before G f) a else None) ≡ Some A → ((t : Tree) → constant_type before G f ≡ Some t → IsBelow t) → IsBelow A
+      by_test : (c : Bool) → (if c then at_a_type (constant_type before G f) a else None) ≡ Some A
+          → ((t : Tree) → constant_type before G f ≡ Some t → IsBelow t) → IsBelow A
       by_test true i k = at_a_type-below n (constant_type before G f) a A k (omega (arith, h)) i
       by_test false i k = absurd (cc)
   constant-below G SortType A h e = absurd (cc)
@@ -133,11 +134,13 @@ module _ (before more : List Declaration) (two : 2 ≤ length (signature ++ befo
       let p = provided-Some (is_simple before G b.0) b.0 a b.2 in
       subst IsBelow p.1 (type_of_terms-below n t b.0 h b.1)
 
-  then_part : (o : Option Tree) (G : List Tree) → ((A : Tree) → o ≡ Some A → IsBelow A) → option_and_then (simple_part m G) o ≡ option_and_then (simple_part before G) o
+  then_part : (o : Option Tree) (G : List Tree) → ((A : Tree) → o ≡ Some A → IsBelow A)
+      → option_and_then (simple_part m G) o ≡ option_and_then (simple_part before G) o
   then_part None G h = refl
   then_part (Some A) G h = part-kept G A (h A refl)
 
-  constant_part-kept : (G : List Tree) (t : Tree) → IsBelow t → option_and_then (simple_part m G) (constant_type m G t) ≡ option_and_then (simple_part before G) (constant_type before G t)
+  constant_part-kept : (G : List Tree) (t : Tree) → IsBelow t
+      → option_and_then (simple_part m G) (constant_type m G t) ≡ option_and_then (simple_part before G) (constant_type before G t)
   constant_part-kept G t h = ap (option_and_then (simple_part m G)) (constant-kept G t h) ∙ then_part (constant_type before G t) G (λ A e. constant-below G t A h e)
 
   constant_part-below : (G : List Tree) (t a : Tree) → IsBelow t → option_and_then (simple_part before G) (constant_type before G t) ≡ Some a → IsBelow a
@@ -178,7 +181,8 @@ module _ (before more : List Declaration) (two : 2 ≤ length (signature ++ befo
   variable-kept None G k h = refl
   variable-kept (Some A) G k h = let l = h A refl in part-kept G (lift (suc k) A) (omega (arith, l, symbols-lift_at 0 (suc k) A))
 
-  function-kept : (o : Option Tree) (G : List Tree) (a : Tree) → IsBelow a → ((c : Tree) → o ≡ Some c → IsBelow c) → option_and_then (function_type m G a) o ≡ option_and_then (function_type before G a) o
+  function-kept : (o : Option Tree) (G : List Tree) (a : Tree) → IsBelow a → ((c : Tree) → o ≡ Some c → IsBelow c)
+      → option_and_then (function_type m G a) o ≡ option_and_then (function_type before G a) o
   function-kept None G a l h = refl
   function-kept (Some c) G a l h =
       let k = h c refl in
@@ -196,7 +200,8 @@ module _ (before more : List Declaration) (two : 2 ≤ length (signature ++ befo
       ap₂ or_else (constant_part-kept G (App f x) h) (ap₂ (λ p q. option_and_then (λ t. option_and_then (value_type t) p) q) j i)
   term-kept G (Lam d t) g h = ap (option_and_then (λ a. option_and_then (function_type m G a) (term_type m (term_of a ∷ G) t))) (part-kept G d (omega (arith, h))) ∙ under (simple_part before G d) (λ a e. part-below G d a (omega (arith, h)) e) (λ a l. term-kept (term_of a ∷ G) t (omega (arith, l, five), g) (omega (arith, h)))
     where
-      under : (o : Option Tree) → ((a : Tree) → o ≡ Some a → IsBelow a) → ((a : Tree) → IsBelow a → term_type m (term_of a ∷ G) t ≡ term_type before (term_of a ∷ G) t)
+      under : (o : Option Tree) → ((a : Tree) → o ≡ Some a → IsBelow a)
+          → ((a : Tree) → IsBelow a → term_type m (term_of a ∷ G) t ≡ term_type before (term_of a ∷ G) t)
           → option_and_then (λ a. option_and_then (function_type m G a) (term_type m (term_of a ∷ G) t)) o ≡ option_and_then (λ a. option_and_then (function_type before G a) (term_type before (term_of a ∷ G) t)) o
       under None l k = refl
       under (Some a) l k =

@@ -46,7 +46,8 @@ pub firsts-append : (met xs ys : List Tree) → firsts met (xs ++ ys) ≡ firsts
 firsts-append met [] ys = ap (λ l. firsts l ys) (sym (append-nil met))
 firsts-append met (x ∷ xs) ys = go (is_in x met) refl (firsts-append met xs ys) (firsts-append (met ++ x ∷ []) xs ys)
   where
-    go : (b : Bool) → is_in x met ≡ b → firsts met (xs ++ ys) ≡ firsts met xs ++ firsts (met ++ xs) ys → firsts (met ++ x ∷ []) (xs ++ ys) ≡ firsts (met ++ x ∷ []) xs ++ firsts ((met ++ x ∷ []) ++ xs) ys
+    go : (b : Bool) → is_in x met ≡ b → firsts met (xs ++ ys) ≡ firsts met xs ++ firsts (met ++ xs) ys
+        → firsts (met ++ x ∷ []) (xs ++ ys) ≡ firsts (met ++ x ∷ []) xs ++ firsts ((met ++ x ∷ []) ++ xs) ys
         → (if b then firsts met (xs ++ ys) else x ∷ firsts (met ++ x ∷ []) (xs ++ ys)) ≡ (if b then firsts met xs else x ∷ firsts (met ++ x ∷ []) xs) ++ firsts (met ++ x ∷ xs) ys
     go true e i j = i ∙ ap (λ l. firsts met xs ++ l) (firsts-alike (met ++ xs) (met ++ x ∷ xs) ys (alike-met met xs x e))
     go false e i j = ap (λ l. x ∷ l) (j ∙ ap (λ l. firsts (met ++ x ∷ []) xs ++ firsts l ys) (append_assoc met (x ∷ []) xs))
@@ -63,7 +64,8 @@ firsts-in : (w : Tree) (met us : List Tree) → is_in w (met ++ firsts met us) �
 firsts-in w met [] = refl
 firsts-in w met (u ∷ us) = go (is_in u met) refl (firsts-in w met us) (firsts-in w (met ++ u ∷ []) us)
   where
-    go : (b : Bool) → is_in u met ≡ b → is_in w (met ++ firsts met us) ≡ is_in w (met ++ us) → is_in w ((met ++ u ∷ []) ++ firsts (met ++ u ∷ []) us) ≡ is_in w ((met ++ u ∷ []) ++ us)
+    go : (b : Bool) → is_in u met ≡ b → is_in w (met ++ firsts met us) ≡ is_in w (met ++ us)
+        → is_in w ((met ++ u ∷ []) ++ firsts (met ++ u ∷ []) us) ≡ is_in w ((met ++ u ∷ []) ++ us)
         → is_in w (met ++ (if b then firsts met us else u ∷ firsts (met ++ u ∷ []) us)) ≡ is_in w (met ++ u ∷ us)
     go true e i j = i ∙ alike-met met us u e w
     go false e i j = ap (λ l. is_in w l) (sym (append_assoc met (u ∷ []) (firsts (met ++ u ∷ []) us))) ∙ j ∙ ap (λ l. is_in w l) (append_assoc met (u ∷ []) us)

@@ -15,13 +15,15 @@ use Rattle.share_laws.specs.AbbreviationsKept.{abbreviation-kept}
 use Rattle.share_laws.specs.WrittenOnceLaws.{declaration-symbols, declared-front, in-either, in-left, in-right}
 
 -- a part of a declaration
-pub abbreviation-whole : (before more : List Declaration) (d : Declaration) (t : Tree) → IsModule (before ++ d ∷ more) → is_in t (parts_in d) ≡ true → abbreviation (before ++ d ∷ more) t ≡ abbreviation before t
+pub abbreviation-whole : (before more : List Declaration) (d : Declaration) (t : Tree) → IsModule (before ++ d ∷ more) → is_in t (parts_in d) ≡ true
+    → abbreviation (before ++ d ∷ more) t ≡ abbreviation before t
 abbreviation-whole before more d t a h =
     let both = declared-front signature before (d ∷ more) a in
     abbreviation-kept before (d ∷ more) (omega (arith, length-append signature before)) (IsModule-IsSelfContained before both.0).types t (declaration-symbols (signature ++ before) d t both.1.0 h)
 
 -- lists of trees over which the two are the same
-pub shared-same : (m n : List Declaration) (all ts : List Tree) → ((t : Tree) → is_in t ts ≡ true → abbreviation m t ≡ abbreviation n t) → abbreviations m (filter (is_shared m all) ts) ≡ abbreviations n (filter (is_shared n all) ts)
+pub shared-same : (m n : List Declaration) (all ts : List Tree) → ((t : Tree) → is_in t ts ≡ true → abbreviation m t ≡ abbreviation n t)
+    → abbreviations m (filter (is_shared m all) ts) ≡ abbreviations n (filter (is_shared n all) ts)
 shared-same m n all [] h = refl
 shared-same m n all (t ∷ ts) h =
     let e : abbreviation m t ≡ abbreviation n t = h t (in-left t (t ∷ []) ts (ap (λ b. b || false) (tree_eq-refl t))) in
@@ -39,7 +41,8 @@ firsts-within : (t : Tree) (met us : List Tree) → is_in t (firsts met us) ≡ 
 firsts-within t met [] h = h
 firsts-within t met (u ∷ us) h = go (is_in u met) (tree_eq t u) h (λ i. firsts-within t met us i) (λ i. firsts-within t (met ++ u ∷ []) us i)
   where
-    go : (b c : Bool) → is_in t (if b then firsts met us else u ∷ firsts (met ++ u ∷ []) us) ≡ true → (is_in t (firsts met us) ≡ true → is_in t us ≡ true) → (is_in t (firsts (met ++ u ∷ []) us) ≡ true → is_in t us ≡ true)
+    go : (b c : Bool) → is_in t (if b then firsts met us else u ∷ firsts (met ++ u ∷ []) us) ≡ true → (is_in t (firsts met us) ≡ true → is_in t us ≡ true)
+        → (is_in t (firsts (met ++ u ∷ []) us) ≡ true → is_in t us ≡ true)
         → is_in t (u ∷ us) ≡ true
     go true c h p q = in-right t (u ∷ []) us (p h)
     go false c h p q = elim (in-either t (u ∷ []) (firsts (met ++ u ∷ []) us) h) [

@@ -42,19 +42,24 @@ abbreviation_name-injective j k e = numeral-injective j k (tail_is (numeral j) (
 other_bytes : (a b : List ℕ) → (a ≡ b → ⊥) → bytes_eq a b ≡ false
 other_bytes a b h = false_from_ne_true (bytes_eq a b) (λ e. h ((bytes_eq-Decides a b).0 e))
 
-not_declared-parts : (xs : List Declaration) (d : Declaration) (name : List ℕ) → IsFalse (is_declared (xs ++ d ∷ []) name) → IsFalse (is_declared xs name) × (bytes_eq d.name name ≡ false)
+not_declared-parts : (xs : List Declaration) (d : Declaration) (name : List ℕ) → IsFalse (is_declared (xs ++ d ∷ []) name)
+    → IsFalse (is_declared xs name) × (bytes_eq d.name name ≡ false)
 not_declared-parts [] d name e = (refl, grind (arith, e))
 not_declared-parts (x ∷ xs) d name e = go (bytes_eq x.name name) refl e (λ i. not_declared-parts xs d name i)
   where
-    go : (b : Bool) → bytes_eq x.name name ≡ b → IsFalse (b || is_declared (xs ++ d ∷ []) name) → (IsFalse (is_declared (xs ++ d ∷ []) name) → IsFalse (is_declared xs name) × (bytes_eq d.name name ≡ false)) → IsFalse (is_declared (x ∷ xs) name) × (bytes_eq d.name name ≡ false)
+    go : (b : Bool) → bytes_eq x.name name ≡ b → IsFalse (b || is_declared (xs ++ d ∷ []) name)
+        → (IsFalse (is_declared (xs ++ d ∷ []) name) → IsFalse (is_declared xs name) × (bytes_eq d.name name ≡ false))
+        → IsFalse (is_declared (x ∷ xs) name) × (bytes_eq d.name name ≡ false)
     go true i j f = absurd (cc)
     go false i j f = let k = f j in (rw i k.0, k.1)
 
-not_declared-from : (xs : List Declaration) (d : Declaration) (name : List ℕ) → IsFalse (is_declared xs name) → bytes_eq d.name name ≡ false → IsFalse (is_declared (xs ++ d ∷ []) name)
+not_declared-from : (xs : List Declaration) (d : Declaration) (name : List ℕ) → IsFalse (is_declared xs name) → bytes_eq d.name name ≡ false
+    → IsFalse (is_declared (xs ++ d ∷ []) name)
 not_declared-from [] d name e f = rw f refl
 not_declared-from (x ∷ xs) d name e f = go (bytes_eq x.name name) refl e (λ i. not_declared-from xs d name i f)
   where
-    go : (b : Bool) → bytes_eq x.name name ≡ b → IsFalse (b || is_declared xs name) → (IsFalse (is_declared xs name) → IsFalse (is_declared (xs ++ d ∷ []) name)) → IsFalse (bytes_eq x.name name || is_declared (xs ++ d ∷ []) name)
+    go : (b : Bool) → bytes_eq x.name name ≡ b → IsFalse (b || is_declared xs name)
+        → (IsFalse (is_declared xs name) → IsFalse (is_declared (xs ++ d ∷ []) name)) → IsFalse (bytes_eq x.name name || is_declared (xs ++ d ∷ []) name)
     go true i j k = absurd (cc)
     go false i j k = rw i (k j)
 
@@ -62,10 +67,12 @@ not_declared-from (x ∷ xs) d name e f = go (bytes_eq x.name name) refl e (λ i
 abbrev HaveNames : List Declaration → List Declaration → ℕ → Type 0
 HaveNames before after k = (name : List ℕ) → IsFalse (is_declared before name) → ((j : ℕ) → j < k → abbreviation_name j ≡ name → ⊥) → IsFalse (is_declared after name)
 
-names-kept : (g : ℕ → ℕ) (before after : List Declaration) (d : Declaration) (k : ℕ) → HaveNames before after k → HaveNames (before ++ d ∷ []) (after ++ moved_declaration g d ∷ []) k
+names-kept : (g : ℕ → ℕ) (before after : List Declaration) (d : Declaration) (k : ℕ) → HaveNames before after k
+    → HaveNames (before ++ d ∷ []) (after ++ moved_declaration g d ∷ []) k
 names-kept g before after d k h name e f = let p = not_declared-parts before d name e in not_declared-from after (moved_declaration g d) name (h name p.0 f) p.1
 
-names-abbreviated : (before after : List Declaration) (x : Declaration) (k : ℕ) → x.name ≡ abbreviation_name k → HaveNames before after k → HaveNames before (after ++ x ∷ []) (suc k)
+names-abbreviated : (before after : List Declaration) (x : Declaration) (k : ℕ) → x.name ≡ abbreviation_name k → HaveNames before after k
+    → HaveNames before (after ++ x ∷ []) (suc k)
 names-abbreviated before after x k is h name e f =
     not_declared-from after x name (h name e (λ j l. f j (omega (arith, l)))) (other_bytes x.name name (λ s. f k (omega arith) (sym is ∙ s)))
 
@@ -84,7 +91,9 @@ kept_of (abbreviated t a ∷ es) = kept_of es
 
 -- They are a module
 module _ (g : ℕ → ℕ) where
-  entries-AreDeclared : (before after : List Declaration) (es : List Entry) (k : ℕ) → HaveNames (signature ++ before) (signature ++ after) k → NoneShort (signature ++ before) → NoneShort (kept_of es) → AreDeclared (signature ++ before) (kept_of es) → IsSound after → AreShaped after (declarations g k es)
+  entries-AreDeclared : (before after : List Declaration) (es : List Entry) (k : ℕ) → HaveNames (signature ++ before) (signature ++ after) k
+      → NoneShort (signature ++ before) → NoneShort (kept_of es) → AreDeclared (signature ++ before) (kept_of es) → IsSound after
+      → AreShaped after (declarations g k es)
       → AreDeclared (signature ++ after) (declarations g k es)
   entries-AreDeclared before after [] k n u v h s p = tt
   entries-AreDeclared before after (kept d ∷ es) k n u v h s p =
@@ -168,7 +177,8 @@ module _ (g : ℕ → ℕ) (before after : List Declaration) (h : IsMoved g befo
   moved-IsBodyLong None = tt
   moved-IsBodyLong (Some t) = moved-IsLong t
 
-entries-AreLong : (g : ℕ → ℕ) (before after : List Declaration) (es : List Entry) (k : ℕ) → IsPlaced g before after es → NoneShort (signature ++ before) → NoneShort (kept_of es) → AreLong after (declarations g k es)
+entries-AreLong : (g : ℕ → ℕ) (before after : List Declaration) (es : List Entry) (k : ℕ) → IsPlaced g before after es → NoneShort (signature ++ before)
+    → NoneShort (kept_of es) → AreLong after (declarations g k es)
 entries-AreLong g before after [] k p u v = tt
 entries-AreLong g before after (kept d ∷ es) k p u v =
     let h = IsPlaced-IsMoved g before after (kept d ∷ es) p in (

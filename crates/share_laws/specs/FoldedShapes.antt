@@ -50,7 +50,8 @@ module _ (g : ℕ → ℕ) where
           let at : g i ≡ length after + place_in es (i - length before) = ap g is ∙ h.high (i - length before) in
           slice_get-past after (g i) (omega (arith, at))
 
-  pub IsPlaced-kept : (before after : List Declaration) (d : Declaration) (es : List Entry) → IsPlaced g before after (kept d ∷ es) → IsPlaced g (before ++ d ∷ []) (after ++ moved_declaration g d ∷ []) es
+  pub IsPlaced-kept : (before after : List Declaration) (d : Declaration) (es : List Entry) → IsPlaced g before after (kept d ∷ es)
+      → IsPlaced g (before ++ d ∷ []) (after ++ moved_declaration g d ∷ []) es
   IsPlaced-kept before after d es h = record {
     low = λ i x e. elim (slice_get-one_more before d x i e) [
       | inl a ↦ slice_get-append after (moved_declaration g d ∷ []) (g i) (moved_declaration g x) (h.low i x a)
@@ -64,7 +65,8 @@ module _ (g : ℕ → ℕ) where
         ap g n ∙ h.high (suc i) ∙ omega (arith, length-append after (moved_declaration g d ∷ []));
   }
 
-  pub IsPlaced-abbreviated : (before after : List Declaration) (t a : Tree) (x : Declaration) (es : List Entry) → IsPlaced g before after (abbreviated t a ∷ es) → IsPlaced g before (after ++ x ∷ []) es
+  pub IsPlaced-abbreviated : (before after : List Declaration) (t a : Tree) (x : Declaration) (es : List Entry) → IsPlaced g before after (abbreviated t a ∷ es)
+      → IsPlaced g before (after ++ x ∷ []) es
   IsPlaced-abbreviated before after t a x es h = record {
     low = λ i d e. slice_get-append after (x ∷ []) (g i) (moved_declaration g d) (h.low i d e);
     high = λ i. h.high i ∙ omega (arith, length-append after (x ∷ []));
@@ -84,7 +86,8 @@ AreEntries before (kept d ∷ es) = IsShaped before d × AreEntries (before ++ d
 AreEntries before (abbreviated t a ∷ es) = (abbreviation before t ≡ Some a) × AreEntries before es
 
 -- What entries become is shaped
-pub entries-AreShaped : (g : ℕ → ℕ) (before after : List Declaration) (es : List Entry) (k : ℕ) → IsPlaced g before after es → AreEntries before es → AreShaped after (declarations g k es)
+pub entries-AreShaped : (g : ℕ → ℕ) (before after : List Declaration) (es : List Entry) (k : ℕ) → IsPlaced g before after es → AreEntries before es
+    → AreShaped after (declarations g k es)
 entries-AreShaped g before after [] k p h = tt
 entries-AreShaped g before after (kept d ∷ es) k p h = (
   shaped-moved g before after (IsPlaced-IsMoved g before after (kept d ∷ es) p) d h.0,
@@ -99,15 +102,18 @@ entries-AreShaped g before after (abbreviated t a ∷ es) k p h = (
 unwrapped : (o : Option Tree) → is_some o ≡ true → o ≡ Some (unwrap_or o types)
 unwrapped o e = let s = is_some-Some o e in s.1 ∙ ap (λ w. Some (unwrap_or w types)) (sym s.1)
 
-abbreviations-AreEntries : (before : List Declaration) (all ts : List Tree) (es : List Entry) → AreEntries before es → AreEntries before (abbreviations before (filter (is_shared before all) ts) ++ es)
+abbreviations-AreEntries : (before : List Declaration) (all ts : List Tree) (es : List Entry) → AreEntries before es
+    → AreEntries before (abbreviations before (filter (is_shared before all) ts) ++ es)
 abbreviations-AreEntries before all [] es h = h
 abbreviations-AreEntries before all (t ∷ ts) es h = go (is_shared before all t) refl (abbreviations-AreEntries before all ts es h)
   where
-    go : (b : Bool) → is_shared before all t ≡ b → AreEntries before (abbreviations before (filter (is_shared before all) ts) ++ es) → AreEntries before (abbreviations before (if b then t ∷ filter (is_shared before all) ts else filter (is_shared before all) ts) ++ es)
+    go : (b : Bool) → is_shared before all t ≡ b → AreEntries before (abbreviations before (filter (is_shared before all) ts) ++ es)
+        → AreEntries before (abbreviations before (if b then t ∷ filter (is_shared before all) ts else filter (is_shared before all) ts) ++ es)
     go true e k = (unwrapped (abbreviation before t) (and_parts (is_some (abbreviation before t)) (nat_le 2 (places t all)) e).0, k)
     go false e k = k
 
-after-AreEntries : (before : List Declaration) (all met : List Tree) (ds : List Declaration) → AreShaped before ds → AreEntries before (entries before all met ds)
+after-AreEntries : (before : List Declaration) (all met : List Tree) (ds : List Declaration) → AreShaped before ds
+    → AreEntries before (entries before all met ds)
 after-AreEntries before all met [] h = tt
 after-AreEntries before all met (d ∷ ds) h =
     abbreviations-AreEntries before all (firsts met (parts_in d)) (kept d ∷ entries (before ++ d ∷ []) all (met ++ parts_in d) ds) (h.0, after-AreEntries (before ++ d ∷ []) all (met ++ parts_in d) ds h.1)

@@ -50,7 +50,8 @@ module _ (g : ℕ → ℕ) where
   abbreviated-moved m n h t _ (of_type s) = of_type (simple-moved g m n h s)
   abbreviated-moved m n h t a (of_term s) = of_term (shape-moved g m n h s)
 
-  declarations-IsFrom : (before after : List Declaration) (es : List Entry) (k : ℕ) → IsPlaced g before after es → AreEntries before es → (i : ℕ) (d : Declaration) → slice_get (declarations g k es) i ≡ Some d
+  declarations-IsFrom : (before after : List Declaration) (es : List Entry) (k : ℕ) → IsPlaced g before after es → AreEntries before es
+      → (i : ℕ) (d : Declaration) → slice_get (declarations g k es) i ≡ Some d
       → IsFrom g (before ++ kept_of es) (after ++ declarations g k es) (length after + i) d
   declarations-IsFrom before after [] k p h i d e = absurd (cc)
   declarations-IsFrom before after (kept c ∷ es) k p h zero d e =
@@ -81,7 +82,8 @@ module _ (g : ℕ → ℕ) where
       (declarations-IsFrom before (after ++ x ∷ []) es (suc k) (IsPlaced-abbreviated g before after t a x es p) h.1 i d e))
 
   -- all are at their places at the end
-  declarations-IsPlaced : (before after : List Declaration) (es : List Entry) (k : ℕ) → IsPlaced g before after es → IsPlaced g (before ++ kept_of es) (after ++ declarations g k es) []
+  declarations-IsPlaced : (before after : List Declaration) (es : List Entry) (k : ℕ) → IsPlaced g before after es
+      → IsPlaced g (before ++ kept_of es) (after ++ declarations g k es) []
   declarations-IsPlaced before after [] k p = subst₂ (λ v w. IsPlaced g v w []) (sym (append-nil before)) (sym (append-nil after)) p
   declarations-IsPlaced before after (kept c ∷ es) k p =
       let x = moved_declaration g c in
@@ -97,7 +99,8 @@ folded-IsMoved m =
     subst (λ l. IsMoved (place_in es) l (folded m)) (kept_of-entries_of m)
     (IsPlaced-IsMoved (place_in es) (kept_of es) (folded m) [] (declarations-IsPlaced (place_in es) [] [] es 0 (IsPlaced-first es)))
 
-folded-IsFrom : (m : List Declaration) → AreShaped [] m → (i : ℕ) (d : Declaration) → slice_get (folded m) i ≡ Some d → IsFrom (place_in (entries_of m)) m (folded m) i d
+folded-IsFrom : (m : List Declaration) → AreShaped [] m → (i : ℕ) (d : Declaration) → slice_get (folded m) i ≡ Some d
+    → IsFrom (place_in (entries_of m)) m (folded m) i d
 folded-IsFrom m s i d e =
     let es = entries_of m in
     let z : 0 + i ≡ i = omega arith in
@@ -130,7 +133,8 @@ module _ (g : ℕ → ℕ) (m n : List Declaration) (h : IsMoved g m n) (run : A
   reached-moved i (used j d r e f) =
       used (g j) (moved_declaration g d) (reached-moved j r) (at-moved j d e) (subst (λ s. uses (moved_declaration g d) s ≡ true) (moved_symbol-high g i) (uses-moved g d (length signature + i) f))
 
-  operator_symbol : (name : List ℕ) (k : ℕ) → moved_declaration g (symbol name (products (replicate k types) types)) ≡ symbol name (products (replicate k types) types)
+  operator_symbol : (name : List ℕ) (k : ℕ)
+      → moved_declaration g (symbol name (products (replicate k types) types)) ≡ symbol name (products (replicate k types) types)
   operator_symbol name k = ap (symbol name) (moved-operator g k)
 
   given-moved : (d : Declaration) → IsGiven m run d → IsGiven n run (moved_declaration g d)
@@ -153,7 +157,8 @@ module _ (g : ℕ → ℕ) (m n : List Declaration) (h : IsMoved g m n) (run : A
   }
 
   -- the arguments of a symbol of parts
-  part-moved : (names : TypeNames) (c : HolType) (f : Term) (variables : List Name) (arguments : List Tree) → IsPartOf m run names c f variables arguments → IsPartOf n run names c f variables (map (moved g) arguments)
+  part-moved : (names : TypeNames) (c : HolType) (f : Term) (variables : List Name) (arguments : List Tree) → IsPartOf m run names c f variables arguments
+      → IsPartOf n run names c f variables (map (moved g) arguments)
   part-moved names c f variables arguments r = record {
     among = r.among;
     one = r.one;
@@ -171,10 +176,12 @@ module _ (g : ℕ → ℕ) (m n : List Declaration) (h : IsMoved g m n) (run : A
     are = ap (map (moved g)) r.are ∙ ap (λ t. moved g r.C ∷ moved g r.F ∷ moved g r.W ∷ t ∷ []) (moved-applied g (Sym r.symbol) r.parameters);
   }
 
-  part_body-moved : (k s : ℕ) (arguments : List Tree) → moved g (abstractions (replicate k types) (applied (Sym s) arguments)) ≡ abstractions (replicate k types) (applied (Sym (moved_symbol g s)) (map (moved g) arguments))
+  part_body-moved : (k s : ℕ) (arguments : List Tree)
+      → moved g (abstractions (replicate k types) (applied (Sym s) arguments)) ≡ abstractions (replicate k types) (applied (Sym (moved_symbol g s)) (map (moved g) arguments))
   part_body-moved k s arguments = moved-abstractions g (replicate k types) (applied (Sym s) arguments) ∙ ap₂ abstractions (moved-types g k) (moved-applied g (Sym s) arguments)
 
-  part_definition-moved : (name : List ℕ) (A : Tree) (k s : ℕ) (arguments : List Tree) → moved_declaration g (part_definition name A k s arguments) ≡ part_definition name (moved g A) k (moved_symbol g s) (map (moved g) arguments)
+  part_definition-moved : (name : List ℕ) (A : Tree) (k s : ℕ) (arguments : List Tree)
+      → moved_declaration g (part_definition name A k s arguments) ≡ part_definition name (moved g A) k (moved_symbol g s) (map (moved g) arguments)
   part_definition-moved name A k s arguments = ap (λ t. record { name = name; form = Def; ty = moved g A; body = Some t }) (part_body-moved k s arguments)
 
   defined-moved : (d : Declaration) → IsDefined m run d → IsDefined n run (moved_declaration g d)
@@ -232,7 +239,8 @@ folded-FoldedStands m run u s h =
         subst₂ (IsUnproved (folded m) run) (sym is) moves (record { given = given-moved g m (folded m) k run c r.given; reached = reached-moved g m (folded m) k run j r.reached })
     unproved i d b (from_abbreviation a) = absurd (let e = ap (λ (x : Declaration). x.body) a.is in cc)
 
-    definitions : (i : ℕ) (d : Declaration) → d.form ≡ Def → IsFrom (place_in (entries_of m)) m (folded m) i d → IsDefined (folded m) run d ⊎ IsAbbreviation (take i (folded m)) d
+    definitions : (i : ℕ) (d : Declaration) → d.form ≡ Def → IsFrom (place_in (entries_of m)) m (folded m) i d
+        → IsDefined (folded m) run d ⊎ IsAbbreviation (take i (folded m)) d
     definitions i d f (from_kept j c at is moves) =
         let g = place_in (entries_of m) in
         let k = folded-IsMoved m in

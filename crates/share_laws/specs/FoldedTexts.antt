@@ -86,11 +86,13 @@ AreShallowEntries [] = Unit {0}
 AreShallowEntries (kept d ∷ es) = (depth d.ty ≤ max_depth) × IsBodyShallow d.body × AreShallowEntries es
 AreShallowEntries (abbreviated t a ∷ es) = (depth t ≤ max_depth) × (depth a ≤ max_depth) × AreShallowEntries es
 
-abbreviations-shallow : (before : List Declaration) (all ts : List Tree) (es : List Entry) → Shallow ts → AreShallowEntries es → AreShallowEntries (abbreviations before (filter (is_shared before all) ts) ++ es)
+abbreviations-shallow : (before : List Declaration) (all ts : List Tree) (es : List Entry) → Shallow ts → AreShallowEntries es
+    → AreShallowEntries (abbreviations before (filter (is_shared before all) ts) ++ es)
 abbreviations-shallow before all [] es h k = k
 abbreviations-shallow before all (t ∷ ts) es h k = go (is_shared before all t) refl (abbreviations-shallow before all ts es h.1 k)
   where
-    go : (b : Bool) → is_shared before all t ≡ b → AreShallowEntries (abbreviations before (filter (is_shared before all) ts) ++ es) → AreShallowEntries (abbreviations before (if b then t ∷ filter (is_shared before all) ts else filter (is_shared before all) ts) ++ es)
+    go : (b : Bool) → is_shared before all t ≡ b → AreShallowEntries (abbreviations before (filter (is_shared before all) ts) ++ es)
+        → AreShallowEntries (abbreviations before (if b then t ∷ filter (is_shared before all) ts else filter (is_shared before all) ts) ++ es)
     go true e x =
         let s = is_some-Some (abbreviation before t) (and_parts (is_some (abbreviation before t)) _ e).0 in
         (h.0, subst (λ o. depth (unwrap_or o types) ≤ max_depth) (sym s.1) (abbreviation-Some before t s.0 s.1).2, x)
@@ -103,7 +105,8 @@ entries-shallow before all met (d ∷ ds) h =
     (firsts-Shallow met (parts_in d) (Shallow-append (parts d.ty) (option_map_or parts d.body []) (parts-Shallow d.ty h.0) (body-Shallow d.body h.1)))
     (h.0, h.1, entries-shallow (before ++ d ∷ []) all (met ++ parts_in d) ds h.2)
 
-first-shallow : (ds es : List Declaration) (all : List Tree) (before : List Declaration) → AreShallow (ds ++ es) → AreShallowEntries (map kept ds ++ entries before all [] es)
+first-shallow : (ds es : List Declaration) (all : List Tree) (before : List Declaration) → AreShallow (ds ++ es)
+    → AreShallowEntries (map kept ds ++ entries before all [] es)
 first-shallow [] es all before h = entries-shallow before all [] es h
 first-shallow (d ∷ ds) es all before h = (h.0, h.1, first-shallow ds es all before h.2)
 
@@ -126,5 +129,6 @@ folded-AreShallow m h =
     (first-shallow (take n m) (drop n m) (flat_map parts_in (drop n m)) (take n m) (subst AreShallow (sym (take-append-drop n m)) h))
 
 -- The text of a folded module reads as it
-pub folded-ReadsBack : (m : List Declaration) (bounds : List ℕ) → IsModule m → NoneShort m → AreShaped [] m → ArePlain m → AreShallow m → length bounds ≡ length (folded m) → ReadsBack (folded m) bounds
+pub folded-ReadsBack : (m : List Declaration) (bounds : List ℕ) → IsModule m → NoneShort m → AreShaped [] m → ArePlain m → AreShallow m
+    → length bounds ≡ length (folded m) → ReadsBack (folded m) bounds
 folded-ReadsBack m bounds h u s p d n = written_reads (folded m) bounds (folded-IsModule m h u s) (folded-AreLong m u) (folded-ArePlain m p) (folded-AreShallow m d) n

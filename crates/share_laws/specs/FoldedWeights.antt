@@ -130,11 +130,13 @@ AreLight w before [] = Unit {0}
 AreLight w before (kept d ∷ es) = (weight before d ≤ w) × AreLight w (before ++ d ∷ []) es
 AreLight w before (abbreviated t a ∷ es) = (tree_weight before t ≤ w) × AreLight w before es
 
-abbreviations-AreLight : (w : ℕ) (before : List Declaration) (all ts : List Tree) (es : List Entry) → Light before w ts → AreLight w before es → AreLight w before (abbreviations before (filter (is_shared before all) ts) ++ es)
+abbreviations-AreLight : (w : ℕ) (before : List Declaration) (all ts : List Tree) (es : List Entry) → Light before w ts → AreLight w before es
+    → AreLight w before (abbreviations before (filter (is_shared before all) ts) ++ es)
 abbreviations-AreLight w before all [] es h k = k
 abbreviations-AreLight w before all (t ∷ ts) es h k = go (is_shared before all t) (abbreviations-AreLight w before all ts es h.1 k)
   where
-    go : (b : Bool) → AreLight w before (abbreviations before (filter (is_shared before all) ts) ++ es) → AreLight w before (abbreviations before (if b then t ∷ filter (is_shared before all) ts else filter (is_shared before all) ts) ++ es)
+    go : (b : Bool) → AreLight w before (abbreviations before (filter (is_shared before all) ts) ++ es)
+        → AreLight w before (abbreviations before (if b then t ∷ filter (is_shared before all) ts else filter (is_shared before all) ts) ++ es)
     go true x = (h.0, x)
     go false x = x
 
@@ -143,12 +145,14 @@ abbrev AreWeighed : ℕ → List Declaration → List Declaration → Type 0
 AreWeighed w before [] = Unit {0}
 AreWeighed w before (d ∷ ds) = (weight before d ≤ w) × AreWeighed w (before ++ d ∷ []) ds
 
-entries-AreLight : (w : ℕ) (before : List Declaration) (all met : List Tree) (ds : List Declaration) → AreWeighed w before ds → AreLight w before (entries before all met ds)
+entries-AreLight : (w : ℕ) (before : List Declaration) (all met : List Tree) (ds : List Declaration) → AreWeighed w before ds
+    → AreLight w before (entries before all met ds)
 entries-AreLight w before all met [] h = tt
 entries-AreLight w before all met (d ∷ ds) h =
     abbreviations-AreLight w before all (firsts met (parts_in d)) (kept d ∷ entries (before ++ d ∷ []) all (met ++ parts_in d) ds) (firsts-Light before w met (parts_in d) (parts_in-Light before w d h.0)) (h.0, entries-AreLight w (before ++ d ∷ []) all (met ++ parts_in d) ds h.1)
 
-first-AreLight : (w : ℕ) (before ds : List Declaration) (es : List Entry) → AreWeighed w before ds → AreLight w (before ++ ds) es → AreLight w before (map kept ds ++ es)
+first-AreLight : (w : ℕ) (before ds : List Declaration) (es : List Entry) → AreWeighed w before ds → AreLight w (before ++ ds) es
+    → AreLight w before (map kept ds ++ es)
 first-AreLight w before [] es h k = subst (λ l. AreLight w l es) (append-nil before) k
 first-AreLight w before (d ∷ ds) es h k = (h.0, first-AreLight w (before ++ d ∷ []) ds es h.1 (subst (λ l. AreLight w l es) (sym (append_assoc before (d ∷ []) ds)) k))
 
@@ -174,7 +178,8 @@ module _ (g : ℕ → ℕ) (w : ℕ) where
       body None = refl
       body (Some t) = moved-tree_weight m n h t
 
-  declarations-AreWeighed : (before after : List Declaration) (es : List Entry) (k : ℕ) → IsPlaced g before after es → AreEntries before es → AreLight w before es → AreWeighed (5 * w + 4) after (declarations g k es)
+  declarations-AreWeighed : (before after : List Declaration) (es : List Entry) (k : ℕ) → IsPlaced g before after es → AreEntries before es
+      → AreLight w before es → AreWeighed (5 * w + 4) after (declarations g k es)
   declarations-AreWeighed before after [] k p h l = tt
   declarations-AreWeighed before after (kept d ∷ es) k p h l =
       let s = IsPlaced-IsMoved g before after (kept d ∷ es) p in
@@ -185,13 +190,15 @@ module _ (g : ℕ → ℕ) (w : ℕ) where
       (omega (arith, moved-tree_weight before after s t, moved-tree_weight before after s a, l.0, b), declarations-AreWeighed before (after ++ _ ∷ []) es (suc k) (IsPlaced-abbreviated g before after t a _ es p) h.1 l.1)
 
 -- weights over all declarations, and over those before
-weighed-before : (w : ℕ) (m before ds : List Declaration) → m ≡ before ++ ds → AreShaped before ds → AllByRecursion (λ d. weight m d ≤ w) ds → AreWeighed w before ds
+weighed-before : (w : ℕ) (m before ds : List Declaration) → m ≡ before ++ ds → AreShaped before ds → AllByRecursion (λ d. weight m d ≤ w) ds
+    → AreWeighed w before ds
 weighed-before w m before [] e s h = tt
 weighed-before w m before (d ∷ ds) e s h =
     let same : weight m d ≡ weight before d = ap (λ l. weight l d) e ∙ weight-more before (d ∷ ds) d s.0 in
     (omega (arith, same, h.0), weighed-before w m (before ++ d ∷ []) ds (e ∙ sym (append_assoc before (d ∷ []) ds)) s.1 h.1)
 
-weighed-all : (w : ℕ) (m before ds : List Declaration) → m ≡ before ++ ds → AreShaped before ds → AreWeighed w before ds → AllByRecursion (λ d. weight m d ≤ w) ds
+weighed-all : (w : ℕ) (m before ds : List Declaration) → m ≡ before ++ ds → AreShaped before ds → AreWeighed w before ds
+    → AllByRecursion (λ d. weight m d ≤ w) ds
 weighed-all w m before [] e s h = tt
 weighed-all w m before (d ∷ ds) e s h =
     let same : weight m d ≡ weight before d = ap (λ l. weight l d) e ∙ weight-more before (d ∷ ds) d s.0 in

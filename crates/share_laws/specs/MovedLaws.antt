@@ -55,7 +55,8 @@ module _ (g : ℕ → ℕ) where
   moved-put_var : (d : ℕ) (a : Tree) (n : ℕ) → moved g (put_var d a n) ≡ put_var d (moved g a) n
   moved-put_var d a n = go (nat_lt n d) (nat_eq n d)
     where
-      go : (b c : Bool) → moved g (if b then Var n else if c then lift d a else Var (n - 1)) ≡ (if b then Var n else if c then lift d (moved g a) else Var (n - 1))
+      go : (b c : Bool)
+          → moved g (if b then Var n else if c then lift d a else Var (n - 1)) ≡ (if b then Var n else if c then lift d (moved g a) else Var (n - 1))
       go true c = refl
       go false true = moved-lift d a
       go false false = refl
@@ -69,11 +70,13 @@ module _ (g : ℕ → ℕ) where
   moved-put_all_var : (d : ℕ) (us : List Tree) (n : ℕ) → moved g (put_all_var d us n) ≡ put_all_var d (map (moved g) us) n
   moved-put_all_var d us n = go (nat_lt n d)
     where
-      in_it : (o : Option Tree) → moved g (option_map_or (lift d) o (Var (n - length us))) ≡ option_map_or (lift d) (option_map (moved g) o) (Var (n - length us))
+      in_it : (o : Option Tree)
+          → moved g (option_map_or (lift d) o (Var (n - length us))) ≡ option_map_or (lift d) (option_map (moved g) o) (Var (n - length us))
       in_it None = refl
       in_it (Some t) = moved-lift d t
 
-      go : (b : Bool) → moved g (if b then Var n else option_map_or (lift d) (slice_get (reverse us) (n - d)) (Var (n - length us))) ≡ (if b then Var n else option_map_or (lift d) (slice_get (reverse (map (moved g) us)) (n - d)) (Var (n - length (map (moved g) us))))
+      go : (b : Bool)
+          → moved g (if b then Var n else option_map_or (lift d) (slice_get (reverse us) (n - d)) (Var (n - length us))) ≡ (if b then Var n else option_map_or (lift d) (slice_get (reverse (map (moved g) us)) (n - d)) (Var (n - length (map (moved g) us))))
       go true = refl
       go false =
           in_it (slice_get (reverse us) (n - d))

@@ -88,7 +88,8 @@ module _ (g : ℕ → ℕ) (m n : List Declaration) (h : IsMoved g m n) where
   constant-moved {s = s} (constants.MeansConstant.input r e) = constants.MeansConstant.input (names_constant-moved r) (type-told s _ _ e refl)
   constant-moved (constants.MeansConstant.defined r q) = constants.MeansConstant.defined (names_constant-moved r) (generic-moved q)
 
-  stands_constant-moved : {name : Name} {ty : ClosedType} {at : Place} {A : Tree} → StandsForConstant m name ty at A → StandsForConstant n name ty at (moved g A)
+  stands_constant-moved : {name : Name} {ty : ClosedType} {at : Place} {A : Tree} → StandsForConstant m name ty at A
+      → StandsForConstant n name ty at (moved g A)
   stands_constant-moved {name = name} {at = at} r = record {
     symbol = moved_symbol g r.symbol;
     args = map (moved g) r.args;

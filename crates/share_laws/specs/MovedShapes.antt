@@ -42,7 +42,8 @@ module _ (g : ℕ → ℕ) where
   pointwise-moved : (a b t u : Tree) → moved g (pointwise a b t u) ≡ pointwise (moved g a) (moved g b) (moved g t) (moved g u)
   pointwise-moved a b t u = ap (Pi (term_of (moved g a))) (equation-moved a b t u)
     where
-      equation-moved : (a b t u : Tree) → moved g (proof_of (eq_of (lift 1 b) (App (lift 1 (Lam (term_of a) t)) (Var 0)) (App (lift 1 (Lam (term_of a) u)) (Var 0)))) ≡ proof_of (eq_of (lift 1 (moved g b)) (App (lift 1 (Lam (term_of (moved g a)) (moved g t))) (Var 0)) (App (lift 1 (Lam (term_of (moved g a)) (moved g u))) (Var 0)))
+      equation-moved : (a b t u : Tree)
+          → moved g (proof_of (eq_of (lift 1 b) (App (lift 1 (Lam (term_of a) t)) (Var 0)) (App (lift 1 (Lam (term_of a) u)) (Var 0)))) ≡ proof_of (eq_of (lift 1 (moved g b)) (App (lift 1 (Lam (term_of (moved g a)) (moved g t))) (Var 0)) (App (lift 1 (Lam (term_of (moved g a)) (moved g u))) (Var 0)))
       equation-moved a b t u =
           ap (λ x. proof_of (eq_of x (App (moved g (lift 1 (Lam (term_of a) t))) (Var 0)) (App (moved g (lift 1 (Lam (term_of a) u))) (Var 0)))) (moved-lift g 1 b)
           ∙ ap₂ (λ x y. proof_of (eq_of (lift 1 (moved g b)) (App x (Var 0)) (App y (Var 0)))) (moved-lift g 1 (Lam (term_of a) t)) (moved-lift g 1 (Lam (term_of a) u))

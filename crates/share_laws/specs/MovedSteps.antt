@@ -13,12 +13,14 @@ use Rattle.share_spec.specs.MovedTrees.{moved_symbol, moved}
 use Rattle.share_laws.specs.MovedLaws.{moved-lift, moved-put, moved-put_all, moved-applied, size-moved, moved_symbol-is_low, IsMoved, moved-symbol_type, moved-symbol_definition}
 
 -- a body that is no abstraction over `type`, at arguments
-given-other : (before : List Tree) (t : Tree) (args : List Tree) → ((b : Tree) → t ≡ Lam types b → ⊥) → given before t args ≡ Some (applied (put_all before t) args)
+given-other : (before : List Tree) (t : Tree) (args : List Tree) → ((b : Tree) → t ≡ Lam types b → ⊥)
+    → given before t args ≡ Some (applied (put_all before t) args)
 given-other before (Lam (Sym zero) b) args h = absurd (h b refl)
 given-other before _ args h = refl
 
 -- a symbol at arguments, where the rewriting rule doesn't apply
-step-other : (m : List Declaration) (s : ℕ) (args : List Tree) → ((a b : Tree) → s ≡ term_symbol → args ≡ arr_of a b ∷ [] → ⊥) → symbol_step m s args ≡ unfolded (symbol_definition m s) args
+step-other : (m : List Declaration) (s : ℕ) (args : List Tree) → ((a b : Tree) → s ≡ term_symbol → args ≡ arr_of a b ∷ [] → ⊥)
+    → symbol_step m s args ≡ unfolded (symbol_definition m s) args
 step-other m (suc (suc (suc (suc zero)))) (App (App (Sym (suc (suc (suc zero)))) a) b ∷ []) h = absurd (h a b refl refl)
 step-other m s args h = refl
 
@@ -50,12 +52,14 @@ module _ (g : ℕ → ℕ) where
   no_types : (s : ℕ) (b c : Tree) → Lam (Sym (moved_symbol g (suc s))) b ≡ Lam types c → ⊥
   no_types s b c e = let k : moved_symbol g (suc s) ≡ 0 = cc in let i = moved_symbol-is_low g (suc s) 0 (omega arith) k in absurd (cc)
 
-  applied_whole : (before : List Tree) (t : Tree) (args : List Tree) → ((b : Tree) → moved g t ≡ Lam types b → ⊥) → given (map (moved g) before) (moved g t) (map (moved g) args) ≡ option_map (moved g) (Some (applied (put_all before t) args))
+  applied_whole : (before : List Tree) (t : Tree) (args : List Tree) → ((b : Tree) → moved g t ≡ Lam types b → ⊥)
+      → given (map (moved g) before) (moved g t) (map (moved g) args) ≡ option_map (moved g) (Some (applied (put_all before t) args))
   applied_whole before t args h =
       given-other (map (moved g) before) (moved g t) (map (moved g) args) h
       ∙ ap Some (ap (λ f. applied f (map (moved g) args)) (sym (moved-put_all g before t)) ∙ sym (moved-applied g (put_all before t) args))
 
-  given-moved : (before : List Tree) (t : Tree) (args : List Tree) → given (map (moved g) before) (moved g t) (map (moved g) args) ≡ option_map (moved g) (given before t args)
+  given-moved : (before : List Tree) (t : Tree) (args : List Tree)
+      → given (map (moved g) before) (moved g t) (map (moved g) args) ≡ option_map (moved g) (given before t args)
   given-moved before (Lam (Sym zero) b) (x ∷ args) = ap (λ l. given l (moved g b) (map (moved g) args)) (sym (map-append (moved g) before (x ∷ []))) ∙ given-moved (before ++ x ∷ []) b args
   given-moved before (Lam (Sym zero) b) [] = refl
   given-moved before (Lam (Sym (suc s)) b) args = applied_whole before (Lam (Sym (suc s)) b) args (λ c e. no_types s (moved g b) c e)
@@ -90,14 +94,16 @@ module _ (g : ℕ → ℕ) where
   spread_after-moved before (u ∷ us) (Lam a b) = ap size (sym (moved-put_all g before (Lam a b))) ∙ size-moved g (put_all before (Lam a b))
 
 module _ (g : ℕ → ℕ) (m n : List Declaration) (h : IsMoved g m n) where
-  other_moved : (s : ℕ) (args : List Tree) → ((a b : Tree) → s ≡ term_symbol → args ≡ arr_of a b ∷ [] → ⊥) → symbol_step n (moved_symbol g s) (map (moved g) args) ≡ option_map (moved g) (symbol_step m s args)
+  other_moved : (s : ℕ) (args : List Tree) → ((a b : Tree) → s ≡ term_symbol → args ≡ arr_of a b ∷ [] → ⊥)
+      → symbol_step n (moved_symbol g s) (map (moved g) args) ≡ option_map (moved g) (symbol_step m s args)
   other_moved s args other =
       step-other n (moved_symbol g s) (map (moved g) args) (λ a b e f. not_rule args a b (other) (moved_symbol-is_low g s term_symbol (omega arith) e) f)
       ∙ ap (λ o. unfolded o (map (moved g) args)) (moved-symbol_definition g m n h s)
       ∙ unfolded-moved g (symbol_definition m s) args
       ∙ ap (option_map (moved g)) (sym (step-other m s args other))
     where
-      not_rule : (args : List Tree) (a b : Tree) → ((a b : Tree) → s ≡ term_symbol → args ≡ arr_of a b ∷ [] → ⊥) → s ≡ term_symbol → map (moved g) args ≡ arr_of a b ∷ [] → ⊥
+      not_rule : (args : List Tree) (a b : Tree) → ((a b : Tree) → s ≡ term_symbol → args ≡ arr_of a b ∷ [] → ⊥) → s ≡ term_symbol
+          → map (moved g) args ≡ arr_of a b ∷ [] → ⊥
       not_rule [] a b o e f = absurd (cc)
       not_rule (x ∷ []) a b o e f = let k = is_arrow g x a b (cc) in o k.0 k.1 e (ap (λ t. t ∷ []) k.2)
       not_rule (x ∷ y ∷ args) a b o e f = absurd (cc)

@@ -43,7 +43,8 @@ in-down : (ts : List Tree) (n : ℕ) (u : Tree) → n ≤ length ts → is_in u 
 in-down ts zero u l h = absurd (cc)
 in-down ts (suc n) u l h = go (tree_eq u (at ts n)) refl h (λ i. in-down ts n u (omega (arith, l)) i)
   where
-    go : (b : Bool) → tree_eq u (at ts n) ≡ b → (b || is_in u (down ts n)) ≡ true → (is_in u (down ts n) ≡ true → (j : ℕ) × (j < n) × (slice_get ts j ≡ Some u)) → (j : ℕ) × (j < suc n) × (slice_get ts j ≡ Some u)
+    go : (b : Bool) → tree_eq u (at ts n) ≡ b → (b || is_in u (down ts n)) ≡ true → (is_in u (down ts n) ≡ true → (j : ℕ) × (j < n) × (slice_get ts j ≡ Some u))
+        → (j : ℕ) × (j < suc n) × (slice_get ts j ≡ Some u)
     go true e i k = (n, omega arith, at-get ts n (omega (arith, l)) ∙ ap (λ t. Some t) (sym (tree_eq-true u (at ts n) e)))
     go false e i k = let r = k i in (r.0, omega (arith, r.1), r.2)
 
@@ -92,7 +93,8 @@ module _ (ts : List Tree) (top : ℕ) (numbered : AreNumbered ts top) where
   second-is : (f x : Tree) → is_in x (f ∷ x ∷ []) ≡ true
   second-is f x = in-right x (f ∷ []) (x ∷ []) (ap (λ b. b || false) (tree_eq-refl x))
 
-  of_node : (t f x w : Tree) (i : ℕ) → i < top → slice_get ts i ≡ Some t → direct t ≡ f ∷ x ∷ [] → (is_in w (parts f ++ parts x) ≡ true) ⊎ (is_in w (t ∷ []) ≡ true)
+  of_node : (t f x w : Tree) (i : ℕ) → i < top → slice_get ts i ≡ Some t → direct t ≡ f ∷ x ∷ []
+      → (is_in w (parts f ++ parts x) ≡ true) ⊎ (is_in w (t ∷ []) ≡ true)
       → ((j : ℕ) → j < top → slice_get ts j ≡ Some f → is_in w (parts f) ≡ true → is_in w (down ts top) ≡ true) → ((j : ℕ) → j < top → slice_get ts j ≡ Some x → is_in w (parts x) ≡ true → is_in w (down ts top) ≡ true)
       → is_in w (down ts top) ≡ true
   of_node t f x w i l e d (inr h) p q = own t w i l e h
@@ -112,11 +114,13 @@ module _ (ts : List Tree) (top : ℕ) (numbered : AreNumbered ts top) where
   has_number (Var n) w i l e h = own (Var n) w i l e h
   has_number (Sym s) w i l e h = own (Sym s) w i l e h
 
-  all_numbered : (roots : List Tree) (w : Tree) → ((r : Tree) → is_in r roots ≡ true → (i : ℕ) × (i < top) × (slice_get ts i ≡ Some r)) → is_in w (flat_map parts roots) ≡ true → is_in w (down ts top) ≡ true
+  all_numbered : (roots : List Tree) (w : Tree) → ((r : Tree) → is_in r roots ≡ true → (i : ℕ) × (i < top) × (slice_get ts i ≡ Some r))
+      → is_in w (flat_map parts roots) ≡ true → is_in w (down ts top) ≡ true
   all_numbered [] w h k = absurd (cc)
   all_numbered (r ∷ rs) w h k = go (in-either w (parts r) (flat_map parts rs) k) (λ i. all_numbered rs w (λ u j. h u (in-right u (r ∷ []) rs j)) i)
     where
-      go : (is_in w (parts r) ≡ true) ⊎ (is_in w (flat_map parts rs) ≡ true) → (is_in w (flat_map parts rs) ≡ true → is_in w (down ts top) ≡ true) → is_in w (down ts top) ≡ true
+      go : (is_in w (parts r) ≡ true) ⊎ (is_in w (flat_map parts rs) ≡ true) → (is_in w (flat_map parts rs) ≡ true → is_in w (down ts top) ≡ true)
+          → is_in w (down ts top) ≡ true
       go (inl i) p = let n = h r (in-left r (r ∷ []) rs (ap (λ b. b || false) (tree_eq-refl r))) in has_number r w n.0 n.1 n.2 i
       go (inr i) p = p i
 

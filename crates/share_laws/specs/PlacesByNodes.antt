@@ -136,7 +136,8 @@ total-sum t vs (u ∷ us) d h =
     go v false p k = omega arith
 
 -- what is handed to trees, counted up to two
-handed-is : (ks : List Tree) (n most : ℕ) (c d : Tree → ℕ) → n ≡ min 2 most → ((t : Tree) → c t ≡ min 2 (d t)) → (t : Tree) → handed ks n c t ≡ min 2 (d t + places t ks * most)
+handed-is : (ks : List Tree) (n most : ℕ) (c d : Tree → ℕ) → n ≡ min 2 most → ((t : Tree) → c t ≡ min 2 (d t)) → (t : Tree)
+    → handed ks n c t ≡ min 2 (d t + places t ks * most)
 handed-is [] n most c d e h t = h t ∙ ap (λ k. min 2 k) (omega (arith, zero-mul most))
 handed-is (k ∷ ks) n most c d e h t =
     handed-is ks n most (λ u. if tree_eq u k then min 2 (c u + n) else c u) (λ u. if tree_eq u k then d u + most else d u) e (λ u. now u (tree_eq u k)) t
@@ -165,7 +166,8 @@ module _ (roots : List Tree) where
       let r = none-from t vs (omega (arith, h)) in
       omega (arith, r, ap (λ k. count v * k) z ∙ mul-zero (count v))
 
-  passed-from : (ps vs : List Tree) (c : Tree → ℕ) → ((t : Tree) → count t ≡ places t roots + from t (ps ++ vs)) → AreDescending vs → ((t : Tree) → c t ≡ min 2 (places t roots + from t ps)) → (t : Tree) → passed vs c t ≡ min 2 (count t)
+  passed-from : (ps vs : List Tree) (c : Tree → ℕ) → ((t : Tree) → count t ≡ places t roots + from t (ps ++ vs)) → AreDescending vs
+      → ((t : Tree) → c t ≡ min 2 (places t roots + from t ps)) → (t : Tree) → passed vs c t ≡ min 2 (count t)
   passed-from ps [] c all d h t = h t ∙ ap (λ k. min 2 k) (omega (arith, all t, sum-append (λ v. count v * places t (direct v)) ps []))
   passed-from ps (v ∷ vs) c all d h t =
       let own : count v ≡ places v roots + from v ps = omega (arith, all v, sum-append (λ w. count w * places v (direct w)) ps (v ∷ vs), none-from v (v ∷ vs) d.1) in
@@ -187,6 +189,7 @@ pub roots-parts : (ds : List Declaration) → flat_map parts (flat_map roots_in 
 roots-parts [] = refl
 roots-parts (d ∷ ds) = go d.body ∙ ap (λ l. parts_in d ++ l) (roots-parts ds)
   where
-    go : (o : Option Tree) → flat_map parts ((d.ty ∷ option_map_or (λ t. t ∷ []) o []) ++ flat_map roots_in ds) ≡ (parts d.ty ++ option_map_or parts o []) ++ flat_map parts (flat_map roots_in ds)
+    go : (o : Option Tree)
+        → flat_map parts ((d.ty ∷ option_map_or (λ t. t ∷ []) o []) ++ flat_map roots_in ds) ≡ (parts d.ty ++ option_map_or parts o []) ++ flat_map parts (flat_map roots_in ds)
     go None = ap (λ l. l ++ flat_map parts (flat_map roots_in ds)) (sym (append-nil (parts d.ty)))
     go (Some b) = sym (append_assoc (parts d.ty) (parts b) (flat_map parts (flat_map roots_in ds)))

@@ -30,7 +30,8 @@ pub places-append : (t : Tree) (xs ys : List Tree) → places t (xs ++ ys) ≡ p
 places-append t [] ys = omega arith
 places-append t (x ∷ xs) ys = go (tree_eq t x) (places-append t xs ys)
   where
-    go : (b : Bool) → places t (xs ++ ys) ≡ places t xs + places t ys → (if b then suc (places t (xs ++ ys)) else places t (xs ++ ys)) ≡ (if b then suc (places t xs) else places t xs) + places t ys
+    go : (b : Bool) → places t (xs ++ ys) ≡ places t xs + places t ys
+        → (if b then suc (places t (xs ++ ys)) else places t (xs ++ ys)) ≡ (if b then suc (places t xs) else places t xs) + places t ys
     go true e = omega (arith, e)
     go false e = e
 
@@ -98,7 +99,8 @@ module _ (m : List Declaration) (t : Tree) where
   no_more None xs ys h = h
   no_more (Some s) xs ys h = omega arith
 
-  no_more-parts : (o : Option ℕ) (xs ys vs ws : List Tree) (u : Tree) → places t xs ≤ places t vs → places t ys ≤ places t ws → places t (unless_short o (xs ++ ys ++ u ∷ [])) ≤ places t (vs ++ ws ++ u ∷ [])
+  no_more-parts : (o : Option ℕ) (xs ys vs ws : List Tree) (u : Tree) → places t xs ≤ places t vs → places t ys ≤ places t ws
+      → places t (unless_short o (xs ++ ys ++ u ∷ [])) ≤ places t (vs ++ ws ++ u ∷ [])
   no_more-parts o xs ys vs ws u h k = no_more o (xs ++ ys ++ u ∷ []) (vs ++ ws ++ u ∷ []) (omega (arith, three t xs ys u, three t vs ws u, h, k))
 
   written_out-parts : (u : Tree) → places t (written_out m u) ≤ places t (parts u)
@@ -119,7 +121,8 @@ module _ (m : List Declaration) (t : Tree) where
         go true i = absurd (let k = ap (λ w. is_some (short m w)) (tree_eq-true t u i) in let j = ap is_some e in cc)
         go false i = refl
 
-    none_out : (o : Option ℕ) (xs ys : List Tree) (u : Tree) → short m u ≡ o → places t xs ≡ 0 → places t ys ≡ 0 → places t (unless_short o (xs ++ ys ++ u ∷ [])) ≡ 0
+    none_out : (o : Option ℕ) (xs ys : List Tree) (u : Tree) → short m u ≡ o → places t xs ≡ 0 → places t ys ≡ 0
+        → places t (unless_short o (xs ++ ys ++ u ∷ [])) ≡ 0
     none_out (Some s) xs ys u e h k = refl
     none_out None xs ys u e h k = three t xs ys u ∙ omega (arith, h, k, no-place t u (apart-short u e))
 
@@ -157,7 +160,8 @@ module _ (g : ℕ → ℕ) (apart : (i j : ℕ) → g i ≡ g j → i ≡ j) whe
   symbol-injective : (r s : ℕ) → moved_symbol g r ≡ moved_symbol g s → r ≡ s
   symbol-injective r s e = go (nat_lt r (length signature)) (nat_lt s (length signature)) refl refl e
     where
-      go : (b c : Bool) → nat_lt r (length signature) ≡ b → nat_lt s (length signature) ≡ c → (if b then r else length signature + g (r - length signature)) ≡ (if c then s else length signature + g (s - length signature)) → r ≡ s
+      go : (b c : Bool) → nat_lt r (length signature) ≡ b → nat_lt s (length signature) ≡ c
+          → (if b then r else length signature + g (r - length signature)) ≡ (if c then s else length signature + g (s - length signature)) → r ≡ s
       go true true i j k = k
       go true false i j k = absurd (let low : r < length signature = grind (arith, common_steps, i) in omega (arith, low, k))
       go false true i j k = absurd (let low : s < length signature = grind (arith, common_steps, j) in omega (arith, low, k))
@@ -244,7 +248,8 @@ AreOrdered-append : (met xs ys : List Tree) → AreOrdered met xs → AreOrdered
 AreOrdered-append met [] ys h k = subst (λ l. AreOrdered l ys) (append-nil met) k
 AreOrdered-append met (x ∷ xs) ys h k = (h.0, AreOrdered-append (met ++ x ∷ []) xs ys h.1 (subst (λ l. AreOrdered l ys) (sym (append_assoc met (x ∷ []) xs)) k))
 
-ordered_node : (met xs ys : List Tree) (u : Tree) → parts u ≡ xs ++ ys ++ u ∷ [] → AreOrdered met xs → AreOrdered (met ++ xs) ys → AreOrdered met (xs ++ ys ++ u ∷ [])
+ordered_node : (met xs ys : List Tree) (u : Tree) → parts u ≡ xs ++ ys ++ u ∷ [] → AreOrdered met xs → AreOrdered (met ++ xs) ys
+    → AreOrdered met (xs ++ ys ++ u ∷ [])
 ordered_node met xs ys u e h k =
     AreOrdered-append met (xs ++ ys) (u ∷ []) (AreOrdered-append met xs ys h k)
     ((λ x i. subst (λ l. is_in x l ≡ true) (sym (append_assoc met (xs ++ ys) (u ∷ []))) (in-right x met (xs ++ ys ++ u ∷ []) (subst (λ l. is_in x l ≡ true) e i))), tt)
@@ -312,10 +317,12 @@ module _ (g : ℕ → ℕ) (apart : (i j : ℕ) → g i ≡ g j → i ≡ j) (t 
   abbrev AtMostOnce : List Entry → Type 0
   AtMostOnce es = (after : List Declaration) (k : ℕ) → written_places after k es ≤ 1
 
-  all_written-next : (after : List Declaration) (d : Declaration) (ds : List Declaration) → places (moved g t) (all_written after (d ∷ ds)) ≡ places (moved g t) (written_in after d) + places (moved g t) (all_written (after ++ d ∷ []) ds)
+  all_written-next : (after : List Declaration) (d : Declaration) (ds : List Declaration)
+      → places (moved g t) (all_written after (d ∷ ds)) ≡ places (moved g t) (written_in after d) + places (moved g t) (all_written (after ++ d ∷ []) ds)
   all_written-next after d ds = places-append (moved g t) (written_in after d) (all_written (after ++ d ∷ []) ds)
 
-  short_in : (after : List Declaration) → is_some (short after (moved g t)) ≡ true → (o : Option Tree) → places (moved g t) (option_map_or (written_out after) o []) ≡ 0
+  short_in : (after : List Declaration) → is_some (short after (moved g t)) ≡ true → (o : Option Tree)
+      → places (moved g t) (option_map_or (written_out after) o []) ≡ 0
   short_in after h None = refl
   short_in after h (Some u) = written_out-short after (moved g t) h u
 
@@ -330,13 +337,16 @@ module _ (g : ℕ → ℕ) (apart : (i j : ℕ) → g i ≡ g j → i ≡ j) (t 
       all_written-next after x (declarations g (suc k) es) ∙ omega (arith, no_place_in after (moved g t) x (written_out-short after (moved g t) h x.ty) (written_out-short after (moved g t) h (moved g u)), named-zero es (after ++ x ∷ []) (suc k) (short-more after x (moved g t) h))
 
   -- an abbreviation of another tree, of which it is no part
-  abbreviated_in : (after : List Declaration) (k : ℕ) (u a : Tree) → written_places after k (abbreviated u a ∷ []) ≤ places (moved g t) (written_out after (moved g u))
+  abbreviated_in : (after : List Declaration) (k : ℕ) (u a : Tree)
+      → written_places after k (abbreviated u a ∷ []) ≤ places (moved g t) (written_out after (moved g u))
   abbreviated_in after k u a =
       let x : Declaration = record { name = codes "X" ++ numeral k; form = Def; ty = moved g a; body = Some (moved g u) } in
       let s : short_body x ≡ Some (moved g u) = ap (λ (b : Bool). if b then Some (moved g u) else None) (abbreviation_name-short k) in
       omega (arith, all_written-next after x [], places-append (moved g t) (if is_some (short_body x) then [] else written_out after x.ty) (written_out after (moved g u)), ap (λ o. places (moved g t) (if is_some o then [] else written_out after x.ty)) s)
 
-  abbreviated-next : (after : List Declaration) (k : ℕ) (u a : Tree) (es : List Entry) (n : ℕ) → places (moved g t) (written_out after (moved g u)) ≤ n → ((x : Declaration) → short_body x ≡ Some (moved g u) → written_places (after ++ x ∷ []) (suc k) es + n ≤ 1) → written_places after k (abbreviated u a ∷ es) ≤ 1
+  abbreviated-next : (after : List Declaration) (k : ℕ) (u a : Tree) (es : List Entry) (n : ℕ) → places (moved g t) (written_out after (moved g u)) ≤ n
+      → ((x : Declaration) → short_body x ≡ Some (moved g u) → written_places (after ++ x ∷ []) (suc k) es + n ≤ 1)
+      → written_places after k (abbreviated u a ∷ es) ≤ 1
   abbreviated-next after k u a es n h f =
       let x : Declaration = record { name = codes "X" ++ numeral k; form = Def; ty = moved g a; body = Some (moved g u) } in
       let s : short_body x ≡ Some (moved g u) = ap (λ (b : Bool). if b then Some (moved g u) else None) (abbreviation_name-short k) in
@@ -350,7 +360,8 @@ module _ (g : ℕ → ℕ) (apart : (i j : ℕ) → g i ≡ g j → i ≡ j) (t 
   not-true false h = refl
 
   -- a tree that was not met is no part of a further one that is met next
-  new_part : (met old : List Tree) (u : Tree) → IsWithin (parts u) (old ++ u ∷ []) → IsWithin old met → is_in t met ≡ false → tree_eq t u ≡ false → is_in t (parts u) ≡ false
+  new_part : (met old : List Tree) (u : Tree) → IsWithin (parts u) (old ++ u ∷ []) → IsWithin old met → is_in t met ≡ false → tree_eq t u ≡ false
+      → is_in t (parts u) ≡ false
   new_part met old u o w e f =
       not-true (is_in t (parts u)) (λ i. elim (in-either t old (u ∷ []) (o t i)) [
         | inl j ↦ let k = w t j in absurd (cc)
@@ -384,25 +395,29 @@ module _ (g : ℕ → ℕ) (apart : (i j : ℕ) → g i ≡ g j → i ≡ j) (t 
     abbrev next_of : Bool → List Tree → Tree → List Tree → List Entry
     next_of b met u us = abbreviations before (filter sh (if b then firsts met us else u ∷ firsts (met ++ u ∷ []) us)) ++ rest
 
-    fresh-AtMostOnce : (b : Bool) (met : List Tree) (u : Tree) (us : List Tree) → is_in t (parts u) ≡ false → AtMostOnce (here (met ++ u ∷ []) us) → AtMostOnce (fresh b met u us)
+    fresh-AtMostOnce : (b : Bool) (met : List Tree) (u : Tree) (us : List Tree) → is_in t (parts u) ≡ false → AtMostOnce (here (met ++ u ∷ []) us)
+        → AtMostOnce (fresh b met u us)
     fresh-AtMostOnce false met u us e h after k = h after k
     fresh-AtMostOnce true met u us e h after k =
         abbreviated-next after k u _ (here (met ++ u ∷ []) us) 0 (omega (arith, no_part after u e)) (λ x s. omega (arith, h (after ++ x ∷ []) (suc k)))
 
     -- trees among which it isn't
-    absent-AtMostOnce : AtMostOnce rest → (met old us : List Tree) → AreOrdered old us → IsWithin old met → is_in t met ≡ false → is_in t us ≡ false → AtMostOnce (here met us)
+    absent-AtMostOnce : AtMostOnce rest → (met old us : List Tree) → AreOrdered old us → IsWithin old met → is_in t met ≡ false → is_in t us ≡ false
+        → AtMostOnce (here met us)
     absent-AtMostOnce r met old [] o w e f = r
     absent-AtMostOnce r met old (u ∷ us) o w e f = go (tree_eq t u) (is_in u met) refl refl f
         (λ h k. absent-AtMostOnce r met (old ++ u ∷ []) us o.1 (within-met met old u w h) e k)
         (λ h k. absent-AtMostOnce r (met ++ u ∷ []) (old ++ u ∷ []) us o.1 (within-more met old u w) (not_met-more met u e h) k)
       where
-        go : (b c : Bool) → tree_eq t u ≡ b → is_in u met ≡ c → (b || is_in t us) ≡ false → (is_in u met ≡ true → is_in t us ≡ false → AtMostOnce (here met us)) → (tree_eq t u ≡ false → is_in t us ≡ false → AtMostOnce (here (met ++ u ∷ []) us)) → AtMostOnce (next_of c met u us)
+        go : (b c : Bool) → tree_eq t u ≡ b → is_in u met ≡ c → (b || is_in t us) ≡ false → (is_in u met ≡ true → is_in t us ≡ false → AtMostOnce (here met us))
+            → (tree_eq t u ≡ false → is_in t us ≡ false → AtMostOnce (here (met ++ u ∷ []) us)) → AtMostOnce (next_of c met u us)
         go true c i j k p q = absurd (cc)
         go false true i j k p q = p j k
         go false false i j k p q = fresh-AtMostOnce (sh u) met u us (new_part met old u o.0 w e i) (q i k)
 
     -- trees among which it is, where it is to be abbreviated
-    present-AtMostOnce : sh t ≡ true → (met old us : List Tree) → AreOrdered old us → IsWithin old met → is_in t met ≡ false → is_in t us ≡ true → AtMostOnce (here met us)
+    present-AtMostOnce : sh t ≡ true → (met old us : List Tree) → AreOrdered old us → IsWithin old met → is_in t met ≡ false → is_in t us ≡ true
+        → AtMostOnce (here met us)
     present-AtMostOnce s met old [] o w e f = absurd (cc)
     present-AtMostOnce s met old (u ∷ us) o w e f = go (tree_eq t u) (is_in u met) refl refl f
         (λ h k. present-AtMostOnce s met (old ++ u ∷ []) us o.1 (within-met met old u w h) e k)
@@ -415,7 +430,8 @@ module _ (g : ℕ → ℕ) (apart : (i j : ℕ) → g i ≡ g j → i ≡ j) (t 
             (subst (λ y. places (moved g t) (written_out after (moved g y)) ≤ 1) same (omega (arith, written_out-parts after (moved g t) (moved g t), moved-places g apart t t, own-places t)))
             (λ x i. omega (arith, named-zero (here (met ++ u ∷ []) us) (after ++ x ∷ []) (suc k) (short-last after x (moved g t) (i ∙ ap (λ y. Some (moved g y)) (sym same)))))
 
-        go : (b c : Bool) → tree_eq t u ≡ b → is_in u met ≡ c → (b || is_in t us) ≡ true → (is_in u met ≡ true → is_in t us ≡ true → AtMostOnce (here met us)) → (tree_eq t u ≡ false → is_in t us ≡ true → AtMostOnce (here (met ++ u ∷ []) us)) → AtMostOnce (next_of c met u us)
+        go : (b c : Bool) → tree_eq t u ≡ b → is_in u met ≡ c → (b || is_in t us) ≡ true → (is_in u met ≡ true → is_in t us ≡ true → AtMostOnce (here met us))
+            → (tree_eq t u ≡ false → is_in t us ≡ true → AtMostOnce (here (met ++ u ∷ []) us)) → AtMostOnce (next_of c met u us)
         go true true i j k p q = absurd (let same = ap (λ y. is_in y met) (tree_eq-true t u i) in cc)
         go true false i j k p q = own (sh u) refl (tree_eq-true t u i)
         go false true i j k p q = p j k
@@ -428,7 +444,8 @@ module _ (g : ℕ → ℕ) (apart : (i j : ℕ) → g i ≡ g j → i ≡ j) (t 
     not-true (is_in t (option_map_or parts d.body [])) (λ i. let k = in-right t (parts d.ty) (option_map_or parts d.body []) i in absurd (cc)),
   )
 
-  body_absent : (after : List Declaration) (o : Option Tree) → is_in t (option_map_or parts o []) ≡ false → places (moved g t) (option_map_or (written_out after) (option_map (moved g) o) []) ≡ 0
+  body_absent : (after : List Declaration) (o : Option Tree) → is_in t (option_map_or parts o []) ≡ false
+      → places (moved g t) (option_map_or (written_out after) (option_map (moved g) o) []) ≡ 0
   body_absent after None e = refl
   body_absent after (Some u) e = no_part after u e
 
@@ -445,7 +462,9 @@ module _ (g : ℕ → ℕ) (apart : (i j : ℕ) → g i ≡ g j → i ≡ j) (t 
   )
 
   -- declarations in which it first occurs in one after some
-  entries-AtMostOnce : (before : List Declaration) (all met : List Tree) (front : List Declaration) (d : Declaration) (back : List Declaration) → is_in t met ≡ false → is_in t (flat_map parts_in front) ≡ false → is_in t (parts_in d) ≡ true → is_shared (before ++ front) all t ≡ true → AtMostOnce (entries before all met (front ++ d ∷ back))
+  entries-AtMostOnce : (before : List Declaration) (all met : List Tree) (front : List Declaration) (d : Declaration) (back : List Declaration)
+      → is_in t met ≡ false → is_in t (flat_map parts_in front) ≡ false → is_in t (parts_in d) ≡ true → is_shared (before ++ front) all t ≡ true
+      → AtMostOnce (entries before all met (front ++ d ∷ back))
   entries-AtMostOnce before all met [] d back e f h s =
       present-AtMostOnce before (is_shared before all) (kept d ∷ entries (before ++ d ∷ []) all (met ++ parts_in d) back) (subst (λ w. is_shared w all t ≡ true) (append-nil before) s)
       met met (parts_in d) (parts_in-AreOrdered met d) (λ x i. i) e h
@@ -470,7 +489,8 @@ first_in : (rest : List Declaration) (t : Tree) → is_in t (flat_map parts_in r
 first_in [] t h = absurd (cc)
 first_in (d ∷ ds) t h = go (is_in t (parts_in d)) refl (sym (is_in-append t (parts_in d) (flat_map parts_in ds)) ∙ h) (λ e. first_in ds t e)
   where
-    go : (b : Bool) → is_in t (parts_in d) ≡ b → (is_in t (parts_in d) || is_in t (flat_map parts_in ds)) ≡ true → (is_in t (flat_map parts_in ds) ≡ true → IsFirstIn ds t) → IsFirstIn (d ∷ ds) t
+    go : (b : Bool) → is_in t (parts_in d) ≡ b → (is_in t (parts_in d) || is_in t (flat_map parts_in ds)) ≡ true
+        → (is_in t (flat_map parts_in ds) ≡ true → IsFirstIn ds t) → IsFirstIn (d ∷ ds) t
     go true e i k = record { front = []; d = d; back = ds; is = refl; new = refl; here = e }
     go false e i k =
         let j : is_in t (flat_map parts_in ds) ≡ true = sym (ap (λ b. b || is_in t (flat_map parts_in ds)) e) ∙ i in
@@ -485,7 +505,8 @@ first_in (d ∷ ds) t h = go (is_in t (parts_in d)) refl (sym (is_in-append t (p
         }
 
 -- parts have no more symbols
-of-parts : (t u : Tree) (xs ys : List Tree) → (is_in t xs ≡ true → symbols t ≤ symbols u) → (is_in t ys ≡ true → symbols t ≤ symbols u) → is_in t (xs ++ ys ++ u ∷ []) ≡ true → symbols t ≤ symbols u
+of-parts : (t u : Tree) (xs ys : List Tree) → (is_in t xs ≡ true → symbols t ≤ symbols u) → (is_in t ys ≡ true → symbols t ≤ symbols u)
+    → is_in t (xs ++ ys ++ u ∷ []) ≡ true → symbols t ≤ symbols u
 of-parts t u xs ys p q h = node (in-either t (xs ++ ys) (u ∷ []) h)
   where
     two : (is_in t xs ≡ true) ⊎ (is_in t ys ≡ true) → symbols t ≤ symbols u
@@ -511,7 +532,8 @@ body-symbols n Symbol (Some u) t o h = absurd (cc)
 body-symbols n Def (Some u) t o h = omega (arith, part-symbols t u h, o.known)
 body-symbols n Thm (Some u) t o h = omega (arith, part-symbols t u h, o.known)
 
-pub declaration-symbols : (before : List Declaration) (d : Declaration) (t : Tree) → MayFollow before d → is_in t (parts_in d) ≡ true → symbols t ≤ length before
+pub declaration-symbols : (before : List Declaration) (d : Declaration) (t : Tree) → MayFollow before d → is_in t (parts_in d) ≡ true
+    → symbols t ≤ length before
 declaration-symbols before d t f h = go (in-either t (parts d.ty) (option_map_or parts d.body []) h)
   where
     go : (is_in t (parts d.ty) ≡ true) ⊎ (is_in t (option_map_or parts d.body []) ≡ true) → symbols t ≤ length before

@@ -77,7 +77,8 @@ module _ (symbols : Symbols) where
         All-append (λ (d : Declaration). bytes_eq d.name name ≡ false) (signature ++ lemmas) (map D ps) (no-reserved name low) (not-named name (map D ps) (not-declared name ps apart))
 
     -- The name of a symbol's item has the item's number
-    pub item-number : (xs : List Item) → AreMade [] xs → Named xs → (z : Item) → IsIn xs z → (name : List ℕ) → IsSymbolName ss z.content name → z.name ≡ name → symbol_number (module_of symbols xs) name ≡ Some z.symbol
+    pub item-number : (xs : List Item) → AreMade [] xs → Named xs → (z : Item) → IsIn xs z → (name : List ℕ) → IsSymbolName ss z.content name → z.name ≡ name
+        → symbol_number (module_of symbols xs) name ≡ Some z.symbol
     item-number xs order named z i name own is = go (member-split xs z i)
       where
         go : IsSplit xs z → symbol_number (module_of symbols xs) name ≡ Some z.symbol
@@ -111,7 +112,8 @@ module _ (symbols : Symbols) where
             sym (ap (position (λ (d : Declaration). bytes_eq d.name other)) (declared-items xs)) ∙ position-none (λ (d : Declaration). bytes_eq d.name other) (reserved xs) (none-has other low xs apart)
 
     -- A name that only the same operator could have, which hasn't it, has no number
-    pub other-operator : (xs : List Item) → AreMade [] xs → Named xs → (z : Item) → IsIn xs z → (n : Name) (k : ℕ) (other : List ℕ) → is_operator n k z.content ≡ true
+    pub other-operator : (xs : List Item) → AreMade [] xs → Named xs → (z : Item) → IsIn xs z → (n : Name) (k : ℕ) (other : List ℕ)
+        → is_operator n k z.content ≡ true
         → ((y : Item) → HasItemName ss y → y.name ≡ other → is_operator n k y.content ≡ true) → (z.name ≡ other → ⊥) → second_byte other ≤ 95 → symbol_number (module_of symbols xs) other ≡ None
     other-operator xs order named z i n k other own could differs low = go (member-split xs z i)
       where

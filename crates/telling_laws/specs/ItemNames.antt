@@ -71,7 +71,8 @@ module _ (number : ℕ → ℕ) where
   name-renumbered ss z (HasItemName.of_step s e l m) = HasItemName.of_step s (says-renumbered z.content ∙ e) l m
 
 -- and so are those of the items that its module has
-pub kept-named : (run : Accepted) (keep : ℕ → Bool) (xs : List Item) → HaveNames run [] xs → AllByRecursion (HasItemName (symbols_of run.made)) (image_items keep xs)
+pub kept-named : (run : Accepted) (keep : ℕ → Bool) (xs : List Item) → HaveNames run [] xs
+    → AllByRecursion (HasItemName (symbols_of run.made)) (image_items keep xs)
 kept-named run keep xs h =
     let P = HasItemName (symbols_of run.made) in
     All-mapped P (renumbered (symbol_of keep)) (kept keep xs)
@@ -85,7 +86,8 @@ other_byte a b r s name h e f =
 two_bytes : (a b : ℕ) (r s name : List ℕ) → name ≡ a ∷ b ∷ r → name ≡ a ∷ b ∷ s → r ≡ s
 two_bytes a b r s name e f = let g : a ∷ b ∷ r ≡ a ∷ b ∷ s = sym e ∙ f in cc
 
-operator-here : (n m : Name) (k j : ℕ) (before : List Item) → (name_eq n m && (k == j)) ≡ true → any_content (is_operator m j) before ≡ false → any_content (is_operator n k) before ≡ false
+operator-here : (n m : Name) (k j : ℕ) (before : List Item) → (name_eq n m && (k == j)) ≡ true → any_content (is_operator m j) before ≡ false
+    → any_content (is_operator n k) before ≡ false
 operator-here n m k j before e h =
     let both = and_parts (name_eq n m) (k == j) e in
     let same : n ≡ m = (name_eq-Decides n m).0 both.0 in
@@ -103,7 +105,8 @@ operator-new n k before (type_representation names c u j one) e h = absurd (cc)
 operator-new n k before (unproved s) e h = absurd (cc)
 operator-new n k before (step kind js ss g s) e h = absurd (cc)
 
-operators-apart : (n : Name) (k : ℕ) (before : List Item) (y : Item) (c : Content) → IsNew before c → IsIn before y → is_operator n k y.content ≡ true → is_operator n k c ≡ true → ⊥
+operators-apart : (n : Name) (k : ℕ) (before : List Item) (y : Item) (c : Content) → IsNew before c → IsIn before y → is_operator n k y.content ≡ true
+    → is_operator n k c ≡ true → ⊥
 operators-apart n k before y c new i a b =
     let gone : is_operator n k y.content ≡ false = not-any (is_operator n k) before y (operator-new n k before c b new) i in
     let k : true ≡ false = sym a ∙ gone in absurd (cc)

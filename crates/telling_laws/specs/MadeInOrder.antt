@@ -80,7 +80,8 @@ kept-append : (keep : ℕ → Bool) (xs ys : List Item) → kept keep (xs ++ ys)
 kept-append keep [] ys = refl
 kept-append keep (x ∷ xs) ys = go (keep x.symbol) (kept-append keep xs ys)
   where
-    go : (b : Bool) → kept keep (xs ++ ys) ≡ kept keep xs ++ kept keep ys → cond b (x ∷ kept keep (xs ++ ys)) (kept keep (xs ++ ys)) ≡ cond b (x ∷ kept keep xs) (kept keep xs) ++ kept keep ys
+    go : (b : Bool) → kept keep (xs ++ ys) ≡ kept keep xs ++ kept keep ys
+        → cond b (x ∷ kept keep (xs ++ ys)) (kept keep (xs ++ ys)) ≡ cond b (x ∷ kept keep xs) (kept keep xs) ++ kept keep ys
     go true e = ap (λ l. x ∷ l) e
     go false e = e
 
@@ -122,7 +123,8 @@ step-says before x =
     let y = needed ss x in
     says-step (has_row y.kind) y.kind (map (λ k. (premise_at before k).0) y.premises) (sequents_at before y.premises) y.parameters y.sequent ∙ ap Some (needed-sequent ss x)
 
-new-said : (before : List Item) (x : Made) (name : Content → List ℕ) (i : ℕ) → length (said_by (numbered name i (contents before x))) ≡ length (steps_of (x ∷ []))
+new-said : (before : List Item) (x : Made) (name : Content → List ℕ) (i : ℕ)
+    → length (said_by (numbered name i (contents before x))) ≡ length (steps_of (x ∷ []))
 new-said before (Made.symbol x) name i = ap (λ (l : List (ℕ × Sequent)). length l) (symbol-said name i x)
 new-said before (Made.type_definition names a f k) name i = refl
 new-said before (Made.step x) name i = ap (λ o. length {A = ℕ × Sequent} (cons_option (option_map (λ (s : Sequent). (i, s)) o) [])) (step-says before x)
@@ -141,7 +143,8 @@ module _ (named : Naming) where
       (new ++ r.0, r.1 ∙ append_assoc before new r.0)
 
   -- as many say something as steps were made
-  said-after : (before : List Item) (made xs : List Made) → length (said_by before) ≡ length (steps_of made) → length (said_by (items_after named before xs)) ≡ length (steps_of (made ++ xs))
+  said-after : (before : List Item) (made xs : List Made) → length (said_by before) ≡ length (steps_of made)
+      → length (said_by (items_after named before xs)) ≡ length (steps_of (made ++ xs))
   said-after before made [] e = e ∙ ap (λ l. length (steps_of l)) (sym (append-nil made))
   said-after before made (x ∷ xs) e =
       let name = named (length (said_by before)) x in

@@ -179,7 +179,8 @@ NextDefinitionGone = (run : Accepted) (earlier later : List Made) (names : TypeN
 pub record IsNextDefinition (run : Accepted) (earlier : List Made) (names : TypeNames) (a : HolType) (f : Term) (k : ℕ) : Type 0 where
   pub premise : premise_at (items_made run earlier) k ≡ (step_item run k, sequent_at run.made k)
   pub earlier_premise : k < length (steps_of earlier)
-  pub kept_premise : (front back : List Content) (c : Content) → AreDefinitionContents run earlier names a f k (front ++ c ∷ back) → is_kept run (content_number run earlier front) ≡ true → is_kept run (step_item run k) ≡ true
+  pub kept_premise : (front back : List Content) (c : Content) → AreDefinitionContents run earlier names a f k (front ++ c ∷ back)
+      → is_kept run (content_number run earlier front) ≡ true → is_kept run (step_item run k) ≡ true
 
 abbrev pub NextDefinition : Type 0
 NextDefinition = (run : Accepted) → IsSoundRun run → (earlier later : List Made) (names : TypeNames) (a : HolType) (f : Term) (k : ℕ) → run.made ≡ earlier ++ Made.type_definition names a f k ∷ later → IsNextDefinition run earlier names a f k

@@ -39,7 +39,8 @@ module _ (run : Accepted) (earlier later : List Made) (names : TypeNames) (a : H
       let r = items-stay run (earlier ++ Made.type_definition names a f k ∷ []) later (whole ∙ sym (append_assoc earlier (Made.type_definition names a f k ∷ []) later)) in
       (r.0, r.1 ∙ ap (λ l. l ++ r.0) (items-grow run earlier (Made.type_definition names a f k)))
 
-  up-to : (xs ys : List Content) → definition_up_to run earlier (xs ++ ys) ≡ definition_up_to run earlier xs ++ numbered type_definition_name (content_number run earlier xs) ys
+  up-to : (xs ys : List Content)
+      → definition_up_to run earlier (xs ++ ys) ≡ definition_up_to run earlier xs ++ numbered type_definition_name (content_number run earlier xs) ys
   up-to xs ys =
       ap (λ l. before ++ l) (numbered-append type_definition_name (length before) xs ys)
       ∙ sym (append_assoc before (numbered type_definition_name (length before) xs) (numbered type_definition_name (length before + length xs) ys))
@@ -109,7 +110,8 @@ module _ (run : Accepted) (sound : IsSoundRun run) (earlier later : List Made) (
   premise-says =
       index-map (λ (p : ℕ × Sequent). p.1) (said_by (made_items run)) k (0, nothing_said) ∙ ap (λ l. slice_index_or l k nothing_said) (made-joined (name_in run) run.made sound.proof sound.over).said
 
-  kept-premise : (front back : List Content) (c : Content) → AreDefinitionContents run earlier names a f k (front ++ c ∷ back) → is_kept run (content_number run earlier front) ≡ true → is_kept run (step_item run k) ≡ true
+  kept-premise : (front back : List Content) (c : Content) → AreDefinitionContents run earlier names a f k (front ++ c ∷ back)
+      → is_kept run (content_number run earlier front) ≡ true → is_kept run (step_item run k) ≡ true
   kept-premise front back c among keep =
       let at = content-items run earlier later names a f k whole front back c among in
       let z = content_item run earlier later names a f k whole front back c among in

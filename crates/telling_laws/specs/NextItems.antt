@@ -50,7 +50,8 @@ contents-renumbered number (Symbol.input_operator n k) = (refl, tt {0})
 contents-renumbered number (Symbol.defined (Definition.constant n t)) = (refl, tt {0})
 contents-renumbered number (Symbol.defined (Definition.type_operator names a f)) = tt
 
-pub numbered-append : (named : Content → List ℕ) (i : ℕ) (xs ys : List Content) → numbered named i (xs ++ ys) ≡ numbered named i xs ++ numbered named (i + length xs) ys
+pub numbered-append : (named : Content → List ℕ) (i : ℕ) (xs ys : List Content)
+    → numbered named i (xs ++ ys) ≡ numbered named i xs ++ numbered named (i + length xs) ys
 numbered-append named i [] ys = let z : i ≡ i + 0 = omega arith in ap (λ j. numbered named j ys) z
 numbered-append named i (x ∷ xs) ys =
     let z : i + 1 + length xs ≡ i + length (x ∷ xs) = omega arith in

@@ -34,7 +34,8 @@ each-at P before [] ys y h = subst (λ l. P l y) (sym (append-nil before)) h.0
 each-at P before (x ∷ xs) ys y h = subst (λ l. P l y) (append_assoc before (x ∷ []) xs) (each-at P (before ++ x ∷ []) xs ys y h.1)
 
 -- and one of the items that are numbered
-pub numbered-at : (keep : ℕ → Bool) (before xs ys : List Item) (z : Item) → AreNumbered keep before (xs ++ z ∷ ys) → keep z.symbol ≡ true → AreKept keep (before ++ xs) (needs z.content)
+pub numbered-at : (keep : ℕ → Bool) (before xs ys : List Item) (z : Item) → AreNumbered keep before (xs ++ z ∷ ys) → keep z.symbol ≡ true
+    → AreKept keep (before ++ xs) (needs z.content)
 numbered-at keep before [] ys z h e = subst (λ l. AreKept keep l (needs z.content)) (sym (append-nil before)) (h.3 e)
 numbered-at keep before (x ∷ xs) ys z h e = subst (λ l. AreKept keep l (needs z.content)) (append_assoc before (x ∷ []) xs) (numbered-at keep (before ++ x ∷ []) xs ys z h.4 e)
 
@@ -57,12 +58,14 @@ needed-premises P ss x h = go (proves_nothing x.kind ss)
     go true = All-drop P x.premises h
     go false = h
 
-content-renumbered : (number : ℕ → ℕ) (b : Bool) (kind : StepKind) (js : List ℕ) (ss : List Sequent) (g : Parameters) (s : Sequent) → renumbered_content number (content_by b kind js ss g s) ≡ content_by b kind (map number js) ss g s
+content-renumbered : (number : ℕ → ℕ) (b : Bool) (kind : StepKind) (js : List ℕ) (ss : List Sequent) (g : Parameters) (s : Sequent)
+    → renumbered_content number (content_by b kind js ss g s) ≡ content_by b kind (map number js) ss g s
 content-renumbered number true kind js ss g s = refl
 content-renumbered number false kind js ss g s = refl
 
 -- a step with a proof needs its premises
-needs-premise : (b : Bool) (kind : StepKind) (js : List ℕ) (ss : List Sequent) (g : Parameters) (s : Sequent) (j : ℕ) → b ≡ true → IsIn js j → IsIn (needs (content_by b kind js ss g s)) (number_key j)
+needs-premise : (b : Bool) (kind : StepKind) (js : List ℕ) (ss : List Sequent) (g : Parameters) (s : Sequent) (j : ℕ) → b ≡ true → IsIn js j
+    → IsIn (needs (content_by b kind js ss g s)) (number_key j)
 needs-premise true kind js ss g s j e i = IsIn-left (sequent_keys s ++ map number_key js) (given_keys g) (number_key j) (IsIn-right (sequent_keys s) (map number_key js) (number_key j) (IsIn-map number_key js j i))
 needs-premise false kind js ss g s j e i = absurd (cc)
 

@@ -44,7 +44,8 @@ use Rattle.telling_laws.specs.ToldKeys.{operator-primitive, constant-primitive, 
 
 -- the type of a term whose symbols are told
 module _ (m : List Declaration) (symbols : Symbols) where
-  type_under-told : (binders : List HolType) → ((k : ℕ) (a : HolType) → slice_get binders k ≡ Some a → TellsType m symbols a) → (t : Term) (a : HolType) → TellsTerm m symbols t → type_under binders t ≡ Some a → TellsType m symbols a
+  type_under-told : (binders : List HolType) → ((k : ℕ) (a : HolType) → slice_get binders k ≡ Some a → TellsType m symbols a) → (t : Term) (a : HolType)
+      → TellsTerm m symbols t → type_under binders t ≡ Some a → TellsType m symbols a
   type_under-told binders b (term.Term.free n t) a h e = subst (TellsType m symbols) (same_Some _ _ e) h
   type_under-told binders b (term.Term.bound k) a h e = b k a e
   type_under-told binders b (term.Term.constant n t) a h e = subst (TellsType m symbols) (same_Some _ _ e) h.ty
@@ -55,7 +56,8 @@ module _ (m : List Declaration) (symbols : Symbols) where
       let p = abstraction_type-is t (type_under (t ∷ binders) c) a e in
       subst (TellsType m symbols) (sym p.1.1) (refl, (h.0, (type_under-told (t ∷ binders) (under t b h.0) c p.0 h.1 p.1.0, tt {0})))
     where
-      under : (t : HolType) → ((k : ℕ) (a : HolType) → slice_get binders k ≡ Some a → TellsType m symbols a) → TellsType m symbols t → (k : ℕ) (a : HolType) → slice_get (t ∷ binders) k ≡ Some a → TellsType m symbols a
+      under : (t : HolType) → ((k : ℕ) (a : HolType) → slice_get binders k ≡ Some a → TellsType m symbols a) → TellsType m symbols t → (k : ℕ) (a : HolType)
+          → slice_get (t ∷ binders) k ≡ Some a → TellsType m symbols a
       under t b h zero a e = subst (TellsType m symbols) (same_Some _ _ e) h
       under t b h (suc k) a e = b k a e
 
@@ -168,7 +170,8 @@ module _ (made : List Made) (is_proof : IsProof made) (xs before rest : List Ite
           let same : d.1.name ≡ n = same_constant d.1.name n v.1 (sym d.1.image ∙ put) in
           subst (λ (u : Variable × Term). TellsTerm m symbols u.1) (sym p.2) (subst (λ (k : Name). TellsTerm m symbols (term.Term.constant k v.1)) same (constant-defined d.1.name v.1 d.0 d.1.has))
 
-  given-told : (kind : StepKind) (js : List ℕ) (premises : List Sequent) (given : Parameters) (s : Sequent) → Rule kind premises given s → DefinesAmong before kind js premises given → TellsGiven m symbols given
+  given-told : (kind : StepKind) (js : List ℕ) (premises : List Sequent) (given : Parameters) (s : Sequent) → Rule kind premises given s
+      → DefinesAmong before kind js premises given → TellsGiven m symbols given
   given-told kind js premises given s (rule.define_const_list {pairs = pairs} {one = one} d l e) defines = list-told pairs one l defines.1
   given-told kind js premises given s (rule.define_const d e) defines = tt
   given-told kind js premises given s (rule.refl h e) defines = tt

@@ -36,7 +36,8 @@ module _ (m : List Declaration) (symbols : Symbols) where
   pub operator-primitive : (n : Name) (k j : ℕ) → primitive_arity n ≡ Some j → told_operator m n k ≡ Some (operator_symbol symbols n k)
   operator-primitive n k j h = first (name_eq n arrow_name) refl
     where
-      third : (b : Bool) → name_eq n ind_name ≡ b → name_eq n bool_name ≡ false → name_eq n arrow_name ≡ false → told_operator m n k ≡ Some (operator_symbol symbols n k)
+      third : (b : Bool) → name_eq n ind_name ≡ b → name_eq n bool_name ≡ false → name_eq n arrow_name ≡ false
+          → told_operator m n k ≡ Some (operator_symbol symbols n k)
       third true e f g = rw (g, f, e) refl
       third false e f g = let a : primitive_arity n ≡ None = rw (g, f, e) refl in absurd (cc)
 
@@ -48,18 +49,22 @@ module _ (m : List Declaration) (symbols : Symbols) where
       first true g = rw g refl
       first false g = second (name_eq n bool_name) refl g
 
-  operator-named : (n : Name) (k : ℕ) → primitive_arity n ≡ None → told_operator m n k ≡ either_number (symbol_number m (input_operator_name k n)) (symbol_number m (operator_name n))
+  operator-named : (n : Name) (k : ℕ) → primitive_arity n ≡ None
+      → told_operator m n k ≡ either_number (symbol_number m (input_operator_name k n)) (symbol_number m (operator_name n))
   operator-named n k h = first (name_eq n arrow_name) refl
     where
-      third : (b : Bool) → name_eq n ind_name ≡ b → name_eq n bool_name ≡ false → name_eq n arrow_name ≡ false → told_operator m n k ≡ either_number (symbol_number m (input_operator_name k n)) (symbol_number m (operator_name n))
+      third : (b : Bool) → name_eq n ind_name ≡ b → name_eq n bool_name ≡ false → name_eq n arrow_name ≡ false
+          → told_operator m n k ≡ either_number (symbol_number m (input_operator_name k n)) (symbol_number m (operator_name n))
       third true e f g = let a : primitive_arity n ≡ Some 0 = rw (g, f, e) refl in absurd (cc)
       third false e f g = rw (g, f, e) refl
 
-      second : (b : Bool) → name_eq n bool_name ≡ b → name_eq n arrow_name ≡ false → told_operator m n k ≡ either_number (symbol_number m (input_operator_name k n)) (symbol_number m (operator_name n))
+      second : (b : Bool) → name_eq n bool_name ≡ b → name_eq n arrow_name ≡ false
+          → told_operator m n k ≡ either_number (symbol_number m (input_operator_name k n)) (symbol_number m (operator_name n))
       second true f g = let a : primitive_arity n ≡ Some 0 = rw (g, f) refl in absurd (cc)
       second false f g = third (name_eq n ind_name) refl f g
 
-      first : (b : Bool) → name_eq n arrow_name ≡ b → told_operator m n k ≡ either_number (symbol_number m (input_operator_name k n)) (symbol_number m (operator_name n))
+      first : (b : Bool) → name_eq n arrow_name ≡ b
+          → told_operator m n k ≡ either_number (symbol_number m (input_operator_name k n)) (symbol_number m (operator_name n))
       first true g = let a : primitive_arity n ≡ Some 2 = rw g refl in absurd (cc)
       first false g = second (name_eq n bool_name) refl g
 
@@ -74,14 +79,17 @@ module _ (m : List Declaration) (symbols : Symbols) where
       first true e = rw e refl
       first false e = second (name_eq n select_name) refl e
 
-  constant-other : (n : Name) → primitive_type n ≡ None → told_constant m n ≡ either_number (symbol_number m (input_constant_name n)) (symbol_number m (constant_name n))
+  constant-other : (n : Name) → primitive_type n ≡ None
+      → told_constant m n ≡ either_number (symbol_number m (input_constant_name n)) (symbol_number m (constant_name n))
   constant-other n h = first (name_eq n equality_name) refl
     where
-      second : (b : Bool) → name_eq n select_name ≡ b → name_eq n equality_name ≡ false → told_constant m n ≡ either_number (symbol_number m (input_constant_name n)) (symbol_number m (constant_name n))
+      second : (b : Bool) → name_eq n select_name ≡ b → name_eq n equality_name ≡ false
+          → told_constant m n ≡ either_number (symbol_number m (input_constant_name n)) (symbol_number m (constant_name n))
       second true e f = let a : primitive_type n ≡ Some (select_type generic) = rw (f, e) refl in absurd (cc)
       second false e f = rw (f, e) refl
 
-      first : (b : Bool) → name_eq n equality_name ≡ b → told_constant m n ≡ either_number (symbol_number m (input_constant_name n)) (symbol_number m (constant_name n))
+      first : (b : Bool) → name_eq n equality_name ≡ b
+          → told_constant m n ≡ either_number (symbol_number m (input_constant_name n)) (symbol_number m (constant_name n))
       first true e = let a : primitive_type n ≡ Some (equality_type generic) = rw e refl in absurd (cc)
       first false e = second (name_eq n select_name) refl e
 
@@ -165,14 +173,16 @@ module _ (made : List Made) (is_proof : IsProof made) (xs before rest : List Ite
       is-own : is_operator own.operator (length own.variables) z.content ≡ true
       is-own = ap (is_operator own.operator (length own.variables)) e ∙ rw ((name_eq-Decides own.operator own.operator).1 refl) ((unsigned_Decides (length own.variables) (length own.variables)).1 refl)
 
-      no-input : IsName own.operator → (z.name ≡ input_operator_name (length own.variables) own.operator → ⊥) → symbol_number m (input_operator_name (length own.variables) own.operator) ≡ None
+      no-input : IsName own.operator → (z.name ≡ input_operator_name (length own.variables) own.operator → ⊥)
+          → symbol_number m (input_operator_name (length own.variables) own.operator) ≡ None
       no-input is differs =
           let n = own.operator in
           let k = length own.variables in
           other-operator symbols made is_proof before order-before names z i n k (input_operator_name k n) is-own (λ y h f. input-operator made is_proof n k is y h f) differs
           (symbol_name-high ss (operator n k) (input_operator_name k n) (IsSymbolName.an_input_operator n k is refl refl)).1
 
-      go : HasItemName ss z → either_number (symbol_number m (input_operator_name (length own.variables) own.operator)) (symbol_number m (operator_name own.operator)) ≡ Some z.symbol
+      go : HasItemName ss z
+          → either_number (symbol_number m (input_operator_name (length own.variables) own.operator)) (symbol_number m (operator_name own.operator)) ≡ Some z.symbol
       go (HasItemName.of_step s f low_one low) = let g : None ≡ Some s = sym (ap says e) ∙ f in absurd (cc)
       go (HasItemName.of_symbol (IsSymbolName.an_input k is f w)) = let g : type_operator own c u l one ≡ constant k generic = sym e ∙ f in absurd (cc)
       go (HasItemName.of_symbol (IsSymbolName.an_input_operator k j is f w)) = let g : type_operator own c u l one ≡ operator k j = sym e ∙ f in absurd (cc)

@@ -22,7 +22,8 @@ broken_place q p name None h = omega (arith, h)
 broken_place q p name (Some x) h = omega arith
 
 -- what the tokens of a text come to is refused at their end at the latest
-outcome_place : (all : List Placed) (o : Outcome) (end : End) → AreAscending (place_of end) all → IsShown (place_of end) all o → IsRefusedBy (place_of end) (answers o end)
+outcome_place : (all : List Placed) (o : Outcome) (end : End) → AreAscending (place_of end) all → IsShown (place_of end) all o
+    → IsRefusedBy (place_of end) (answers o end)
 outcome_place all (Stops r) (ended p) a s = omega (arith, s.1)
 outcome_place all (Stops r) (stuck p) a s = omega (arith, s.1)
 outcome_place all (Goes m Between) (ended p) a s = tt

@@ -225,7 +225,8 @@ pub refused-injective : (r s : Refusal) → refused r ≡ refused s → r ≡ s
 refused-injective r s h = cc
 
 -- a fault of tokens is at the place of one of them, or it is the answer
-tokens_up_to : {all : List Placed} {s : Refusal} (q : ℕ) (fault : Fault) (end : End) → AreUpTo q all → answers (run [] Between all) end ≡ refused (refusal q fault)
+tokens_up_to : {all : List Placed} {s : Refusal} (q : ℕ) (fault : Fault) (end : End) → AreUpTo q all
+    → answers (run [] Between all) end ≡ refused (refusal q fault)
     → TokensShow all s → s.place ≤ q
 tokens_up_to q fault end u a (bad_token front rest {p = p} token i b) = up_to_front q p token front rest (subst (AreUpTo q) i u)
 tokens_up_to q fault end u a (unknown_name x v i b) = (atom_stands_keeps (up_to_kept q) u x).0
@@ -295,7 +296,8 @@ module _ (bytes : List ℕ) (n : ℕ) (s : Refusal) (always : ShowsSo bytes s) w
       by_order (inr k) (inl l) = absurd (omega (arith, l, ap (λ w. w.place) k))
       by_order (inr k) (inr l) = absurd (unlike (sym i ∙ ap (λ w. told w.fault) (k ∙ sym l) ∙ j))
 
-  passes_past : (pending : Pending) (m : List Declaration) (state : State) → read_bytes unread bytes ≡ Inside n pending m state → Passes n pending m state → n < s.place
+  passes_past : (pending : Pending) (m : List Declaration) (state : State) → read_bytes unread bytes ≡ Inside n pending m state → Passes n pending m state
+      → n < s.place
   passes_past pending m state h (passes g) = goes_on_past (Inside n pending m state) h g
   passes_past pending m state h (forks {q = q} {token = token} {x = x} {y = y} one two last unlike v w) =
       let after = read_end (read_bytes (Inside n pending m state) one) in
@@ -303,7 +305,8 @@ module _ (bytes : List ℕ) (n : ℕ) (s : Refusal) (always : ShowsSo bytes s) w
       (λ fault a l. late_shown bytes n pending m state h one q token last fault s (inside_answer bytes n pending m state h one ∙ a) l (always one))
 
 -- Where a cut token shows nothing, no fault is shown at a place up to the limit whatever bytes follow.
-pub cut_token-past : (bytes : List ℕ) (n : ℕ) (s : Refusal) (pending : Pending) (m : List Declaration) (state : State) → read_bytes unread bytes ≡ Inside n pending m state
+pub cut_token-past : (bytes : List ℕ) (n : ℕ) (s : Refusal) (pending : Pending) (m : List Declaration) (state : State)
+    → read_bytes unread bytes ≡ Inside n pending m state
     → cut_token m state pending ≡ None → ShowsSo bytes s → n < s.place
 cut_token-past bytes n s pending m state e h always = passes_past bytes n s always pending m state e (token_passes n pending m state h)
 

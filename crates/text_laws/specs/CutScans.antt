@@ -44,7 +44,8 @@ read_bytes_at n done [] h = subst (λ k. IsAt k done) (omega arith) h
 read_bytes_at n done (b ∷ bytes) h = subst (λ k. IsAt k (read_bytes (read_byte done b) bytes)) (omega arith) (read_bytes_at (n + 1) (read_byte done b) bytes (read_byte_at n done b h))
 
 -- A reading inside a text has come to its end.
-pub inside_place : (bytes : List ℕ) (n : ℕ) (pending : Pending) (m : List Declaration) (state : State) → read_bytes unread bytes ≡ Inside n pending m state → n ≡ length bytes
+pub inside_place : (bytes : List ℕ) (n : ℕ) (pending : Pending) (m : List Declaration) (state : State) → read_bytes unread bytes ≡ Inside n pending m state
+    → n ≡ length bytes
 inside_place bytes n pending m state h = subst (IsAt (0 + length bytes)) h (read_bytes_at 0 unread bytes refl) ∙ omega arith
 
 -- a reading that has come to place n so
@@ -53,7 +54,8 @@ module _ (n : ℕ) (pending : Pending) (c : List Declaration) (d : State) where
   IsInside done = done ≡ Inside n pending c d
 
   -- the signature's text comes first
-  begun_by : (p a b : ℕ) (wanted bytes : List ℕ) (same : Bool) → (b == a) ≡ same → IsInside (read_bytes (if same then opened (p + 1) wanted else Refused (refusal p NoPrelude)) bytes)
+  begun_by : (p a b : ℕ) (wanted bytes : List ℕ) (same : Bool) → (b == a) ≡ same
+      → IsInside (read_bytes (if same then opened (p + 1) wanted else Refused (refusal p NoPrelude)) bytes)
       → (IsInside (read_bytes (opened (p + 1) wanted) bytes) → IsOpened wanted bytes) → IsOpened (a ∷ wanted) (b ∷ bytes)
   begun_by p a b wanted bytes true e h k = let r = k h in record { text = r.text; is = cc (eqb-true b a e, r.is) }
   begun_by p a b wanted bytes false e h k = absurd (cc (h, read_bytes-Refused (refusal p NoPrelude) bytes))

@@ -33,7 +33,8 @@ arrow_goes m head (Domain name ∷ frames) t = refl
 arrow_goes m head _ t = refl
 
 -- and a `=>` one in the domain of a binder
-fat_arrow_breaks : (m : List Declaration) (head : Head) (frames : List Frame) (t : Tree) (p : ℕ) (r : Refusal) → stop_of (fat_arrow m head frames t p) ≡ Some r → refusal p BadText ≡ r
+fat_arrow_breaks : (m : List Declaration) (head : Head) (frames : List Frame) (t : Tree) (p : ℕ) (r : Refusal) → stop_of (fat_arrow m head frames t p) ≡ Some r
+    → refusal p BadText ≡ r
 fat_arrow_breaks m head (Domain name ∷ frames) t p r h = absurd (cc)
 fat_arrow_breaks m head _ t p r h = cc
 
@@ -52,7 +53,8 @@ module _ (m : List Declaration) (head : Head) (frames : List Frame) (q : ℕ) (n
   first_fat_arrow (Some x) h = fat_arrow_breaks m head frames x p r h
 
 -- any word stops a reading where none can follow
-word_stops : (m : List Declaration) (state : State) (p : ℕ) (token : Token) (r : Refusal) → IsWord token → any_word m state p ≡ Some r → advance m state p token ≡ Stops r
+word_stops : (m : List Declaration) (state : State) (p : ℕ) (token : Token) (r : Refusal) → IsWord token → any_word m state p ≡ Some r
+    → advance m state p token ≡ Stops r
 word_stops m (AfterName form name) p (Name other) r w h = cc
 word_stops m (AfterName form name) p TypeWord r w h = cc
 word_stops m (AfterName form name) p DefWord r w h = cc
@@ -79,7 +81,8 @@ assigns_stops m (TypeOf Thm name) (Some t) p r h = absurd (deep_stops p m (AtTer
 assigns_stops m (BodyOf form name ty) (Some t) p r h = (cc, cc)
 
 -- a `:` and a `:=` stop a reading where neither can follow
-colon_stops : (m : List Declaration) (state : State) (p : ℕ) (r : Refusal) → any_colon m state p ≡ Some r → (advance m state p Colon ≡ Stops r) × (advance m state p Assign ≡ Stops r)
+colon_stops : (m : List Declaration) (state : State) (p : ℕ) (r : Refusal) → any_colon m state p ≡ Some r
+    → (advance m state p Colon ≡ Stops r) × (advance m state p Assign ≡ Stops r)
 colon_stops m Between p r h = (cc, cc)
 colon_stops m (AfterKeyword form) p r h = (cc, cc)
 colon_stops m (AfterName form name) p r h = absurd (cc)
@@ -182,7 +185,8 @@ module _ (m : List Declaration) (state : State) (r : Refusal) where
   cut_always n _ more h = absurd (cc)
 
 -- What a cut token shows is answered whatever bytes follow.
-pub cut_token-answer : (bytes : List ℕ) (n : ℕ) (pending : Pending) (m : List Declaration) (state : State) (r : Refusal) → read_bytes unread bytes ≡ Inside n pending m state
+pub cut_token-answer : (bytes : List ℕ) (n : ℕ) (pending : Pending) (m : List Declaration) (state : State) (r : Refusal)
+    → read_bytes unread bytes ≡ Inside n pending m state
     → cut_token m state pending ≡ Some r → (more : List ℕ) → answer (bytes ++ more) ≡ refused r
 cut_token-answer bytes n pending m state r e h more = ap read_end (read_bytes-append unread bytes more ∙ ap (λ done. read_bytes done more) e) ∙ cut_always m state r n pending more h
 
@@ -192,7 +196,8 @@ goes_no (Goes m state) r c d h k = absurd (cc)
 goes_no (Stops s) r c d h k = absurd (cc)
 
 -- And where the text ends with it, the text is stuck, or its tokens are refused.
-pub cut_token-stops : (n : ℕ) (pending : Pending) (m : List Declaration) (state : State) (r : Refusal) (q : ℕ) (c : List Declaration) (d : State) → cut_token m state pending ≡ Some r
+pub cut_token-stops : (n : ℕ) (pending : Pending) (m : List Declaration) (state : State) (r : Refusal) (q : ℕ) (c : List Declaration) (d : State)
+    → cut_token m state pending ≡ Some r
     → end_at pending n ≡ ended q → advance_all (Goes m state) (last_tokens pending) ≡ Goes c d → ⊥
 cut_token-stops n (InWord o word) m state r q c d h i k = goes_no (advance m state o (word_token word)) r c d (stops_by m state r o h word) k
 cut_token-stops n (AfterColon o) m state r q c d h i k = goes_no (advance m state o Colon) r c d (colon_stops m state o r h).0 k

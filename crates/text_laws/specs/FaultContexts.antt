@@ -42,7 +42,8 @@ module _ {P : List Placed → Type 0} (k : IsKept P) {all : List Placed} (a : P 
     term_begins_keeps (after_nameless {rest = rest} {r = r} t x) = k.tail r Arrow rest (application_keeps k x (term_begins_keeps t))
     term_begins_keeps (enclosed_term {tokens = tokens} {p = p} x) = k.tail p LeftParen tokens (atom_stands_keeps x)
 
-    pub application_begins_keeps : {names : List (List ℕ)} {scope : Scope} {binder : Bool} {tokens : List Placed} → ApplicationBegins all names scope binder tokens → P tokens
+    pub application_begins_keeps : {names : List (List ℕ)} {scope : Scope} {binder : Bool} {tokens : List Placed}
+        → ApplicationBegins all names scope binder tokens → P tokens
     application_begins_keeps (of_term t) = term_begins_keeps t
     application_begins_keeps (of_domain {name = name} {tokens = tokens} {p = p} {q = q} t) = domain_keeps {name = name} {tokens = tokens} {p = p} {q = q} (term_begins_keeps t)
 
@@ -117,7 +118,8 @@ closed_end p rest definition_type = tt
 closed_end p rest theorem_type = tt
 closed_end p rest any_body = tt
 
-names-snoc : (m : List Declaration) (d : Declaration) (names : List (List ℕ)) (name : List ℕ) → names_of m ≡ names → d.name ≡ name → names_of (m ++ d ∷ []) ≡ names ++ name ∷ []
+names-snoc : (m : List Declaration) (d : Declaration) (names : List (List ℕ)) (name : List ℕ) → names_of m ≡ names → d.name ≡ name
+    → names_of (m ++ d ∷ []) ≡ names ++ name ∷ []
 names-snoc m d names name h k = map-append (λ c. c.name) m (d ∷ []) ∙ ap (λ n. n ++ d.name ∷ []) h ∙ ap (λ n. names ++ n ∷ []) k
 
 module _ (e : ℕ) (all : List Placed) (ascending : AreAscending e all) where
@@ -129,12 +131,15 @@ module _ (e : ℕ) (all : List Placed) (ascending : AreAscending e all) where
   abbrev pub Comes : (X : Type 0) → (X → Outcome) → List Placed → Type 0
   Comes X so tokens = Reaches read e X so tokens
 
-  deep_split : {Y : Type 0} {so : Y → Outcome} (t : Tree) (p : ℕ) (o : Outcome) (rest : List Placed) (b : Bool) → AreAfter e p rest → (read ≡ advance_all o rest → Comes Y so rest) → read ≡ advance_all (if b then o else stops p DkTooDeep) rest → Comes Y so rest
+  deep_split : {Y : Type 0} {so : Y → Outcome} (t : Tree) (p : ℕ) (o : Outcome) (rest : List Placed) (b : Bool) → AreAfter e p rest
+      → (read ≡ advance_all o rest → Comes Y so rest) → read ≡ advance_all (if b then o else stops p DkTooDeep) rest → Comes Y so rest
   deep_split t p o rest true a f h = f h
   deep_split t p o rest false a f h = past (refusal p DkTooDeep) h a
 
   -- a whole declaration
-  declared : {names : List (List ℕ)} {name : List ℕ} {rest : List Placed} (p : ℕ) (m : List Declaration) (h : Head) (t : Tree) → names_of m ≡ names → IsClosedBy h name Dot → AreAfter e p rest → read ≡ run m (InApplication h [] (Some t)) (at p Dot ∷ rest) → Comes (OfNames (names ++ name ∷ [])) (λ x. Goes x.m Between) rest
+  declared : {names : List (List ℕ)} {name : List ℕ} {rest : List Placed} (p : ℕ) (m : List Declaration) (h : Head) (t : Tree) → names_of m ≡ names
+      → IsClosedBy h name Dot → AreAfter e p rest → read ≡ run m (InApplication h [] (Some t)) (at p Dot ∷ rest)
+      → Comes (OfNames (names ++ name ∷ [])) (λ x. Goes x.m Between) rest
   declared {names = names} {name = name} {rest = rest} p m (TypeOf Symbol other) t n symbol_type a k =
       let d : Declaration = record { name = name; form = Symbol; ty = t; body = None } in
       deep_split t p (Goes (m ++ d ∷ []) Between) rest (nat_le (depth t) max_depth) a (λ l. reached (record { m = m ++ d ∷ []; named = names-snoc m d names name n refl }) l) k
@@ -154,7 +159,9 @@ module _ (e : ℕ) (all : List Placed) (ascending : AreAscending e all) where
   assigned p m (BodyOf form other ty) t n c a k = elim c [ ]
 
   -- a declaration's name
-  twice_split : {Y : Type 0} {so : Y → Outcome} (m : List Declaration) (form : Form) (name : List ℕ) (p q : ℕ) (rest : List Placed) (b : Bool) → AreAfter e p rest → (read ≡ run m (AtTerm (TypeOf form name) []) rest → Comes Y so rest) → read ≡ advance_all (if b then stops p (NameTwice name) else Goes m (AfterName form name)) (at q Colon ∷ rest) → Comes Y so rest
+  twice_split : {Y : Type 0} {so : Y → Outcome} (m : List Declaration) (form : Form) (name : List ℕ) (p q : ℕ) (rest : List Placed) (b : Bool)
+      → AreAfter e p rest → (read ≡ run m (AtTerm (TypeOf form name) []) rest → Comes Y so rest)
+      → read ≡ advance_all (if b then stops p (NameTwice name) else Goes m (AfterName form name)) (at q Colon ∷ rest) → Comes Y so rest
   twice_split m form name p q rest true a f h = past (refusal p (NameTwice name)) h a
   twice_split m form name p q rest false a f h = f h
 
@@ -169,7 +176,8 @@ module _ (e : ℕ) (all : List Placed) (ascending : AreAscending e all) where
   body_type Thm name h = theorem_type
 
   mutual
-    pub declaration_comes : {names : List (List ℕ)} {tokens : List Placed} → DeclarationBegins all names tokens → Comes (OfNames names) (λ x. Goes x.m Between) tokens
+    pub declaration_comes : {names : List (List ℕ)} {tokens : List Placed} → DeclarationBegins all names tokens
+        → Comes (OfNames names) (λ x. Goes x.m Between) tokens
     declaration_comes first = reached (record { m = []; named = refl }) refl
     declaration_comes (next {p = p} w t) =
         then_reaches (whole_comes w) (λ n k. (term_keeps (after_kept e n) t k).1)
@@ -213,11 +221,13 @@ module _ (e : ℕ) (all : List Placed) (ascending : AreAscending e all) where
         (λ a l. reached (record { m = x.m; named = x.named; head = x.head; frames = Product [] a ∷ x.frames; scoped = ap (λ s. [] ∷ s) x.scoped; free = tt }) (l ∙ arrow_opens read e x.m x.head x.frames a r rest x.free)))
     term_comes (enclosed_term {binder = binder} {p = p} x) = then_reaches (atom_comes x tt) (λ n k. k.1) (λ y k. parenthesis_comes binder p y k)
 
-    pub application_comes : {names : List (List ℕ)} {scope : Scope} {binder : Bool} {tokens : List Placed} → ApplicationBegins all names scope binder tokens → Comes (OfPlace names scope) (place_state binder) tokens
+    pub application_comes : {names : List (List ℕ)} {scope : Scope} {binder : Bool} {tokens : List Placed} → ApplicationBegins all names scope binder tokens
+        → Comes (OfPlace names scope) (place_state binder) tokens
     application_comes (of_term t) = then_reaches (term_comes t) (λ n k. k) (λ x k. reached (record { m = x.m; named = x.named; head = x.head; frames = x.frames; scoped = x.scoped; f = None }) k)
     application_comes (of_domain {name = name} t) = then_reaches (term_comes t) (λ n k. k.1.1) (λ x k. reached (record { m = x.m; named = x.named; head = x.head; frames = Domain name ∷ x.frames; scoped = x.scoped; f = None }) k)
 
-    pub atom_comes : {names : List (List ℕ)} {scope : Scope} {binder : Bool} {tokens : List Placed} → AtomStands all names scope binder tokens → IsApplied tokens → Comes (OfPlace names scope) (place_state binder) tokens
+    pub atom_comes : {names : List (List ℕ)} {scope : Scope} {binder : Bool} {tokens : List Placed} → AtomStands all names scope binder tokens
+        → IsApplied tokens → Comes (OfPlace names scope) (place_state binder) tokens
     atom_comes (of_application x) i = application_comes x
     atom_comes (further x y) i = then_reaches (applied_comes x y i) (λ n k. k) (λ z k. reached (record { m = z.m; named = z.named; head = z.head; frames = z.frames; scoped = z.scoped; f = Some z.t }) k)
 

@@ -7,18 +7,30 @@ use Rattle.lp_spec.specs.Faults.{BareAtom, identifier, sort, enclosed, BareArgum
 
 -- The first of these tokens can follow all those before it. Each rule is a place of a token in the grammar.
 pub data CanFollow (all : List Placed) : List Placed → Type 0 where
-  definition_word : {names : List (List ℕ)} {rest : List Placed} {p : ℕ} → DeclarationBegins all names (at p DefWord ∷ rest) → CanFollow all (at p DefWord ∷ rest)
+  definition_word : {names : List (List ℕ)} {rest : List Placed} {p : ℕ} → DeclarationBegins all names (at p DefWord ∷ rest)
+      → CanFollow all (at p DefWord ∷ rest)
   theorem_word : {names : List (List ℕ)} {rest : List Placed} {p : ℕ} → DeclarationBegins all names (at p ThmWord ∷ rest) → CanFollow all (at p ThmWord ∷ rest)
-  declared_name : {names : List (List ℕ)} {form : Form} {name : List ℕ} {rest : List Placed} {p : ℕ} → NameStands all names form (at p (Name name) ∷ rest) → CanFollow all (at p (Name name) ∷ rest)
-  declared_colon : {names : List (List ℕ)} {form : Form} {name : List ℕ} {rest : List Placed} {p q : ℕ} → NameStands all names form (at p (Name name) ∷ at q Colon ∷ rest) → CanFollow all (at q Colon ∷ rest)
-  whole_end : {names : List (List ℕ)} {name : List ℕ} {end : Token} {tokens rest : List Placed} {p : ℕ} → WholeBegins all names name end tokens → BareTerm tokens (at p end ∷ rest) → CanFollow all (at p end ∷ rest)
-  identifier_atom : {names : List (List ℕ)} {scope : Scope} {binder : Bool} {name : List ℕ} {rest : List Placed} {p : ℕ} → AtomStands all names scope binder (at p (Name name) ∷ rest) → CanFollow all (at p (Name name) ∷ rest)
-  sort_atom : {names : List (List ℕ)} {scope : Scope} {binder : Bool} {rest : List Placed} {p : ℕ} → AtomStands all names scope binder (at p TypeWord ∷ rest) → CanFollow all (at p TypeWord ∷ rest)
-  left_parenthesis : {names : List (List ℕ)} {scope : Scope} {binder : Bool} {rest : List Placed} {p : ℕ} → AtomStands all names scope binder (at p LeftParen ∷ rest) → CanFollow all (at p LeftParen ∷ rest)
-  right_parenthesis : {names : List (List ℕ)} {scope : Scope} {binder : Bool} {tokens rest : List Placed} {p q : ℕ} → AtomStands all names scope binder (at p LeftParen ∷ tokens) → BareTerm tokens (at q RightParen ∷ rest) → CanFollow all (at q RightParen ∷ rest)
-  binder_colon : {names : List (List ℕ)} {scope : Scope} {name : List ℕ} {rest : List Placed} {p q : ℕ} → TermBegins all names scope (at p (Name name) ∷ at q Colon ∷ rest) → CanFollow all (at q Colon ∷ rest)
-  arrow_sign : {names : List (List ℕ)} {scope : Scope} {binder : Bool} {tokens rest : List Placed} {p : ℕ} → ApplicationBegins all names scope binder tokens → BareApplication tokens (at p Arrow ∷ rest) → CanFollow all (at p Arrow ∷ rest)
-  fat_arrow_sign : {names : List (List ℕ)} {scope : Scope} {name : List ℕ} {tokens rest : List Placed} {p q r : ℕ} → TermBegins all names scope (at p (Name name) ∷ at q Colon ∷ tokens) → BareApplication tokens (at r FatArrow ∷ rest) → CanFollow all (at r FatArrow ∷ rest)
+  declared_name : {names : List (List ℕ)} {form : Form} {name : List ℕ} {rest : List Placed} {p : ℕ} → NameStands all names form (at p (Name name) ∷ rest)
+      → CanFollow all (at p (Name name) ∷ rest)
+  declared_colon : {names : List (List ℕ)} {form : Form} {name : List ℕ} {rest : List Placed} {p q : ℕ}
+      → NameStands all names form (at p (Name name) ∷ at q Colon ∷ rest) → CanFollow all (at q Colon ∷ rest)
+  whole_end : {names : List (List ℕ)} {name : List ℕ} {end : Token} {tokens rest : List Placed} {p : ℕ} → WholeBegins all names name end tokens
+      → BareTerm tokens (at p end ∷ rest) → CanFollow all (at p end ∷ rest)
+  identifier_atom : {names : List (List ℕ)} {scope : Scope} {binder : Bool} {name : List ℕ} {rest : List Placed} {p : ℕ}
+      → AtomStands all names scope binder (at p (Name name) ∷ rest) → CanFollow all (at p (Name name) ∷ rest)
+  sort_atom : {names : List (List ℕ)} {scope : Scope} {binder : Bool} {rest : List Placed} {p : ℕ} → AtomStands all names scope binder (at p TypeWord ∷ rest)
+      → CanFollow all (at p TypeWord ∷ rest)
+  left_parenthesis : {names : List (List ℕ)} {scope : Scope} {binder : Bool} {rest : List Placed} {p : ℕ}
+      → AtomStands all names scope binder (at p LeftParen ∷ rest) → CanFollow all (at p LeftParen ∷ rest)
+  right_parenthesis : {names : List (List ℕ)} {scope : Scope} {binder : Bool} {tokens rest : List Placed} {p q : ℕ}
+      → AtomStands all names scope binder (at p LeftParen ∷ tokens) → BareTerm tokens (at q RightParen ∷ rest) → CanFollow all (at q RightParen ∷ rest)
+  binder_colon : {names : List (List ℕ)} {scope : Scope} {name : List ℕ} {rest : List Placed} {p q : ℕ}
+      → TermBegins all names scope (at p (Name name) ∷ at q Colon ∷ rest) → CanFollow all (at q Colon ∷ rest)
+  arrow_sign : {names : List (List ℕ)} {scope : Scope} {binder : Bool} {tokens rest : List Placed} {p : ℕ} → ApplicationBegins all names scope binder tokens
+      → BareApplication tokens (at p Arrow ∷ rest) → CanFollow all (at p Arrow ∷ rest)
+  fat_arrow_sign : {names : List (List ℕ)} {scope : Scope} {name : List ℕ} {tokens rest : List Placed} {p q r : ℕ}
+      → TermBegins all names scope (at p (Name name) ∷ at q Colon ∷ tokens) → BareApplication tokens (at r FatArrow ∷ rest)
+      → CanFollow all (at r FatArrow ∷ rest)
 
 -- an atom more
 pub arguments_snoc : {tokens more rest : List Placed} → BareArguments tokens more → BareAtom more rest → BareArguments tokens rest
@@ -31,7 +43,8 @@ application_snoc (application y args) x = application y (arguments_snoc args x)
 -- each token of the second list before the first one can follow
 data AllFollow (all rest : List Placed) : List Placed → Type 0 where
   done : AllFollow all rest rest
-  more_follow : {p : ℕ} {token : Token} {tokens : List Placed} → CanFollow all (at p token ∷ tokens) → AllFollow all rest tokens → AllFollow all rest (at p token ∷ tokens)
+  more_follow : {p : ℕ} {token : Token} {tokens : List Placed} → CanFollow all (at p token ∷ tokens) → AllFollow all rest tokens
+      → AllFollow all rest (at p token ∷ tokens)
 
 module _ {all : List Placed} where
   then_follow : {rest middle tokens : List Placed} → AllFollow all middle tokens → AllFollow all rest middle → AllFollow all rest tokens
@@ -39,19 +52,23 @@ module _ {all : List Placed} where
   then_follow (more_follow c h) k = more_follow c (then_follow h k)
 
   mutual
-    atom_follows : {names : List (List ℕ)} {scope : Scope} {binder : Bool} {tokens rest : List Placed} → AtomStands all names scope binder tokens → BareAtom tokens rest → AllFollow all rest tokens
+    atom_follows : {names : List (List ℕ)} {scope : Scope} {binder : Bool} {tokens rest : List Placed} → AtomStands all names scope binder tokens
+        → BareAtom tokens rest → AllFollow all rest tokens
     atom_follows a identifier = more_follow (identifier_atom a) done
     atom_follows a sort = more_follow (sort_atom a) done
     atom_follows a (enclosed t) = more_follow (left_parenthesis a) (then_follow (term_follows (enclosed_term a) t) (more_follow (right_parenthesis a t) done))
 
-    arguments_follow : {names : List (List ℕ)} {scope : Scope} {binder : Bool} {start tokens rest : List Placed} → ApplicationBegins all names scope binder start → BareApplication start tokens → BareArguments tokens rest → AllFollow all rest tokens
+    arguments_follow : {names : List (List ℕ)} {scope : Scope} {binder : Bool} {start tokens rest : List Placed}
+        → ApplicationBegins all names scope binder start → BareApplication start tokens → BareArguments tokens rest → AllFollow all rest tokens
     arguments_follow a y none = done
     arguments_follow a y (argument x args) = then_follow (atom_follows (further a y) x) (arguments_follow a (application_snoc y x) args)
 
-    application_follows : {names : List (List ℕ)} {scope : Scope} {binder : Bool} {tokens rest : List Placed} → ApplicationBegins all names scope binder tokens → BareApplication tokens rest → AllFollow all rest tokens
+    application_follows : {names : List (List ℕ)} {scope : Scope} {binder : Bool} {tokens rest : List Placed} → ApplicationBegins all names scope binder tokens
+        → BareApplication tokens rest → AllFollow all rest tokens
     application_follows a (application x args) = then_follow (atom_follows (of_application a) x) (arguments_follow a (application x none) args)
 
-    term_follows : {names : List (List ℕ)} {scope : Scope} {tokens rest : List Placed} → TermBegins all names scope tokens → BareTerm tokens rest → AllFollow all rest tokens
+    term_follows : {names : List (List ℕ)} {scope : Scope} {tokens rest : List Placed} → TermBegins all names scope tokens → BareTerm tokens rest
+        → AllFollow all rest tokens
     term_follows t (product y u) =
         more_follow (identifier_atom (of_application (of_term t)))
         (more_follow (binder_colon t) (then_follow (application_follows (of_domain t) y) (more_follow (arrow_sign (of_domain t) y) (term_follows (after_product t y) u))))
@@ -81,5 +98,6 @@ follow_at all [] rest p token (more_follow c h) = c
 follow_at all (at q other ∷ front) rest p token (more_follow c h) = follow_at all front rest p token h
 
 -- a token of a text can follow those before it
-pub text_follows : (front more : List Placed) (p : ℕ) (token : Token) → IsText (front ++ at p token ∷ more) → CanFollow (front ++ at p token ∷ more) (at p token ∷ more)
+pub text_follows : (front more : List Placed) (p : ℕ) (token : Token) → IsText (front ++ at p token ∷ more)
+    → CanFollow (front ++ at p token ∷ more) (at p token ∷ more)
 text_follows front more p token h = follow_at (front ++ at p token ∷ more) front more p token (declarations_follow h.1)

@@ -42,13 +42,16 @@ module _ (e : ℕ) (all : List Placed) (ascending : AreAscending e all) where
   abbrev read : Outcome
   read = run [] Between all
 
-  step_shown : {o : Outcome} (p : ℕ) (token : Token) (front rest : List Placed) → all ≡ front ++ at p token ∷ rest → p < e → read ≡ advance_all o rest → ((m : List Declaration) (state : State) → Stands all m state rest → read ≡ run m state rest → IsShown e all (run m state rest)) → Step all p token rest o → IsShown e all (advance_all o rest)
+  step_shown : {o : Outcome} (p : ℕ) (token : Token) (front rest : List Placed) → all ≡ front ++ at p token ∷ rest → p < e → read ≡ advance_all o rest
+      → ((m : List Declaration) (state : State) → Stands all m state rest → read ≡ run m state rest → IsShown e all (run m state rest))
+      → Step all p token rest o → IsShown e all (advance_all o rest)
   step_shown p token front rest i b k f (goes {m = m} {state = state} c s) = f m state s k
   step_shown p token front rest i b k f (shown c t) = (t, b)
   step_shown p token front rest i b k f cannot = (bad_token front rest token i (λ more h. can-follow e all ascending (text-follows all front rest more p token i h) k), b)
   step_shown p token front rest i b k f (earlier t l) = (t, omega (arith, l, b))
 
-  run_shown : (rest front : List Placed) (m : List Declaration) (state : State) → all ≡ front ++ rest → AreAscending e rest → Stands all m state rest → read ≡ run m state rest → IsShown e all (run m state rest)
+  run_shown : (rest front : List Placed) (m : List Declaration) (state : State) → all ≡ front ++ rest → AreAscending e rest → Stands all m state rest
+      → read ≡ run m state rest → IsShown e all (run m state rest)
   run_shown [] front m state i a s k = s
   run_shown (at p token ∷ rest) front m state i a s k =
       step_shown p token front rest i (after_end e p rest a.0) k
@@ -59,26 +62,32 @@ module _ (e : ℕ) (all : List Placed) (ascending : AreAscending e all) where
   read_shown = run_shown all [] [] Between refl ascending (first, none_yet) refl
 
   -- a token that can't follow is refused, or something before it
-  step_least : {o : Outcome} (p q : ℕ) (end : End) (other : Token) (rest : List Placed) → q < p → read ≡ advance_all o rest → ((m : List Declaration) (state : State) → Stands all m state rest → read ≡ run m state rest → IsNoLater (answers read end) (refusal p BadText)) → Step all q other rest o → IsNoLater (answers read end) (refusal p BadText)
+  step_least : {o : Outcome} (p q : ℕ) (end : End) (other : Token) (rest : List Placed) → q < p → read ≡ advance_all o rest
+      → ((m : List Declaration) (state : State) → Stands all m state rest → read ≡ run m state rest → IsNoLater (answers read end) (refusal p BadText))
+      → Step all q other rest o → IsNoLater (answers read end) (refusal p BadText)
   step_least p q end other rest l k f (goes {m = m} {state = state} c s) = f m state s k
   step_least p q end other rest l k f (shown {fault = fault} c t) = no_later read (refusal p BadText) (refusal q fault) end k (inl l)
   step_least p q end other rest l k f cannot = no_later read (refusal p BadText) (refusal q BadText) end k (inl l)
   step_least p q end other rest l k f (earlier {q = r} {fault = fault} t i) = no_later read (refusal p BadText) (refusal r fault) end k (inl (omega (arith, i, l)))
 
-  bad_least : {o : Outcome} (p : ℕ) (end : End) (token : Token) (rest : List Placed) → (CanFollow all (at p token ∷ rest) → ⊥) → read ≡ advance_all o rest → Step all p token rest o → IsNoLater (answers read end) (refusal p BadText)
+  bad_least : {o : Outcome} (p : ℕ) (end : End) (token : Token) (rest : List Placed) → (CanFollow all (at p token ∷ rest) → ⊥) → read ≡ advance_all o rest
+      → Step all p token rest o → IsNoLater (answers read end) (refusal p BadText)
   bad_least p end token rest b k (goes c s) = absurd (b c)
   bad_least p end token rest b k (shown c t) = absurd (b c)
   bad_least p end token rest b k cannot = no_later read (refusal p BadText) (refusal p BadText) end k (inr refl)
   bad_least p end token rest b k (earlier {q = r} {fault = fault} t i) = no_later read (refusal p BadText) (refusal r fault) end k (inl i)
 
-  run_least : (front rest : List Placed) (p : ℕ) (end : End) (token : Token) (m : List Declaration) (state : State) → (CanFollow all (at p token ∷ rest) → ⊥) → AreAscending e (front ++ at p token ∷ rest) → Stands all m state (front ++ at p token ∷ rest) → read ≡ run m state (front ++ at p token ∷ rest) → IsNoLater (answers read end) (refusal p BadText)
+  run_least : (front rest : List Placed) (p : ℕ) (end : End) (token : Token) (m : List Declaration) (state : State) → (CanFollow all (at p token ∷ rest) → ⊥)
+      → AreAscending e (front ++ at p token ∷ rest) → Stands all m state (front ++ at p token ∷ rest) → read ≡ run m state (front ++ at p token ∷ rest)
+      → IsNoLater (answers read end) (refusal p BadText)
   run_least [] rest p end token m state b a s k = bad_least p end token rest b k (advance_step e all ascending m state p token rest s)
   run_least (at q other ∷ front) rest p end token m state b a s k =
       step_least p q end other (front ++ at p token ∷ rest) (after_front e q p token front rest a.0) k
       (λ n t u l. run_least front rest p end token n t b a.1 u l)
       (advance_step e all ascending m state q other (front ++ at p token ∷ rest) s)
 
-  bad-no-later : (front rest : List Placed) (p : ℕ) (end : End) (token : Token) → all ≡ front ++ at p token ∷ rest → ((more : List Placed) → IsText (front ++ at p token ∷ more) → ⊥) → IsNoLater (answers read end) (refusal p BadText)
+  bad-no-later : (front rest : List Placed) (p : ℕ) (end : End) (token : Token) → all ≡ front ++ at p token ∷ rest
+      → ((more : List Placed) → IsText (front ++ at p token ∷ more) → ⊥) → IsNoLater (answers read end) (refusal p BadText)
   bad-no-later front rest p end token i b =
       run_least front rest p end token [] Between (λ c. let t = follows-text all front rest p token i c in b t.0 t.1) (subst (AreAscending e) i ascending) (subst (λ tokens. DeclarationBegins all [] tokens × Declared all [] tokens) i (first, none_yet)) (ap (λ tokens. run [] Between tokens) i)
 
@@ -106,14 +115,17 @@ module _ (bytes text : List ℕ) (begun : bytes ≡ prelude ++ text) where
   in_order = tokens-ascending (length prelude) text
 
   -- after an identifier at the end of the tokens
-  first_shown : (m : List Declaration) (h : Head) (frames : List Frame) (q : ℕ) (name : List ℕ) (p : ℕ) (o : Option Tree) → meaning m frames name ≡ o → Stands all_tokens m (AfterFirst h frames q name) [] → Shows bytes (refusal p BadText) → Shows bytes (broken_after q name o p)
+  first_shown : (m : List Declaration) (h : Head) (frames : List Frame) (q : ℕ) (name : List ℕ) (p : ℕ) (o : Option Tree) → meaning m frames name ≡ o
+      → Stands all_tokens m (AfterFirst h frames q name) [] → Shows bytes (refusal p BadText) → Shows bytes (broken_after q name o p)
   first_shown m h frames q name p None i s b = by_tokens text begun (ended_unknown last_place all_tokens in_order m h frames q name s i)
   first_shown m h frames q name p (Some x) i s b = b
 
-  not_ended : (m : List Declaration) (state : State) (p : ℕ) → run [] Between all_tokens ≡ Goes m state → (state ≡ Between → ⊥) → (tokens_after text).end ≡ ended p → Shows bytes (refusal p BadText)
+  not_ended : (m : List Declaration) (state : State) (p : ℕ) → run [] Between all_tokens ≡ Goes m state → (state ≡ Between → ⊥)
+      → (tokens_after text).end ≡ ended p → Shows bytes (refusal p BadText)
   not_ended m state p k b i = no_end text begun i (unended last_place all_tokens in_order m state k b)
 
-  outcome_shown : (o : Outcome) (end : End) → run [] Between all_tokens ≡ o → (tokens_after text).end ≡ end → IsShown last_place all_tokens o → IsAnswerShown bytes (answers o end)
+  outcome_shown : (o : Outcome) (end : End) → run [] Between all_tokens ≡ o → (tokens_after text).end ≡ end → IsShown last_place all_tokens o
+      → IsAnswerShown bytes (answers o end)
   outcome_shown (Stops r) (ended p) k i s = by_tokens text begun s.0
   outcome_shown (Stops r) (stuck p) k i s = by_tokens text begun s.0
   outcome_shown (Goes m Between) (ended p) k i s = tt
@@ -137,7 +149,8 @@ module _ (bytes text : List ℕ) (begun : bytes ≡ prelude ++ text) where
   text_shown = subst (IsAnswerShown bytes) (sym answered) (outcome_shown (run [] Between all_tokens) (tokens_after text).end refl refl (read_shown last_place all_tokens in_order))
 
   -- a fault at the end is answered, or one before it
-  first_least : (m : List Declaration) (h : Head) (frames : List Frame) (q : ℕ) (name : List ℕ) (p : ℕ) (o : Option Tree) → last_place ≡ p → Stands all_tokens m (AfterFirst h frames q name) [] → IsNoLater (refused (broken_after q name o p)) (refusal p BadText)
+  first_least : (m : List Declaration) (h : Head) (frames : List Frame) (q : ℕ) (name : List ℕ) (p : ℕ) (o : Option Tree) → last_place ≡ p
+      → Stands all_tokens m (AfterFirst h frames q name) [] → IsNoLater (refused (broken_after q name o p)) (refusal p BadText)
   first_least m h frames q name p None i s = inl (subst (λ n. q < n) i (ended_before last_place all_tokens in_order m h frames q name s))
   first_least m h frames q name p (Some x) i s = inr refl
 
@@ -150,7 +163,8 @@ module _ (bytes text : List ℕ) (begun : bytes ≡ prelude ++ text) where
   stuck_least (Goes m (AtTerm h frames)) p i s = inr refl
   stuck_least (Goes m (InApplication h frames f)) p i s = inr refl
 
-  ended_least : (o : Outcome) (p : ℕ) → last_place ≡ p → (IsText all_tokens → ⊥) → IsShown last_place all_tokens o → IsNoLater (answers o (ended p)) (refusal p BadText)
+  ended_least : (o : Outcome) (p : ℕ) → last_place ≡ p → (IsText all_tokens → ⊥) → IsShown last_place all_tokens o
+      → IsNoLater (answers o (ended p)) (refusal p BadText)
   ended_least (Stops r) p i b s = inl (subst (λ n. r.place < n) i s.1)
   ended_least (Goes m (AfterFirst h frames q name)) p i b s = first_least m h frames q name p (meaning m frames name) i s
   ended_least (Goes m Between) p i b s = absurd (b (names_of m, s.0))
@@ -189,7 +203,8 @@ pub data Opens (bytes : List ℕ) : Type 0 where
 unlike : (b c : ℕ) → (b == c) ≡ false → b ≡ c → ⊥
 unlike b c e h = absurd (grind (arith, common_steps, e, h))
 
-opens_step : {bytes : List ℕ} (front : List ℕ) (c : ℕ) (wanted : List ℕ) (b : ℕ) (rest : List ℕ) (same : Bool) → (b == c) ≡ same → prelude ≡ front ++ c ∷ wanted → bytes ≡ front ++ b ∷ rest → (prelude ≡ (front ++ c ∷ []) ++ wanted → bytes ≡ (front ++ c ∷ []) ++ rest → Opens bytes) → Opens bytes
+opens_step : {bytes : List ℕ} (front : List ℕ) (c : ℕ) (wanted : List ℕ) (b : ℕ) (rest : List ℕ) (same : Bool) → (b == c) ≡ same → prelude ≡ front ++ c ∷ wanted
+    → bytes ≡ front ++ b ∷ rest → (prelude ≡ (front ++ c ∷ []) ++ wanted → bytes ≡ (front ++ c ∷ []) ++ rest → Opens bytes) → Opens bytes
 opens_step front c wanted b rest true e h k f =
     f (h ∙ sym (append_assoc front (c ∷ []) wanted)) (k ∙ ap (λ a. front ++ a ∷ rest) (eqb-true b c e) ∙ sym (append_assoc front (c ∷ []) rest))
 opens_step front c wanted b rest false e h k f = differs front (c ∷ wanted) (b ∷ rest) h k (unlike b c e)
@@ -200,7 +215,8 @@ opens_by front (c ∷ wanted) [] h k = differs front (c ∷ wanted) [] h k tt
 opens_by front (c ∷ wanted) (b ∷ rest) h k = opens_step front c wanted b rest (b == c) refl h k (opens_by (front ++ c ∷ []) wanted rest)
 
 -- the bytes that the signature's text has too
-pub front_read : (p : ℕ) (front wanted rest : List ℕ) → read_bytes (opened p (front ++ wanted)) (front ++ rest) ≡ read_bytes (opened (p + length front) wanted) rest
+pub front_read : (p : ℕ) (front wanted rest : List ℕ)
+    → read_bytes (opened p (front ++ wanted)) (front ++ rest) ≡ read_bytes (opened (p + length front) wanted) rest
 front_read p [] wanted rest = ap (λ n. read_bytes (opened n wanted) rest) (omega arith)
 front_read p (b ∷ front) wanted rest =
     opening_read p b (front ++ wanted) (front ++ rest)
@@ -214,7 +230,8 @@ differs_read p (c ∷ wanted) (b ∷ rest) h =
     ap (λ (t : Bool). read_end (read_bytes (if t then opened (p + 1) wanted else Refused (refusal p NoPrelude)) rest)) (ne_eqb b c h)
     ∙ ap read_end (read_bytes-Refused (refusal p NoPrelude) rest)
 
-pub differs_answer : (bytes front wanted rest : List ℕ) → prelude ≡ front ++ wanted → bytes ≡ front ++ rest → Differs wanted rest → answer bytes ≡ refused (refusal (length front) NoPrelude)
+pub differs_answer : (bytes front wanted rest : List ℕ) → prelude ≡ front ++ wanted → bytes ≡ front ++ rest → Differs wanted rest
+    → answer bytes ≡ refused (refusal (length front) NoPrelude)
 differs_answer bytes front wanted rest h k d =
     ap answer k
     ∙ ap (λ w. read_end (read_bytes (opened 0 w) (front ++ rest))) h

@@ -22,7 +22,8 @@ abbrev StopsAt : ℕ → Outcome → Type 0
 StopsAt p (Goes m state) = Unit {0}
 StopsAt p (Stops r) = r.fault ≡ BadText → r.place ≡ p
 
-atom_at : (m : List Declaration) (head : Head) (frames : List Frame) (f : Option Tree) (p : ℕ) (name : List ℕ) (o : Option Tree) → StopsAt p (atom m head frames f p name o)
+atom_at : (m : List Declaration) (head : Head) (frames : List Frame) (f : Option Tree) (p : ℕ) (name : List ℕ) (o : Option Tree)
+    → StopsAt p (atom m head frames f p name o)
 atom_at m head frames f p name None = λ h. refl
 atom_at m head frames f p name (Some x) = tt
 
@@ -70,11 +71,13 @@ applies_at m head frames (Some t) p Dot = declares_at m head (whole frames t) p
 applies_at m head frames (Some t) p Assign = assigns_at m head (whole frames t) p
 applies_at m head frames f p _ = λ h. refl
 
-goes_on_at : (m : List Declaration) (head : Head) (frames : List Frame) (q : ℕ) (name : List ℕ) (o : Option Tree) (p : ℕ) (token : Token) → StopsAt p (goes_on m head frames q name o p token)
+goes_on_at : (m : List Declaration) (head : Head) (frames : List Frame) (q : ℕ) (name : List ℕ) (o : Option Tree) (p : ℕ) (token : Token)
+    → StopsAt p (goes_on m head frames q name o p token)
 goes_on_at m head frames q name None p token = λ h. absurd (cc)
 goes_on_at m head frames q name (Some x) p token = applies_at m head frames (Some x) p token
 
-names_at : (m : List Declaration) (form : Form) (p : ℕ) (name : List ℕ) (b : Bool) → StopsAt p (if b then stops p (NameTwice name) else Goes m (AfterName form name))
+names_at : (m : List Declaration) (form : Form) (p : ℕ) (name : List ℕ) (b : Bool)
+    → StopsAt p (if b then stops p (NameTwice name) else Goes m (AfterName form name))
 names_at m form p name true = λ h. refl
 names_at m form p name false = tt
 
@@ -94,7 +97,8 @@ advance_at m (AfterFirst head frames q name) p token = goes_on_at m head frames 
 advance_at m (InApplication head frames f) p token = applies_at m head frames f p token
 
 -- a refusal for a token at place p comes at no later token
-later_by : (p q : ℕ) (o : Outcome) (rest : List Placed) → StopsAt q o → p < q → ((m : List Declaration) (state : State) → run m state rest ≡ Stops (refusal p BadText) → ⊥) → advance_all o rest ≡ Stops (refusal p BadText) → ⊥
+later_by : (p q : ℕ) (o : Outcome) (rest : List Placed) → StopsAt q o → p < q
+    → ((m : List Declaration) (state : State) → run m state rest ≡ Stops (refusal p BadText) → ⊥) → advance_all o rest ≡ Stops (refusal p BadText) → ⊥
 later_by p q (Goes m state) rest i l f h = f m state h
 later_by p q (Stops r) rest i l f h =
     let same : r ≡ refusal p BadText = cc in
@@ -122,7 +126,8 @@ advance_all-cons : (o : Outcome) (p : ℕ) (token : Token) (rest : List Placed) 
 advance_all-cons (Goes m state) p token rest = refl
 advance_all-cons (Stops r) p token rest = refl
 
-atom_fine : (m : List Declaration) (head : Head) (frames : List Frame) (f : Option Tree) (p : ℕ) (name : List ℕ) (o : Option Tree) → IsFine (atom m head frames f p name o)
+atom_fine : (m : List Declaration) (head : Head) (frames : List Frame) (f : Option Tree) (p : ℕ) (name : List ℕ) (o : Option Tree)
+    → IsFine (atom m head frames f p name o)
 atom_fine m head frames f p name None = λ h. absurd (cc)
 atom_fine m head frames f p name (Some x) = tt
 
@@ -130,7 +135,8 @@ deep_fine : (p : ℕ) (m : List Declaration) (state : State) (b : Bool) → IsFi
 deep_fine p m state true = tt
 deep_fine p m state false = λ h. absurd (cc)
 
-names_fine : (m : List Declaration) (form : Form) (p : ℕ) (name : List ℕ) (b : Bool) → IsFine (if b then stops p (NameTwice name) else Goes m (AfterName form name))
+names_fine : (m : List Declaration) (form : Form) (p : ℕ) (name : List ℕ) (b : Bool)
+    → IsFine (if b then stops p (NameTwice name) else Goes m (AfterName form name))
 names_fine m form p name true = λ h. absurd (cc)
 names_fine m form p name false = tt
 
@@ -143,13 +149,15 @@ arrow_fine : (m : List Declaration) (head : Head) (frames : List Frame) (t : Tre
 arrow_fine m head (Domain name ∷ frames) t = tt
 arrow_fine m head _ t = tt
 
-closed_fine : {name : List ℕ} {end : Token} (m : List Declaration) (head : Head) (t : Tree) (p : ℕ) → IsClosedBy head name end → IsFine (advance m (InApplication head [] (Some t)) p end)
+closed_fine : {name : List ℕ} {end : Token} (m : List Declaration) (head : Head) (t : Tree) (p : ℕ) → IsClosedBy head name end
+    → IsFine (advance m (InApplication head [] (Some t)) p end)
 closed_fine m (TypeOf Symbol name) t p symbol_type = deep_fine p (m ++ record { name = name; form = Symbol; ty = t; body = None } ∷ []) Between (nat_le (depth t) max_depth)
 closed_fine m (TypeOf Def name) t p definition_type = deep_fine p m (AtTerm (BodyOf Def name t) []) (nat_le (depth t) max_depth)
 closed_fine m (TypeOf Thm name) t p theorem_type = deep_fine p m (AtTerm (BodyOf Thm name t) []) (nat_le (depth t) max_depth)
 closed_fine m (BodyOf form name ty) t p any_body = deep_fine p (m ++ record { name = name; form = form; ty = ty; body = Some t } ∷ []) Between (nat_le (depth t) max_depth)
 
-identifier_fine : {names : List (List ℕ)} {scope : Scope} (binder : Bool) (p : ℕ) (name : List ℕ) (x : OfPlace names scope) → IsFine (advance_one (place_state binder x) p (Name name))
+identifier_fine : {names : List (List ℕ)} {scope : Scope} (binder : Bool) (p : ℕ) (name : List ℕ) (x : OfPlace names scope)
+    → IsFine (advance_one (place_state binder x) p (Name name))
 identifier_fine true p name x = tt
 identifier_fine false p name x = atom_fine x.m x.head x.frames x.f p name (meaning x.m x.frames name)
 
@@ -182,7 +190,8 @@ module _ (e : ℕ) (all : List Placed) (ascending : AreAscending e all) where
   abbrev Comes : (X : Type 0) → (X → Outcome) → List Placed → Type 0
   Comes X so tokens = Reaches read e X so tokens
 
-  conclude : {X : Type 0} {so : X → Outcome} {p : ℕ} {token : Token} {rest : List Placed} → Comes X so (at p token ∷ rest) → AreAfter e p rest → ((x : X) → IsFine (advance_one (so x) p token)) → read ≡ Stops (refusal p BadText) → ⊥
+  conclude : {X : Type 0} {so : X → Outcome} {p : ℕ} {token : Token} {rest : List Placed} → Comes X so (at p token ∷ rest) → AreAfter e p rest
+      → ((x : X) → IsFine (advance_one (so x) p token)) → read ≡ Stops (refusal p BadText) → ⊥
   conclude {p = p} (past r h a) b f k = let same : r ≡ refusal p BadText = cc in absurd (omega (arith, a.0, ap (λ s. s.place) same))
   conclude {so = so} {p = p} {token = token} {rest = rest} (reached x h) b f k = fine_later e p (advance_one (so x) p token) rest (f x) b (sym (advance_all-cons (so x) p token rest) ∙ sym h ∙ k)
 
@@ -206,7 +215,9 @@ module _ (e : ℕ) (all : List Placed) (ascending : AreAscending e all) where
   after_domain name m head frames t k = reached (record { m = m; head = head; frames = frames; t = t }) k
 
   -- after what a parenthesis encloses
-  in_parentheses : {names : List (List ℕ)} {scope : Scope} {tokens rest : List Placed} {q : ℕ} (p : ℕ) (binder : Bool) (y : OfPlace names scope) → BareTerm tokens (at q RightParen ∷ rest) → AreAscending e tokens → read ≡ advance_all (place_state binder y) (at p LeftParen ∷ tokens) → read ≡ Stops (refusal q BadText) → ⊥
+  in_parentheses : {names : List (List ℕ)} {scope : Scope} {tokens rest : List Placed} {q : ℕ} (p : ℕ) (binder : Bool) (y : OfPlace names scope)
+      → BareTerm tokens (at q RightParen ∷ rest) → AreAscending e tokens → read ≡ advance_all (place_state binder y) (at p LeftParen ∷ tokens)
+      → read ≡ Stops (refusal q BadText) → ⊥
   in_parentheses p true y t a k = conclude (term_reaches read e y.m t y.head (Enclosing None ∷ y.frames) tt tt a k) (term_keeps (ascending_kept e) t a).0 (λ z. tt)
   in_parentheses p false y t a k = conclude (term_reaches read e y.m t y.head (Enclosing y.f ∷ y.frames) tt tt a k) (term_keeps (ascending_kept e) t a).0 (λ z. tt)
 
@@ -215,7 +226,9 @@ module _ (e : ℕ) (all : List Placed) (ascending : AreAscending e all) where
   IsBadAt [] = ⊥
   IsBadAt (at p token ∷ rest) = read ≡ Stops (refusal p BadText)
 
-  follows_parenthesis : {names : List (List ℕ)} {scope : Scope} {tokens rest : List Placed} {q : ℕ} (p : ℕ) (binder : Bool) → Comes (OfPlace names scope) (place_state binder) (at p LeftParen ∷ tokens) → BareTerm tokens (at q RightParen ∷ rest) → AreAscending e (at p LeftParen ∷ tokens) → read ≡ Stops (refusal q BadText) → ⊥
+  follows_parenthesis : {names : List (List ℕ)} {scope : Scope} {tokens rest : List Placed} {q : ℕ} (p : ℕ) (binder : Bool)
+      → Comes (OfPlace names scope) (place_state binder) (at p LeftParen ∷ tokens) → BareTerm tokens (at q RightParen ∷ rest)
+      → AreAscending e (at p LeftParen ∷ tokens) → read ≡ Stops (refusal q BadText) → ⊥
   follows_parenthesis {q = q} p binder (past r h a) t b k = let same : r ≡ refusal q BadText = cc in absurd (omega (arith, (term_keeps (after_kept e r.place) t a.1).0, ap (λ s. s.place) same))
   follows_parenthesis p binder (reached y h) t b k = in_parentheses p binder y t b.1 h k
 
@@ -264,11 +277,13 @@ pub no_later : (o : Outcome) (r s : Refusal) (end : End) → o ≡ Stops s → (
 no_later o r s end h k = subst (λ a. IsNoLater a r) (sym (answers-Stops o s end h)) k
 
 -- after an identifier that may be a binder, at the end of the tokens
-answers-AfterFirst : (m : List Declaration) (head : Head) (frames : List Frame) (p : ℕ) (name : List ℕ) (end : End) (o : Outcome) → o ≡ Goes m (AfterFirst head frames p name) → meaning m frames name ≡ None → answers o end ≡ refused (refusal p (UnknownName name))
+answers-AfterFirst : (m : List Declaration) (head : Head) (frames : List Frame) (p : ℕ) (name : List ℕ) (end : End) (o : Outcome)
+    → o ≡ Goes m (AfterFirst head frames p name) → meaning m frames name ≡ None → answers o end ≡ refused (refusal p (UnknownName name))
 answers-AfterFirst m head frames p name (ended q) o h k = ap (λ c. answers c (ended q)) h ∙ ap (λ x. refused (broken_after p name x q)) k
 answers-AfterFirst m head frames p name (stuck q) o h k = ap (λ c. answers c (stuck q)) h ∙ ap (λ x. refused (broken_after p name x q)) k
 
-meaning-None : {names : List (List ℕ)} {scope : Scope} (m : List Declaration) (frames : List Frame) (name : List ℕ) → names_of m ≡ names → scope_of frames ≡ scope → variable_of scope name ≡ None → IsFalse (is_symbol names name) → meaning m frames name ≡ None
+meaning-None : {names : List (List ℕ)} {scope : Scope} (m : List Declaration) (frames : List Frame) (name : List ℕ) → names_of m ≡ names
+    → scope_of frames ≡ scope → variable_of scope name ≡ None → IsFalse (is_symbol names name) → meaning m frames name ≡ None
 meaning-None {names = names} m frames name n s v i =
     ap (λ w. meant m w (symbol_of m name)) (ap (λ c. variable_of c name) s ∙ v) ∙ ap (λ w. meant m None w) (is_symbol-symbol_of m names name n i)
 
@@ -279,7 +294,8 @@ too_deep_le t k = grind (arith, common_steps, k)
 deep_stops : (t : Tree) (p : ℕ) (o : Outcome) (rest : List Placed) → max_depth < depth t → advance_all (unless_deep t p o) rest ≡ Stops (refusal p DkTooDeep)
 deep_stops t p o rest k = ap (λ (b : Bool). advance_all (if b then o else stops p DkTooDeep) rest) (too_deep_le t k)
 
-closed_deep : {name : List ℕ} {end : Token} (m : List Declaration) (head : Head) (t : Tree) (p : ℕ) (rest : List Placed) → IsClosedBy head name end → max_depth < depth t → run m (InApplication head [] (Some t)) (at p end ∷ rest) ≡ Stops (refusal p DkTooDeep)
+closed_deep : {name : List ℕ} {end : Token} (m : List Declaration) (head : Head) (t : Tree) (p : ℕ) (rest : List Placed) → IsClosedBy head name end
+    → max_depth < depth t → run m (InApplication head [] (Some t)) (at p end ∷ rest) ≡ Stops (refusal p DkTooDeep)
 closed_deep m (TypeOf Symbol name) t p rest symbol_type k = deep_stops t p (Goes (m ++ record { name = name; form = Symbol; ty = t; body = None } ∷ []) Between) rest k
 closed_deep m (TypeOf Def name) t p rest definition_type k = deep_stops t p (Goes m (AtTerm (BodyOf Def name t) [])) rest k
 closed_deep m (TypeOf Thm name) t p rest theorem_type k = deep_stops t p (Goes m (AtTerm (BodyOf Thm name t) [])) rest k
@@ -290,7 +306,8 @@ declared_read : {all tokens : List Placed} {m : List Declaration} → Declared a
 declared_read none_yet = refl
 declared_read (one_more {m = m} h d) = declared_read h ∙ declares_runs m d
 
-name_read : {all tokens : List Placed} {m : List Declaration} {form : Form} {name : List ℕ} → NameReads all m form name tokens → run [] Between all ≡ run m (AtTerm (TypeOf form name) []) tokens
+name_read : {all tokens : List Placed} {m : List Declaration} {form : Form} {name : List ℕ} → NameReads all m form name tokens
+    → run [] Between all ≡ run m (AtTerm (TypeOf form name) []) tokens
 name_read {m = m} (symbol_name {name = name} {tokens = tokens} {p = p} {q = q} h new) = declared_read h ∙ names_run m Between (Goes m (AfterName Symbol name)) name p (at q Colon ∷ tokens) (is_declared (signature ++ m) name) new
 name_read {m = m} (definition_name {name = name} {tokens = tokens} {p = p} {q = q} h new) = declared_read h ∙ names_run m Between (Goes m (AfterName Def name)) name p (at q Colon ∷ tokens) (is_declared (signature ++ m) name) new
 name_read {m = m} (theorem_name {name = name} {tokens = tokens} {p = p} {q = q} h new) = declared_read h ∙ names_run m Between (Goes m (AfterName Thm name)) name p (at q Colon ∷ tokens) (is_declared (signature ++ m) name) new
@@ -320,13 +337,15 @@ whole_read {m = m} (body_after {name = name} {form = Thm} {rest = rest} {p = p} 
 }
 whole_read (body_after {form = Symbol} b n w) = absurd b
 
-twice_stops : (m : List Declaration) (form : Form) (name : List ℕ) (p : ℕ) (rest : List Placed) → is_declared (signature ++ m) name ≡ true → run m (name_state form) (at p (Name name) ∷ rest) ≡ Stops (refusal p (NameTwice name))
+twice_stops : (m : List Declaration) (form : Form) (name : List ℕ) (p : ℕ) (rest : List Placed) → is_declared (signature ++ m) name ≡ true
+    → run m (name_state form) (at p (Name name) ∷ rest) ≡ Stops (refusal p (NameTwice name))
 twice_stops m Symbol name p rest h = ap (λ (b : Bool). advance_all (if b then stops p (NameTwice name) else Goes m (AfterName Symbol name)) rest) h
 twice_stops m Def name p rest h = ap (λ (b : Bool). advance_all (if b then stops p (NameTwice name) else Goes m (AfterName Def name)) rest) h
 twice_stops m Thm name p rest h = ap (λ (b : Bool). advance_all (if b then stops p (NameTwice name) else Goes m (AfterName Thm name)) rest) h
 
 -- where a tree ends that is too deep, the reading stops for that
-pub deep-Stops : {all : List Placed} {m : List Declaration} {last : Token} {tokens rest : List Placed} {p : ℕ} {t : Tree} → WholeReads all m last tokens → Term m [] tokens (at p last ∷ rest) t → max_depth < depth t → run [] Between all ≡ Stops (refusal p DkTooDeep)
+pub deep-Stops : {all : List Placed} {m : List Declaration} {last : Token} {tokens rest : List Placed} {p : ℕ} {t : Tree} → WholeReads all m last tokens
+    → Term m [] tokens (at p last ∷ rest) t → max_depth < depth t → run [] Between all ≡ Stops (refusal p DkTooDeep)
 deep-Stops {m = m} {rest = rest} {p = p} {t = t} w u k =
     let r = whole_read w in
     r.run ∙ term_runs m u r.head [] refl tt (closed_end p rest r.closed) ∙ closed_deep m r.head t p rest r.closed k
@@ -336,7 +355,9 @@ module _ (end : End) (all : List Placed) (ascending : AreAscending (place_of end
   answered = answers (run [] Between all) end
 
   -- where an identifier stands that is unknown
-  unknown_least : {names : List (List ℕ)} {scope : Scope} (name : List ℕ) (p : ℕ) (binder : Bool) (rest : List Placed) (y : OfPlace names scope) → variable_of scope name ≡ None → IsFalse (is_symbol names name) → IsNoBinder binder rest → run [] Between all ≡ advance_all (place_state binder y) (at p (Name name) ∷ rest) → IsNoLater answered (refusal p (UnknownName name))
+  unknown_least : {names : List (List ℕ)} {scope : Scope} (name : List ℕ) (p : ℕ) (binder : Bool) (rest : List Placed) (y : OfPlace names scope)
+      → variable_of scope name ≡ None → IsFalse (is_symbol names name) → IsNoBinder binder rest
+      → run [] Between all ≡ advance_all (place_state binder y) (at p (Name name) ∷ rest) → IsNoLater answered (refusal p (UnknownName name))
   unknown_least name p false rest y v i b h =
       no_later (run [] Between all) (refusal p (UnknownName name)) (refusal p (UnknownName name)) end
       (h ∙ ap (λ o. advance_all (atom y.m y.head y.frames y.f p name o) rest) (meaning-None y.m y.frames name y.named y.scoped v i)) (inr refl)
@@ -347,15 +368,19 @@ module _ (end : End) (all : List Placed) (ascending : AreAscending (place_of end
       no_later (run [] Between all) (refusal p (UnknownName name)) (refusal p (UnknownName name)) end
       (h ∙ ap (λ o. advance_all (goes_on y.m y.head y.frames p name o q token) rest) (meaning-None y.m y.frames name y.named y.scoped v i)) (inr refl)
 
-  pub unknown-no-later : {names : List (List ℕ)} {scope : Scope} {binder : Bool} {name : List ℕ} {rest : List Placed} {p : ℕ} → AtomStands all names scope binder (at p (Name name) ∷ rest) → variable_of scope name ≡ None → IsFalse (is_symbol names name) → IsNoBinder binder rest → IsNoLater answered (refusal p (UnknownName name))
+  pub unknown-no-later : {names : List (List ℕ)} {scope : Scope} {binder : Bool} {name : List ℕ} {rest : List Placed} {p : ℕ}
+      → AtomStands all names scope binder (at p (Name name) ∷ rest) → variable_of scope name ≡ None → IsFalse (is_symbol names name) → IsNoBinder binder rest
+      → IsNoLater answered (refusal p (UnknownName name))
   unknown-no-later {names = names} {scope = scope} {binder = binder} {name = name} {rest = rest} {p = p} a v i b =
       least (atom_comes (place_of end) all ascending a tt)
     where
-      least : Reaches (run [] Between all) (place_of end) (OfPlace names scope) (place_state binder) (at p (Name name) ∷ rest) → IsNoLater answered (refusal p (UnknownName name))
+      least : Reaches (run [] Between all) (place_of end) (OfPlace names scope) (place_state binder) (at p (Name name) ∷ rest)
+          → IsNoLater answered (refusal p (UnknownName name))
       least (past r h c) = no_later (run [] Between all) (refusal p (UnknownName name)) r end h (inl c.0)
       least (reached y h) = unknown_least name p binder rest y v i b h
 
-  pub twice-no-later : {names : List (List ℕ)} {form : Form} {name : List ℕ} {rest : List Placed} {p : ℕ} → NameStands all names form (at p (Name name) ∷ rest) → IsTrue (is_symbol names name) → IsNoLater answered (refusal p (NameTwice name))
+  pub twice-no-later : {names : List (List ℕ)} {form : Form} {name : List ℕ} {rest : List Placed} {p : ℕ} → NameStands all names form (at p (Name name) ∷ rest)
+      → IsTrue (is_symbol names name) → IsNoLater answered (refusal p (NameTwice name))
   twice-no-later {names = names} {form = form} {name = name} {rest = rest} {p = p} n i =
       least (name_comes (place_of end) all ascending n)
     where
@@ -363,5 +388,6 @@ module _ (end : End) (all : List Placed) (ascending : AreAscending (place_of end
       least (past r h c) = no_later (run [] Between all) (refusal p (NameTwice name)) r end h (inl c.0)
       least (reached y h) = no_later (run [] Between all) (refusal p (NameTwice name)) (refusal p (NameTwice name)) end (h ∙ twice_stops y.m form name p rest (is_declared-is_symbol y.m names name y.named ∙ i)) (inr refl)
 
-  pub deep-no-later : {m : List Declaration} {last : Token} {tokens rest : List Placed} {p : ℕ} {t : Tree} → WholeReads all m last tokens → Term m [] tokens (at p last ∷ rest) t → max_depth < depth t → IsNoLater answered (refusal p DkTooDeep)
+  pub deep-no-later : {m : List Declaration} {last : Token} {tokens rest : List Placed} {p : ℕ} {t : Tree} → WholeReads all m last tokens
+      → Term m [] tokens (at p last ∷ rest) t → max_depth < depth t → IsNoLater answered (refusal p DkTooDeep)
   deep-no-later {p = p} w u k = no_later (run [] Between all) (refusal p DkTooDeep) (refusal p DkTooDeep) end (deep-Stops w u k) (inr refl)

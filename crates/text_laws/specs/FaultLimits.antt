@@ -30,7 +30,8 @@ module _ (n : ℕ) (bytes : List ℕ) (r : Refusal) (long : n < length bytes) wh
   long_shown : refused (refusal n DkTooLong) ≡ refused r → ShowsWithin (Some n) bytes r
   long_shown h = subst (ShowsWithin (Some n) bytes) (refused-injective (refusal n DkTooLong) r h) (too_long long)
 
-  token_shown : (p : ℕ) (pending : Pending) (m : List Declaration) (state : State) (o : Option Refusal) → read_bytes unread (take n bytes) ≡ Inside p pending m state
+  token_shown : (p : ℕ) (pending : Pending) (m : List Declaration) (state : State) (o : Option Refusal)
+      → read_bytes unread (take n bytes) ≡ Inside p pending m state
       → cut_token m state pending ≡ o → or_too_long n o ≡ refused r → ShowsWithin (Some n) bytes r
   token_shown p pending m state (Some s) e k h = always_shown s h (cut_token-answer (take n bytes) p pending m state s e k)
   token_shown p pending m state None e k h = long_shown h
@@ -40,7 +41,8 @@ module _ (n : ℕ) (bytes : List ℕ) (r : Refusal) (long : n < length bytes) wh
   cut_shown (Opening p wanted) e h = long_shown h
   cut_shown (Inside p pending m state) e h = token_shown p pending m state (cut_token m state pending) e refl h
 
-limit_shown : (n : ℕ) (bytes : List ℕ) (r : Refusal) (b : Bool) → nat_le (length bytes) n ≡ b → (if b then answer bytes else cut_at n (read_bytes unread (take n bytes))) ≡ refused r
+limit_shown : (n : ℕ) (bytes : List ℕ) (r : Refusal) (b : Bool) → nat_le (length bytes) n ≡ b
+    → (if b then answer bytes else cut_at n (read_bytes unread (take n bytes))) ≡ refused r
     → ShowsWithin (Some n) bytes r
 limit_shown n bytes r true e h = within (grind (arith, common_steps, e)) (refusals_shown bytes r h)
 limit_shown n bytes r false e h = cut_shown n bytes r (grind (arith, common_steps, e)) (read_bytes unread (take n bytes)) refl h
@@ -63,7 +65,8 @@ scan_refused (goes tokens pending) p (b ∷ bytes) m state r q n s h k l =
     refused_later (run m state tokens) h (sym (advance_all-append (Goes m state) tokens (scan (take_byte pending p b) (p + 1) bytes).tokens) ∙ l)
     (λ c d i j. scan_refused (take_byte pending p b) (p + 1) bytes c d r q n s i k j)
   where
-    refused_later : (o : Outcome) → read_bytes (read_byte (progress p pending o) b) bytes ≡ Refused r → advance_all o (scan (take_byte pending p b) (p + 1) bytes).tokens ≡ Goes n s
+    refused_later : (o : Outcome) → read_bytes (read_byte (progress p pending o) b) bytes ≡ Refused r
+        → advance_all o (scan (take_byte pending p b) (p + 1) bytes).tokens ≡ Goes n s
         → ((c : List Declaration) (d : State) → read_bytes (after_byte (p + 1) c d (take_byte pending p b)) bytes ≡ Refused r → run c d (scan (take_byte pending p b) (p + 1) bytes).tokens ≡ Goes n s → ⊥) → ⊥
     refused_later (Goes c d) i j f = f c d i j
     refused_later (Stops c) i j f = absurd (cc)
@@ -77,7 +80,8 @@ module _ (bytes text : List ℕ) (begun : bytes ≡ prelude ++ text) (r : Refusa
   bytes_length : length bytes ≡ length prelude + length text
   bytes_length = ap length begun ∙ length-append prelude text
 
-  stopped_place : (s : Refusal) → run [] Between (tokens_after text).tokens ≡ Stops s → s.place < place_of (tokens_after text).end → (end : End) → (tokens_after text).end ≡ end
+  stopped_place : (s : Refusal) → run [] Between (tokens_after text).tokens ≡ Stops s → s.place < place_of (tokens_after text).end → (end : End)
+      → (tokens_after text).end ≡ end
       → IsEndBefore (length prelude + length text) end → r.place < length bytes
   stopped_place s k l end i b = placed end (subst (λ e. s.place < place_of e) i l) b
     where
@@ -95,7 +99,8 @@ module _ (bytes text : List ℕ) (begun : bytes ≡ prelude ++ text) (r : Refusa
       by_order (inl c) = omega (arith, c, l, bytes_length)
       by_order (inr c) = omega (arith, l, bytes_length, ap (λ w. w.place) c)
 
-  outcome_place : (o : Outcome) (end : End) → run [] Between (tokens_after text).tokens ≡ o → (tokens_after text).end ≡ end → IsEndBefore (length prelude + length text) end
+  outcome_place : (o : Outcome) (end : End) → run [] Between (tokens_after text).tokens ≡ o → (tokens_after text).end ≡ end
+      → IsEndBefore (length prelude + length text) end
       → IsShown (place_of (tokens_after text).end) (tokens_after text).tokens o → r.place < length bytes
   outcome_place (Stops s) end k i b shows = stopped_place s k shows.1 end i b
   outcome_place (Goes m state) (stuck q) k i b shows = stuck_place q i b
@@ -114,7 +119,8 @@ refused_place : (bytes text : List ℕ) (r : Refusal) → bytes ≡ prelude ++ t
 refused_place bytes text r begun h =
     text_place bytes text begun r (ap read_end h) (λ q m state i k. scan_refused (goes [] Nothing) (length prelude) text [] Between r q m state (text_refused bytes text r begun h) i k)
 
-differs_place : (bytes front wanted rest : List ℕ) (r : Refusal) → prelude ≡ front ++ wanted → bytes ≡ front ++ rest → Differs wanted rest → read_bytes unread bytes ≡ Refused r
+differs_place : (bytes front wanted rest : List ℕ) (r : Refusal) → prelude ≡ front ++ wanted → bytes ≡ front ++ rest → Differs wanted rest
+    → read_bytes unread bytes ≡ Refused r
     → r.place < length bytes
 differs_place bytes front [] rest r i k d h = absurd d
 differs_place bytes front (c ∷ wanted) [] r i k d h =
@@ -133,7 +139,8 @@ early_place : (bytes : List ℕ) (r : Refusal) → read_bytes unread bytes ≡ R
 early_place bytes r h = opens_place bytes r h (opens_by [] prelude bytes refl refl)
 
 -- and so is one for a token that ends it and can't follow, whatever it becomes
-cut_place : (bytes : List ℕ) (n : ℕ) (pending : Pending) (m : List Declaration) (state : State) (r : Refusal) → read_bytes unread bytes ≡ Inside n pending m state
+cut_place : (bytes : List ℕ) (n : ℕ) (pending : Pending) (m : List Declaration) (state : State) (r : Refusal)
+    → read_bytes unread bytes ≡ Inside n pending m state
     → cut_token m state pending ≡ Some r → r.place < length bytes
 cut_place bytes n pending m state r e h =
     text_place bytes text (begun bytes n pending m state e).is r (ap answer (sym (append-nil bytes)) ∙ cut_token-answer bytes n pending m state r e h []) no_end
@@ -165,12 +172,14 @@ module _ (n : ℕ) (bytes : List ℕ) (s : Refusal) (shows : ShowsWithin (Some n
   long_least : (ShowsSo (take n bytes) s → n < s.place) → IsNoLater (refused (refusal n DkTooLong)) s
   long_least f = by_shown s shows f
     where
-      by_shown : (other : Refusal) → ShowsWithin (Some n) bytes other → (ShowsSo (take n bytes) other → n < other.place) → IsNoLater (refused (refusal n DkTooLong)) other
+      by_shown : (other : Refusal) → ShowsWithin (Some n) bytes other → (ShowsSo (take n bytes) other → n < other.place)
+          → IsNoLater (refused (refusal n DkTooLong)) other
       by_shown other (within w k) g = absurd (omega (arith, w, long))
       by_shown other (early k shown) g = inl (g shown)
       by_shown _ (too_long k) g = inr refl
 
-  token_least : (p : ℕ) (pending : Pending) (m : List Declaration) (state : State) (o : Option Refusal) → read_bytes unread (take n bytes) ≡ Inside p pending m state
+  token_least : (p : ℕ) (pending : Pending) (m : List Declaration) (state : State) (o : Option Refusal)
+      → read_bytes unread (take n bytes) ≡ Inside p pending m state
       → cut_token m state pending ≡ o → IsNoLater (or_too_long n o) s
   token_least p pending m state (Some r) e h = always_least r (cut_token-answer (take n bytes) p pending m state r e h) (cut_place (take n bytes) p pending m state r e h)
   token_least p pending m state None e h =
@@ -195,14 +204,17 @@ within-no-later None bytes s (within w k) = shown-no-later bytes s k
 within-no-later (Some n) bytes s k = limit_least n bytes s (nat_le (length bytes) n) refl k
 
 -- Of the faults that a text shows under a limit, it is refused under it for the one at the least place.
-pub least_fault-within : (limit : Option ℕ) (bytes : List ℕ) (r s : Refusal) → answer_within limit bytes ≡ refused r → ShowsWithin limit bytes s → (r.place < s.place) ⊎ (r ≡ s)
+pub least_fault-within : (limit : Option ℕ) (bytes : List ℕ) (r s : Refusal) → answer_within limit bytes ≡ refused r → ShowsWithin limit bytes s
+    → (r.place < s.place) ⊎ (r ≡ s)
 least_fault-within limit bytes r s h k = subst (λ a. IsNoLater a s) h (within-no-later limit bytes s k)
 
 -- A text that reads as a module under a limit shows no fault under it.
-pub reading_faultless-within : (limit : Option ℕ) (bytes : List ℕ) (m : List Declaration) (s : Refusal) → answer_within limit bytes ≡ reads m → ShowsWithin limit bytes s → ⊥
+pub reading_faultless-within : (limit : Option ℕ) (bytes : List ℕ) (m : List Declaration) (s : Refusal) → answer_within limit bytes ≡ reads m
+    → ShowsWithin limit bytes s → ⊥
 reading_faultless-within limit bytes m s h k = subst (λ a. IsNoLater a s) h (within-no-later limit bytes s k)
 
-least_answered : (limit : Option ℕ) (bytes : List ℕ) (r : Refusal) (a : Answer) → answer_within limit bytes ≡ a → IsNoLater a r → IsLeastWithin limit bytes r → a ≡ refused r
+least_answered : (limit : Option ℕ) (bytes : List ℕ) (r : Refusal) (a : Answer) → answer_within limit bytes ≡ a → IsNoLater a r → IsLeastWithin limit bytes r
+    → a ≡ refused r
 least_answered limit bytes r (reads m) e h l = absurd h
 least_answered limit bytes r (refused s) e (inr h) l = ap refused h
 least_answered limit bytes r (refused s) e (inl h) l = absurd (earlier_no (l.least s (refusals_shown-within limit bytes s e)))

@@ -98,12 +98,14 @@ rest_after _ = []
 only_sort : {rest : List Placed} {p : ℕ} → BareTerm (at p TypeWord ∷ rest) rest
 only_sort = plain (application sort none)
 
-end_text : {all : List Placed} {names : List (List ℕ)} {name : List ℕ} {end : Token} {tokens : List Placed} (p : ℕ) → WholeBegins all names name end tokens → BareTerm tokens (at p end ∷ rest_after end) → IsText all
+end_text : {all : List Placed} {names : List (List ℕ)} {name : List ℕ} {end : Token} {tokens : List Placed} (p : ℕ) → WholeBegins all names name end tokens
+    → BareTerm tokens (at p end ∷ rest_after end) → IsText all
 end_text {names = names} {name = name} p (only_type n) t = (names ++ name ∷ [], next (only_type n) t)
 end_text {names = names} {name = name} p (type_before_body b n) t = (names ++ name ∷ [], next (body (type_before_body b n) t) only_sort)
 end_text {names = names} {name = name} p (body w u) t = (names ++ name ∷ [], next (body w u) t)
 
-name_text : {all : List Placed} {names : List (List ℕ)} (form : Form) (name : List ℕ) (p q : ℕ) → NameStands all names form (at p (Name name) ∷ at q Colon ∷ rest_of form) → IsText all
+name_text : {all : List Placed} {names : List (List ℕ)} (form : Form) (name : List ℕ) (p q : ℕ)
+    → NameStands all names form (at p (Name name) ∷ at q Colon ∷ rest_of form) → IsText all
 name_text Symbol name p q n = end_text 0 (only_type n) only_sort
 name_text Def name p q n = end_text 0 (type_before_body tt n) only_sort
 name_text Thm name p q n = end_text 0 (type_before_body tt n) only_sort
@@ -154,7 +156,8 @@ module _ {all : List Placed} where
     cut_name (of_definition {p = p} d) = let c = cut_declaration d in record { g = λ r. c.g (at p DefWord ∷ r); prepends = prepends_then c.prepends (prepends_token p DefWord); is = c.is; moved = λ r. of_definition (c.moved (at p DefWord ∷ r)) }
     cut_name (of_theorem {p = p} d) = let c = cut_declaration d in record { g = λ r. c.g (at p ThmWord ∷ r); prepends = prepends_then c.prepends (prepends_token p ThmWord); is = c.is; moved = λ r. of_theorem (c.moved (at p ThmWord ∷ r)) }
 
-    cut_whole : {names : List (List ℕ)} {name : List ℕ} {end : Token} {tokens : List Placed} → WholeBegins all names name end tokens → Cut (whole_at names name end) all tokens
+    cut_whole : {names : List (List ℕ)} {name : List ℕ} {end : Token} {tokens : List Placed} → WholeBegins all names name end tokens
+        → Cut (whole_at names name end) all tokens
     cut_whole (only_type {name = name} {p = p} {q = q} n) =
         let c = cut_name n in
         record {
@@ -231,7 +234,8 @@ module _ {all : List Placed} where
             text = λ tokens v. c.text (at p LeftParen ∷ tokens) (enclosed v);
           }
 
-      place_application : {scope : Scope} {binder : Bool} {tokens : List Placed} → ApplicationBegins all names scope binder tokens → Place (application_at names scope binder) BareApplication all tokens
+      place_application : {scope : Scope} {binder : Bool} {tokens : List Placed} → ApplicationBegins all names scope binder tokens
+          → Place (application_at names scope binder) BareApplication all tokens
       place_application (of_term t) =
           let c = place_term t in
           record { g = c.g; prepends = c.prepends; is = c.is; moved = λ o. of_term (c.moved o); tail = c.tail; text = λ tokens y. c.text tokens (plain y) }
@@ -246,7 +250,8 @@ module _ {all : List Placed} where
             text = λ tokens y. c.text (at p (Name name) ∷ at q Colon ∷ tokens) (product y only_sort);
           }
 
-      place_atom : {scope : Scope} {binder : Bool} {tokens : List Placed} → AtomStands all names scope binder tokens → Place (atom_at names scope binder) BareAtom all tokens
+      place_atom : {scope : Scope} {binder : Bool} {tokens : List Placed} → AtomStands all names scope binder tokens
+          → Place (atom_at names scope binder) BareAtom all tokens
       place_atom (of_application a) =
           let c = place_application a in
           record { g = c.g; prepends = c.prepends; is = c.is; moved = λ o. of_application (c.moved o); tail = c.tail; text = λ tokens x. c.text tokens (application x none) }
@@ -368,13 +373,15 @@ same_front : {g : List Placed → List Placed} (h : Prepends g) (all front token
 same_front h all front tokens i k = append_cancel_right h.front front tokens (sym (h.is tokens) ∙ sym i ∙ k)
 
 -- a token that can follow begins, with those before it, some text
-pub follows-text : (all front rest : List Placed) (p : ℕ) (token : Token) → all ≡ front ++ at p token ∷ rest → CanFollow all (at p token ∷ rest) → (more : List Placed) × IsText (front ++ at p token ∷ more)
+pub follows-text : (all front rest : List Placed) (p : ℕ) (token : Token) → all ≡ front ++ at p token ∷ rest → CanFollow all (at p token ∷ rest)
+    → (more : List Placed) × IsText (front ++ at p token ∷ more)
 follows-text all front rest p token i c =
     let f = follow_cut c in
     (f.more, subst IsText (f.prepends.is (at p token ∷ f.more) ∙ ap (λ w. w ++ at p token ∷ f.more) (same_front f.prepends all front (at p token ∷ rest) f.is i)) f.text)
 
 -- a token that begins, with those before it, some text can follow them
-pub text-follows : (all front rest more : List Placed) (p : ℕ) (token : Token) → all ≡ front ++ at p token ∷ rest → IsText (front ++ at p token ∷ more) → CanFollow all (at p token ∷ rest)
+pub text-follows : (all front rest more : List Placed) (p : ℕ) (token : Token) → all ≡ front ++ at p token ∷ rest → IsText (front ++ at p token ∷ more)
+    → CanFollow all (at p token ∷ rest)
 text-follows all front rest more p token i h =
     let f = follow_cut (text_follows front more p token h) in
     subst (λ w. CanFollow w (at p token ∷ rest)) (f.prepends.is (at p token ∷ rest) ∙ ap (λ w. w ++ at p token ∷ rest) (same_front f.prepends (front ++ at p token ∷ more) front (at p token ∷ more) f.is refl) ∙ sym i) (f.moved rest)

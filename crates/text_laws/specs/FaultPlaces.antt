@@ -160,7 +160,8 @@ last_ascending p (AfterParen q) h = (h, tt)
 last_ascending p (InComment q) h = tt
 last_ascending p (AfterSemicolon q) h = tt
 
-scan_after : (n : ℕ) (taken : Taken) (p : ℕ) (bytes : List ℕ) → n < p → IsTakenAfter n taken → AreAfter (place_of (scan taken p bytes).end) n (scan taken p bytes).tokens
+scan_after : (n : ℕ) (taken : Taken) (p : ℕ) (bytes : List ℕ) → n < p → IsTakenAfter n taken
+    → AreAfter (place_of (scan taken p bytes).end) n (scan taken p bytes).tokens
 scan_after n (sticks tokens q) p bytes k h = none_after q n tokens h.0 h.1
 scan_after n (goes tokens pending) p [] k h = append_after (place_of (end_at pending p)) n tokens (last_tokens pending) h.0 (last_after n p pending k h.1)
 scan_after n (goes tokens pending) p (b ∷ bytes) k h =
@@ -168,7 +169,8 @@ scan_after n (goes tokens pending) p (b ∷ bytes) k h =
     (scan_after n (take_byte pending p b) (p + 1) bytes (omega (arith, k)) (take_byte-after n p b pending k h.1))
 
 -- ascending tokens, of which each is before what comes then
-append_ascending : (e p : ℕ) (pending : Pending) (tokens rest : List Placed) → AreBeforePending p pending tokens → ((q : ℕ) → q < p → IsPendingAfter q pending → AreAfter e q rest) → AreAscending e rest → AreAscending e (tokens ++ rest)
+append_ascending : (e p : ℕ) (pending : Pending) (tokens rest : List Placed) → AreBeforePending p pending tokens
+    → ((q : ℕ) → q < p → IsPendingAfter q pending → AreAfter e q rest) → AreAscending e rest → AreAscending e (tokens ++ rest)
 append_ascending e p pending [] rest h f a = a
 append_ascending e p pending (at q token ∷ tokens) rest h f a = (append_after e q tokens rest h.0 (f q h.2 h.1), append_ascending e p pending tokens rest h.3 f a)
 

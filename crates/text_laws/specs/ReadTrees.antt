@@ -49,7 +49,8 @@ pub signature-EachShort : (P : Tree → Type 0) → EachShort signature P
 signature-EachShort P s d t e f = let n = each_of (λ (x : Declaration). short_body x ≡ None) signature s d signature_symbols e in absurd (cc)
 
 -- one declaration more
-pub EachShort-more : (ds : List Declaration) (d : Declaration) (P Q : Tree → Type 0) → ((t : Tree) → P t → Q t) → EachShort ds P → ((t : Tree) → short_body d ≡ Some t → Q t) → EachShort (ds ++ d ∷ []) Q
+pub EachShort-more : (ds : List Declaration) (d : Declaration) (P Q : Tree → Type 0) → ((t : Tree) → P t → Q t) → EachShort ds P
+    → ((t : Tree) → short_body d ≡ Some t → Q t) → EachShort (ds ++ d ∷ []) Q
 EachShort-more ds d P Q weaker h k s x t e f = elim (slice_get-one_more ds d x s e) [
   | inl i ↦ weaker t (h s x t i f)
   | inr i ↦ k t (subst (λ y. short_body y ≡ Some t) (sym i.1) f)
@@ -72,7 +73,8 @@ body-over count Def None t h e = absurd h
 body-over count Def (Some u) t h e = subst (IsOver count) (same_Some _ _ e) h
 body-over count Thm body t h e = absurd (cc)
 
-declared-over : (before ds : List Declaration) → AreDeclared before ds → EachShort before (IsOver (length before)) → EachShort (before ++ ds) (IsOver (length (before ++ ds)))
+declared-over : (before ds : List Declaration) → AreDeclared before ds → EachShort before (IsOver (length before))
+    → EachShort (before ++ ds) (IsOver (length (before ++ ds)))
 declared-over before [] h k = subst (λ l. EachShort l (IsOver (length l))) (sym (append-nil before)) k
 declared-over before (d ∷ ds) h k =
     let size : length (before ++ d ∷ []) ≡ length before + 1 = length-append before (d ∷ []) in
@@ -162,12 +164,14 @@ module _ (m : List Declaration) (shorts : EachShort (signature ++ m) (IsLongOver
   declares_long (theorem n t b) = bodied_long _ _ refl (term_long t.term) (term_long b.term)
 
 -- declarations, with what is before them, as a list of those that are read
-AreLong-snoc : (before ds : List Declaration) (d : Declaration) → AreLong before ds → IsLong (before ++ ds) d.ty → IsBodyLong (before ++ ds) d.body → AreLong before (ds ++ d ∷ [])
+AreLong-snoc : (before ds : List Declaration) (d : Declaration) → AreLong before ds → IsLong (before ++ ds) d.ty → IsBodyLong (before ++ ds) d.body
+    → AreLong before (ds ++ d ∷ [])
 AreLong-snoc before [] d h k l = (subst (λ w. IsLong w d.ty) (append-nil before) k, subst (λ w. IsBodyLong w d.body) (append-nil before) l, tt)
 AreLong-snoc before (x ∷ ds) d h k l =
     (h.0, h.1, AreLong-snoc (before ++ x ∷ []) ds d h.2 (subst (λ w. IsLong w d.ty) (sym (append_assoc before (x ∷ []) ds)) k) (subst (λ w. IsBodyLong w d.body) (sym (append_assoc before (x ∷ []) ds)) l))
 
-completes_long : {m all : List Declaration} {tokens : List Placed} → AreLong [] m → EachShort (signature ++ m) (IsLongOver m) → Completes m tokens all → AreLong [] all
+completes_long : {m all : List Declaration} {tokens : List Placed} → AreLong [] m → EachShort (signature ++ m) (IsLongOver m) → Completes m tokens all
+    → AreLong [] all
 completes_long h k complete = h
 completes_long {m = m} h k (next {d = d} e c) =
     let l = declares_long m k e in

@@ -42,11 +42,14 @@ last_read (Goes m state) pending p = refl
 last_read (Stops r) pending p = sym (answers-Stops r (end_at pending p))
 
 -- the next byte, where what it does is read as its tokens are
-byte_read : (o : Outcome) (pending : Pending) (p b : ℕ) (bytes : List ℕ) (rest : Scanned) → ((m : List Declaration) (state : State) → read_end (read_bytes (after_byte (p + 1) m state (take_byte pending p b)) bytes) ≡ answers (advance_all (Goes m state) rest.tokens) rest.end) → read_end (read_bytes (read_byte (progress p pending o) b) bytes) ≡ answers (advance_all o rest.tokens) rest.end
+byte_read : (o : Outcome) (pending : Pending) (p b : ℕ) (bytes : List ℕ) (rest : Scanned)
+    → ((m : List Declaration) (state : State) → read_end (read_bytes (after_byte (p + 1) m state (take_byte pending p b)) bytes) ≡ answers (advance_all (Goes m state) rest.tokens) rest.end)
+    → read_end (read_bytes (read_byte (progress p pending o) b) bytes) ≡ answers (advance_all o rest.tokens) rest.end
 byte_read (Goes m state) pending p b bytes rest h = h m state
 byte_read (Stops r) pending p b bytes rest h = ap read_end (read_bytes-Refused r bytes) ∙ sym (answers-Stops r rest.end)
 
-scan-read : (taken : Taken) (p : ℕ) (bytes : List ℕ) (m : List Declaration) (state : State) → read_end (read_bytes (after_byte p m state taken) bytes) ≡ answers (advance_all (Goes m state) (scan taken p bytes).tokens) (scan taken p bytes).end
+scan-read : (taken : Taken) (p : ℕ) (bytes : List ℕ) (m : List Declaration) (state : State)
+    → read_end (read_bytes (after_byte p m state taken) bytes) ≡ answers (advance_all (Goes m state) (scan taken p bytes).tokens) (scan taken p bytes).end
 scan-read (sticks tokens q) p bytes m state =
     ap read_end (read_bytes-Refused (broken (advance_all (Goes m state) tokens) q) bytes) ∙ sym (answers-stuck (advance_all (Goes m state) tokens) q)
 scan-read (goes tokens pending) p [] m state =
@@ -57,7 +60,8 @@ scan-read (goes tokens pending) p (b ∷ bytes) m state =
     ∙ ap (λ o. answers o (scan (take_byte pending p b) (p + 1) bytes).end) (sym (advance_all-append (Goes m state) tokens (scan (take_byte pending p b) (p + 1) bytes).tokens))
 
 -- the text after the signature's own
-text_read : (p : ℕ) (bytes : List ℕ) → read_end (read_bytes (Inside p Nothing [] Between) bytes) ≡ answers (advance_all (Goes [] Between) (tokens_from p bytes).tokens) (tokens_from p bytes).end
+text_read : (p : ℕ) (bytes : List ℕ)
+    → read_end (read_bytes (Inside p Nothing [] Between) bytes) ≡ answers (advance_all (Goes [] Between) (tokens_from p bytes).tokens) (tokens_from p bytes).end
 text_read p bytes = scan-read (goes [] Nothing) p bytes [] Between
 
 -- a byte that the signature's own text has too
@@ -65,7 +69,8 @@ pub opening_read : (p b : ℕ) (wanted bytes : List ℕ) → read_bytes (read_by
 opening_read p b wanted bytes = ap (λ (c : Bool). read_bytes (if c then opened (p + 1) wanted else Refused (refusal p NoPrelude)) bytes) (eq-eqb b b refl)
 
 -- the prelude is read, and then what follows
-pub prelude_read : (p : ℕ) (wanted text : List ℕ) → read_bytes (opened p wanted) (wanted ++ text) ≡ read_bytes (Inside (p + length wanted) Nothing [] Between) text
+pub prelude_read : (p : ℕ) (wanted text : List ℕ)
+    → read_bytes (opened p wanted) (wanted ++ text) ≡ read_bytes (Inside (p + length wanted) Nothing [] Between) text
 prelude_read p [] text = ap (λ q. read_bytes (Inside q Nothing [] Between) text) (omega arith)
 prelude_read p (b ∷ wanted) text =
     opening_read p b wanted (wanted ++ text)
@@ -77,7 +82,9 @@ pub record IsOpened (wanted bytes : List ℕ) : Type 0 where
   pub text : List ℕ
   pub is : bytes ≡ wanted ++ text
 
-opened_by : (p b c : ℕ) (wanted bytes : List ℕ) (m : List Declaration) (same : Bool) → (b == c) ≡ same → read_end (read_bytes (if same then opened (p + 1) wanted else Refused (refusal p NoPrelude)) bytes) ≡ reads m → (read_end (read_bytes (opened (p + 1) wanted) bytes) ≡ reads m → IsOpened wanted bytes) → IsOpened (c ∷ wanted) (b ∷ bytes)
+opened_by : (p b c : ℕ) (wanted bytes : List ℕ) (m : List Declaration) (same : Bool) → (b == c) ≡ same
+    → read_end (read_bytes (if same then opened (p + 1) wanted else Refused (refusal p NoPrelude)) bytes) ≡ reads m
+    → (read_end (read_bytes (opened (p + 1) wanted) bytes) ≡ reads m → IsOpened wanted bytes) → IsOpened (c ∷ wanted) (b ∷ bytes)
 opened_by p b c wanted bytes m true e h k = let r = k h in record { text = r.text; is = cc (eqb-true b c e, r.is) }
 opened_by p b c wanted bytes m false e h k = absurd (cc (h, ap read_end (read_bytes-Refused (refusal p NoPrelude) bytes)))
 
@@ -87,7 +94,8 @@ is_opened p (c ∷ wanted) [] m h = absurd (cc)
 is_opened p (c ∷ wanted) (b ∷ bytes) m h = opened_by p b c wanted bytes m (b == c) refl h (is_opened (p + 1) wanted bytes m)
 
 -- the answer to a text that begins as every module does
-pub answer_is : (text : List ℕ) → answer (prelude ++ text) ≡ answers (advance_all (Goes [] Between) (tokens_from (length prelude) text).tokens) (tokens_from (length prelude) text).end
+pub answer_is : (text : List ℕ)
+    → answer (prelude ++ text) ≡ answers (advance_all (Goes [] Between) (tokens_from (length prelude) text).tokens) (tokens_from (length prelude) text).end
 answer_is text = ap read_end (prelude_read 0 prelude text) ∙ text_read (0 + length prelude) text
 
 -- a text that reads as a module has it for its answer

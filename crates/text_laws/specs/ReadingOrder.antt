@@ -55,14 +55,16 @@ position_below : {X : Type 0} (p : X → Bool) (xs : List X) (n : ℕ) (d : X) �
 position_below p xs n d e = (position-Some p xs n d e).0
 
 -- what an identifier means is under the binders round it
-named_under : (m : List Declaration) (frames : List Frame) (s : ℕ) → IsModule m → s < length (signature ++ m) → IsUnder (length (signature ++ m)) (length (scope_of frames)) (named_tree m s)
+named_under : (m : List Declaration) (frames : List Frame) (s : ℕ) → IsModule m → s < length (signature ++ m)
+    → IsUnder (length (signature ++ m)) (length (scope_of frames)) (named_tree m s)
 named_under m frames s in_order below = go (short_for m s) refl
   where
     go : (o : Option Tree) → short_for m s ≡ o → IsUnder (length (signature ++ m)) (length (scope_of frames)) (unwrap_or o (Sym s))
     go None e = record { bound = omega arith; kindless = refl; known = omega (arith, below) }
     go (Some t) e = let o = short-over m in_order s t e in record { bound = omega (arith, o.closed); kindless = o.kindless; known = o.known }
 
-meant_under : (m : List Declaration) (frames : List Frame) (name : List ℕ) (x : Tree) (v s : Option ℕ) → IsModule m → variable_of (scope_of frames) name ≡ v → symbol_of m name ≡ s → meant m v s ≡ Some x → IsUnder (length (signature ++ m)) (length (scope_of frames)) x
+meant_under : (m : List Declaration) (frames : List Frame) (name : List ℕ) (x : Tree) (v s : Option ℕ) → IsModule m → variable_of (scope_of frames) name ≡ v
+    → symbol_of m name ≡ s → meant m v s ≡ Some x → IsUnder (length (signature ++ m)) (length (scope_of frames)) x
 meant_under m frames name x (Some n) s in_order e f h =
     let b : n < length (scope_of frames) = position_below (λ b. bytes_eq b name) (scope_of frames) n [] e in
     let is : Var n ≡ x = cc in
@@ -73,7 +75,8 @@ meant_under m frames name x None (Some s) in_order e f h =
     subst (IsUnder (length (signature ++ m)) (length (scope_of frames))) is (named_under m frames s in_order b)
 meant_under m frames name x None None in_order e f h = absurd (cc)
 
-pub meaning-IsUnder : (m : List Declaration) (frames : List Frame) (name : List ℕ) (x : Tree) → IsModule m → meaning m frames name ≡ Some x → IsUnder (length (signature ++ m)) (length (scope_of frames)) x
+pub meaning-IsUnder : (m : List Declaration) (frames : List Frame) (name : List ℕ) (x : Tree) → IsModule m → meaning m frames name ≡ Some x
+    → IsUnder (length (signature ++ m)) (length (scope_of frames)) x
 meaning-IsUnder m frames name x in_order h = meant_under m frames name x (variable_of (scope_of frames) name) (symbol_of m name) in_order refl refl h
 
 pub argued-IsUnder : (count d : ℕ) (f : Option Tree) (x : Tree) → IsAppliedUnder count d f → IsUnder count d x → IsUnder count d (argued f x)
@@ -87,7 +90,8 @@ pub Lam-IsUnder : (count d : ℕ) (a b : Tree) → IsUnder count d a → IsUnder
 Lam-IsUnder count d a b h k = record { bound = omega (arith, h.bound, k.bound); kindless = or_from (has_kind a) (has_kind b) h.kindless k.kindless; known = omega (arith, h.known, k.known) }
 
 -- a whole type or body is closed
-pub whole-IsUnder : (count : ℕ) (frames : List Frame) (t u : Tree) → AreFrames count frames → IsUnder count (length (scope_of frames)) t → whole frames t ≡ Some u → IsUnder count 0 u
+pub whole-IsUnder : (count : ℕ) (frames : List Frame) (t u : Tree) → AreFrames count frames → IsUnder count (length (scope_of frames)) t
+    → whole frames t ≡ Some u → IsUnder count 0 u
 whole-IsUnder count [] t u h k e = let is : t ≡ u = cc in subst (IsUnder count 0) is k
 whole-IsUnder count (Enclosing f ∷ frames) t u h k e = absurd (cc)
 whole-IsUnder count (Domain name ∷ frames) t u h k e = absurd (cc)
@@ -118,16 +122,19 @@ if_ordered : (b : Bool) (o : Outcome) (p : ℕ) → IsOrdered o → IsOrdered (i
 if_ordered true o p h = h
 if_ordered false o p h = tt
 
-name_ordered : (m : List Declaration) (form : Form) (p : ℕ) (name : List ℕ) (b : Bool) → is_declared (signature ++ m) name ≡ b → IsOrdered (if b then stops p (NameTwice name) else Goes m (AfterName form name))
+name_ordered : (m : List Declaration) (form : Form) (p : ℕ) (name : List ℕ) (b : Bool) → is_declared (signature ++ m) name ≡ b
+    → IsOrdered (if b then stops p (NameTwice name) else Goes m (AfterName form name))
 name_ordered m form p name true e = tt
 name_ordered m form p name false e = e
 
 module _ (m : List Declaration) (in_order : IsModule m) where
-  atom_ordered : (head : Head) (frames : List Frame) (f : Option Tree) (p : ℕ) (name : List ℕ) (o : Option Tree) → meaning m frames name ≡ o → IsState m (InApplication head frames f) → IsOrdered (atom m head frames f p name o)
+  atom_ordered : (head : Head) (frames : List Frame) (f : Option Tree) (p : ℕ) (name : List ℕ) (o : Option Tree) → meaning m frames name ≡ o
+      → IsState m (InApplication head frames f) → IsOrdered (atom m head frames f p name o)
   atom_ordered head frames f p name None e h = tt
   atom_ordered head frames f p name (Some x) e h = (h.0, h.1, argued-IsUnder (length (signature ++ m)) (length (scope_of frames)) f x h.2 (meaning-IsUnder m frames name x in_order e))
 
-  encloses_ordered : (head : Head) (frames : List Frame) (t : Tree) (p : ℕ) → IsState m (InApplication head frames (Some t)) → IsOrdered (encloses m head frames t p)
+  encloses_ordered : (head : Head) (frames : List Frame) (t : Tree) (p : ℕ) → IsState m (InApplication head frames (Some t))
+      → IsOrdered (encloses m head frames t p)
   encloses_ordered head [] t p h = tt
   encloses_ordered head (Enclosing f ∷ frames) t p h = (h.0, h.1.1, argued-IsUnder (length (signature ++ m)) (length (scope_of frames)) f t h.1.0 h.2)
   encloses_ordered head (Domain name ∷ frames) t p h = tt
@@ -141,7 +148,8 @@ module _ (m : List Declaration) (in_order : IsModule m) where
   arrow_ordered head (Product name b ∷ frames) a h = (h.0, (h.2, h.1))
   arrow_ordered head (Abstraction name b ∷ frames) a h = (h.0, (h.2, h.1))
 
-  fat_arrow_ordered : (head : Head) (frames : List Frame) (a : Tree) (p : ℕ) → IsState m (InApplication head frames (Some a)) → IsOrdered (fat_arrow m head frames a p)
+  fat_arrow_ordered : (head : Head) (frames : List Frame) (a : Tree) (p : ℕ) → IsState m (InApplication head frames (Some a))
+      → IsOrdered (fat_arrow m head frames a p)
   fat_arrow_ordered head (Domain name ∷ frames) a p h = (h.0, (h.2, h.1))
   fat_arrow_ordered head _ a p h = tt
 
@@ -152,14 +160,16 @@ module _ (m : List Declaration) (in_order : IsModule m) where
   declares_ordered (TypeOf Thm name) (Some t) p = tt
   declares_ordered (BodyOf form name ty) (Some t) p = if_ordered (nat_le (depth t) max_depth) (Goes (m ++ record { name = name; form = form; ty = ty; body = Some t } ∷ []) Between) p tt
 
-  assigns_ordered : (head : Head) (o : Option Tree) (p : ℕ) → IsHead m head → ((u : Tree) → o ≡ Some u → IsUnder (length (signature ++ m)) 0 u) → IsOrdered (assigns m head o p)
+  assigns_ordered : (head : Head) (o : Option Tree) (p : ℕ) → IsHead m head → ((u : Tree) → o ≡ Some u → IsUnder (length (signature ++ m)) 0 u)
+      → IsOrdered (assigns m head o p)
   assigns_ordered head None p h k = tt
   assigns_ordered (TypeOf Symbol name) (Some t) p h k = tt
   assigns_ordered (TypeOf Def name) (Some t) p h k = if_ordered (nat_le (depth t) max_depth) (Goes m (AtTerm (BodyOf Def name t) [])) p ((h, tt, k t refl), tt)
   assigns_ordered (TypeOf Thm name) (Some t) p h k = if_ordered (nat_le (depth t) max_depth) (Goes m (AtTerm (BodyOf Thm name t) [])) p ((h, tt, k t refl), tt)
   assigns_ordered (BodyOf form name ty) (Some t) p h k = tt
 
-  applies_ordered : (head : Head) (frames : List Frame) (f : Option Tree) (p : ℕ) (token : Token) → IsState m (InApplication head frames f) → IsOrdered (applies m head frames f p token)
+  applies_ordered : (head : Head) (frames : List Frame) (f : Option Tree) (p : ℕ) (token : Token) → IsState m (InApplication head frames f)
+      → IsOrdered (applies m head frames f p token)
   applies_ordered head frames f p (Name name) h = atom_ordered head frames f p name (meaning m frames name) refl h
   applies_ordered head frames f p TypeWord h = (h.0, h.1, argued-IsUnder (length (signature ++ m)) (length (scope_of frames)) f SortType h.2 (record { bound = omega arith; kindless = refl; known = omega arith }))
   applies_ordered head frames f p LeftParen h = (h.0, (h.2, h.1))
@@ -170,7 +180,8 @@ module _ (m : List Declaration) (in_order : IsModule m) where
   applies_ordered head frames (Some t) p Assign h = assigns_ordered head (whole frames t) p h.0 (λ u e. whole-IsUnder (length (signature ++ m)) frames t u h.1 h.2 e)
   applies_ordered head frames f p _ h = tt
 
-  first_ordered : (head : Head) (frames : List Frame) (q : ℕ) (name : List ℕ) (p : ℕ) (token : Token) (o : Option Tree) → meaning m frames name ≡ o → IsHead m head → AreFrames (length (signature ++ m)) frames → IsOrdered (goes_on m head frames q name o p token)
+  first_ordered : (head : Head) (frames : List Frame) (q : ℕ) (name : List ℕ) (p : ℕ) (token : Token) (o : Option Tree) → meaning m frames name ≡ o
+      → IsHead m head → AreFrames (length (signature ++ m)) frames → IsOrdered (goes_on m head frames q name o p token)
   first_ordered head frames q name p token None e h k = tt
   first_ordered head frames q name p token (Some x) e h k = applies_ordered head frames (Some x) p token (h, k, meaning-IsUnder m frames name x in_order e)
 

@@ -29,7 +29,8 @@ use Rattle.text_laws.specs.WrittenReads.{AreNamed, IsWritable, found_as, tree_sa
 grouped : (k n c t a b e r : List ℕ) → k ++ n ++ c ++ t ++ (a ++ b) ++ e ++ r ≡ k ++ (n ++ (c ++ (t ++ (a ++ (b ++ (e ++ r))))))
 grouped k n c t a b e r = simp append_assoc
 
-grouped_after : (j i k n c t a b e r : List ℕ) → j ++ i ++ k ++ n ++ c ++ t ++ (a ++ b) ++ e ++ r ≡ j ++ (i ++ (k ++ (n ++ (c ++ (t ++ (a ++ (b ++ (e ++ r))))))))
+grouped_after : (j i k n c t a b e r : List ℕ)
+    → j ++ i ++ k ++ n ++ c ++ t ++ (a ++ b) ++ e ++ r ≡ j ++ (i ++ (k ++ (n ++ (c ++ (t ++ (a ++ (b ++ (e ++ r))))))))
 grouped_after j i k n c t a b e r = simp append_assoc
 
 module _ (m ds : List Declaration) where
@@ -37,7 +38,8 @@ module _ (m ds : List Declaration) where
   abbrev short_text : Tree → List ℕ
   short_text t = tree_text m 0 (shortened ds t)
 
-  whole_said : AreNamed m ds → (t : Tree) → IsOver (length (signature ++ ds)) t → IsLong ds t → depth t ≤ max_depth → Says (λ tokens rest. IsWhole ds tokens rest t) (short_text t)
+  whole_said : AreNamed m ds → (t : Tree) → IsOver (length (signature ++ ds)) t → IsLong ds t → depth t ≤ max_depth
+      → Says (λ tokens rest. IsWhole ds tokens rest t) (short_text t)
   whole_said n t o l h =
       let k = shortened-IsNoMore ds t in
       let w : IsWritable m ds 0 (shortened ds t) = record { bound = omega (arith, k.bound, o.closed); kindless = k.kindless o.kindless; known = k.known o.known; few = omega (arith, k.shallow, h) } in
@@ -54,7 +56,8 @@ module _ (m ds : List Declaration) where
     is : tokens_from p (name ++ (32 ∷ 58 ∷ 32 ∷ (short_text t ++ rest))) ≡ put (λ tokens. at p (Name name) ∷ at colon Colon ∷ front tokens) (tokens_from place rest)
     holds : (tokens : List Placed) → IsWhole ds (front tokens) tokens t
 
-  typed_at : (name : List ℕ) (t : Tree) (p : ℕ) (rest : List ℕ) → IsPlainName name → Says (λ tokens rest. IsWhole ds tokens rest t) (short_text t) → IsStop rest → IsTyped name t p rest
+  typed_at : (name : List ℕ) (t : Tree) (p : ℕ) (rest : List ℕ) → IsPlainName name → Says (λ tokens rest. IsWhole ds tokens rest t) (short_text t) → IsStop rest
+      → IsTyped name t p rest
   typed_at name t p rest plain h stop =
       let w = word_at p name (32 ∷ 58 ∷ 32 ∷ (short_text t ++ rest)) plain.word refl in
       let r = h (w.place + 1 + 1 + 1) rest stop in
@@ -95,7 +98,8 @@ module _ (m ds : List Declaration) where
     ty_holds : (tokens : List Placed) → IsWhole ds (front tokens) tokens ty
     body_holds : (tokens : List Placed) → IsWhole ds (between tokens) tokens body
 
-  bodied_at : (name : List ℕ) (ty body : Tree) (p : ℕ) (rest : List ℕ) → IsPlainName name → Says (λ tokens rest. IsWhole ds tokens rest ty) (short_text ty) → Says (λ tokens rest. IsWhole ds tokens rest body) (short_text body) → IsBodied name ty body p rest
+  bodied_at : (name : List ℕ) (ty body : Tree) (p : ℕ) (rest : List ℕ) → IsPlainName name → Says (λ tokens rest. IsWhole ds tokens rest ty) (short_text ty)
+      → Says (λ tokens rest. IsWhole ds tokens rest body) (short_text body) → IsBodied name ty body p rest
   bodied_at name ty body p rest plain h k =
       let r = typed_at name ty p (32 ∷ 58 ∷ 61 ∷ 32 ∷ (short_text body ++ (46 ∷ 10 ∷ rest))) plain h refl in
       let s = k (r.place + 1 + 1 + 1 + 1) (46 ∷ 10 ∷ rest) refl in
@@ -153,7 +157,9 @@ module _ (m ds : List Declaration) where
   by_form n Thm name ty None bound p rest plain new h o l k = absurd o
   by_form n Thm name ty (Some t) bound p rest plain new h o l k = theorem_found bound name ty t p rest plain new h (whole_said n t o l k)
 
-  declaration_found : AreNamed m ds → (d : Declaration) (bound p : ℕ) (rest : List ℕ) → IsPlainName d.name → MayFollow (signature ++ ds) d → IsLong ds d.ty → IsBodyLong ds d.body → depth d.ty ≤ max_depth → IsBodyShallow d.body → Found (λ tokens rest. Declares ds tokens rest d) p (declaration_text m (shortened_declaration ds d) bound) rest
+  declaration_found : AreNamed m ds → (d : Declaration) (bound p : ℕ) (rest : List ℕ) → IsPlainName d.name → MayFollow (signature ++ ds) d → IsLong ds d.ty
+      → IsBodyLong ds d.body → depth d.ty ≤ max_depth → IsBodyShallow d.body
+      → Found (λ tokens rest. Declares ds tokens rest d) p (declaration_text m (shortened_declaration ds d) bound) rest
   declaration_found n d bound p rest plain f l j h k = by_form n d.form d.name d.ty d.body bound p rest plain f.new_name (whole_said n d.ty f.ty l h) f.body j k
 
 -- any declaration, for a place that a list lacks
@@ -169,7 +175,8 @@ not_any p [] k e h = absurd (omega arith)
 not_any p (d ∷ ds) zero e h = grind (arith, e)
 not_any p (d ∷ ds) (suc k) e h = not_any p ds k (grind (arith, e)) (omega (arith, h))
 
-push_at : (ds : List Declaration) (d : Declaration) → AreDistinct ds → IsFalse (is_declared ds d.name) → (k s : ℕ) → k < s → s < length (ds ++ d ∷ []) → (b : Bool) → nat_lt s (length ds) ≡ b → bytes_eq (get_or (ds ++ d ∷ []) k no_declaration).name (get_or (ds ++ d ∷ []) s no_declaration).name ≡ false
+push_at : (ds : List Declaration) (d : Declaration) → AreDistinct ds → IsFalse (is_declared ds d.name) → (k s : ℕ) → k < s → s < length (ds ++ d ∷ [])
+    → (b : Bool) → nat_lt s (length ds) ≡ b → bytes_eq (get_or (ds ++ d ∷ []) k no_declaration).name (get_or (ds ++ d ∷ []) s no_declaration).name ≡ false
 push_at ds d h new k s below within true e =
     let here : s < length ds = grind (arith, common_steps, e) in
     ap (λ (x : Declaration). bytes_eq x.name (get_or (ds ++ d ∷ []) s no_declaration).name) (get_or_append_left ds (d ∷ []) no_declaration k (omega arith))
@@ -298,7 +305,8 @@ record IsRead (p : ℕ) (text : List ℕ) (ds m : List Declaration) : Type 0 whe
   whole : (tokens_from p text).end ≡ ended place
   declares : Completes ds (tokens_from p text).tokens m
 
-read_after : (m ds : List Declaration) (d : Declaration) (p : ℕ) (text more : List ℕ) → Found (λ tokens rest. Declares ds tokens rest d) p text more → ((q : ℕ) → IsRead q more (ds ++ d ∷ []) m) → IsRead p (text ++ more) ds m
+read_after : (m ds : List Declaration) (d : Declaration) (p : ℕ) (text more : List ℕ) → Found (λ tokens rest. Declares ds tokens rest d) p text more
+    → ((q : ℕ) → IsRead q more (ds ++ d ∷ []) m) → IsRead p (text ++ more) ds m
 read_after m ds d p text more f h =
     let r = h f.place in
     record {
@@ -307,7 +315,9 @@ read_after m ds d p text more f h =
       declares = subst (λ (s : Scanned). Completes ds s.tokens m) (sym f.is) (next (f.holds (tokens_from f.place more).tokens) r.declares);
     }
 
-read_rest : (m ds rest : List Declaration) (bounds : List ℕ) → m ≡ ds ++ rest → AreDistinct (signature ++ ds) → ArePlain (signature ++ ds) → ArePlain rest → AreShallow rest → AreLong ds rest → AreDeclared (signature ++ ds) rest → length bounds ≡ length rest → (p : ℕ) → IsRead p (declarations_text m (shortened_after ds rest) bounds) ds m
+read_rest : (m ds rest : List Declaration) (bounds : List ℕ) → m ≡ ds ++ rest → AreDistinct (signature ++ ds) → ArePlain (signature ++ ds) → ArePlain rest
+    → AreShallow rest → AreLong ds rest → AreDeclared (signature ++ ds) rest → length bounds ≡ length rest → (p : ℕ)
+    → IsRead p (declarations_text m (shortened_after ds rest) bounds) ds m
 read_rest m ds [] bounds e h k plain shallow long f size p = record { place = p; whole = refl; declares = subst (Completes ds []) (sym (e ∙ append-nil ds)) complete }
 read_rest m ds (d ∷ rest) [] e h k plain shallow long f size p = absurd (omega (arith, size))
 read_rest m ds (d ∷ rest) (bound ∷ bounds) e h k plain shallow long f size p =

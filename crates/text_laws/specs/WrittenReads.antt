@@ -54,7 +54,8 @@ module _ (m ds : List Declaration) where
   writable_product a b w = record { bound = w.bound; kindless = w.kindless; known = w.known; few = w.few }
 
   -- what is read of a text at some place
-  pub found_as : {K L : List Placed → List Placed → Type 0} {text : List ℕ} → ((tokens rest : List Placed) → K tokens rest → L tokens rest) → Says K text → Says L text
+  pub found_as : {K L : List Placed → List Placed → Type 0} {text : List ℕ} → ((tokens rest : List Placed) → K tokens rest → L tokens rest) → Says K text
+      → Says L text
   found_as f h p rest stop = let r = h p rest stop in record { front = r.front; place = r.place; is = r.is; holds = λ tokens. f (r.front tokens) tokens (r.holds tokens) }
 
   -- a tree's text is read as a term, and as an application or an atom where it is none with binders, or a single word
@@ -70,11 +71,13 @@ module _ (m ds : List Declaration) where
   opener_append : (text more : List ℕ) → IsOpener text → IsOpener (text ++ more)
   opener_append text more o = record { first = o.first; more = o.more ++ more; is = ap (λ v. v ++ more) o.is; other = o.other }
 
-  arguments_append : {scope : Scope} {tokens more rest : List Placed} {f g x : Tree} → Arguments ds scope f tokens more g → Atom ds scope more rest x → Arguments ds scope f tokens rest (App g x)
+  arguments_append : {scope : Scope} {tokens more rest : List Placed} {f g x : Tree} → Arguments ds scope f tokens more g → Atom ds scope more rest x
+      → Arguments ds scope f tokens rest (App g x)
   arguments_append none x = argument x none
   arguments_append (argument a args) x = argument a (arguments_append args x)
 
-  application_append : {scope : Scope} {tokens more rest : List Placed} {f x : Tree} → Application ds scope tokens more f → Atom ds scope more rest x → Application ds scope tokens rest (App f x)
+  application_append : {scope : Scope} {tokens more rest : List Placed} {f x : Tree} → Application ds scope tokens more f → Atom ds scope more rest x
+      → Application ds scope tokens rest (App f x)
   application_append (application a args) x = application a (arguments_append args x)
 
   -- a text in parentheses
@@ -82,7 +85,8 @@ module _ (m ds : List Declaration) where
   enclosed_opener true text o = record { first = 40; more = text ++ codes ")"; is = refl; other = refl }
   enclosed_opener false text o = o
 
-  in_parentheses : {scope : Scope} {t : Tree} (text : List ℕ) → IsOpener text → Says (λ tokens rest. Term ds scope tokens rest t) text → Says (λ tokens rest. Atom ds scope tokens rest t) (codes "(" ++ text ++ codes ")")
+  in_parentheses : {scope : Scope} {t : Tree} (text : List ℕ) → IsOpener text → Says (λ tokens rest. Term ds scope tokens rest t) text
+      → Says (λ tokens rest. Atom ds scope tokens rest t) (codes "(" ++ text ++ codes ")")
   in_parentheses text o h p rest stop =
       let r = h (p + 1) (41 ∷ rest) refl in
       record {
@@ -95,11 +99,15 @@ module _ (m ds : List Declaration) where
         holds = λ tokens. enclosed_atom (r.holds (at r.place RightParen ∷ tokens));
       }
 
-  enclosed_says : {scope : Scope} {t : Tree} (wanted : Bool) (text : List ℕ) → IsOpener text → (wanted ≡ false → Says (λ tokens rest. Atom ds scope tokens rest t) text) → Says (λ tokens rest. Term ds scope tokens rest t) text → Says (λ tokens rest. Atom ds scope tokens rest t) (enclosed wanted text)
+  enclosed_says : {scope : Scope} {t : Tree} (wanted : Bool) (text : List ℕ) → IsOpener text
+      → (wanted ≡ false → Says (λ tokens rest. Atom ds scope tokens rest t) text) → Says (λ tokens rest. Term ds scope tokens rest t) text
+      → Says (λ tokens rest. Atom ds scope tokens rest t) (enclosed wanted text)
   enclosed_says true text o h term = in_parentheses text o term
   enclosed_says false text o h term = h refl
 
-  domain_says : {scope : Scope} {t : Tree} (wanted : Bool) (text : List ℕ) → IsOpener text → (wanted ≡ false → Says (λ tokens rest. Application ds scope tokens rest t) text) → Says (λ tokens rest. Term ds scope tokens rest t) text → Says (λ tokens rest. Application ds scope tokens rest t) (enclosed wanted text)
+  domain_says : {scope : Scope} {t : Tree} (wanted : Bool) (text : List ℕ) → IsOpener text
+      → (wanted ≡ false → Says (λ tokens rest. Application ds scope tokens rest t) text) → Says (λ tokens rest. Term ds scope tokens rest t) text
+      → Says (λ tokens rest. Application ds scope tokens rest t) (enclosed wanted text)
   domain_says true text o h term = found_as (λ tokens rest a. application a none) (in_parentheses text o term)
   domain_says false text o h term = h refl
 
@@ -112,7 +120,8 @@ module _ (m ds : List Declaration) where
     as_atom = λ e. h;
   }
 
-  name_says : {scope : Scope} {t : Tree} (name : List ℕ) → IsWordText name → word_token name ≡ Name name → ((p : ℕ) (rest : List Placed) → Atom ds scope (at p (Name name) ∷ rest) rest t) → Says (λ tokens rest. Atom ds scope tokens rest t) name
+  name_says : {scope : Scope} {t : Tree} (name : List ℕ) → IsWordText name → word_token name ≡ Name name
+      → ((p : ℕ) (rest : List Placed) → Atom ds scope (at p (Name name) ∷ rest) rest t) → Says (λ tokens rest. Atom ds scope tokens rest t) name
   name_says name w e h p rest stop =
       let r = word_at p name rest w stop in
       record {
@@ -202,7 +211,8 @@ module _ (m ds : List Declaration) where
       }
 
   -- a binder
-  binder_parts : (name domain sign body rest : List ℕ) → name ++ codes " : " ++ domain ++ sign ++ body ++ rest ≡ name ++ (32 ∷ 58 ∷ 32 ∷ (domain ++ (sign ++ (body ++ rest))))
+  binder_parts : (name domain sign body rest : List ℕ)
+      → name ++ codes " : " ++ domain ++ sign ++ body ++ rest ≡ name ++ (32 ∷ 58 ∷ 32 ∷ (domain ++ (sign ++ (body ++ rest))))
   binder_parts name domain sign body rest = simp append_assoc
 
   product_says : (d : ℕ) {a b : Tree} (one two : List ℕ) → Says (λ tokens rest. Application ds (binders d) tokens rest a) one → Says (λ tokens rest. Term ds (binders (suc d)) tokens rest b) two → Says (λ tokens rest. Term ds (binders d) tokens rest (Pi a b)) (binder_name d ++ codes " : " ++ one ++ codes " -> " ++ two)

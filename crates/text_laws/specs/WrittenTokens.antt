@@ -46,7 +46,8 @@ after-scan token (goes tokens pending) p [] = refl
 after-scan token (goes tokens pending) p (b ∷ bytes) = refl
 
 -- tokens that were ended come first
-pub scan-goes : (tokens : List Placed) (pending : Pending) (p : ℕ) (text : List ℕ) → scan (goes tokens pending) p text ≡ before tokens (scan (goes [] pending) p text)
+pub scan-goes : (tokens : List Placed) (pending : Pending) (p : ℕ) (text : List ℕ)
+    → scan (goes tokens pending) p text ≡ before tokens (scan (goes [] pending) p text)
 scan-goes tokens pending p [] = refl
 scan-goes tokens pending p (b ∷ text) = refl
 
@@ -76,13 +77,15 @@ scan-begins : (p b : ℕ) (text : List ℕ) → tokens_from p (b ∷ text) ≡ s
 scan-begins p b text = refl
 
 -- a byte that ends a word
-word_ended : (q : ℕ) (word : List ℕ) (p b : ℕ) (text : List ℕ) → is_word_byte b ≡ false → scan (goes [] (InWord q word)) p (b ∷ text) ≡ before (at q (word_token word) ∷ []) (tokens_from p (b ∷ text))
+word_ended : (q : ℕ) (word : List ℕ) (p b : ℕ) (text : List ℕ) → is_word_byte b ≡ false
+    → scan (goes [] (InWord q word)) p (b ∷ text) ≡ before (at q (word_token word) ∷ []) (tokens_from p (b ∷ text))
 word_ended q word p b text e =
     ap (λ (c : Bool). before [] (scan (if c then goes [] (InWord q (word ++ b ∷ [])) else after (at q (word_token word)) (begins p b)) (p + 1) text)) e
     ∙ after-scan (at q (word_token word)) (begins p b) (p + 1) text
 
 -- and one that goes on with it
-word_longer : (q : ℕ) (word : List ℕ) (p b : ℕ) (text : List ℕ) → is_word_byte b ≡ true → scan (goes [] (InWord q word)) p (b ∷ text) ≡ scan (goes [] (InWord q (word ++ b ∷ []))) (p + 1) text
+word_longer : (q : ℕ) (word : List ℕ) (p b : ℕ) (text : List ℕ) → is_word_byte b ≡ true
+    → scan (goes [] (InWord q word)) p (b ∷ text) ≡ scan (goes [] (InWord q (word ++ b ∷ []))) (p + 1) text
 word_longer q word p b text e = ap (λ (c : Bool). scan (if c then goes [] (InWord q (word ++ b ∷ [])) else after (at q (word_token word)) (begins p b)) (p + 1) text) e
 
 -- the place behind a word and the tokens from there
@@ -154,7 +157,8 @@ comment_scan q p (b ∷ text) rest e =
 glyph_byte : (d : ℕ) → d < 10 → is_digit_byte (digit_glyph false d) ≡ true
 glyph_byte d h = grind (arith, common_steps)
 
-digits_step : (last : Bool) (x : ℕ) (acc more : List ℕ) → is_digit_byte x ≡ true → list_all is_digit_byte acc ≡ true → list_all is_digit_byte more ≡ true → list_all is_digit_byte (if last then x ∷ acc else more) ≡ true
+digits_step : (last : Bool) (x : ℕ) (acc more : List ℕ) → is_digit_byte x ≡ true → list_all is_digit_byte acc ≡ true → list_all is_digit_byte more ≡ true
+    → list_all is_digit_byte (if last then x ∷ acc else more) ≡ true
 digits_step true x acc more e f g = and_from (is_digit_byte x) (list_all is_digit_byte acc) e f
 digits_step false x acc more e f g = g
 

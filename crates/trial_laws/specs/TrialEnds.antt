@@ -158,11 +158,13 @@ ending_items = to_equality ++ (to_sides ++ to_export)
 
 module _ (d : Dictionary) (made : List Made) where
   -- the type bool -> bool -> bool, and equality at it
-  makes_type : (rest : List Object) → obey (state d made (object.list (more (object.type bool) (more (object.type truths) none)) ∷ object.type_operator arrow_name ∷ rest)) word.OpType
+  makes_type : (rest : List Object)
+      → obey (state d made (object.list (more (object.type bool) (more (object.type truths) none)) ∷ object.type_operator arrow_name ∷ rest)) word.OpType
       ≡ Ok (state d made (object.type (equality_type bool) ∷ rest))
   makes_type rest = rw (append-nil made) refl
 
-  makes_equality : (rest : List Object) → obey (state d made (object.type (equality_type bool) ∷ object.constant equality_name ∷ rest)) word.ConstTerm ≡ Ok (state d made (object.term equality ∷ rest))
+  makes_equality : (rest : List Object)
+      → obey (state d made (object.type (equality_type bool) ∷ object.constant equality_name ∷ rest)) word.ConstTerm ≡ Ok (state d made (object.term equality ∷ rest))
   makes_equality rest = rw (append-nil made) refl
 
   gives_equality : (k : ℕ) → Has d 7 (theorem k) → Has d 0 (object.type bool) → Has d 1 (object.type truths)
@@ -205,7 +207,8 @@ module _ (d : Dictionary) (made : List Made) where
       ∙ follows_word word.Thm d made (object.term (equation bool (at_p n) (at_p f)) ∷ object.list none ∷ theorem k ∷ []) _ [] (exports k n says)
 
 -- after n blocks the ending exports that the last constant is f at p
-pub ending_exports : (n : ℕ) (d : Dictionary) (made : List Made) → Ready n d made → (c : Chained n d made) → obeyed (state d made []) ending_items ≡ Ok (exported d made c.number (constant_name n))
+pub ending_exports : (n : ℕ) (d : Dictionary) (made : List Made) → Ready n d made → (c : Chained n d made)
+    → obeyed (state d made []) ending_items ≡ Ok (exported d made c.number (constant_name n))
 ending_exports n d made r c =
     let generic : generic_type (symbols_of made) f ≡ None = ap (λ symbols. generic_type symbols f) r.taken ∙ f-undefined n in
     let input : list_any (is_input_constant f) (symbols_of made) ≡ true = ap (list_any (is_input_constant f)) r.taken ∙ f-input n in

@@ -81,7 +81,8 @@ pub record Reads (n o : ℕ) (text : List ℕ) (commands : List Command) : Type 
   pub opens : Opens n o text commands line offset []
 
 -- words give their commands, where the text is within its limit
-pub reads : (words : List (List ℕ)) (items : List Item) (n o : ℕ) → Says words items → o + length (lines words) < max_article → Reads n o (lines words) (numbered n items)
+pub reads : (words : List (List ℕ)) (items : List Item) (n o : ℕ) → Says words items → o + length (lines words) < max_article
+    → Reads n o (lines words) (numbered n items)
 reads [] [] n o h small = record { line = n; offset = o; opens = open_line (record { one_line = tt; short = omega arith; within = omega arith }) }
 reads [] (i ∷ is) n o h small = absurd (let e = h.means in cc)
 reads (w ∷ ws) [] n o h small = absurd (let e = h.means in cc)
@@ -107,5 +108,6 @@ reads (w ∷ ws) (i ∷ is) n o h small =
     }
 
 -- an article of words gives their commands
-pub lines_of : (words : List (List ℕ)) (items : List Item) → Says words items → length (lines words) < max_article → (m : ℕ) × Lines (lines words) (numbered 1 items) (ended m)
+pub lines_of : (words : List (List ℕ)) (items : List Item) → Says words items → length (lines words) < max_article
+    → (m : ℕ) × Lines (lines words) (numbered 1 items) (ended m)
 lines_of words items h small = let r = reads words items 1 0 h (omega (arith, small)) in (r.line, last_skipped r.opens refl)

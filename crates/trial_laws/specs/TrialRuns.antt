@@ -66,14 +66,16 @@ proves i d made h r =
     concludes_then one (concludes_then two (concludes_then three four))
 
 -- what stands at a number that a block leaves alone
-Has-after : (i : ℕ) (d : Dictionary) (k j : ℕ) (y : Object) → eq_by_cmp int_cmp (pos j) (pos 6) ≡ false → eq_by_cmp int_cmp (pos j) (pos 7) ≡ false → eq_by_cmp int_cmp (pos j) (pos 5) ≡ false
+Has-after : (i : ℕ) (d : Dictionary) (k j : ℕ) (y : Object) → eq_by_cmp int_cmp (pos j) (pos 6) ≡ false → eq_by_cmp int_cmp (pos j) (pos 7) ≡ false
+    → eq_by_cmp int_cmp (pos j) (pos 5) ≡ false
     → Has d j y → Has (after_block i d k) j y
 Has-after i d k j y six seven five h =
     let e : Dictionary = with_wrapped (constant_name i) d in
     Has-other (entries.insert e (pos 7) (theorem k)) 5 (object.term (Term.constant (constant_name (suc i)) truths)) j y five
     (Has-other e 7 (theorem k) j y seven (Has-other d 6 (object.term (wrapped (constant_name i))) j y six h))
 
-ready_after : (i : ℕ) (d : Dictionary) (made after : List Made) (k : ℕ) (r : Ready i d made) → symbols_of after ≡ symbols_after (suc i) → IsAt after r.reflexive p_is_p → Ready (suc i) (after_block i d k) after
+ready_after : (i : ℕ) (d : Dictionary) (made after : List Made) (k : ℕ) (r : Ready i d made) → symbols_of after ≡ symbols_after (suc i)
+    → IsAt after r.reflexive p_is_p → Ready (suc i) (after_block i d k) after
 ready_after i d made after k r taken says = record {
   at_0 = Has-after i d k 0 (object.type bool) refl refl refl r.at_0;
   at_1 = Has-after i d k 1 (object.type truths) refl refl refl r.at_1;

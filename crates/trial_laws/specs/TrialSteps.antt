@@ -49,7 +49,8 @@ pub obey_all-numbered : (items : List Item) (n : ℕ) (s t : State) → obeyed s
 obey_all-numbered [] n s t e = let same : s ≡ t = cc in ap Ok same
 obey_all-numbered (i ∷ is) n s t e = go (step_at s.place s i) (λ next. obey_all-numbered is (n + 1) next t) e
   where
-    go : (first : Result State Kind) → ((next : State) → obeyed next is ≡ Ok t → obey_all machine next (numbered (n + 1) is) ≡ Ok t) → (first >>= (λ next. obeyed next is)) ≡ Ok t
+    go : (first : Result State Kind) → ((next : State) → obeyed next is ≡ Ok t → obey_all machine next (numbered (n + 1) is) ≡ Ok t)
+        → (first >>= (λ next. obeyed next is)) ≡ Ok t
         → (at_line n first >>= (λ next. obey_all machine next (numbered (n + 1) is))) ≡ Ok t
     go (Ok next) again g = again next g
     go (Err k) again g = absurd (cc)
@@ -68,7 +69,8 @@ Has d k x = entries.get d (pos k) ≡ Some x
 pub Has-own : (d : Dictionary) (k : ℕ) (x : Object) → eq_by_cmp int_cmp (pos k) (pos k) ≡ true → Has (entries.insert d (pos k) x) k x
 Has-own d k x e = get-insert int_cmp_total d (pos k) x (pos k) ∙ ap (λ b. cond b (Some x) (entries.get d (pos k))) e
 
-pub Has-other : (d : Dictionary) (k : ℕ) (x : Object) (j : ℕ) (y : Object) → eq_by_cmp int_cmp (pos j) (pos k) ≡ false → Has d j y → Has (entries.insert d (pos k) x) j y
+pub Has-other : (d : Dictionary) (k : ℕ) (x : Object) (j : ℕ) (y : Object) → eq_by_cmp int_cmp (pos j) (pos k) ≡ false → Has d j y
+    → Has (entries.insert d (pos k) x) j y
 Has-other d k x j y e h = get-insert int_cmp_total d (pos k) x (pos j) ∙ ap (λ b. cond b (Some x) (entries.get d (pos j))) e ∙ h
 
 -- a reference gives the object, and the commands go on; so they do behind a word

@@ -51,7 +51,8 @@ module _ (version : Version) (run : Accepted) where
   draft-is = ap (λ l. write_each (write_step (binder_number (reached_steps run)) run.exports) l (version_draft version)) reached-is
 
   -- The article
-  pub retells : IsTellable version run → AllByRecursion IsWritable (article_items version run) → length (article version run) ≤ max_article → (a : Accepted) × RetellsBy (is_told run) version run a
+  pub retells : IsTellable version run → AllByRecursion IsWritable (article_items version run) → length (article version run) ≤ max_article
+      → (a : Accepted) × RetellsBy (is_told run) version run a
   retells tale writable small =
       let flag = is_told run in
       let number = binder_number (reached_steps run) in

@@ -71,7 +71,8 @@ module _ (c : Scene) (apart : AreApart c.symbols) (q : ℕ) where
   type-operand : (a : HolType) → TypeWithin a → TypeTaken c.symbols a → IsTypeOperand c a
   type-operand a h k = record { uses = type-uses c.symbols apart a k; within = h }
 
-  operands : (ts : List Term) → AllByRecursion IsBuiltTerm ts → AllByRecursion (HasNoBinderName q) ts → AllByRecursion (TermTaken c.symbols) ts → AllByRecursion (IsOperand c q) ts
+  operands : (ts : List Term) → AllByRecursion IsBuiltTerm ts → AllByRecursion (HasNoBinderName q) ts → AllByRecursion (TermTaken c.symbols) ts
+      → AllByRecursion (IsOperand c q) ts
   operands [] h f k = tt
   operands (t ∷ ts) h f k = (operand t h.0 f.0 k.0, operands ts h.1 f.1 k.1)
 

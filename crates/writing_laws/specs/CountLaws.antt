@@ -53,7 +53,8 @@ counts-noted {owed = owed} {m = m} {d = d} x c =
 pub counts-referred : {owed : ℕ} {m : Tally} {d : Draft} (k : ℕ) → Counts owed m d → Counts owed (add (told_length k) m) (refer k d)
 counts-referred k c = counts-two (item.Number (pos k)) (item.Word word.Ref) c
 
-pub counts-once : {owed : ℕ} {m : Tally} {d : Draft} (x : Kept) (build : Draft → Draft) (built : Tally → Tally) → Counts owed m d → Counts owed (built m) (build d) → Counts owed (count_once x built m) (once x build d)
+pub counts-once : {owed : ℕ} {m : Tally} {d : Draft} (x : Kept) (build : Draft → Draft) (built : Tally → Tally) → Counts owed m d
+    → Counts owed (built m) (build d) → Counts owed (count_once x built m) (once x build d)
 counts-once {owed = owed} {m = m} {d = d} x build built c b =
     subst (λ o. Counts owed (count_once_at o x built m) (once x build d)) (ap (λ (l : List Kept). key_in l x) (let e : d.kept ≡ m.kept = cc in e)) (go (key_of x d))
   where
@@ -65,11 +66,13 @@ counts-once {owed = owed} {m = m} {d = d} x build built c b =
 abbrev pub Counted : (Tally → Tally) → (Draft → Draft) → Type 0
 Counted f g = (owed : ℕ) (m : Tally) (d : Draft) → Counts owed m d → Counts owed (f m) (g d)
 
-pub counted-each : {A : Type 0} (P : A → Type 0) (f : A → Tally → Tally) (g : A → Draft → Draft) → ((x : A) → P x → Counted (f x) (g x)) → (xs : List A) → AllByRecursion P xs → Counted (count_each f xs) (write_each g xs)
+pub counted-each : {A : Type 0} (P : A → Type 0) (f : A → Tally → Tally) (g : A → Draft → Draft) → ((x : A) → P x → Counted (f x) (g x)) → (xs : List A)
+    → AllByRecursion P xs → Counted (count_each f xs) (write_each g xs)
 counted-each P f g h [] all owed m d c = c
 counted-each P f g h (x ∷ xs) all owed m d c = counted-each P f g h xs all.1 owed (f x m) (g x d) (h x all.0 owed m d c)
 
-pub counted-list : {A : Type 0} (P : A → Type 0) (f : A → Tally → Tally) (g : A → Draft → Draft) → ((x : A) → P x → Counted (f x) (g x)) → (xs : List A) → AllByRecursion P xs → Counted (count_list f xs) (write_list g xs)
+pub counted-list : {A : Type 0} (P : A → Type 0) (f : A → Tally → Tally) (g : A → Draft → Draft) → ((x : A) → P x → Counted (f x) (g x)) → (xs : List A)
+    → AllByRecursion P xs → Counted (count_list f xs) (write_list g xs)
 counted-list P f g h xs all owed m d c = counts-listed (length xs) (counted-each P f g h xs all owed m d c)
 
 pub counted-pair : (f k : Tally → Tally) (g l : Draft → Draft) → Counted f g → Counted k l → Counted (count_pair f k) (write_pair g l)

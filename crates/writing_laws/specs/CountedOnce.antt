@@ -38,7 +38,8 @@ notes-weaker {P = P} {Q = Q} f a = record { new = a.new; is = a.is; all = All-we
 notes-one : {P : Kept → Type 0} {xs ys : List Kept} (x : Kept) → P x → Notes P xs ys → Notes P xs (ys ++ x ∷ [])
 notes-one {P = P} {xs = xs} x p a = record { new = a.new ++ x ∷ []; is = ap (λ l. l ++ x ∷ []) a.is ∙ append_assoc xs a.new (x ∷ []); all = All-append P a.new (x ∷ []) a.all (p, tt {0}) }
 
-notes-once : {P : Kept → Type 0} (m : Tally) (x : Kept) (build : Tally → Tally) → P x → Notes P m.kept (build m).kept → Notes P m.kept (count_once x build m).kept
+notes-once : {P : Kept → Type 0} (m : Tally) (x : Kept) (build : Tally → Tally) → P x → Notes P m.kept (build m).kept
+    → Notes P m.kept (count_once x build m).kept
 notes-once {P = P} m x build p a = go (key_in m.kept x)
   where
     go : (o : Option ℕ) → Notes P m.kept (count_once_at o x build m).kept
@@ -46,7 +47,8 @@ notes-once {P = P} m x build p a = go (key_in m.kept x)
     go (Some k) = notes-none m.kept
 
 -- what had no key has none after smaller things were kept
-still-none : {P : Kept → Type 0} {xs ys : List Kept} (x : Kept) → key_in xs x ≡ None → Notes P xs ys → ((y : Kept) → P y → kept_eq x y ≡ false) → key_in ys x ≡ None
+still-none : {P : Kept → Type 0} {xs ys : List Kept} (x : Kept) → key_in xs x ≡ None → Notes P xs ys → ((y : Kept) → P y → kept_eq x y ≡ false)
+    → key_in ys x ≡ None
 still-none {P = P} {xs = xs} x none a f = ap (λ l. key_in l x) a.is ∙ no-key x 0 xs a.new none (All-weaker P (λ y. kept_eq x y ≡ false) f a.new a.all)
 
 -- Types
@@ -63,21 +65,24 @@ mutual
       notes-then (notes-weaker (up (type_size t) (types_size (HolTypes.more t ts)) (omega arith)) (type-notes t m)) (notes-weaker (up (types_size ts) (types_size (HolTypes.more t ts)) (omega arith)) (types-note ts (count_type t m)))
 
 -- so an operator has no key when its arguments are counted
-pub type-unnoted : (n : Name) (ts : HolTypes) (m : Tally) (k : ℕ) → key_in m.kept (Kept.type (HolType.operator n ts)) ≡ None → key_in (count_types ts (add k m)).kept (Kept.type (HolType.operator n ts)) ≡ None
+pub type-unnoted : (n : Name) (ts : HolTypes) (m : Tally) (k : ℕ) → key_in m.kept (Kept.type (HolType.operator n ts)) ≡ None
+    → key_in (count_types ts (add k m)).kept (Kept.type (HolType.operator n ts)) ≡ None
 type-unnoted n ts m k none = still-none (Kept.type (HolType.operator n ts)) none (types-note ts (add k m)) (smaller-type (HolType.operator n ts) (types_size ts) (omega arith))
 
 -- Terms
 variable-notes : (k : ℕ) (n : Name) (a : HolType) (m : Tally) → Notes (IsTermUpTo k) m.kept (count_variable n a m).kept
 variable-notes k n a m = notes-weaker (any-type (type_size a) k) (type-notes a (add (name_length n) m))
 
-notes-shared : {P : Kept → Type 0} (m : Tally) (t : Term) (build : Tally → Tally) → P (Kept.term t) → Notes P m.kept (build m).kept → Notes P m.kept (count_shared t build m).kept
+notes-shared : {P : Kept → Type 0} (m : Tally) (t : Term) (build : Tally → Tally) → P (Kept.term t) → Notes P m.kept (build m).kept
+    → Notes P m.kept (count_shared t build m).kept
 notes-shared {P = P} m t build p a = go (loose t == 0)
   where
     go : (b : Bool) → Notes P m.kept (count_closed b t build m).kept
     go true = notes-once m (Kept.term t) build p a
     go false = a
 
-app-from : (f x : Term) {xs ys zs : List Kept} → Notes (IsTermUpTo (term_size f)) xs ys → Notes (IsTermUpTo (term_size x)) ys zs → Notes (IsTermUpTo (term_size f + term_size x)) xs zs
+app-from : (f x : Term) {xs ys zs : List Kept} → Notes (IsTermUpTo (term_size f)) xs ys → Notes (IsTermUpTo (term_size x)) ys zs
+    → Notes (IsTermUpTo (term_size f + term_size x)) xs zs
 app-from f x a b = notes-then (notes-weaker (term-up (term_size f) (term_size f + term_size x) (omega arith)) a) (notes-weaker (term-up (term_size x) (term_size f + term_size x) (omega arith)) b)
 
 module _ (q : ℕ) where
@@ -95,7 +100,8 @@ module _ (q : ℕ) where
       (notes-weaker (term-up (term_size b) (term_size (Term.lam a b)) (omega arith)) (notes-then (variable-notes (term_size b) (binder_name q d) a m) (term-notes b (suc d) (count_variable (binder_name q d) a m))))
 
   -- so neither has a key when its parts are counted
-  pub app-unnoted : (d : ℕ) (f x : Term) (m : Tally) → key_in m.kept (Kept.term (Term.app f x)) ≡ None → key_in (count_under q d x (count_under q d f m)).kept (Kept.term (Term.app f x)) ≡ None
+  pub app-unnoted : (d : ℕ) (f x : Term) (m : Tally) → key_in m.kept (Kept.term (Term.app f x)) ≡ None
+      → key_in (count_under q d x (count_under q d f m)).kept (Kept.term (Term.app f x)) ≡ None
   app-unnoted d f x m none =
       still-none (Kept.term (Term.app f x)) none (app-from f x (term-notes f d m) (term-notes x d (count_under q d f m))) (smaller-term (Term.app f x) (term_size f + term_size x) (omega arith))
 
@@ -175,7 +181,8 @@ module _ (q : ℕ) where
   added : (k n : ℕ) (m : Tally) → k ≡ n → add k m ≡ add n m
   added k n m e = ap (λ i. add i m) e
 
-  free-closed : (t : Term) (build : Tally → Tally) (m : Tally) → loose t ≡ 0 → HasKey m.kept (Kept.term t) → count_shared t build m ≡ add (key_length m.kept (Kept.term t)) m
+  free-closed : (t : Term) (build : Tally → Tally) (m : Tally) → loose t ≡ 0 → HasKey m.kept (Kept.term t)
+      → count_shared t build m ≡ add (key_length m.kept (Kept.term t)) m
   free-closed t build m e h = ap (λ l. count_closed (l == 0) t build m) e ∙ counted-once (Kept.term t) build m h
 
   pub count-placed : (t : Term) (d : ℕ) (m : Tally) → AreKept m.kept t → count_under q d t m ≡ add (place_length q m.kept d t) m

@@ -88,7 +88,8 @@ pub some-last : (x : Kept) (start : ℕ) (kept : List Kept) → kept_eq x x ≡ 
 some-last x start [] own = (start, ap (λ b. cond b (Some start) None) own)
 some-last x start (y ∷ kept) own = go (kept_eq x y) (some-last x (start + 1) kept own)
   where
-    go : (b : Bool) → ((k : ℕ) × (position_from (kept_eq x) (start + 1) (kept ++ x ∷ []) ≡ Some k)) → (k : ℕ) × (cond b (Some start) (position_from (kept_eq x) (start + 1) (kept ++ x ∷ [])) ≡ Some k)
+    go : (b : Bool) → ((k : ℕ) × (position_from (kept_eq x) (start + 1) (kept ++ x ∷ []) ≡ Some k))
+        → (k : ℕ) × (cond b (Some start) (position_from (kept_eq x) (start + 1) (kept ++ x ∷ [])) ≡ Some k)
     go true h = (start, refl)
     go false h = h
 
@@ -128,7 +129,8 @@ bound-more q kept new (v ∷ vs) [] h = absurd h
 bound-more q kept new (v ∷ vs) (w ∷ ws) h =
     (record { key = h.0.key; name = h.0.name; at = position-more (Kept.type v.1) 0 kept new h.0.key h.0.at; told = h.0.told }, bound-more q kept new vs ws h.1)
 
-bound-at : (q : ℕ) (kept : List Kept) (vs : List Variable) (ws : List ℕ) (i : ℕ) → AreBound q kept vs ws → i < length vs → IsBound q kept (length vs - suc i) (binder_at vs i) (slice_index_or ws i 0)
+bound-at : (q : ℕ) (kept : List Kept) (vs : List Variable) (ws : List ℕ) (i : ℕ) → AreBound q kept vs ws → i < length vs
+    → IsBound q kept (length vs - suc i) (binder_at vs i) (slice_index_or ws i 0)
 bound-at q kept [] ws i h low = absurd (omega (arith, low))
 bound-at q kept (v ∷ vs) [] i h low = absurd h
 bound-at q kept (v ∷ vs) (w ∷ ws) zero h low = let e : length vs ≡ suc (length vs) - 1 = omega arith in subst (λ n. IsBound q kept n v w) e h.0
@@ -137,7 +139,8 @@ bound-at q kept (v ∷ vs) (w ∷ ws) (suc i) h low =
     subst (λ n. IsBound q kept n (binder_at vs i) (slice_index_or ws i 0)) e (bound-at q kept vs ws i h.1 (omega (arith, low)))
 
 -- A term under binders
-counts-shared : {owed : ℕ} {m : Tally} {d : Draft} (t : Term) (more : ℕ) (build : Draft → Draft) (built : Tally → Tally) → (loose t ≡ 0 → more ≡ 0) → Counts owed m d → Counts (owed + more) (built m) (build d)
+counts-shared : {owed : ℕ} {m : Tally} {d : Draft} (t : Term) (more : ℕ) (build : Draft → Draft) (built : Tally → Tally) → (loose t ≡ 0 → more ≡ 0)
+    → Counts owed m d → Counts (owed + more) (built m) (build d)
     → Counts (owed + more) (count_shared t built m) (shared t build d)
 counts-shared {owed = owed} {m = m} {d = d} t more build built closed c b = go (loose t == 0) refl
   where
@@ -163,7 +166,8 @@ module _ (q : ℕ) where
       subst (λ e. Counts (owed + w) (add (name_length (binder_name q n) + word_length word.Var + word_length word.VarTerm) m) (say_word word.VarTerm (say_word word.Var e))) (sym same)
       (record { kept = told.kept; length = (let l = told.length in let t = b.told in omega (arith, l, t, name)) })
 
-  pub counted-under : (t : Term) (vs : List Variable) (ws : List ℕ) → loose t ≤ length vs → (owed : ℕ) (m : Tally) (d : Draft) → AreBound q d.kept vs ws → Counts owed m d
+  pub counted-under : (t : Term) (vs : List Variable) (ws : List ℕ) → loose t ≤ length vs → (owed : ℕ) (m : Tally) (d : Draft) → AreBound q d.kept vs ws
+      → Counts owed m d
       → Counts (owed + outer ws t) (count_under q (length vs) t m) (write_under q vs t d)
   counted-under (Term.free n a) vs ws low owed m d h c =
       let z : Counts (owed + 0) m d = record { kept = c.kept; length = omega (arith, c.length) } in

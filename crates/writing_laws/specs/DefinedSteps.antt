@@ -45,7 +45,8 @@ use Rattle.writing_laws.specs.StatedSteps.{ready-changed}
 constant-untaken : (symbols : List Symbol) (n : Name) (t : Term) → Takes symbols (defined (Definition.constant n t)) → is_taken_constant symbols n ≡ false
 constant-untaken symbols n t (Takes.constant e h) = e
 
-none-among : (all some : List Symbol) (ns : List Name) → AreAmong all some → list_any (is_taken_constant all) ns ≡ false → list_any (is_taken_constant some) ns ≡ false
+none-among : (all some : List Symbol) (ns : List Name) → AreAmong all some → list_any (is_taken_constant all) ns ≡ false
+    → list_any (is_taken_constant some) ns ≡ false
 none-among all some [] among e = refl
 none-among all some (n ∷ ns) among e =
     let k = or_parts (is_taken_constant all n) (list_any (is_taken_constant all) ns) e in
@@ -84,13 +85,16 @@ module _ (q : ℕ) (version : Version) (flag is_export : ℕ → Bool) where
   apart-all all (x ∷ new) h apart = subst AreApart (append_assoc all (x ∷ []) new) (apart-all (all ++ x ∷ []) new h.1 (apart-taken all x apart h.0))
 
   -- the symbols and the steps of a definition
-  pub symbols-grown : (made whole : List Made) (new : List Symbol) (x : Step) → whole ≡ (made ++ map Made.symbol new) ++ Made.step x ∷ [] → symbols_of whole ≡ symbols_of made ++ new
+  pub symbols-grown : (made whole : List Made) (new : List Symbol) (x : Step) → whole ≡ (made ++ map Made.symbol new) ++ Made.step x ∷ []
+      → symbols_of whole ≡ symbols_of made ++ new
   symbols-grown made whole new x is = ap symbols_of is ∙ symbols_of-push (made ++ map Made.symbol new) x ∙ symbols_of-symbols made new
 
-  pub steps-grown : (made whole : List Made) (new : List Symbol) (x : Step) → whole ≡ (made ++ map Made.symbol new) ++ Made.step x ∷ [] → steps_of whole ≡ steps_of made ++ x ∷ []
+  pub steps-grown : (made whole : List Made) (new : List Symbol) (x : Step) → whole ≡ (made ++ map Made.symbol new) ++ Made.step x ∷ []
+      → steps_of whole ≡ steps_of made ++ x ∷ []
   steps-grown made whole new x is = ap steps_of is ∙ steps_of-push (made ++ map Made.symbol new) x ∙ ap (λ l. l ++ x ∷ []) (steps_of-symbols made new)
 
-  pub constant-on : {made whole : List Made} {ax ex : List ℕ} (nm : Name) (t : Term) (a : HolType) (r : Retold q version flag is_export made ax ex) → flag (next made) ≡ true
+  pub constant-on : {made whole : List Made} {ax ex : List ℕ} (nm : Name) (t : Term) (a : HolType) (r : Retold q version flag is_export made ax ex)
+      → flag (next made) ≡ true
       → Takes (symbols_of made) (defined (Definition.constant nm t)) → IsConstant q version flag is_export made nm t a
       → whole ≡ (made ++ Made.symbol (defined (Definition.constant nm t)) ∷ []) ++ Made.step (step_by by_rule.DefineConst [] (Parameters.constant nm t) (derived [] (equation a (Term.constant nm a) t))) ∷ [] → Retold q version flag is_export whole ax ex
   constant-on {made = made} {whole = whole} {ax = ax} {ex = ex} nm t a r on takes h is =
@@ -125,7 +129,8 @@ module _ (q : ℕ) (version : Version) (flag is_export : ℕ → Bool) where
       (rise-exported q version flag is_export n (next whole) (omega (arith, longer)) ex r.exports)
       (defs-told q version flag is_export r whole (m1 ++ Made.step x ∷ []) g.more (new ∷ []) x on g.inputs (own_symbols ∙ ap (λ l. l ++ new ∷ []) (symbols_of-symbols r.after g.more)) is)
 
-  pub constants-on : {made whole : List Made} {ax ex : List ℕ} (i : ℕ) (pairs : ConstantPairs) (r : Retold q version flag is_export made ax ex) → flag (next made) ≡ true
+  pub constants-on : {made whole : List Made} {ax ex : List ℕ} (i : ℕ) (pairs : ConstantPairs) (r : Retold q version flag is_export made ax ex)
+      → flag (next made) ≡ true
       → TakesAll q version flag is_export (symbols_of made) (map defined (definitions_in pairs (sequent_at made i).hypotheses)) → AreConstants q version flag is_export made i pairs
       → whole ≡ (made ++ map Made.symbol (map defined (definitions_in pairs (sequent_at made i).hypotheses)))
       ++ Made.step (step_by by_rule.DefineConstList (i ∷ []) (rule.constants pairs) (derived [] (sub [] (constants_put pairs) (sequent_at made i).conclusion))) ∷ [] → Retold q version flag is_export whole ax ex
@@ -179,7 +184,8 @@ module _ (q : ℕ) (version : Version) (flag is_export : ℕ → Bool) where
       (defs-told q version flag is_export r whole (m1 ++ Made.step y ∷ []) p.more new x on p.inputs (own_symbols ∙ ap (λ l. l ++ new) (symbols_of-symbols r.after p.more)) is)
 
   -- A type operator: two steps at once
-  pub type-on : {made whole : List Made} {ax ex : List ℕ} (i : ℕ) (names : TypeNames) (a : HolType) (f : Term) (r : Retold q version flag is_export made ax ex) → flag (next made) ≡ true → flag (suc (next made)) ≡ true
+  pub type-on : {made whole : List Made} {ax ex : List ℕ} (i : ℕ) (names : TypeNames) (a : HolType) (f : Term) (r : Retold q version flag is_export made ax ex)
+      → flag (next made) ≡ true → flag (suc (next made)) ≡ true
       → Takes (symbols_of made) (defined (Definition.type_operator names a f)) → IsType q version flag is_export made i names a f version
       → whole ≡ ((made ++ Made.type_definition names a f i ∷ []) ++ Made.step (step_by by_rule.FirstLaw (i ∷ []) (rule.type_operator names version) (first_law_of version names a)) ∷ [])
       ++ Made.step (step_by by_rule.SecondLaw (i ∷ []) (rule.type_operator names version) (second_law_of version names a f)) ∷ [] → Retold q version flag is_export whole ax ex

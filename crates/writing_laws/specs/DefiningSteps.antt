@@ -48,7 +48,8 @@ truth b h = h
 
 module _ (c : Scene) (d : Dictionary) (m : List Made) (stack : List Object) where
   -- A constant
-  pub define_const-word : (n : Name) (t : Term) (a : HolType) → is_taken_constant (symbols_of m) n ≡ false → IsDefining a t → SequentWithin (derived [] (equation a (Term.constant n a) t))
+  pub define_const-word : (n : Name) (t : Term) (a : HolType) → is_taken_constant (symbols_of m) n ≡ false → IsDefining a t
+      → SequentWithin (derived [] (equation a (Term.constant n a) t))
       → define_const (body_state c d m (Object.term t ∷ Object.name n ∷ stack))
       ≡ Ok (with_theorem (body_state c d (m ++ Made.symbol (defined (Definition.constant n t)) ∷ []) (Object.constant n ∷ stack)) (step_by by_rule.DefineConst [] (Parameters.constant n t) (derived [] (equation a (Term.constant n a) t))))
   define_const-word n t a new h w =
@@ -142,7 +143,8 @@ module _ (c : Scene) (d : Dictionary) (m : List Made) (stack : List Object) wher
         representation = constant-type _ _ (app-function _ _ (app-argument _ _ body));
       }
 
-  type-limits : (version : Version) (names : TypeNames) (a : HolType) (f : Term) → SequentWithin (first_law_of version names a) → SequentWithin (second_law_of version names a f)
+  type-limits : (version : Version) (names : TypeNames) (a : HolType) (f : Term) → SequentWithin (first_law_of version names a)
+      → SequentWithin (second_law_of version names a f)
       → in_limits (type_measure (new_type names) ∷ type_measure (abstraction_type names a) ∷ type_measure (representation_type names a) ∷ sequent_measure (first_law_of version names a) ∷ sequent_measure (second_law_of version names a f) ∷ []) ≡ Ok tt
   type-limits version names a f one two =
       let types = types-within version names a one in
@@ -196,7 +198,8 @@ module _ (c : Scene) (d : Dictionary) (m : List Made) (stack : List Object) wher
   abbrev assumes : Sequent → Result State Kind
   assumes s = assume_or_meet (body_state c d m stack) s (first_same (body_state c d m stack) c.assumptions s)
 
-  axiom-assumes : (s : Sequent) → IsSequent s → axiom_word (body_state c d m (Object.term s.conclusion ∷ list_object Object.term s.hypotheses ∷ stack)) ≡ assumes s
+  axiom-assumes : (s : Sequent) → IsSequent s
+      → axiom_word (body_state c d m (Object.term s.conclusion ∷ list_object Object.term s.hypotheses ∷ stack)) ≡ assumes s
   axiom-assumes s h =
       (let e : axiom_word (body_state c d m (Object.term s.conclusion ∷ list_object Object.term s.hypotheses ∷ stack)) ≡ assumes (stated s.hypotheses s.conclusion) = rw (terms-read s.hypotheses, sequent-bool s h) refl in e)
       ∙ ap assumes (stated-itself s h)
@@ -216,7 +219,8 @@ module _ (c : Scene) (d : Dictionary) (m : List Made) (stack : List Object) wher
   abbrev exports : ℕ → Sequent → Result State Kind
   exports i s = follows (sequent_at m i) s >> export (body_state c d m stack) i s (first_same (body_state c d m stack) c.exports s)
 
-  pub thm-exported : (s : Sequent) (i : ℕ) → IsSequent s → IsTrue (within (sequent_at m i) s) → first_same (body_state c d m stack) c.exports s ≡ None → SequentWithin s
+  pub thm-exported : (s : Sequent) (i : ℕ) → IsSequent s → IsTrue (within (sequent_at m i) s) → first_same (body_state c d m stack) c.exports s ≡ None
+      → SequentWithin s
       → thm (body_state c d m (Object.term s.conclusion ∷ list_object Object.term s.hypotheses ∷ Object.theorem i ∷ stack))
       ≡ Ok (body_state (record c { exports = c.exports ++ length (steps_of m) ∷ [] }) d (m ++ Made.step (restatement i s) ∷ []) stack)
   thm-exported s i h says new w =

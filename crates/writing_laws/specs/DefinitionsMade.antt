@@ -20,5 +20,6 @@ module _ (made : List Made) (names : TypeNames) (c : HolType) (f : Term) (i : �
   pub law-grown : (x : Step) → steps_of ((made ++ Made.type_definition names c f i ∷ []) ++ Made.step x ∷ []) ≡ steps_of made ++ x ∷ []
   law-grown x = steps_of-push (made ++ Made.type_definition names c f i ∷ []) x ∙ ap (λ l. l ++ x ∷ []) steps_of-definition
 
-  pub law-symbols : (x : Step) → symbols_of ((made ++ Made.type_definition names c f i ∷ []) ++ Made.step x ∷ []) ≡ symbols_of made ++ defined (Definition.type_operator names c f) ∷ []
+  pub law-symbols : (x : Step)
+      → symbols_of ((made ++ Made.type_definition names c f i ∷ []) ++ Made.step x ∷ []) ≡ symbols_of made ++ defined (Definition.type_operator names c f) ∷ []
   law-symbols x = symbols_of-push (made ++ Made.type_definition names c f i ∷ []) x ∙ symbols_of-definition

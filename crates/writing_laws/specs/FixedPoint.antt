@@ -33,7 +33,8 @@ module _ (flag : ℕ → Bool) where
   count-on i on = ap (λ b. cond b (suc (count flag i)) (count flag i)) on
 
   -- What is written of a step
-  same-made : (kind : StepKind) (i : ℕ) → flag i ≡ true → (kind ≡ FirstLaw → flag (suc i) ≡ true) → Alike flag (keep_made kind i) (keep_made kind (count flag i))
+  same-made : (kind : StepKind) (i : ℕ) → flag i ≡ true → (kind ≡ FirstLaw → flag (suc i) ≡ true)
+      → Alike flag (keep_made kind i) (keep_made kind (count flag i))
   same-made DefineConst i on next d e s = same-said flag (item.Word word.Pop) (same-theorem flag i (count flag i) on refl d e s)
   same-made DefineConstList i on next d e s = same-said flag (item.Word word.Pop) (same-theorem flag i (count flag i) on refl d e s)
   same-made FirstLaw i on next d e s =
@@ -62,25 +63,29 @@ module _ (flag : ℕ → Bool) where
     pub with_first : y.step.kind ≡ SecondLaw → count flag (y.number - 1) ≡ count flag y.number - 1
 
   module _ (q : ℕ) where
-    same-inferred : (y : Numbered) → IsClosed y → Alike flag (write_inferred q y.number y.step) (write_inferred q (count flag y.number) (renumbered (count flag) y.step))
+    same-inferred : (y : Numbered) → IsClosed y
+        → Alike flag (write_inferred q y.number y.step) (write_inferred q (count flag y.number) (renumbered (count flag) y.step))
     same-inferred y h d e s =
         let x = y.step in
         same-made x.kind y.number h.on h.with_second (say_word (word_of x.kind) (write_each write_premise x.premises (write_given q x.parameters d)))
         (say_word (word_of x.kind) (write_each write_premise (map (count flag) x.premises) (write_given q x.parameters e)))
         (same-said flag (item.Word (word_of x.kind)) (same-premises flag x.premises h.premises (write_given q x.parameters d) (write_given q x.parameters e) (same-given flag q x.parameters d e s)))
 
-    same-assumption : (y : Numbered) → IsClosed y → Alike flag (write_by q Axiom false y.number y.step) (write_by q Axiom false (count flag y.number) (renumbered (count flag) y.step))
+    same-assumption : (y : Numbered) → IsClosed y
+        → Alike flag (write_by q Axiom false y.number y.step) (write_by q Axiom false (count flag y.number) (renumbered (count flag) y.step))
     same-assumption y h d e s =
         let x = y.step in
         same-theorem flag y.number (count flag y.number) h.on refl (say_word word.Axiom (write_given q x.parameters d)) (say_word word.Axiom (write_given q x.parameters e))
         (same-said flag (item.Word word.Axiom) (same-given flag q x.parameters d e s))
 
-    same-export : (y : Numbered) → IsClosed y → Alike flag (write_by q Restate true y.number y.step) (write_by q Restate true (count flag y.number) (renumbered (count flag) y.step))
+    same-export : (y : Numbered) → IsClosed y
+        → Alike flag (write_by q Restate true y.number y.step) (write_by q Restate true (count flag y.number) (renumbered (count flag) y.step))
     same-export y h d e s =
         let x = y.step in
         same-said flag (item.Word word.Thm) (same-given flag q x.parameters (write_each write_premise x.premises d) (write_each write_premise (map (count flag) x.premises) e) (same-premises flag x.premises h.premises d e s))
 
-    same-by : (kind : StepKind) (b : Bool) (y : Numbered) → IsClosed y → Alike flag (write_by q kind b y.number y.step) (write_by q kind b (count flag y.number) (renumbered (count flag) y.step))
+    same-by : (kind : StepKind) (b : Bool) (y : Numbered) → IsClosed y
+        → Alike flag (write_by q kind b y.number y.step) (write_by q kind b (count flag y.number) (renumbered (count flag) y.step))
     same-by Axiom b y h d e s = same-assumption y h d e s
     same-by Restate true y h d e s = same-export y h d e s
     same-by Restate false y h d e s = same-assumption y h d e s
@@ -101,11 +106,13 @@ module _ (flag : ℕ → Bool) where
     same-by Subst b y h d e s = same-inferred y h d e s
 
     -- an export is one
-    same-is_export : (exports : List ℕ) (i : ℕ) → flag i ≡ true → AllByRecursion (λ j. flag j ≡ true) exports → list_any (λ j. count flag i == j) (map (count flag) exports) ≡ list_any (λ j. i == j) exports
+    same-is_export : (exports : List ℕ) (i : ℕ) → flag i ≡ true → AllByRecursion (λ j. flag j ≡ true) exports
+        → list_any (λ j. count flag i == j) (map (count flag) exports) ≡ list_any (λ j. i == j) exports
     same-is_export [] i on h = refl
     same-is_export (j ∷ exports) i on h = ap₂ (λ b c. b || c) (count-test flag i j on h.0) (same-is_export exports i on h.1)
 
-    same-step : (exports : List ℕ) → AllByRecursion (λ j. flag j ≡ true) exports → (y : Numbered) → IsClosed y → Alike flag (write_step q exports y) (write_step q (map (count flag) exports) (new_numbered y))
+    same-step : (exports : List ℕ) → AllByRecursion (λ j. flag j ≡ true) exports → (y : Numbered) → IsClosed y
+        → Alike flag (write_step q exports y) (write_step q (map (count flag) exports) (new_numbered y))
     same-step exports told y h d e s =
         subst (λ b. Same flag (write_step q exports y d) (write_by q y.step.kind b (count flag y.number) (renumbered (count flag) y.step) e)) (sym (same-is_export exports y.number h.on told))
         (same-by y.step.kind (list_any (λ i. y.number == i) exports) y h d e s)
@@ -201,7 +208,8 @@ module _ (flag : ℕ → Bool) where
   one-other m k n e (inl h) = inl (ap other_need h ∙ e)
   one-other m k n e (inr h) = absurd h
 
-  other-together : (kind : StepKind) (i : ℕ) → flag i ≡ true → (kind ≡ SecondLaw → count flag (i - 1) ≡ count flag i - 1) → (n : Need) → IsIn (together i kind) n → IsIn (together (count flag i) kind) (other_need n)
+  other-together : (kind : StepKind) (i : ℕ) → flag i ≡ true → (kind ≡ SecondLaw → count flag (i - 1) ≡ count flag i - 1) → (n : Need)
+      → IsIn (together i kind) n → IsIn (together (count flag i) kind) (other_need n)
   other-together FirstLaw i on h n k = one-other (Need.step (i + 1)) (Need.step (count flag i + 1)) n (ap Need.step ((let e : i + 1 ≡ suc i = omega arith in ap (count flag) e) ∙ count-on i on ∙ (let e : suc (count flag i) ≡ count flag i + 1 = omega arith in e))) k
   other-together SecondLaw i on h n k = one-other (Need.step (i - 1)) (Need.step (count flag i - 1)) n (ap Need.step (h refl)) k
   other-together Refl i on h n k = absurd k
@@ -232,7 +240,8 @@ module _ (flag : ℕ → Bool) where
   any-is p [] e = absurd (cc)
   any-is p (x ∷ xs) e = go (p x) refl e (any-is p xs)
     where
-      go : (b : Bool) → p x ≡ b → (b || list_any p xs) ≡ true → (list_any p xs ≡ true → (y : _) × IsIn xs y × (p y ≡ true)) → (y : _) × IsIn (x ∷ xs) y × (p y ≡ true)
+      go : (b : Bool) → p x ≡ b → (b || list_any p xs) ≡ true → (list_any p xs ≡ true → (y : _) × IsIn xs y × (p y ≡ true))
+          → (y : _) × IsIn (x ∷ xs) y × (p y ≡ true)
       go true is e f = (x, inl refl, is)
       go false is e f = let r = f e in (r.0, inr r.1, r.2)
 
@@ -268,7 +277,8 @@ module _ (flag : ℕ → Bool) where
   covers-append ns ms ks ls f g n h = elim (IsIn-either ns ks n h) [ inl i ↦ IsIn-left ms ls (other_need n) (f n i) | inr i ↦ IsIn-right ms ls (other_need n) (g n i) ]
 
   -- all that was told is reached again
-  pub again : (roots others : List Need) → Covers roots others → (i : ℕ) (xs : List Step) → ((k : ℕ) → k < length xs → flag (i + k) ≡ is_flagged roots i xs (i + k)) → AllByRecursion IsClosed (selected flag i xs) → Again roots others i xs
+  pub again : (roots others : List Need) → Covers roots others → (i : ℕ) (xs : List Step)
+      → ((k : ℕ) → k < length xs → flag (i + k) ≡ is_flagged roots i xs (i + k)) → AllByRecursion IsClosed (selected flag i xs) → Again roots others i xs
   again roots others c i [] same h = record { covers = c; steps = refl }
   again roots others c i (x ∷ xs) same h = go (flag i) refl h (λ k. again roots others c (suc i) xs later k)
     where

@@ -77,7 +77,8 @@ module _ (flag : ℕ → Bool) where
           }
 
   -- so a flagged step says in the article what it says in the run
-  pub says-same : (after : List Made) (xs : List Step) (p : ℕ) (x : Step) → steps_of after ≡ renumbered_steps flag xs → slice_get xs p ≡ Some x → flag p ≡ true → sequent_at after (count flag p) ≡ x.sequent
+  pub says-same : (after : List Made) (xs : List Step) (p : ℕ) (x : Step) → steps_of after ≡ renumbered_steps flag xs → slice_get xs p ≡ Some x → flag p ≡ true
+      → sequent_at after (count flag p) ≡ x.sequent
   says-same after xs p x steps e f =
       let zero_p : 0 + p ≡ p = omega arith in
       let r = place 0 xs p x e (subst (λ k. flag k ≡ true) (sym zero_p) f) in

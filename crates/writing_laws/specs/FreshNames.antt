@@ -74,7 +74,8 @@ fewer p (n ∷ names) e = go (is_binder_name p n) e (fewer p names) (at_most nam
         step true h = omega (arith, h)
         step false h = omega (arith, h)
 
-    go : (b : Bool) → (b || list_any (is_binder_name p) names) ≡ true → (list_any (is_binder_name p) names ≡ true → length (others p names) < length names) → length (others p names) ≤ length names
+    go : (b : Bool) → (b || list_any (is_binder_name p) names) ≡ true → (list_any (is_binder_name p) names ≡ true → length (others p names) < length names)
+        → length (others p names) ≤ length names
         → length (cond (not b) (n ∷ others p names) (others p names)) < suc (length names)
     go true e h l = omega (arith, l)
     go false e h l = omega (arith, h e)
@@ -106,7 +107,8 @@ is-free zero q [] long small = refl
 is-free zero q (n ∷ names) long small = absurd (omega (arith, long))
 is-free (suc more) q names long small = go (list_any (is_binder_name q) names) refl (λ l. is-free more (suc q) (others q names) l (omega (arith, small)))
   where
-    go : (b : Bool) → list_any (is_binder_name q) names ≡ b → (length (others q names) ≤ more → list_any (is_binder_name (first_free more (suc q) (others q names))) (others q names) ≡ false)
+    go : (b : Bool) → list_any (is_binder_name q) names ≡ b
+        → (length (others q names) ≤ more → list_any (is_binder_name (first_free more (suc q) (others q names))) (others q names) ≡ false)
         → list_any (is_binder_name (cond b (first_free more (suc q) names) q)) names ≡ false
     go false e again = e
     go true e again =
@@ -155,7 +157,8 @@ pairs-fresh q (p ∷ ps) h =
 sequent-fresh : (q : ℕ) (s : Sequent) → AllByRecursion (IsApart q) (flat_map free_places (terms_of s)) → HasNoBinderNames q s
 sequent-fresh q s h = let k = go s.hypotheses h in record { hypotheses = k.0; conclusion = k.1 }
   where
-    go : (hs : List Term) → AllByRecursion (IsApart q) (flat_map free_places (hs ++ s.conclusion ∷ [])) → AllByRecursion (HasNoBinderName q) hs × HasNoBinderName q s.conclusion
+    go : (hs : List Term) → AllByRecursion (IsApart q) (flat_map free_places (hs ++ s.conclusion ∷ []))
+        → AllByRecursion (HasNoBinderName q) hs × HasNoBinderName q s.conclusion
     go [] h = (tt, term-fresh q s.conclusion (All-left (IsApart q) (free_places s.conclusion) [] h))
     go (t ∷ hs) h =
         let rest = go hs (All-right (IsApart q) (free_places t) (flat_map free_places (hs ++ s.conclusion ∷ [])) h) in

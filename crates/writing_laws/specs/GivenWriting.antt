@@ -129,7 +129,8 @@ names-read ns = each-listing as_name Object.name (λ n. refl) ns
 pub constants-read : (pairs : ConstantPairs) → as_constant_pairs (list_object constant_pair pairs) ≡ Ok pairs
 constants-read pairs = each-listing (pair_of as_name as_variable) constant_pair (λ p. refl) pairs
 
-pub substitution-read : (types : TypePairs) (terms : TermPairs) → as_substitution (pair_object (list_object type_pair types) (list_object term_pair terms)) ≡ Ok (types, terms)
+pub substitution-read : (types : TypePairs) (terms : TermPairs)
+    → as_substitution (pair_object (list_object type_pair types) (list_object term_pair terms)) ≡ Ok (types, terms)
 substitution-read types terms = rw (each-listing (pair_of as_name as_type) type_pair (λ p. refl) types, each-listing (pair_of as_variable as_term) term_pair (λ p. refl) terms) refl
 
 -- Premises
@@ -138,11 +139,13 @@ pub record IsKept (kept : List Kept) (i : ℕ) : Type 0 where
   pub key : ℕ
   pub at : position_from (kept_eq (Kept.theorem i)) 0 kept ≡ Some key
 
-pub position-more : (x : Kept) (start : ℕ) (xs ys : List Kept) (k : ℕ) → position_from (kept_eq x) start xs ≡ Some k → position_from (kept_eq x) start (xs ++ ys) ≡ Some k
+pub position-more : (x : Kept) (start : ℕ) (xs ys : List Kept) (k : ℕ) → position_from (kept_eq x) start xs ≡ Some k
+    → position_from (kept_eq x) start (xs ++ ys) ≡ Some k
 position-more x start [] ys k e = absurd (cc)
 position-more x start (y ∷ xs) ys k e = go (kept_eq x y) e (position-more x (start + 1) xs ys k)
   where
-    go : (b : Bool) → cond b (Some start) (position_from (kept_eq x) (start + 1) xs) ≡ Some k → (position_from (kept_eq x) (start + 1) xs ≡ Some k → position_from (kept_eq x) (start + 1) (xs ++ ys) ≡ Some k)
+    go : (b : Bool) → cond b (Some start) (position_from (kept_eq x) (start + 1) xs) ≡ Some k
+        → (position_from (kept_eq x) (start + 1) xs ≡ Some k → position_from (kept_eq x) (start + 1) (xs ++ ys) ≡ Some k)
         → cond b (Some start) (position_from (kept_eq x) (start + 1) (xs ++ ys)) ≡ Some k
     go true f g = f
     go false f g = g f
@@ -153,7 +156,8 @@ kept-more xs ys i h = record { key = h.key; at = position-more (Kept.theorem i) 
 abbrev pub theorems : Scene → List ℕ → List Object
 theorems c is = map (λ i. Object.theorem (c.number i)) is
 
-premise-writes : (c : Scene) (i : ℕ) (d : Draft) (made : List Made) (stack : List Object) → IsKept d.kept i → Ready c d made stack → Wrote c d.kept made (write_premise i d) (Object.theorem (c.number i) ∷ stack)
+premise-writes : (c : Scene) (i : ℕ) (d : Draft) (made : List Made) (stack : List Object) → IsKept d.kept i → Ready c d made stack
+    → Wrote c d.kept made (write_premise i d) (Object.theorem (c.number i) ∷ stack)
 premise-writes c i d made stack h r =
     subst (λ o. Wrote c d.kept made (refer (unwrap_or o 0) d) (Object.theorem (c.number i) ∷ stack)) (sym h.at) (wrote-referred h.key (Kept.theorem i) r (key-place (Kept.theorem i) d h.key h.at))
 

@@ -46,7 +46,8 @@ use Rattle.writing_laws.specs.Histories as histories
 use Rattle.writing_laws.specs.GoodStates.{IsGoodType, IsGoodVariable, IsGoodTerm, IsGoodObject, AreGoodObjects, IsGoodState, GivesGood, name-good, type-good, variable-good, term-good, any-good, list_of-good, pair_of-good, pop-good, answered-good, restacked-good}
 
 -- A step that infers
-infers-good : (s t : State) (rest : List Object) (x : Step) → IsGoodState s → AllByRecursion IsGoodObject rest → is_inference x.kind ≡ true → IsGood x.parameters → conclude (with_stack s rest) x ≡ Ok t → IsGoodState t
+infers-good : (s t : State) (rest : List Object) (x : Step) → IsGoodState s → AllByRecursion IsGoodObject rest → is_inference x.kind ≡ true
+    → IsGood x.parameters → conclude (with_stack s rest) x ≡ Ok t → IsGoodState t
 infers-good s t rest x g left kind good e =
     let l = passed (sequent_in_limits x.sequent) _ t e in
     answered-good (with_theorem (with_stack s rest) x) t l.2 (record { history = histories.History.inferred x g.history kind good refl; pool = g.pool; stack = (tt {0}, left); dictionary = g.dictionary })
@@ -266,7 +267,8 @@ find-in p (j ∷ is) i e = go (p j) e (find-in p is i)
     go true f later = let same : j ≡ i = cc in inl (sym same)
     go false f later = inr (later f)
 
-meets : (s t : State) (z : Sequent) → IsGoodState s → IsGood (Parameters.sequent z) → assume_or_meet s z (option_or (first_same s s.pool z) (first_same s s.assumptions z)) ≡ Ok t → IsGoodState t
+meets : (s t : State) (z : Sequent) → IsGoodState s → IsGood (Parameters.sequent z)
+    → assume_or_meet s z (option_or (first_same s s.pool z) (first_same s s.assumptions z)) ≡ Ok t → IsGoodState t
 meets s t z g good e = pooled (first_same s s.pool z) refl e
   where
     assumed : (o : Option ℕ) → first_same s s.assumptions z ≡ o → assume_or_meet s z o ≡ Ok t → IsGoodState t
@@ -295,7 +297,8 @@ axiom-good s t g e =
     let k = pop-good as_terms (AllByRecursion IsGoodTerm) terms-good p.0.1 hs.0 h.1 hs.1 in
     meets (with_stack s hs.0.1) t (stated hs.0.0 p.0.0) (restacked-good s hs.0.1 g k.1) (stated-good hs.0.0 p.0.0 k.0 h.0) bools.2
 
-exports-good : (s t : State) (i : ℕ) (z : Sequent) → IsGoodState s → IsGood (Parameters.sequent z) → (o : Option ℕ) → first_same s s.exports z ≡ o → export s i z o ≡ Ok t → IsGoodState t
+exports-good : (s t : State) (i : ℕ) (z : Sequent) → IsGoodState s → IsGood (Parameters.sequent z) → (o : Option ℕ) → first_same s s.exports z ≡ o
+    → export s i z o ≡ Ok t → IsGoodState t
 exports-good s t i z g good (Some j) f e = answered-good s t e g
 exports-good s t i z g good None f e =
     let l = passed (sequent_in_limits z) _ t e in

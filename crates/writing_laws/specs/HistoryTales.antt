@@ -102,7 +102,8 @@ record Listed (pairs : ConstantPairs) (one : Sequent) : Type 0 where
   defining : AllByRecursion (λ e. IsDefining e.0.1 e.1) (defining_equations pairs one.hypotheses)
   is_list : IsTrue (is_definition_list pairs one)
 
-list-rule : (ss : List Sequent) (pairs : ConstantPairs) (s one : Sequent) → Rule by_rule.DefineConstList ss (rule.constants pairs) s → one ∷ [] ≡ ss → Listed pairs one
+list-rule : (ss : List Sequent) (pairs : ConstantPairs) (s one : Sequent) → Rule by_rule.DefineConstList ss (rule.constants pairs) s → one ∷ [] ≡ ss
+    → Listed pairs one
 list-rule ss pairs s one (Rule.define_const_list {one = two} h l is) e =
     let same : one ≡ two = cc in
     record { defining = subst (λ z. AllByRecursion (λ e. IsDefining e.0.1 e.1) (defining_equations pairs z.hypotheses)) (sym same) h; is_list = subst (λ z. IsTrue (is_definition_list pairs z)) (sym same) l }
@@ -132,7 +133,8 @@ turned-mentions names c v =
     let eq = Term.constant equality_name (equality_type c) in
     app-left (Term.app eq (represented names c made)) v n (app-right eq (represented names c made) n (app-left (Term.constant names.representation (representation_type names c)) made n (inl refl)))
 
-law-mentions : (version : Version) (names : TypeNames) (c : HolType) (f : Term) → IsIn (term_mentions (second_law_of version names c f).conclusion) (Need.constant names.representation)
+law-mentions : (version : Version) (names : TypeNames) (c : HolType) (f : Term)
+    → IsIn (term_mentions (second_law_of version names c f).conclusion) (Need.constant names.representation)
 unfolding turned
 law-mentions Five names c f =
     let v = old_variable c in
@@ -214,7 +216,8 @@ module _ (version : Version) (run : Accepted) (proof : IsProof run.made) (over :
       ap flag (sym zero_p)
       ∙ need-flagged (map Need.step run.exports) 0 steps p n y.0 x (Need.step p) y.1 at low (ap flag zero_n ∙ on) (IsIn-left (map Need.step x.premises) _ (Need.step p) (in-premises x.premises p i)) (inl (ap Need.step (sym zero_p)))
 
-  told : (made : List Made) (x : Step) → slice_get steps (next made) ≡ Some x → flag (next made) ≡ true → AllByRecursion (λ i. i < next made) x.premises → AllByRecursion (IsTold (binder_number (reached_steps run)) version flag (is_export run) made) x.premises
+  told : (made : List Made) (x : Step) → slice_get steps (next made) ≡ Some x → flag (next made) ≡ true → AllByRecursion (λ i. i < next made) x.premises
+      → AllByRecursion (IsTold (binder_number (reached_steps run)) version flag (is_export run) made) x.premises
   told made x at on below =
       All-each (IsTold (binder_number (reached_steps run)) version flag (is_export run) made) x.premises
       (λ p i. record {
@@ -249,7 +252,8 @@ module _ (version : Version) (run : Accepted) (proof : IsProof run.made) (over :
       ap flag (sym zero_n) ∙ root-flagged (map Need.step run.exports) 0 steps n x at (subst (λ k. IsIn (map Need.step run.exports) (Need.step k)) (sym zero_n) (in-premises run.exports n i))
 
   -- symbols that were taken one after the other
-  takes-all : (made : List Made) (new : List Symbol) (rest : List Made) → run.made ≡ (made ++ map Made.symbol new) ++ rest → TakesAll (binder_number (reached_steps run)) version flag (is_export run) (symbols_of made) new
+  takes-all : (made : List Made) (new : List Symbol) (rest : List Made) → run.made ≡ (made ++ map Made.symbol new) ++ rest
+      → TakesAll (binder_number (reached_steps run)) version flag (is_export run) (symbols_of made) new
   takes-all made [] rest e = tt
   takes-all made (x ∷ new) rest e =
       let first : run.made ≡ made ++ Made.symbol x ∷ (map Made.symbol new ++ rest) = e ∙ append_assoc made (Made.symbol x ∷ map Made.symbol new) rest in
@@ -265,11 +269,13 @@ module _ (version : Version) (run : Accepted) (proof : IsProof run.made) (over :
   lower m n le em h = All-weaker (λ i. n ≤ i) (λ i. m ≤ i) (λ i k. omega (arith, le, k)) em h
 
   -- what is asked of what a told step is given
-  sayable : (made : List Made) (x : Step) → slice_get steps (next made) ≡ Some x → flag (next made) ≡ true → IsGood x.parameters → ParametersTaken (symbols_of made) x.parameters → IsSayable (binder_number (reached_steps run)) version flag (is_export run) made x.parameters
+  sayable : (made : List Made) (x : Step) → slice_get steps (next made) ≡ Some x → flag (next made) ≡ true → IsGood x.parameters
+      → ParametersTaken (symbols_of made) x.parameters → IsSayable (binder_number (reached_steps run)) version flag (is_export run) made x.parameters
   sayable made x at on good taken = record { built = good.built; fresh = fresh-at (next made) x at on; taken = taken }
 
   -- The tale
-  pub tale : {made : List Made} {ax ex : List ℕ} → History made ax ex → (rest : List Made) → run.made ≡ made ++ rest → (em : List ℕ) → run.exports ≡ ex ++ em → AllByRecursion (λ i. next made ≤ i) em
+  pub tale : {made : List Made} {ax ex : List ℕ} → History made ax ex → (rest : List Made) → run.made ≡ made ++ rest → (em : List ℕ) → run.exports ≡ ex ++ em
+      → AllByRecursion (λ i. next made ≤ i) em
       → Tale (binder_number (reached_steps run)) version flag (is_export run) made ax ex
   tale histories.History.empty rest e em ee above = Tale.empty
   tale (histories.History.input {made = made} {whole = whole} x h input is) rest e em ee above =

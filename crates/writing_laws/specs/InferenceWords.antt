@@ -65,7 +65,8 @@ module _ (c : Scene) (d : Dictionary) (m : List Made) (stack : List Object) wher
   abbrev Concludes : StepKind → Parameters → List ℕ → Sequent → Type 0
   Concludes kind g is s = SequentWithin s → obey (body_state c d m (pushed (map Object.theorem is) (given_stack g stack))) (word_of kind) ≡ Ok (with_theorem (body_state c d m stack) (step_by kind is g s))
 
-  pub inference-word : (kind : StepKind) (ss : List Sequent) (g : Parameters) (s : Sequent) → is_inference kind ≡ true → Rule kind ss g s → (is : List ℕ) → ss ≡ map (sequent_at m) is → Concludes kind g is s
+  pub inference-word : (kind : StepKind) (ss : List Sequent) (g : Parameters) (s : Sequent) → is_inference kind ≡ true → Rule kind ss g s → (is : List ℕ)
+      → ss ≡ map (sequent_at m) is → Concludes kind g is s
   inference-word kind ss g s k (Rule.refl {t = t} {a = a} h e) is p =
       subst (λ l. Concludes Refl (Parameters.term t) l s) (sym (none-of (sequent_at m) is p)) (subst (Concludes Refl (Parameters.term t) []) (sym e) (refl-word c d m stack t a h))
   inference-word kind ss g s k (Rule.assume {p = t} h e) is p =

@@ -46,12 +46,14 @@ kept-conses zero d = refl
 kept-conses (suc k) d = kept-conses k (say_word word.Cons d)
 
 -- Keys after that
-pub no-key : (x : Kept) (start : ℕ) (xs ys : List Kept) → position_from (kept_eq x) start xs ≡ None → AllByRecursion (λ y. kept_eq x y ≡ false) ys → position_from (kept_eq x) start (xs ++ ys) ≡ None
+pub no-key : (x : Kept) (start : ℕ) (xs ys : List Kept) → position_from (kept_eq x) start xs ≡ None → AllByRecursion (λ y. kept_eq x y ≡ false) ys
+    → position_from (kept_eq x) start (xs ++ ys) ≡ None
 no-key x start [] [] e h = refl
 no-key x start [] (y ∷ ys) e h = ap (λ b. cond b (Some start) (position_from (kept_eq x) (start + 1) ys)) h.0 ∙ no-key x (start + 1) [] ys refl h.1
 no-key x start (z ∷ xs) ys e h = go (kept_eq x z) e (no-key x (start + 1) xs ys)
   where
-    go : (b : Bool) → cond b (Some start) (position_from (kept_eq x) (start + 1) xs) ≡ None → (position_from (kept_eq x) (start + 1) xs ≡ None → AllByRecursion (λ y. kept_eq x y ≡ false) ys → position_from (kept_eq x) (start + 1) (xs ++ ys) ≡ None)
+    go : (b : Bool) → cond b (Some start) (position_from (kept_eq x) (start + 1) xs) ≡ None
+        → (position_from (kept_eq x) (start + 1) xs ≡ None → AllByRecursion (λ y. kept_eq x y ≡ false) ys → position_from (kept_eq x) (start + 1) (xs ++ ys) ≡ None)
         → cond b (Some start) (position_from (kept_eq x) (start + 1) (xs ++ ys)) ≡ None
     go true f g = absurd (cc)
     go false f g = g f h
@@ -59,11 +61,13 @@ no-key x start (z ∷ xs) ys e h = go (kept_eq x z) e (no-key x (start + 1) xs y
 pub still-no-key : (P : Kept → Type 0) (x : Kept) (d e : Draft) → key_of x d ≡ None → Adds P d e → ((y : Kept) → P y → kept_eq x y ≡ false) → key_of x e ≡ None
 still-no-key P x d e none a f = ap (position_from (kept_eq x) 0) a.is ∙ no-key x 0 d.kept a.new none (All-weaker P (λ y. kept_eq x y ≡ false) f a.new a.all)
 
-pub new-place : (x : Kept) (start : ℕ) (xs : List Kept) → kept_eq x x ≡ true → position_from (kept_eq x) start xs ≡ None → position_from (kept_eq x) start (xs ++ x ∷ []) ≡ Some (start + length xs)
+pub new-place : (x : Kept) (start : ℕ) (xs : List Kept) → kept_eq x x ≡ true → position_from (kept_eq x) start xs ≡ None
+    → position_from (kept_eq x) start (xs ++ x ∷ []) ≡ Some (start + length xs)
 new-place x start [] own e = ap (λ b. cond b (Some start) None) own ∙ (let z : start ≡ start + 0 = omega arith in ap Some z)
 new-place x start (y ∷ xs) own e = go (kept_eq x y) e (new-place x (start + 1) xs own)
   where
-    go : (b : Bool) → cond b (Some start) (position_from (kept_eq x) (start + 1) xs) ≡ None → (position_from (kept_eq x) (start + 1) xs ≡ None → position_from (kept_eq x) (start + 1) (xs ++ x ∷ []) ≡ Some (start + 1 + length xs))
+    go : (b : Bool) → cond b (Some start) (position_from (kept_eq x) (start + 1) xs) ≡ None
+        → (position_from (kept_eq x) (start + 1) xs ≡ None → position_from (kept_eq x) (start + 1) (xs ++ x ∷ []) ≡ Some (start + 1 + length xs))
         → cond b (Some start) (position_from (kept_eq x) (start + 1) (xs ++ x ∷ [])) ≡ Some (start + suc (length xs))
     go true f g = absurd (cc)
     go false f g = g f ∙ (let z : start + 1 + length xs ≡ start + suc (length xs) = omega arith in ap Some z)
@@ -84,7 +88,8 @@ up m n le (Kept.term t) h = absurd h
 up m n le (Kept.theorem i) h = absurd h
 
 -- what is built for an operator keeps its arguments' parts alone
-built-from : (n : Name) (ts : HolTypes) (d : Draft) → Adds (IsTypeUpTo (types_size ts)) (say_word word.TypeOp (say_name n d)) (write_types ts (say_word word.TypeOp (say_name n d)))
+built-from : (n : Name) (ts : HolTypes) (d : Draft)
+    → Adds (IsTypeUpTo (types_size ts)) (say_word word.TypeOp (say_name n d)) (write_types ts (say_word word.TypeOp (say_name n d)))
     → Adds (IsTypeUpTo (types_size ts)) d (say_word word.OpType (conses (count ts) (say_word word.Nil (write_types ts (say_word word.TypeOp (say_name n d))))))
 built-from n ts d a = record { new = a.new; is = kept-conses (count ts) (say_word word.Nil (write_types ts (say_word word.TypeOp (say_name n d)))) ∙ a.is; all = a.all }
 
@@ -148,11 +153,13 @@ adds-shared {P = P} d t build p a = go (loose t == 0)
     go false = a
 
 -- what is built for an application, and for an abstraction
-app-from : (q : ℕ) (f x : Term) (vs : List Variable) (d : Draft) → Adds (IsTermUpTo (term_size f)) d (write_under q vs f d) → Adds (IsTermUpTo (term_size x)) (write_under q vs f d) (write_under q vs x (write_under q vs f d))
+app-from : (q : ℕ) (f x : Term) (vs : List Variable) (d : Draft) → Adds (IsTermUpTo (term_size f)) d (write_under q vs f d)
+    → Adds (IsTermUpTo (term_size x)) (write_under q vs f d) (write_under q vs x (write_under q vs f d))
     → Adds (IsTermUpTo (term_size f + term_size x)) d (say_word word.AppTerm (write_under q vs x (write_under q vs f d)))
 app-from q f x vs d a b = said-behind _ (adds-then (adds-weaker (term-up (term_size f) (term_size f + term_size x) (omega arith)) a) (adds-weaker (term-up (term_size x) (term_size f + term_size x) (omega arith)) b))
 
-lam-from : (q : ℕ) (a : HolType) (b : Term) (vs : List Variable) (d : Draft) → Adds (IsTermUpTo (term_size b)) (write_variable (next_binder q vs a) d) (write_under q (next_binder q vs a ∷ vs) b (write_variable (next_binder q vs a) d))
+lam-from : (q : ℕ) (a : HolType) (b : Term) (vs : List Variable) (d : Draft)
+    → Adds (IsTermUpTo (term_size b)) (write_variable (next_binder q vs a) d) (write_under q (next_binder q vs a ∷ vs) b (write_variable (next_binder q vs a) d))
     → Adds (IsTermUpTo (term_size b)) d (say_word word.AbsTerm (write_under q (next_binder q vs a ∷ vs) b (write_variable (next_binder q vs a) d)))
 lam-from q a b vs d h = said-behind _ (adds-then (variable-adds (term_size b) (next_binder q vs a) d) h)
 
@@ -181,7 +188,8 @@ smaller-term t m less (Kept.term u) h = go (term_eq t u) (term_eq-Decides t u).0
 smaller-term t m less (Kept.theorem i) h = absurd h
 
 -- so neither has a key when it is built
-pub app-built : (q : ℕ) (f x : Term) (vs : List Variable) (d : Draft) → key_of (Kept.term (Term.app f x)) d ≡ None → key_of (Kept.term (Term.app f x)) (say_word word.AppTerm (write_under q vs x (write_under q vs f d))) ≡ None
+pub app-built : (q : ℕ) (f x : Term) (vs : List Variable) (d : Draft) → key_of (Kept.term (Term.app f x)) d ≡ None
+    → key_of (Kept.term (Term.app f x)) (say_word word.AppTerm (write_under q vs x (write_under q vs f d))) ≡ None
 app-built q f x vs d none =
     still-no-key (IsTermUpTo (term_size f + term_size x)) (Kept.term (Term.app f x)) d (say_word word.AppTerm (write_under q vs x (write_under q vs f d))) none (app-from q f x vs d (term-adds q f vs d) (term-adds q x vs (write_under q vs f d)))
     (smaller-term (Term.app f x) (term_size f + term_size x) (omega arith))

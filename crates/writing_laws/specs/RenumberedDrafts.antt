@@ -64,15 +64,18 @@ module _ (flag : ℕ → Bool) where
   term-test t (Kept.term u ∷ kept) = (refl, term-test t kept)
   term-test t (Kept.theorem i ∷ kept) = (refl, term-test t kept)
 
-  same-once_at : {d e : Draft} (o p : Option ℕ) (x : Kept) (build : Draft → Draft) → p ≡ o → IsFlagged x → Same d e → Same (build d) (build e) → Same (once_at o x build d) (once_at p (other x) build e)
+  same-once_at : {d e : Draft} (o p : Option ℕ) (x : Kept) (build : Draft → Draft) → p ≡ o → IsFlagged x → Same d e → Same (build d) (build e)
+      → Same (once_at o x build d) (once_at p (other x) build e)
   same-once_at {d = d} {e = e} None p x build h f s b = subst (λ o. Same (once_at None x build d) (once_at o (other x) build e)) (sym h) (same-kept x f b)
   same-once_at {d = d} {e = e} (Some k) p x build h f s b = subst (λ o. Same (once_at (Some k) x build d) (once_at o (other x) build e)) (sym h) (same-referred k s)
 
-  same-type : {d e : Draft} (a : HolType) (build : Draft → Draft) → Same d e → Same (build d) (build e) → Same (once (Kept.type a) build d) (once (Kept.type a) build e)
+  same-type : {d e : Draft} (a : HolType) (build : Draft → Draft) → Same d e → Same (build d) (build e)
+      → Same (once (Kept.type a) build d) (once (Kept.type a) build e)
   same-type {d = d} {e = e} a build s b =
       same-once_at (key_of (Kept.type a) d) (key_of (Kept.type a) e) (Kept.type a) build (ap (position_from (kept_eq (Kept.type a)) 0) s.kept ∙ same-place (Kept.type a) (Kept.type a) 0 d.kept (type-test a d.kept)) tt s b
 
-  same-term : {d e : Draft} (t : Term) (build : Draft → Draft) → Same d e → Same (build d) (build e) → Same (once (Kept.term t) build d) (once (Kept.term t) build e)
+  same-term : {d e : Draft} (t : Term) (build : Draft → Draft) → Same d e → Same (build d) (build e)
+      → Same (once (Kept.term t) build d) (once (Kept.term t) build e)
   same-term {d = d} {e = e} t build s b =
       same-once_at (key_of (Kept.term t) d) (key_of (Kept.term t) e) (Kept.term t) build (ap (position_from (kept_eq (Kept.term t)) 0) s.kept ∙ same-place (Kept.term t) (Kept.term t) 0 d.kept (term-test t d.kept)) tt s b
 
@@ -84,11 +87,13 @@ module _ (flag : ℕ → Bool) where
   same-conses zero d e s = s
   same-conses (suc k) d e s = same-conses k (say_word word.Cons d) (say_word word.Cons e) (same-said (item.Word word.Cons) s)
 
-  same-each : {A : Type 0} (write : A → Draft → Draft) → ((x : A) → Alike (write x) (write x)) → (xs : List A) → Alike (write_each write xs) (write_each write xs)
+  same-each : {A : Type 0} (write : A → Draft → Draft) → ((x : A) → Alike (write x) (write x)) → (xs : List A)
+      → Alike (write_each write xs) (write_each write xs)
   same-each write f [] d e s = s
   same-each write f (x ∷ xs) d e s = same-each write f xs (write x d) (write x e) (f x d e s)
 
-  same-list : {A : Type 0} (write : A → Draft → Draft) → ((x : A) → Alike (write x) (write x)) → (xs : List A) → Alike (write_list write xs) (write_list write xs)
+  same-list : {A : Type 0} (write : A → Draft → Draft) → ((x : A) → Alike (write x) (write x)) → (xs : List A)
+      → Alike (write_list write xs) (write_list write xs)
   same-list write f xs d e s = same-conses (length xs) (say_word word.Nil (write_each write xs d)) (say_word word.Nil (write_each write xs e)) (same-said (item.Word word.Nil) (same-each write f xs d e s))
 
   same-pair : (one two : Draft → Draft) → Alike one one → Alike two two → Alike (write_pair one two) (write_pair one two)
@@ -157,10 +162,12 @@ module _ (flag : ℕ → Bool) where
   count-mono i zero low on = absurd (omega (arith, low))
   count-mono i (suc j) low on = go (flag j) refl (i == j) refl (count-mono i j)
     where
-      step : (b : Bool) → flag j ≡ b → flags.count flag j ≡ flags.count flag j → flags.count flag (suc j) ≡ cond b (suc (flags.count flag j)) (flags.count flag j)
+      step : (b : Bool) → flag j ≡ b → flags.count flag j ≡ flags.count flag j
+          → flags.count flag (suc j) ≡ cond b (suc (flags.count flag j)) (flags.count flag j)
       step b e z = ap (λ c. cond c (suc (flags.count flag j)) (flags.count flag j)) e
 
-      go : (b : Bool) → flag j ≡ b → (c : Bool) → (i == j) ≡ c → (i < j → flag i ≡ true → flags.count flag i < flags.count flag j) → flags.count flag i < flags.count flag (suc j)
+      go : (b : Bool) → flag j ≡ b → (c : Bool) → (i == j) ≡ c → (i < j → flag i ≡ true → flags.count flag i < flags.count flag j)
+          → flags.count flag i < flags.count flag (suc j)
       go true e true f h = let same : i ≡ j = grind (arith, nat_tests, f) in omega (arith, step true e refl, ap (flags.count flag) same)
       go true e false f h = let less : i < j = grind (arith, nat_tests, f, low) in omega (arith, step true e refl, h less on)
       go false e true f h = absurd (let same : i ≡ j = grind (arith, nat_tests, f) in let z = sym on ∙ ap flag same ∙ e in cc)
@@ -186,7 +193,8 @@ module _ (flag : ℕ → Bool) where
       ap (position_from (kept_eq (Kept.theorem (flags.count flag i))) 0) s.kept ∙ same-place (Kept.theorem i) (Kept.theorem (flags.count flag i)) 0 d.kept (theorem-test i on d.kept s.flagged) in
       subst (λ o. Same (write_premise i d) (refer (unwrap_or o 0) e)) (sym key) (same-referred (unwrap_or (key_of (Kept.theorem i) d) 0) s)
 
-  pub same-premises : (is : List ℕ) → AllByRecursion (λ i. flag i ≡ true) is → Alike (write_each write_premise is) (write_each write_premise (map (flags.count flag) is))
+  pub same-premises : (is : List ℕ) → AllByRecursion (λ i. flag i ≡ true) is
+      → Alike (write_each write_premise is) (write_each write_premise (map (flags.count flag) is))
   same-premises [] h d e s = s
   same-premises (i ∷ is) h d e s = same-premises is h.1 (write_premise i d) (write_premise (flags.count flag i) e) (same-premise i h.0 d e s)
 

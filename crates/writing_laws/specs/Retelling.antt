@@ -25,7 +25,8 @@ use Rattle.writing_laws.specs.GivenWriting.{IsKept, kept-more}
 use Rattle.writing_laws.specs.Flags.{count, selected, renumbered, renumbered_steps, selected-push, count-steps}
 use Rattle.writing_laws.specs.Tales.{next}
 
-write_each-append : {A : Type 0} (write : A → Draft → Draft) (xs ys : List A) (d : Draft) → write_each write (xs ++ ys) d ≡ write_each write ys (write_each write xs d)
+write_each-append : {A : Type 0} (write : A → Draft → Draft) (xs ys : List A) (d : Draft)
+    → write_each write (xs ++ ys) d ≡ write_each write ys (write_each write xs d)
 write_each-append write [] ys d = refl
 write_each-append write (x ∷ xs) ys d = write_each-append write xs ys (write x d)
 
@@ -60,7 +61,8 @@ inputs-define (Symbol.input_operator n k ∷ xs) h = inputs-define xs h.1
 inputs-define (Symbol.defined d ∷ xs) h = absurd h.0
 
 module _ (flag : ℕ → Bool) where
-  told-append : (n : ℕ) (xs ys : List Made) → told_definitions flag n (xs ++ ys) ≡ told_definitions flag n xs ++ told_definitions flag (n + length (steps_of xs)) ys
+  told-append : (n : ℕ) (xs ys : List Made)
+      → told_definitions flag n (xs ++ ys) ≡ told_definitions flag n xs ++ told_definitions flag (n + length (steps_of xs)) ys
   told-append n [] ys = ap (λ k. told_definitions flag k ys) (let e : n ≡ n + 0 = omega arith in e)
   told-append n (Made.symbol x ∷ xs) ys =
       ap (λ l. cond (flag n) (defined_by x) [] ++ l) (told-append n xs ys) ∙ sym (append_assoc (cond (flag n) (defined_by x) []) (told_definitions flag n xs) (told_definitions flag (n + length (steps_of xs)) ys))
@@ -69,14 +71,16 @@ module _ (flag : ℕ → Bool) where
       ∙ sym (append_assoc (cond (flag n) (Definition.type_operator names c f ∷ []) []) (told_definitions flag n xs) (told_definitions flag (n + length (steps_of xs)) ys))
   told-append n (Made.step x ∷ xs) ys = told-append (suc n) xs ys ∙ ap (λ k. told_definitions flag (suc n) xs ++ told_definitions flag k ys) (let e : suc n + length (steps_of xs) ≡ n + suc (length (steps_of xs)) = omega arith in e)
 
-  told-symbols : (b : Bool) (n : ℕ) (new : List Symbol) (rest : List Made) → flag n ≡ b → told_definitions flag n rest ≡ [] → told_definitions flag n (map Made.symbol new ++ rest) ≡ cond b (flat_map defined_by new) []
+  told-symbols : (b : Bool) (n : ℕ) (new : List Symbol) (rest : List Made) → flag n ≡ b → told_definitions flag n rest ≡ []
+      → told_definitions flag n (map Made.symbol new ++ rest) ≡ cond b (flat_map defined_by new) []
   told-symbols true n [] rest e f = f
   told-symbols false n [] rest e f = f
   told-symbols true n (x ∷ new) rest e f = ap₂ (λ c l. cond c (defined_by x) [] ++ l) e (told-symbols true n new rest e f)
   told-symbols false n (x ∷ new) rest e f = ap₂ (λ c l. cond c (defined_by x) [] ++ l) e (told-symbols false n new rest e f)
 
   -- what a command made
-  pub told-grown : (b : Bool) (made whole : List Made) (new : List Symbol) (x : Step) → flag (next made) ≡ b → whole ≡ (made ++ map Made.symbol new) ++ Made.step x ∷ []
+  pub told-grown : (b : Bool) (made whole : List Made) (new : List Symbol) (x : Step) → flag (next made) ≡ b
+      → whole ≡ (made ++ map Made.symbol new) ++ Made.step x ∷ []
       → told_definitions flag 0 whole ≡ told_definitions flag 0 made ++ cond b (flat_map defined_by new) []
   told-grown b made whole new x e is =
       ap (told_definitions flag 0) (is ∙ append_assoc made (map Made.symbol new) (Made.step x ∷ []))
@@ -93,7 +97,8 @@ module _ (flag : ℕ → Bool) where
       ∙ ap (λ l. told_definitions flag 0 made ++ l) (nil-append (cond (flag (0 + next made)) (Definition.type_operator names c f ∷ []) [])
       ∙ ap (λ a. cond a (Definition.type_operator names c f ∷ []) []) (ap flag (let z : 0 + next made ≡ next made = omega arith in z) ∙ e))
 
-  pub told-input : (made whole : List Made) (x : Symbol) → IsInput x → whole ≡ made ++ Made.symbol x ∷ [] → told_definitions flag 0 whole ≡ told_definitions flag 0 made
+  pub told-input : (made whole : List Made) (x : Symbol) → IsInput x → whole ≡ made ++ Made.symbol x ∷ []
+      → told_definitions flag 0 whole ≡ told_definitions flag 0 made
   told-input made whole x input is =
       ap (told_definitions flag 0) is ∙ told-append 0 made (Made.symbol x ∷ []) ∙ ap (λ l. told_definitions flag 0 made ++ l) (nothing x input (flag (0 + next made))) ∙ nil-append (told_definitions flag 0 made)
     where
@@ -105,7 +110,8 @@ module _ (flag : ℕ → Bool) where
       nothing (Symbol.defined d) h b = absurd h
 
   -- the article defines what the run did
-  pub defined-after : (before after : List Made) (more new : List Symbol) → AllByRecursion IsInput more → symbols_of after ≡ (symbols_of before ++ more) ++ new → definitions_of after ≡ definitions_of before ++ flat_map defined_by new
+  pub defined-after : (before after : List Made) (more new : List Symbol) → AllByRecursion IsInput more → symbols_of after ≡ (symbols_of before ++ more) ++ new
+      → definitions_of after ≡ definitions_of before ++ flat_map defined_by new
   defined-after before after more new inputs e =
       ap (filter_map symbol_definition) e ∙ definitions-are ((symbols_of before ++ more) ++ new) ∙ defined-append (symbols_of before ++ more) new
       ∙ ap (λ l. l ++ flat_map defined_by new) (defined-append (symbols_of before) more ∙ ap (λ l. flat_map defined_by (symbols_of before) ++ l) (inputs-define more inputs) ∙ nil-append (flat_map defined_by (symbols_of before)) ∙ sym (definitions-are (symbols_of before)))
@@ -182,13 +188,15 @@ module _ (q : ℕ) (version : Version) (flag is_export : ℕ → Bool) where
   abbrev scene_of : List Symbol → List ℕ → List ℕ → Scene
   scene_of symbols as_told ex_told = record { version = version; number = count flag; symbols = symbols; assumptions = as_told; exports = ex_told }
 
-  pub ready-moved : {s t : List Symbol} {a b e f : List ℕ} {d : Draft} {m : List Made} {stack : List Object} → Ready (scene_of s a e) d m stack → AreAmong t (symbols_of m) → a ≡ b → e ≡ f → Ready (scene_of t b f) d m stack
+  pub ready-moved : {s t : List Symbol} {a b e f : List ℕ} {d : Draft} {m : List Made} {stack : List Object} → Ready (scene_of s a e) d m stack
+      → AreAmong t (symbols_of m) → a ≡ b → e ≡ f → Ready (scene_of t b f) d m stack
   ready-moved {s = s} {t = t} {a = a} {b = b} {e = e} {f = f} {d = d} {m = m} {stack = stack} r among p q =
       subst (λ l. Ready (scene_of t l f) d m stack) p (subst (λ l. Ready (scene_of t a l) d m stack) q
       (record { dictionary = r.dictionary; leads = r.leads; holds = record { at = r.holds.at }; among = among }))
 
   -- A step that is not told
-  pub retold-off : {made whole : List Made} {ax ex all : List ℕ} (x : Step) (r : Retold made ax ex) → steps_of whole ≡ steps_of made ++ x ∷ [] → flag (next made) ≡ false
+  pub retold-off : {made whole : List Made} {ax ex all : List ℕ} (x : Step) (r : Retold made ax ex) → steps_of whole ≡ steps_of made ++ x ∷ []
+      → flag (next made) ≡ false
       → AreAmong (symbols_of whole) (symbols_of r.after) → AreApart (symbols_of whole) → filter flag all ≡ filter flag ax → AllByRecursion (Below (next whole)) all → told_definitions flag 0 whole ≡ told_definitions flag 0 made → Retold whole all ex
   retold-off {made = made} {whole = whole} {ax = ax} {ex = ex} {all = all} x r grown off among apart same below defs =
       let draft = told-off made whole x grown off in
@@ -208,7 +216,8 @@ module _ (q : ℕ) (version : Version) (flag is_export : ℕ → Bool) where
       }
 
   -- A step that is told
-  pub retold-on : {made whole : List Made} {ax ex all exported : List ℕ} (x : Step) (r : Retold made ax ex) → steps_of whole ≡ steps_of made ++ x ∷ [] → flag (next made) ≡ true
+  pub retold-on : {made whole : List Made} {ax ex all exported : List ℕ} (x : Step) (r : Retold made ax ex) → steps_of whole ≡ steps_of made ++ x ∷ []
+      → flag (next made) ≡ true
       → (after : List Made) → Ready (scene whole all exported) (write_flagged (record { number = next made; step = x }) (told made)) after [] → steps_of after ≡ steps_of r.after ++ renumbered (count flag) x ∷ []
       → (new : List Kept) → (write_flagged (record { number = next made; step = x }) (told made)).kept ≡ (told made).kept ++ new
       → (is_export (next made) ≡ false → IsKept (write_flagged (record { number = next made; step = x }) (told made)).kept (next made))
@@ -234,13 +243,15 @@ module _ (q : ℕ) (version : Version) (flag is_export : ℕ → Bool) where
   count-after {made = made} r = ap length r.steps ∙ length-map (selected flag 0 (steps_of made)) (λ y. renumbered (count flag) y.step) ∙ count-steps flag (steps_of made)
 
   -- the definitions after a command that is told
-  pub defs-told : {made : List Made} {ax ex : List ℕ} (r : Retold made ax ex) (whole after : List Made) (more new : List Symbol) (x : Step) → flag (next made) ≡ true → AllByRecursion IsInput more
+  pub defs-told : {made : List Made} {ax ex : List ℕ} (r : Retold made ax ex) (whole after : List Made) (more new : List Symbol) (x : Step)
+      → flag (next made) ≡ true → AllByRecursion IsInput more
       → symbols_of after ≡ (symbols_of r.after ++ more) ++ new → whole ≡ (made ++ map Made.symbol new) ++ Made.step x ∷ [] → definitions_of after ≡ told_definitions flag 0 whole
   defs-told {made = made} r whole after more new x on inputs symbols is =
       defined-after flag r.after after more new inputs symbols ∙ ap (λ l. l ++ flat_map defined_by new) r.definitions ∙ sym (told-grown flag true made whole new x on is)
 
   -- one that defines nothing
-  pub defs-plain : {made : List Made} {ax ex : List ℕ} (r : Retold made ax ex) (whole : List Made) (more : List Symbol) (x y : Step) → flag (next made) ≡ true → AllByRecursion IsInput more
+  pub defs-plain : {made : List Made} {ax ex : List ℕ} (r : Retold made ax ex) (whole : List Made) (more : List Symbol) (x y : Step) → flag (next made) ≡ true
+      → AllByRecursion IsInput more
       → whole ≡ made ++ Made.step x ∷ [] → definitions_of ((r.after ++ map Made.symbol more) ++ Made.step y ∷ []) ≡ told_definitions flag 0 whole
   defs-plain {made = made} r whole more x y on inputs is =
       defs-told r whole ((r.after ++ map Made.symbol more) ++ Made.step y ∷ []) more [] x on inputs

@@ -37,7 +37,8 @@ module _ (q : ℕ) (version : Version) (flag is_export : ℕ → Bool) where
     pub assumptions : a.assumptions ≡ map (count flag) (filter flag ax)
     pub exports : a.exports ≡ map (count flag) ex
 
-  pub retelling : {made : List Made} {ax ex : List ℕ} → Tale q version flag is_export made ax ex → AllByRecursion IsWritable (told q version flag is_export made).commands → length (text_of (told q version flag is_export made).commands) ≤ max_article
+  pub retelling : {made : List Made} {ax ex : List ℕ} → Tale q version flag is_export made ax ex
+      → AllByRecursion IsWritable (told q version flag is_export made).commands → length (text_of (told q version flag is_export made).commands) ≤ max_article
       → (a : Accepted) × IsRetelling made ax ex (text_of (told q version flag is_export made).commands) a
   retelling {made = made} {ax = ax} {ex = ex} tale writable small =
       let r = retold q version flag is_export tale in

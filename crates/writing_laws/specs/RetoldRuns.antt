@@ -47,7 +47,8 @@ module _ (q : ℕ) (version : Version) (flag is_export : ℕ → Bool) where
   }
 
   -- an input that the run takes
-  with-input : {made whole : List Made} {ax ex : List ℕ} (x : Symbol) → Retold q version flag is_export made ax ex → IsInput x → Takes (symbols_of made) x → whole ≡ made ++ Made.symbol x ∷ [] → Retold q version flag is_export whole ax ex
+  with-input : {made whole : List Made} {ax ex : List ℕ} (x : Symbol) → Retold q version flag is_export made ax ex → IsInput x → Takes (symbols_of made) x
+      → whole ≡ made ++ Made.symbol x ∷ [] → Retold q version flag is_export whole ax ex
   with-input {made = made} {whole = whole} {ax = ax} {ex = ex} x r input takes is =
       let steps : steps_of whole ≡ steps_of made = ap steps_of is ∙ steps_of-symbols made (x ∷ []) in
       let symbols : symbols_of whole ≡ symbols_of made ++ x ∷ [] = ap symbols_of is ∙ symbols_of-symbols made (x ∷ []) in
@@ -66,14 +67,16 @@ module _ (q : ℕ) (version : Version) (flag is_export : ℕ → Bool) where
       }
 
   -- a step that is not told, and takes nothing
-  plain-off : {made whole : List Made} {ax ex all : List ℕ} (x : Step) (r : Retold q version flag is_export made ax ex) → flag (next made) ≡ false → whole ≡ made ++ Made.step x ∷ [] → filter flag all ≡ filter flag ax
+  plain-off : {made whole : List Made} {ax ex all : List ℕ} (x : Step) (r : Retold q version flag is_export made ax ex) → flag (next made) ≡ false
+      → whole ≡ made ++ Made.step x ∷ [] → filter flag all ≡ filter flag ax
       → AllByRecursion (Below q version flag is_export (next whole)) all → Retold q version flag is_export whole all ex
   plain-off {made = made} {whole = whole} x r off is same below =
       let symbols : symbols_of whole ≡ symbols_of made = ap symbols_of is ∙ symbols_of-push made x in
       retold-off q version flag is_export x r (ap steps_of is ∙ steps_of-push made x) off (subst (λ l. AreAmong l (symbols_of r.after)) (sym symbols) r.ready.among) (subst AreApart (sym symbols) r.apart) same below
       (told-grown flag false made whole [] x off (is ∙ ap (λ l. l ++ Made.step x ∷ []) (sym (nil-append made))) ∙ nil-append (told_definitions flag 0 made))
 
-  risen : {made : List Made} {ax ex : List ℕ} (whole : List Made) (x : Step) (r : Retold q version flag is_export made ax ex) → steps_of whole ≡ steps_of made ++ x ∷ [] → AllByRecursion (Below q version flag is_export (next whole)) ax
+  risen : {made : List Made} {ax ex : List ℕ} (whole : List Made) (x : Step) (r : Retold q version flag is_export made ax ex)
+      → steps_of whole ≡ steps_of made ++ x ∷ [] → AllByRecursion (Below q version flag is_export (next whole)) ax
   risen {made = made} {ax = ax} whole x r grown =
       rise q version flag is_export (next made) (next whole) (let longer = next-grown q version flag is_export made whole x grown in omega (arith, longer)) ax r.assumptions
 
@@ -82,7 +85,8 @@ module _ (q : ℕ) (version : Version) (flag is_export : ℕ → Bool) where
   among-run-all all some (x ∷ new) among = subst (λ l. AreAmong l some) (append_assoc all (x ∷ []) new) (among-run-all (all ++ x ∷ []) some new (among-run all some x among))
 
   -- a definition that is not told
-  defined-off : {made whole : List Made} {ax ex : List ℕ} (new : List Symbol) (x : Step) (r : Retold q version flag is_export made ax ex) → flag (next made) ≡ false → TakesAll q version flag is_export (symbols_of made) new
+  defined-off : {made whole : List Made} {ax ex : List ℕ} (new : List Symbol) (x : Step) (r : Retold q version flag is_export made ax ex)
+      → flag (next made) ≡ false → TakesAll q version flag is_export (symbols_of made) new
       → whole ≡ (made ++ map Made.symbol new) ++ Made.step x ∷ [] → Retold q version flag is_export whole ax ex
   defined-off {made = made} {whole = whole} {ax = ax} new x r off takes is =
       let symbols = symbols-grown q version flag is_export made whole new x is in
@@ -91,7 +95,8 @@ module _ (q : ℕ) (version : Version) (flag is_export : ℕ → Bool) where
       (subst AreApart (sym symbols) (apart-all q version flag is_export (symbols_of made) new takes r.apart)) refl (risen whole x r grown) (told-grown flag false made whole new x off is ∙ nil-append (told_definitions flag 0 made))
 
   -- a type operator that is not told, with its first law
-  operator-off : {made : List Made} {ax ex : List ℕ} (i : ℕ) (names : TypeNames) (c : HolType) (f : Term) (x : Step) (r : Retold q version flag is_export made ax ex) → flag (next made) ≡ false
+  operator-off : {made : List Made} {ax ex : List ℕ} (i : ℕ) (names : TypeNames) (c : HolType) (f : Term) (x : Step) (r : Retold q version flag is_export made ax ex)
+      → flag (next made) ≡ false
       → Takes (symbols_of made) (defined (Definition.type_operator names c f)) → Retold q version flag is_export ((made ++ Made.type_definition names c f i ∷ []) ++ Made.step x ∷ []) ax ex
   operator-off {made = made} i names c f x r off takes =
       let new = defined (Definition.type_operator names c f) in

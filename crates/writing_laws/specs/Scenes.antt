@@ -72,7 +72,8 @@ pub record Wrote (c : Scene) (kept : List Kept) (made : List Made) (after : Draf
   pub front : after.kept ≡ kept ++ new
 
 -- One command
-pub leads-one : (version : Version) (items : List Item) (i : Item) (s t : State) → Leads version items s → step_at s.place s i ≡ Ok t → Leads version (items ++ i ∷ []) t
+pub leads-one : (version : Version) (items : List Item) (i : Item) (s t : State) → Leads version items s → step_at s.place s i ≡ Ok t
+    → Leads version (items ++ i ∷ []) t
 leads-one version items i s t h f = record {
   rest = h.rest ++ i ∷ [];
   is = ap (λ l. l ++ i ∷ []) h.is ∙ append_assoc (version_items version) h.rest (i ∷ []);
@@ -146,7 +147,8 @@ kept-same (Kept.theorem i) (Kept.type b) e = absurd (cc)
 kept-same (Kept.theorem i) (Kept.term u) e = absurd (cc)
 
 -- a key is a place of what it stands for
-place-from : (x : Kept) (start : ℕ) (kept : List Kept) (k : ℕ) → position_from (kept_eq x) start kept ≡ Some k → (j : ℕ) × (k ≡ start + j) × (slice_get kept j ≡ Some x)
+place-from : (x : Kept) (start : ℕ) (kept : List Kept) (k : ℕ) → position_from (kept_eq x) start kept ≡ Some k
+    → (j : ℕ) × (k ≡ start + j) × (slice_get kept j ≡ Some x)
 place-from x start [] k e = absurd (cc)
 place-from x start (y ∷ kept) k e = go (kept_eq x y) refl e (place-from x (start + 1) kept k)
   where
@@ -170,7 +172,8 @@ other-key j k h = go (nat_lt j k) (nat_lt k j) refl refl
     go false false e f = absurd (h (grind (arith, nat_tests, e, f)))
 
 -- one key more
-holds-more : (c : Scene) (kept : List Kept) (d : Dictionary) (x : Kept) → Holds c kept d → Holds c (kept ++ x ∷ []) (entries.insert d (pos (length kept)) (object_of c x))
+holds-more : (c : Scene) (kept : List Kept) (d : Dictionary) (x : Kept) → Holds c kept d
+    → Holds c (kept ++ x ∷ []) (entries.insert d (pos (length kept)) (object_of c x))
 holds-more c kept d x h = record {
   at = λ k y e. elim (slice_get-one_more kept x y k e) [
     | inl old ↦
@@ -184,7 +187,8 @@ holds-more c kept d x h = record {
 }
 
 -- what is on top gets the next key
-pub ready-kept : {c : Scene} {d : Draft} {made : List Made} {stack : List Object} (x : Kept) → Ready c d made (object_of c x ∷ stack) → Ready c (keep x d) made (object_of c x ∷ stack)
+pub ready-kept : {c : Scene} {d : Draft} {made : List Made} {stack : List Object} (x : Kept) → Ready c d made (object_of c x ∷ stack)
+    → Ready c (keep x d) made (object_of c x ∷ stack)
 unfolding ready-said
 ready-kept {c = c} {d = d} {made = made} {stack = stack} x r =
     let k = length d.kept in
@@ -196,7 +200,8 @@ ready-kept {c = c} {d = d} {made = made} {stack = stack} x r =
       among = r.among;
     }
 
-pub wrote-kept : {c : Scene} {kept : List Kept} {made : List Made} {d : Draft} {stack : List Object} (x : Kept) → Wrote c kept made d (object_of c x ∷ stack) → Wrote c kept made (keep x d) (object_of c x ∷ stack)
+pub wrote-kept : {c : Scene} {kept : List Kept} {made : List Made} {d : Draft} {stack : List Object} (x : Kept) → Wrote c kept made d (object_of c x ∷ stack)
+    → Wrote c kept made (keep x d) (object_of c x ∷ stack)
 wrote-kept {kept = kept} x w = record {
   more = w.more;
   inputs = w.inputs;
@@ -205,11 +210,13 @@ wrote-kept {kept = kept} x w = record {
   front = ap (λ l. l ++ x ∷ []) w.front ∙ append_assoc kept w.new (x ∷ []);
 }
 
-pub ready-popped : {c : Scene} {d : Draft} {made : List Made} {stack : List Object} (x : Object) → Ready c d made (x ∷ stack) → Ready c (say_word word.Pop d) made stack
+pub ready-popped : {c : Scene} {d : Draft} {made : List Made} {stack : List Object} (x : Object) → Ready c d made (x ∷ stack)
+    → Ready c (say_word word.Pop d) made stack
 ready-popped x r = ready-said r (item.Word word.Pop) refl r.among
 
 -- what has a key is told by it
-pub wrote-referred : {c : Scene} {d : Draft} {made : List Made} {stack : List Object} (k : ℕ) (x : Kept) → Ready c d made stack → slice_get d.kept k ≡ Some x → Wrote c d.kept made (refer k d) (object_of c x ∷ stack)
+pub wrote-referred : {c : Scene} {d : Draft} {made : List Made} {stack : List Object} (k : ℕ) (x : Kept) → Ready c d made stack → slice_get d.kept k ≡ Some x
+    → Wrote c d.kept made (refer k d) (object_of c x ∷ stack)
 unfolding ready-said
 wrote-referred {c = c} {d = d} {made = made} {stack = stack} k x r e =
     let numbered = ready-said {next = Object.number (pos k) ∷ stack} r (item.Number (pos k)) refl r.among in

@@ -36,7 +36,8 @@ find-mapped : (p r : ℕ → Bool) (f : ℕ → ℕ) (is : List ℕ) → AllByRe
 find-mapped p r f [] h = refl
 find-mapped p r f (i ∷ is) h = go (p (f i)) (r i) h.0 (find-mapped p r f is h.1)
   where
-    go : (b c : Bool) → b ≡ c → find p (map f is) ≡ option_map f (find r is) → cond b (Some (f i)) (find p (map f is)) ≡ option_map f (cond c (Some i) (find r is))
+    go : (b c : Bool) → b ≡ c → find p (map f is) ≡ option_map f (find r is)
+        → cond b (Some (f i)) (find p (map f is)) ≡ option_map f (cond c (Some i) (find r is))
     go true true e k = refl
     go false false e k = k
     go true false e k = absurd (cc)
@@ -46,7 +47,8 @@ find-none : (p flag : ℕ → Bool) (is : List ℕ) → find p is ≡ None → f
 find-none p flag [] e = refl
 find-none p flag (i ∷ is) e = go (p i) (flag i) refl e (find-none p flag is)
   where
-    go : (b c : Bool) → p i ≡ b → cond b (Some i) (find p is) ≡ None → (find p is ≡ None → find p (filter flag is) ≡ None) → find p (cond c (i ∷ filter flag is) (filter flag is)) ≡ None
+    go : (b c : Bool) → p i ≡ b → cond b (Some i) (find p is) ≡ None → (find p is ≡ None → find p (filter flag is) ≡ None)
+        → find p (cond c (i ∷ filter flag is) (filter flag is)) ≡ None
     go true c is_b e k = absurd (cc)
     go false true is_b e k = ap (λ b. cond b (Some i) (find p (filter flag is))) is_b ∙ k e
     go false false is_b e k = k e
@@ -63,7 +65,8 @@ find-some p flag (i ∷ is) j e f = go (p i) refl e (find-some p flag is j)
     there true c h k = ap (λ b. cond b (Some i) (find p (filter flag is))) h ∙ k
     there false c h k = k
 
-    go : (b : Bool) → p i ≡ b → cond b (Some i) (find p is) ≡ Some j → (find p is ≡ Some j → flag j ≡ true → find p (filter flag is) ≡ Some j) → find p (cond (flag i) (i ∷ filter flag is) (filter flag is)) ≡ Some j
+    go : (b : Bool) → p i ≡ b → cond b (Some i) (find p is) ≡ Some j → (find p is ≡ Some j → flag j ≡ true → find p (filter flag is) ≡ Some j)
+        → find p (cond (flag i) (i ∷ filter flag is) (filter flag is)) ≡ Some j
     go true h e k = here (flag i) refl h (let z : i ≡ j = cc in z)
     go false h e k = there (flag i) true h (k e f)
 
@@ -80,7 +83,8 @@ ready-changed {c = c} {d = d} {made = made} {after = after} {stack = stack} {ove
 
 module _ (q : ℕ) (version : Version) (flag is_export : ℕ → Bool) where
   -- the assumptions that are told
-  new-assumption : (ax : List ℕ) (n k : ℕ) → flag n ≡ true → count flag n ≡ k → map (count flag) (filter flag ax) ++ k ∷ [] ≡ map (count flag) (filter flag (ax ++ n ∷ []))
+  new-assumption : (ax : List ℕ) (n k : ℕ) → flag n ≡ true → count flag n ≡ k
+      → map (count flag) (filter flag ax) ++ k ∷ [] ≡ map (count flag) (filter flag (ax ++ n ∷ []))
   new-assumption ax n k on e =
       ap (λ j. map (count flag) (filter flag ax) ++ j ∷ []) (sym e) ∙ sym (map-append (count flag) (filter flag ax) (n ∷ []))
       ∙ ap (map (count flag)) (sym (filter-append flag ax (n ∷ []) ∙ ap (λ b. filter flag ax ++ cond b (n ∷ []) []) on))
@@ -89,20 +93,24 @@ module _ (q : ℕ) (version : Version) (flag is_export : ℕ → Bool) where
   new-export ex n k e = ap (λ j. map (count flag) ex ++ j ∷ []) (sym e) ∙ sym (map-append (count flag) ex (n ∷ []))
 
   -- whether a told step says the same
-  tests : {made : List Made} {ax ex : List ℕ} (r : Retold q version flag is_export made ax ex) (more : List Symbol) (s : Sequent) (is : List ℕ) → AllByRecursion (Exported q version flag is_export (next made)) is
+  tests : {made : List Made} {ax ex : List ℕ} (r : Retold q version flag is_export made ax ex) (more : List Symbol) (s : Sequent) (is : List ℕ)
+      → AllByRecursion (Exported q version flag is_export (next made)) is
       → AllByRecursion (λ i. same (sequent_at (r.after ++ map Made.symbol more) (count flag i)) s ≡ same (sequent_at made i) s) is
   tests r more s [] h = tt
   tests r more s (i ∷ is) h = (ap (λ z. same z s) (steps-inputs r.after more (count flag i) ∙ says q version flag is_export r i h.0.0 h.0.1), tests r more s is h.1)
 
-  flagged-below : (n : ℕ) (is : List ℕ) → AllByRecursion (Below q version flag is_export n) is → AllByRecursion (Exported q version flag is_export n) (filter flag is)
+  flagged-below : (n : ℕ) (is : List ℕ) → AllByRecursion (Below q version flag is_export n) is
+      → AllByRecursion (Exported q version flag is_export n) (filter flag is)
   flagged-below n [] h = tt
   flagged-below n (i ∷ is) h = go (flag i) refl (flagged-below n is h.1)
     where
-      go : (b : Bool) → flag i ≡ b → AllByRecursion (Exported q version flag is_export n) (filter flag is) → AllByRecursion (Exported q version flag is_export n) (cond b (i ∷ filter flag is) (filter flag is))
+      go : (b : Bool) → flag i ≡ b → AllByRecursion (Exported q version flag is_export n) (filter flag is)
+          → AllByRecursion (Exported q version flag is_export n) (cond b (i ∷ filter flag is) (filter flag is))
       go true e k = ((h.0, e), k)
       go false e k = k
 
-  pub assumed-on : {made whole : List Made} {ax all ex : List ℕ} (s : Sequent) (r : Retold q version flag is_export made ax ex) → is_export (next made) ≡ false → flag (next made) ≡ true → first_of made ax s ≡ None
+  pub assumed-on : {made whole : List Made} {ax all ex : List ℕ} (s : Sequent) (r : Retold q version flag is_export made ax ex) → is_export (next made) ≡ false
+      → flag (next made) ≡ true → first_of made ax s ≡ None
       → IsStated q version flag is_export made s → whole ≡ made ++ Made.step (step_by by_rule.Axiom [] (Parameters.sequent s) s) ∷ [] → all ≡ ax ++ next made ∷ [] → Retold q version flag is_export whole all ex
   assumed-on {made = made} {whole = whole} {ax = ax} {all = all} {ex = ex} s r internal on new h is all_is =
       let n = next made in
@@ -135,7 +143,8 @@ module _ (q : ℕ) (version : Version) (flag is_export : ℕ → Bool) where
       (rise-exported q version flag is_export n (next whole) (omega (arith, longer)) ex r.exports)
       (defs-plain q version flag is_export r whole g.more x x on g.inputs is)
 
-  pub met-on : {made whole : List Made} {ax ex : List ℕ} (s : Sequent) (i : ℕ) (r : Retold q version flag is_export made ax ex) → is_export (next made) ≡ false → flag (next made) ≡ true → first_of made ax s ≡ Some i
+  pub met-on : {made whole : List Made} {ax ex : List ℕ} (s : Sequent) (i : ℕ) (r : Retold q version flag is_export made ax ex) → is_export (next made) ≡ false
+      → flag (next made) ≡ true → first_of made ax s ≡ Some i
       → IsStated q version flag is_export made s → IsTold q version flag is_export made i → whole ≡ made ++ Made.step (restatement i s) ∷ [] → Retold q version flag is_export whole ax ex
   met-on {made = made} {whole = whole} {ax = ax} {ex = ex} s i r internal on old h premise is =
       let n = next made in
@@ -171,7 +180,8 @@ module _ (q : ℕ) (version : Version) (flag is_export : ℕ → Bool) where
       (rise-exported q version flag is_export n (next whole) (omega (arith, longer)) ex r.exports)
       (defs-plain q version flag is_export r whole g.more x y on g.inputs is)
 
-  pub exported-on : {made whole : List Made} {ax ex all : List ℕ} (s : Sequent) (i : ℕ) (r : Retold q version flag is_export made ax ex) → is_export (next made) ≡ true → flag (next made) ≡ true → first_of made ex s ≡ None
+  pub exported-on : {made whole : List Made} {ax ex all : List ℕ} (s : Sequent) (i : ℕ) (r : Retold q version flag is_export made ax ex)
+      → is_export (next made) ≡ true → flag (next made) ≡ true → first_of made ex s ≡ None
       → IsStated q version flag is_export made s → IsTold q version flag is_export made i → IsTrue (within (sequent_at made i) s) → whole ≡ made ++ Made.step (restatement i s) ∷ [] → all ≡ ex ++ next made ∷ [] → Retold q version flag is_export whole ax all
   exported-on {made = made} {whole = whole} {ax = ax} {ex = ex} {all = all} s i r external on new h premise weaker is all_is =
       let n = next made in

@@ -81,28 +81,33 @@ steps-inputs m more i = ap (λ l. slice_index_or (map (λ (x : Step). x.sequent)
 
 module _ (q : ℕ) (version : Version) (flag is_export : ℕ → Bool) where
   -- what a told step says
-  pub says : {made : List Made} {ax ex : List ℕ} (r : Retold q version flag is_export made ax ex) (i : ℕ) → i < next made → flag i ≡ true → sequent_at r.after (count flag i) ≡ sequent_at made i
+  pub says : {made : List Made} {ax ex : List ℕ} (r : Retold q version flag is_export made ax ex) (i : ℕ) → i < next made → flag i ≡ true
+      → sequent_at r.after (count flag i) ≡ sequent_at made i
   says {made = made} r i low on =
       let x = step-at (steps_of made) i low in
       says-same flag r.after (steps_of made) i x.0 r.steps x.1 on ∙ sym (sequent-of-step made i x.0 x.1)
 
-  pub all-say : {made : List Made} {ax ex : List ℕ} (r : Retold q version flag is_export made ax ex) (more : List Symbol) (is : List ℕ) → AllByRecursion (IsTold q version flag is_export made) is
+  pub all-say : {made : List Made} {ax ex : List ℕ} (r : Retold q version flag is_export made ax ex) (more : List Symbol) (is : List ℕ)
+      → AllByRecursion (IsTold q version flag is_export made) is
       → map (sequent_at made) is ≡ map (sequent_at (r.after ++ map Made.symbol more)) (map (count flag) is)
   all-say r more [] h = refl
   all-say r more (i ∷ is) h = ap₂ (λ s ss. s ∷ ss) (sym (steps-inputs r.after more (count flag i) ∙ says r i h.0.earlier h.0.flagged)) (all-say r more is h.1)
 
-  pub all-kept : {made : List Made} {ax ex : List ℕ} (r : Retold q version flag is_export made ax ex) (kept new : List Kept) → kept ≡ (told q version flag is_export made).kept ++ new → (is : List ℕ) → AllByRecursion (IsTold q version flag is_export made) is
+  pub all-kept : {made : List Made} {ax ex : List ℕ} (r : Retold q version flag is_export made ax ex) (kept new : List Kept)
+      → kept ≡ (told q version flag is_export made).kept ++ new → (is : List ℕ) → AllByRecursion (IsTold q version flag is_export made) is
       → AllByRecursion (IsKept kept) is
   all-kept r kept new front [] h = tt
   all-kept {made = made} r kept new front (i ∷ is) h =
       (subst (λ l. IsKept l i) (sym front) (kept-more (told q version flag is_export made).kept new i (r.kept i h.0.earlier h.0.flagged h.0.no_export)), all-kept r kept new front is h.1)
 
   -- a theorem on top is kept
-  pub ready-theorem : {c : Scene} {d : Draft} {m : List Made} {stack : List Object} (i k : ℕ) → c.number i ≡ k → Ready c d m (Object.theorem k ∷ stack) → Ready c (keep_theorem i d) m stack
+  pub ready-theorem : {c : Scene} {d : Draft} {m : List Made} {stack : List Object} (i k : ℕ) → c.number i ≡ k → Ready c d m (Object.theorem k ∷ stack)
+      → Ready c (keep_theorem i d) m stack
   ready-theorem {c = c} {d = d} {m = m} {stack = stack} i k e r =
       ready-popped (Object.theorem (c.number i)) (ready-kept (Kept.theorem i) (subst (λ j. Ready c d m (Object.theorem j ∷ stack)) (sym e) r))
 
-  pub inferred-on : {made whole : List Made} {ax ex : List ℕ} (x : Step) (r : Retold q version flag is_export made ax ex) → is_inference x.kind ≡ true → is_export (next made) ≡ false → flag (next made) ≡ true
+  pub inferred-on : {made whole : List Made} {ax ex : List ℕ} (x : Step) (r : Retold q version flag is_export made ax ex) → is_inference x.kind ≡ true
+      → is_export (next made) ≡ false → flag (next made) ≡ true
       → IsInferred q version flag is_export made x → whole ≡ made ++ Made.step x ∷ [] → Retold q version flag is_export whole ax ex
   inferred-on {made = made} {whole = whole} {ax = ax} {ex = ex} x r kind internal on h is =
       let n = next made in

@@ -92,11 +92,13 @@ fine-conses : (k : ℕ) → Finely (conses k)
 fine-conses zero d f = f
 fine-conses (suc k) d f = fine-conses k (say_word word.Cons d) (fine-word word.Cons f)
 
-fine-each : {A : Type 0} (write : A → Draft → Draft) (P : A → Type 0) → ((x : A) → P x → Finely (write x)) → (xs : List A) → AllByRecursion P xs → Finely (write_each write xs)
+fine-each : {A : Type 0} (write : A → Draft → Draft) (P : A → Type 0) → ((x : A) → P x → Finely (write x)) → (xs : List A) → AllByRecursion P xs
+    → Finely (write_each write xs)
 fine-each write P g [] h d f = f
 fine-each write P g (x ∷ xs) h d f = fine-each write P g xs h.1 (write x d) (g x h.0 d f)
 
-fine-list : {A : Type 0} (write : A → Draft → Draft) (P : A → Type 0) → ((x : A) → P x → Finely (write x)) → (xs : List A) → AllByRecursion P xs → Finely (write_list write xs)
+fine-list : {A : Type 0} (write : A → Draft → Draft) (P : A → Type 0) → ((x : A) → P x → Finely (write x)) → (xs : List A) → AllByRecursion P xs
+    → Finely (write_list write xs)
 fine-list write P g xs h d f = fine-conses (length xs) (say_word word.Nil (write_each write xs d)) (fine-word word.Nil (fine-each write P g xs h d f))
 
 fine-pair : (one two : Draft → Draft) → Finely one → Finely two → Finely (write_pair one two)
@@ -160,7 +162,8 @@ length-component : (bytes : List ℕ) → length (component_text bytes) ≤ 2 * 
 length-component [] = omega arith
 length-component (b ∷ bytes) = go (is_escaped b) (length-component bytes)
   where
-    go : (x : Bool) → length (component_text bytes) ≤ 2 * length bytes → length (cond x (92 ∷ b ∷ component_text bytes) (b ∷ component_text bytes)) ≤ 2 * suc (length bytes)
+    go : (x : Bool) → length (component_text bytes) ≤ 2 * length bytes
+        → length (cond x (92 ∷ b ∷ component_text bytes) (b ∷ component_text bytes)) ≤ 2 * suc (length bytes)
     go true h = omega (arith, h)
     go false h = omega (arith, h)
 
@@ -194,7 +197,8 @@ module _ (q : ℕ) (small_q : q < 2 ^ 64) where
   binder-named (v ∷ vs) zero low h = h.0
   binder-named (v ∷ vs) (suc k) low h = binder-named vs k (omega (arith, low)) h.1
 
-  fine-under : (t : Term) (vs : List Variable) → TermNamed t → AllByRecursion VariableNamed vs → loose t ≤ length vs → length vs + term_depth t < 2 ^ 64 → Finely (write_under q vs t)
+  fine-under : (t : Term) (vs : List Variable) → TermNamed t → AllByRecursion VariableNamed vs → loose t ≤ length vs → length vs + term_depth t < 2 ^ 64
+      → Finely (write_under q vs t)
   fine-under (Term.free n a) vs h k l s d f = fine-shared (Term.free n a) (λ e. say_word word.VarTerm (write_variable (n, a) e)) f (fine-word word.VarTerm (fine-variable (n, a) h d f))
   fine-under (Term.bound j) vs h k l s d f = fine-word word.VarTerm (fine-variable (binder_at vs j) (binder-named vs j (omega (arith, l)) k) d f)
   fine-under (Term.constant n a) vs h k l s d f =
