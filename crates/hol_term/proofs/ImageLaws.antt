@@ -22,6 +22,8 @@ use Rattle.hol_term.specs.TableLaws.{term_in-Some, Some-term_in, term_in-Stays}
 use Rattle.hol_term.specs.Noted.{IsNoted}
 use Rattle.hol_term.specs.Substitutions.{term_pairs_at, AreTermPairs, ArePairsFitting, AreTermPairsKnown, AreKnownPairs, image_of, IsPutFor, AreImages, RefusesSubst}
 use Rattle.hol_term.specs.Refusals.{RefusesTerm}
+use Rattle.hol_term.specs.PutIndexes.{same_variable}
+use Rattle.hol_term.proofs.PutFor.{IsPutFor-lookup}
 use Rattle.hol_term.proofs.Settled.{known_term, IsTerm-HasType}
 
 -- the numbers of terms are of the table
@@ -90,6 +92,13 @@ module _ (a b : Trees) (k : Keeps a b) (types : List (Name × TypeId)) (terms : 
 
   pub free_left : IsPutFor b terms (n, type_at b put.0) None → free n (type_at b put.0) ≡ image_of a types terms (free n (type_at a ty.0))
   free_left h = image_is (free n (type_at b put.0)) (ap (λ o. unwrap_or o (free n (type_at b put.0))) h)
+
+-- what is found for a free variable with its new type is what is put for it
+pub found_put : (a b : Trees) (k : Keeps a b) (types : List (Name × TypeId)) (terms : List (Variable × TermId)) → AreKnownPairs a types terms → type.IsDistinct b.types → (n : Name) (put : TypeId) → put.0 < length b.types
+    → (o : Option TermId) → o ≡ lookup (same_variable (record { name = n; ty = put })) terms → IsPutFor b terms (n, type_at b put.0) o
+found_put a b k types terms g d n put lt o e =
+    let known = AreKnownPairs-Keeps a b k types terms g in
+    subst (IsPutFor b terms (n, type_at b put.0)) (sym e) (IsPutFor-lookup b d (record { name = n; ty = put }) lt terms known.known_terms)
 
 -- an application whose parts are made
 pub image_app : (a b d g : Trees) (types : List (Name × TypeId)) (terms : List (Variable × TermId)) (f x fn arg made id : TermId) → Keeps a b → Keeps b d → AreKnownPairs a types terms → x.0 < length a.terms → Holds a id.0 (app (term_at a f.0) (term_at a x.0)) → Holds b fn.0 (image_of a types terms (term_at a f.0)) → Holds d arg.0 (image_of b types terms (term_at b x.0)) → Holds g made.0 (app (term_at d fn.0) (term_at d arg.0)) → Holds g made.0 (image_of a types terms (term_at a id.0))

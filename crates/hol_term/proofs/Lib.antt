@@ -9,6 +9,7 @@ pub mod Typings
 pub mod ScopeLaws
 pub mod Seated
 pub mod MaskLaws
+pub mod OrderLaws
 pub mod Remade
 pub mod Settled
 pub mod Shaped
@@ -17,6 +18,7 @@ pub mod InferringTurns
 mod VisitSteps
 pub mod SeenLaws
 pub mod PutFor
+pub mod PutIndexLaws
 pub mod ImageLaws
 pub mod FoundLaws
 pub mod WalkTurns

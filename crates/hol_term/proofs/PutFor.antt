@@ -1,12 +1,12 @@
 -- What the pairs of a substitution put for a variable, from the first pair to the last, and whether they fit.
 use Rattle.std.proofs.Common.{◌≡◌, ◌<◌, refl, sym, ap, ◌∙◌, List, [], ◌∷◌, length, Bool, true, false, cond, Option, Some, None, nat_eq}
-use Rattle.std.specs.Prelude.{◌↔◌}
+use Rattle.std.specs.Prelude.{◌↔◌, ◌&&◌}
 use Rattle.std.specs.Map.{lookup}
 use Rattle.std.proofs.lemmas.Bool.{eqb-true, eq-eqb, false≢true}
 use Rattle.std.proofs.lemmas.Option.{same_Some}
-use Rattle.hol_spec.specs.Names.{Name}
+use Rattle.hol_spec.specs.NameEquality.{name_eq}
 use Rattle.hol_spec.specs.Types.{HolType, type_eq}
-use Rattle.hol_spec.specs.Terms.{HasType, variable_eq}
+use Rattle.hol_spec.specs.Terms.{HasType, Variable as AVariable, variable_eq}
 use Rattle.hol_laws.specs.TermLaws.{type_eq-refl}
 use Rattle.hol_type.specs.declared.table.TypeId.{TypeId}
 use Rattle.hol_type.specs.Tables.{tree_at}
@@ -15,6 +15,7 @@ use Rattle.hol_term.specs.declared.TermId.{TermId}
 use Rattle.hol_term.specs.declared.Variable.{Variable}
 use Rattle.hol_term.specs.Tables.{Trees, term_at, type_at}
 use Rattle.hol_term.specs.Substitutions.{term_pairs_at, AreTermPairs, ArePairsFitting, AreTermPairsKnown, IsPutFor}
+use Rattle.hol_term.specs.PutIndexes.{same_variable}
 use Rattle.hol_term.proofs.Settled.{types_apart}
 use Rattle.hol_term.proofs.Typings.{not_equal}
 
@@ -26,40 +27,31 @@ type_numbers types d t u ht hu = go (nat_eq t.0 u.0) refl
     go true e = e ∙ sym (type_eq-refl (tree_at types t.0)) ∙ ap (λ n. type_eq (tree_at types t.0) (tree_at types n)) (eqb-true t.0 u.0 e)
     go false e = e ∙ sym (not_equal (tree_at types t.0) (tree_at types u.0) (types_apart types d t u ht hu (λ same. false≢true (sym e ∙ eq-eqb t.0 u.0 same))))
 
--- in every table the rest of the pairs puts for the variable what all of them put
-abbrev pub Skips : List (Variable × TermId) → List (Variable × TermId) → Name → TypeId → Type 0
-Skips pairs rest n ty = (trees : Trees) → AreTermPairsKnown trees pairs → AreTermPairsKnown trees rest × ((type.IsDistinct trees.types) → ty.0 < length trees.types → lookup (variable_eq (n, type_at trees ty.0)) (term_pairs_at trees rest) ≡ lookup (variable_eq (n, type_at trees ty.0)) (term_pairs_at trees pairs))
+-- the test of two variables is that of what they stand for
+same-variable_eq : (trees : Trees) → type.IsDistinct trees.types → (v w : Variable) → v.ty.0 < length trees.types → w.ty.0 < length trees.types → same_variable v w ≡ variable_eq (v.name, type_at trees v.ty.0) (w.name, type_at trees w.ty.0)
+same-variable_eq trees d v w hv hw = ap (λ b. name_eq v.name w.name && b) (type_numbers trees.types d v.ty w.ty hv hw)
 
-pub skips_none : (pairs : List (Variable × TermId)) (n : Name) (ty : TypeId) → Skips pairs pairs n ty
-skips_none pairs n ty trees h = (h, λ d lt. refl)
+-- what the first pair of a variable puts, in the table of the numbers
+pub IsPutFor-lookup : (trees : Trees) → type.IsDistinct trees.types → (v : Variable) → v.ty.0 < length trees.types → (pairs : List (Variable × TermId)) → AreTermPairsKnown trees pairs → IsPutFor trees pairs (v.name, type_at trees v.ty.0) (lookup (same_variable v) pairs)
+IsPutFor-lookup trees d v lt [] h = refl
+IsPutFor-lookup trees d v lt (p ∷ ps) h = go (same_variable v p.0) (same-variable_eq trees d v p.0 lt h.0) (IsPutFor-lookup trees d v lt ps h.1.1)
+  where
+    test : AVariable → Bool
+    test = variable_eq (v.name, type_at trees v.ty.0)
 
--- what the test of a pair's variable says in every table
-abbrev pub Tells : Variable → Name → TypeId → Bool → Type 0
-Tells v n ty b = (trees : Trees) → type.IsDistinct trees.types → ty.0 < length trees.types → v.ty.0 < length trees.types → b ≡ variable_eq (n, type_at trees ty.0) (v.name, type_at trees v.ty.0)
+    first : AVariable
+    first = (p.0.name, type_at trees p.0.ty.0)
 
-pub skips_other : (pairs rest : List (Variable × TermId)) (p : Variable × TermId) (n : Name) (ty : TypeId) → Tells p.0 n ty false → Skips pairs (p ∷ rest) n ty → Skips pairs rest n ty
-skips_other pairs rest p n ty e s trees h =
-    let w = s trees h in (
-      w.0.1.1,
-      λ d lt.
-          let other : lookup (variable_eq (n, type_at trees ty.0)) (term_pairs_at trees (p ∷ rest)) ≡ lookup (variable_eq (n, type_at trees ty.0)) (term_pairs_at trees rest)
-          = ap (λ b. cond b (Some (term_at trees p.1.0)) (lookup (variable_eq (n, type_at trees ty.0)) (term_pairs_at trees rest))) (sym (e trees d lt w.0.0)) in
-          sym other ∙ w.1 d lt,
-    )
+    is : (b : Bool) → b ≡ test first → lookup test (term_pairs_at trees (p ∷ ps)) ≡ cond b (Some (term_at trees p.1.0)) (lookup test (term_pairs_at trees ps))
+    is b e = ap (λ b. cond b (Some (term_at trees p.1.0)) (lookup test (term_pairs_at trees ps))) (sym e)
 
--- what is to hold of what is put for a variable
-abbrev pub Puts : List (Variable × TermId) → Name → TypeId → Option TermId → Type 0
-Puts pairs n ty o = (trees : Trees) → type.IsDistinct trees.types → ty.0 < length trees.types → AreTermPairsKnown trees pairs → IsPutFor trees pairs (n, type_at trees ty.0) o
+    more : (o : Option TermId) → false ≡ test first → IsPutFor trees ps (v.name, type_at trees v.ty.0) o → IsPutFor trees (p ∷ ps) (v.name, type_at trees v.ty.0) o
+    more None e on = is false e ∙ on
+    more (Some id) e on = (on.0, is false e ∙ on.1)
 
-pub puts_first : (pairs rest : List (Variable × TermId)) (p : Variable × TermId) (n : Name) (ty : TypeId) → Tells p.0 n ty true → Skips pairs (p ∷ rest) n ty → Puts pairs n ty (Some p.1)
-puts_first pairs rest p n ty e s trees d lt h =
-    let w = s trees h in
-    let this : lookup (variable_eq (n, type_at trees ty.0)) (term_pairs_at trees (p ∷ rest)) ≡ Some (term_at trees p.1.0)
-    = ap (λ b. cond b (Some (term_at trees p.1.0)) (lookup (variable_eq (n, type_at trees ty.0)) (term_pairs_at trees rest))) (sym (e trees d lt w.0.0)) in
-    (w.0.1.0, sym (w.1 d lt) ∙ this)
-
-pub puts_none : (pairs : List (Variable × TermId)) (n : Name) (ty : TypeId) → Skips pairs [] n ty → Puts pairs n ty None
-puts_none pairs n ty s trees d lt h = sym ((s trees h).1 d lt)
+    go : (b : Bool) → b ≡ test first → IsPutFor trees ps (v.name, type_at trees v.ty.0) (lookup (same_variable v) ps) → IsPutFor trees (p ∷ ps) (v.name, type_at trees v.ty.0) (cond b (Some p.1) (lookup (same_variable v) ps))
+    go true e on = (h.1.0, is true e)
+    go false e on = more (lookup (same_variable v) ps) e on
 
 -- the pairs that are left are of terms, and fit where all do
 pub record IsFitting (trees : Trees) (pairs rest : List (Variable × TermId)) : Type 0 where

@@ -2,7 +2,6 @@
 use Rattle.std.proofs.Common.{◌≡◌, ℕ, zero, suc, ◌+◌, ◌-◌, ◌<◌, ◌≤◌, ◌^◌, refl, sym, ap, ◌∙◌, subst, arith, List, [], ◌∷◌, ◌++◌, map, length, get_or, reverse, Some, Bool, true, false, cond, ⊎_elim}
 use Rattle.std.specs.Prelude.{slice_get}
 use Rattle.std.specs.Option.{option_map, option_map_or}
-use Rattle.std.specs.Int.Bits.{bit_and}
 use Rattle.std.proofs.lemmas.Option.{slice_get-map, same_Some}
 use Rattle.std.proofs.lemmas.List.{length-map, map-append, reverse-append}
 use Rattle.std.proofs.Math.Path.{ap₂}
@@ -20,8 +19,8 @@ use Rattle.hol_term.specs.declared.walk.Replacement.TheVariants.{Renamed, Argume
 use Rattle.hol_term.specs.Tables.{Trees, term_at, terms_at, AreKnown, Holds, Keeps, IsDistinct}
 use Rattle.hol_term.specs.TableLaws.{term_in-Some, term_in-Stays, term_in-same, terms_at-Keeps}
 use Rattle.hol_term.specs.Parts.{IsLeaf}
-use Rattle.hol_term.specs.Masks.{HasBits, IsWithout}
-use Rattle.hol_term.proofs.MaskLaws.{IsWithout-mask, close_at-without}
+use Rattle.hol_term.specs.Masks.{IsWithout}
+use Rattle.hol_term.proofs.MaskLaws.{close_at-without}
 use Rattle.hol_term.specs.Walks.{changed, variable_of, wanted, CanClose, IsPlace, IsLeftAlone, IsReplaced, IsTask, turns, turns_of_all, lifting, work_at}
 
 -- a longer table wants the same
@@ -32,7 +31,7 @@ module _ (a b : Trees) (k : Keeps a b) (ids : List TermId) (g : AreKnown a ids) 
   pub CanClose-Keeps : (c : Change) → CanClose (terms_at a ids) c → CanClose (terms_at b ids) c
   CanClose-Keeps c h = λ e. let w = h e in (w.0, sym (terms_at-Keeps k ids g) ∙ w.1)
 
-changed-closed : (args : List Term) (c : Change) (d : ℕ) (t : Term) → (c ≡ Close → IsWithout (variable_of args).0 t) → loose t ≤ d → changed args c d t ≡ t
+changed-closed : (args : List Term) (c : Change) (d : ℕ) (t : Term) → (c ≡ Close → IsWithout (variable_of args) t) → loose t ≤ d → changed args c d t ≡ t
 changed-closed args (Raise k) d t n h = lift_at-closed d k t h
 changed-closed args Replace d t n h = put_all_at-closed d args t h
 changed-closed args Close d t n h = close_at-without d (variable_of args) t (n refl) h
@@ -43,12 +42,13 @@ one_only [] d l h = absurd (let w = l in omega (arith, w))
 one_only (x ∷ []) d l h = refl
 one_only (x ∷ y ∷ ids) d l h = absurd (let w = h in omega (arith, w))
 
--- where the masks of a tree and of the variable share no bit, the tree lacks the variable's name
-pub closed_without : (a : Trees) (ids : List TermId) (v : TermId) (m k : ℕ) (c : Change) (t : Term) → ids ≡ v ∷ [] → HasBits k (term_at a v.0) → HasBits m t → bit_and m k ≡ 0 → CanClose (terms_at a ids) c → c ≡ Close → IsWithout (variable_of (terms_at a ids)).0 t
-closed_without a ids v m k c t one own h none closing e =
+-- a variable that isn't free in a tree is not the one that is closed over
+pub closed_without : (a : Trees) (ids : List TermId) (v : TermId) (c : Change) (t : Term) → ids ≡ v ∷ [] → AreKnown a ids → ((w : Variable) → Holds a v.0 (free w.0 w.1) → IsWithout w t) → CanClose (terms_at a ids) c → c ≡ Close → IsWithout (variable_of (terms_at a ids)) t
+closed_without a ids v c t one known without closing e =
     let w = closing e in
     let is : term_at a v.0 ≡ free w.0.0 w.0.1 = ap first (ap (terms_at a) (sym one) ∙ w.1) in
-    subst (λ args. IsWithout (variable_of args).0 t) (sym w.1) (IsWithout-mask m k w.0.0 t none (subst (HasBits k) is own) h)
+    let lt : AreKnown a (v ∷ []) = subst (AreKnown a) one known in
+    subst (λ args. IsWithout (variable_of args) t) (sym w.1) (without w.0 (term_in-Some a.terms v.0 lt.0 ∙ ap Some is))
   where
     first : List Term → Term
     first [] = bound 0

@@ -1,5 +1,5 @@
 -- What a turn does to a substitution on its way.
-use Rattle.std.proofs.Common.{◌≡◌, ℕ, ◌<◌, ◌≤◌, refl, sym, ap, ◌∙◌, subst, arith, List, [], ◌∷◌, length, Some, ◌⊎◌, ⊎_elim}
+use Rattle.std.proofs.Common.{◌≡◌, ◌<◌, ◌≤◌, refl, sym, ap, ◌∙◌, subst, arith, List, [], ◌∷◌, length, Some, ◌⊎◌, ⊎_elim}
 use Rattle.std.proofs.Math.Path.{ap₂}
 use Rattle.std.proofs.lemmas.Option.{slice_get_within}
 use Rattle.hol_spec.specs.Names.{Name}
@@ -16,7 +16,6 @@ use Rattle.hol_term.specs.declared.substitution.Turn.TheVariants.{Visit, Apply, 
 use Rattle.hol_term.specs.Tables.{Trees, term_at, type_at, Holds, Keeps}
 use Rattle.hol_term.specs.TableLaws.{term_in-Some, Some-term_in, term_in-Stays, Keeps-refl, Keeps-trans}
 use Rattle.hol_term.specs.Noted.{IsNoted}
-use Rattle.hol_term.specs.Masks.{with_pairs}
 use Rattle.hol_term.specs.Substitutions.{AreKnownPairs, image_of, IsItsImage}
 use Rattle.hol_term.specs.Substituting.{image_at, AreNoted, Ends, IsSubstituting, steps}
 use Rattle.hol_term.specs.Walks.{NotEmpty, AreHeld}
@@ -102,11 +101,11 @@ module _ (a b : Trees) (root : Term) (types : List (Name × TypeId)) (terms : Li
     pub visit_pairs : AreKnownPairs b types terms
     visit_pairs = AreKnownPairs-Keeps a b w.keeps types terms w.known
 
-    pub found_image : (mask : ℕ) → mask ≡ with_pairs 0 terms → (r : TermId) → ((r ≡ id) × IsItsImage b types mask id) ⊎ IsNoted images id r → IsSubstituting a root b types terms tasks (r ∷ made) images
-    found_image mask is r h = record { keeps = w.keeps; known = w.known; values = image_at a types terms id ∷ w.values; held = (own, w.held); ends = w.ends.1; noted = w.noted }
+    pub found_image : (r : TermId) → ((r ≡ id) × IsItsImage b types terms id) ⊎ IsNoted images id r → IsSubstituting a root b types terms tasks (r ∷ made) images
+    found_image r h = record { keeps = w.keeps; known = w.known; values = image_at a types terms id ∷ w.values; held = (own, w.held); ends = w.ends.1; noted = w.noted }
       where
-        itself : IsItsImage b types mask id → Holds b id.0 (image_at a types terms id)
-        itself alone = term_in-Some b.terms id.0 visit_known ∙ ap Some (sym (alone terms is) ∙ sym (image_at-Keeps a b w.keeps types terms w.known id w.ends.0))
+        itself : IsItsImage b types terms id → Holds b id.0 (image_at a types terms id)
+        itself alone = term_in-Some b.terms id.0 visit_known ∙ ap Some (sym alone ∙ sym (image_at-Keeps a b w.keeps types terms w.known id w.ends.0))
 
         own : Holds b r.0 (image_at a types terms id)
         own = ⊎_elim (λ alone. subst (λ (v : TermId). Holds b v.0 (image_at a types terms id)) (sym alone.0) (itself alone.1)) (λ n. w.noted id r n) h

@@ -1,5 +1,5 @@
 -- Where an entry is found among entries by number.
-use Rattle.std.specs.Prelude.{◌≡◌, ◌⊎◌, ℕ, ◌<◌, ◌≤◌, ◌-◌, ◌^◌, ◌==◌, max, if◌then◌else◌, Bool, true, false, List, [], ◌∷◌, ◌++◌, length, map, Option, None, Some, slice_get}
+use Rattle.std.specs.Prelude.{◌≡◌, ◌⊎◌, ℕ, ◌<◌, ◌-◌, ◌^◌, ◌==◌, max, if◌then◌else◌, Bool, true, false, List, [], ◌∷◌, ◌++◌, length, map, Option, None, Some, slice_get}
 use Rattle.std.specs.BTreeMap.{BTreeMap, get}
 use Rattle.std.specs.declared.cmp.Ordering.{Ordering}
 use Rattle.hol_term.specs.declared.node.Node.{Node}
@@ -94,6 +94,11 @@ abbrev pub Finds : List Node → List Children → Node → Slot → Type 0
 Finds nodes children s (slot.At n) = Has nodes n s
 Finds nodes children s (slot.With p) = Lacks nodes s × (length nodes < nothing) × (greater_part s ≡ Some p) × ((c : Children) × (slice_get children p ≡ Some c) × HasRoom c)
 Finds nodes children s slot.Apart = Lacks nodes s × IsFull children s (length nodes)
+
+-- the number is the node's, or the node has none
+abbrev pub FindsNumber : List Node → Node → Option ℕ → Type 0
+FindsNumber nodes s (Some n) = Has nodes n s
+FindsNumber nodes s None = Lacks nodes s
 
 -- the number that the tree of nodes has for the node, or that it has none
 abbrev pub FindsOther : (Node → Option ℕ) → Node → Slot → Type 0

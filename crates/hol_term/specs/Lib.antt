@@ -16,4 +16,5 @@ pub mod Walks
 pub mod BindingLaws
 pub mod Subterms
 pub mod Substitutions
+pub mod PutIndexes
 pub mod Substituting

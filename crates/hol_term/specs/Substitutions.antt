@@ -1,6 +1,6 @@
 -- Pairs of numbers that a substitution puts, and what it makes of a number's term.
 -- Source: HOL Light's kernel, `INST_TYPE` and `INST`; the article format's `subst`.
-use Rattle.std.specs.Prelude.{◌≡◌, ℕ, ◌<◌, List, [], ◌∷◌, length, Option, None, Some}
+use Rattle.std.specs.Prelude.{◌≡◌, ◌<◌, List, [], ◌∷◌, length, Option, None, Some}
 use Rattle.std.specs.Map.{lookup}
 use Rattle.bridge_base.specs.declared.faults.Fault.{Fault}
 use Rattle.bridge_base.specs.declared.faults.Fault.TheVariants.{Refused, Memory}
@@ -15,7 +15,6 @@ use Rattle.hol_term.specs.declared.Variable.{Variable}
 use Rattle.hol_term.specs.Noted.{IsNoted}
 use Rattle.hol_term.specs.Tables.{Trees, term_at, type_at, Holds, IsTermAt}
 use Rattle.hol_term.specs.Refusals.{RefusesTerm}
-use Rattle.hol_term.specs.Masks.{with_pairs}
 
 -- what pairs of variables and numbers replace by which terms
 abbrev pub term_pairs_at : Trees → List (Variable × TermId) → TermPairs
@@ -52,9 +51,9 @@ pub record AreKnownPairs (trees : Trees) (types : List (Name × TypeId)) (terms 
 abbrev pub image_of : Trees → List (Name × TypeId) → List (Variable × TermId) → Term → Term
 image_of trees types terms t = sub (type.pairs_at trees.types types) (term_pairs_at trees terms) t
 
--- with all pairs whose variables have this mask, the term is what is made of it
-abbrev pub IsItsImage : Trees → List (Name × TypeId) → ℕ → TermId → Type 0
-IsItsImage trees types mask id = (terms : List (Variable × TermId)) → mask ≡ with_pairs 0 terms → image_of trees types terms (term_at trees id.0) ≡ term_at trees id.0
+-- the term is what the pairs make of it
+abbrev pub IsItsImage : Trees → List (Name × TypeId) → List (Variable × TermId) → TermId → Type 0
+IsItsImage trees types terms id = image_of trees types terms (term_at trees id.0) ≡ term_at trees id.0
 
 -- the number that is put for a variable, or none where no pair has it
 abbrev pub IsPutFor : Trees → List (Variable × TermId) → AVariable → Option TermId → Type 0

@@ -39,10 +39,10 @@ CanClose args change = change ≡ Close → (v : Variable) × (args ≡ free v.0
 abbrev pub IsPlace : Trees → Place → Type 0
 IsPlace trees place = (place.id.0 < length trees.terms) × (place.depth + place.id.0 < 2 ^ 64)
 
--- the change leaves the place's tree alone: it lifts by nothing, or no number of the tree passes the binders and no free variable of it has the name of the one that is closed over
+-- the change leaves the place's tree alone: it lifts by nothing, or no number of the tree passes the binders and the variable that is closed over isn't free in it
 abbrev pub IsLeftAlone : List Term → Trees → Place → Type 0
 IsLeftAlone args trees place =
-    (place.change ≡ Raise 0) ⊎ ((place.change ≡ Close → IsWithout (variable_of args).0 (term_at trees place.id.0)) × (loose (term_at trees place.id.0) ≤ place.depth))
+    (place.change ≡ Raise 0) ⊎ ((place.change ≡ Close → IsWithout (variable_of args) (term_at trees place.id.0)) × (loose (term_at trees place.id.0) ≤ place.depth))
 
 -- what stands for the number n of a place, whatever the arguments
 abbrev pub IsReplaced : List TermId → Place → ℕ → Replacement → Type 0

@@ -9,7 +9,7 @@ ghost use Rattle.std.specs.Bool.{OnTrue, OnFalse};
 ghost use Rattle.std.specs.BTreeMap.{Updates};
 ghost use Rattle.hol_term.specs.declared.node.Node.{Node as ANode};
 ghost use Rattle.hol_term.specs.declared.entries.Children.{Children as AChildren};
-ghost use Rattle.hol_term.specs.Indexed.{node_cmp, nodes_of, greater_part as greater_part_of, kept_in, nothing, no_children, with_child, HasRoom, Has, Finds, FindsOther, Forgets, IsInserted, IsIndexed};
+ghost use Rattle.hol_term.specs.Indexed.{node_cmp, nodes_of, greater_part as greater_part_of, kept_in, nothing, no_children, with_child, HasRoom, Has, Finds, FindsNumber, FindsOther, Forgets, IsInserted, IsIndexed};
 
 use crate::node::{Entry, Node};
 use bridge_base::Memory;
@@ -86,6 +86,16 @@ impl Entries {
         ensures { slice_get self.now index ≡ Some result.now }
     {
         &self.entries[index]
+    }
+
+    /// The number of a node, if it has one.
+    pub(crate) fn number_of(&self, node: &Node) -> Option<usize>
+        ensures { FindsNumber (nodes_of self.now) node.now result }
+    {
+        match find(&self.entries, &self.children, &self.others, node) {
+            Slot::At(number) => Some(number),
+            Slot::With(_) | Slot::Apart => None,
+        }
     }
 
     /// The number of the first entry with an equal node, or the next one if the node is new, and whether it is.

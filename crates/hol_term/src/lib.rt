@@ -17,18 +17,16 @@
 //! ```
 #![tactic(auto)]
 
-ghost use Rattle.std.specs.Prelude.{◌≡◌, ◌<◌, ◌≤◌, ◌^◌, ◌-◌, ◌+◌, [], length, min, max, take, IfOk, IfErr, OnOk, OnErr, Ok, Err};
-ghost use Rattle.bridge_base.specs.declared.faults.Fault.TheVariants as the_fault;
+ghost use Rattle.std.specs.Prelude.{◌≡◌, ◌<◌, ◌^◌, ◌-◌, [], length, IfOk};
 ghost use Rattle.hol_spec.specs.Terms.{type_of as the_type};
-ghost use Rattle.hol_spec.specs.Limits.{TermWithin};
 ghost use Rattle.hol_spec.specs.Primitives.{function as function_type, bool as bool_type};
 ghost use Rattle.hol_type.specs.Tables as type;
 ghost use Rattle.hol_term.specs.Tables.{Trees, term_at, type_at, Holds, Keeps, IsDistinct, IsTypeNumber};
 ghost use Rattle.hol_term.specs.Nodes.{tree_of_node, PartsBelow, AreMeasures, IsMeasured};
 ghost use Rattle.hol_term.specs.Parts.{HasParts, AreLower};
 ghost use Rattle.hol_term.specs.Owned.{HasItsTypes, IsEarlier};
-ghost use Rattle.hol_term.specs.Refusals.{RefusesTerm};
 
+mod absent;
 mod binding;
 mod entries;
 mod makers;
@@ -36,6 +34,7 @@ mod masks;
 mod memo;
 mod names;
 mod node;
+mod pairs;
 mod readers;
 mod scopes;
 mod seats;
@@ -48,10 +47,11 @@ mod walk;
 use crate::entries::Entries;
 pub use crate::names::Names;
 use crate::node::{Entry, Measures, Node};
-use bridge_base::{Fault, Memory};
+pub use crate::pairs::PutIndex;
+use bridge_base::Memory;
 use hol_name::Name;
 use hol_type::{TypeId, TypeTable};
-use std::alloc::Global;
+use std::alloc::{AllocError, Global};
 use std::marker::Model;
 
 /// The number of a term in its table. A number that no call of the table gave means nothing there.
@@ -63,6 +63,18 @@ pub struct TermId(pub usize);
 pub struct Variable {
     pub name: Name,
     pub ty: TypeId,
+}
+
+// A variable is copied with its name.
+impl Clone for Variable {
+    ghost is_clone = { λ variable copy. copy ≡ variable };
+
+    fn clone(&self) -> Result<Variable, AllocError> {
+        Ok(Variable {
+            name: self.name.clone()?,
+            ty: self.ty,
+        })
+    }
 }
 
 /// The head of a term, with the numbers of its parts.

@@ -1,5 +1,5 @@
 //! The calls that make types and terms.
-ghost use Rattle.std.specs.Prelude.{◌≡◌, ◌<◌, ◌≤◌, [], ◌∷◌, None, Some, length, IfOk, IfErr, IfSome, IsTrue, OnErr, MatchOption};
+ghost use Rattle.std.specs.Prelude.{◌≡◌, ◌<◌, None, Some, length, IfOk, IfErr, IfSome, IsTrue, OnErr, MatchOption};
 ghost use Rattle.bridge_base.specs.declared.faults.Fault.TheVariants as the_fault;
 ghost use Rattle.hol_spec.specs.Limits.{TermWithin, TypeWithin};
 ghost use Rattle.hol_spec.specs.Substitution.{TypePairs, substitute};

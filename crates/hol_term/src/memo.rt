@@ -1,5 +1,5 @@
 //! What a walk has made already, so that it makes each part once.
-ghost use Rattle.std.specs.Prelude.{◌≡◌, ◌⊎◌, IfSome, OnOk, OnErr};
+ghost use Rattle.std.specs.Prelude.{◌≡◌, ◌⊎◌, IfSome, OnOk};
 ghost use Rattle.hol_term.specs.declared.TermId.{TermId as AnId};
 ghost use Rattle.hol_term.specs.declared.memo.Place.{Place as APlace};
 ghost use Rattle.hol_term.specs.Noted.{IsNoted};

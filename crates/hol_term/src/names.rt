@@ -3,10 +3,9 @@ ghost use Rattle.std.specs.Prelude.{◌≡◌, [], ◌∷◌, IfOk, OnOk};
 ghost use Rattle.hol_spec.specs.Lists.{union};
 ghost use Rattle.hol_spec.specs.NameEquality.{name_eq};
 
-use crate::Variable;
 use bridge_base::Memory;
 use hol_name::Name;
-use std::alloc::{AllocError, Global};
+use std::alloc::Global;
 use std::marker::Model;
 use tree_map::TreeSet;
 
@@ -89,16 +88,4 @@ fn push_copies(names: &[Name], copy: &mut Vec<Name>) -> Result<(), Memory>
         copy.push(name.clone()?)?;
     }
     Ok(())
-}
-
-// A variable is copied with its name.
-impl Clone for Variable {
-    ghost is_clone = { λ variable copy. copy ≡ variable };
-
-    fn clone(&self) -> Result<Variable, AllocError> {
-        Ok(Variable {
-            name: self.name.clone()?,
-            ty: self.ty,
-        })
-    }
 }

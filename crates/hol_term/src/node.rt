@@ -36,15 +36,11 @@ pub(crate) struct Measures {
     pub(crate) mask: u64,
 }
 
-/// A node with the measures of its tree, and the number of its type if it is a term. Entries are equal where their
-/// nodes are.
+/// A node with the measures of its tree, and the number of its type if it is a term.
 #[derive(Drop)]
-#[derive_where(PartialEq, Eq)]
 pub(crate) struct Entry {
     pub(crate) node: Node,
-    #[derive_where(skip)]
     pub(crate) measures: Measures,
-    #[derive_where(skip)]
     pub(crate) ty: Option<TypeId>,
 }
 

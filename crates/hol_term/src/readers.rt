@@ -1,5 +1,5 @@
 //! The calls that read terms.
-ghost use Rattle.std.specs.Prelude.{◌≡◌, ◌<◌, ◌-◌, ◌^◌, ◌↔◌, length, map, min, IsTrue, IfOk, IfSome, IfNone};
+ghost use Rattle.std.specs.Prelude.{◌≡◌, ◌<◌, ◌-◌, ◌^◌, ◌↔◌, length, min, IsTrue, IfSome, IfNone};
 ghost use Rattle.hol_spec.specs.Limits.{term_size, term_depth};
 ghost use Rattle.hol_spec.specs.Terms.{Term};
 ghost use Rattle.hol_term.specs.Shapes.{IsEquality, IsEquation, IsRedex, IsRelation};

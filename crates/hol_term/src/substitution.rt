@@ -2,20 +2,20 @@
 ghost use Rattle.std.specs.Prelude.{◌≡◌, ◌⊎◌, ◌<◌, ◌↔◌, [], ◌∷◌, length, IfOk, IfErr, IfSome, OnOk, OnErr, IsTrue};
 ghost use Rattle.hol_spec.specs.Limits.{TermWithin};
 ghost use Rattle.hol_spec.specs.Substitution.{substitute};
-ghost use Rattle.hol_spec.specs.Terms.{Term as ATerm, IsTerm, variable_eq, free as free_tree, constant as constant_tree};
+ghost use Rattle.hol_spec.specs.Terms.{Term as ATerm, IsTerm, free as free_tree, constant as constant_tree};
 ghost use Rattle.hol_spec.specs.TermSubstitution.{sub};
 ghost use Rattle.hol_type.specs.Tables as type;
 ghost use Rattle.hol_term.specs.declared.TermId.{TermId as AnId};
 ghost use Rattle.hol_term.specs.declared.substitution.Turn.TheVariants as the_turn;
-ghost use Rattle.hol_term.specs.Masks.{with_pairs};
 ghost use Rattle.hol_term.specs.Noted.{IsNoted};
 ghost use Rattle.hol_term.specs.Substituting.{IsSubstituting, steps};
 ghost use Rattle.hol_term.specs.Walks.{NotEmpty};
-ghost use Rattle.hol_term.specs.Substitutions.{term_pairs_at, AreTermPairs, ArePairsFitting, RefusesSubst, AreTermPairsKnown, AreKnownPairs, image_of, IsItsImage, IsPutFor};
+ghost use Rattle.hol_term.specs.Substitutions.{term_pairs_at, AreTermPairs, ArePairsFitting, RefusesSubst, AreKnownPairs, image_of, IsItsImage};
+ghost use Rattle.hol_term.specs.PutIndexes.{IsIndexOf};
 ghost use Rattle.hol_term.specs.Tables.{Trees, term_at, type_at, Holds, IsDistinct, IsTermAt, Keeps};
 
-use crate::masks::pairs_mask;
 use crate::node::Node;
+use crate::pairs::{FEW, PutIndex, Putting};
 use crate::{TermId, TermTable, TermView, Variable};
 use bridge_base::{Fault, Kind, Memory, Stack};
 use hol_name::Name;
@@ -196,59 +196,94 @@ impl TermTable {
         ensures made { IfOk result (λ r. Holds self.new r.0 (image_of self.old type_pairs.now term_pairs.now (term_at self.old id.0))) }
         ensures keeps { Keeps self.old self.new }
     {
-        let mask = pairs_mask(term_pairs);
-        if self.is_its_image(type_pairs, mask, id) {
-            return Ok(id);
-        }
-        self.substituted_by_parts(type_pairs, term_pairs, mask, id)
+        let index = PutIndex::new(self.alloc, term_pairs)?;
+        let made = self.image(type_pairs, term_pairs, &index, id);
+        drop(index);
+        made
     }
 
-    // What pairs, whose variables have this mask, make of a tree.
-    fn substituted_by_parts(
+    /// What pairs, with their index, make of a tree, whatever its size and depth.
+    pub fn image(
         &mut self,
         type_pairs: &[(Name, TypeId)],
         term_pairs: &[(Variable, TermId)],
-        mask: u64,
+        index: &PutIndex,
         id: TermId,
     ) -> Result<TermId, Memory>
         requires pairs { AreKnownPairs self.old type_pairs.now term_pairs.now }
-        requires mask { mask ≡ with_pairs 0 term_pairs.now }
+        requires index { IsIndexOf index.now term_pairs.now }
         requires id { id.0 < length self.old.terms }
         ensures known { IfOk result (λ r. r.0 < length self.new.terms) }
         ensures made { IfOk result (λ r. Holds self.new r.0 (image_of self.old type_pairs.now term_pairs.now (term_at self.old id.0))) }
         ensures keeps { Keeps self.old self.new }
     {
+        let putting = Putting {
+            types: type_pairs,
+            terms: term_pairs,
+            index,
+        };
+        if self.is_left(&putting, id) {
+            return Ok(id);
+        }
+        self.image_by_parts(&putting, id)
+    }
+
+    // What is put makes this of a tree.
+    fn image_by_parts(&mut self, putting: &Putting<'_>, id: TermId) -> Result<TermId, Memory>
+        requires pairs { AreKnownPairs self.old putting.now.types.now putting.now.terms.now }
+        requires index { IsIndexOf putting.now.index.now putting.now.terms.now }
+        requires id { id.0 < length self.old.terms }
+        ensures known { IfOk result (λ r. r.0 < length self.new.terms) }
+        ensures made { IfOk result (λ r. Holds self.new r.0 (image_of self.old putting.now.types.now putting.now.terms.now (term_at self.old id.0))) }
+        ensures keeps { Keeps self.old self.new }
+    {
         let mut walk = Substituting::new(self.alloc);
         walk.tasks.push(Turn::Visit(id))?;
         while let Some(task) = walk.tasks.pop() {
-            self.substitution_turn(type_pairs, term_pairs, mask, task, &mut walk)?;
+            self.substitution_turn(putting, task, &mut walk)?;
         }
         Ok(walk.take())
     }
 
-    // Whether the masks tell that the pairs leave a tree alone. With types to put they do not.
-    fn is_its_image(&self, type_pairs: &[(Name, TypeId)], mask: u64, id: TermId) -> bool
-        requires { id.0 < length self.now.terms }
-        ensures { IsTrue result → IsItsImage self.now type_pairs.now mask id }
+    // Whether it is told that what is put leaves a tree alone: by the masks, or where the pairs are few by the numbers of
+    // their variables.
+    fn is_left(&self, putting: &Putting<'_>, id: TermId) -> bool
+        requires pairs { AreKnownPairs self.now putting.now.types.now putting.now.terms.now }
+        requires index { IsIndexOf putting.now.index.now putting.now.terms.now }
+        requires id { id.0 < length self.now.terms }
+        ensures { IsTrue result → IsItsImage self.now putting.now.types.now putting.now.terms.now id }
     {
-        if !type_pairs.is_empty() {
+        if self.is_its_image(putting, id) {
+            return true;
+        }
+        if putting.terms.len() > FEW {
             return false;
         }
-        self.measures_of(id).mask & mask == 0
+        if !putting.types.is_empty() {
+            return false;
+        }
+        self.are_absent(putting.terms, id)
     }
 
-    // What is made of a tree, if the pairs leave it alone or it is made already.
-    fn image_found(
-        &self,
-        type_pairs: &[(Name, TypeId)],
-        mask: u64,
-        images: &Images,
-        id: TermId,
-    ) -> Option<TermId>
-        requires { id.0 < length self.now.terms }
-        ensures { IfSome result (λ r. ((r ≡ id) × IsItsImage self.now type_pairs.now mask id) ⊎ IsNoted images.now id r) }
+    // Whether the masks tell that what is put leaves a tree alone. With types to put they do not.
+    fn is_its_image(&self, putting: &Putting<'_>, id: TermId) -> bool
+        requires index { IsIndexOf putting.now.index.now putting.now.terms.now }
+        requires id { id.0 < length self.now.terms }
+        ensures { IsTrue result → IsItsImage self.now putting.now.types.now putting.now.terms.now id }
     {
-        if self.is_its_image(type_pairs, mask, id) {
+        if !putting.types.is_empty() {
+            return false;
+        }
+        self.measures_of(id).mask & putting.index.mask == 0
+    }
+
+    // What is made of a tree, if what is put leaves it alone or it is made already.
+    fn image_found(&self, putting: &Putting<'_>, images: &Images, id: TermId) -> Option<TermId>
+        requires index { IsIndexOf putting.now.index.now putting.now.terms.now }
+        requires id { id.0 < length self.now.terms }
+        ensures { IfSome result (λ r. ((r ≡ id) × IsItsImage self.now putting.now.types.now putting.now.terms.now id) ⊎ IsNoted images.now id r) }
+    {
+        if self.is_its_image(putting, id) {
             return Some(id);
         }
         images.find(id)
@@ -257,74 +292,70 @@ impl TermTable {
     // One turn of a substitution.
     fn substitution_turn(
         &mut self,
-        type_pairs: &[(Name, TypeId)],
-        term_pairs: &[(Variable, TermId)],
-        mask: u64,
+        putting: &Putting<'_>,
         task: Turn,
         walk: &mut Substituting,
     ) -> Result<(), Memory>
-        requires mask { mask ≡ with_pairs 0 term_pairs.now }
-        requires walk { (from : Trees) × (root : ATerm) × IsSubstituting from root self.old type_pairs.now term_pairs.now (task ∷ walk.old.tasks) walk.old.made walk.old.images }
+        requires index { IsIndexOf putting.now.index.now putting.now.terms.now }
+        requires walk { (from : Trees) × (root : ATerm) × IsSubstituting from root self.old putting.now.types.now putting.now.terms.now (task ∷ walk.old.tasks) walk.old.made walk.old.images }
         ensures keeps { Keeps self.old self.new }
-        ensures walk { OnOk result ((from : Trees) (root : ATerm) → IsSubstituting from root self.old type_pairs.now term_pairs.now (task ∷ walk.old.tasks) walk.old.made walk.old.images → IsSubstituting from root self.new type_pairs.now term_pairs.now walk.new.tasks walk.new.made walk.new.images) }
-        ensures less { OnOk result ((from : Trees) (root : ATerm) → IsSubstituting from root self.old type_pairs.now term_pairs.now (task ∷ walk.old.tasks) walk.old.made walk.old.images → steps from walk.new.tasks < steps from (task ∷ walk.old.tasks)) }
+        ensures walk { OnOk result ((from : Trees) (root : ATerm) → IsSubstituting from root self.old putting.now.types.now putting.now.terms.now (task ∷ walk.old.tasks) walk.old.made walk.old.images → IsSubstituting from root self.new putting.now.types.now putting.now.terms.now walk.new.tasks walk.new.made walk.new.images) }
+        ensures less { OnOk result ((from : Trees) (root : ATerm) → IsSubstituting from root self.old putting.now.types.now putting.now.terms.now (task ∷ walk.old.tasks) walk.old.made walk.old.images → steps from walk.new.tasks < steps from (task ∷ walk.old.tasks)) }
     {
         match task {
-            Turn::Visit(id) => self.visit_image(type_pairs, term_pairs, mask, id, walk),
-            Turn::Apply(id) => self.apply_images(type_pairs, term_pairs, id, walk),
-            Turn::Abstract(id, ty) => self.abstract_image(type_pairs, term_pairs, id, ty, walk),
+            Turn::Visit(id) => self.visit_image(putting, id, walk),
+            Turn::Apply(id) => self.apply_images(putting, id, walk),
+            Turn::Abstract(id, ty) => self.abstract_image(putting, id, ty, walk),
         }
     }
 
     // Finds what is made of a term already, or sets out to make it.
     fn visit_image(
         &mut self,
-        type_pairs: &[(Name, TypeId)],
-        term_pairs: &[(Variable, TermId)],
-        mask: u64,
+        putting: &Putting<'_>,
         id: TermId,
         walk: &mut Substituting,
     ) -> Result<(), Memory>
-        requires mask { mask ≡ with_pairs 0 term_pairs.now }
-        requires walk { (from : Trees) × (root : ATerm) × IsSubstituting from root self.old type_pairs.now term_pairs.now (the_turn.Visit id ∷ walk.old.tasks) walk.old.made walk.old.images }
+        requires index { IsIndexOf putting.now.index.now putting.now.terms.now }
+        requires walk { (from : Trees) × (root : ATerm) × IsSubstituting from root self.old putting.now.types.now putting.now.terms.now (the_turn.Visit id ∷ walk.old.tasks) walk.old.made walk.old.images }
         ensures keeps { Keeps self.old self.new }
-        ensures walk { OnOk result ((from : Trees) (root : ATerm) → IsSubstituting from root self.old type_pairs.now term_pairs.now (the_turn.Visit id ∷ walk.old.tasks) walk.old.made walk.old.images → IsSubstituting from root self.new type_pairs.now term_pairs.now walk.new.tasks walk.new.made walk.new.images) }
-        ensures less { OnOk result ((from : Trees) (root : ATerm) → IsSubstituting from root self.old type_pairs.now term_pairs.now (the_turn.Visit id ∷ walk.old.tasks) walk.old.made walk.old.images → steps from walk.new.tasks < steps from (the_turn.Visit id ∷ walk.old.tasks)) }
+        ensures walk { OnOk result ((from : Trees) (root : ATerm) → IsSubstituting from root self.old putting.now.types.now putting.now.terms.now (the_turn.Visit id ∷ walk.old.tasks) walk.old.made walk.old.images → IsSubstituting from root self.new putting.now.types.now putting.now.terms.now walk.new.tasks walk.new.made walk.new.images) }
+        ensures less { OnOk result ((from : Trees) (root : ATerm) → IsSubstituting from root self.old putting.now.types.now putting.now.terms.now (the_turn.Visit id ∷ walk.old.tasks) walk.old.made walk.old.images → steps from walk.new.tasks < steps from (the_turn.Visit id ∷ walk.old.tasks)) }
     {
-        match self.image_found(type_pairs, mask, &walk.images, id) {
+        match self.image_found(putting, &walk.images, id) {
             Some(made) => walk.made.push(made),
-            None => self.visit_image_anew(type_pairs, term_pairs, id, walk),
+            None => self.visit_image_anew(putting, id, walk),
         }
     }
 
     // Makes what stands for a leaf, or sets out to make what stands for the parts of a term.
     fn visit_image_anew(
         &mut self,
-        type_pairs: &[(Name, TypeId)],
-        term_pairs: &[(Variable, TermId)],
+        putting: &Putting<'_>,
         id: TermId,
         walk: &mut Substituting,
     ) -> Result<(), Memory>
-        requires { (from : Trees) × (root : ATerm) × IsSubstituting from root self.old type_pairs.now term_pairs.now (the_turn.Visit id ∷ walk.old.tasks) walk.old.made walk.old.images }
+        requires index { IsIndexOf putting.now.index.now putting.now.terms.now }
+        requires walk { (from : Trees) × (root : ATerm) × IsSubstituting from root self.old putting.now.types.now putting.now.terms.now (the_turn.Visit id ∷ walk.old.tasks) walk.old.made walk.old.images }
         ensures keeps { Keeps self.old self.new }
-        ensures walk { OnOk result ((from : Trees) (root : ATerm) → IsSubstituting from root self.old type_pairs.now term_pairs.now (the_turn.Visit id ∷ walk.old.tasks) walk.old.made walk.old.images → IsSubstituting from root self.new type_pairs.now term_pairs.now walk.new.tasks walk.new.made walk.new.images) }
-        ensures less { OnOk result ((from : Trees) (root : ATerm) → IsSubstituting from root self.old type_pairs.now term_pairs.now (the_turn.Visit id ∷ walk.old.tasks) walk.old.made walk.old.images → steps from walk.new.tasks < steps from (the_turn.Visit id ∷ walk.old.tasks)) }
+        ensures walk { OnOk result ((from : Trees) (root : ATerm) → IsSubstituting from root self.old putting.now.types.now putting.now.terms.now (the_turn.Visit id ∷ walk.old.tasks) walk.old.made walk.old.images → IsSubstituting from root self.new putting.now.types.now putting.now.terms.now walk.new.tasks walk.new.made walk.new.images) }
+        ensures less { OnOk result ((from : Trees) (root : ATerm) → IsSubstituting from root self.old putting.now.types.now putting.now.terms.now (the_turn.Visit id ∷ walk.old.tasks) walk.old.made walk.old.images → steps from walk.new.tasks < steps from (the_turn.Visit id ∷ walk.old.tasks)) }
     {
         match self.view(id) {
             TermView::Free(name, ty) => {
                 let name = name.clone()?;
-                let made = self.free_image(type_pairs, term_pairs, name, ty)?;
+                let made = self.free_image(putting, name, ty)?;
                 walk.keep(id, made)
             }
             TermView::Bound(_) => walk.keep(id, id),
             TermView::Const(name, ty) => {
                 let name = name.clone()?;
-                let made = self.constant_image(type_pairs, name, ty)?;
+                let made = self.constant_image(putting.types, name, ty)?;
                 walk.keep(id, made)
             }
             TermView::App(f, x) => walk.set_out(id, f, x),
             TermView::Lam(ty, body) => {
-                let binder = self.type_image(type_pairs, ty)?;
+                let binder = self.type_image(putting.types, ty)?;
                 walk.set_out_to(id, binder, body)
             }
         }
@@ -333,15 +364,14 @@ impl TermTable {
     // Makes an application of what was made of its parts.
     fn apply_images(
         &mut self,
-        type_pairs: &[(Name, TypeId)],
-        term_pairs: &[(Variable, TermId)],
+        putting: &Putting<'_>,
         id: TermId,
         walk: &mut Substituting,
     ) -> Result<(), Memory>
-        requires { (from : Trees) × (root : ATerm) × IsSubstituting from root self.old type_pairs.now term_pairs.now (the_turn.Apply id ∷ walk.old.tasks) walk.old.made walk.old.images }
+        requires { (from : Trees) × (root : ATerm) × IsSubstituting from root self.old putting.now.types.now putting.now.terms.now (the_turn.Apply id ∷ walk.old.tasks) walk.old.made walk.old.images }
         ensures keeps { Keeps self.old self.new }
-        ensures walk { OnOk result ((from : Trees) (root : ATerm) → IsSubstituting from root self.old type_pairs.now term_pairs.now (the_turn.Apply id ∷ walk.old.tasks) walk.old.made walk.old.images → IsSubstituting from root self.new type_pairs.now term_pairs.now walk.new.tasks walk.new.made walk.new.images) }
-        ensures less { OnOk result ((from : Trees) (root : ATerm) → IsSubstituting from root self.old type_pairs.now term_pairs.now (the_turn.Apply id ∷ walk.old.tasks) walk.old.made walk.old.images → steps from walk.new.tasks < steps from (the_turn.Apply id ∷ walk.old.tasks)) }
+        ensures walk { OnOk result ((from : Trees) (root : ATerm) → IsSubstituting from root self.old putting.now.types.now putting.now.terms.now (the_turn.Apply id ∷ walk.old.tasks) walk.old.made walk.old.images → IsSubstituting from root self.new putting.now.types.now putting.now.terms.now walk.new.tasks walk.new.made walk.new.images) }
+        ensures less { OnOk result ((from : Trees) (root : ATerm) → IsSubstituting from root self.old putting.now.types.now putting.now.terms.now (the_turn.Apply id ∷ walk.old.tasks) walk.old.made walk.old.images → steps from walk.new.tasks < steps from (the_turn.Apply id ∷ walk.old.tasks)) }
     {
         let argument = walk.take();
         let function = walk.take();
@@ -352,16 +382,15 @@ impl TermTable {
     // Makes an abstraction of what was made of its body.
     fn abstract_image(
         &mut self,
-        type_pairs: &[(Name, TypeId)],
-        term_pairs: &[(Variable, TermId)],
+        putting: &Putting<'_>,
         id: TermId,
         ty: TypeId,
         walk: &mut Substituting,
     ) -> Result<(), Memory>
-        requires { (from : Trees) × (root : ATerm) × IsSubstituting from root self.old type_pairs.now term_pairs.now (the_turn.Abstract id ty ∷ walk.old.tasks) walk.old.made walk.old.images }
+        requires { (from : Trees) × (root : ATerm) × IsSubstituting from root self.old putting.now.types.now putting.now.terms.now (the_turn.Abstract id ty ∷ walk.old.tasks) walk.old.made walk.old.images }
         ensures keeps { Keeps self.old self.new }
-        ensures walk { OnOk result ((from : Trees) (root : ATerm) → IsSubstituting from root self.old type_pairs.now term_pairs.now (the_turn.Abstract id ty ∷ walk.old.tasks) walk.old.made walk.old.images → IsSubstituting from root self.new type_pairs.now term_pairs.now walk.new.tasks walk.new.made walk.new.images) }
-        ensures less { OnOk result ((from : Trees) (root : ATerm) → IsSubstituting from root self.old type_pairs.now term_pairs.now (the_turn.Abstract id ty ∷ walk.old.tasks) walk.old.made walk.old.images → steps from walk.new.tasks < steps from (the_turn.Abstract id ty ∷ walk.old.tasks)) }
+        ensures walk { OnOk result ((from : Trees) (root : ATerm) → IsSubstituting from root self.old putting.now.types.now putting.now.terms.now (the_turn.Abstract id ty ∷ walk.old.tasks) walk.old.made walk.old.images → IsSubstituting from root self.new putting.now.types.now putting.now.terms.now walk.new.tasks walk.new.made walk.new.images) }
+        ensures less { OnOk result ((from : Trees) (root : ATerm) → IsSubstituting from root self.old putting.now.types.now putting.now.terms.now (the_turn.Abstract id ty ∷ walk.old.tasks) walk.old.made walk.old.images → steps from walk.new.tasks < steps from (the_turn.Abstract id ty ∷ walk.old.tasks)) }
     {
         let body = walk.take();
         let made = self.add(Node::Lam(ty, body))?;
@@ -371,21 +400,25 @@ impl TermTable {
     // What the pairs make of a free variable: what the first pair of its name and its new type gives, if there is one.
     fn free_image(
         &mut self,
-        type_pairs: &[(Name, TypeId)],
-        term_pairs: &[(Variable, TermId)],
+        putting: &Putting<'_>,
         name: Name,
         ty: TypeId,
     ) -> Result<TermId, Memory>
-        requires pairs { AreKnownPairs self.old type_pairs.now term_pairs.now }
+        requires pairs { AreKnownPairs self.old putting.now.types.now putting.now.terms.now }
+        requires index { IsIndexOf putting.now.index.now putting.now.terms.now }
         requires ty { ty.0 < length self.old.types }
         ensures known { IfOk result (λ r. r.0 < length self.new.terms) }
-        ensures made { IfOk result (λ r. Holds self.new r.0 (image_of self.old type_pairs.now term_pairs.now (free_tree name (type_at self.old ty.0)))) }
+        ensures made { IfOk result (λ r. Holds self.new r.0 (image_of self.old putting.now.types.now putting.now.terms.now (free_tree name (type_at self.old ty.0)))) }
         ensures keeps { Keeps self.old self.new }
     {
-        let put = self.type_image(type_pairs, ty)?;
-        match put_for(term_pairs, &name, put) {
-            Some(id) => Ok(id),
-            None => self.add(Node::Free(name, put)),
+        let put = self.type_image(putting.types, ty)?;
+        let variable = Variable { name, ty: put };
+        match putting.find(&variable) {
+            Some(id) => {
+                drop(variable);
+                Ok(id)
+            }
+            None => self.add(Node::Free(variable.name, put)),
         }
     }
 
@@ -418,23 +451,4 @@ impl TermTable {
     {
         self.types.instance(pairs, ty)
     }
-}
-
-// The term that the first pair of this name and type puts, in the table of their numbers.
-fn put_for(pairs: &[(Variable, TermId)], name: &Name, ty: TypeId) -> Option<TermId>
-    ensures { (trees : Trees) → type.IsDistinct trees.types → ty.0 < length trees.types → AreTermPairsKnown trees pairs.now → IsPutFor trees pairs.now (name.now, type_at trees ty.0) result }
-{
-    for (variable, id) in pairs {
-        if is_same(variable, name, ty) {
-            return Some(*id);
-        }
-    }
-    None
-}
-
-// Whether a variable has this name and type, in the table of their numbers.
-fn is_same(variable: &Variable, name: &Name, ty: TypeId) -> bool
-    ensures { (trees : Trees) → type.IsDistinct trees.types → ty.0 < length trees.types → variable.now.ty.0 < length trees.types → result ≡ variable_eq (name.now, type_at trees ty.0) (variable.now.name, type_at trees variable.now.ty.0) }
-{
-    name == &variable.name && ty == variable.ty
 }

@@ -11,7 +11,7 @@ ghost use Rattle.hol_type.specs.Tables as type;
 ghost use Rattle.hol_term.specs.declared.seats.Seat.{Seat as ASeat};
 ghost use Rattle.hol_term.specs.declared.seats.Step.TheVariants as the_step;
 ghost use Rattle.hol_term.specs.Noted.{IsNoted};
-ghost use Rattle.hol_term.specs.Tables.{term_at, type_at, Holds, Keeps, IsDistinct, IsTypeNumber};
+ghost use Rattle.hol_term.specs.Tables.{term_at, type_at, Holds, Keeps, IsTypeNumber};
 ghost use Rattle.hol_term.specs.Nodes.{tree_of_node, PartsBelow, AreMeasures};
 ghost use Rattle.hol_term.specs.Typing.{seat_type, AreTypings, IsSeat};
 ghost use Rattle.hol_term.specs.Inferring.{IsInferring, count};

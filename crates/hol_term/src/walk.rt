@@ -256,7 +256,7 @@ impl TermTable {
         memo.find(place)
     }
 
-    // Whether the measures tell that the change leaves the place's tree alone.
+    // Whether the measures, or the order of numbers, tell that the change leaves the place's tree alone.
     pub(crate) fn is_left_alone(&self, args: &[TermId], place: Place) -> bool
         requires place { place.id.0 < length self.now.terms }
         requires args { AreKnown self.now args.now }
@@ -272,17 +272,15 @@ impl TermTable {
         place.change != Change::Close || self.is_without(args, place)
     }
 
-    // Whether the masks tell that the name of the variable that is closed over is not in the place's tree.
+    // Whether it is told that the variable that is closed over is not in the place's tree.
     fn is_without(&self, args: &[TermId], place: Place) -> bool
         requires place { place.id.0 < length self.now.terms }
         requires args { AreKnown self.now args.now }
         requires closing { CanClose (terms_at self.now args.now) place.change }
-        ensures { IsTrue result → place.change ≡ the_change.Close → IsWithout (variable_of (terms_at self.now args.now)).0 (term_at self.now place.id.0) }
+        ensures { IsTrue result → place.change ≡ the_change.Close → IsWithout (variable_of (terms_at self.now args.now)) (term_at self.now place.id.0) }
     {
         match args {
-            [variable] => {
-                self.measures_of(place.id).mask & self.measures_of(*variable).mask == 0
-            }
+            [variable] => self.is_without_free(place.id, *variable),
             _ => false,
         }
     }

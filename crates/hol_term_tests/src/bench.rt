@@ -1,5 +1,6 @@
 //! A table of terms with two stacks, and the steps that make types and terms on them.
-ghost use Rattle.std.specs.Prelude.{◌≡◌, ◌<◌, length, IfOk, IsTrue};
+ghost use Rattle.std.specs.Prelude.{◌≡◌, ◌<◌, [], length, IfOk, OnOk, IsTrue};
+ghost use Rattle.hol_term.specs.Substitutions.{AreTermPairs};
 ghost use Rattle.hol_type.specs.Tables as type;
 ghost use Rattle.hol_term.specs.Tables.{IsTermAt};
 
@@ -65,6 +66,10 @@ pub(crate) enum TermStep {
     /// A term, the last, with a type from its stack for the variable A, and then with two terms for two variables: a
     /// variable stands before what is put for it.
     Subst,
+    /// A term, the last, with two terms for two variables: a variable stands before what is put for it.
+    PutTwo,
+    /// The same with ten terms: between the two, for the variables of the first eight letters what is put for the second.
+    PutTen,
 }
 
 /// A table, and the types and the trees that were made and not taken yet.
@@ -158,6 +163,8 @@ impl Bench {
             TermStep::Put => self.put()?,
             TermStep::PutBoth => self.put_both()?,
             TermStep::Subst => self.subst()?,
+            TermStep::PutTwo => self.put_terms(b"")?,
+            TermStep::PutTen => self.put_terms(b"abcdefgh")?,
         };
         self.terms.push(made)?;
         Ok(())
@@ -527,6 +534,83 @@ impl Bench {
             Err(fault) => {
                 drop(front);
                 Err(fault)
+            }
+        }
+    }
+
+    // A term with two terms for two variables, and between them for those of these letters what is put for the second.
+    fn put_terms(&mut self, letters: &[u8]) -> Result<TermId, Fault> {
+        let id = self.take_term()?;
+        let second = self.take_put()?;
+        let first = self.take_put()?;
+        let mut pairs = Vec::new(self.alloc);
+        let made = match self.push_pairs(&mut pairs, letters, first, second) {
+            Ok(()) => self.table.subst(&[], &pairs, id),
+            Err(fault) => Err(fault),
+        };
+        drop(pairs);
+        made
+    }
+
+    // The pairs of what is put for two variables, and between them those of these letters.
+    fn push_pairs(
+        &self,
+        pairs: &mut Vec<(Variable, TermId)>,
+        letters: &[u8],
+        first: (TermId, TermId),
+        second: (TermId, TermId),
+    ) -> Result<(), Fault>
+        requires none { pairs.old.items ≡ [] }
+        requires first { first.0.0 < length self.now.table.terms }
+        requires first_by { IsTermAt self.now.table first.1.0 }
+        requires second { second.0.0 < length self.now.table.terms }
+        requires second_by { IsTermAt self.now.table second.1.0 }
+        ensures { OnOk result (AreTermPairs self.now.table pairs.new.items) }
+    {
+        self.push_put(pairs, first)?;
+        for letter in letters {
+            let name = self.name(&[*letter])?;
+            let ty = self.table.type_of(second.1);
+            self.push_pair(pairs, Variable { name, ty }, second.1)?;
+        }
+        self.push_put(pairs, second)
+    }
+
+    // The pair of what is put for the variable of a tree.
+    fn push_put(
+        &self,
+        pairs: &mut Vec<(Variable, TermId)>,
+        put: (TermId, TermId),
+    ) -> Result<(), Fault>
+        requires pairs { AreTermPairs self.now.table pairs.old.items }
+        requires variable { put.0.0 < length self.now.table.terms }
+        requires term { IsTermAt self.now.table put.1.0 }
+        ensures { OnOk result (AreTermPairs self.now.table pairs.new.items) }
+    {
+        let variable = self.variable(put.0)?;
+        self.push_pair(pairs, variable, put.1)
+    }
+
+    // One pair more.
+    fn push_pair(
+        &self,
+        pairs: &mut Vec<(Variable, TermId)>,
+        variable: Variable,
+        by: TermId,
+    ) -> Result<(), Fault>
+        requires pairs { AreTermPairs self.now.table pairs.old.items }
+        requires ty { variable.ty.0 < length self.now.table.types }
+        requires term { IsTermAt self.now.table by.0 }
+        ensures { OnOk result (AreTermPairs self.now.table pairs.new.items) }
+    {
+        match pairs.reserve(1) {
+            Ok(()) => {
+                pairs.push_reserved((variable, by));
+                Ok(())
+            }
+            Err(_) => {
+                drop(variable);
+                Err(Fault::Memory)
             }
         }
     }

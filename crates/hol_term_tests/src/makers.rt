@@ -117,6 +117,49 @@ fn substitution_is_all_at_once(rt: HostRuntime) {
 }
 
 #[test]
+fn of_many_pairs_the_first_of_a_variable_counts(rt: HostRuntime) {
+    assert_same(
+        &rt,
+        rt.alloc(),
+        &[
+            (
+                &[X, Y, X, Z, K, X, APP, Y, APP, PUT_TEN],
+                &[K, Y, APP, Y, APP],
+            ),
+            // x of another type is another variable.
+            (
+                &[UNARY_X, K, Y, APP, X, Z, UNARY_X, X, APP, PUT_TEN],
+                &[K, Y, APP, Z, APP],
+            ),
+            (
+                &[X, Y, Y, Z, K, LETTER_A, APP, X, APP, PUT_TEN],
+                &[K, Z, APP, Y, APP],
+            ),
+        ],
+    );
+}
+
+#[test]
+fn what_came_after_a_term_is_not_in_it(rt: HostRuntime) {
+    assert_same(
+        &rt,
+        rt.alloc(),
+        &[
+            (&[X, OVER_EIGHT, BODY], &[X]),
+            (
+                &[EIGHT, Y, Z, Y, K, X, APP, X, APP, PUT_TWO],
+                &[K, X, APP, X, APP],
+            ),
+            // What came before it may be.
+            (
+                &[EIGHT, Y, X, Z, K, X, APP, EIGHT, APP, PUT_TWO],
+                &[K, Z, APP, Y, APP],
+            ),
+        ],
+    );
+}
+
+#[test]
 fn substitution_puts_types_first(rt: HostRuntime) {
     assert_same(
         &rt,

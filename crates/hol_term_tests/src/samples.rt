@@ -186,6 +186,21 @@ pub(crate) const PUT_BOTH: &[Step] = &[Step::Term(TermStep::PutBoth)];
 /// A term with a type for the variable A, and then with two terms for two variables.
 pub(crate) const SUBST: &[Step] = &[Step::Term(TermStep::Subst)];
 
+/// A term with two terms for two variables.
+pub(crate) const PUT_TWO: &[Step] = &[Step::Term(TermStep::PutTwo)];
+
+/// A term with two terms for two variables, and between them for those of the first eight letters what is put for the second.
+pub(crate) const PUT_TEN: &[Step] = &[Step::Term(TermStep::PutTen)];
+
+/// The variable `a : ind`.
+pub(crate) const LETTER_A: &[Step] = &[INDIVIDUAL, Step::Term(TermStep::Free(b'a'))];
+
+/// The variable `8 : ind`, whose name has the same one of 64 bits as that of x.
+pub(crate) const EIGHT: &[Step] = &[INDIVIDUAL, Step::Term(TermStep::Free(b'8'))];
+
+/// The abstraction over `8 : ind`.
+pub(crate) const OVER_EIGHT: &[Step] = &[INDIVIDUAL, Step::Term(TermStep::Abs(b'8'))];
+
 /// The abstraction over `x : ind`.
 pub(crate) const OVER_X: &[Step] = &[INDIVIDUAL, Step::Term(TermStep::Abs(b'x'))];
 

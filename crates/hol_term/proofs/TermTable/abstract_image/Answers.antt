@@ -17,10 +17,10 @@ returns-clause-walk c =
     let walk = c.args.walk.now in
     let taken = c.take-body.new.self in
     OnOk-map2 c.keep.result (λ made noted from root w.
-    let v = same_substituting from c.args.type_pairs.now c.args.term_pairs.now c.args.self.now root (Abstract c.args.id c.args.ty ∷ walk.tasks) (Abstract c.args.id c.args.ty ∷ taken.tasks) walk.made (c.take-body.result ∷ taken.made) walk.images taken.images
+    let v = same_substituting from c.args.putting.now.types.now c.args.putting.now.terms.now c.args.self.now root (Abstract c.args.id c.args.ty ∷ walk.tasks) (Abstract c.args.id c.args.ty ∷ taken.tasks) walk.made (c.take-body.result ∷ taken.made) walk.images taken.images
     (ap (λ l. Abstract c.args.id c.args.ty ∷ l) c.take-body.ensures.tasks) (sym c.take-body.ensures.made) c.take-body.ensures.images w in
-    same_substituting from c.args.type_pairs.now c.args.term_pairs.now c.add.new.self root taken.tasks c.keep.new.self.tasks (c.in_ok-made.made ∷ taken.made) c.keep.new.self.made c.keep.new.self.images c.keep.new.self.images c.keep.ensures.tasks made refl
-    (abstracted_image from c.args.self.now root c.args.type_pairs.now c.args.term_pairs.now c.args.id c.args.ty taken.tasks taken.images c.add.new.self c.add.ensures.keeps c.keep.new.self.images c.in_ok-made.made noted c.take-body.result taken.made v c.in_ok-made.ensures.made))
+    same_substituting from c.args.putting.now.types.now c.args.putting.now.terms.now c.add.new.self root taken.tasks c.keep.new.self.tasks (c.in_ok-made.made ∷ taken.made) c.keep.new.self.made c.keep.new.self.images c.keep.new.self.images c.keep.ensures.tasks made refl
+    (abstracted_image from c.args.self.now root c.args.putting.now.types.now c.args.putting.now.terms.now c.args.id c.args.ty taken.tasks taken.images c.add.new.self c.add.ensures.keeps c.keep.new.self.images c.in_ok-made.made noted c.take-body.result taken.made v c.in_ok-made.ensures.made))
     c.keep.ensures.made c.keep.ensures.noted
 
 pub returns-clause-less : goal.returns-clause-less
