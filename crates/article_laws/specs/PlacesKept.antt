@@ -1,37 +1,28 @@
 -- A word of the body of an article leaves the place where the machine is in it.
-use Rattle.hol_spec.specs.declared.Version.{Version}
 use Rattle.std.proofs.Common.{◌≡◌, ℕ, List, [], ◌∷◌, ◌++◌, map, length, Result, Ok, Err, Option, Some, None, refl, subst}
 use Rattle.bridge_base.specs.declared.faults.Kind.{Kind}
 use Rattle.hol_spec.specs.Proofs.{Step, sequent_at, symbols_of}
-use Rattle.article_spec.specs.State.{State, Object, body, version_at, list, constant}
+use Rattle.article_spec.specs.State.{State, Object, version_at, list, constant, type_operator}
 use Rattle.article_spec.specs.Results.{◌>>=◌, ◌>>◌}
-use Rattle.article_spec.specs.Changes.{with_stack, conclude, next_step, with_symbols}
-use Rattle.article_spec.specs.Conditions.{sequent_in_limits, all_bool, follows, demand, in_limits, typed, type_in_limits, term_in_limits, arity_fits, generic_fits}
-use Rattle.article_spec.specs.Inference.{step_by}
+use Rattle.article_spec.specs.Changes.{with_stack, conclude, next_step, with_symbols, defining, defining_type, with_type, first_same}
+use Rattle.article_spec.specs.Conditions.{sequent_in_limits, demand, type_in_limits, term_in_limits, arity_fits, generic_fits}
+use Rattle.article_spec.specs.RuleSteps.{restatement, NewType, define_const_step, define_const_list_step, type_laws, axiom_step, restate_step}
 use Rattle.article_spec.specs.Operands.{as_name, as_names, as_term, as_theorem, as_constant_pairs, pop, as_number, as_list, as_type_operator, as_type, as_types, as_constant, as_variable, any_object, head_and_tail, as_terms}
-use Rattle.bridge_base.specs.declared.faults.Kind.TheVariants.{NameTaken, NotClosed, ExtraTypeVars, BadDefinitionList, NotTheSequent, NoSuchKey, TypeMismatch}
-use Rattle.hol_spec.specs.Defining.{is_closed, has_type_variables_of}
-use Rattle.hol_spec.specs.DefinitionLists.{names_of, defining_equations, is_definition_list, definitions_in, constants_put}
+use Rattle.bridge_base.specs.declared.faults.Kind.TheVariants.{NoSuchKey, TypeMismatch}
+use Rattle.hol_spec.specs.DefinitionLists.{names_of, definitions_in}
 use Rattle.hol_spec.specs.Definitions.{Definition, TypeNames}
-use Rattle.hol_spec.specs.Measures.{type_measure, sequent_measure}
-use Rattle.hol_spec.specs.NewTypes.{new_type, abstraction_type, representation_type}
-use Rattle.hol_spec.specs.Rules.{Parameters, constants, derived, abstraction}
-use Rattle.hol_spec.specs.Sequents.{Sequent}
-use Rattle.hol_spec.specs.Symbols.{defined, is_taken_constant, generic_type, operator_arity}
-use Rattle.hol_spec.specs.TermSubstitution.{sub}
-use Rattle.hol_spec.specs.Terms.{Term, equation, type_of}
-use Rattle.hol_spec.specs.TypeDefinitions.{first_law_of, second_law_of}
+use Rattle.hol_spec.specs.Rules.{abstraction}
+use Rattle.hol_spec.specs.Symbols.{defined, generic_type, operator_arity, Symbol}
+use Rattle.hol_spec.specs.Terms.{Term, type_of}
 use Rattle.hol_spec.specs.Types.{HolType, types_of}
 use Rattle.hol_spec.specs.declared.StepKind.TheVariants as by_rule
 use Rattle.std.specs.FinMap as entries
-use Rattle.std.specs.List.{list_all, list_any}
 use Rattle.std.specs.Option.{ok_or}
-use Rattle.std.specs.Prelude.{not, nat_eq, is_some}
+use Rattle.std.specs.Prelude.{is_some}
 use Rattle.article_spec.specs.Building.{nil, cons, hd_tl, type_op, var_type, op_type, const, const_term, var, var_term, app_term, abs_term, def, ref, remove, drop_object}
-use Rattle.article_spec.specs.DefiningWords.{define_const, constant_objects, define_const_list, application_parts, predicate_fits, are_new_names, make_type, define_type, define_type_op}
-use Rattle.article_spec.specs.Stating.{stated, restatement, assume_or_meet, axiom_word, export, thm}
+use Rattle.article_spec.specs.DefiningWords.{define_const, constant_objects, define_const_list, define_type_op}
+use Rattle.article_spec.specs.Stating.{assume_or_meet, axiom_word, export, thm}
 use Rattle.article_spec.specs.Step.{obey}
-use Rattle.article_spec.specs.Run.{machine}
 use Rattle.article_spec.specs.declared.commands.Word.{Word}
 use Rattle.article_spec.specs.declared.commands.Word.TheVariants as word
 use Rattle.article_laws.specs.Inferred.{IsRule, rule-inferred}
@@ -106,48 +97,47 @@ drop_object-keeps s = bind s (pop any_object s.stack) _ (λ p1. let x = p1.0 in 
 rule-keeps : (w : Word) → IsRule w → (s : State) → Keeps s (obey s w)
 rule-keeps w h s t e = let i = rule-inferred w h s t e in concluded s (with_stack s i.rest) i.step refl t i.concluded
 
+defining-keeps : (s u : State) (symbols : List Symbol) (rule : Result Step Kind) → u.place ≡ s.place → Keeps s (defining symbols rule u)
+defining-keeps s u symbols rule h = bind s rule _ (λ x. concluded s (with_symbols u symbols) x h)
+
 define_const-keeps : (s : State) → Keeps s (define_const s)
-define_const-keeps s = bind s (pop as_term s.stack) _ (λ p1. let t = p1.0 in let below = p1.1 in bind s (pop as_name below) _ (λ p2. let n = p2.0 in let rest = p2.1 in Keeps-bind s (demand (not (is_taken_constant (symbols_of s.made) n)) NameTaken) _ (Keeps-bind s (demand (is_closed t) NotClosed) _ (bind s (typed t) _ (λ p3. let a = p3 in Keeps-bind s (demand (has_type_variables_of a t) ExtraTypeVars) _ (concluded s (with_symbols (with_stack s (constant n ∷ rest)) (defined (Definition.constant n t) ∷ [])) (step_by by_rule.DefineConst [] (Parameters.constant n t) (derived [] (equation a (Term.constant n a) t))) refl))))))
+define_const-keeps s =
+    bind s (pop as_term s.stack) _ (λ p. bind s (pop as_name p.1) _ (λ q. defining-keeps s (with_stack s (constant q.0 ∷ q.1)) (defined (Definition.constant q.0 p.0) ∷ []) (define_const_step s.made q.0 p.0) refl))
 
 define_const_list-keeps : (s : State) → Keeps s (define_const_list s)
-define_const_list-keeps s = bind s (pop as_theorem s.stack) _ (λ p1. let i = p1.0 in let below = p1.1 in bind s (pop as_constant_pairs below) _ (λ p2. let pairs = p2.0 in let rest = p2.1 in let one = sequent_at s.made i in let equations = defining_equations pairs one.hypotheses in Keeps-bind s (demand (not (list_any (is_taken_constant (symbols_of s.made)) (names_of pairs))) NameTaken) _ (Keeps-bind s (demand (list_all (λ e. is_closed e.1) equations) NotClosed) _ (Keeps-bind s (demand (list_all (λ e. has_type_variables_of e.0.1 e.1) equations) ExtraTypeVars) _ (Keeps-bind s (demand (is_definition_list pairs one) BadDefinitionList) _ (concluded s (with_symbols (with_stack s (list (constant_objects (names_of pairs)) ∷ rest)) (map defined (definitions_in pairs one.hypotheses))) (step_by by_rule.DefineConstList (i ∷ []) (constants pairs) (derived [] (sub [] (constants_put pairs) one.conclusion))) refl))))))
+define_const_list-keeps s =
+    bind s (pop as_theorem s.stack) _ (λ p. bind s (pop as_constant_pairs p.1) _ (λ q.
+    defining-keeps s (with_stack s (list (constant_objects (names_of q.0)) ∷ q.1)) (map defined (definitions_in q.0 (sequent_at s.made p.0).hypotheses)) (define_const_list_step s.made q.0 p.0) refl))
 
 restacked : (s t : State) (stack : List Object) → t.place ≡ (with_stack s stack).place → t.place ≡ s.place
 restacked s t stack h = h
 
-make_type-keeps : (edition : Version) (s : State) (names : TypeNames) (i : ℕ) (c : HolType) (f : Term) → Keeps s (make_type edition s names i c f)
-make_type-keeps edition s names i c f =
-    Keeps-bind s (in_limits (type_measure (new_type names) ∷ type_measure (abstraction_type names c) ∷ type_measure (representation_type names c) ∷ sequent_measure (first_law_of edition names c) ∷ sequent_measure (second_law_of edition names c f) ∷ [])) _
-    (same s _ refl)
-
-define_type-keeps : (s : State) (names : TypeNames) (i : ℕ) → Keeps s (define_type s names i)
-define_type-keeps s names i =
-    let one = sequent_at s.made i in
-    Keeps-bind s (are_new_names (symbols_of s.made) names) _ (Keeps-bind s (predicate_fits names.variables (application_parts one.conclusion)) _ (Keeps-bind s (demand (nat_eq (length one.hypotheses) 0) NotTheSequent) _
-    (bind s (ok_or (application_parts one.conclusion) NotTheSequent) _ (λ p. bind s (typed p.1) _ (λ c. make_type-keeps (version_at s.place) s names i c p.0)))))
+defining_type-keeps : (s u : State) (rule : Result NewType Kind) → u.place ≡ s.place → Keeps s (defining_type rule u)
+defining_type-keeps s u rule h = bind s rule _ (λ x. same s (with_type u x) h)
 
 define_type_op-keeps : (s : State) → Keeps s (define_type_op s)
 define_type_op-keeps s =
-    bind s (pop as_theorem s.stack) _ (λ p. bind s (pop as_names p.1) _ (λ q. bind s (pop as_name q.1) _ (λ r. bind s (pop as_name r.1) _ (λ v. bind s (pop as_name v.1) _
-    (λ w t e. restacked s t w.1 (define_type-keeps (with_stack s w.1) (record { operator = w.0; abstraction = v.0; representation = r.0; variables = q.0 }) p.0 t e))))))
+    bind s (pop as_theorem s.stack) _ (λ p. bind s (pop as_names p.1) _ (λ q. bind s (pop as_name q.1) _ (λ r. bind s (pop as_name r.1) _ (λ v. bind s (pop as_name v.1) _ (λ w.
+    let names : TypeNames = record { operator = w.0; abstraction = v.0; representation = r.0; variables = q.0 } in
+    defining_type-keeps s (with_stack s (constant r.0 ∷ constant v.0 ∷ type_operator w.0 ∷ w.1)) (type_laws (version_at s.place) s.made names p.0) refl)))))
 
-assume_or_meet-keeps : (s : State) (sequent : Sequent) (o : Option ℕ) → Keeps s (assume_or_meet s sequent o)
-assume_or_meet-keeps s sequent (Some i) = concluded s s (restatement i sequent) refl
-assume_or_meet-keeps s sequent None = concluded s (record s { assumptions = s.assumptions ++ next_step s ∷ [] }) (step_by by_rule.Axiom [] (Parameters.sequent sequent) sequent) refl
+assume_or_meet-keeps : (s : State) (x : Step) (o : Option ℕ) → Keeps s (assume_or_meet s x o)
+assume_or_meet-keeps s x (Some i) = concluded s s (restatement i x.sequent) refl
+assume_or_meet-keeps s x None = concluded s (record s { assumptions = s.assumptions ++ next_step s ∷ [] }) x refl
 
 axiom_word-keeps : (s : State) → Keeps s (axiom_word s)
 axiom_word-keeps s =
-    bind s (pop as_term s.stack) _ (λ p. bind s (pop as_terms p.1) _ (λ q. Keeps-bind s (all_bool (p.0 ∷ q.0)) _
-    (λ t e. restacked s t q.1 (assume_or_meet-keeps (with_stack s q.1) (stated q.0 p.0) _ t e))))
+    bind s (pop as_term s.stack) _ (λ p. bind s (pop as_terms p.1) _ (λ q. bind s (axiom_step q.0 p.0) _
+    (λ x t e. restacked s t q.1 (assume_or_meet-keeps (with_stack s q.1) x _ t e))))
 
-export-keeps : (s : State) (i : ℕ) (sequent : Sequent) (o : Option ℕ) → Keeps s (export s i sequent o)
-export-keeps s i sequent (Some j) = same s s refl
-export-keeps s i sequent None = Keeps-bind s (sequent_in_limits sequent) _ (same s _ refl)
+export-keeps : (s : State) (x : Step) (o : Option ℕ) → Keeps s (export s x o)
+export-keeps s x (Some j) = same s s refl
+export-keeps s x None = Keeps-bind s (sequent_in_limits x.sequent) _ (same s _ refl)
 
 thm-keeps : (s : State) → Keeps s (thm s)
 thm-keeps s =
-    bind s (pop as_term s.stack) _ (λ p. bind s (pop as_terms p.1) _ (λ q. bind s (pop as_theorem q.1) _ (λ r. Keeps-bind s (all_bool (p.0 ∷ q.0)) _
-    (Keeps-bind s (follows (sequent_at s.made r.0) (stated q.0 p.0)) _ (export-keeps (with_stack s r.1) r.0 (stated q.0 p.0) _)))))
+    bind s (pop as_term s.stack) _ (λ p. bind s (pop as_terms p.1) _ (λ q. bind s (pop as_theorem q.1) _ (λ r. bind s (restate_step s.made r.0 q.0 p.0) _
+    (λ x. export-keeps (with_stack s r.1) x (first_same s s.exports x.sequent)))))
 
 -- A word keeps the place.
 pub obey-keeps : (s : State) (w : Word) → Keeps s (obey s w)

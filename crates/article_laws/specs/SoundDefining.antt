@@ -24,7 +24,6 @@ use Rattle.hol_spec.specs.Sequents.{Sequent}
 use Rattle.bridge_base.specs.declared.faults.Kind.{Kind}
 use Rattle.bridge_base.specs.declared.faults.Kind.TheVariants.{NameTaken, NotClosed, ExtraTypeVars, BadDefinitionList, BadTypeVars, NotTheSequent}
 use Rattle.hol_spec.specs.Definitions.{Definition, TypeNames}
-use Rattle.hol_spec.specs.NewTypes.{new_type, abstraction_type, representation_type}
 use Rattle.hol_spec.specs.Defining.{is_closed, has_type_variables_of}
 use Rattle.hol_spec.specs.Repeats.{no_repeats}
 use Rattle.hol_spec.specs.Equations.{Equation, equation_parts}
@@ -33,14 +32,13 @@ use Rattle.hol_spec.specs.DefinitionLists.{ConstantPairs, names_of, variables_of
 use Rattle.hol_spec.specs.TypeDefinitions.{IsTypeDefinition, are_type_variables_of, first_law_of, second_law_of}
 use Rattle.hol_spec.specs.Symbols.{Symbol, defined, generic_type, is_input_constant, is_taken_constant}
 use Rattle.proof_laws.specs.SymbolGrowth.{symmetric, generic_type-new, term-more, type-more}
-use Rattle.hol_spec.specs.Taking.{Takes, AreNew}
+use Rattle.hol_spec.specs.Taking.{AreNew}
 use Rattle.hol_spec.specs.Taking as taking
 use Rattle.hol_spec.specs.Taken.{TypeTaken, TermTaken, TermsTaken}
 use Rattle.proof_laws.specs.TakenTerms.{type_of-taken, sides}
 use Rattle.hol_laws.specs.Members.{All-weaker}
 use Rattle.hol_laws.specs.PlaceLaws.{slice_get-append}
-use Rattle.hol_spec.specs.Measures.{type_measure, sequent_measure}
-use Rattle.hol_spec.specs.Rules.{Parameters, constants, IsDefining, derived}
+use Rattle.hol_spec.specs.Rules.{Parameters, IsDefining}
 use Rattle.hol_spec.specs.Rules as rule
 use Rattle.proof_laws.specs.RuleTaken.{lookup-All, list_parts}
 use Rattle.proof_laws.specs.RuleSequents.{predicate-typed}
@@ -50,17 +48,17 @@ use Rattle.hol_spec.specs.Proofs.{Made, symbols_of, steps_of, sequents_of, seque
 use Rattle.proof_laws.specs.ProofGrowth.{All-get, symbols_of-append, sequents_of-append, definitions_of-append, over-sequents}
 use Rattle.proof_laws.specs.ProofLaws.{symbols_of-symbols}
 use Rattle.hol_spec.specs.declared.StepKind.TheVariants as by_rule
-use Rattle.article_spec.specs.State.{Object, State, Objects, version_at}
+use Rattle.article_spec.specs.State.{Object, State, version_at}
 use Rattle.article_spec.specs.State as object
 use Rattle.article_spec.specs.Operands.{as_name, as_names, as_term, as_theorem, as_constant_pairs, pop}
 use Rattle.article_spec.specs.Conditions.{demand, in_limits, typed}
-use Rattle.article_spec.specs.Changes.{with_stack, with_symbols, with_theorem, with_type_definition}
-use Rattle.article_spec.specs.Inference.{step_by}
-use Rattle.article_spec.specs.DefiningWords.{define_const, constant_objects, define_const_list, application_parts, predicate_fits, are_new_names, make_type, define_type, define_type_op}
+use Rattle.article_spec.specs.Changes.{with_stack, with_symbols, with_theorem, with_type_definition, with_type}
+use Rattle.article_spec.specs.RuleSteps.{step_by, application_parts, predicate_fits, are_new_names, NewType, define_const_step, define_const_list_step, type_laws, type_measures, made_of_type}
+use Rattle.article_spec.specs.DefiningWords.{define_const, constant_objects, define_const_list, define_type_op}
 use Rattle.article_laws.specs.Soundness.{IsTermObject, IsObject, AreObjects, IsSound}
-use Rattle.article_laws.specs.SoundStates.{bound, passed, answered, demanded, found, restacked, AreTakenAfter, symbols-more, in_limits-All, sequent-within, theorem-sound, conclude-sound, at_step, definition-more}
+use Rattle.article_laws.specs.SoundStates.{bound, passed, answered, demanded, found, restacked, AreTakenAfter, symbols-more, in_limits-All, sequent-within, theorem-sound, conclude-sound, at_step, definition-more, IsWithin}
 use Rattle.article_laws.specs.SoundOperands.{Anything, any-gives, term-gives, constant_pairs-gives, IsConstantPair, pop-gives}
-use Rattle.article_laws.specs.SoundInference.{sequent_at-IsSequent, typed-is, one_popped}
+use Rattle.article_laws.specs.SoundInference.{sequent_at-IsSequent, typed-is, one_popped, the_step}
 
 -- definitions that are made are among those of what was made
 definitions_of-taken : (made : List Made) (ds : List Definition) → definitions_of (made ++ map Made.symbol (map defined ds)) ≡ definitions_of made ++ ds
@@ -94,10 +92,11 @@ define_const-sound s t g e =
     let symbols = symbols_of s.made in
     let u = bound (pop as_term s.stack) _ t e in
     let n = bound (pop as_name u.0.1) _ t u.2 in
-    let new = passed (demand (not (is_taken_constant symbols n.0.0)) NameTaken) _ t n.2 in
-    let closed = passed (demand (is_closed u.0.0) NotClosed) _ t new.2 in
-    let a = bound (typed u.0.0) _ t closed.2 in
-    let variables = passed (demand (has_type_variables_of a.0 u.0.0) ExtraTypeVars) _ t a.2 in
+    let x = bound (define_const_step s.made n.0.0 u.0.0) _ t n.2 in
+    let new = passed (demand (not (is_taken_constant symbols n.0.0)) NameTaken) _ x.0 x.1 in
+    let closed = passed (demand (is_closed u.0.0) NotClosed) _ x.0 new.2 in
+    let a = bound (typed u.0.0) _ x.0 closed.2 in
+    let variables = passed (demand (has_type_variables_of a.0 u.0.0) ExtraTypeVars) _ x.0 a.2 in
     let h = pop-gives s.made as_term (IsTermObject s.made) (term-gives s.made) s.stack u.0 g.stack u.1 in
     let k = pop-gives s.made as_name (Anything s.made) (any-gives s.made as_name) u.0.1 n.0 h.1 n.1 in
     let d = Definition.constant n.0.0 u.0.0 in
@@ -105,15 +104,18 @@ define_const-sound s t g e =
     let s1 = with_symbols (with_stack s (object.constant n.0.0 ∷ n.0.1)) (defined d ∷ []) in
     let sound : IsSound s1 = symbols-more (defined d ∷ []) (with_stack s (object.constant n.0.0 ∷ n.0.1)) (restacked s (object.constant n.0.0 ∷ n.0.1) g (tt {0}, k.1))
     ((tt {0}, taking.Takes.constant (not-true (is_taken_constant symbols n.0.0) (demanded (not (is_taken_constant symbols n.0.0)) NameTaken new.0 new.1)) defining), h.0.taken, tt {0}) in
-    conclude-sound s1 t _ sound
-    (record {
-      premises = [];
-      earlier = tt {0};
-      rule = rule.Rule.define_const defining refl;
-      defined = are-defined s.made (d ∷ []);
-      parameters = subst (λ xs. TermTaken xs u.0.0) (sym (symbols_of-symbols s.made (defined d ∷ []))) (term-more symbols (defined d ∷ []) u.0.0 h.0.taken);
-      law = tt {0};
-    }) refl variables.2
+    let f = the_step s1 _ x.0 variables.2 (record {
+      next = record {
+        premises = [];
+        earlier = tt {0};
+        rule = rule.Rule.define_const defining refl;
+        defined = are-defined s.made (d ∷ []);
+        parameters = subst (λ xs. TermTaken xs u.0.0) (sym (symbols_of-symbols s.made (defined d ∷ []))) (term-more symbols (defined d ∷ []) u.0.0 h.0.taken);
+        law = tt {0};
+      };
+      inference = refl;
+    }) in
+    conclude-sound s1 t x.0 sound f.next f.inference x.2
 
 -- an equation v = t that is typed and over what is taken
 record Defines (symbols : List Symbol) (p : Variable × Term) : Type 0 where
@@ -211,10 +213,11 @@ define_const_list-sound s t g e =
     let pairs = p.0.0 in
     let one = sequent_at s.made i.0.0 in
     let equations = defining_equations pairs one.hypotheses in
-    let new = passed (demand (not (list_any (is_taken_constant symbols) (names_of pairs))) NameTaken) _ t p.2 in
-    let closed = passed (demand (list_all (λ (e : Variable × Term). is_closed e.1) equations) NotClosed) _ t new.2 in
-    let variables = passed (demand (list_all (λ (e : Variable × Term). has_type_variables_of e.0.1 e.1) equations) ExtraTypeVars) _ t closed.2 in
-    let list = passed (demand (is_definition_list pairs one) BadDefinitionList) _ t variables.2 in
+    let x = bound (define_const_list_step s.made pairs i.0.0) _ t p.2 in
+    let new = passed (demand (not (list_any (is_taken_constant symbols) (names_of pairs))) NameTaken) _ x.0 x.1 in
+    let closed = passed (demand (list_all (λ (e : Variable × Term). is_closed e.1) equations) NotClosed) _ x.0 new.2 in
+    let variables = passed (demand (list_all (λ (e : Variable × Term). has_type_variables_of e.0.1 e.1) equations) ExtraTypeVars) _ x.0 closed.2 in
+    let list = passed (demand (is_definition_list pairs one) BadDefinitionList) _ x.0 variables.2 in
     let h = one_popped s s.stack i.0 g.stack i.1 in
     let k = pop-gives s.made as_constant_pairs (AllByRecursion (IsConstantPair s.made)) (constant_pairs-gives s.made) i.0.1 p.0 h.rest p.1 in
     let is = sequent_at-IsSequent s i.0.0 g h.step in
@@ -229,16 +232,19 @@ define_const_list-sound s t g e =
     let sound : IsSound s1 = symbols-more (map defined ds) (with_stack s stack) (restacked s stack g (constants-objects s.made (names_of pairs), k.1))
     (listed-taken (definiens pairs one.hypotheses) (λ v u f. lookup-All (λ e. IsDefining e.0.1 e.1) equations v u defining f) pairs s.made (λ v u f. (lookup-All (Defines symbols) equations v u defines f).taken)
     parts.defined (not-true (list_any (is_taken_constant symbols) (names_of pairs)) (demanded _ NameTaken new.0 new.1)) parts.names) in
-    conclude-sound s1 t _ sound
-    (record {
-      premises = one ∷ [];
-      earlier = (premise-more s.made (map Made.symbol (map defined ds)) i.0.0 one (at_step s.made i.0.0 h.step), tt {0});
-      rule = rule.Rule.define_const_list defining good refl;
-      defined = are-defined s.made ds;
-      parameters = subst (λ xs. AllByRecursion (λ (q : Name × Variable). TypeTaken xs q.1.1) pairs) (sym (symbols_of-symbols s.made (map defined ds)))
-          (All-weaker (IsConstantPair s.made) (λ q. TypeTaken (symbols ++ map defined ds) q.1.1) (λ q j. type-more symbols (map defined ds) q.1.1 j.1.0) pairs k.0);
-      law = tt {0};
-    }) refl list.2
+    let f = the_step s1 _ x.0 list.2 (record {
+      next = record {
+        premises = one ∷ [];
+        earlier = (premise-more s.made (map Made.symbol (map defined ds)) i.0.0 one (at_step s.made i.0.0 h.step), tt {0});
+        rule = rule.Rule.define_const_list defining good refl;
+        defined = are-defined s.made ds;
+        parameters = subst (λ xs. AllByRecursion (λ (q : Name × Variable). TypeTaken xs q.1.1) pairs) (sym (symbols_of-symbols s.made (map defined ds)))
+            (All-weaker (IsConstantPair s.made) (λ q. TypeTaken (symbols ++ map defined ds) q.1.1) (λ q j. type-more symbols (map defined ds) q.1.1 j.1.0) pairs k.0);
+        law = tt {0};
+      };
+      inference = refl;
+    }) in
+    conclude-sound s1 t x.0 sound f.next f.inference x.2
 
 -- defineTypeOp
 application-is : (p f t : Term) → application_parts p ≡ Some (f, t) → p ≡ app f t
@@ -249,9 +255,9 @@ no-hypotheses : (hs : List Term) → nat_eq (length hs) 0 ≡ true → hs ≡ []
 no-hypotheses [] e = refl
 no-hypotheses (h ∷ hs) e = let l : length (h ∷ hs) ≡ 0 = (Decides-eqb (length (h ∷ hs)) 0).0 e in absurd (omega (arith, l))
 
-record PredicateFits (variables : List Name) (f : Term) : Type 0 where
-  closed : is_closed f ≡ true
-  names : are_type_variables_of variables f ≡ true
+pub record PredicateFits (variables : List Name) (f : Term) : Type 0 where
+  pub closed : is_closed f ≡ true
+  pub names : are_type_variables_of variables f ≡ true
 
 fits-is : (variables : List Name) (o : Option (Term × Term)) (f u : Term) (x : Unit {0}) → predicate_fits variables o ≡ Ok x → o ≡ Some (f, u)
     → PredicateFits variables f
@@ -286,22 +292,23 @@ second_rule : (version : Version) (names : TypeNames) (c : HolType) (f : Term) (
 second_rule Five names c f one d = rule.Rule.second_law_free d refl
 second_rule Six names c f one d = rule.Rule.second_law d refl
 
-make_type-sound : (version : Version) (s t : State) (names : TypeNames) (i : ℕ) (c : HolType) (f u : Term) → IsSound s → i < length (steps_of s.made)
+-- the state in which the operator's constants and the operator stand on the stack
+abbrev named_state : State → TypeNames → State
+named_state s names = with_stack s (object.constant names.representation ∷ object.constant names.abstraction ∷ object.type_operator names.operator ∷ s.stack)
+
+made_of_type-sound : (version : Version) (s : State) (names : TypeNames) (i : ℕ) (c : HolType) (f u : Term) → IsSound s → i < length (steps_of s.made)
     → AreNew (symbols_of s.made) names → PredicateFits names.variables f
-    → (sequent_at s.made i).hypotheses ≡ [] → (sequent_at s.made i).conclusion ≡ app f u → HasType u c → make_type version s names i c f ≡ Ok t → IsSound t
-make_type-sound version s t names i c f u g l new fit alone is typed e =
+    → (sequent_at s.made i).hypotheses ≡ [] → (sequent_at s.made i).conclusion ≡ app f u → HasType u c
+    → AllByRecursion IsWithin (type_measures version names c f) → IsSound (with_type (named_state s names) (made_of_type version names i c f))
+made_of_type-sound version s names i c f u g l new fit alone is typed within =
     let symbols = symbols_of s.made in
     let one = sequent_at s.made i in
-    let measures = type_measure (new_type names) ∷ type_measure (abstraction_type names c) ∷ type_measure (representation_type names c) ∷ sequent_measure (first_law_of version names c) ∷ sequent_measure (second_law_of version names c f) ∷ [] in
-    let limits = passed (in_limits measures) _ t e in
-    let within = in_limits-All measures limits.0 limits.1 in
     let definition : IsTypeDefinition names c f one = record { witness = u; no_hypotheses = alone; holds = is; typed = typed; closed = fit.closed; variables = fit.names } in
     let application : TermTaken symbols (app f u) = subst (TermTaken symbols) is (said-taken s i g l).conclusion in
     let d = Definition.type_operator names c f in
-    let stack = object.constant names.representation ∷ object.constant names.abstraction ∷ object.type_operator names.operator ∷ s.stack in
     let m = Made.type_definition names c f i in
-    let s1 = with_type_definition (with_stack s stack) names c f i in
-    let sound : IsSound s1 = definition-more (with_stack s stack) names c f i (restacked s stack g (tt {0}, (tt {0}, (tt {0}, g.stack))))
+    let s1 = with_type_definition (named_state s names) names c f i in
+    let sound : IsSound s1 = definition-more (named_state s names) names c f i (restacked s (named_state s names).stack g (tt {0}, (tt {0}, (tt {0}, g.stack))))
     (record { one = one; at = at_step s.made i l; defines = definition; taken = taking.Takes.type_operator new (predicate-typed names c f one definition (sequent_at-IsSequent s i g l).conclusion) fit.closed fit.names })
     (type_of-taken symbols u c application.1 typed, application.0) in
     let first = step_by by_rule.FirstLaw (i ∷ []) (Parameters.type_operator names version) (first_law_of version names c) in
@@ -315,23 +322,54 @@ make_type-sound version s t names i c f u g l new fit alone is typed e =
     (sequent-within (first_law_of version names c) within.1.1.1.0) in
     let among2 : IsAmong (definitions_of s2.made) d = subst (λ es. IsAmong es d) (sym (definitions_of-append s1.made (Made.step first ∷ []))) (among-front (definitions_of s1.made) [] d among) in
     let made2 : IsAmong s2.made m = among-front s1.made (Made.step first ∷ []) m made1 in
-    answered (with_theorem s2 second) t limits.2
-    (theorem-sound s2 second sound2
+    theorem-sound s2 second sound2
     (record { premises = one ∷ []; earlier = (premise-more s1.made (Made.step first ∷ []) i one premise, tt {0}); rule = second_rule version names c f one definition; defined = used s2.made names c f u one.conclusion is typed among2; parameters = tt {0}; law = record { c = c; f = f; number = i; among = made2; is = refl } }) refl
-    (sequent-within (second_law_of version names c f) within.1.1.1.1.0))
+    (sequent-within (second_law_of version names c f) within.1.1.1.1.0)
 
-define_type-sound : (s t : State) (names : TypeNames) (i : ℕ) → IsSound s → i < length (steps_of s.made) → define_type s names i ≡ Ok t → IsSound t
-define_type-sound s t names i g l e =
-    let one = sequent_at s.made i in
-    let new = passed (are_new_names (symbols_of s.made) names) _ t e in
-    let fits = passed (predicate_fits names.variables (application_parts one.conclusion)) _ t new.2 in
-    let alone = passed (demand (nat_eq (length one.hypotheses) 0) NotTheSequent) _ t fits.2 in
-    let parts = bound (ok_or (application_parts one.conclusion) NotTheSequent) _ t alone.2 in
-    let c = bound (typed parts.0.1) _ t parts.2 in
+-- what the definition of a type operator makes, with what is judged of it
+pub record TypeMade (version : Version) (made : List Made) (names : TypeNames) (i : ℕ) (x : NewType) : Type 0 where
+  pub c : HolType
+  pub f : Term
+  pub witness : Term
+  pub is : x ≡ made_of_type version names i c f
+  pub new : AreNew (symbols_of made) names
+  pub fits : PredicateFits names.variables f
+  pub alone : (sequent_at made i).hypotheses ≡ []
+  pub says : (sequent_at made i).conclusion ≡ app f witness
+  pub typed : HasType witness c
+  pub within : AllByRecursion IsWithin (type_measures version names c f)
+
+pub type_laws-made : (version : Version) (made : List Made) (names : TypeNames) (i : ℕ) (x : NewType) → type_laws version made names i ≡ Ok x → TypeMade version made names i x
+type_laws-made version made names i x e =
+    let one = sequent_at made i in
+    let new = passed (are_new_names (symbols_of made) names) _ x e in
+    let fits = passed (predicate_fits names.variables (application_parts one.conclusion)) _ x new.2 in
+    let alone = passed (demand (nat_eq (length one.hypotheses) 0) NotTheSequent) _ x fits.2 in
+    let parts = bound (ok_or (application_parts one.conclusion) NotTheSequent) _ x alone.2 in
+    let c = bound (typed parts.0.1) _ x parts.2 in
+    let limits = passed (in_limits (type_measures version names c.0 parts.0.0)) _ x c.2 in
     let some : application_parts one.conclusion ≡ Some (parts.0.0, parts.0.1) = found (application_parts one.conclusion) NotTheSequent parts.0 parts.1 in
-    make_type-sound (version_at s.place) s t names i c.0 parts.0.0 parts.0.1 g l (new-names (symbols_of s.made) names new.0 new.1)
-    (fits-is names.variables (application_parts one.conclusion) parts.0.0 parts.0.1 fits.0 fits.1 some) (no-hypotheses one.hypotheses (demanded (nat_eq (length one.hypotheses) 0) NotTheSequent alone.0 alone.1))
-    (application-is one.conclusion parts.0.0 parts.0.1 some) (typed-is parts.0.1 c.0 c.1) c.2
+    record {
+      c = c.0;
+      f = parts.0.0;
+      witness = parts.0.1;
+      is = the x (made_of_type version names i c.0 parts.0.0) limits.2;
+      new = new-names (symbols_of made) names new.0 new.1;
+      fits = fits-is names.variables (application_parts one.conclusion) parts.0.0 parts.0.1 fits.0 fits.1 some;
+      alone = no-hypotheses one.hypotheses (demanded (nat_eq (length one.hypotheses) 0) NotTheSequent alone.0 alone.1);
+      says = application-is one.conclusion parts.0.0 parts.0.1 some;
+      typed = typed-is parts.0.1 c.0 c.1;
+      within = in_limits-All (type_measures version names c.0 parts.0.0) limits.0 limits.1;
+    }
+  where
+    the : (x y : NewType) → ◌≡◌ {A = Result NewType Kind} (Ok y) (Ok x) → x ≡ y
+    the x y e = cc
+
+type_laws-sound : (version : Version) (s : State) (names : TypeNames) (i : ℕ) (x : NewType) → IsSound s → i < length (steps_of s.made)
+    → type_laws version s.made names i ≡ Ok x → IsSound (with_type (named_state s names) x)
+type_laws-sound version s names i x g l e =
+    let y = type_laws-made version s.made names i x e in
+    subst (λ z. IsSound (with_type (named_state s names) z)) (sym y.is) (made_of_type-sound version s names i y.c y.f y.witness g l y.new y.fits y.alone y.says y.typed y.within)
 
 -- the names that stand under the theorem
 names-popped : (s : State) (A : Type 0) (as_one : Object → Result A Kind) (xs : List Object) (r : A × List Object) → AllByRecursion (IsObject s.made) xs
@@ -347,4 +385,6 @@ define_type_op-sound s t g e =
     let o = bound (pop as_name a.0.1) _ t a.2 in
     let h = one_popped s s.stack i.0 g.stack i.1 in
     let rest = names-popped s Name as_name a.0.1 o.0 (names-popped s Name as_name r.0.1 a.0 (names-popped s Name as_name v.0.1 r.0 (names-popped s (List Name) as_names i.0.1 v.0 h.rest v.1) r.1) a.1) o.1 in
-    define_type-sound (with_stack s o.0.1) t (record { operator = o.0.0; abstraction = a.0.0; representation = r.0.0; variables = v.0.0 }) i.0.0 (restacked s o.0.1 g rest) h.step o.2
+    let names : TypeNames = record { operator = o.0.0; abstraction = a.0.0; representation = r.0.0; variables = v.0.0 } in
+    let x = bound (type_laws (version_at s.place) s.made names i.0.0) _ t o.2 in
+    answered _ t x.2 (type_laws-sound (version_at s.place) (with_stack s o.0.1) names i.0.0 x.0 (restacked s o.0.1 g rest) h.step x.1)

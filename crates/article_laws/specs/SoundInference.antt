@@ -1,5 +1,5 @@
 -- The words that infer keep a state sound: each makes an instance of its rule.
-use Rattle.std.proofs.Common.{◌≡◌, ℕ, ◌<◌, List, [], ◌∷◌, length, true, Option, None, Some, Ok, refl, sym, ap, subst, ◌∙◌, option_to_list, option_map}
+use Rattle.std.proofs.Common.{◌≡◌, ℕ, ◌<◌, List, [], ◌∷◌, length, true, Option, None, Some, Ok, refl, sym, ap, subst, ◌∙◌, option_to_list, option_map, Result}
 use Rattle.std.specs.Prelude.{not}
 use Rattle.std.specs.Option.{ok_or}
 use Rattle.std.specs.List.{AllByRecursion, IsAmong, list_all}
@@ -19,7 +19,7 @@ use Rattle.proof_laws.specs.EquationLaws.{equation_parts-is, equation-sides}
 use Rattle.hol_spec.specs.Taken.{TypeTaken, TermTaken, ParametersTaken}
 use Rattle.hol_spec.specs.Derivations.{definitions_used, infers, type_definition_in}
 use Rattle.hol_laws.specs.Members.{All-weaker}
-use Rattle.hol_spec.specs.Rules.{Parameters, derived, is_free_in, Rule, nothing, variable, substitution, joined, removed, abstraction}
+use Rattle.hol_spec.specs.Rules.{Parameters, derived, is_free_in, Rule}
 use Rattle.hol_spec.specs.Rules as rule
 use Rattle.hol_spec.specs.Proofs.{Step, symbols_of, steps_of, sequents_of, sequent_at, definitions_of, ArePremises, Made, IsLawOfDefinition}
 use Rattle.proof_laws.specs.ProofGrowth.{All-get, proof-sequents}
@@ -27,14 +27,21 @@ use Rattle.hol_spec.specs.declared.StepKind.TheVariants as by_rule
 use Rattle.article_spec.specs.State.{Object, State}
 use Rattle.article_spec.specs.Operands.{as_variable, as_term, as_theorem, as_substitution, pop}
 use Rattle.article_spec.specs.Conditions.{demand, typed, has_type, is_of_type, equation_of}
-use Rattle.article_spec.specs.Changes.{with_stack, conclude}
-use Rattle.article_spec.specs.Inference.{refl_word, assume, eq_mp, abs_thm, app_thm, deduct_antisym, contracted, beta_conv, sym_word, trans_word, prove_hyp, subst_word}
+use Rattle.article_spec.specs.Changes.{with_stack, by_step}
+use Rattle.article_spec.specs.RuleSteps.{contracted, refl_step, assume_step, eq_mp_step, abs_thm_step, app_thm_step, deduct_antisym_step, beta_conv_step, sym_step, trans_step, prove_hyp_step, subst_step}
 use Rattle.article_laws.specs.Soundness.{IsTermObject, IsObject, IsSound}
-use Rattle.article_laws.specs.SoundStates.{bound, passed, demanded, found, list_all-All, restacked, conclude-sound, at_step}
-use Rattle.article_laws.specs.SoundOperands.{variable-gives, term-gives, theorem-gives, substitution-gives, IsStepNumber, IsVariableObject, IsTypePair, IsTermPair, pop-gives}
+use Rattle.article_laws.specs.SoundStates.{bound, passed, demanded, found, list_all-All, restacked, conclude-sound, at_step, IsNext}
+use Rattle.article_laws.specs.SoundOperands.{variable-gives, term-gives, theorem-gives, substitution-gives, IsStepNumber, IsVariableObject, IsTypePair, IsTermPair, pop-gives, Gives}
 use Rattle.hol_spec.specs.Definitions.{TypeNames, Definition}
 use Rattle.hol_spec.specs.declared.StepKind.{StepKind}
 use Rattle.hol_spec.specs.TypeDefinitions.{IsTypeDefinition}
+use Rattle.article_spec.specs.Results.{◌>>=◌}
+use Rattle.hol_spec.specs.Substitution.{TypePairs}
+use Rattle.article_spec.specs.Step.{obey}
+use Rattle.article_spec.specs.declared.commands.Word.{Word}
+use Rattle.article_spec.specs.declared.commands.Word.TheVariants as word
+use Rattle.bridge_base.specs.declared.faults.Kind.{Kind}
+use Rattle.article_laws.specs.Inferred.{IsRule}
 
 -- a theorem on the stack says a sequent
 pub sequent_at-IsSequent : (s : State) (i : ℕ) → IsSound s → i < length (steps_of s.made) → IsSequent (sequent_at s.made i)
@@ -91,168 +98,192 @@ lawless before kind ks ss p s (rule.Rule.second_law {names = names} {c = c} {f =
 lawless before kind ks ss p s (rule.Rule.first_law_free {names = names} {c = c} {f = f} {one = one} d e) u = absurd (no_definition names c f one d u)
 lawless before kind ks ss p s (rule.Rule.second_law_free {names = names} {c = c} {f = f} {one = one} d e) u = absurd (no_definition names c f one d u)
 
--- a state whose stack is what is left, and a step on one or two premises
-module _ (s t : State) (g : IsSound s) (rest : List Object) (left : AllByRecursion (IsObject s.made) rest) where
-  left_over : IsSound (with_stack s rest)
-  left_over = restacked s rest g left
+-- a step infers, and what it asks is so
+pub record Follows (s : State) (x : Step) : Type 0 where
+  pub next : IsNext s x
+  pub inference : infers x.kind ≡ true
 
-  on_none : (x : Step) → infers x.kind ≡ true → x.premises ≡ [] → Rule x.kind [] x.parameters x.sequent → definitions_used x.kind [] x.parameters ≡ []
-      → ParametersTaken (symbols_of s.made) x.parameters
-      → conclude (with_stack s rest) x ≡ Ok t → IsSound t
-  on_none x inference none r u p e =
-      conclude-sound (with_stack s rest) t x left_over
-      (record { premises = []; earlier = subst (λ ns. ArePremises (sequents_of s.made) ns []) (sym none) (tt {0}); rule = r; defined = subst (AllByRecursion (IsAmong (definitions_of s.made))) (sym u) (tt {0}); parameters = p; law = lawless s.made x.kind x.premises _ x.parameters x.sequent r u }) inference e
-
-  on_one : (x : Step) → infers x.kind ≡ true → (i : ℕ) → i < length (steps_of s.made) → x.premises ≡ i ∷ []
-      → Rule x.kind (sequent_at s.made i ∷ []) x.parameters x.sequent → definitions_used x.kind (sequent_at s.made i ∷ []) x.parameters ≡ []
-      → ParametersTaken (symbols_of s.made) x.parameters → conclude (with_stack s rest) x ≡ Ok t → IsSound t
-  on_one x inference i l one r u p e =
-      conclude-sound (with_stack s rest) t x left_over
-      (record { premises = sequent_at s.made i ∷ []; earlier = subst (λ ns. ArePremises (sequents_of s.made) ns (sequent_at s.made i ∷ [])) (sym one) (at_step s.made i l, tt {0}); rule = r; defined = subst (AllByRecursion (IsAmong (definitions_of s.made))) (sym u) (tt {0}); parameters = p; law = lawless s.made x.kind x.premises _ x.parameters x.sequent r u }) inference e
-
-  on_two : (x : Step) → infers x.kind ≡ true → (i j : ℕ) → i < length (steps_of s.made) → j < length (steps_of s.made) → x.premises ≡ i ∷ j ∷ []
-      → Rule x.kind (sequent_at s.made i ∷ sequent_at s.made j ∷ []) x.parameters x.sequent
-      → definitions_used x.kind (sequent_at s.made i ∷ sequent_at s.made j ∷ []) x.parameters ≡ [] → ParametersTaken (symbols_of s.made) x.parameters → conclude (with_stack s rest) x ≡ Ok t → IsSound t
-  on_two x inference i j l k two r u p e =
-      conclude-sound (with_stack s rest) t x left_over
-      (record {
-        premises = sequent_at s.made i ∷ sequent_at s.made j ∷ [];
-        earlier = subst (λ ns. ArePremises (sequents_of s.made) ns (sequent_at s.made i ∷ sequent_at s.made j ∷ [])) (sym two) (at_step s.made i l, (at_step s.made j k, tt {0}));
-        rule = r;
-        defined = subst (AllByRecursion (IsAmong (definitions_of s.made))) (sym u) (tt {0});
-        parameters = p;
-        law = lawless s.made x.kind x.premises _ x.parameters x.sequent r u;
-      }) inference e
-
-pub refl-sound : (s t : State) → IsSound s → refl_word s ≡ Ok t → IsSound t
-refl-sound s t g e =
-    let u = bound (pop as_term s.stack) _ t e in
-    let a = bound (typed u.0.0) _ t u.2 in
-    let h = pop-gives s.made as_term (IsTermObject s.made) (term-gives s.made) s.stack u.0 g.stack u.1 in
-    on_none s t g u.0.1 h.1 _ refl refl (rule.Rule.refl (typed-is u.0.0 a.0 a.1) refl) refl h.0.taken a.2
-
-pub assume-sound : (s t : State) → IsSound s → assume s ≡ Ok t → IsSound t
-assume-sound s t g e =
-    let p = bound (pop as_term s.stack) _ t e in
-    let b = passed (demand (is_of_type bool p.0.0) NotBool) _ t p.2 in
-    let h = pop-gives s.made as_term (IsTermObject s.made) (term-gives s.made) s.stack p.0 g.stack p.1 in
-    on_none s t g p.0.1 h.1 _ refl refl (rule.Rule.assume (of_type bool p.0.0 (demanded (is_of_type bool p.0.0) NotBool b.0 b.1)) refl) refl h.0.taken b.2
-
-pub eq_mp-sound : (s t : State) → IsSound s → eq_mp s ≡ Ok t → IsSound t
-eq_mp-sound s t g e =
-    let j = bound (pop as_theorem s.stack) _ t e in
-    let i = bound (pop as_theorem j.0.1) _ t j.2 in
-    let one = sequent_at s.made i.0.0 in
-    let two = sequent_at s.made j.0.0 in
-    let q = bound (equation_of one) _ t i.2 in
-    let alike = passed (demand (term_eq two.conclusion q.0.left) NotAlike) _ t q.2 in
-    let h = one_popped s s.stack j.0 g.stack j.1 in
-    let k = one_popped s j.0.1 i.0 h.rest i.1 in
-    let is = equation_is one q.0 q.1 in
-    let same : two.conclusion ≡ q.0.left = (term_eq-Decides two.conclusion q.0.left).0 (demanded (term_eq two.conclusion q.0.left) NotAlike alike.0 alike.1) in
-    let left_type : HasType q.0.left q.0.ty = (equation-sides q.0.ty q.0.left q.0.right one.conclusion is (sequent_at-IsSequent s i.0.0 g k.step).conclusion).left in
-    let truth : HasType q.0.left bool = subst (λ u. HasType u bool) same (sequent_at-IsSequent s j.0.0 g h.step).conclusion in
-    let ty : q.0.ty ≡ bool = same_Some _ _ (sym left_type ∙ truth) in
-    on_two s t g i.0.1 k.rest _ refl i.0.0 j.0.0 k.step h.step refl (rule.Rule.eq_mp (is ∙ ap (λ a. equation a q.0.left q.0.right) ty) same refl) refl (tt {0}) alike.2
-
-pub abs_thm-sound : (s t : State) → IsSound s → abs_thm s ≡ Ok t → IsSound t
-abs_thm-sound s t g e =
-    let i = bound (pop as_theorem s.stack) _ t e in
-    let v = bound (pop as_variable i.0.1) _ t i.2 in
-    let one = sequent_at s.made i.0.0 in
-    let q = bound (equation_of one) _ t v.2 in
-    let fresh = passed (demand (not (is_free_in v.0.0 one.hypotheses)) VarInHyps) _ t q.2 in
-    let h = one_popped s s.stack i.0 g.stack i.1 in
-    let k = pop-gives s.made as_variable (IsVariableObject s.made) (variable-gives s.made) i.0.1 v.0 h.rest v.1 in
-    on_one s t g v.0.1 k.1 _ refl i.0.0 h.step refl (rule.Rule.abs_thm (equation_is one q.0 q.1) (not-true (is_free_in v.0.0 one.hypotheses) (demanded (not (is_free_in v.0.0 one.hypotheses)) VarInHyps fresh.0 fresh.1)) refl) refl k.0.0 fresh.2
-
-pub app_thm-sound : (s t : State) → IsSound s → app_thm s ≡ Ok t → IsSound t
-app_thm-sound s t g e =
-    let j = bound (pop as_theorem s.stack) _ t e in
-    let i = bound (pop as_theorem j.0.1) _ t j.2 in
-    let one = sequent_at s.made i.0.0 in
-    let two = sequent_at s.made j.0.0 in
-    let f = bound (equation_of one) _ t i.2 in
-    let x = bound (equation_of two) _ t f.2 in
-    let b = bound (ok_or (application_type (Some f.0.ty) (Some x.0.ty)) TypeMismatch) _ t x.2 in
-    let h = one_popped s s.stack j.0 g.stack j.1 in
-    let k = one_popped s j.0.1 i.0 h.rest i.1 in
-    let parts = application_type-is (Some f.0.ty) (Some x.0.ty) b.0 (found (application_type (Some f.0.ty) (Some x.0.ty)) TypeMismatch b.0 b.1) in
-    let functions : f.0.ty ≡ function parts.0 b.0 = same_Some _ _ parts.1.0 in
-    let arguments : x.0.ty ≡ parts.0 = same_Some _ _ parts.1.1 in
-    on_two s t g i.0.1 k.rest _ refl i.0.0 j.0.0 k.step h.step refl
-    (rule.Rule.app_thm (equation_is one f.0 f.1 ∙ ap (λ a. equation a f.0.left f.0.right) functions) (equation_is two x.0 x.1 ∙ ap (λ a. equation a x.0.left x.0.right) arguments) refl) refl (tt {0}) b.2
-
-pub deduct_antisym-sound : (s t : State) → IsSound s → deduct_antisym s ≡ Ok t → IsSound t
-deduct_antisym-sound s t g e =
-    let j = bound (pop as_theorem s.stack) _ t e in
-    let i = bound (pop as_theorem j.0.1) _ t j.2 in
-    let h = one_popped s s.stack j.0 g.stack j.1 in
-    let k = one_popped s j.0.1 i.0 h.rest i.1 in
-    on_two s t g i.0.1 k.rest _ refl i.0.0 j.0.0 k.step h.step refl (rule.Rule.deduct_antisym refl) refl (tt {0}) i.2
+pub the_step : (s : State) (x y : Step) → ◌≡◌ {A = Result Step Kind} (Ok x) (Ok y) → Follows s x → Follows s y
+the_step s x y e h = let f : x ≡ y = cc in subst (Follows s) f h
 
 contracted-rule : (t u : Term) (a : HolType) → contracted t ≡ Some u → HasType t a → Rule by_rule.BetaConv [] (Parameters.term t) (derived [] (equation a t u))
 contracted-rule (app (lam b c) x) u a e h = rule.Rule.beta_conv h (ap (λ w. derived [] (equation a (app (lam b c) x) w)) (sym (same_Some _ _ e)))
 contracted-rule t u a e h = absurd (cc)
 
-pub beta_conv-sound : (s t : State) → IsSound s → beta_conv s ≡ Ok t → IsSound t
-beta_conv-sound s t g e =
-    let r = bound (pop as_term s.stack) _ t e in
-    let u = bound (ok_or (contracted r.0.0) NotRedex) _ t r.2 in
-    let a = bound (typed r.0.0) _ t u.2 in
-    let h = pop-gives s.made as_term (IsTermObject s.made) (term-gives s.made) s.stack r.0 g.stack r.1 in
-    on_none s t g r.0.1 h.1 _ refl refl (contracted-rule r.0.0 u.0 a.0 (found (contracted r.0.0) NotRedex u.0 u.1) (typed-is r.0.0 a.0 a.1)) refl h.0.taken a.2
-
-pub sym-sound : (s t : State) → IsSound s → sym_word s ≡ Ok t → IsSound t
-sym-sound s t g e =
-    let i = bound (pop as_theorem s.stack) _ t e in
-    let one = sequent_at s.made i.0.0 in
-    let q = bound (equation_of one) _ t i.2 in
-    let h = one_popped s s.stack i.0 g.stack i.1 in
-    on_one s t g i.0.1 h.rest _ refl i.0.0 h.step refl (rule.Rule.sym (equation_is one q.0 q.1) refl) refl (tt {0}) q.2
-
-pub trans-sound : (s t : State) → IsSound s → trans_word s ≡ Ok t → IsSound t
-trans-sound s t g e =
-    let j = bound (pop as_theorem s.stack) _ t e in
-    let i = bound (pop as_theorem j.0.1) _ t j.2 in
-    let one = sequent_at s.made i.0.0 in
-    let two = sequent_at s.made j.0.0 in
-    let p = bound (equation_of one) _ t i.2 in
-    let q = bound (equation_of two) _ t p.2 in
-    let alike = passed (demand (term_eq q.0.left p.0.right) NotAlike) _ t q.2 in
-    let h = one_popped s s.stack j.0 g.stack j.1 in
-    let k = one_popped s j.0.1 i.0 h.rest i.1 in
-    let same : q.0.left ≡ p.0.right = (term_eq-Decides q.0.left p.0.right).0 (demanded (term_eq q.0.left p.0.right) NotAlike alike.0 alike.1) in
-    let first = equation_is one p.0 p.1 in
-    let second = equation_is two q.0 q.1 in
-    let middle : HasType p.0.right p.0.ty = (equation-sides p.0.ty p.0.left p.0.right one.conclusion first (sequent_at-IsSequent s i.0.0 g k.step).conclusion).right in
-    let again : HasType q.0.left q.0.ty = (equation-sides q.0.ty q.0.left q.0.right two.conclusion second (sequent_at-IsSequent s j.0.0 g h.step).conclusion).left in
-    let ty : q.0.ty ≡ p.0.ty = same_Some _ _ (sym again ∙ ap type_of same ∙ middle) in
-    on_two s t g i.0.1 k.rest _ refl i.0.0 j.0.0 k.step h.step refl
-    (rule.Rule.trans first (second ∙ (λ n. equation (ty n) (same n) q.0.right)) refl) refl (tt {0}) alike.2
-
-pub prove_hyp-sound : (s t : State) → IsSound s → prove_hyp s ≡ Ok t → IsSound t
-prove_hyp-sound s t g e =
-    let j = bound (pop as_theorem s.stack) _ t e in
-    let i = bound (pop as_theorem j.0.1) _ t j.2 in
-    let h = one_popped s s.stack j.0 g.stack j.1 in
-    let k = one_popped s j.0.1 i.0 h.rest i.1 in
-    on_two s t g i.0.1 k.rest _ refl i.0.0 j.0.0 k.step h.step refl (rule.Rule.prove_hyp refl) refl (tt {0}) i.2
-
 fitting : (terms : TermPairs) → AllByRecursion (λ (p : Variable × Term). HasType p.1 p.0.1) terms → AreFitting terms
 fitting [] h = tt
 fitting (p ∷ ps) h = (h.0, fitting ps h.1)
 
-pub subst-sound : (s t : State) → IsSound s → subst_word s ≡ Ok t → IsSound t
-subst-sound s t g e =
-    let i = bound (pop as_theorem s.stack) _ t e in
-    let p = bound (pop as_substitution i.0.1) _ t i.2 in
-    let types = p.0.0.0 in
-    let terms = p.0.0.1 in
-    let fits = passed (demand (list_all (λ (q : Variable × Term). is_of_type q.0.1 q.1) terms) BadSubst) _ t p.2 in
-    let h = one_popped s s.stack i.0 g.stack i.1 in
-    let k = pop-gives s.made as_substitution (λ q. AllByRecursion (IsTypePair s.made) q.0 × AllByRecursion (IsTermPair s.made) q.1) (substitution-gives s.made) i.0.1 p.0 h.rest p.1 in
-    let all = list_all-All (λ (q : Variable × Term). is_of_type q.0.1 q.1) (λ q. HasType q.1 q.0.1) (λ q e. of_type q.0.1 q.1 e) terms (demanded _ BadSubst fits.0 fits.1) in
-    on_one s t g p.0.1 k.1 _ refl i.0.0 h.step refl (rule.Rule.subst (fitting terms all) refl) refl
-    (All-weaker (IsTypePair s.made) (λ q. TypeTaken (symbols_of s.made) q.1) (λ q h. h.1.0) types k.0.0, All-weaker (IsTermPair s.made) (λ q. TypeTaken (symbols_of s.made) q.0.1 × TermTaken (symbols_of s.made) q.1) (λ q h. (h.0.0, h.1.taken)) terms k.0.1)
-    fits.2
+-- each rule's step follows
+module _ (s : State) (g : IsSound s) where
+  -- on no premise, on one and on two
+  on_none : (x y : Step) → ◌≡◌ {A = Result Step Kind} (Ok x) (Ok y) → infers x.kind ≡ true → x.premises ≡ [] → Rule x.kind [] x.parameters x.sequent
+      → definitions_used x.kind [] x.parameters ≡ [] → ParametersTaken (symbols_of s.made) x.parameters → Follows s y
+  on_none x y e inference none r u p = the_step s x y e (record {
+    next = record { premises = []; earlier = subst (λ ns. ArePremises (sequents_of s.made) ns []) (sym none) (tt {0}); rule = r; defined = subst (AllByRecursion (IsAmong (definitions_of s.made))) (sym u) (tt {0}); parameters = p; law = lawless s.made x.kind x.premises _ x.parameters x.sequent r u };
+    inference = inference;
+  })
+
+  on_one : (x y : Step) → ◌≡◌ {A = Result Step Kind} (Ok x) (Ok y) → infers x.kind ≡ true → (i : ℕ) → i < length (steps_of s.made) → x.premises ≡ i ∷ []
+      → Rule x.kind (sequent_at s.made i ∷ []) x.parameters x.sequent → definitions_used x.kind (sequent_at s.made i ∷ []) x.parameters ≡ []
+      → ParametersTaken (symbols_of s.made) x.parameters → Follows s y
+  on_one x y e inference i l one r u p = the_step s x y e (record {
+    next = record { premises = sequent_at s.made i ∷ []; earlier = subst (λ ns. ArePremises (sequents_of s.made) ns (sequent_at s.made i ∷ [])) (sym one) (at_step s.made i l, tt {0}); rule = r; defined = subst (AllByRecursion (IsAmong (definitions_of s.made))) (sym u) (tt {0}); parameters = p; law = lawless s.made x.kind x.premises _ x.parameters x.sequent r u };
+    inference = inference;
+  })
+
+  on_two : (x y : Step) → ◌≡◌ {A = Result Step Kind} (Ok x) (Ok y) → infers x.kind ≡ true → (i j : ℕ) → i < length (steps_of s.made) → j < length (steps_of s.made) → x.premises ≡ i ∷ j ∷ []
+      → Rule x.kind (sequent_at s.made i ∷ sequent_at s.made j ∷ []) x.parameters x.sequent
+      → definitions_used x.kind (sequent_at s.made i ∷ sequent_at s.made j ∷ []) x.parameters ≡ [] → ParametersTaken (symbols_of s.made) x.parameters → Follows s y
+  on_two x y e inference i j l k two r u p = the_step s x y e (record {
+    next = record {
+      premises = sequent_at s.made i ∷ sequent_at s.made j ∷ [];
+      earlier = subst (λ ns. ArePremises (sequents_of s.made) ns (sequent_at s.made i ∷ sequent_at s.made j ∷ [])) (sym two) (at_step s.made i l, (at_step s.made j k, tt {0}));
+      rule = r;
+      defined = subst (AllByRecursion (IsAmong (definitions_of s.made))) (sym u) (tt {0});
+      parameters = p;
+      law = lawless s.made x.kind x.premises _ x.parameters x.sequent r u;
+    };
+    inference = inference;
+  })
+
+  refl-follows : (t : Term) (x : Step) → IsTermObject s.made t → refl_step t ≡ Ok x → Follows s x
+  refl-follows t x h e =
+      let a = bound (typed t) _ x e in
+      on_none _ x a.2 refl refl (rule.Rule.refl (typed-is t a.0 a.1) refl) refl h.taken
+
+  assume-follows : (p : Term) (x : Step) → IsTermObject s.made p → assume_step p ≡ Ok x → Follows s x
+  assume-follows p x h e =
+      let b = passed (demand (is_of_type bool p) NotBool) _ x e in
+      on_none _ x b.2 refl refl (rule.Rule.assume (of_type bool p (demanded (is_of_type bool p) NotBool b.0 b.1)) refl) refl h.taken
+
+  eq_mp-follows : (j i : ℕ) (x : Step) → IsStepNumber s.made j → IsStepNumber s.made i → eq_mp_step s.made i j ≡ Ok x → Follows s x
+  eq_mp-follows j i x k l e =
+      let one = sequent_at s.made i in
+      let two = sequent_at s.made j in
+      let q = bound (equation_of one) _ x e in
+      let alike = passed (demand (term_eq two.conclusion q.0.left) NotAlike) _ x q.2 in
+      let is = equation_is one q.0 q.1 in
+      let same : two.conclusion ≡ q.0.left = (term_eq-Decides two.conclusion q.0.left).0 (demanded (term_eq two.conclusion q.0.left) NotAlike alike.0 alike.1) in
+      let left_type : HasType q.0.left q.0.ty = (equation-sides q.0.ty q.0.left q.0.right one.conclusion is (sequent_at-IsSequent s i g l).conclusion).left in
+      let truth : HasType q.0.left bool = subst (λ u. HasType u bool) same (sequent_at-IsSequent s j g k).conclusion in
+      let ty : q.0.ty ≡ bool = same_Some _ _ (sym left_type ∙ truth) in
+      on_two _ x alike.2 refl i j l k refl (rule.Rule.eq_mp (is ∙ ap (λ a. equation a q.0.left q.0.right) ty) same refl) refl (tt {0})
+
+  abs_thm-follows : (i : ℕ) (v : Variable) (x : Step) → IsStepNumber s.made i → IsVariableObject s.made v → abs_thm_step s.made v i ≡ Ok x → Follows s x
+  abs_thm-follows i v x l h e =
+      let one = sequent_at s.made i in
+      let q = bound (equation_of one) _ x e in
+      let fresh = passed (demand (not (is_free_in v one.hypotheses)) VarInHyps) _ x q.2 in
+      on_one _ x fresh.2 refl i l refl (rule.Rule.abs_thm (equation_is one q.0 q.1) (not-true (is_free_in v one.hypotheses) (demanded (not (is_free_in v one.hypotheses)) VarInHyps fresh.0 fresh.1)) refl) refl h.0
+
+  app_thm-follows : (j i : ℕ) (x : Step) → IsStepNumber s.made j → IsStepNumber s.made i → app_thm_step s.made i j ≡ Ok x → Follows s x
+  app_thm-follows j i x k l e =
+      let one = sequent_at s.made i in
+      let two = sequent_at s.made j in
+      let f = bound (equation_of one) _ x e in
+      let a = bound (equation_of two) _ x f.2 in
+      let b = bound (ok_or (application_type (Some f.0.ty) (Some a.0.ty)) TypeMismatch) _ x a.2 in
+      let parts = application_type-is (Some f.0.ty) (Some a.0.ty) b.0 (found (application_type (Some f.0.ty) (Some a.0.ty)) TypeMismatch b.0 b.1) in
+      let functions : f.0.ty ≡ function parts.0 b.0 = same_Some _ _ parts.1.0 in
+      let arguments : a.0.ty ≡ parts.0 = same_Some _ _ parts.1.1 in
+      on_two _ x b.2 refl i j l k refl
+      (rule.Rule.app_thm (equation_is one f.0 f.1 ∙ ap (λ a. equation a f.0.left f.0.right) functions) (equation_is two a.0 a.1 ∙ ap (λ b. equation b a.0.left a.0.right) arguments) refl) refl (tt {0})
+
+  deduct_antisym-follows : (j i : ℕ) (x : Step) → IsStepNumber s.made j → IsStepNumber s.made i → deduct_antisym_step s.made i j ≡ Ok x → Follows s x
+  deduct_antisym-follows j i x k l e = on_two _ x e refl i j l k refl (rule.Rule.deduct_antisym refl) refl (tt {0})
+
+  beta_conv-follows : (t : Term) (x : Step) → IsTermObject s.made t → beta_conv_step t ≡ Ok x → Follows s x
+  beta_conv-follows t x h e =
+      let u = bound (ok_or (contracted t) NotRedex) _ x e in
+      let a = bound (typed t) _ x u.2 in
+      on_none _ x a.2 refl refl (contracted-rule t u.0 a.0 (found (contracted t) NotRedex u.0 u.1) (typed-is t a.0 a.1)) refl h.taken
+
+  sym-follows : (i : ℕ) (x : Step) → IsStepNumber s.made i → sym_step s.made i ≡ Ok x → Follows s x
+  sym-follows i x l e =
+      let one = sequent_at s.made i in
+      let q = bound (equation_of one) _ x e in
+      on_one _ x q.2 refl i l refl (rule.Rule.sym (equation_is one q.0 q.1) refl) refl (tt {0})
+
+  trans-follows : (j i : ℕ) (x : Step) → IsStepNumber s.made j → IsStepNumber s.made i → trans_step s.made i j ≡ Ok x → Follows s x
+  trans-follows j i x k l e =
+      let one = sequent_at s.made i in
+      let two = sequent_at s.made j in
+      let p = bound (equation_of one) _ x e in
+      let q = bound (equation_of two) _ x p.2 in
+      let alike = passed (demand (term_eq q.0.left p.0.right) NotAlike) _ x q.2 in
+      let same : q.0.left ≡ p.0.right = (term_eq-Decides q.0.left p.0.right).0 (demanded (term_eq q.0.left p.0.right) NotAlike alike.0 alike.1) in
+      let first = equation_is one p.0 p.1 in
+      let second = equation_is two q.0 q.1 in
+      let middle : HasType p.0.right p.0.ty = (equation-sides p.0.ty p.0.left p.0.right one.conclusion first (sequent_at-IsSequent s i g l).conclusion).right in
+      let again : HasType q.0.left q.0.ty = (equation-sides q.0.ty q.0.left q.0.right two.conclusion second (sequent_at-IsSequent s j g k).conclusion).left in
+      let ty : q.0.ty ≡ p.0.ty = same_Some _ _ (sym again ∙ ap type_of same ∙ middle) in
+      on_two _ x alike.2 refl i j l k refl (rule.Rule.trans first (second ∙ (λ n. equation (ty n) (same n) q.0.right)) refl) refl (tt {0})
+
+  prove_hyp-follows : (j i : ℕ) (x : Step) → IsStepNumber s.made j → IsStepNumber s.made i → prove_hyp_step s.made i j ≡ Ok x → Follows s x
+  prove_hyp-follows j i x k l e = on_two _ x e refl i j l k refl (rule.Rule.prove_hyp refl) refl (tt {0})
+
+  subst-follows : (i : ℕ) (p : TypePairs × TermPairs) (x : Step) → IsStepNumber s.made i → AllByRecursion (IsTypePair s.made) p.0 × AllByRecursion (IsTermPair s.made) p.1
+      → subst_step s.made p.0 p.1 i ≡ Ok x → Follows s x
+  subst-follows i p x l h e =
+      let fits = passed (demand (list_all (λ (q : Variable × Term). is_of_type q.0.1 q.1) p.1) BadSubst) _ x e in
+      let all = list_all-All (λ (q : Variable × Term). is_of_type q.0.1 q.1) (λ q. HasType q.1 q.0.1) (λ q e. of_type q.0.1 q.1 e) p.1 (demanded _ BadSubst fits.0 fits.1) in
+      on_one _ x fits.2 refl i l refl (rule.Rule.subst (fitting p.1 all) refl) refl
+      (All-weaker (IsTypePair s.made) (λ q. TypeTaken (symbols_of s.made) q.1) (λ q h. h.1.0) p.0 h.0, All-weaker (IsTermPair s.made) (λ q. TypeTaken (symbols_of s.made) q.0.1 × TermTaken (symbols_of s.made) q.1) (λ q h. (h.0.0, h.1.taken)) p.1 h.1)
+
+-- a word that pops one operand, or two, and concludes a step that follows
+module _ (s t : State) (g : IsSound s) where
+  by_step-sound : (rest : List Object) → AllByRecursion (IsObject s.made) rest → (rule : Result Step Kind) → ((x : Step) → rule ≡ Ok x → Follows s x)
+      → by_step rule (with_stack s rest) ≡ Ok t → IsSound t
+  by_step-sound rest left rule f e =
+      let x = bound rule _ t e in
+      let h = f x.0 x.1 in
+      let n = h.next in
+      conclude-sound (with_stack s rest) t x.0 (restacked s rest g left)
+      (record { premises = n.premises; earlier = n.earlier; rule = n.rule; defined = n.defined; parameters = n.parameters; law = n.law }) h.inference x.2
+
+  of_one : {A : Type 0} (as_one : Object → Result A Kind) (P : A → Type 0) → Gives s.made as_one P → (rule : A → Result Step Kind)
+      → ((a : A) (x : Step) → P a → rule a ≡ Ok x → Follows s x)
+      → (pop as_one s.stack >>= λ p. by_step (rule p.0) (with_stack s p.1)) ≡ Ok t → IsSound t
+  of_one as_one P gives rule f e =
+      let p = bound (pop as_one s.stack) _ t e in
+      let h = pop-gives s.made as_one P gives s.stack p.0 g.stack p.1 in
+      by_step-sound p.0.1 h.1 (rule p.0.0) (λ x k. f p.0.0 x h.0 k) p.2
+
+  of_two : {A B : Type 0} (as_one : Object → Result A Kind) (P : A → Type 0) → Gives s.made as_one P
+      → (as_two : Object → Result B Kind) (Q : B → Type 0) → Gives s.made as_two Q → (rule : A → B → Result Step Kind)
+      → ((a : A) (b : B) (x : Step) → P a → Q b → rule a b ≡ Ok x → Follows s x)
+      → (pop as_one s.stack >>= λ p. pop as_two p.1 >>= λ q. by_step (rule p.0 q.0) (with_stack s q.1)) ≡ Ok t → IsSound t
+  of_two as_one P gives as_two Q also rule f e =
+      let p = bound (pop as_one s.stack) _ t e in
+      let h = pop-gives s.made as_one P gives s.stack p.0 g.stack p.1 in
+      let q = bound (pop as_two p.0.1) _ t p.2 in
+      let k = pop-gives s.made as_two Q also p.0.1 q.0 h.1 q.1 in
+      by_step-sound q.0.1 k.1 (rule p.0.0 q.0.0) (λ x l. f p.0.0 q.0.0 x h.0 k.0 l) q.2
+
+  of_term : (rule : Term → Result Step Kind) → ((a : Term) (x : Step) → IsTermObject s.made a → rule a ≡ Ok x → Follows s x)
+      → (pop as_term s.stack >>= λ p. by_step (rule p.0) (with_stack s p.1)) ≡ Ok t → IsSound t
+  of_term rule f e = of_one as_term (IsTermObject s.made) (term-gives s.made) rule f e
+
+  -- the one on top is the second
+  of_theorems : (rule : ℕ → ℕ → Result Step Kind) → ((j i : ℕ) (x : Step) → IsStepNumber s.made j → IsStepNumber s.made i → rule j i ≡ Ok x → Follows s x)
+      → (pop as_theorem s.stack >>= λ p. pop as_theorem p.1 >>= λ q. by_step (rule p.0 q.0) (with_stack s q.1)) ≡ Ok t → IsSound t
+  of_theorems rule f e = of_two as_theorem (IsStepNumber s.made) (theorem-gives s.made) as_theorem (IsStepNumber s.made) (theorem-gives s.made) rule f e
+
+-- The words of the rules keep a state sound.
+pub rule-sound : (w : Word) → IsRule w → (s t : State) → IsSound s → obey s w ≡ Ok t → IsSound t
+rule-sound word.Refl h s t g e = of_term s t g refl_step (refl-follows s g) e
+rule-sound word.Assume h s t g e = of_term s t g assume_step (assume-follows s g) e
+rule-sound word.EqMp h s t g e = of_theorems s t g (λ j i. eq_mp_step s.made i j) (eq_mp-follows s g) e
+rule-sound word.AbsThm h s t g e =
+    of_two s t g as_theorem (IsStepNumber s.made) (theorem-gives s.made) as_variable (IsVariableObject s.made) (variable-gives s.made) (λ i v. abs_thm_step s.made v i) (abs_thm-follows s g) e
+rule-sound word.AppThm h s t g e = of_theorems s t g (λ j i. app_thm_step s.made i j) (app_thm-follows s g) e
+rule-sound word.DeductAntisym h s t g e = of_theorems s t g (λ j i. deduct_antisym_step s.made i j) (deduct_antisym-follows s g) e
+rule-sound word.BetaConv h s t g e = of_term s t g beta_conv_step (beta_conv-follows s g) e
+rule-sound word.Sym h s t g e = of_one s t g as_theorem (IsStepNumber s.made) (theorem-gives s.made) (sym_step s.made) (sym-follows s g) e
+rule-sound word.Trans h s t g e = of_theorems s t g (λ j i. trans_step s.made i j) (trans-follows s g) e
+rule-sound word.ProveHyp h s t g e = of_theorems s t g (λ j i. prove_hyp_step s.made i j) (prove_hyp-follows s g) e
+rule-sound word.Subst h s t g e =
+    of_two s t g as_theorem (IsStepNumber s.made) (theorem-gives s.made) as_substitution (λ q. AllByRecursion (IsTypePair s.made) q.0 × AllByRecursion (IsTermPair s.made) q.1) (substitution-gives s.made)
+    (λ i p. subst_step s.made p.0 p.1 i) (subst-follows s g) e
+rule-sound w h s t g e = absurd h

@@ -1,5 +1,5 @@
 -- The words that state a sequent keep a state sound.
-use Rattle.std.proofs.Common.{◌≡◌, ℕ, ◌<◌, ◌≤◌, inl, inr, List, [], ◌∷◌, ◌++◌, length, Bool, true, false, cond, Option, None, Some, Ok, refl, sym, ap, subst, ◌∙◌}
+use Rattle.std.proofs.Common.{◌≡◌, ℕ, ◌<◌, ◌≤◌, inl, inr, List, [], ◌∷◌, ◌++◌, length, Bool, true, false, cond, Option, None, Some, Ok, refl, sym, ap, subst, ◌∙◌, Result}
 use Rattle.std.specs.Option.{option_or}
 use Rattle.std.specs.List.{AllByRecursion, list_all, find}
 use Rattle.std.proofs.lemmas.List.{get_or_past, length-map}
@@ -15,16 +15,19 @@ use Rattle.proof_laws.specs.SymbolGrowth.{symmetric}
 use Rattle.hol_laws.specs.Members.{All-weaker}
 use Rattle.hol_spec.specs.Rules.{Parameters}
 use Rattle.hol_spec.specs.Rules as rule
-use Rattle.hol_spec.specs.Proofs.{Made, symbols_of, steps_of, sequents_of, sequent_at}
+use Rattle.hol_spec.specs.declared.StepKind.TheVariants as by_rule
+use Rattle.hol_spec.specs.Proofs.{Made, symbols_of, steps_of, sequents_of, sequent_at, Step}
 use Rattle.article_spec.specs.State.{State}
 use Rattle.article_spec.specs.Operands.{as_term, as_terms, as_theorem, pop}
 use Rattle.article_spec.specs.Conditions.{is_of_type, all_bool, follows, sequent_in_limits}
 use Rattle.article_spec.specs.Changes.{with_stack, next_step, first_same}
-use Rattle.article_spec.specs.Stating.{stated, restatement, assume_or_meet, axiom_word, export, thm}
+use Rattle.article_spec.specs.Stating.{assume_or_meet, axiom_word, export, thm}
+use Rattle.article_spec.specs.RuleSteps.{stated, restatement, step_by, axiom_step, restate_step}
 use Rattle.article_laws.specs.Soundness.{IsTermObject, IsSound}
 use Rattle.article_laws.specs.SoundStates.{bound, passed, answered, demanded, list_all-All, restacked, sequent_limits, IsNext, step-sound, new-theorem, pushed, assume-sound, conclude-sound, at_step}
 use Rattle.article_laws.specs.SoundOperands.{term-gives, terms-gives, theorem-gives, IsStepNumber, pop-gives}
 use Rattle.article_laws.specs.SoundInference.{of_type}
+use Rattle.bridge_base.specs.declared.faults.Kind.{Kind}
 
 -- what is stated of truth values is a sequent, over what is taken
 stated-IsSequent : (conclusion : Term) (hypotheses : List Term) → list_all (is_of_type bool) (conclusion ∷ hypotheses) ≡ true
@@ -78,9 +81,46 @@ restated s i sequent is w t =
     let l = early s.made i sequent is.conclusion w in
     record { premises = sequent_at s.made i ∷ []; earlier = (at_step s.made i l, tt {0}); rule = rule.Rule.restate is w; defined = tt {0}; parameters = t; law = tt {0} }
 
+-- the step of an assumption
+abbrev pub assumption : Sequent → Step
+assumption sequent = step_by by_rule.Axiom [] (Parameters.sequent sequent) sequent
+
+-- what is assumed, and what is restated, with what is judged of it
+pub record Assumed (hypotheses : List Term) (conclusion : Term) (x : Step) : Type 0 where
+  pub bools : list_all (is_of_type bool) (conclusion ∷ hypotheses) ≡ true
+  pub is : x ≡ assumption (stated hypotheses conclusion)
+
+pub record Restated (made : List Made) (i : ℕ) (hypotheses : List Term) (conclusion : Term) (x : Step) : Type 0 where
+  pub bools : list_all (is_of_type bool) (conclusion ∷ hypotheses) ≡ true
+  pub weaker : within (sequent_at made i) (stated hypotheses conclusion) ≡ true
+  pub is : x ≡ restatement i (stated hypotheses conclusion)
+
+the_step : (x y : Step) → ◌≡◌ {A = Result Step Kind} (Ok y) (Ok x) → x ≡ y
+the_step x y e = cc
+
+pub axiom_step-made : (hypotheses : List Term) (conclusion : Term) (x : Step) → axiom_step hypotheses conclusion ≡ Ok x → Assumed hypotheses conclusion x
+axiom_step-made hypotheses conclusion x e =
+    let bools = passed (all_bool (conclusion ∷ hypotheses)) _ x e in
+    record { bools = demanded (list_all (is_of_type bool) (conclusion ∷ hypotheses)) NotBool bools.0 bools.1; is = the_step x _ bools.2 }
+
+pub restate_step-made : (made : List Made) (i : ℕ) (hypotheses : List Term) (conclusion : Term) (x : Step) → restate_step made i hypotheses conclusion ≡ Ok x
+    → Restated made i hypotheses conclusion x
+restate_step-made made i hypotheses conclusion x e =
+    let bools = passed (all_bool (conclusion ∷ hypotheses)) _ x e in
+    let weaker = passed (follows (sequent_at made i) (stated hypotheses conclusion)) _ x bools.2 in
+    record {
+      bools = demanded (list_all (is_of_type bool) (conclusion ∷ hypotheses)) NotBool bools.0 bools.1;
+      weaker = demanded (within (sequent_at made i) (stated hypotheses conclusion)) NotTheSequent weaker.0 weaker.1;
+      is = the_step x _ weaker.2;
+    }
+
+-- what meets a step, of those that are known
+abbrev pub meeting : State → Step → Option ℕ
+meeting s x = option_or (first_same s s.pool x.sequent) (first_same s s.assumptions x.sequent)
+
 met : (s t : State) (sequent : Sequent) (o : Option ℕ) → IsSound s → IsSequent sequent → TermsTaken (symbols_of s.made) sequent
     → ((i : ℕ) → o ≡ Some i → within (sequent_at s.made i) sequent ≡ true)
-    → assume_or_meet s sequent o ≡ Ok t → IsSound t
+    → assume_or_meet s (assumption sequent) o ≡ Ok t → IsSound t
 met s t sequent (Some i) g is taken f e = conclude-sound s t (restatement i sequent) g (restated s i sequent is (f i refl) taken) refl e
 met s t sequent None g is taken f e =
     assume-sound s t _ g (record { premises = []; earlier = tt {0}; rule = rule.Rule.recorded is; defined = tt {0}; parameters = taken; law = tt {0} }) refl e
@@ -89,18 +129,20 @@ pub axiom-sound : (s t : State) → IsSound s → axiom_word s ≡ Ok t → IsSo
 axiom-sound s t g e =
     let conclusion = bound (pop as_term s.stack) _ t e in
     let hypotheses = bound (pop as_terms conclusion.0.1) _ t conclusion.2 in
-    let bools = passed (all_bool (conclusion.0.0 ∷ hypotheses.0.0)) _ t hypotheses.2 in
+    let x = bound (axiom_step hypotheses.0.0 conclusion.0.0) _ t hypotheses.2 in
+    let y = axiom_step-made hypotheses.0.0 conclusion.0.0 x.0 x.1 in
     let h = pop-gives s.made as_term (IsTermObject s.made) (term-gives s.made) s.stack conclusion.0 g.stack conclusion.1 in
     let k = pop-gives s.made as_terms (AllByRecursion (IsTermObject s.made)) (terms-gives s.made) conclusion.0.1 hypotheses.0 h.1 hypotheses.1 in
     let sequent = stated hypotheses.0.0 conclusion.0.0 in
     let known : ℕ → Bool = λ i. same (sequent_at s.made i) sequent in
-    met (with_stack s hypotheses.0.1) t sequent (option_or (find known s.pool) (find known s.assumptions)) (restacked s hypotheses.0.1 g k.1)
-    (stated-IsSequent conclusion.0.0 hypotheses.0.0 (demanded (list_all (is_of_type bool) (conclusion.0.0 ∷ hypotheses.0.0)) NotBool bools.0 bools.1))
-    (stated-taken s.made conclusion.0.0 hypotheses.0.0 h.0 k.0)
-    (λ i f. (and_parts (within (sequent_at s.made i) sequent) (within sequent (sequent_at s.made i)) (first-passes known s.pool s.assumptions i f)).0) bools.2
+    let u = with_stack s hypotheses.0.1 in
+    met u t sequent (option_or (find known s.pool) (find known s.assumptions)) (restacked s hypotheses.0.1 g k.1)
+    (stated-IsSequent conclusion.0.0 hypotheses.0.0 y.bools) (stated-taken s.made conclusion.0.0 hypotheses.0.0 h.0 k.0)
+    (λ i f. (and_parts (within (sequent_at s.made i) sequent) (within sequent (sequent_at s.made i)) (first-passes known s.pool s.assumptions i f)).0)
+    (subst (λ z. assume_or_meet u z (meeting u z) ≡ Ok t) y.is x.2)
 
 exported : (s t : State) (i : ℕ) (sequent : Sequent) (o : Option ℕ) → IsSound s → IsSequent sequent → within (sequent_at s.made i) sequent ≡ true
-    → TermsTaken (symbols_of s.made) sequent → export s i sequent o ≡ Ok t → IsSound t
+    → TermsTaken (symbols_of s.made) sequent → export s (restatement i sequent) o ≡ Ok t → IsSound t
 exported s t i sequent (Some j) g is w taken e = answered s t e g
 exported s t i sequent None g is w taken e =
     let l = passed (sequent_in_limits sequent) _ t e in
@@ -120,13 +162,12 @@ thm-sound s t g e =
     let conclusion = bound (pop as_term s.stack) _ t e in
     let hypotheses = bound (pop as_terms conclusion.0.1) _ t conclusion.2 in
     let i = bound (pop as_theorem hypotheses.0.1) _ t hypotheses.2 in
-    let bools = passed (all_bool (conclusion.0.0 ∷ hypotheses.0.0)) _ t i.2 in
+    let x = bound (restate_step s.made i.0.0 hypotheses.0.0 conclusion.0.0) _ t i.2 in
+    let y = restate_step-made s.made i.0.0 hypotheses.0.0 conclusion.0.0 x.0 x.1 in
     let sequent = stated hypotheses.0.0 conclusion.0.0 in
-    let weaker = passed (follows (sequent_at s.made i.0.0) sequent) _ t bools.2 in
     let h = pop-gives s.made as_term (IsTermObject s.made) (term-gives s.made) s.stack conclusion.0 g.stack conclusion.1 in
     let k = pop-gives s.made as_terms (AllByRecursion (IsTermObject s.made)) (terms-gives s.made) conclusion.0.1 hypotheses.0 h.1 hypotheses.1 in
     let j = pop-gives s.made as_theorem (IsStepNumber s.made) (theorem-gives s.made) hypotheses.0.1 i.0 k.1 i.1 in
-    exported (with_stack s i.0.1) t i.0.0 sequent (first_same (with_stack s i.0.1) s.exports sequent) (restacked s i.0.1 g j.1)
-    (stated-IsSequent conclusion.0.0 hypotheses.0.0 (demanded (list_all (is_of_type bool) (conclusion.0.0 ∷ hypotheses.0.0)) NotBool bools.0 bools.1))
-    (demanded (within (sequent_at s.made i.0.0) sequent) NotTheSequent weaker.0 weaker.1)
-    (stated-taken s.made conclusion.0.0 hypotheses.0.0 h.0 k.0) weaker.2
+    let u = with_stack s i.0.1 in
+    exported u t i.0.0 sequent (first_same u s.exports sequent) (restacked s i.0.1 g j.1) (stated-IsSequent conclusion.0.0 hypotheses.0.0 y.bools) y.weaker
+    (stated-taken s.made conclusion.0.0 hypotheses.0.0 h.0 k.0) (subst (λ z. export u z (first_same u s.exports z.sequent) ≡ Ok t) y.is x.2)

@@ -29,7 +29,7 @@ use Rattle.article_spec.specs.SoundRuns.{assumed_from, IsDerived, IsSoundRun, Ru
 use Rattle.article_laws.specs.SoundStates.{bound, answered, at_step}
 use Rattle.article_laws.specs.SoundStates as sound
 use Rattle.article_laws.specs.SoundBuilding.{nil-sound, cons-sound, hd_tl-sound, type_op-sound, var_type-sound, op_type-sound, const-sound, const_term-sound, var-sound, var_term-sound, app_term-sound, abs_term-sound, def-sound, ref-sound, remove-sound, drop_object-sound}
-use Rattle.article_laws.specs.SoundInference.{refl-sound, assume-sound, eq_mp-sound, abs_thm-sound, app_thm-sound, deduct_antisym-sound, beta_conv-sound, sym-sound, trans-sound, prove_hyp-sound, subst-sound}
+use Rattle.article_laws.specs.SoundInference.{rule-sound}
 use Rattle.article_laws.specs.SoundDefining.{define_const-sound, define_const_list-sound, define_type_op-sound}
 use Rattle.article_laws.specs.SoundStating.{axiom-sound, thm-sound}
 
@@ -52,17 +52,17 @@ obey-sound s t word.Ref g e = ref-sound s t g e
 obey-sound s t word.Remove g e = remove-sound s t g e
 obey-sound s t word.Pop g e = drop_object-sound s t g e
 obey-sound s t word.Pragma g e = drop_object-sound s t g e
-obey-sound s t word.Refl g e = refl-sound s t g e
-obey-sound s t word.Assume g e = assume-sound s t g e
-obey-sound s t word.EqMp g e = eq_mp-sound s t g e
-obey-sound s t word.AbsThm g e = abs_thm-sound s t g e
-obey-sound s t word.AppThm g e = app_thm-sound s t g e
-obey-sound s t word.DeductAntisym g e = deduct_antisym-sound s t g e
-obey-sound s t word.BetaConv g e = beta_conv-sound s t g e
-obey-sound s t word.Sym g e = sym-sound s t g e
-obey-sound s t word.Trans g e = trans-sound s t g e
-obey-sound s t word.ProveHyp g e = prove_hyp-sound s t g e
-obey-sound s t word.Subst g e = subst-sound s t g e
+obey-sound s t word.Refl g e = rule-sound word.Refl (tt {0}) s t g e
+obey-sound s t word.Assume g e = rule-sound word.Assume (tt {0}) s t g e
+obey-sound s t word.EqMp g e = rule-sound word.EqMp (tt {0}) s t g e
+obey-sound s t word.AbsThm g e = rule-sound word.AbsThm (tt {0}) s t g e
+obey-sound s t word.AppThm g e = rule-sound word.AppThm (tt {0}) s t g e
+obey-sound s t word.DeductAntisym g e = rule-sound word.DeductAntisym (tt {0}) s t g e
+obey-sound s t word.BetaConv g e = rule-sound word.BetaConv (tt {0}) s t g e
+obey-sound s t word.Sym g e = rule-sound word.Sym (tt {0}) s t g e
+obey-sound s t word.Trans g e = rule-sound word.Trans (tt {0}) s t g e
+obey-sound s t word.ProveHyp g e = rule-sound word.ProveHyp (tt {0}) s t g e
+obey-sound s t word.Subst g e = rule-sound word.Subst (tt {0}) s t g e
 obey-sound s t word.DefineConst g e = define_const-sound s t g e
 obey-sound s t word.DefineConstList g e = define_const_list-sound s t g e
 obey-sound s t word.DefineTypeOp g e = define_type_op-sound s t g e

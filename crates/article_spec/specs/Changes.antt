@@ -10,8 +10,9 @@ use Rattle.bridge_base.specs.declared.faults.Kind.{Kind}
 use Rattle.hol_spec.specs.Symbols.{Symbol}
 use Rattle.hol_spec.specs.Proofs.{Made, Step, steps_of, sequent_at}
 use Rattle.article_spec.specs.State.{Object, theorem, State}
-use Rattle.article_spec.specs.Results.{◌>>◌}
+use Rattle.article_spec.specs.Results.{◌>>=◌, ◌>>◌}
 use Rattle.article_spec.specs.Conditions.{sequent_in_limits}
+use Rattle.article_spec.specs.RuleSteps.{NewType}
 
 -- the state with another stack
 abbrev pub with_stack : State → List Object → State
@@ -41,6 +42,27 @@ abbrev pub conclude : State → Step → Result State Kind
 conclude s x = do
   sequent_in_limits x.sequent
   Ok (with_theorem s x)
+
+-- a rule's step is concluded
+abbrev pub by_step : Result Step Kind → State → Result State Kind
+by_step rule s = do
+  x ← rule
+  conclude s x
+
+-- symbols are taken, and then a rule's step is concluded
+abbrev pub defining : List Symbol → Result Step Kind → State → Result State Kind
+defining symbols rule s = do
+  x ← rule
+  conclude (with_symbols s symbols) x
+
+-- a type operator is defined with its constants, and its two laws are pushed
+abbrev pub with_type : State → NewType → State
+with_type s x = with_theorem (with_theorem (record s { made = s.made ++ x.definition ∷ [] }) x.first) x.second
+
+abbrev pub defining_type : Result NewType Kind → State → Result State Kind
+defining_type rule s = do
+  x ← rule
+  Ok (with_type s x)
 
 -- the first of these steps with the same sequent
 abbrev pub first_same : State → List ℕ → Sequent → Option ℕ

@@ -11,6 +11,7 @@ pub mod OneReading
 pub mod Operands
 pub mod Outcomes
 pub mod Results
+pub mod RuleSteps
 pub mod Run
 pub mod SoundRuns
 pub mod State

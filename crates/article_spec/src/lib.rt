@@ -10,6 +10,7 @@
 //! | `Contents`, `Lines` | what one line says; the commands of a whole text, or its first faulty line |
 //! | `State` | the objects and the state of the stack machine |
 //! | `Results`, `Conditions` | answers and refusals in order; the conditions of commands, each with the kind that refuses |
+//! | `RuleSteps` | the step that each rule makes of its premises and of what else it is given, or why it makes none |
 //! | `Operands`, `Changes` | what a command takes from the stack, and what it changes in a state |
 //! | `Building`, `Inference`, `DefiningWords`, `Stating` | each word: those that build, those that infer, the definitions, assumptions and exports |
 //! | `Step` | what one command does, or why it is refused |

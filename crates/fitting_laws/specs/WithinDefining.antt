@@ -1,17 +1,16 @@
 -- The words that define keep what was made within the limits: the term of each constant lies in a sequent within them.
 use Rattle.hol_spec.specs.declared.Version.{Version}
 use Rattle.hol_spec.specs.declared.Version.TheVariants.{Five, Six}
-use Rattle.std.proofs.Common.{◌≡◌, ℕ, zero, suc, ◌≤◌, List, [], ◌∷◌, ◌++◌, map, length, Option, None, Some, Ok, inl, refl, sym, ap, subst, arith}
-use Rattle.std.specs.Prelude.{not, nat_eq, slice_index_or}
-use Rattle.std.specs.Option.{ok_or, option_map}
-use Rattle.std.specs.List.{AllByRecursion, filter_map, cons_option, list_all, list_any, flat_map}
+use Rattle.std.proofs.Common.{◌≡◌, ℕ, zero, suc, ◌≤◌, List, [], ◌∷◌, ◌++◌, map, Option, None, Some, Ok, inl, refl, sym, ap, subst, arith, Result}
+use Rattle.std.specs.Prelude.{not, slice_index_or}
+use Rattle.std.specs.Option.{option_map}
+use Rattle.std.specs.List.{AllByRecursion, filter_map, cons_option, flat_map}
 use Rattle.std.proofs.lemmas.List.{length-map}
-use Rattle.bridge_base.specs.declared.faults.Kind.TheVariants.{NameTaken, NotClosed, ExtraTypeVars, BadDefinitionList, NotTheSequent}
+use Rattle.bridge_base.specs.declared.faults.Kind.TheVariants.{NameTaken, NotClosed, ExtraTypeVars}
 use Rattle.hol_spec.specs.Names.{Name}
 use Rattle.hol_spec.specs.Lists.{is_in, IsIn}
 use Rattle.hol_spec.specs.Types.{HolType, variable, variable_places}
 use Rattle.hol_spec.specs.Terms.{Term, Variable, free, app, lam, constant, variable_eq, equation, type_variable_places}
-use Rattle.hol_spec.specs.TermSubstitution.{sub}
 use Rattle.hol_spec.specs.Limits.{greatest_depth, greatest_size, SequentWithin, type_depth, type_size}
 use Rattle.hol_spec.specs.Equations.{Equation, equation_parts}
 use Rattle.proof_laws.specs.EquationLaws.{equation_parts-is}
@@ -19,29 +18,30 @@ use Rattle.hol_spec.specs.Sequents.{Sequent, terms_of}
 use Rattle.hol_spec.specs.Definitions.{Definition, TypeNames}
 use Rattle.hol_spec.specs.NewTypes.{new_type, abstraction_type, representation_type}
 use Rattle.hol_spec.specs.Defining.{is_closed, has_type_variables_of}
-use Rattle.hol_spec.specs.DefinitionLists.{ConstantPairs, names_of, variables_of, variable_side, of_equation, variable_equation, defining_equations, definiens, is_definition_list, definitions_in, constants_put}
+use Rattle.hol_spec.specs.DefinitionLists.{ConstantPairs, names_of, variables_of, variable_side, of_equation, variable_equation, defining_equations, definiens, definitions_in}
 use Rattle.hol_spec.specs.Primitives.{function, equality_name, equality_type}
 use Rattle.hol_spec.specs.TypeDefinitions.{abstracted, represented, new_variable, first_law, first_law_free, first_law_of, second_law_of}
 use Rattle.hol_spec.specs.Symbols.{defined, is_taken_constant}
-use Rattle.hol_spec.specs.Measures.{type_measure, sequent_measure}
-use Rattle.hol_spec.specs.Rules.{Parameters, constants, derived}
-use Rattle.hol_spec.specs.Proofs.{Made, symbols_of, sequents_of, sequent_at}
+use Rattle.hol_spec.specs.Rules.{Parameters, derived}
+use Rattle.hol_spec.specs.Proofs.{Made, symbols_of, sequents_of, sequent_at, Step}
 use Rattle.hol_spec.specs.declared.StepKind.TheVariants as by_rule
 use Rattle.hol_laws.specs.ListLaws.{All-filter}
 use Rattle.hol_laws.specs.Members.{All-append, All-each, IsIn-left, IsIn-right}
 use Rattle.proof_laws.specs.RuleTaken.{lookup-All}
-use Rattle.article_spec.specs.State.{Object, State, version_at}
+use Rattle.article_spec.specs.State.{State, version_at}
 use Rattle.article_spec.specs.State as object
 use Rattle.article_spec.specs.Operands.{as_name, as_names, as_term, as_theorem, as_constant_pairs, pop}
-use Rattle.article_spec.specs.Conditions.{demand, in_limits, typed}
-use Rattle.article_spec.specs.Changes.{with_stack, with_symbols, with_type_definition, with_theorem}
-use Rattle.article_spec.specs.Inference.{step_by}
-use Rattle.article_spec.specs.DefiningWords.{define_const, constant_objects, define_const_list, application_parts, predicate_fits, are_new_names, make_type, define_type, define_type_op}
-use Rattle.article_laws.specs.SoundStates.{bound, passed, in_limits-All, sequent-within}
+use Rattle.article_spec.specs.Conditions.{demand, typed}
+use Rattle.article_spec.specs.Changes.{with_stack, with_symbols, with_type_definition, with_theorem, with_type}
+use Rattle.article_spec.specs.RuleSteps.{step_by, NewType, define_const_step, define_const_list_step, type_laws, type_measures, made_of_type}
+use Rattle.article_spec.specs.DefiningWords.{define_const, constant_objects, define_const_list, define_type_op}
+use Rattle.article_laws.specs.SoundStates.{bound, passed, sequent-within, IsWithin}
 use Rattle.fitting_laws.specs.SymbolLimits.{DefinitionWithin, GenericWithin, SymbolWithin, MadeWithin, AreWithin, IsPart, part-within, few-places}
 use Rattle.fitting_laws.specs.WithinStates.{answers, with_symbols-within, with_type_definition-within, conclude-within, concluded}
 use Rattle.fitting_laws.specs.WithinBuilding.{arguments-few}
 use Rattle.std.proofs.lemmas.Option.{same_Some}
+use Rattle.bridge_base.specs.declared.faults.Kind.{Kind}
+use Rattle.article_laws.specs.SoundDefining.{type_laws-made}
 
 -- the right side of an equation is a part of it
 right-part : (a : HolType) (x y h : Term) → h ≡ equation a x y → IsPart y h
@@ -62,17 +62,21 @@ define_const-within s t g e =
     let symbols = symbols_of s.made in
     let u = bound (pop as_term s.stack) _ t e in
     let n = bound (pop as_name u.0.1) _ t u.2 in
-    let new = passed (demand (not (is_taken_constant symbols n.0.0)) NameTaken) _ t n.2 in
-    let closed = passed (demand (is_closed u.0.0) NotClosed) _ t new.2 in
-    let a = bound (typed u.0.0) _ t closed.2 in
-    let variables = passed (demand (has_type_variables_of a.0 u.0.0) ExtraTypeVars) _ t a.2 in
+    let x = bound (define_const_step s.made n.0.0 u.0.0) _ t n.2 in
+    let new = passed (demand (not (is_taken_constant symbols n.0.0)) NameTaken) _ x.0 x.1 in
+    let closed = passed (demand (is_closed u.0.0) NotClosed) _ x.0 new.2 in
+    let a = bound (typed u.0.0) _ x.0 closed.2 in
+    let variables = passed (demand (has_type_variables_of a.0 u.0.0) ExtraTypeVars) _ x.0 a.2 in
     let xs = defined (Definition.constant n.0.0 u.0.0) ∷ [] in
     let stack = object.constant n.0.0 ∷ n.0.1 in
-    let says = equation a.0 (Term.constant n.0.0 a.0) u.0.0 in
     let next = with_symbols (with_stack s stack) xs in
-    let x = step_by by_rule.DefineConst [] (Parameters.constant n.0.0 u.0.0) (derived [] says) in
-    let own = equation-within a.0 (Term.constant n.0.0 a.0) u.0.0 (conclude-within next t x variables.2) in
-    concluded next t x (with_symbols-within (with_stack s stack) xs g (own, tt {0})) variables.2
+    let y = step_by by_rule.DefineConst [] (Parameters.constant n.0.0 u.0.0) (derived [] (equation a.0 (Term.constant n.0.0 a.0) u.0.0)) in
+    let says = subst (λ (z : Step). SequentWithin z.sequent) (the_step x.0 y variables.2) (conclude-within next t x.0 x.2) in
+    let own = equation-within a.0 (Term.constant n.0.0 a.0) u.0.0 says in
+    concluded next t x.0 (with_symbols-within (with_stack s stack) xs g (own, tt {0})) x.2
+  where
+    the_step : (x y : Step) → ◌≡◌ {A = Result Step Kind} (Ok y) (Ok x) → x ≡ y
+    the_step x y e = cc
 
 -- the sequent of each step is within the limits
 sequents-within : (made : List Made) → AreWithin made → AllByRecursion SequentWithin (sequents_of made)
@@ -134,20 +138,13 @@ module _ (one : Sequent) (within : SequentWithin one) where
 -- defineConstList
 pub define_const_list-within : (s t : State) → AreWithin s.made → define_const_list s ≡ Ok t → AreWithin t.made
 define_const_list-within s t g e =
-    let symbols = symbols_of s.made in
     let i = bound (pop as_theorem s.stack) _ t e in
     let p = bound (pop as_constant_pairs i.0.1) _ t i.2 in
-    let pairs = p.0.0 in
     let one = sequent_at s.made i.0.0 in
-    let equations = defining_equations pairs one.hypotheses in
-    let new = passed (demand (not (list_any (is_taken_constant symbols) (names_of pairs))) NameTaken) _ t p.2 in
-    let closed = passed (demand (list_all (λ (e : Variable × Term). is_closed e.1) equations) NotClosed) _ t new.2 in
-    let variables = passed (demand (list_all (λ (e : Variable × Term). has_type_variables_of e.0.1 e.1) equations) ExtraTypeVars) _ t closed.2 in
-    let good = passed (demand (is_definition_list pairs one) BadDefinitionList) _ t variables.2 in
-    let xs = map defined (definitions_in pairs one.hypotheses) in
-    let stack = object.list (constant_objects (names_of pairs)) ∷ p.0.1 in
-    concluded (with_symbols (with_stack s stack) xs) t (step_by by_rule.DefineConstList (i.0.0 ∷ []) (constants pairs) (derived [] (sub [] (constants_put pairs) one.conclusion)))
-    (with_symbols-within (with_stack s stack) xs g (list-within one (at-within (sequents_of s.made) i.0.0 (sequents-within s.made g)) pairs)) good.2
+    let x = bound (define_const_list_step s.made p.0.0 i.0.0) _ t p.2 in
+    let xs = map defined (definitions_in p.0.0 one.hypotheses) in
+    let stack = object.list (constant_objects (names_of p.0.0)) ∷ p.0.1 in
+    concluded (with_symbols (with_stack s stack) xs) t x.0 (with_symbols-within (with_stack s stack) xs g (list-within one (at-within (sequents_of s.made) i.0.0 (sequents-within s.made g)) p.0.0)) x.2
 
 -- the types that a type definition makes
 generic-of_law : (s : Sequent) → SequentWithin s → (a : HolType) → type_size a ≤ greatest_size → type_depth a ≤ greatest_depth
@@ -205,34 +202,25 @@ representation-within edition names c h size depth =
     generic-of_law (first_law_of edition names c) h r size depth (All-each (IsIn (flat_map type_variable_places (terms_of (first_law_of edition names c)))) (variable_places r) (λ n k. representation-places edition names c n k))
 
 -- defineTypeOp
-make_type-within : (edition : Version) (s t : State) (names : TypeNames) (i : ℕ) (c : HolType) (f : Term) → AreWithin s.made
-    → make_type edition s names i c f ≡ Ok t → AreWithin t.made
-make_type-within edition s t names i c f g e =
-    let measures = type_measure (new_type names) ∷ type_measure (abstraction_type names c) ∷ type_measure (representation_type names c) ∷ sequent_measure (first_law_of edition names c) ∷ sequent_measure (second_law_of edition names c f) ∷ [] in
-    let limits = passed (in_limits measures) _ t e in
-    let within = in_limits-All measures limits.0 limits.1 in
-    let stack = object.constant names.representation ∷ object.constant names.abstraction ∷ object.type_operator names.operator ∷ s.stack in
-    let u = with_type_definition (with_stack s stack) names c f i in
-    let first = step_by by_rule.FirstLaw (i ∷ []) (Parameters.type_operator names edition) (first_law_of edition names c) in
-    let second = step_by by_rule.SecondLaw (i ∷ []) (Parameters.type_operator names edition) (second_law_of edition names c f) in
-    let v = with_theorem u first in
+made_of_type-within : (edition : Version) (s : State) (names : TypeNames) (i : ℕ) (c : HolType) (f : Term) → AreWithin s.made
+    → AllByRecursion IsWithin (type_measures edition names c f) → AreWithin (with_type s (made_of_type edition names i c f)).made
+made_of_type-within edition s names i c f g within =
+    let u = with_type_definition s names c f i in
+    let x = made_of_type edition names i c f in
+    let v = with_theorem u x.first in
     let law = sequent-within (first_law_of edition names c) within.1.1.1.0 in
     let long = length-map names.variables variable in
     let arguments = arguments-few names.operator (map variable names.variables) within.0.depth in
     let symbol : SymbolWithin (defined (Definition.type_operator names c f)) =
     (omega (arith, long, arguments), abstraction-within edition names c law within.1.0.size within.1.0.depth, representation-within edition names c law within.1.1.0.size within.1.1.0.depth) in
-    let one = All-append MadeWithin u.made (Made.step first ∷ []) (with_type_definition-within (with_stack s stack) names c f i g symbol) (law, tt {0}) in
-    answers (with_theorem v second) t limits.2 (All-append MadeWithin v.made (Made.step second ∷ []) one (sequent-within (second_law_of edition names c f) within.1.1.1.1.0, tt {0}))
+    let one = All-append MadeWithin u.made (Made.step x.first ∷ []) (with_type_definition-within s names c f i g symbol) (law, tt {0}) in
+    All-append MadeWithin v.made (Made.step x.second ∷ []) one (sequent-within (second_law_of edition names c f) within.1.1.1.1.0, tt {0})
 
-define_type-within : (s t : State) (names : TypeNames) (i : ℕ) → AreWithin s.made → define_type s names i ≡ Ok t → AreWithin t.made
-define_type-within s t names i g e =
-    let one = sequent_at s.made i in
-    let new = passed (are_new_names (symbols_of s.made) names) _ t e in
-    let fits = passed (predicate_fits names.variables (application_parts one.conclusion)) _ t new.2 in
-    let alone = passed (demand (nat_eq (length one.hypotheses) 0) NotTheSequent) _ t fits.2 in
-    let parts = bound (ok_or (application_parts one.conclusion) NotTheSequent) _ t alone.2 in
-    let c = bound (typed parts.0.1) _ t parts.2 in
-    make_type-within (version_at s.place) s t names i c.0 parts.0.0 g c.2
+type_laws-within : (edition : Version) (s : State) (names : TypeNames) (i : ℕ) (x : NewType) → AreWithin s.made → type_laws edition s.made names i ≡ Ok x
+    → AreWithin (with_type s x).made
+type_laws-within edition s names i x g e =
+    let y = type_laws-made edition s.made names i x e in
+    subst (λ z. AreWithin (with_type s z).made) (sym y.is) (made_of_type-within edition s names i y.c y.f g y.within)
 
 pub define_type_op-within : (s t : State) → AreWithin s.made → define_type_op s ≡ Ok t → AreWithin t.made
 define_type_op-within s t g e =
@@ -241,4 +229,6 @@ define_type_op-within s t g e =
     let r = bound (pop as_name v.0.1) _ t v.2 in
     let a = bound (pop as_name r.0.1) _ t r.2 in
     let o = bound (pop as_name a.0.1) _ t a.2 in
-    define_type-within (with_stack s o.0.1) t (record { operator = o.0.0; abstraction = a.0.0; representation = r.0.0; variables = v.0.0 }) i.0.0 g o.2
+    let names : TypeNames = record { operator = o.0.0; abstraction = a.0.0; representation = r.0.0; variables = v.0.0 } in
+    let x = bound (type_laws (version_at s.place) s.made names i.0.0) _ t o.2 in
+    answers _ t x.2 (type_laws-within (version_at s.place) (with_stack s (object.constant r.0.0 ∷ object.constant a.0.0 ∷ object.type_operator o.0.0 ∷ o.0.1)) names i.0.0 x.0 g x.1)

@@ -1,37 +1,30 @@
 -- Each export of an accepted run is a step that restates a theorem.
-use Rattle.hol_spec.specs.declared.Version.{Version}
 use Rattle.hol_spec.specs.declared.Version.TheVariants.{Five, Six}
 use Rattle.std.proofs.Common.{◌≡◌, ℕ, List, [], ◌∷◌, ◌++◌, map, length, Bool, true, false, Result, Ok, Err, Option, Some, None, slice_get, refl, sym, ap, subst, ◌∙◌, append_assoc, inl, inr, drop}
 use Rattle.bridge_base.specs.declared.faults.Kind.{Kind}
 use Rattle.std.proofs.lemmas.List.{append-nil}
 use Rattle.hol_spec.specs.Proofs.{Made, Step, steps_of, Accepted, sequent_at, symbols_of}
-use Rattle.article_spec.specs.State.{State, Object, Place, start, version, body, version_at, initial, list, constant}
+use Rattle.article_spec.specs.State.{State, Object, Place, start, version, body, version_at, initial, list, constant, type_operator}
 use Rattle.article_spec.specs.Results.{◌>>=◌, ◌>>◌}
-use Rattle.article_spec.specs.Changes.{with_stack, conclude, next_step, with_symbols}
-use Rattle.article_spec.specs.Conditions.{sequent_in_limits, all_bool, follows, demand, in_limits, typed, type_in_limits, term_in_limits, arity_fits, generic_fits}
-use Rattle.article_spec.specs.Inference.{step_by}
+use Rattle.article_spec.specs.Changes.{with_stack, conclude, next_step, with_symbols, defining, defining_type, with_type, first_same}
+use Rattle.article_spec.specs.Conditions.{sequent_in_limits, demand, type_in_limits, term_in_limits, arity_fits, generic_fits}
+use Rattle.article_spec.specs.RuleSteps.{restatement, NewType, define_const_step, define_const_list_step, type_laws, axiom_step, restate_step}
 use Rattle.article_spec.specs.Operands.{as_name, as_names, as_term, as_theorem, as_constant_pairs, pop, as_number, as_list, as_type_operator, as_type, as_types, as_constant, as_variable, any_object, head_and_tail, as_terms}
-use Rattle.bridge_base.specs.declared.faults.Kind.TheVariants.{NameTaken, NotClosed, ExtraTypeVars, BadDefinitionList, NotTheSequent, NoSuchKey, TypeMismatch}
-use Rattle.hol_spec.specs.Defining.{is_closed, has_type_variables_of}
-use Rattle.hol_spec.specs.DefinitionLists.{names_of, defining_equations, is_definition_list, definitions_in, constants_put}
+use Rattle.bridge_base.specs.declared.faults.Kind.TheVariants.{NoSuchKey, TypeMismatch}
+use Rattle.hol_spec.specs.DefinitionLists.{names_of, definitions_in}
 use Rattle.hol_spec.specs.Definitions.{Definition, TypeNames}
-use Rattle.hol_spec.specs.Measures.{type_measure, sequent_measure}
-use Rattle.hol_spec.specs.NewTypes.{new_type, abstraction_type, representation_type}
-use Rattle.hol_spec.specs.Rules.{Parameters, constants, derived, abstraction}
-use Rattle.hol_spec.specs.Sequents.{Sequent}
-use Rattle.hol_spec.specs.Symbols.{defined, is_taken_constant, generic_type, operator_arity, new_constant, new_operator}
-use Rattle.hol_spec.specs.TermSubstitution.{sub}
-use Rattle.hol_spec.specs.Terms.{Term, equation, type_of}
-use Rattle.hol_spec.specs.TypeDefinitions.{first_law_of, second_law_of}
+use Rattle.hol_spec.specs.Rules.{abstraction}
+use Rattle.hol_spec.specs.Symbols.{defined, generic_type, operator_arity, new_constant, new_operator, Symbol}
+use Rattle.hol_spec.specs.Terms.{Term, type_of}
 use Rattle.hol_spec.specs.Types.{HolType, types_of}
 use Rattle.hol_spec.specs.declared.StepKind.TheVariants as by_rule
 use Rattle.std.specs.FinMap as entries
-use Rattle.std.specs.List.{list_all, list_any, AllByRecursion}
+use Rattle.std.specs.List.{AllByRecursion}
 use Rattle.std.specs.Option.{ok_or}
-use Rattle.std.specs.Prelude.{not, ◌||◌, nat_eq, is_some}
+use Rattle.std.specs.Prelude.{◌||◌, nat_eq, is_some}
 use Rattle.article_spec.specs.Building.{nil, cons, hd_tl, type_op, var_type, op_type, const, const_term, var, var_term, app_term, abs_term, def, ref, remove, drop_object}
-use Rattle.article_spec.specs.DefiningWords.{define_const, constant_objects, define_const_list, application_parts, predicate_fits, are_new_names, make_type, define_type, define_type_op}
-use Rattle.article_spec.specs.Stating.{stated, restatement, assume_or_meet, axiom_word, export, thm}
+use Rattle.article_spec.specs.DefiningWords.{define_const, constant_objects, define_const_list, define_type_op}
+use Rattle.article_spec.specs.Stating.{assume_or_meet, axiom_word, export, thm}
 use Rattle.article_spec.specs.Step.{obey, in_body, obey_item, second_word, step_at, finish}
 use Rattle.article_spec.specs.Run.{machine, accepted, Run}
 use Rattle.article_laws.specs.Inferred.{IsRule, rule-inferred}
@@ -50,6 +43,7 @@ use Rattle.proof_laws.specs.ProofGrowth.{steps_of-append}
 use Rattle.module_spec.specs.Rows.{has_row}
 use Rattle.module_spec.specs.Image.{is_one_of}
 use Rattle.run_laws.specs.ExportOrder.{HaveRows}
+use Rattle.article_laws.specs.SoundStating.{restate_step-made}
 
 -- a state after another with its exports, where more was made
 pub record Extends (s t : State) : Type 0 where
@@ -130,11 +124,17 @@ drop_object-keeps s = bind s (pop any_object s.stack) _ (λ p1. let x = p1.0 in 
 rule-keeps : (w : Word) → IsRule w → (s : State) → Keeps s (obey s w)
 rule-keeps w h s t e = let i = rule-inferred w h s t e in concluded s (with_stack s i.rest) i.step refl [] (sym (append-nil s.made)) t i.concluded
 
+defining-keeps : (s : State) (stack : List Object) (symbols : List Symbol) (rule : Result Step Kind) → Keeps s (defining symbols rule (with_stack s stack))
+defining-keeps s stack symbols rule = bind s rule _ (λ x. concluded s (with_symbols (with_stack s stack) symbols) x refl (map Made.symbol symbols) refl)
+
 define_const-keeps : (s : State) → Keeps s (define_const s)
-define_const-keeps s = bind s (pop as_term s.stack) _ (λ p1. let t = p1.0 in let below = p1.1 in bind s (pop as_name below) _ (λ p2. let n = p2.0 in let rest = p2.1 in Keeps-bind s (demand (not (is_taken_constant (symbols_of s.made) n)) NameTaken) _ (Keeps-bind s (demand (is_closed t) NotClosed) _ (bind s (typed t) _ (λ p3. let a = p3 in Keeps-bind s (demand (has_type_variables_of a t) ExtraTypeVars) _ (concluded s (with_symbols (with_stack s (constant n ∷ rest)) (defined (Definition.constant n t) ∷ [])) (step_by by_rule.DefineConst [] (Parameters.constant n t) (derived [] (equation a (Term.constant n a) t))) refl (map Made.symbol (defined (Definition.constant n t) ∷ [])) refl))))))
+define_const-keeps s =
+    bind s (pop as_term s.stack) _ (λ p. bind s (pop as_name p.1) _ (λ q. defining-keeps s (constant q.0 ∷ q.1) (defined (Definition.constant q.0 p.0) ∷ []) (define_const_step s.made q.0 p.0)))
 
 define_const_list-keeps : (s : State) → Keeps s (define_const_list s)
-define_const_list-keeps s = bind s (pop as_theorem s.stack) _ (λ p1. let i = p1.0 in let below = p1.1 in bind s (pop as_constant_pairs below) _ (λ p2. let pairs = p2.0 in let rest = p2.1 in let one = sequent_at s.made i in let equations = defining_equations pairs one.hypotheses in Keeps-bind s (demand (not (list_any (is_taken_constant (symbols_of s.made)) (names_of pairs))) NameTaken) _ (Keeps-bind s (demand (list_all (λ e. is_closed e.1) equations) NotClosed) _ (Keeps-bind s (demand (list_all (λ e. has_type_variables_of e.0.1 e.1) equations) ExtraTypeVars) _ (Keeps-bind s (demand (is_definition_list pairs one) BadDefinitionList) _ (concluded s (with_symbols (with_stack s (list (constant_objects (names_of pairs)) ∷ rest)) (map defined (definitions_in pairs one.hypotheses))) (step_by by_rule.DefineConstList (i ∷ []) (constants pairs) (derived [] (sub [] (constants_put pairs) one.conclusion))) refl (map Made.symbol (map defined (definitions_in pairs one.hypotheses))) refl))))))
+define_const_list-keeps s =
+    bind s (pop as_theorem s.stack) _ (λ p. bind s (pop as_constant_pairs p.1) _ (λ q.
+    defining-keeps s (list (constant_objects (names_of q.0)) ∷ q.1) (map defined (definitions_in q.0 (sequent_at s.made p.0).hypotheses)) (define_const_list_step s.made q.0 p.0)))
 
 restacked : (s t : State) (stack : List Object) → Extends (with_stack s stack) t → Extends s t
 restacked s t stack h = record { exports = h.exports; more = h.more; made = h.made }
@@ -142,33 +142,26 @@ restacked s t stack h = record { exports = h.exports; more = h.more; made = h.ma
 two_more : {A : Type 0} (xs ys zs ws : List A) → ((xs ++ ys) ++ zs) ++ ws ≡ xs ++ (ys ++ (zs ++ ws))
 two_more xs ys zs ws = append_assoc (xs ++ ys) zs ws ∙ append_assoc xs ys (zs ++ ws)
 
-make_type-keeps : (edition : Version) (s : State) (names : TypeNames) (i : ℕ) (c : HolType) (f : Term) → Keeps s (make_type edition s names i c f)
-make_type-keeps edition s names i c f =
-    let one = Made.step (step_by by_rule.FirstLaw (i ∷ []) (Parameters.type_operator names edition) (first_law_of edition names c)) in
-    let two = Made.step (step_by by_rule.SecondLaw (i ∷ []) (Parameters.type_operator names edition) (second_law_of edition names c f)) in
-    let taken = Made.type_definition names c f i ∷ [] in
-    Keeps-bind s (in_limits (type_measure (new_type names) ∷ type_measure (abstraction_type names c) ∷ type_measure (representation_type names c) ∷ sequent_measure (first_law_of edition names c) ∷ sequent_measure (second_law_of edition names c f) ∷ [])) _
-    (answer s _ (record { exports = refl; more = taken ++ (one ∷ [] ++ two ∷ []); made = two_more s.made taken (one ∷ []) (two ∷ []) }))
-
-define_type-keeps : (s : State) (names : TypeNames) (i : ℕ) → Keeps s (define_type s names i)
-define_type-keeps s names i =
-    let one = sequent_at s.made i in
-    Keeps-bind s (are_new_names (symbols_of s.made) names) _ (Keeps-bind s (predicate_fits names.variables (application_parts one.conclusion)) _ (Keeps-bind s (demand (nat_eq (length one.hypotheses) 0) NotTheSequent) _
-    (bind s (ok_or (application_parts one.conclusion) NotTheSequent) _ (λ p. bind s (typed p.1) _ (λ c. make_type-keeps (version_at s.place) s names i c p.0)))))
+defining_type-keeps : (s : State) (stack : List Object) (rule : Result NewType Kind) → Keeps s (defining_type rule (with_stack s stack))
+defining_type-keeps s stack rule = bind s rule _ (λ x.
+    let one = Made.step x.first ∷ [] in
+    let two = Made.step x.second ∷ [] in
+    answer s (with_type (with_stack s stack) x) (record { exports = refl; more = x.definition ∷ [] ++ (one ++ two); made = two_more s.made (x.definition ∷ []) one two }))
 
 define_type_op-keeps : (s : State) → Keeps s (define_type_op s)
 define_type_op-keeps s =
-    bind s (pop as_theorem s.stack) _ (λ p. bind s (pop as_names p.1) _ (λ q. bind s (pop as_name q.1) _ (λ r. bind s (pop as_name r.1) _ (λ v. bind s (pop as_name v.1) _
-    (λ w t e. restacked s t w.1 (define_type-keeps (with_stack s w.1) (record { operator = w.0; abstraction = v.0; representation = r.0; variables = q.0 }) p.0 t e))))))
+    bind s (pop as_theorem s.stack) _ (λ p. bind s (pop as_names p.1) _ (λ q. bind s (pop as_name q.1) _ (λ r. bind s (pop as_name r.1) _ (λ v. bind s (pop as_name v.1) _ (λ w.
+    let names : TypeNames = record { operator = w.0; abstraction = v.0; representation = r.0; variables = q.0 } in
+    defining_type-keeps s (constant r.0 ∷ constant v.0 ∷ type_operator w.0 ∷ w.1) (type_laws (version_at s.place) s.made names p.0))))))
 
-assume_or_meet-keeps : (s : State) (sequent : Sequent) (o : Option ℕ) → Keeps s (assume_or_meet s sequent o)
-assume_or_meet-keeps s sequent (Some i) = concluded s s (restatement i sequent) refl [] (sym (append-nil s.made))
-assume_or_meet-keeps s sequent None = concluded s (record s { assumptions = s.assumptions ++ next_step s ∷ [] }) (step_by by_rule.Axiom [] (Parameters.sequent sequent) sequent) refl [] (sym (append-nil s.made))
+assume_or_meet-keeps : (s : State) (x : Step) (o : Option ℕ) → Keeps s (assume_or_meet s x o)
+assume_or_meet-keeps s x (Some i) = concluded s s (restatement i x.sequent) refl [] (sym (append-nil s.made))
+assume_or_meet-keeps s x None = concluded s (record s { assumptions = s.assumptions ++ next_step s ∷ [] }) x refl [] (sym (append-nil s.made))
 
 axiom_word-keeps : (s : State) → Keeps s (axiom_word s)
 axiom_word-keeps s =
-    bind s (pop as_term s.stack) _ (λ p. bind s (pop as_terms p.1) _ (λ q. Keeps-bind s (all_bool (p.0 ∷ q.0)) _
-    (λ t e. restacked s t q.1 (assume_or_meet-keeps (with_stack s q.1) (stated q.0 p.0) _ t e))))
+    bind s (pop as_term s.stack) _ (λ p. bind s (pop as_terms p.1) _ (λ q. bind s (axiom_step q.0 p.0) _
+    (λ x t e. restacked s t q.1 (assume_or_meet-keeps (with_stack s q.1) x _ t e))))
 
 -- the step of a number restates a theorem
 pub record IsRestated (made : List Made) (i : ℕ) : Type 0 where
@@ -196,6 +189,10 @@ gives-bind : {A : Type 0} (o : Result A Kind) (f : A → Result State Kind) → 
 gives-bind (Ok a) f h t e = h a t e
 gives-bind (Err k) f h t e = absurd (cc)
 
+gives-from : {A : Type 0} (o : Result A Kind) (f : A → Result State Kind) → ((a : A) → o ≡ Ok a → Gives (f a)) → Gives (o >>= f)
+gives-from (Ok a) f h t e = h a refl t e
+gives-from (Err k) f h t e = absurd (cc)
+
 gives-next : {A : Type 0} (o : Result A Kind) (r : Result State Kind) → Gives r → Gives (o >> r)
 gives-next (Ok a) r h t e = h t e
 gives-next (Err k) r h t e = absurd (cc)
@@ -203,19 +200,18 @@ gives-next (Err k) r h t e = absurd (cc)
 gives-answer : (u : State) → HasRestated u → Gives (Ok u)
 gives-answer u h t e = let f : u ≡ t = cc in subst HasRestated f h
 
-export-gives : (s : State) (i : ℕ) (sequent : Sequent) (o : Option ℕ) → HasRestated s → Gives (export s i sequent o)
-export-gives s i sequent (Some j) h = gives-answer s h
-export-gives s i sequent None h =
-    let x = restatement i sequent in
+export-gives : (s : State) (x : Step) (o : Option ℕ) → x.kind ≡ by_rule.Restate → HasRestated s → Gives (export s x o)
+export-gives s x (Some j) k h = gives-answer s h
+export-gives s x None k h =
     let new : List Made = Made.step x ∷ [] in
-    gives-next (sequent_in_limits sequent) _
+    gives-next (sequent_in_limits x.sequent) _
     (gives-answer _ (All-append (IsRestated (s.made ++ new)) s.exports (next_step s ∷ []) (All-weaker (IsRestated s.made) (IsRestated (s.made ++ new)) (λ j r. restated-more s.made new j r) s.exports h)
-    (record { step = x; at = ap (λ l. slice_get l (next_step s)) (steps_of-append s.made new) ∙ slice_get-last (steps_of s.made) x; restates = refl }, tt {0})))
+    (record { step = x; at = ap (λ l. slice_get l (next_step s)) (steps_of-append s.made new) ∙ slice_get-last (steps_of s.made) x; restates = k }, tt {0})))
 
 thm-gives : (s : State) → HasRestated s → Gives (thm s)
 thm-gives s h =
-    gives-bind (pop as_term s.stack) _ (λ p. gives-bind (pop as_terms p.1) _ (λ q. gives-bind (pop as_theorem q.1) _ (λ r. gives-next (all_bool (p.0 ∷ q.0)) _
-    (gives-next (follows (sequent_at s.made r.0) (stated q.0 p.0)) _ (export-gives (with_stack s r.1) r.0 (stated q.0 p.0) _ h)))))
+    gives-bind (pop as_term s.stack) _ (λ p. gives-bind (pop as_terms p.1) _ (λ q. gives-bind (pop as_theorem q.1) _ (λ r. gives-from (restate_step s.made r.0 q.0 p.0) _
+    (λ x e. export-gives (with_stack s r.1) x (first_same s s.exports x.sequent) (ap (λ (y : Step). y.kind) (restate_step-made s.made r.0 q.0 p.0 x e).is) h))))
 
 obey-gives : (s t : State) (w : Word) → HasRestated s → obey s w ≡ Ok t → HasRestated t
 obey-gives s t word.Version h e = absurd (cc)

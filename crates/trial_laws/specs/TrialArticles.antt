@@ -11,7 +11,7 @@ use Rattle.article_spec.specs.State.{State, initial, start, version_at}
 use Rattle.article_spec.specs.Lines.{max_article, ended}
 use Rattle.article_spec.specs.Results.{◌>>=◌}
 use Rattle.article_spec.specs.Run.{machine, obey_article, end_article, accepted_state, passed, finished}
-use Rattle.article_spec.specs.Stating.{restatement}
+use Rattle.article_spec.specs.RuleSteps.{restatement}
 use Rattle.vectors.specs.Trial.{words, lines, beginning, name_line, chained, block, blocks, ending, trial_text}
 use Rattle.vectors.proofs.TrialParts.{lines-append, block_parts, defined as defining_words, kept as keeping_words}
 use Rattle.trial_laws.specs.Trials.{f, constant_name, IsTrialRun, TrialsAreAccepted}

@@ -15,7 +15,7 @@ use Rattle.article_spec.specs.declared.commands.Item.TheVariants as item
 use Rattle.article_spec.specs.declared.commands.Word.TheVariants as word
 use Rattle.article_spec.specs.State.{Object, theorem}
 use Rattle.article_spec.specs.State as object
-use Rattle.article_spec.specs.Inference.{step_by}
+use Rattle.article_spec.specs.RuleSteps.{step_by}
 use Rattle.article_spec.specs.Step.{obey}
 use Rattle.trial_laws.specs.Trials.{f, truths, p, at_p, wrapped}
 use Rattle.trial_laws.specs.TrialLines.{said}

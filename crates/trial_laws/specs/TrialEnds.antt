@@ -15,8 +15,7 @@ use Rattle.article_spec.specs.declared.commands.Word.TheVariants as word
 use Rattle.article_spec.specs.State.{State, initial, Object, Objects, theorem, none, more}
 use Rattle.article_spec.specs.State as object
 use Rattle.article_spec.specs.Changes.{with_step, next_step}
-use Rattle.article_spec.specs.Inference.{step_by}
-use Rattle.article_spec.specs.Stating.{restatement}
+use Rattle.article_spec.specs.RuleSteps.{step_by, restatement}
 use Rattle.article_spec.specs.Step.{obey}
 use Rattle.trial_laws.specs.Trials.{f, constant_name, truths, p, at_p}
 use Rattle.trial_laws.specs.TrialLines.{said}

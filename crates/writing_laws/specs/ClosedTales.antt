@@ -15,8 +15,7 @@ use Rattle.hol_spec.specs.Proofs.{Made, Step, steps_of, sequent_at}
 use Rattle.hol_spec.specs.declared.StepKind.{StepKind}
 use Rattle.hol_spec.specs.declared.StepKind.TheVariants as by_rule
 use Rattle.proof_laws.specs.ProofLaws.{steps_of-push, steps_of-symbols}
-use Rattle.article_spec.specs.Inference.{step_by}
-use Rattle.article_spec.specs.Stating.{restatement}
+use Rattle.article_spec.specs.RuleSteps.{step_by, restatement}
 use Rattle.writing_laws.specs.InferenceWords.{is_inference}
 use Rattle.writing_laws.specs.Flags.{count, selected}
 use Rattle.writing_laws.specs.Tales.{next, IsTold, Tale}

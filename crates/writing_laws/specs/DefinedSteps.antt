@@ -25,7 +25,7 @@ use Rattle.article_spec.specs.declared.commands.Word.TheVariants as word
 use Rattle.article_spec.specs.State.{Object}
 use Rattle.article_spec.specs.Changes.{with_theorem}
 use Rattle.article_spec.specs.DefiningWords.{define_const_list, constant_objects}
-use Rattle.article_spec.specs.Inference.{step_by}
+use Rattle.article_spec.specs.RuleSteps.{step_by}
 use Rattle.writing_spec.specs.Drafts.{Kept, write_each}
 use Rattle.writing_spec.specs.WrittenSteps.{write_premise, write_given}
 use Rattle.writing_laws.specs.SymbolUses.{AreAmong, nil-append}

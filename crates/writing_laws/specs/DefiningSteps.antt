@@ -23,25 +23,26 @@ use Rattle.hol_spec.specs.Symbols.{defined, is_taken_constant}
 use Rattle.hol_spec.specs.Taking.{AreNew}
 use Rattle.hol_spec.specs.Rules.{Parameters, derived, IsDefining}
 use Rattle.hol_spec.specs.Rules as rule
-use Rattle.hol_spec.specs.Proofs.{Made, symbols_of, steps_of, sequent_at}
+use Rattle.hol_spec.specs.Proofs.{Made, symbols_of, steps_of, sequent_at, Step}
 use Rattle.hol_spec.specs.declared.StepKind.TheVariants as by_rule
 use Rattle.hol_laws.specs.ListLaws.{distinct-itself}
 use Rattle.proof_laws.specs.SymbolGrowth.{symmetric}
 use Rattle.hol_laws.specs.TermLaws.{term_eq-Decides}
 use Rattle.article_spec.specs.State.{Object, State}
-use Rattle.article_spec.specs.Results.{◌>>◌}
+use Rattle.article_spec.specs.Results.{◌>>◌, ◌>>=◌}
 use Rattle.bridge_base.specs.declared.faults.Kind.TheVariants.{NotTheSequent}
 use Rattle.article_spec.specs.Conditions.{demand, in_limits, all_bool, is_of_type, follows}
 use Rattle.article_spec.specs.Changes.{with_theorem, first_same}
-use Rattle.article_spec.specs.Inference.{step_by}
-use Rattle.article_spec.specs.DefiningWords.{define_const, define_const_list, define_type_op, constant_objects, application_parts}
-use Rattle.article_spec.specs.Stating.{stated, restatement, assume_or_meet, axiom_word, export, thm}
+use Rattle.article_spec.specs.RuleSteps.{step_by, application_parts, stated, restatement}
+use Rattle.article_spec.specs.DefiningWords.{define_const, define_const_list, define_type_op, constant_objects}
+use Rattle.article_spec.specs.Stating.{assume_or_meet, axiom_word, export, thm}
 use Rattle.article_laws.specs.SoundStates.{IsWithin}
 use Rattle.trial_laws.specs.TrialSteps.{Dictionary}
 use Rattle.writing_laws.specs.Scenes.{Scene, body_state}
 use Rattle.writing_laws.specs.TypeWriting.{sequent-in_limits}
 use Rattle.writing_laws.specs.GivenWriting.{list_object, constant_pair, terms-read, names-read, constants-read}
 use Rattle.writing_laws.specs.RuleWords.{concluded, typed-is, is_of_type-is}
+use Rattle.article_laws.specs.SoundStating.{assumption}
 
 truth : (b : Bool) → IsTrue b → b ≡ true
 truth b h = h
@@ -196,7 +197,7 @@ module _ (c : Scene) (d : Dictionary) (m : List Made) (stack : List Object) wher
 
   -- what an assumption comes to, for the sequent that is stated
   abbrev assumes : Sequent → Result State Kind
-  assumes s = assume_or_meet (body_state c d m stack) s (first_same (body_state c d m stack) c.assumptions s)
+  assumes s = assume_or_meet (body_state c d m stack) (assumption s) (first_same (body_state c d m stack) c.assumptions s)
 
   axiom-assumes : (s : Sequent) → IsSequent s
       → axiom_word (body_state c d m (Object.term s.conclusion ∷ list_object Object.term s.hypotheses ∷ stack)) ≡ assumes s
@@ -208,16 +209,19 @@ module _ (c : Scene) (d : Dictionary) (m : List Made) (stack : List Object) wher
       → axiom_word (body_state c d m (Object.term s.conclusion ∷ list_object Object.term s.hypotheses ∷ stack))
       ≡ Ok (with_theorem (body_state (record c { assumptions = c.assumptions ++ length (steps_of m) ∷ [] }) d m stack) (step_by by_rule.Axiom [] (Parameters.sequent s) s))
   axiom-recorded s h new w =
-      axiom-assumes s h ∙ ap (assume_or_meet (body_state c d m stack) s) new
+      axiom-assumes s h ∙ ap (assume_or_meet (body_state c d m stack) (assumption s)) new
       ∙ concluded (body_state (record c { assumptions = c.assumptions ++ length (steps_of m) ∷ [] }) d m stack) (step_by by_rule.Axiom [] (Parameters.sequent s) s) w
 
   pub axiom-met : (s : Sequent) (i : ℕ) → IsSequent s → first_same (body_state c d m stack) c.assumptions s ≡ Some i → SequentWithin s
       → axiom_word (body_state c d m (Object.term s.conclusion ∷ list_object Object.term s.hypotheses ∷ stack)) ≡ Ok (with_theorem (body_state c d m stack) (restatement i s))
-  axiom-met s i h old w = axiom-assumes s h ∙ ap (assume_or_meet (body_state c d m stack) s) old ∙ concluded (body_state c d m stack) (restatement i s) w
+  axiom-met s i h old w = axiom-assumes s h ∙ ap (assume_or_meet (body_state c d m stack) (assumption s)) old ∙ concluded (body_state c d m stack) (restatement i s) w
 
-  -- An export
+  -- An export: where none before says its sequent
+  abbrev exporting : Step → Result State Kind
+  exporting x = export (body_state c d m stack) x (first_same (body_state c d m stack) c.exports x.sequent)
+
   abbrev exports : ℕ → Sequent → Result State Kind
-  exports i s = follows (sequent_at m i) s >> export (body_state c d m stack) i s (first_same (body_state c d m stack) c.exports s)
+  exports i s = (follows (sequent_at m i) s >> Ok (restatement i s)) >>= exporting
 
   pub thm-exported : (s : Sequent) (i : ℕ) → IsSequent s → IsTrue (within (sequent_at m i) s) → first_same (body_state c d m stack) c.exports s ≡ None
       → SequentWithin s
@@ -226,6 +230,6 @@ module _ (c : Scene) (d : Dictionary) (m : List Made) (stack : List Object) wher
   thm-exported s i h says new w =
       (let e : thm (body_state c d m (Object.term s.conclusion ∷ list_object Object.term s.hypotheses ∷ Object.theorem i ∷ stack)) ≡ exports i (stated s.hypotheses s.conclusion) = rw (terms-read s.hypotheses, sequent-bool s h) refl in e)
       ∙ ap (exports i) (stated-itself s h)
-      ∙ ap (λ b. demand b NotTheSequent >> export (body_state c d m stack) i s (first_same (body_state c d m stack) c.exports s)) (truth (within (sequent_at m i) s) says)
-      ∙ ap (export (body_state c d m stack) i s) new
+      ∙ ap (λ b. (demand b NotTheSequent >> Ok (restatement i s)) >>= exporting) (truth (within (sequent_at m i) s) says)
+      ∙ ap (export (body_state c d m stack) (restatement i s)) new
       ∙ ap (λ r. r >> Ok (body_state (record c { exports = c.exports ++ length (steps_of m) ∷ [] }) d (m ++ Made.step (restatement i s) ∷ []) stack)) (sequent-in_limits s w)

@@ -23,7 +23,7 @@ use Rattle.writing_laws.specs.Histories.{History}
 use Rattle.writing_laws.specs.Histories as histories
 use Rattle.writing_laws.specs.GoodStates.{IsGoodObject, IsGoodState, answered-good, restacked-good}
 use Rattle.writing_laws.specs.GoodBuilding.{nil-good, cons-good, hd_tl-good, type_op-good, var_type-good, op_type-good, const-good, const_term-good, var-good, var_term-good, app_term-good, abs_term-good, def-good, ref-good, remove-good, drop-good}
-use Rattle.writing_laws.specs.GoodWords.{refl-good, assume-good, eq_mp-good, abs_thm-good, app_thm-good, deduct_antisym-good, beta_conv-good, sym-good, trans-good, prove_hyp-good, subst-good, define_const-good, define_const_list-good, define_type_op-good, axiom-good, thm-good}
+use Rattle.writing_laws.specs.GoodWords.{rule-good, define_const-good, define_const_list-good, define_type_op-good, axiom-good, thm-good}
 use Rattle.writing_laws.specs.GoodNames.{IsGoodItem, AreGoodCommands, lines-good}
 
 obey-good : (s t : State) (w : Word) → IsSound s → IsGoodState s → obey s w ≡ Ok t → IsGoodState t
@@ -45,17 +45,17 @@ obey-good s t word.Ref h g e = ref-good s t g e
 obey-good s t word.Remove h g e = remove-good s t g e
 obey-good s t word.Pop h g e = drop-good s t g e
 obey-good s t word.Pragma h g e = drop-good s t g e
-obey-good s t word.Refl h g e = refl-good s t g e
-obey-good s t word.Assume h g e = assume-good s t g e
-obey-good s t word.EqMp h g e = eq_mp-good s t g e
-obey-good s t word.AbsThm h g e = abs_thm-good s t g e
-obey-good s t word.AppThm h g e = app_thm-good s t g e
-obey-good s t word.DeductAntisym h g e = deduct_antisym-good s t g e
-obey-good s t word.BetaConv h g e = beta_conv-good s t g e
-obey-good s t word.Sym h g e = sym-good s t g e
-obey-good s t word.Trans h g e = trans-good s t g e
-obey-good s t word.ProveHyp h g e = prove_hyp-good s t g e
-obey-good s t word.Subst h g e = subst-good s t g e
+obey-good s t word.Refl h g e = rule-good word.Refl (tt {0}) s t g e
+obey-good s t word.Assume h g e = rule-good word.Assume (tt {0}) s t g e
+obey-good s t word.EqMp h g e = rule-good word.EqMp (tt {0}) s t g e
+obey-good s t word.AbsThm h g e = rule-good word.AbsThm (tt {0}) s t g e
+obey-good s t word.AppThm h g e = rule-good word.AppThm (tt {0}) s t g e
+obey-good s t word.DeductAntisym h g e = rule-good word.DeductAntisym (tt {0}) s t g e
+obey-good s t word.BetaConv h g e = rule-good word.BetaConv (tt {0}) s t g e
+obey-good s t word.Sym h g e = rule-good word.Sym (tt {0}) s t g e
+obey-good s t word.Trans h g e = rule-good word.Trans (tt {0}) s t g e
+obey-good s t word.ProveHyp h g e = rule-good word.ProveHyp (tt {0}) s t g e
+obey-good s t word.Subst h g e = rule-good word.Subst (tt {0}) s t g e
 obey-good s t word.DefineConst h g e = define_const-good s t g e
 obey-good s t word.DefineConstList h g e = define_const_list-good s t h g e
 obey-good s t word.DefineTypeOp h g e = define_type_op-good s t h g e

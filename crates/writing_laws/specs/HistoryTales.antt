@@ -26,8 +26,7 @@ use Rattle.hol_spec.specs.Proofs.{Made, Step, Accepted, symbols_of, steps_of, se
 use Rattle.hol_spec.specs.declared.StepKind.TheVariants as by_rule
 use Rattle.proof_laws.specs.ProofLaws.{steps_of-push, steps_of-symbols, symbols_of-symbols}
 use Rattle.proof_laws.specs.ProofGrowth.{All-get, steps_of-append}
-use Rattle.article_spec.specs.Inference.{step_by}
-use Rattle.article_spec.specs.Stating.{restatement}
+use Rattle.article_spec.specs.RuleSteps.{step_by, restatement}
 use Rattle.writing_spec.specs.Mentions.{Need, type_mentions, term_mentions, sequent_mentions, given_mentions}
 use Rattle.hol_spec.specs.Primitives.{bool, function, equality_name, equality_type}
 use Rattle.hol_spec.specs.NewTypes.{representation_type}

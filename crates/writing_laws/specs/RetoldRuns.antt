@@ -15,8 +15,7 @@ use Rattle.hol_spec.specs.Symbols.{Symbol, defined}
 use Rattle.hol_spec.specs.Taking.{Takes}
 use Rattle.hol_spec.specs.Proofs.{Made, Step, symbols_of, steps_of}
 use Rattle.hol_spec.specs.declared.StepKind.TheVariants as by_rule
-use Rattle.article_spec.specs.Inference.{step_by}
-use Rattle.article_spec.specs.Stating.{restatement}
+use Rattle.article_spec.specs.RuleSteps.{step_by, restatement}
 use Rattle.proof_laws.specs.ProofLaws.{steps_of-push, steps_of-symbols, symbols_of-push, symbols_of-symbols}
 use Rattle.writing_spec.specs.Drafts.{write_each}
 use Rattle.writing_spec.specs.Article.{version_items, version_draft}

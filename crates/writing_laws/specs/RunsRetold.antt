@@ -8,8 +8,7 @@ use Rattle.hol_spec.specs.DefinitionLists.{definitions_in, constants_put}
 use Rattle.hol_spec.specs.TypeDefinitions.{first_law_of, second_law_of}
 use Rattle.hol_spec.specs.Symbols.{defined}
 use Rattle.hol_spec.specs.declared.StepKind.TheVariants as by_rule
-use Rattle.article_spec.specs.Inference.{step_by}
-use Rattle.article_spec.specs.Stating.{restatement}
+use Rattle.article_spec.specs.RuleSteps.{step_by, restatement}
 use Rattle.hol_laws.specs.TermTyping.{loose-typed}
 use Rattle.hol_laws.specs.Members.{All-append, All-weaker}
 use Rattle.hol_spec.specs.Rules.{Parameters, derived}

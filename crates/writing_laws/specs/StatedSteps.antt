@@ -16,8 +16,7 @@ use Rattle.article_spec.specs.declared.commands.Item.TheVariants as item
 use Rattle.article_spec.specs.declared.commands.Word.TheVariants as word
 use Rattle.article_spec.specs.State.{Object, body}
 use Rattle.article_spec.specs.Step.{step_at}
-use Rattle.article_spec.specs.Inference.{step_by}
-use Rattle.article_spec.specs.Stating.{restatement}
+use Rattle.article_spec.specs.RuleSteps.{step_by, restatement}
 use Rattle.writing_spec.specs.Drafts.{Kept, Draft, say, say_word, write_each}
 use Rattle.writing_spec.specs.WrittenSteps.{keep_theorem, write_premise, write_given, write_restated}
 use Rattle.writing_laws.specs.SymbolUses.{AreAmong}

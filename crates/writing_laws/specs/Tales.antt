@@ -18,8 +18,7 @@ use Rattle.hol_spec.specs.Rules.{Parameters, Rule, derived, IsDefining}
 use Rattle.hol_spec.specs.Rules as rule
 use Rattle.hol_spec.specs.Proofs.{Made, Step, symbols_of, steps_of, sequent_at}
 use Rattle.hol_spec.specs.declared.StepKind.TheVariants as by_rule
-use Rattle.article_spec.specs.Inference.{step_by}
-use Rattle.article_spec.specs.Stating.{restatement}
+use Rattle.article_spec.specs.RuleSteps.{step_by, restatement}
 use Rattle.writing_laws.specs.SymbolUses.{IsInput}
 use Rattle.writing_laws.specs.Built.{HasNoBinderName}
 use Rattle.writing_laws.specs.BuiltSteps.{IsBuiltTerm, IsBuiltGiven, IsFreshGiven}
