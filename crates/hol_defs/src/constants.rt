@@ -26,7 +26,8 @@ impl Symbols {
     pub fn define(&mut self, table: &mut TermTable, name: &Name, term: TermId) -> Result<(), Fault>
         requires known { AreKnownSymbols table.old self.old }
         requires term { IsTermAt table.old term.0 }
-        ensures takes { OnOk result (symbols_at table.new self.new ≡ symbols_at table.old self.old ++ Symbol.defined (Definition.constant name.now (term_at table.old term.0)) ∷ []) }
+        ensures takes { OnOk result (symbols_at table.new self.new ≡ symbols_at table.old self.old
+            ++ Symbol.defined (Definition.constant name.now (term_at table.old term.0)) ∷ []) }
         ensures fits { OnOk result (constant_fault (symbols_at table.old self.old) name.now (term_at table.old term.0) ≡ None) }
         ensures refusal { IfErr result (λ fault. Refuses fault (constant_fault (symbols_at table.old self.old) name.now (term_at table.old term.0))) }
         ensures unchanged { OnErr result (self.new ≡ self.old) }

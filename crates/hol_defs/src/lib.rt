@@ -145,7 +145,8 @@ impl Symbols {
 
     /// The generic type of a primitive or defined constant: `None` exactly where the name is neither.
     pub fn generic(&self, name: &Name) -> Option<Generic>
-        ensures tells { (trees : Trees) → AreKnownSymbols trees self.now → option_map (generic_at trees.types) result ≡ generic_type (symbols_at trees self.now) name.now }
+        ensures tells { (trees : Trees) → AreKnownSymbols trees self.now →
+            option_map (generic_at trees.types) result ≡ generic_type (symbols_at trees self.now) name.now }
         ensures known { (trees : Trees) → AreKnownSymbols trees self.now → IfSome result (λ generic. IsGenericKnown trees.types generic) }
     {
         told(Primitive::named(name), self.generics.find(name))
@@ -211,7 +212,8 @@ fn kind_by(primitive: bool, defined: bool, input: bool) -> Option<SymbolKind>
 
 // The generic type of a primitive constant, or else of a defined one.
 fn told(primitive: Option<Primitive>, defined: Option<TypeId>) -> Option<Generic>
-    ensures tells { (types : List HolType) → option_map (generic_at types) result ≡ option_or (option_map generic_of primitive) (option_map (number_at types) defined) }
+    ensures tells { (types : List HolType) →
+        option_map (generic_at types) result ≡ option_or (option_map generic_of primitive) (option_map (number_at types) defined) }
     ensures known { (types : List HolType) → IfSome defined (λ id. id.0 < length types) → IfSome result (λ generic. IsGenericKnown types generic) }
 {
     match primitive {

@@ -59,9 +59,12 @@ impl Symbols {
         requires pairs { ArePairsKnown table.old pairs.now }
         requires hyps { AreTerms table.old hyps.now }
         requires concl { IsTermAt table.old concl.0 }
-        ensures takes { OnOk result (symbols_at table.new self.new ≡ symbols_at table.old self.old ++ map Symbol.defined (definitions_in (pairs_at table.old pairs.now) (terms_at table.old hyps.now))) }
-        ensures fits { OnOk result (list_fault (symbols_at table.old self.old) (pairs_at table.old pairs.now) (record { hypotheses = terms_at table.old hyps.now; conclusion = term_at table.old concl.0 }) ≡ None) }
-        ensures refusal { IfErr result (λ fault. Refuses fault (list_fault (symbols_at table.old self.old) (pairs_at table.old pairs.now) (record { hypotheses = terms_at table.old hyps.now; conclusion = term_at table.old concl.0 }))) }
+        ensures takes { OnOk result (symbols_at table.new self.new ≡ symbols_at table.old self.old
+            ++ map Symbol.defined (definitions_in (pairs_at table.old pairs.now) (terms_at table.old hyps.now))) }
+        ensures fits { OnOk result (list_fault (symbols_at table.old self.old) (pairs_at table.old pairs.now)
+            (record { hypotheses = terms_at table.old hyps.now; conclusion = term_at table.old concl.0 }) ≡ None) }
+        ensures refusal { IfErr result (λ fault. Refuses fault (list_fault (symbols_at table.old self.old) (pairs_at table.old pairs.now)
+            (record { hypotheses = terms_at table.old hyps.now; conclusion = term_at table.old concl.0 }))) }
         ensures unchanged { OnErr result (self.new ≡ self.old) }
         ensures known { AreKnownSymbols table.new self.new }
         ensures table { table.new ≡ table.old }
@@ -91,8 +94,10 @@ impl Symbols {
         requires hyps { AreTerms table.now hyps.now }
         requires concl { IsTermAt table.now concl.0 }
         ensures defined { IfOk result (λ terms. AreDefined table.now (pairs_at table.now pairs.now) (terms_at table.now hyps.now) pairs.now terms.items) }
-        ensures fits { OnOk result (list_fault (symbols_at table.now self.now) (pairs_at table.now pairs.now) (record { hypotheses = terms_at table.now hyps.now; conclusion = term_at table.now concl.0 }) ≡ None) }
-        ensures refusal { IfErr result (λ fault. Refuses fault (list_fault (symbols_at table.now self.now) (pairs_at table.now pairs.now) (record { hypotheses = terms_at table.now hyps.now; conclusion = term_at table.now concl.0 }))) }
+        ensures fits { OnOk result (list_fault (symbols_at table.now self.now) (pairs_at table.now pairs.now)
+            (record { hypotheses = terms_at table.now hyps.now; conclusion = term_at table.now concl.0 }) ≡ None) }
+        ensures refusal { IfErr result (λ fault. Refuses fault (list_fault (symbols_at table.now self.now) (pairs_at table.now pairs.now)
+            (record { hypotheses = terms_at table.now hyps.now; conclusion = term_at table.now concl.0 }))) }
     {
         if self.has_taken(table, pairs) {
             return Err(Fault::Refused(Kind::NameTaken));
@@ -178,7 +183,7 @@ fn judge_definitions(
     let _types = table.types().count();
     add_variables(variables, pairs)?;
     let mut equations = Vec::new(alloc);
-    match judge_equations(alloc, table, pairs, hyps, concl, variables, &mut equations) {
+    match judge_equations(table, pairs, hyps, concl, variables, &mut equations) {
         Ok(()) => definientia(alloc, pairs, equations),
         Err(fault) => {
             drop(equations);
@@ -189,7 +194,6 @@ fn judge_definitions(
 
 // Judges what the hypotheses say of the variables of the pairs, each once, and the list, and puts what they say.
 fn judge_equations(
-    alloc: Global,
     table: &TermTable,
     pairs: &[(Name, Variable)],
     hyps: &[TermId],
@@ -203,11 +207,13 @@ fn judge_equations(
     requires variables { variables.now ≡ union same_variable [] (map (λ p. p.1) pairs.now) }
     requires distinct { type.IsDistinct table.now.types }
     requires none { equations.old.items ≡ [] }
-    ensures said { OnOk result (map (equation_at table.now) equations.new.items ≡ defining_equations (pairs_at table.now pairs.now) (terms_at table.now hyps.now)) }
+    ensures said { OnOk result (map (equation_at table.now) equations.new.items ≡
+        defining_equations (pairs_at table.now pairs.now) (terms_at table.now hyps.now)) }
     ensures known { OnOk result (AreEquationsKnown table.now equations.new.items) }
     ensures fits { OnOk result (equations_fault (pairs_at table.now pairs.now) (sequent_at table.now hyps.now concl) ≡ None) }
     ensures refusal { IfErr result (λ fault. Refuses fault (equations_fault (pairs_at table.now pairs.now) (sequent_at table.now hyps.now concl))) }
 {
+    let alloc = *equations.allocator();
     push_equations(table, variables, hyps, equations)?;
     if !are_closed(table, equations)? {
         return Err(Fault::Refused(Kind::NotClosed));
@@ -265,7 +271,8 @@ fn push_equation(
     requires hyp { IsTermAt table.now hyp.0 }
     requires variables { HaveTypes table.now variables.now }
     requires distinct { type.IsDistinct table.now.types }
-    ensures said { OnOk result (map (equation_at table.now) all.new.items ≡ map (equation_at table.now) all.old.items ++ equations_of table.now variables.now (hyp ∷ [])) }
+    ensures said { OnOk result (map (equation_at table.now) all.new.items ≡
+        map (equation_at table.now) all.old.items ++ equations_of table.now variables.now (hyp ∷ [])) }
     ensures known { OnOk result (AreEquationsKnown table.now all.old.items → AreEquationsKnown table.now all.new.items) }
 {
     let Some(equation) = equation_of(table, hyp)? else {
@@ -345,7 +352,8 @@ fn is_list(
     requires concl { concl.0 < length table.now.terms }
     requires variables { variables.now ≡ union same_variable [] (map (λ p. p.1) pairs.now) }
     requires distinct { type.IsDistinct table.now.types }
-    ensures { IfOk result (λ is. is ≡ is_list_of (pairs_at table.now pairs.now) (record { hypotheses = terms_at table.now hyps.now; conclusion = term_at table.now concl.0 })) }
+    ensures { IfOk result (λ is. is ≡ is_list_of (pairs_at table.now pairs.now)
+        (record { hypotheses = terms_at table.now hyps.now; conclusion = term_at table.now concl.0 })) }
 {
     let names = are_names_once(alloc, pairs)?;
     let among = are_variables_among(table, concl, variables)?;

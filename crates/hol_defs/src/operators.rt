@@ -55,9 +55,15 @@ impl Symbols {
         requires known { AreKnownSymbols table.old self.old }
         requires term { IsTermAt table.old term.0 }
         requires application { (f : Term) × ((t : Term) × (term_at table.old term.0 ≡ app f t)) }
-        ensures takes { OnOk result ((f t : Term) (c : HolType) → term_at table.old term.0 ≡ app f t → HasType t c → symbols_at table.new self.new ≡ symbols_at table.old self.old ++ Symbol.defined (Definition.type_operator (named op.now abs.now rep.now names.now) c f) ∷ []) }
-        ensures fits { OnOk result ((f t : Term) (c : HolType) → term_at table.old term.0 ≡ app f t → HasType t c → option_or (operator_fault (symbols_at table.old self.old) (named op.now abs.now rep.now names.now) f) (limit_fault (types_made (named op.now abs.now rep.now names.now) c)) ≡ None) }
-        ensures refusal { IfErr result (λ fault. (f t : Term) (c : HolType) → term_at table.old term.0 ≡ app f t → HasType t c → Refuses fault (option_or (operator_fault (symbols_at table.old self.old) (named op.now abs.now rep.now names.now) f) (limit_fault (types_made (named op.now abs.now rep.now names.now) c)))) }
+        ensures takes { OnOk result ((f t : Term) (c : HolType) → term_at table.old term.0 ≡ app f t → HasType t c →
+            symbols_at table.new self.new ≡ symbols_at table.old self.old
+            ++ Symbol.defined (Definition.type_operator (named op.now abs.now rep.now names.now) c f) ∷ []) }
+        ensures fits { OnOk result ((f t : Term) (c : HolType) → term_at table.old term.0 ≡ app f t → HasType t c →
+            option_or (operator_fault (symbols_at table.old self.old) (named op.now abs.now rep.now names.now) f)
+            (limit_fault (types_made (named op.now abs.now rep.now names.now) c)) ≡ None) }
+        ensures refusal { IfErr result (λ fault. (f t : Term) (c : HolType) → term_at table.old term.0 ≡ app f t → HasType t c →
+            Refuses fault (option_or (operator_fault (symbols_at table.old self.old) (named op.now abs.now rep.now names.now) f)
+            (limit_fault (types_made (named op.now abs.now rep.now names.now) c)))) }
         ensures unchanged { OnErr result (self.new ≡ self.old) }
         ensures known { AreKnownSymbols table.new self.new }
         ensures keeps { Keeps table.old table.new }
@@ -89,8 +95,10 @@ impl Symbols {
     ) -> Result<(), Fault>
         requires known { AreKnownSymbols table.now self.now }
         requires predicate { predicate.0 < length table.now.terms }
-        ensures fits { OnOk result (operator_fault (symbols_at table.now self.now) (named op.now abs.now rep.now names.now) (term_at table.now predicate.0) ≡ None) }
-        ensures refusal { IfErr result (λ fault. Refuses fault (operator_fault (symbols_at table.now self.now) (named op.now abs.now rep.now names.now) (term_at table.now predicate.0))) }
+        ensures fits { OnOk result (operator_fault (symbols_at table.now self.now)
+            (named op.now abs.now rep.now names.now) (term_at table.now predicate.0) ≡ None) }
+        ensures refusal { IfErr result (λ fault. Refuses fault (operator_fault (symbols_at table.now self.now)
+            (named op.now abs.now rep.now names.now) (term_at table.now predicate.0))) }
     {
         if !self.are_new(op, abs, rep) {
             return Err(Fault::Refused(Kind::NameTaken));
@@ -106,7 +114,8 @@ impl Symbols {
 
     /// Whether `op` is no operator, `abs` and `rep` are no constants and two names.
     pub fn are_new(&self, op: &Name, abs: &Name, rep: &Name) -> bool
-        ensures new { (trees : Trees) (names : List AName) → AreKnownSymbols trees self.now → result ≡ are_new_names (symbols_at trees self.now) (named op.now abs.now rep.now names) }
+        ensures new { (trees : Trees) (names : List AName) → AreKnownSymbols trees self.now →
+            result ≡ are_new_names (symbols_at trees self.now) (named op.now abs.now rep.now names) }
     {
         none_of(
             self.is_operator(op),
@@ -132,7 +141,8 @@ impl Symbols {
         requires apart { name_eq rep.now abs.now ≡ false }
         requires op { lookup (name_eq op.now) (arities_of self.old) ≡ None }
         requires whole { whole.0 < length table.old.types }
-        ensures takes { OnOk result (TakesOperator table.new.types self.old self.new (named op.now abs.now rep.now names.now) (type_at table.old whole.0) whole predicate) }
+        ensures takes { OnOk result (TakesOperator table.new.types self.old self.new
+            (named op.now abs.now rep.now names.now) (type_at table.old whole.0) whole predicate) }
         ensures unchanged { OnErr result (self.new ≡ self.old) }
         ensures keeps { Keeps table.old table.new }
     {
@@ -203,7 +213,8 @@ fn add_operator(
     requires rep { lookup (name_eq definition.rep.now) generics.old ≡ None }
     requires apart { name_eq definition.rep.now definition.abs.now ≡ false }
     requires op { lookup (name_eq definition.op.now) arities.old ≡ None }
-    ensures generics { OnOk result (generics.new ≡ generics.old ++ (definition.entry.abs.now, definition.entry.abs_type) ∷ (definition.entry.rep.now, definition.entry.rep_type) ∷ []) }
+    ensures generics { OnOk result (generics.new ≡ generics.old
+        ++ (definition.entry.abs.now, definition.entry.abs_type) ∷ (definition.entry.rep.now, definition.entry.rep_type) ∷ []) }
     ensures arities { OnOk result (arities.new ≡ arities.old ++ (definition.entry.op.now, length definition.entry.names.now) ∷ []) }
     ensures no_generics { OnErr result (generics.new ≡ generics.old) }
     ensures no_arity { OnErr result (arities.new ≡ arities.old) }
@@ -224,7 +235,8 @@ fn add_constants(generics: &mut Generics, definition: TypeOpView) -> Result<(), 
     requires abs { lookup (name_eq definition.abs.now) generics.old ≡ None }
     requires rep { lookup (name_eq definition.rep.now) generics.old ≡ None }
     requires apart { name_eq definition.rep.now definition.abs.now ≡ false }
-    ensures added { OnOk result (generics.new ≡ generics.old ++ (definition.entry.abs.now, definition.entry.abs_type) ∷ (definition.entry.rep.now, definition.entry.rep_type) ∷ []) }
+    ensures added { OnOk result (generics.new ≡ generics.old
+        ++ (definition.entry.abs.now, definition.entry.abs_type) ∷ (definition.entry.rep.now, definition.entry.rep_type) ∷ []) }
     ensures unchanged { OnErr result (generics.new ≡ generics.old) }
 {
     let count = generics.len();
@@ -325,7 +337,8 @@ fn none_of(one: bool, two: bool, three: bool, four: bool) -> bool
 fn within_limits(types: &TypeTable, count: usize, whole: TypeId) -> Result<(), Fault>
     requires { whole.0 < length types.now }
     ensures fits { OnOk result ((names : TypeNames) → length names.variables ≡ count → limit_fault (types_made names (type.tree_at types.now whole.0)) ≡ None) }
-    ensures refusal { IfErr result (λ fault. (names : TypeNames) → length names.variables ≡ count → Refuses fault (limit_fault (types_made names (type.tree_at types.now whole.0)))) }
+    ensures refusal { IfErr result (λ fault. (names : TypeNames) → length names.variables ≡ count →
+        Refuses fault (limit_fault (types_made names (type.tree_at types.now whole.0)))) }
 {
     let count = count as u64;
     let size = types.size(whole).saturating_add(count).saturating_add(2);
@@ -349,7 +362,8 @@ fn constant_types(
     whole: TypeId,
 ) -> Result<ConstantTypes, Memory>
     requires { whole.0 < length table.old.types }
-    ensures types { IfOk result (λ types. (abs rep : AName) → AreConstantTypes table.new.types (named op.now abs rep names.now) (type_at table.old whole.0) types.abs types.rep) }
+    ensures types { IfOk result (λ types. (abs rep : AName) →
+        AreConstantTypes table.new.types (named op.now abs rep names.now) (type_at table.old whole.0) types.abs types.rep) }
     ensures keeps { Keeps table.old table.new }
 {
     let part = part_type(alloc, table, op, names)?;

@@ -47,7 +47,8 @@ impl Symbols {
     /// it is taken where it is no operator yet. It is refused with `BadArity` exactly where it is an operator that
     /// takes another number of arguments.
     pub fn use_op(&mut self, name: &Name, arity: usize) -> Result<(), Fault>
-        ensures takes { OnOk result ((trees : Trees) → symbols_at trees self.new ≡ symbols_at trees self.old ++ new_operator (symbols_at trees self.old) name.now arity) }
+        ensures takes { OnOk result ((trees : Trees) →
+            symbols_at trees self.new ≡ symbols_at trees self.old ++ new_operator (symbols_at trees self.old) name.now arity) }
         ensures fits { OnOk result ((trees : Trees) → FitsArity (operator_arity (symbols_at trees self.old) name.now) arity) }
         ensures refusal { IfErr result (λ fault. (trees : Trees) → RefusesOperator fault (operator_arity (symbols_at trees self.old) name.now) arity) }
         ensures unchanged { OnErr result (self.new ≡ self.old) }
@@ -70,7 +71,8 @@ impl Symbols {
 
     // The use of a constant without a generic type.
     fn use_input(&mut self, name: &Name) -> Result<(), Memory>
-        ensures takes { OnOk result ((trees : Trees) → generic_type (symbols_at trees self.old) name.now ≡ None → symbols_at trees self.new ≡ symbols_at trees self.old ++ new_constant (symbols_at trees self.old) name.now) }
+        ensures takes { OnOk result ((trees : Trees) → generic_type (symbols_at trees self.old) name.now ≡ None →
+            symbols_at trees self.new ≡ symbols_at trees self.old ++ new_constant (symbols_at trees self.old) name.now) }
         ensures unchanged { OnErr result (self.new ≡ self.old) }
         ensures known { (trees : Trees) → AreKnownSymbols trees self.old → AreKnownSymbols trees self.new }
     {
@@ -83,7 +85,8 @@ impl Symbols {
 
     // The use of an operator of which no number of arguments is settled.
     fn use_input_operator(&mut self, name: &Name, arity: usize) -> Result<(), Memory>
-        ensures takes { OnOk result ((trees : Trees) → operator_arity (symbols_at trees self.old) name.now ≡ None → symbols_at trees self.new ≡ symbols_at trees self.old ++ new_operator (symbols_at trees self.old) name.now arity) }
+        ensures takes { OnOk result ((trees : Trees) → operator_arity (symbols_at trees self.old) name.now ≡ None →
+            symbols_at trees self.new ≡ symbols_at trees self.old ++ new_operator (symbols_at trees self.old) name.now arity) }
         ensures unchanged { OnErr result (self.new ≡ self.old) }
         ensures known { (trees : Trees) → AreKnownSymbols trees self.old → AreKnownSymbols trees self.new }
     {

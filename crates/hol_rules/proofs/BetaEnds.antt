@@ -7,7 +7,7 @@ use Rattle.hol_spec.specs.Terms.{type_of, HasType, equation}
 use Rattle.hol_spec.specs.Rules.{derived}
 use Rattle.hol_spec.specs.Rules as rule
 use Rattle.hol_spec.specs.declared.StepKind.TheVariants as by_rule
-use Rattle.article_spec.specs.Inference.{step_by, contracted}
+use Rattle.article_spec.specs.RuleSteps.{step_by, contracted, beta_conv_step}
 use Rattle.hol_term.specs.declared.TermId.{TermId}
 use Rattle.hol_term.specs.Tables.{term_at, IsTermAt}
 use Rattle.hol_rules.specs.declared.beta.Redex.{Redex}
@@ -15,7 +15,6 @@ use Rattle.hol_rules.specs.declared.made.Parameters.TheVariants as parameters
 use Rattle.hol_rules.specs.Kept.{Kept, Grows}
 use Rattle.hol_rules.specs.Views.{new_step}
 use Rattle.hol_rules.specs.Premises.{AreNumbersOf, IsNumberOf, AreRedexParts}
-use Rattle.hol_rules.specs.Steps.{beta_conv_step}
 use Rattle.hol_rules.proofs.Concluded.{Grows-trans}
 use Rattle.hol_rules.proofs.RuleSteps.{Makes}
 use Rattle.hol_rules.proofs.MoreSteps.{beta_conv-makes}

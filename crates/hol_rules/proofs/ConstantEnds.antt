@@ -24,7 +24,7 @@ use Rattle.proof_laws.specs.ProofGrowth.{definitions_of-append}
 use Rattle.proof_laws.specs.StepsDerive.{among-last}
 use Rattle.article_spec.specs.Results.{◌>>◌, Fails}
 use Rattle.article_spec.specs.Conditions.{demand}
-use Rattle.article_spec.specs.Inference.{step_by}
+use Rattle.article_spec.specs.RuleSteps.{step_by, define_const_step}
 use Rattle.hol_defs.specs.Faults.{first_failing, has_own_variables, constant_fault, Refuses}
 use Rattle.hol_term.specs.declared.TermId.{TermId}
 use Rattle.hol_defs.specs.Symbols.{Taken, symbols_at, AreKnownSymbols}
@@ -36,7 +36,6 @@ use Rattle.hol_rules.specs.Kept.{Kept, Grows}
 use Rattle.hol_rules.specs.Views.{new_step}
 use Rattle.hol_rules.specs.Premises.{AreNumbersOf, IsNumberOf}
 use Rattle.hol_rules.specs.Conclusions.{Defines}
-use Rattle.hol_rules.specs.Steps.{define_const_step}
 use Rattle.hol_rules.proofs.Concluded.{Grows-trans, concludes-definition}
 use Rattle.hol_rules.proofs.Defined.{AreNewly}
 use Rattle.hol_rules.proofs.Ends.{some_of, stepped}

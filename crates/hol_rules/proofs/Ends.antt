@@ -23,7 +23,7 @@ use Rattle.hol_rules.specs.Kept.{Kept, Grows, step_count}
 use Rattle.hol_rules.specs.Views.{parameters_view, new_step}
 use Rattle.hol_rules.specs.Conclusions.{Concludes}
 use Rattle.hol_rules.specs.Premises.{AreNumbersOf, IsNumberOf, AreSides}
-use Rattle.hol_rules.specs.Steps.{refl_step, assume_step, eq_mp_step, sym_step, trans_step}
+use Rattle.article_spec.specs.RuleSteps.{refl_step, assume_step, eq_mp_step, sym_step, trans_step}
 use Rattle.hol_rules.proofs.Concluded.{Grows-refl, concludes}
 use Rattle.hol_rules.proofs.RuleSteps.{Makes, unmet, refl-makes, assume-makes, eq_mp-makes, sym-makes, trans-makes}
 use Rattle.hol_rules.proofs.SideLaws.{known_term, number_term}

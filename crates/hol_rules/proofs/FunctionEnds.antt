@@ -21,7 +21,7 @@ use Rattle.hol_rules.specs.declared.premises.Sides.{Sides}
 use Rattle.hol_rules.specs.Kept.{Kept, Grows}
 use Rattle.hol_rules.specs.Views.{variable_view, new_step}
 use Rattle.hol_rules.specs.Premises.{AreNumbersOf, IsNumberOf, AreSides}
-use Rattle.hol_rules.specs.Steps.{abs_thm_step, app_thm_step}
+use Rattle.article_spec.specs.RuleSteps.{abs_thm_step, app_thm_step}
 use Rattle.hol_rules.proofs.Concluded.{Grows-trans}
 use Rattle.hol_rules.proofs.RuleSteps.{unmet}
 use Rattle.hol_rules.proofs.MoreSteps.{abs_thm-makes, app_thm-makes}

@@ -12,7 +12,7 @@ use Rattle.hol_rules.specs.declared.made.Parameters.TheVariants as parameters
 use Rattle.hol_rules.specs.Kept.{Kept, Grows}
 use Rattle.hol_rules.specs.Views.{new_step}
 use Rattle.hol_rules.specs.Premises.{AreNumbersOf, IsNumberOf}
-use Rattle.hol_rules.specs.Steps.{deduct_antisym_step, prove_hyp_step}
+use Rattle.article_spec.specs.RuleSteps.{deduct_antisym_step, prove_hyp_step}
 use Rattle.hol_rules.proofs.Concluded.{Grows-refl}
 use Rattle.hol_rules.proofs.MoreSteps.{deduct_antisym-makes, prove_hyp-makes}
 use Rattle.hol_rules.proofs.Ends.{Ends, ends_by, stepped}

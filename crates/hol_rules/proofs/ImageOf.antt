@@ -18,7 +18,7 @@ use Rattle.sequent.specs.Sequents as numbers
 use Rattle.hol_rules.specs.declared.substitution.Links.{Links}
 use Rattle.hol_rules.specs.Chains.{chain, links_of, rest_of, AreLinks}
 use Rattle.hol_rules.specs.Premises.{IsNumberOf, IsStated}
-use Rattle.hol_rules.specs.Steps.{substituted}
+use Rattle.article_spec.specs.RuleSteps.{substituted}
 use Rattle.hol_rules.proofs.Chaining.{links_of-chain, rest_of-chain, sub-chain}
 use Rattle.hol_rules.proofs.PairLaws.{type_pairs-Keeps, term_pairs-Keeps}
 use Rattle.std.proofs.Math.Path.{ap₂}

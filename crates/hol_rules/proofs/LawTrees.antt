@@ -6,13 +6,12 @@ use Rattle.hol_spec.specs.Names.{Name}
 use Rattle.hol_spec.specs.Types.{HolType, variable}
 use Rattle.hol_spec.specs.Primitives.{bool, function}
 use Rattle.hol_spec.specs.Rules.{abstraction, derived}
-use Rattle.hol_spec.specs.TermBinding.{close}
 use Rattle.hol_spec.specs.Definitions.{TypeNames}
 use Rattle.hol_spec.specs.NewTypes.{new_type, abstraction_type, representation_type}
 use Rattle.hol_spec.specs.TypeDefinitions.{first_law_of, second_law_of}
 use Rattle.hol_spec.specs.declared.Version.{Version}
 use Rattle.hol_spec.specs.declared.Version.TheVariants.{Five, Six}
-use Rattle.hol_spec.specs.Terms.{Term, Variable as AVariable, free, bound, constant, app, equation, variable_eq}
+use Rattle.hol_spec.specs.Terms.{Term, Variable as AVariable, free, constant, app, equation, variable_eq}
 use Rattle.hol_laws.specs.TermLaws.{variable_eq-Decides}
 use Rattle.hol_type.specs.declared.table.TypeId.{TypeId}
 use Rattle.hol_type.specs.Tables as type
@@ -21,7 +20,8 @@ use Rattle.hol_term.specs.declared.TermId.{TermId}
 use Rattle.hol_term.specs.declared.Variable.{Variable}
 use Rattle.hol_term.specs.Tables.{Trees, term_at, terms_at, type_at, AreKnown, Holds, Keeps}
 use Rattle.hol_term.specs.TableLaws.{Keeps-refl, Keeps-trans, term_in-Stays, Some-term_in}
-use Rattle.hol_rules.specs.Laws.{first_tree, first_tree_of, second_tree, second_tree_of, IsTypeOf, IsWithoutVariables}
+use Rattle.hol_rules.specs.declared.laws.NewPart.{NewPart}
+use Rattle.hol_rules.specs.Laws.{part_constants, first_tree, first_tree_of, second_tree, second_tree_of, IsNewPart, IsPartKnown, IsTypeOf, IsWithoutVariables}
 use Rattle.hol_rules.specs.Premises.{IsNumberOf, IsStated}
 use Rattle.hol_rules.specs.Views.{variable_view}
 use Rattle.hol_rules.proofs.ClosedTerms.{close_at-closed}
@@ -86,17 +86,32 @@ IfOk-equated a b ty f x (Err e) T F X t m n l h = tt
 own-variable : (v : AVariable) → variable_eq v v ≡ true
 own-variable v = (variable_eq-Decides v v).1 refl
 
--- one constant after another, under a binder
-module _ (v : AVariable) (m n : Name) (a b : HolType) where
-  both-close : close v (app (constant m a) (app (constant n b) (free v.0 v.1))) ≡ app (constant m a) (app (constant n b) (bound 0))
-  both-close = rw (own-variable v) refl
+-- a constant has no variable
+constant-without : (n : Name) (c : HolType) → IsWithoutVariables (constant n c)
+constant-without n c = record { free = refl; loose = omega (arith) }
 
-  pub first-closed : equation (function v.1 v.1) (abstraction v (app (constant m a) (app (constant n b) (free v.0 v.1)))) (abstraction v (free v.0 v.1)) ≡ first_tree m n v.1 a b
-  first-closed = rw (own-variable v) refl
+-- the numbers of a new type and its constants are of the table
+pub IsNewPart-known : {trees : Trees} {names : TypeNames} {c : HolType} {part : NewPart} → IsNewPart trees names c part → IsPartKnown trees part
+IsNewPart-known h = record {
+  ty = h.ty.known;
+  abs = h.abs.known;
+  rep = h.rep.known;
+  abs_closed = subst IsWithoutVariables (sym h.abs.is) (constant-without _ _);
+  rep_closed = subst IsWithoutVariables (sym h.rep.is) (constant-without _ _);
+}
+
+-- they stay what they are
+pub IsNewPart-kept : {a b : Trees} → Keeps a b → {names : TypeNames} {c : HolType} {part : NewPart} → IsNewPart a names c part → IsNewPart b names c part
+IsNewPart-kept k h = record { ty = type-kept k h.ty; abs = number-kept k h.abs; rep = number-kept k h.rep }
+
+-- one constant after another, under a binder
+module _ (v : AVariable) (m n : Term) (p : IsWithoutVariables m) (q : IsWithoutVariables n) where
+  pub first-closed : equation (function v.1 v.1) (abstraction v (app m (app n (free v.0 v.1)))) (abstraction v (free v.0 v.1)) ≡ first_tree v.1 (m, n)
+  first-closed = rw (own-variable v, close_at-closed 0 v m p.free p.loose, close_at-closed 0 v n q.free q.loose) refl
 
   pub second-closed : (f : Term) → IsWithoutVariables f
-      → equation (function v.1 bool) (abstraction v (equation v.1 (app (constant n b) (app (constant m a) (free v.0 v.1))) (free v.0 v.1))) (abstraction v (app f (free v.0 v.1))) ≡ second_tree m n v.1 a b f
-  second-closed f h = rw (own-variable v, close_at-closed 0 v f h.free h.loose) refl
+      → equation (function v.1 bool) (abstraction v (equation v.1 (app n (app m (free v.0 v.1))) (free v.0 v.1))) (abstraction v (app f (free v.0 v.1))) ≡ second_tree v.1 (m, n) f
+  second-closed f h = rw (own-variable v, close_at-closed 0 v m p.free p.loose, close_at-closed 0 v n q.free q.loose, close_at-closed 0 v f h.free h.loose) refl
 
 -- an equation of abstractions of what numbers stand for
 pub abstracted : (a b : Trees) (v : Variable) (w : AVariable) (f x id : TermId) (ty : TypeId) (T : HolType) (F X : Term) → variable_view a v ≡ w → IsTypeOf a ty T → IsNumberOf a f F → IsNumberOf a x X
@@ -112,13 +127,25 @@ IfOk-abstracted a b v w f x (Err u) ty T F X e s m n t q h = tt
 pub law-stated : (trees : Trees) (hyps : List TermId) (concl : TermId) (t : Term) → hyps ≡ [] → IsNumberOf trees concl t → IsStated trees (record { hyps = hyps; concl = concl }) (derived [] t)
 law-stated trees hyps concl t e n = record { known = (subst (AreKnown trees) (sym e) (tt {0}), n.known); is = λ i. record { hypotheses = terms_at trees (e i); conclusion = n.is i } }
 
--- the laws in an article of a version, by their trees
-pub first_tree_of-law : (version : Version) (names : TypeNames) (c : HolType)
-    → derived [] (first_tree_of version names.abstraction names.representation (new_type names) (abstraction_type names c) (representation_type names c)) ≡ first_law_of version names c
+-- the constants of a definition
+abbrev constants_of : TypeNames → HolType → Term × Term
+constants_of names c = (constant names.abstraction (abstraction_type names c), constant names.representation (representation_type names c))
+
+constants-are : {trees : Trees} {names : TypeNames} {c : HolType} {part : NewPart} → IsNewPart trees names c part → part_constants trees part ≡ constants_of names c
+constants-are h = λ i. (h.abs.is i, h.rep.is i)
+
+first_tree_of-law : (version : Version) (names : TypeNames) (c : HolType) → derived [] (first_tree_of version (new_type names) (constants_of names c)) ≡ first_law_of version names c
 first_tree_of-law Five names c = refl
 first_tree_of-law Six names c = refl
 
-pub second_tree_of-law : (version : Version) (names : TypeNames) (c : HolType) (f : Term)
-    → derived [] (second_tree_of version names.abstraction names.representation c (abstraction_type names c) (representation_type names c) f) ≡ second_law_of version names c f
+second_tree_of-law : (version : Version) (names : TypeNames) (c : HolType) (f : Term) → derived [] (second_tree_of version c (constants_of names c) f) ≡ second_law_of version names c f
 second_tree_of-law Five names c f = refl
 second_tree_of-law Six names c f = refl
+
+-- the laws in an article of a version, by their trees
+pub first-law : (version : Version) {trees : Trees} {names : TypeNames} {c : HolType} {part : NewPart} → IsNewPart trees names c part → derived [] (first_tree_of version (type_at trees part.ty.0) (part_constants trees part)) ≡ first_law_of version names c
+first-law version {names = names} {c = c} h = ap₂ (λ n k. derived [] (first_tree_of version n k)) h.ty.is (constants-are h) ∙ first_tree_of-law version names c
+
+pub second-law : (version : Version) {trees : Trees} {names : TypeNames} {c : HolType} {part : NewPart} → IsNewPart trees names c part → {whole : HolType} {f g : Term} → whole ≡ c → g ≡ f
+    → derived [] (second_tree_of version whole (part_constants trees part) g) ≡ second_law_of version names c f
+second-law version {names = names} {c = c} h {f = f} e d = (λ i. derived [] (second_tree_of version (e i) (constants-are h i) (d i))) ∙ second_tree_of-law version names c f

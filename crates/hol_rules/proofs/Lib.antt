@@ -25,7 +25,6 @@ mod LawTrees
 mod TypeEnds
 mod TypeKept
 mod TypeConcluded
-mod SamePairs
 mod SubstitutionEnds
 mod ListConditions
 mod ListSymbols

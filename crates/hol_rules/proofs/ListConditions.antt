@@ -17,9 +17,8 @@ use Rattle.hol_spec.specs.TermSubstitution.{TermPairs, sub}
 use Rattle.hol_spec.specs.declared.StepKind.TheVariants as by_rule
 use Rattle.article_spec.specs.Results.{◌>>◌, Fails}
 use Rattle.article_spec.specs.Conditions.{demand}
-use Rattle.article_spec.specs.Inference.{step_by}
+use Rattle.article_spec.specs.RuleSteps.{step_by, define_const_list_step}
 use Rattle.hol_defs.specs.Faults.{first_failing, list_fault, Refuses}
-use Rattle.hol_rules.specs.Steps.{define_const_list_step}
 use Rattle.hol_rules.proofs.RuleSteps.{met}
 
 -- four conditions in a row

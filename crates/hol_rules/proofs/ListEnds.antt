@@ -20,7 +20,7 @@ use Rattle.hol_rules.specs.Conclusions.{Defines}
 use Rattle.hol_rules.specs.ConstantLists.{constants_in, list_step}
 use Rattle.hol_rules.specs.Kept.{Kept, Grows}
 use Rattle.hol_rules.specs.Premises.{AreNumbersOf, IsNumberOf, IsStated}
-use Rattle.hol_rules.specs.Steps.{define_const_list_step}
+use Rattle.article_spec.specs.RuleSteps.{define_const_list_step}
 use Rattle.hol_rules.proofs.Concluded.{concludes-definition}
 use Rattle.hol_rules.proofs.Growth.{ArePairsKnown-Keeps, pairs_at-Keeps, sequent_at-Keeps}
 use Rattle.hol_rules.proofs.ListConditions.{are-fit, listed_step, list-is}

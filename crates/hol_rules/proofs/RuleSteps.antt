@@ -21,8 +21,7 @@ use Rattle.proof_laws.specs.EquationLaws.{equation-sides, equation_parts-is}
 use Rattle.proof_laws.specs.ProofGrowth.{All-get, proof-sequents}
 use Rattle.article_spec.specs.Results.{◌>>◌}
 use Rattle.article_spec.specs.Conditions.{demand, has_type, is_of_type, equation_of}
-use Rattle.article_spec.specs.Inference.{step_by}
-use Rattle.hol_rules.specs.Steps.{refl_step, assume_step, eq_mp_step, sym_step, trans_step}
+use Rattle.article_spec.specs.RuleSteps.{step_by, refl_step, assume_step, eq_mp_step, sym_step, trans_step}
 use Rattle.std.proofs.lemmas.Option.{same_Some}
 
 -- the rule makes this step, and it follows

@@ -12,7 +12,7 @@ use Rattle.hol_spec.specs.Proofs.{steps_of, sequent_at}
 use Rattle.hol_spec.specs.declared.StepKind.TheVariants as by_rule
 use Rattle.article_spec.specs.Conditions.{demand, all_bool, follows, is_of_type}
 use Rattle.article_spec.specs.Results.{Fails}
-use Rattle.article_spec.specs.Stating.{stated}
+use Rattle.article_spec.specs.RuleSteps.{stated, axiom_step, restate_step}
 use Rattle.hol_term.specs.declared.TermId.{TermId}
 use Rattle.hol_term.specs.Tables.{Trees, term_at, terms_at, AreKnown, IsDistinct}
 use Rattle.sequent.specs.declared.Sequent.{Sequent}
@@ -21,7 +21,6 @@ use Rattle.hol_rules.specs.declared.made.Parameters.TheVariants as parameters
 use Rattle.hol_rules.specs.Kept.{Kept}
 use Rattle.hol_rules.specs.Views.{new_step}
 use Rattle.hol_rules.specs.Premises.{AreNumbersOf, AreTermsAt, IsStated}
-use Rattle.hol_rules.specs.Steps.{axiom_step, restate_step}
 use Rattle.hol_rules.proofs.Concluded.{Grows-refl, fails-both}
 use Rattle.hol_rules.proofs.RuleSteps.{met, of_type}
 use Rattle.hol_rules.proofs.MoreSteps.{axiom-makes, restate-makes}

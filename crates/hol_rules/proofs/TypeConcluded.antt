@@ -23,7 +23,7 @@ use Rattle.hol_rules.specs.declared.type_definitions.TypeParts.{TypeParts}
 use Rattle.hol_rules.specs.Conclusions.{with_type, DefinesType}
 use Rattle.hol_rules.specs.Kept.{Kept, Grows, step_count}
 use Rattle.hol_rules.specs.Laws.{AreLaws, AreSmall, AreTypeParts}
-use Rattle.hol_rules.specs.Steps.{NewType, made_of_type, type_laws, type_measures}
+use Rattle.article_spec.specs.RuleSteps.{NewType, made_of_type, type_laws, type_measures}
 use Rattle.hol_rules.proofs.TypeEnds.{type-limits}
 use Rattle.hol_rules.proofs.TypeKept.{whole-grown, predicate-grown}
 use Rattle.hol_rules.proofs.TypeMeasures.{measures-counted}

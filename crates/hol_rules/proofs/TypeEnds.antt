@@ -20,7 +20,7 @@ use Rattle.hol_spec.specs.declared.Version.{Version}
 use Rattle.hol_spec.specs.Proofs.{Made, symbols_of, sequent_at}
 use Rattle.article_spec.specs.Results.{◌>>◌, Fails}
 use Rattle.article_spec.specs.Conditions.{demand, in_limits}
-use Rattle.article_spec.specs.DefiningWords.{application_parts}
+use Rattle.article_spec.specs.RuleSteps.{application_parts, NewType, made_of_type, type_laws, type_measures}
 use Rattle.hol_defs.specs.Faults.{first_failing, are_new, operator_fault, Refuses}
 use Rattle.hol_term.specs.declared.TermId.{TermId}
 use Rattle.hol_term.specs.declared.TermView.{TermView}
@@ -34,7 +34,6 @@ use Rattle.hol_rules.specs.declared.type_definitions.TypeParts.{TypeParts}
 use Rattle.hol_rules.specs.Kept.{Kept}
 use Rattle.hol_rules.specs.Laws.{AreTypeParts}
 use Rattle.hol_rules.specs.Premises.{IsNumberOf}
-use Rattle.hol_rules.specs.Steps.{NewType, made_of_type, type_laws, type_measures}
 
 -- the names are judged first
 named_first : (b : Bool) (r : Result NewType Kind) → b ≡ false → (demand b NameTaken >> r) ≡ Err NameTaken

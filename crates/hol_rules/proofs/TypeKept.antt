@@ -1,7 +1,5 @@
 -- A type operator more, and then the steps of its laws.
 use Rattle.std.proofs.Common.{◌≡◌, ℕ, zero, suc, ◌+◌, ◌<◌, refl, sym, ap, subst, ◌∙◌, List, [], ◌∷◌, ◌++◌, length, Some, slice_get}
-use Rattle.std.specs.Prelude.{take}
-use Rattle.std.proofs.Math.Path.{ap₂}
 use Rattle.std.proofs.lemmas.List.{length-append}
 use Rattle.std.specs.Option.{option_map, option_to_list}
 use Rattle.std.specs.List.{AllByRecursion, IsAmong}
@@ -22,7 +20,7 @@ use Rattle.hol_spec.specs.Rules as rule
 use Rattle.hol_spec.specs.Proofs.{Made, symbols_of, steps_of, sequents_of, sequent_at, definitions_of, IsDefinedBy, IsStep, IsProof}
 use Rattle.hol_spec.specs.declared.StepKind.{StepKind}
 use Rattle.hol_spec.specs.declared.StepKind.TheVariants.{FirstLaw, SecondLaw}
-use Rattle.article_spec.specs.Inference.{step_by}
+use Rattle.article_spec.specs.RuleSteps.{step_by, made_of_type}
 use Rattle.proof_laws.specs.ProofGrowth.{sequents_of-append, definitions_of-append}
 use Rattle.proof_laws.specs.RuleSequents.{predicate-typed}
 use Rattle.proof_laws.specs.StepsDerive.{among-front, among-last}
@@ -36,12 +34,13 @@ use Rattle.hol_rules.specs.declared.made.Made.{Made as OneMade}
 use Rattle.hol_rules.specs.declared.made.Made.TheVariants as one
 use Rattle.hol_rules.specs.declared.made.Step.{Step as OneStep}
 use Rattle.hol_rules.specs.declared.type_definitions.Laws.{Laws}
+use Rattle.hol_rules.specs.declared.type_definitions.LawSteps.{LawSteps}
 use Rattle.hol_rules.specs.declared.type_definitions.TypeParts.{TypeParts}
 use Rattle.hol_rules.specs.Conclusions.{with_type}
 use Rattle.hol_rules.specs.Kept.{Kept, Grows}
-use Rattle.hol_rules.specs.Laws.{AreLaws, AreLawSteps, AreTypeParts, IsLawStep, IsWithoutVariables}
+use Rattle.hol_rules.specs.Laws.{AreLaws, AreTypeParts, IsWithoutVariables}
 use Rattle.hol_rules.specs.Premises.{IsNumberOf, IsStated}
-use Rattle.hol_rules.specs.Steps.{made_of_type}
+use Rattle.hol_rules.specs.TypeSteps.{with_laws, with_operator, AreLawSteps, IsLawStep, TakesType}
 use Rattle.hol_rules.specs.Views.{step_view, made_view, IsStepKnown, IsKept}
 use Rattle.hol_rules.proofs.ClosedTerms.{closed-typed}
 use Rattle.hol_rules.proofs.Growth.{IsKept-Keeps, made_view-Keeps, step_view-Keeps, IsStepKnown-Keeps}
@@ -173,14 +172,9 @@ module _ (version : Version) (trees : Trees) (kind : StepKind) (i : ℕ) (names 
   law_step-known : IsStepKnown trees x
   law_step-known = record { parameters = law.known trees; sequent = subst (numbers.IsKnown trees) (sym law.says) n.known }
 
--- a list without the two that came last
-pub take-two : {A : Type 0} (xs : List A) (x y : A) → take (length xs) ((xs ++ x ∷ []) ++ y ∷ []) ≡ xs
-take-two [] x y = refl
-take-two (z ∷ xs) x y = ap (λ l. z ∷ l) (take-two xs x y)
-
 module _ (version : Version) (a b : Trees) (k : Keeps a b) (symbols after : List Taken) (xs : List OneStep) (ms : List OneMade) {memo : ParamMemo} (h : IsKept a symbols xs ms memo) (names : TypeNames) (i : ℕ) (l : i < length (steps_of (made_view a symbols xs ms))) (parts : TypeParts)
-    (p : AreTypeParts (record { trees = a; made = made_view a symbols xs ms }) names i parts) (laws : Laws) (s : AreLaws version a names (type_at a parts.whole.0) (term_at a parts.predicate.0) laws) (ys : List OneStep) (q : AreLawSteps version names i laws xs ys)
-    (is : (f t : Term) (c : HolType) → term_at a parts.concl.0 ≡ app f t → HasType t c → symbols_at b after ≡ symbols_at a symbols ++ Symbol.defined (Definition.type_operator names c f) ∷ []) (known : AreKnownSymbols b after) where
+    (p : AreTypeParts (record { trees = a; made = made_view a symbols xs ms }) names i parts) (laws : Laws) (s : AreLaws version a names (type_at a parts.whole.0) (term_at a parts.predicate.0) laws) (steps : LawSteps) (q : AreLawSteps version names i laws steps)
+    (is : TakesType names (term_at a parts.concl.0) (symbols_at a symbols) (symbols_at b after)) (known : AreKnownSymbols b after) where
   abbrev now : Kept
   now = record { trees = a; made = made_view a symbols xs ms }
 
@@ -198,9 +192,6 @@ module _ (version : Version) (a b : Trees) (k : Keeps a b) (symbols after : List
 
   abbrev old : List Made
   old = made_view a symbols xs ms
-
-  abbrev both : List OneStep
-  both = (xs ++ q.first ∷ []) ++ q.second ∷ []
 
   abbrev noted : List OneMade
   noted = (ms ++ one.TypeOp names.operator i ∷ []) ++ one.Step (length xs) ∷ []
@@ -225,46 +216,46 @@ module _ (version : Version) (a b : Trees) (k : Keeps a b) (symbols after : List
       IsKept-things b symbols xs ms kept after (new ∷ []) newly (one.TypeOp names.operator i ∷ []) (defined ∷ []) refl known (tt {0}, tt {0}) refl refl refl
       (subst (λ m. IsDefinedBy m names whole predicate i) stays (type-defined now h.proof names i l parts p), tt {0})
 
-  first-is : step_view a q.first ≡ (made_of_type version names i whole predicate).first
-  first-is = law_step-is version a FirstLaw i names laws.first (first_law_of version names whole) q.first q.first_law s.first
+  first-is : step_view a steps.first ≡ (made_of_type version names i whole predicate).first
+  first-is = law_step-is version a FirstLaw i names laws.first (first_law_of version names whole) steps.first q.first s.first
 
-  second-is : step_view a q.second ≡ (made_of_type version names i whole predicate).second
-  second-is = law_step-is version a SecondLaw i names laws.second (second_law_of version names whole predicate) q.second q.second_law s.second
+  second-is : step_view a steps.second ≡ (made_of_type version names i whole predicate).second
+  second-is = law_step-is version a SecondLaw i names laws.second (second_law_of version names whole predicate) steps.second q.second s.second
 
-  first-known : IsStepKnown a q.first
-  first-known = law_step-known version a FirstLaw i names laws.first (first_law_of version names whole) q.first q.first_law s.first
+  first-known : IsStepKnown a steps.first
+  first-known = law_step-known version a FirstLaw i names laws.first (first_law_of version names whole) steps.first q.first s.first
 
-  second-known : IsStepKnown a q.second
-  second-known = law_step-known version a SecondLaw i names laws.second (second_law_of version names whole predicate) q.second q.second_law s.second
+  second-known : IsStepKnown a steps.second
+  second-known = law_step-known version a SecondLaw i names laws.second (second_law_of version names whole predicate) steps.second q.second s.second
 
-  first-stays : step_view b q.first ≡ (made_of_type version names i whole predicate).first
-  first-stays = sym (step_view-Keeps k q.first first-known) ∙ first-is
+  first-stays : step_view b steps.first ≡ (made_of_type version names i whole predicate).first
+  first-stays = sym (step_view-Keeps k steps.first first-known) ∙ first-is
 
-  second-stays : step_view b q.second ≡ (made_of_type version names i whole predicate).second
-  second-stays = sym (step_view-Keeps k q.second second-known) ∙ second-is
+  second-stays : step_view b steps.second ≡ (made_of_type version names i whole predicate).second
+  second-stays = sym (step_view-Keeps k steps.second second-known) ∙ second-is
 
-  first-view : made_view b after (xs ++ q.first ∷ []) noted ≡ (old ++ defined ∷ []) ++ Made.step (made_of_type version names i whole predicate).first ∷ []
-  first-view = made_view-pushed b after xs (ms ++ one.TypeOp names.operator i ∷ []) defined-kept q.first ∙ (λ j. defined-view j ++ Made.step (first-stays j) ∷ [])
+  first-view : made_view b after (xs ++ steps.first ∷ []) noted ≡ (old ++ defined ∷ []) ++ Made.step (made_of_type version names i whole predicate).first ∷ []
+  first-view = made_view-pushed b after xs (ms ++ one.TypeOp names.operator i ∷ []) defined-kept steps.first ∙ (λ j. defined-view j ++ Made.step (first-stays j) ∷ [])
 
-  first-kept : IsKept b after (xs ++ q.first ∷ []) noted memo
+  first-kept : IsKept b after (xs ++ steps.first ∷ []) noted memo
   first-kept =
-      IsKept-pushed b after xs (ms ++ one.TypeOp names.operator i ∷ []) defined-kept q.first (IsStepKnown-Keeps k q.first first-known)
-      (subst (λ m. IsStep m (step_view b q.first)) (sym defined-view) (subst (IsStep (old ++ defined ∷ [])) (sym first-stays) (first-follows now h.proof names i l parts p version)))
+      IsKept-pushed b after xs (ms ++ one.TypeOp names.operator i ∷ []) defined-kept steps.first (IsStepKnown-Keeps k steps.first first-known)
+      (subst (λ m. IsStep m (step_view b steps.first)) (sym defined-view) (subst (IsStep (old ++ defined ∷ [])) (sym first-stays) (first-follows now h.proof names i l parts p version)))
 
-  both-view : made_view b after both (noted ++ one.Step (length (xs ++ q.first ∷ [])) ∷ []) ≡ with_type old (made_of_type version names i whole predicate)
-  both-view = made_view-pushed b after (xs ++ q.first ∷ []) noted first-kept q.second ∙ (λ j. first-view j ++ Made.step (second-stays j) ∷ [])
+  both-view : made_view b after (with_laws xs steps) (noted ++ one.Step (length (xs ++ steps.first ∷ [])) ∷ []) ≡ with_type old (made_of_type version names i whole predicate)
+  both-view = made_view-pushed b after (xs ++ steps.first ∷ []) noted first-kept steps.second ∙ (λ j. first-view j ++ Made.step (second-stays j) ∷ [])
 
-  both-kept : IsKept b after both (noted ++ one.Step (length (xs ++ q.first ∷ [])) ∷ []) memo
+  both-kept : IsKept b after (with_laws xs steps) (noted ++ one.Step (length (xs ++ steps.first ∷ [])) ∷ []) memo
   both-kept =
-      IsKept-pushed b after (xs ++ q.first ∷ []) noted first-kept q.second (IsStepKnown-Keeps k q.second second-known)
-      (subst (λ m. IsStep m (step_view b q.second)) (sym first-view) (subst (IsStep ((old ++ defined ∷ []) ++ Made.step (made_of_type version names i whole predicate).first ∷ [])) (sym second-stays) (second-follows now h.proof names i l parts p version)))
+      IsKept-pushed b after (xs ++ steps.first ∷ []) noted first-kept steps.second (IsStepKnown-Keeps k steps.second second-known)
+      (subst (λ m. IsStep m (step_view b steps.second)) (sym first-view) (subst (IsStep ((old ++ defined ∷ []) ++ Made.step (made_of_type version names i whole predicate).first ∷ [])) (sym second-stays) (second-follows now h.proof names i l parts p version)))
 
-  next : length (xs ++ q.first ∷ []) ≡ length xs + 1
-  next = length-append xs (q.first ∷ [])
+  next : length (xs ++ steps.first ∷ []) ≡ length xs + 1
+  next = length-append xs (steps.first ∷ [])
 
   -- the operator is made, and then the steps
-  pub made_view-type : made_view b after ys (noted ++ one.Step (length xs + 1) ∷ []) ≡ with_type old (made_of_type version names i whole predicate)
-  made_view-type = ap₂ (λ zs n. made_view b after zs (noted ++ one.Step n ∷ [])) q.are (sym next) ∙ both-view
+  pub made_view-type : made_view b after (with_laws xs steps) (with_operator ms names.operator i (length xs)) ≡ with_type old (made_of_type version names i whole predicate)
+  made_view-type = ap (λ n. made_view b after (with_laws xs steps) (noted ++ one.Step n ∷ [])) (sym next) ∙ both-view
 
-  pub IsKept-type : IsKept b after ys (noted ++ one.Step (length xs + 1) ∷ []) memo
-  IsKept-type = subst (λ zs. IsKept b after zs (noted ++ one.Step (length xs + 1) ∷ []) memo) (sym q.are) (subst (λ n. IsKept b after both (noted ++ one.Step n ∷ []) memo) next both-kept)
+  pub IsKept-type : IsKept b after (with_laws xs steps) (with_operator ms names.operator i (length xs)) memo
+  IsKept-type = subst (λ n. IsKept b after (with_laws xs steps) (noted ++ one.Step n ∷ []) memo) next both-kept

@@ -17,7 +17,7 @@ use Rattle.hol_spec.specs.declared.Version.{Version}
 use Rattle.hol_spec.specs.declared.Version.TheVariants.{Five, Six}
 use Rattle.article_spec.specs.Conditions.{in_limits, demand}
 use Rattle.hol_rules.specs.Laws.{first_law_size, second_law_size, larger_law_size, height_above_types, second_law_depth, AreSmall}
-use Rattle.hol_rules.specs.Steps.{type_measures}
+use Rattle.article_spec.specs.RuleSteps.{type_measures}
 use Rattle.hol_rules.proofs.RuleSteps.{met, unmet}
 
 is_le : (a b : ℕ) → a ≤ b → nat_le a b ≡ true

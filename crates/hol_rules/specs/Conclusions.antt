@@ -8,7 +8,7 @@ use Rattle.article_spec.specs.Results.{◌>>=◌, ◌>>◌, Fails}
 use Rattle.article_spec.specs.Conditions.{sequent_in_limits}
 use Rattle.hol_spec.specs.Symbols.{Symbol}
 use Rattle.hol_rules.specs.Kept.{Kept, step_count}
-use Rattle.hol_rules.specs.Steps.{NewType}
+use Rattle.article_spec.specs.RuleSteps.{NewType}
 
 -- A step within the limits: of its sequent the size is judged first, then the depth, then the number of parameters.
 abbrev pub limited : Result Step Kind → Result Step Kind
@@ -27,10 +27,15 @@ pub record Concludes (old : Kept) (rule : Result Step Kind) (new : Kept) (result
 
 -- The same of a definition: these symbols are taken, and then the step is made.
 pub record Defines (old : Kept) (symbols : List Symbol) (rule : Result Step Kind) (new : Kept) (result : Result ℕ Fault) : Type 0 where
-  pub concluded : IfOk result (λ id. (id ≡ step_count old) × ((x : Step) × (limited rule ≡ Ok x) × (new.made ≡ (old.made ++ map Made.symbol symbols) ++ Made.step x ∷ [])))
+  pub concluded : IfOk result (λ id. (id ≡ step_count old)
+      × ((x : Step) × (limited rule ≡ Ok x) × (new.made ≡ (old.made ++ map Made.symbol symbols) ++ Made.step x ∷ [])))
   pub refused : IfErr result (λ fault. Fails fault (limited rule))
   pub unchanged : OnErr result (new.made ≡ old.made)
   pub keeps : Keeps old.trees new.trees
+
+-- the symbols are taken, and then the step is made
+abbrev pub with_definition : Kept → List Symbol → Step → Kept
+with_definition k symbols x = record k { made = (k.made ++ map Made.symbol symbols) ++ Made.step x ∷ [] }
 
 -- what was made, then a type operator, and then the steps of its laws
 abbrev pub with_type : List Made → NewType → List Made

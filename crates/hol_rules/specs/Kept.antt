@@ -11,7 +11,9 @@ pub record Kept : Type 0 where
   pub made : List Made
 
 abbrev pub coded_kept : Coded Kept
-coded_kept = code_by (Trees × List Made) (coded× coded_trees (coded_list coded_made)) (λ k. (k.trees, k.made)) (λ p. record { trees = p.0; made = p.1 }) (λ _. refl)
+coded_kept =
+    code_by (Trees × List Made) (coded× coded_trees (coded_list coded_made)) (λ k. (k.trees, k.made))
+    (λ p. record { trees = p.0; made = p.1 }) (λ _. refl)
 
 -- how many steps there are, which is the number of the next one
 abbrev pub step_count : Kept → ℕ

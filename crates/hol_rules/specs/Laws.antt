@@ -1,56 +1,56 @@
 -- The laws of a new type, by the types of its constants.
-use Rattle.std.specs.Prelude.{◌≡◌, ℕ, ◌<◌, ◌≤◌, ◌+◌, ◌*◌, max, min, List, [], ◌∷◌, ◌++◌, codes, length, map, nat_le, true}
+use Rattle.std.specs.Prelude.{◌≡◌, ℕ, ◌<◌, ◌≤◌, ◌+◌, ◌*◌, max, min, List, [], ◌∷◌, codes, length, Bool, ◌&&◌, nat_le, true}
 use Rattle.std.specs.List.{list_all}
 use Rattle.hol_spec.specs.Defining.{is_closed}
 use Rattle.hol_spec.specs.Definitions.{TypeNames}
-use Rattle.hol_spec.specs.Limits.{greatest_size, greatest_depth, type_size, type_depth, term_size, term_depth}
+use Rattle.hol_spec.specs.Limits.{greatest_size, greatest_depth, greatest_parameter_count, type_size, type_depth, term_size, term_depth}
 use Rattle.hol_spec.specs.Measures.{Measure}
+use Rattle.hol_spec.specs.NewTypes.{new_type, abstraction_type, representation_type}
 use Rattle.hol_spec.specs.Proofs.{symbols_of, sequent_at}
-use Rattle.hol_spec.specs.Rules.{Parameters}
+use Rattle.hol_spec.specs.Sequents.{parameter_count}
 use Rattle.hol_spec.specs.Taking.{AreNew}
 use Rattle.hol_spec.specs.TypeDefinitions.{first_law_of, second_law_of, are_type_variables_of}
-use Rattle.hol_spec.specs.Names.{Name}
 use Rattle.hol_spec.specs.Primitives.{bool, function}
 use Rattle.hol_spec.specs.TermBinding.{loose}
 use Rattle.hol_spec.specs.Terms.{Term, Variable, free, bound, constant, app, lam, equation, free_places, HasType}
-use Rattle.hol_spec.specs.Types.{HolType, operator, types_of, variable}
-use Rattle.hol_spec.specs.declared.StepKind.{StepKind}
-use Rattle.hol_spec.specs.declared.StepKind.TheVariants.{FirstLaw, SecondLaw}
+use Rattle.hol_spec.specs.Types.{HolType}
 use Rattle.hol_spec.specs.declared.Version.{Version}
 use Rattle.hol_spec.specs.declared.Version.TheVariants.{Five, Six}
+use Rattle.hol_defs.specs.Symbols.{named}
 use Rattle.hol_type.specs.declared.table.TypeId.{TypeId}
 use Rattle.hol_term.specs.Tables.{Trees, term_at, type_at}
-use Rattle.sequent.specs.declared.Sequent.{Sequent}
+use Rattle.sequent.specs.Sequents as sequents
+use Rattle.hol_rules.specs.declared.laws.NewNames.{NewNames}
+use Rattle.hol_rules.specs.declared.laws.NewPart.{NewPart}
 use Rattle.hol_rules.specs.declared.laws.NewTypes.{NewTypes}
-use Rattle.hol_rules.specs.declared.made.Step.{Step}
 use Rattle.hol_rules.specs.declared.type_definitions.Laws.{Laws}
 use Rattle.hol_rules.specs.declared.type_definitions.TypeParts.{TypeParts}
 use Rattle.hol_rules.specs.Kept.{Kept}
 use Rattle.hol_rules.specs.Premises.{IsNumberOf, IsStated}
-use Rattle.hol_rules.specs.Views.{parameters_view, AreParametersKnown}
+use Rattle.article_spec.specs.RuleSteps.{type_measures}
 
--- the conclusions of the laws, for the type n, a part of c, and constants of the types a and b
-abbrev pub first_tree : Name → Name → HolType → HolType → HolType → Term
-first_tree abs rep n a b = equation (function n n) (lam n (app (constant abs a) (app (constant rep b) (bound 0)))) (lam n (bound 0))
+-- the conclusions of the laws of the type n, a part of c, by the constant k.0 to it and the constant k.1 from it
+abbrev pub first_tree : HolType → Term × Term → Term
+first_tree n k = equation (function n n) (lam n (app k.0 (app k.1 (bound 0)))) (lam n (bound 0))
 
-abbrev pub second_tree : Name → Name → HolType → HolType → HolType → Term → Term
-second_tree abs rep c a b f = equation (function c bool) (lam c (equation c (app (constant rep b) (app (constant abs a) (bound 0))) (bound 0))) (lam c (app f (bound 0)))
+abbrev pub second_tree : HolType → Term × Term → Term → Term
+second_tree c k f = equation (function c bool) (lam c (equation c (app k.1 (app k.0 (bound 0))) (bound 0))) (lam c (app f (bound 0)))
 
 -- the same over a free variable, of the type n or c
-abbrev pub first_tree_free : Name → Name → Variable → HolType → HolType → Term
-first_tree_free abs rep v a b = equation v.1 (app (constant abs a) (app (constant rep b) (free v.0 v.1))) (free v.0 v.1)
+abbrev pub first_tree_free : Variable → Term × Term → Term
+first_tree_free v k = equation v.1 (app k.0 (app k.1 (free v.0 v.1))) (free v.0 v.1)
 
-abbrev pub second_tree_free : Name → Name → Variable → HolType → HolType → Term → Term
-second_tree_free abs rep v a b f = equation bool (app f (free v.0 v.1)) (equation v.1 (app (constant rep b) (app (constant abs a) (free v.0 v.1))) (free v.0 v.1))
+abbrev pub second_tree_free : Variable → Term × Term → Term → Term
+second_tree_free v k f = equation bool (app f (free v.0 v.1)) (equation v.1 (app k.1 (app k.0 (free v.0 v.1))) (free v.0 v.1))
 
 -- the conclusions in an article of a version
-abbrev pub first_tree_of : Version → Name → Name → HolType → HolType → HolType → Term
-first_tree_of Five abs rep n a b = first_tree_free abs rep (codes "a" ∷ [], n) a b
-first_tree_of Six abs rep n a b = first_tree abs rep n a b
+abbrev pub first_tree_of : Version → HolType → Term × Term → Term
+first_tree_of Five n k = first_tree_free (codes "a" ∷ [], n) k
+first_tree_of Six n k = first_tree n k
 
-abbrev pub second_tree_of : Version → Name → Name → HolType → HolType → HolType → Term → Term
-second_tree_of Five abs rep c a b f = second_tree_free abs rep (codes "r" ∷ [], c) a b f
-second_tree_of Six abs rep c a b f = second_tree abs rep c a b f
+abbrev pub second_tree_of : Version → HolType → Term × Term → Term → Term
+second_tree_of Five c k f = second_tree_free (codes "r" ∷ [], c) k f
+second_tree_of Six c k f = second_tree c k f
 
 -- the sizes of the laws of a part of c over k type variables, and the larger of them
 abbrev pub first_law_size : Version → HolType → ℕ → ℕ
@@ -77,22 +77,38 @@ pub record IsTypeOf (trees : Trees) (id : TypeId) (t : HolType) : Type 0 where
   pub known : id.0 < length trees.types
   pub is : type_at trees id.0 ≡ t
 
--- the numbers are of the table
-pub record AreKnownTypes (trees : Trees) (types : NewTypes) : Type 0 where
-  pub part : types.part.0 < length trees.types
-  pub abs : types.abs.0 < length trees.types
-  pub rep : types.rep.0 < length trees.types
+-- the names that a definition gives, as contracts see them
+abbrev pub named_by : NewNames → TypeNames
+named_by names = named names.op.now names.abs.now names.rep.now names.variables.now
+
+-- the numbers are those of the operator over its variables and of the types of its constants, a part of c
+pub record AreNewTypes (trees : Trees) (names : TypeNames) (c : HolType) (types : NewTypes) : Type 0 where
+  pub part : IsTypeOf trees types.part (new_type names)
+  pub abs : IsTypeOf trees types.abs (abstraction_type names c)
+  pub rep : IsTypeOf trees types.rep (representation_type names c)
 
 -- the numbers are those of the operator over its variables and of its constants, a part of c
-pub record AreNewTypes (trees : Trees) (op : Name) (names : List Name) (c : HolType) (types : NewTypes) : Type 0 where
-  pub part : IsTypeOf trees types.part (operator op (types_of (map variable names)))
-  pub abs : IsTypeOf trees types.abs (function c (operator op (types_of (map variable names))))
-  pub rep : IsTypeOf trees types.rep (function (operator op (types_of (map variable names))) c)
+pub record IsNewPart (trees : Trees) (names : TypeNames) (c : HolType) (part : NewPart) : Type 0 where
+  pub ty : IsTypeOf trees part.ty (new_type names)
+  pub abs : IsNumberOf trees part.abs (constant names.abstraction (abstraction_type names c))
+  pub rep : IsNumberOf trees part.rep (constant names.representation (representation_type names c))
 
 -- the term has no free variable and no loose number
 pub record IsWithoutVariables (t : Term) : Type 0 where
   pub free : free_places t ≡ []
   pub loose : loose t ≤ 0
+
+-- the numbers are of the table, and the constants have no variable
+pub record IsPartKnown (trees : Trees) (part : NewPart) : Type 0 where
+  pub ty : part.ty.0 < length trees.types
+  pub abs : part.abs.0 < length trees.terms
+  pub rep : part.rep.0 < length trees.terms
+  pub abs_closed : IsWithoutVariables (term_at trees part.abs.0)
+  pub rep_closed : IsWithoutVariables (term_at trees part.rep.0)
+
+-- the constant to the new type and the constant from it
+abbrev pub part_constants : Trees → NewPart → Term × Term
+part_constants trees part = (term_at trees part.abs.0, term_at trees part.rep.0)
 
 -- a step says of a predicate that something satisfies it, under no hypothesis, and the predicate may define a new type with these names
 pub record AreTypeParts (k : Kept) (names : TypeNames) (id : ℕ) (parts : TypeParts) : Type 0 where
@@ -117,24 +133,16 @@ pub record AreLaws (version : Version) (trees : Trees) (names : TypeNames) (c : 
   pub first : IsStated trees laws.first (first_law_of version names c)
   pub second : IsStated trees laws.second (second_law_of version names c f)
 
--- the step is that of a law, by this rule, of a sequent of numbers
-pub record IsLawStep (version : Version) (kind : StepKind) (names : TypeNames) (id : ℕ) (sequent : Sequent) (x : Step) : Type 0 where
-  pub by_rule : x.kind ≡ kind
-  pub premise : x.premises.items ≡ id ∷ []
-  pub given : (trees : Trees) → parameters_view trees x.parameters ≡ Parameters.type_operator names version
-  pub known : (trees : Trees) → AreParametersKnown trees x.parameters
-  pub says : x.sequent ≡ sequent
+-- the measures of all that a definition makes of these parts
+abbrev pub measures_of_parts : Version → TypeNames → Trees → TypeParts → List Measure
+measures_of_parts version names trees parts = type_measures version names (type_at trees parts.whole.0) (term_at trees parts.predicate.0)
 
--- such a step became the last
-pub record IsLawPushed (version : Version) (kind : StepKind) (names : TypeNames) (id : ℕ) (sequent : Sequent) (old new : List Step) : Type 0 where
-  pub step : Step
-  pub is : new ≡ old ++ step ∷ []
-  pub law : IsLawStep version kind names id sequent step
+-- the numbers are those of the laws of these parts
+abbrev pub AreLawsOf : Version → TypeNames → Trees → TypeParts → Trees → Laws → Type 0
+AreLawsOf version names trees parts after laws = AreLaws version after names (type_at trees parts.whole.0) (term_at trees parts.predicate.0) laws
 
--- the steps of both laws became the last
-pub record AreLawSteps (version : Version) (names : TypeNames) (id : ℕ) (laws : Laws) (old new : List Step) : Type 0 where
-  pub first : Step
-  pub second : Step
-  pub are : new ≡ (old ++ first ∷ []) ++ second ∷ []
-  pub first_law : IsLawStep version FirstLaw names id laws.first first
-  pub second_law : IsLawStep version SecondLaw names id laws.second second
+-- neither law has too many parameters
+abbrev pub have_few_parameters : Trees → Laws → Bool
+have_few_parameters trees laws =
+    nat_le (parameter_count (sequents.sequent_at trees laws.first)) greatest_parameter_count
+    && nat_le (parameter_count (sequents.sequent_at trees laws.second)) greatest_parameter_count

@@ -44,14 +44,21 @@ step_view trees x = record { kind = x.kind; premises = x.premises.items; paramet
 
 -- the step by a rule, of a sequent of numbers
 abbrev pub new_step : Trees → StepKind → List ℕ → Parameters → Sequent → proof.Step
-new_step trees kind premises parameters sequent = record { kind = kind; premises = premises; parameters = parameters_view trees parameters; sequent = sequent_at trees sequent }
+new_step trees kind premises parameters sequent = record {
+  kind = kind;
+  premises = premises;
+  parameters = parameters_view trees parameters;
+  sequent = sequent_at trees sequent;
+}
 
 abbrev pub steps_view : Trees → List Step → List proof.Step
 steps_view trees xs = map (step_view trees) xs
 
 -- the step with a number; past the last there is none, and what stands here is none
 abbrev pub step_in : List proof.Step → ℕ → proof.Step
-step_in steps i = slice_index_or steps i (record { kind = Refl; premises = []; parameters = rule.Parameters.nothing; sequent = record { hypotheses = []; conclusion = bound 0 } })
+step_in steps i =
+    slice_index_or steps i
+    (record { kind = Refl; premises = []; parameters = rule.Parameters.nothing; sequent = record { hypotheses = []; conclusion = bound 0 } })
 
 abbrev pub step_at : List Made → ℕ → proof.Step
 step_at made i = step_in (steps_of made) i

@@ -1,12 +1,11 @@
 //! Beta steps.
 ghost use Rattle.std.specs.Prelude.{◌≡◌, ◌<◌, None, length, IfOk, IfSome, IfNone};
-ghost use Rattle.article_spec.specs.Inference.{contracted};
+ghost use Rattle.article_spec.specs.RuleSteps.{contracted, beta_conv_step};
 ghost use Rattle.hol_spec.specs.TermBinding.{put as put_term};
 ghost use Rattle.hol_term.specs.Tables.{term_at, IsTermAt};
 ghost use Rattle.hol_rules.specs.Conclusions.{Concludes};
 ghost use Rattle.hol_rules.specs.Kept.{Grows};
 ghost use Rattle.hol_rules.specs.Premises.{AreRedexParts, IsNumberOf};
-ghost use Rattle.hol_rules.specs.Steps.{beta_conv_step};
 
 use crate::made::{Parameters, StepId};
 use crate::proof::Proof;

@@ -12,11 +12,11 @@ ghost use Rattle.hol_spec.specs.TermSubstitution.{sub};
 ghost use Rattle.hol_term.specs.Substitutions.{term_pairs_at, AreTermPairsKnown};
 ghost use Rattle.hol_term.specs.Tables.{term_at, Keeps};
 ghost use Rattle.sequent.specs.Sequents as numbers;
-ghost use Rattle.hol_rules.specs.Conclusions.{Defines};
-ghost use Rattle.hol_rules.specs.ConstantLists.{constants_in, list_step, named_constants};
+ghost use Rattle.hol_rules.specs.Conclusions.{with_definition, Defines};
+ghost use Rattle.hol_rules.specs.ConstantLists.{constants_at, constants_in, list_step, named_constants, defined_constants};
 ghost use Rattle.hol_rules.specs.Kept.{step_count, Grows};
 ghost use Rattle.hol_rules.specs.Premises.{IsNumberOf, IsStated};
-ghost use Rattle.hol_rules.specs.Steps.{define_const_list_step};
+ghost use Rattle.article_spec.specs.RuleSteps.{define_const_list_step};
 ghost use Rattle.hol_rules.specs.Views.{step_view, IsStepKnown};
 ghost use Rattle.hol_rules.specs.declared.made.Made.TheVariants as one;
 
@@ -31,6 +31,13 @@ use hol_spec::StepKind;
 use hol_term::{TermId, TermTable, Variable};
 use sequent::Sequent;
 use std::alloc::Global;
+
+/// Constants by their names, each with the variable for which it is put, and a sequent whose hypotheses define them.
+#[derive(Clone, Copy)]
+struct NewConstants<'a> {
+    pairs: &'a [(Name, Variable)],
+    premise: &'a Sequent,
+}
 
 impl Proof {
     /// A theorem's conclusion, where its hypotheses are the equations `v = t` that define new constants, one for each
@@ -47,7 +54,8 @@ impl Proof {
     ) -> Result<StepId, Fault>
         requires pairs { ArePairsKnown self.old.trees pairs.now }
         requires one { one < step_count self.old }
-        ensures { Defines self.old (constants_in (pairs_at self.old.trees pairs.now) (sequent_at self.old.made one)) (define_const_list_step self.old.made (pairs_at self.old.trees pairs.now) one) self.new result }
+        ensures { Defines self.old (constants_in (pairs_at self.old.trees pairs.now) (sequent_at self.old.made one))
+            (define_const_list_step self.old.made (pairs_at self.old.trees pairs.now) one) self.new result }
     {
         self.judge_list(pairs, one)?;
         let premise = self.premise(one)?;
@@ -68,7 +76,8 @@ impl Proof {
         requires stated { IsStated self.old.trees premise.now (sequent_at self.old.made one) }
         requires typed { IsSequent (sequent_at self.old.made one) }
         requires fits { list_fault (symbols_of self.old.made) (pairs_at self.old.trees pairs.now) (sequent_at self.old.made one) ≡ None }
-        ensures { Defines self.old (constants_in (pairs_at self.old.trees pairs.now) (sequent_at self.old.made one)) (define_const_list_step self.old.made (pairs_at self.old.trees pairs.now) one) self.new result }
+        ensures { Defines self.old (constants_in (pairs_at self.old.trees pairs.now) (sequent_at self.old.made one))
+            (define_const_list_step self.old.made (pairs_at self.old.trees pairs.now) one) self.new result }
     {
         let concl = self.with_constants(pairs, premise.concl)?;
         let hyps = self.hyps_of(&[])?;
@@ -109,7 +118,8 @@ impl Proof {
     fn with_constants(&mut self, pairs: &[(Name, Variable)], term: TermId) -> Result<TermId, Memory>
         requires pairs { ArePairsKnown self.old.trees pairs.now }
         requires term { term.0 < length self.old.trees.terms }
-        ensures made { IfOk result (λ id. IsNumberOf self.new.trees id (sub [] (constants_put (pairs_at self.old.trees pairs.now)) (term_at self.old.trees term.0))) }
+        ensures made { IfOk result (λ id. IsNumberOf self.new.trees id
+            (sub [] (constants_put (pairs_at self.old.trees pairs.now)) (term_at self.old.trees term.0))) }
         ensures grows { Grows self.old self.new }
     {
         with_constants_of(self.alloc, &mut self.terms, pairs, term)
@@ -126,8 +136,9 @@ impl Proof {
         requires pairs { ArePairsKnown self.old.trees pairs.now }
         requires premise { IsSequent (numbers.sequent_at self.old.trees premise.now) }
         requires sequent { numbers.IsKnown self.old.trees sequent }
-        requires follows { IsStep (self.old.made ++ map proof.Made.symbol (constants_in (pairs_at self.old.trees pairs.now) (numbers.sequent_at self.old.trees premise.now))) (list_step self.old.trees pairs.now one sequent) }
-        ensures { Defines self.old (constants_in (pairs_at self.old.trees pairs.now) (numbers.sequent_at self.old.trees premise.now)) (Ok (list_step self.old.trees pairs.now one sequent)) self.new result }
+        requires follows { IsStep (self.old.made ++ map proof.Made.symbol (constants_at self.old.trees pairs.now premise.now))
+            (list_step self.old.trees pairs.now one sequent) }
+        ensures { Defines self.old (constants_at self.old.trees pairs.now premise.now) (Ok (list_step self.old.trees pairs.now one sequent)) self.new result }
     {
         let premises = self.judged(&[one], &sequent)?;
         let own = self.own_pairs(pairs)?;
@@ -158,19 +169,18 @@ impl Proof {
         requires pairs { ArePairsKnown self.old.trees pairs.now }
         requires premise { IsSequent (numbers.sequent_at self.old.trees premise.now) }
         requires known { IsStepKnown self.old.trees step }
-        requires follows { IsStep (self.old.made ++ map proof.Made.symbol (constants_in (pairs_at self.old.trees pairs.now) (numbers.sequent_at self.old.trees premise.now))) (step_view self.old.trees step) }
+        requires follows { IsStep (self.old.made ++ map proof.Made.symbol (constants_at self.old.trees pairs.now premise.now)) (step_view self.old.trees step) }
         ensures number { IfOk result (λ id. id ≡ step_count self.old) }
-        ensures kept { IfOk result (λ id. self.new ≡ record self.old { made = (self.old.made ++ map proof.Made.symbol (constants_in (pairs_at self.old.trees pairs.now) (numbers.sequent_at self.old.trees premise.now))) ++ proof.Made.step (step_view self.old.trees step) ∷ [] }) }
+        ensures kept { IfOk result (λ id. self.new ≡
+            with_definition self.old (constants_at self.old.trees pairs.now premise.now) (step_view self.old.trees step)) }
         ensures unchanged { OnErr result (self.new ≡ self.old) }
     {
         keep_constants(
-            self.alloc,
             &mut self.symbols,
             &mut self.terms,
             &mut self.steps,
             &mut self.made,
-            pairs,
-            premise,
+            NewConstants { pairs, premise },
             step,
         )
     }
@@ -178,22 +188,21 @@ impl Proof {
 
 // The constants are taken, and the step becomes the last. The answer is its number.
 fn keep_constants(
-    alloc: Global,
     symbols: &mut Symbols,
     terms: &mut TermTable,
     steps: &mut Vec<Step>,
     made: &mut Vec<Made>,
-    pairs: &[(Name, Variable)],
-    premise: &Sequent,
+    list: NewConstants<'_>,
     step: Step,
 ) -> Result<StepId, Memory>
     requires known { AreKnownSymbols terms.old symbols.old }
-    requires pairs { ArePairsKnown terms.old pairs.now }
-    requires premise { IsSequent (numbers.sequent_at terms.old premise.now) }
+    requires pairs { ArePairsKnown terms.old list.pairs.now }
+    requires premise { IsSequent (numbers.sequent_at terms.old list.premise.now) }
     ensures number { IfOk result (λ id. id ≡ length steps.old.items) }
-    ensures takes { OnOk result (symbols_at terms.old symbols.new ≡ symbols_at terms.old symbols.old ++ constants_in (pairs_at terms.old pairs.now) (numbers.sequent_at terms.old premise.now)) }
-    ensures fits { OnOk result (list_fault (symbols_at terms.old symbols.old) (pairs_at terms.old pairs.now) (numbers.sequent_at terms.old premise.now) ≡ None) }
-    ensures noted { OnOk result (made.new.items ≡ made.old.items ++ (named_constants pairs.now ++ one.Step (length steps.old.items) ∷ [])) }
+    ensures takes { OnOk result (symbols_at terms.old symbols.new ≡ symbols_at terms.old symbols.old ++ defined_constants terms.old list.entry) }
+    ensures fits { OnOk result (list_fault (symbols_at terms.old symbols.old)
+        (pairs_at terms.old list.entry.pairs.now) (numbers.sequent_at terms.old list.entry.premise.now) ≡ None) }
+    ensures noted { OnOk result (made.new.items ≡ made.old.items ++ (named_constants list.entry.pairs.now ++ one.Step (length steps.old.items) ∷ [])) }
     ensures kept { OnOk result (steps.new.items ≡ steps.old.items ++ step ∷ []) }
     ensures untaken { OnErr result (symbols.new ≡ symbols.old) }
     ensures unnoted { OnErr result (made.new.items ≡ made.old.items) }
@@ -201,29 +210,28 @@ fn keep_constants(
     ensures known { AreKnownSymbols terms.old symbols.new }
     ensures table { terms.new ≡ terms.old }
 {
-    let id = take_before(alloc, symbols, terms, steps, made, pairs, premise)?;
+    let id = take_before(symbols, terms, steps, made, list)?;
     steps.push_reserved(step);
     Ok(id)
 }
 
 // The constants are taken before the next step, for which there is room. The answer is the step's number.
 fn take_before(
-    alloc: Global,
     symbols: &mut Symbols,
     terms: &mut TermTable,
     steps: &mut Vec<Step>,
     made: &mut Vec<Made>,
-    pairs: &[(Name, Variable)],
-    premise: &Sequent,
+    list: NewConstants<'_>,
 ) -> Result<StepId, Memory>
     requires known { AreKnownSymbols terms.old symbols.old }
-    requires pairs { ArePairsKnown terms.old pairs.now }
-    requires premise { IsSequent (numbers.sequent_at terms.old premise.now) }
+    requires pairs { ArePairsKnown terms.old list.pairs.now }
+    requires premise { IsSequent (numbers.sequent_at terms.old list.premise.now) }
     ensures number { IfOk result (λ id. id ≡ length steps.old.items) }
     ensures room { OnOk result (vec_len steps.new < vec_capacity steps.new) }
-    ensures takes { OnOk result (symbols_at terms.old symbols.new ≡ symbols_at terms.old symbols.old ++ constants_in (pairs_at terms.old pairs.now) (numbers.sequent_at terms.old premise.now)) }
-    ensures fits { OnOk result (list_fault (symbols_at terms.old symbols.old) (pairs_at terms.old pairs.now) (numbers.sequent_at terms.old premise.now) ≡ None) }
-    ensures noted { OnOk result (made.new.items ≡ made.old.items ++ (named_constants pairs.now ++ one.Step (length steps.old.items) ∷ [])) }
+    ensures takes { OnOk result (symbols_at terms.old symbols.new ≡ symbols_at terms.old symbols.old ++ defined_constants terms.old list.entry) }
+    ensures fits { OnOk result (list_fault (symbols_at terms.old symbols.old)
+        (pairs_at terms.old list.entry.pairs.now) (numbers.sequent_at terms.old list.entry.premise.now) ≡ None) }
+    ensures noted { OnOk result (made.new.items ≡ made.old.items ++ (named_constants list.entry.pairs.now ++ one.Step (length steps.old.items) ∷ [])) }
     ensures untaken { OnErr result (symbols.new ≡ symbols.old) }
     ensures unnoted { OnErr result (made.new.items ≡ made.old.items) }
     ensures unkept { steps.new.items ≡ steps.old.items }
@@ -232,36 +240,35 @@ fn take_before(
 {
     let id = steps.len();
     steps.reserve(1)?;
-    take_constants(alloc, symbols, terms, made, pairs, premise, id)?;
+    take_constants(symbols, terms, made, list, id)?;
     Ok(id)
 }
 
 // The constants are taken, and noted as made before the step of this number. They are noted first, so that nothing fails
 // once they are taken.
 fn take_constants(
-    alloc: Global,
     symbols: &mut Symbols,
     terms: &mut TermTable,
     made: &mut Vec<Made>,
-    pairs: &[(Name, Variable)],
-    premise: &Sequent,
+    list: NewConstants<'_>,
     id: StepId,
 ) -> Result<(), Memory>
     requires known { AreKnownSymbols terms.old symbols.old }
-    requires pairs { ArePairsKnown terms.old pairs.now }
-    requires premise { IsSequent (numbers.sequent_at terms.old premise.now) }
-    ensures takes { OnOk result (symbols_at terms.old symbols.new ≡ symbols_at terms.old symbols.old ++ constants_in (pairs_at terms.old pairs.now) (numbers.sequent_at terms.old premise.now)) }
-    ensures fits { OnOk result (list_fault (symbols_at terms.old symbols.old) (pairs_at terms.old pairs.now) (numbers.sequent_at terms.old premise.now) ≡ None) }
-    ensures noted { OnOk result (made.new.items ≡ made.old.items ++ (named_constants pairs.now ++ one.Step id ∷ [])) }
+    requires pairs { ArePairsKnown terms.old list.pairs.now }
+    requires premise { IsSequent (numbers.sequent_at terms.old list.premise.now) }
+    ensures takes { OnOk result (symbols_at terms.old symbols.new ≡ symbols_at terms.old symbols.old ++ defined_constants terms.old list.entry) }
+    ensures fits { OnOk result (list_fault (symbols_at terms.old symbols.old)
+        (pairs_at terms.old list.entry.pairs.now) (numbers.sequent_at terms.old list.entry.premise.now) ≡ None) }
+    ensures noted { OnOk result (made.new.items ≡ made.old.items ++ (named_constants list.entry.pairs.now ++ one.Step id ∷ [])) }
     ensures untaken { OnErr result (symbols.new ≡ symbols.old) }
     ensures unnoted { OnErr result (made.new.items ≡ made.old.items) }
     ensures known { AreKnownSymbols terms.old symbols.new }
     ensures table { terms.new ≡ terms.old }
 {
     let count = made.len();
-    note_made(alloc, made, pairs, id)?;
-    let hyps = premise.hyps.ids();
-    match symbols.define_list(terms, pairs, hyps, premise.concl) {
+    note_made(made, list.pairs, id)?;
+    let hyps = list.premise.hyps.ids();
+    match symbols.define_list(terms, list.pairs, hyps, list.premise.concl) {
         Ok(()) => Ok(()),
         Err(_) => {
             made.truncate(count);
@@ -329,16 +336,11 @@ fn put_constants(
 }
 
 // The constants of the pairs are put last, and then the step of this number.
-fn note_made(
-    alloc: Global,
-    made: &mut Vec<Made>,
-    pairs: &[(Name, Variable)],
-    id: StepId,
-) -> Result<(), Memory>
+fn note_made(made: &mut Vec<Made>, pairs: &[(Name, Variable)], id: StepId) -> Result<(), Memory>
     ensures noted { OnOk result (made.new.items ≡ made.old.items ++ (named_constants pairs.now ++ one.Step id ∷ [])) }
     ensures unchanged { OnErr result (made.new.items ≡ made.old.items) }
 {
-    let mut more = made_constants(alloc, pairs)?;
+    let mut more = made_constants(*made.allocator(), pairs)?;
     more.push(Made::Step(id))?;
     made.append(&mut more)?;
     Ok(())

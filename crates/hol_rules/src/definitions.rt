@@ -4,21 +4,20 @@ ghost use Rattle.article_spec.specs.Results.{Fails};
 ghost use Rattle.hol_defs.specs.Faults.{constant_fault};
 ghost use Rattle.hol_defs.specs.Symbols.{symbols_at, AreKnownSymbols};
 ghost use Rattle.hol_rules.specs.declared.made.Made.TheVariants as one;
-ghost use Rattle.hol_rules.specs.declared.made.Parameters.TheVariants as given;
 ghost use Rattle.hol_spec.specs.Definitions.{Definition};
 ghost use Rattle.hol_spec.specs.Proofs.{symbols_of, IsStep};
 ghost use Rattle.hol_spec.specs.Proofs as proof;
 ghost use Rattle.hol_spec.specs.Symbols.{Symbol};
 ghost use Rattle.hol_spec.specs.Terms.{constant as constant_tree};
 ghost use Rattle.hol_spec.specs.Types.{variable as type_variable};
-ghost use Rattle.hol_spec.specs.declared.StepKind.TheVariants.{DefineConst};
 ghost use Rattle.hol_term.specs.Tables.{term_at, type_at, IsTermAt, Keeps};
 ghost use Rattle.sequent.specs.Sequents.{IsKnown};
-ghost use Rattle.hol_rules.specs.Conclusions.{Defines};
+ghost use Rattle.hol_rules.specs.Conclusions.{with_definition, Defines};
+ghost use Rattle.hol_rules.specs.ConstantLists.{constant_for, constant_step, defined_constant};
 ghost use Rattle.hol_rules.specs.Kept.{step_count, Grows};
 ghost use Rattle.hol_rules.specs.Premises.{IsNumberOf};
-ghost use Rattle.hol_rules.specs.Steps.{define_const_step};
-ghost use Rattle.hol_rules.specs.Views.{new_step, step_view, IsStepKnown};
+ghost use Rattle.article_spec.specs.RuleSteps.{define_const_step};
+ghost use Rattle.hol_rules.specs.Views.{step_view, IsStepKnown};
 
 use crate::made::{Made, Parameters, Step, StepId};
 use crate::proof::Proof;
@@ -31,6 +30,13 @@ use hol_type::TypeId;
 use sequent::Sequent;
 use std::alloc::Global;
 
+/// A constant by its name, and the term that it stands for.
+#[derive(Clone, Copy)]
+struct NewConstant<'a> {
+    name: &'a Name,
+    term: TermId,
+}
+
 impl Proof {
     /// The equation of a new constant and the term that it stands for. It is refused with `NameTaken` where a constant
     /// has the name, else with `NotClosed` where the term has a free variable, else with `ExtraTypeVars` where it has a
@@ -38,7 +44,8 @@ impl Proof {
     /// OpenTheory article format, `defineConst`.)
     pub fn define_const(&mut self, name: &Name, t: TermId) -> Result<StepId, Fault>
         requires { IsTermAt self.old.trees t.0 }
-        ensures { Defines self.old (Symbol.defined (Definition.constant name.now (term_at self.old.trees t.0)) ∷ []) (define_const_step self.old.made name.now (term_at self.old.trees t.0)) self.new result }
+        ensures { Defines self.old (Symbol.defined (Definition.constant name.now (term_at self.old.trees t.0)) ∷ [])
+            (define_const_step self.old.made name.now (term_at self.old.trees t.0)) self.new result }
     {
         self.judge_const(name, t)?;
         let ty = self.terms.type_of(t);
@@ -70,8 +77,10 @@ impl Proof {
     fn conclude_const(&mut self, name: &Name, t: TermId, sequent: Sequent) -> Result<StepId, Fault>
         requires term { IsTermAt self.old.trees t.0 }
         requires sequent { IsKnown self.old.trees sequent }
-        requires follows { IsStep (self.old.made ++ proof.Made.symbol (Symbol.defined (Definition.constant name.now (term_at self.old.trees t.0))) ∷ []) (new_step self.old.trees DefineConst [] (given.Const name.now t) sequent) }
-        ensures { Defines self.old (Symbol.defined (Definition.constant name.now (term_at self.old.trees t.0)) ∷ []) (Ok (new_step self.old.trees DefineConst [] (given.Const name.now t) sequent)) self.new result }
+        requires follows { IsStep (self.old.made ++ proof.Made.symbol (constant_for name.now (term_at self.old.trees t.0)) ∷ [])
+            (constant_step self.old.trees name.now t sequent) }
+        ensures { Defines self.old (constant_for name.now (term_at self.old.trees t.0) ∷ [])
+            (Ok (constant_step self.old.trees name.now t sequent)) self.new result }
     {
         let premises = self.judged(&[], &sequent)?;
         let own = name.clone()?;
@@ -89,9 +98,11 @@ impl Proof {
     fn keep_const(&mut self, name: &Name, t: TermId, step: Step) -> Result<StepId, Memory>
         requires term { IsTermAt self.old.trees t.0 }
         requires known { IsStepKnown self.old.trees step }
-        requires follows { IsStep (self.old.made ++ proof.Made.symbol (Symbol.defined (Definition.constant name.now (term_at self.old.trees t.0))) ∷ []) (step_view self.old.trees step) }
+        requires follows { IsStep (self.old.made ++ proof.Made.symbol (constant_for name.now (term_at self.old.trees t.0)) ∷ [])
+            (step_view self.old.trees step) }
         ensures number { IfOk result (λ id. id ≡ step_count self.old) }
-        ensures kept { IfOk result (λ id. self.new ≡ record self.old { made = (self.old.made ++ proof.Made.symbol (Symbol.defined (Definition.constant name.now (term_at self.old.trees t.0))) ∷ []) ++ proof.Made.step (step_view self.old.trees step) ∷ [] }) }
+        ensures kept { IfOk result (λ id. self.new ≡
+            with_definition self.old (constant_for name.now (term_at self.old.trees t.0) ∷ []) (step_view self.old.trees step)) }
         ensures unchanged { OnErr result (self.new ≡ self.old) }
     {
         keep_constant(
@@ -99,8 +110,7 @@ impl Proof {
             &mut self.terms,
             &mut self.steps,
             &mut self.made,
-            name,
-            t,
+            NewConstant { name, term: t },
             step,
         )
     }
@@ -112,16 +122,15 @@ fn keep_constant(
     terms: &mut TermTable,
     steps: &mut Vec<Step>,
     made: &mut Vec<Made>,
-    name: &Name,
-    t: TermId,
+    constant: NewConstant<'_>,
     step: Step,
 ) -> Result<StepId, Memory>
     requires known { AreKnownSymbols terms.old symbols.old }
-    requires term { IsTermAt terms.old t.0 }
+    requires term { IsTermAt terms.old constant.term.0 }
     ensures number { IfOk result (λ id. id ≡ length steps.old.items) }
-    ensures takes { OnOk result (symbols_at terms.old symbols.new ≡ symbols_at terms.old symbols.old ++ Symbol.defined (Definition.constant name.now (term_at terms.old t.0)) ∷ []) }
-    ensures fits { OnOk result (constant_fault (symbols_at terms.old symbols.old) name.now (term_at terms.old t.0) ≡ None) }
-    ensures noted { OnOk result (made.new.items ≡ (made.old.items ++ one.Const name.now ∷ []) ++ one.Step (length steps.old.items) ∷ []) }
+    ensures takes { OnOk result (symbols_at terms.old symbols.new ≡ symbols_at terms.old symbols.old ++ defined_constant terms.old constant.entry ∷ []) }
+    ensures fits { OnOk result (constant_fault (symbols_at terms.old symbols.old) constant.entry.name.now (term_at terms.old constant.entry.term.0) ≡ None) }
+    ensures noted { OnOk result (made.new.items ≡ (made.old.items ++ one.Const constant.entry.name.now ∷ []) ++ one.Step (length steps.old.items) ∷ []) }
     ensures kept { OnOk result (steps.new.items ≡ steps.old.items ++ step ∷ []) }
     ensures untaken { OnErr result (symbols.new ≡ symbols.old) }
     ensures unnoted { OnErr result (made.new.items ≡ made.old.items) }
@@ -129,7 +138,7 @@ fn keep_constant(
     ensures known { AreKnownSymbols terms.old symbols.new }
     ensures table { terms.new ≡ terms.old }
 {
-    let id = take_before(symbols, terms, steps, made, name, t)?;
+    let id = take_before(symbols, terms, steps, made, constant)?;
     steps.push_reserved(step);
     Ok(id)
 }
@@ -140,16 +149,15 @@ fn take_before(
     terms: &mut TermTable,
     steps: &mut Vec<Step>,
     made: &mut Vec<Made>,
-    name: &Name,
-    t: TermId,
+    constant: NewConstant<'_>,
 ) -> Result<StepId, Memory>
     requires known { AreKnownSymbols terms.old symbols.old }
-    requires term { IsTermAt terms.old t.0 }
+    requires term { IsTermAt terms.old constant.term.0 }
     ensures number { IfOk result (λ id. id ≡ length steps.old.items) }
     ensures room { OnOk result (vec_len steps.new < vec_capacity steps.new) }
-    ensures takes { OnOk result (symbols_at terms.old symbols.new ≡ symbols_at terms.old symbols.old ++ Symbol.defined (Definition.constant name.now (term_at terms.old t.0)) ∷ []) }
-    ensures fits { OnOk result (constant_fault (symbols_at terms.old symbols.old) name.now (term_at terms.old t.0) ≡ None) }
-    ensures noted { OnOk result (made.new.items ≡ (made.old.items ++ one.Const name.now ∷ []) ++ one.Step (length steps.old.items) ∷ []) }
+    ensures takes { OnOk result (symbols_at terms.old symbols.new ≡ symbols_at terms.old symbols.old ++ defined_constant terms.old constant.entry ∷ []) }
+    ensures fits { OnOk result (constant_fault (symbols_at terms.old symbols.old) constant.entry.name.now (term_at terms.old constant.entry.term.0) ≡ None) }
+    ensures noted { OnOk result (made.new.items ≡ (made.old.items ++ one.Const constant.entry.name.now ∷ []) ++ one.Step (length steps.old.items) ∷ []) }
     ensures untaken { OnErr result (symbols.new ≡ symbols.old) }
     ensures unnoted { OnErr result (made.new.items ≡ made.old.items) }
     ensures unkept { steps.new.items ≡ steps.old.items }
@@ -158,7 +166,7 @@ fn take_before(
 {
     let id = steps.len();
     steps.reserve(1)?;
-    take_constant(symbols, terms, made, name, t, id)?;
+    take_constant(symbols, terms, made, constant, id)?;
     Ok(id)
 }
 
@@ -168,23 +176,22 @@ fn take_constant(
     symbols: &mut Symbols,
     terms: &mut TermTable,
     made: &mut Vec<Made>,
-    name: &Name,
-    t: TermId,
+    constant: NewConstant<'_>,
     id: StepId,
 ) -> Result<(), Memory>
     requires known { AreKnownSymbols terms.old symbols.old }
-    requires term { IsTermAt terms.old t.0 }
-    ensures takes { OnOk result (symbols_at terms.old symbols.new ≡ symbols_at terms.old symbols.old ++ Symbol.defined (Definition.constant name.now (term_at terms.old t.0)) ∷ []) }
-    ensures fits { OnOk result (constant_fault (symbols_at terms.old symbols.old) name.now (term_at terms.old t.0) ≡ None) }
-    ensures noted { OnOk result (made.new.items ≡ (made.old.items ++ one.Const name.now ∷ []) ++ one.Step id ∷ []) }
+    requires term { IsTermAt terms.old constant.term.0 }
+    ensures takes { OnOk result (symbols_at terms.old symbols.new ≡ symbols_at terms.old symbols.old ++ defined_constant terms.old constant.entry ∷ []) }
+    ensures fits { OnOk result (constant_fault (symbols_at terms.old symbols.old) constant.entry.name.now (term_at terms.old constant.entry.term.0) ≡ None) }
+    ensures noted { OnOk result (made.new.items ≡ (made.old.items ++ one.Const constant.entry.name.now ∷ []) ++ one.Step id ∷ []) }
     ensures untaken { OnErr result (symbols.new ≡ symbols.old) }
     ensures unnoted { OnErr result (made.new.items ≡ made.old.items) }
     ensures known { AreKnownSymbols terms.old symbols.new }
     ensures table { terms.new ≡ terms.old }
 {
     made.reserve(2)?;
-    let own = name.clone()?;
-    match symbols.define(terms, name, t) {
+    let own = constant.name.clone()?;
+    match symbols.define(terms, constant.name, constant.term) {
         Ok(()) => {
             made.push_reserved(Made::Const(own));
             made.push_reserved(Made::Step(id));

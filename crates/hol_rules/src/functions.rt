@@ -9,7 +9,7 @@ ghost use Rattle.hol_term.specs.Tables.{term_at, terms_at, AreKnown, IsTermAt};
 ghost use Rattle.hol_rules.specs.Conclusions.{Concludes};
 ghost use Rattle.hol_rules.specs.Kept.{step_count, Grows};
 ghost use Rattle.hol_rules.specs.Premises.{IsNumberOf};
-ghost use Rattle.hol_rules.specs.Steps.{abs_thm_step, app_thm_step, beta_conv_step};
+ghost use Rattle.article_spec.specs.RuleSteps.{abs_thm_step, app_thm_step, beta_conv_step};
 ghost use Rattle.hol_rules.specs.Views.{variable_view};
 
 use crate::made::{Parameters, StepId};

@@ -5,7 +5,7 @@ ghost use Rattle.hol_spec.specs.Rules.{joined, removed};
 ghost use Rattle.hol_rules.specs.Conclusions.{Concludes};
 ghost use Rattle.hol_rules.specs.Kept.{step_count};
 ghost use Rattle.hol_rules.specs.Premises.{AreNumbersOf};
-ghost use Rattle.hol_rules.specs.Steps.{deduct_antisym_step, prove_hyp_step};
+ghost use Rattle.article_spec.specs.RuleSteps.{deduct_antisym_step, prove_hyp_step};
 
 use crate::made::{Parameters, StepId};
 use crate::proof::Proof;
@@ -36,7 +36,9 @@ impl Proof {
     fn apart(&self, one: StepId, two: StepId) -> Result<Hyps, Memory>
         requires one { one < step_count self.now }
         requires two { two < step_count self.now }
-        ensures { IfOk result (λ hyps. AreNumbersOf self.now.trees hyps (joined (removed (sequent_at self.now.made one).hypotheses (sequent_at self.now.made two).conclusion) (removed (sequent_at self.now.made two).hypotheses (sequent_at self.now.made one).conclusion))) }
+        ensures { IfOk result (λ hyps. AreNumbersOf self.now.trees hyps (joined
+            (removed (sequent_at self.now.made one).hypotheses (sequent_at self.now.made two).conclusion)
+            (removed (sequent_at self.now.made two).hypotheses (sequent_at self.now.made one).conclusion))) }
     {
         let first = self.removed(one, two)?;
         let second = self.removed(two, one)?;
@@ -64,7 +66,8 @@ impl Proof {
     fn discharged(&self, one: StepId, two: StepId) -> Result<Hyps, Memory>
         requires one { one < step_count self.now }
         requires two { two < step_count self.now }
-        ensures { IfOk result (λ hyps. AreNumbersOf self.now.trees hyps (joined (sequent_at self.now.made one).hypotheses (removed (sequent_at self.now.made two).hypotheses (sequent_at self.now.made one).conclusion))) }
+        ensures { IfOk result (λ hyps. AreNumbersOf self.now.trees hyps (joined (sequent_at self.now.made one).hypotheses
+            (removed (sequent_at self.now.made two).hypotheses (sequent_at self.now.made one).conclusion))) }
     {
         let rest = self.removed(two, one)?;
         let hyps = self.united(&self.sequent(one).hyps, &rest)?;

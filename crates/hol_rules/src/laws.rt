@@ -1,12 +1,13 @@
 //! The laws of a new type: that its two constants undo each other.
 ghost use Rattle.std.specs.Prelude.{◌≡◌, ◌<◌, length, map, IfOk};
+ghost use Rattle.hol_spec.specs.NewTypes.{new_type};
 ghost use Rattle.hol_spec.specs.Primitives.{bool as bool_type, function};
 ghost use Rattle.hol_spec.specs.Rules.{abstraction as abstraction_tree};
-ghost use Rattle.hol_spec.specs.Terms.{app, constant as constant_tree, equation as equation_tree};
-ghost use Rattle.hol_spec.specs.Types.{operator, types_of, variable as type_variable};
+ghost use Rattle.hol_spec.specs.Terms.{app, equation as equation_tree};
+ghost use Rattle.hol_spec.specs.Types.{variable as type_variable};
 ghost use Rattle.hol_type.specs.Tables as type;
 ghost use Rattle.hol_term.specs.Tables.{term_at, type_at, Keeps};
-ghost use Rattle.hol_rules.specs.Laws.{first_tree, first_tree_free, first_tree_of, second_tree, second_tree_free, second_tree_of, AreKnownTypes, AreNewTypes, IsTypeOf, IsWithoutVariables};
+ghost use Rattle.hol_rules.specs.Laws.{part_constants, first_tree, first_tree_free, first_tree_of, named_by, second_tree, second_tree_free, second_tree_of, AreNewTypes, IsNewPart, IsPartKnown, IsTypeOf, IsWithoutVariables};
 ghost use Rattle.hol_rules.specs.Premises.{IsNumberOf};
 ghost use Rattle.hol_rules.specs.Views.{variable_view};
 
@@ -18,44 +19,76 @@ use hol_term::{TermId, TermTable, Variable};
 use hol_type::TypeId;
 use std::alloc::Global;
 
+/// The names that the definition of a type operator gives.
+#[derive(Clone, Copy)]
+pub(crate) struct NewNames<'a> {
+    pub(crate) op: &'a Name,
+    pub(crate) abs: &'a Name,
+    pub(crate) rep: &'a Name,
+    pub(crate) variables: &'a [Name],
+}
+
+/// The new type, and the constants to it and from it.
+#[derive(Clone, Copy)]
+pub(crate) struct NewPart {
+    pub(crate) ty: TypeId,
+    pub(crate) abs: TermId,
+    pub(crate) rep: TermId,
+}
+
 /// The new type, and the types of the constants to it and from it.
 #[derive(Clone, Copy)]
-pub(crate) struct NewTypes {
-    pub(crate) part: TypeId,
-    pub(crate) abs: TypeId,
-    pub(crate) rep: TypeId,
+struct NewTypes {
+    part: TypeId,
+    abs: TypeId,
+    rep: TypeId,
+}
+
+// The type and the constants that a definition makes, whose types are within the limits.
+pub(crate) fn new_part(
+    alloc: Global,
+    terms: &mut TermTable,
+    names: NewNames<'_>,
+    whole: TypeId,
+) -> Result<NewPart, Memory>
+    requires { whole.0 < length terms.old.types }
+    ensures made { IfOk result (λ part. IsNewPart terms.new (named_by names.entry) (type_at terms.old whole.0) part) }
+    ensures keeps { Keeps terms.old terms.new }
+{
+    let types = new_types(alloc, terms, names, whole)?;
+    let abs = constant_of(alloc, terms, names.abs, types.abs)?;
+    let rep = constant_of(alloc, terms, names.rep, types.rep)?;
+    Ok(NewPart {
+        ty: types.part,
+        abs,
+        rep,
+    })
 }
 
 // The types that a definition makes, which are within the limits.
-pub(crate) fn new_types(
+fn new_types(
     alloc: Global,
     terms: &mut TermTable,
-    op: &Name,
-    names: &[Name],
+    names: NewNames<'_>,
     whole: TypeId,
 ) -> Result<NewTypes, Memory>
     requires { whole.0 < length terms.old.types }
-    ensures types { IfOk result (λ types. AreNewTypes terms.new op.now names.now (type_at terms.old whole.0) types) }
+    ensures types { IfOk result (λ types. AreNewTypes terms.new (named_by names.entry) (type_at terms.old whole.0) types) }
     ensures keeps { Keeps terms.old terms.new }
 {
-    let part = part_type(alloc, terms, op, names)?;
+    let part = part_type(alloc, terms, names)?;
     let abs = function_type(alloc, terms, whole, part)?;
     let rep = function_type(alloc, terms, part, whole)?;
     Ok(NewTypes { part, abs, rep })
 }
 
 // The operator over the type variables of these names.
-fn part_type(
-    alloc: Global,
-    terms: &mut TermTable,
-    op: &Name,
-    names: &[Name],
-) -> Result<TypeId, Memory>
-    ensures made { IfOk result (λ id. IsTypeOf terms.new id (operator op.now (types_of (map type_variable names.now)))) }
+fn part_type(alloc: Global, terms: &mut TermTable, names: NewNames<'_>) -> Result<TypeId, Memory>
+    ensures made { IfOk result (λ id. IsTypeOf terms.new id (new_type (named_by names.entry))) }
     ensures keeps { Keeps terms.old terms.new }
 {
-    let variables = type_variables(alloc, terms, names)?;
-    let Ok(part) = terms.ty_op(op, &variables) else {
+    let variables = type_variables(alloc, terms, names.variables)?;
+    let Ok(part) = terms.ty_op(names.op, &variables) else {
         return Err(Memory);
     };
     Ok(part)
@@ -118,24 +151,19 @@ fn truth_type(alloc: Global, terms: &mut TermTable) -> Result<TypeId, Memory>
 
 // A constant of what another makes of a tree.
 fn composed(
-    alloc: Global,
     terms: &mut TermTable,
-    outer: &Name,
-    outer_type: TypeId,
-    inner: &Name,
-    inner_type: TypeId,
+    outer: TermId,
+    inner: TermId,
     x: TermId,
 ) -> Result<TermId, Memory>
-    requires outer { outer_type.0 < length terms.old.types }
-    requires inner { inner_type.0 < length terms.old.types }
+    requires outer { outer.0 < length terms.old.terms }
+    requires inner { inner.0 < length terms.old.terms }
     requires argument { x.0 < length terms.old.terms }
-    ensures made { IfOk result (λ id. IsNumberOf terms.new id (app (constant_tree outer.now (type_at terms.old outer_type.0)) (app (constant_tree inner.now (type_at terms.old inner_type.0)) (term_at terms.old x.0)))) }
+    ensures made { IfOk result (λ id. IsNumberOf terms.new id (app (term_at terms.old outer.0) (app (term_at terms.old inner.0) (term_at terms.old x.0)))) }
     ensures keeps { Keeps terms.old terms.new }
 {
-    let first = constant_of(alloc, terms, inner, inner_type)?;
-    let second = constant_of(alloc, terms, outer, outer_type)?;
-    let part = terms.application(first, x)?;
-    terms.application(second, part)
+    let part = terms.application(inner, x)?;
+    terms.application(outer, part)
 }
 
 // The abstractions of two trees over a variable, in an equation at this type.
@@ -150,7 +178,9 @@ fn abstractions(
     requires left { left.0 < length terms.old.terms }
     requires right { right.0 < length terms.old.terms }
     requires ty { ty.0 < length terms.old.types }
-    ensures made { IfOk result (λ id. IsNumberOf terms.new id (equation_tree (type_at terms.old ty.0) (abstraction_tree (variable_view terms.old variable.now) (term_at terms.old left.0)) (abstraction_tree (variable_view terms.old variable.now) (term_at terms.old right.0)))) }
+    ensures made { IfOk result (λ id. IsNumberOf terms.new id (equation_tree (type_at terms.old ty.0)
+        (abstraction_tree (variable_view terms.old variable.now) (term_at terms.old left.0))
+        (abstraction_tree (variable_view terms.old variable.now) (term_at terms.old right.0)))) }
     ensures keeps { Keeps terms.old terms.new }
 {
     let left = terms.abstraction(variable, left)?;
@@ -162,25 +192,20 @@ fn abstractions(
 pub(crate) fn first_law(
     alloc: Global,
     terms: &mut TermTable,
-    abs: &Name,
-    rep: &Name,
-    types: NewTypes,
+    part: NewPart,
     version: Version,
 ) -> Result<TermId, Memory>
-    requires { AreKnownTypes terms.old types }
-    ensures made { IfOk result (λ id. IsNumberOf terms.new id (first_tree_of version abs.now rep.now (type_at terms.old types.part.0) (type_at terms.old types.abs.0) (type_at terms.old types.rep.0))) }
+    requires { IsPartKnown terms.old part }
+    ensures made { IfOk result (λ id. IsNumberOf terms.new id (first_tree_of version (type_at terms.old part.ty.0) (part_constants terms.old part))) }
     ensures keeps { Keeps terms.old terms.new }
 {
     let Ok(name) = Name::single(alloc, b"a") else {
         return Err(Memory);
     };
-    let variable = Variable {
-        name,
-        ty: types.part,
-    };
+    let variable = Variable { name, ty: part.ty };
     let made = match version {
-        Version::Five => first_law_free(alloc, terms, abs, rep, types, &variable),
-        Version::Six => first_law_closed(alloc, terms, abs, rep, types, &variable),
+        Version::Five => first_law_free(terms, part, &variable),
+        Version::Six => first_law_closed(alloc, terms, part, &variable),
     };
     drop(variable);
     made
@@ -188,22 +213,19 @@ pub(crate) fn first_law(
 
 // The first law over this variable, `abs (rep a) = a`.
 fn first_law_free(
-    alloc: Global,
     terms: &mut TermTable,
-    abs: &Name,
-    rep: &Name,
-    types: NewTypes,
+    part: NewPart,
     variable: &Variable,
 ) -> Result<TermId, Memory>
-    requires types { AreKnownTypes terms.old types }
+    requires part { IsPartKnown terms.old part }
     requires variable { variable.now.ty.0 < length terms.old.types }
-    ensures made { IfOk result (λ id. IsNumberOf terms.new id (first_tree_free abs.now rep.now (variable_view terms.old variable.now) (type_at terms.old types.abs.0) (type_at terms.old types.rep.0))) }
+    ensures made { IfOk result (λ id. IsNumberOf terms.new id (first_tree_free (variable_view terms.old variable.now) (part_constants terms.old part))) }
     ensures keeps { Keeps terms.old terms.new }
 {
     let Ok(own) = terms.free(&variable.name, variable.ty) else {
         return Err(Memory);
     };
-    let both = composed(alloc, terms, abs, types.abs, rep, types.rep, own)?;
+    let both = composed(terms, part.abs, part.rep, own)?;
     terms.equation(variable.ty, both, own)
 }
 
@@ -211,20 +233,18 @@ fn first_law_free(
 fn first_law_closed(
     alloc: Global,
     terms: &mut TermTable,
-    abs: &Name,
-    rep: &Name,
-    types: NewTypes,
+    part: NewPart,
     variable: &Variable,
 ) -> Result<TermId, Memory>
-    requires types { AreKnownTypes terms.old types }
+    requires part { IsPartKnown terms.old part }
     requires variable { variable.now.ty.0 < length terms.old.types }
-    ensures made { IfOk result (λ id. IsNumberOf terms.new id (first_tree abs.now rep.now (type_at terms.old variable.now.ty.0) (type_at terms.old types.abs.0) (type_at terms.old types.rep.0))) }
+    ensures made { IfOk result (λ id. IsNumberOf terms.new id (first_tree (type_at terms.old variable.now.ty.0) (part_constants terms.old part))) }
     ensures keeps { Keeps terms.old terms.new }
 {
     let Ok(own) = terms.free(&variable.name, variable.ty) else {
         return Err(Memory);
     };
-    let both = composed(alloc, terms, abs, types.abs, rep, types.rep, own)?;
+    let both = composed(terms, part.abs, part.rep, own)?;
     let ty = function_type(alloc, terms, variable.ty, variable.ty)?;
     abstractions(terms, variable, both, own, ty)
 }
@@ -233,18 +253,17 @@ fn first_law_closed(
 pub(crate) fn second_law(
     alloc: Global,
     terms: &mut TermTable,
-    abs: &Name,
-    rep: &Name,
-    types: NewTypes,
+    part: NewPart,
     whole: TypeId,
     predicate: TermId,
     version: Version,
 ) -> Result<TermId, Memory>
-    requires types { AreKnownTypes terms.old types }
+    requires part { IsPartKnown terms.old part }
     requires whole { whole.0 < length terms.old.types }
     requires predicate { predicate.0 < length terms.old.terms }
     requires closed { IsWithoutVariables (term_at terms.old predicate.0) }
-    ensures made { IfOk result (λ id. IsNumberOf terms.new id (second_tree_of version abs.now rep.now (type_at terms.old whole.0) (type_at terms.old types.abs.0) (type_at terms.old types.rep.0) (term_at terms.old predicate.0))) }
+    ensures made { IfOk result (λ id. IsNumberOf terms.new id
+        (second_tree_of version (type_at terms.old whole.0) (part_constants terms.old part) (term_at terms.old predicate.0))) }
     ensures keeps { Keeps terms.old terms.new }
 {
     let Ok(name) = Name::single(alloc, b"r") else {
@@ -252,8 +271,8 @@ pub(crate) fn second_law(
     };
     let variable = Variable { name, ty: whole };
     let made = match version {
-        Version::Five => second_law_free(alloc, terms, abs, rep, types, &variable, predicate),
-        Version::Six => second_law_closed(alloc, terms, abs, rep, types, &variable, predicate),
+        Version::Five => second_law_free(alloc, terms, part, &variable, predicate),
+        Version::Six => second_law_closed(alloc, terms, part, &variable, predicate),
     };
     drop(variable);
     made
@@ -263,22 +282,21 @@ pub(crate) fn second_law(
 fn second_law_free(
     alloc: Global,
     terms: &mut TermTable,
-    abs: &Name,
-    rep: &Name,
-    types: NewTypes,
+    part: NewPart,
     variable: &Variable,
     predicate: TermId,
 ) -> Result<TermId, Memory>
-    requires types { AreKnownTypes terms.old types }
+    requires part { IsPartKnown terms.old part }
     requires variable { variable.now.ty.0 < length terms.old.types }
     requires predicate { predicate.0 < length terms.old.terms }
-    ensures made { IfOk result (λ id. IsNumberOf terms.new id (second_tree_free abs.now rep.now (variable_view terms.old variable.now) (type_at terms.old types.abs.0) (type_at terms.old types.rep.0) (term_at terms.old predicate.0))) }
+    ensures made { IfOk result (λ id. IsNumberOf terms.new id
+        (second_tree_free (variable_view terms.old variable.now) (part_constants terms.old part) (term_at terms.old predicate.0))) }
     ensures keeps { Keeps terms.old terms.new }
 {
     let Ok(own) = terms.free(&variable.name, variable.ty) else {
         return Err(Memory);
     };
-    let both = composed(alloc, terms, rep, types.rep, abs, types.abs, own)?;
+    let both = composed(terms, part.rep, part.abs, own)?;
     let back = terms.equation(variable.ty, both, own)?;
     let holds = terms.application(predicate, own)?;
     let truth = truth_type(alloc, terms)?;
@@ -289,23 +307,22 @@ fn second_law_free(
 fn second_law_closed(
     alloc: Global,
     terms: &mut TermTable,
-    abs: &Name,
-    rep: &Name,
-    types: NewTypes,
+    part: NewPart,
     variable: &Variable,
     predicate: TermId,
 ) -> Result<TermId, Memory>
-    requires types { AreKnownTypes terms.old types }
+    requires part { IsPartKnown terms.old part }
     requires variable { variable.now.ty.0 < length terms.old.types }
     requires predicate { predicate.0 < length terms.old.terms }
     requires closed { IsWithoutVariables (term_at terms.old predicate.0) }
-    ensures made { IfOk result (λ id. IsNumberOf terms.new id (second_tree abs.now rep.now (type_at terms.old variable.now.ty.0) (type_at terms.old types.abs.0) (type_at terms.old types.rep.0) (term_at terms.old predicate.0))) }
+    ensures made { IfOk result (λ id. IsNumberOf terms.new id
+        (second_tree (type_at terms.old variable.now.ty.0) (part_constants terms.old part) (term_at terms.old predicate.0))) }
     ensures keeps { Keeps terms.old terms.new }
 {
     let Ok(own) = terms.free(&variable.name, variable.ty) else {
         return Err(Memory);
     };
-    let both = composed(alloc, terms, rep, types.rep, abs, types.abs, own)?;
+    let both = composed(terms, part.rep, part.abs, own)?;
     let back = terms.equation(variable.ty, both, own)?;
     let holds = terms.application(predicate, own)?;
     let truth = truth_type(alloc, terms)?;

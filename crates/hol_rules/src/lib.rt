@@ -20,7 +20,9 @@
 //! | `beta_conv` | a walk over the body | the walk's notes |
 //! | `define_const` | two walks over the term | the walks' notes; two copies of the name, which the proof keeps |
 //! | `define_const_list` | four walks over each defining term and two over the conclusion; one walk more over the conclusion, as that of `subst` with a pair for each constant | the walks' notes; two copies of each name and one of its variable's, which the proof keeps |
-//! | `subst` | one walk over the hypotheses and the conclusion together; at each variable as many comparisons as there are pairs, and at each variable, constant and binder a walk over its type; a comparison of the pairs with those that were put last | the walk's notes; a copy of the pairs, which the step keeps, unless they are those that were put last, whose copy it shares; at most two more trees for each hypothesis, which the table keeps |
+//! | `subst` | what `prepared` and `subst_prepared` cost | what they cost |
+//! | `prepared` | a comparison of the types of each pair; where there are more than eight, a look-up for each | a copy of the pairs, and an index of them, which the steps by it share |
+//! | `subst_prepared` | one walk over the hypotheses and the conclusion together; at each variable a look-up among the pairs, and at each variable, constant and binder a walk over its type | the walk's notes; at most two more trees for each hypothesis, which the table keeps |
 //! | `define_type_op` | five walks over the predicate | the walks' notes; copies of the names, which the proof keeps |
 //!
 //! The parameters of a term are found once, from those of its parts, and noted (`hol_params`): so a step over terms that share

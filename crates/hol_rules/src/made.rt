@@ -1,10 +1,11 @@
 //! What a proof made, as numbers of its table.
 ghost use Rattle.std.specs.Prelude.{◌≡◌, IfOk};
+ghost use Rattle.hol_term.specs.PutIndexes.{IsIndexOf};
 
 use bridge_base::Memory;
 use hol_name::Name;
 use hol_spec::{StepKind, Version};
-use hol_term::{TermId, Variable};
+use hol_term::{PutIndex, TermId, Variable};
 use hol_type::TypeId;
 use sequent::Sequent;
 use std::alloc::{AllocError, Global};
@@ -23,18 +24,29 @@ pub struct Substitution {
     pub terms: Vec<(Variable, TermId)>,
 }
 
-/// What is put for variables, which steps that put the same share. Contracts see the substitution.
+/// What is put for variables, ready for any number of steps, which share it. Contracts see the substitution.
 #[derive(Drop)]
 pub struct Put {
-    shared: Rc<Substitution>,
+    shared: Rc<Ready>,
+}
+
+// What is put, and what is made ready of it once.
+#[derive(Drop)]
+struct Ready {
+    put: Substitution,
+    index: PutIndex,
 }
 
 impl Model for Put {
     ghost use Rattle.hol_rules.specs.declared.made.Substitution.{Substitution as ASubstitution};
 
+    ghost use Rattle.hol_term.specs.PutIndexes.{IsIndexOf};
+
     ghost Value = { ASubstitution };
 
-    ghost view = { λ put. put.shared.value };
+    ghost view = { λ put. put.shared.value.put };
+
+    ghost invariant = { λ put. IsIndexOf put.shared.value.index put.shared.value.put.terms.items };
 }
 
 impl Put {
@@ -42,27 +54,29 @@ impl Put {
     pub fn get(&self) -> &Substitution
         ensures { result.now ≡ self.now }
     {
-        self.shared.as_ref()
+        &self.shared.as_ref().put
     }
 
-    pub(crate) fn new(alloc: Global, put: Substitution) -> Result<Put, Memory>
-        ensures { IfOk result (λ shared. shared ≡ put) }
+    /// The index of the terms that are put.
+    pub(crate) fn index(&self) -> &PutIndex
+        ensures { IsIndexOf result.now self.now.terms.items }
     {
-        match Rc::new(alloc, put) {
+        &self.shared.as_ref().index
+    }
+
+    // A substitution, made ready.
+    pub(crate) fn new(alloc: Global, put: Substitution) -> Result<Put, Memory>
+        ensures { IfOk result (λ ready. ready ≡ put) }
+    {
+        let index = PutIndex::new(alloc, &put.terms)?;
+        match Rc::new(alloc, Ready { put, index }) {
             Ok(shared) => Ok(Put { shared }),
             Err(_) => Err(Memory),
         }
     }
 
-    // Nothing is put.
-    pub(crate) fn nothing(alloc: Global) -> Result<Put, Memory> {
-        let types = Vec::new(alloc);
-        let terms = Vec::new(alloc);
-        Put::new(alloc, Substitution { types, terms })
-    }
-
-    // The same substitution. It takes no memory, and fails only where it has as many copies as can be counted.
-    pub(crate) fn again(&self) -> Result<Put, Memory>
+    /// The same, shared. It takes no memory, and fails only where it has as many copies as can be counted.
+    pub fn again(&self) -> Result<Put, Memory>
         ensures { IfOk result (λ put. put ≡ self.now) }
     {
         match self.shared.clone() {

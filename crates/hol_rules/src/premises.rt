@@ -64,7 +64,8 @@ impl Proof {
     pub(crate) fn joined(&self, one: StepId, two: StepId) -> Result<Hyps, Memory>
         requires one { one < step_count self.now }
         requires two { two < step_count self.now }
-        ensures { IfOk result (λ hyps. AreNumbersOf self.now.trees hyps (union_of (sequent_at self.now.made one).hypotheses (sequent_at self.now.made two).hypotheses)) }
+        ensures { IfOk result (λ hyps. AreNumbersOf self.now.trees hyps
+            (union_of (sequent_at self.now.made one).hypotheses (sequent_at self.now.made two).hypotheses)) }
     {
         Sequent::union(self.alloc, &self.sequent(one).hyps, &self.sequent(two).hyps)
     }
@@ -73,7 +74,8 @@ impl Proof {
     pub(crate) fn removed(&self, id: StepId, other: StepId) -> Result<Hyps, Memory>
         requires id { id < step_count self.now }
         requires other { other < step_count self.now }
-        ensures { IfOk result (λ hyps. AreNumbersOf self.now.trees hyps (all_but (sequent_at self.now.made id).hypotheses (sequent_at self.now.made other).conclusion)) }
+        ensures { IfOk result (λ hyps. AreNumbersOf self.now.trees hyps
+            (all_but (sequent_at self.now.made id).hypotheses (sequent_at self.now.made other).conclusion)) }
     {
         Sequent::without(self.alloc, &self.sequent(id).hyps, self.concl(other))
     }
@@ -109,7 +111,8 @@ impl Proof {
     pub(crate) fn equation(&mut self, left: TermId, right: TermId) -> Result<TermId, Memory>
         requires left { IsTermAt self.old.trees left.0 }
         requires right { right.0 < length self.old.trees.terms }
-        ensures made { IfOk result (λ id. (a : HolType) → HasType (term_at self.old.trees left.0) a → IsNumberOf self.new.trees id (equation_tree a (term_at self.old.trees left.0) (term_at self.old.trees right.0))) }
+        ensures made { IfOk result (λ id. (a : HolType) → HasType (term_at self.old.trees left.0) a →
+            IsNumberOf self.new.trees id (equation_tree a (term_at self.old.trees left.0) (term_at self.old.trees right.0))) }
         ensures grows { Grows self.old self.new }
     {
         let ty = self.terms.type_of(left);

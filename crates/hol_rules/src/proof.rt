@@ -8,7 +8,7 @@ ghost use Rattle.sequent.specs.Sequents as numbers;
 ghost use Rattle.hol_rules.specs.Kept.{step_count};
 ghost use Rattle.hol_rules.specs.Views.{made_of, parameters_view, step_at, step_view, AreParametersKnown, IsStepKnown};
 
-use crate::made::{Made, Parameters, Put, Step, StepId};
+use crate::made::{Made, Parameters, Step, StepId};
 use bridge_base::Memory;
 use hol_defs::Symbols;
 use hol_params::ParamMemo;
@@ -27,8 +27,6 @@ pub struct Proof {
     pub(crate) steps: Vec<Step>,
     pub(crate) made: Vec<Made>,
     pub(crate) params: ParamMemo,
-    // what was put last
-    pub(crate) put: Put,
 }
 
 impl Model for Proof {
@@ -49,7 +47,6 @@ impl Proof {
     pub fn new(alloc: Global) -> Result<Proof, Memory>
         ensures empty { IfOk result (λ proof. proof ≡ record { trees = record { types = []; terms = [] }; made = [] }) }
     {
-        let put = Put::nothing(alloc)?;
         Ok(Proof {
             alloc,
             terms: TermTable::new(alloc),
@@ -57,7 +54,6 @@ impl Proof {
             steps: Vec::new(alloc),
             made: Vec::new(alloc),
             params: ParamMemo::new(alloc),
-            put,
         })
     }
 

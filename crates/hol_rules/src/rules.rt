@@ -3,7 +3,7 @@ ghost use Rattle.std.specs.Prelude.{◌<◌};
 ghost use Rattle.hol_term.specs.Tables.{term_at, IsTermAt};
 ghost use Rattle.hol_rules.specs.Conclusions.{Concludes};
 ghost use Rattle.hol_rules.specs.Kept.{step_count};
-ghost use Rattle.hol_rules.specs.Steps.{refl_step, assume_step, eq_mp_step, sym_step, trans_step};
+ghost use Rattle.article_spec.specs.RuleSteps.{refl_step, assume_step, eq_mp_step, sym_step, trans_step};
 
 use crate::made::{Parameters, StepId};
 use crate::proof::Proof;

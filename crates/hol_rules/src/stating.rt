@@ -3,7 +3,7 @@ ghost use Rattle.std.specs.Prelude.{◌≡◌, ◌<◌, ◌∷◌, Ok, IfOk, IfE
 ghost use Rattle.std.specs.List.{AllByRecursion, list_all};
 ghost use Rattle.article_spec.specs.Conditions.{all_bool, follows, is_of_type};
 ghost use Rattle.article_spec.specs.Results.{Fails};
-ghost use Rattle.article_spec.specs.Stating as stating;
+ghost use Rattle.article_spec.specs.RuleSteps as stating;
 ghost use Rattle.hol_spec.specs.Primitives.{bool as bool_type};
 ghost use Rattle.hol_spec.specs.Proofs.{sequent_at as sequent_of};
 ghost use Rattle.hol_spec.specs.Sequents.{within};
@@ -13,7 +13,7 @@ ghost use Rattle.sequent.specs.Sequents.{sequent_at, IsKnown};
 ghost use Rattle.hol_rules.specs.Conclusions.{Concludes};
 ghost use Rattle.hol_rules.specs.Kept.{step_count};
 ghost use Rattle.hol_rules.specs.Premises.{AreTermsAt, IsStated};
-ghost use Rattle.hol_rules.specs.Steps.{axiom_step, restate_step};
+ghost use Rattle.article_spec.specs.RuleSteps.{axiom_step, restate_step};
 
 use crate::made::{Parameters, StepId};
 use crate::proof::Proof;
@@ -58,9 +58,12 @@ impl Proof {
         requires one { one < step_count self.now }
         requires hyps { AreTermsAt self.now.trees hyps.now }
         requires concl { IsTermAt self.now.trees concl.0 }
-        ensures stated { IfOk result (λ sequent. IsStated self.now.trees sequent (stating.stated (terms_at self.now.trees hyps.now) (term_at self.now.trees concl.0))) }
-        ensures within { OnOk result (within (sequent_of self.now.made one) (stating.stated (terms_at self.now.trees hyps.now) (term_at self.now.trees concl.0)) ≡ true) }
-        ensures refused { IfErr result (λ fault. Fails fault (follows (sequent_of self.now.made one) (stating.stated (terms_at self.now.trees hyps.now) (term_at self.now.trees concl.0)))) }
+        ensures stated { IfOk result (λ sequent. IsStated self.now.trees sequent
+            (stating.stated (terms_at self.now.trees hyps.now) (term_at self.now.trees concl.0))) }
+        ensures within { OnOk result (within (sequent_of self.now.made one)
+            (stating.stated (terms_at self.now.trees hyps.now) (term_at self.now.trees concl.0)) ≡ true) }
+        ensures refused { IfErr result (λ fault. Fails fault (follows (sequent_of self.now.made one)
+            (stating.stated (terms_at self.now.trees hyps.now) (term_at self.now.trees concl.0)))) }
     {
         let sequent = self.stated(hyps, concl)?;
         if !Sequent::within(self.sequent(one), &sequent) {
@@ -91,7 +94,8 @@ impl Proof {
     fn stated(&self, hyps: &[TermId], concl: TermId) -> Result<Sequent, Memory>
         requires hyps { AreTermsAt self.now.trees hyps.now }
         requires concl { IsTermAt self.now.trees concl.0 }
-        ensures stated { IfOk result (λ sequent. IsStated self.now.trees sequent (stating.stated (terms_at self.now.trees hyps.now) (term_at self.now.trees concl.0))) }
+        ensures stated { IfOk result (λ sequent. IsStated self.now.trees sequent
+            (stating.stated (terms_at self.now.trees hyps.now) (term_at self.now.trees concl.0))) }
         ensures distinct { IsDistinct self.now.trees.terms }
     {
         let _distinct = &self.terms;

@@ -1,15 +1,17 @@
 //! The rule of substitution.
-ghost use Rattle.std.specs.Prelude.{◌≡◌, ◌<◌, length, IfOk, IsTrue};
+ghost use Rattle.std.specs.Prelude.{◌≡◌, ◌<◌, length, IfOk, IfErr, OnOk};
+ghost use Rattle.article_spec.specs.Results.{Fails};
 ghost use Rattle.hol_spec.specs.Proofs.{sequent_at};
 ghost use Rattle.hol_type.specs.Tables as type;
-ghost use Rattle.hol_term.specs.Substitutions.{term_pairs_at, AreKnownPairs, AreTermPairs};
-ghost use Rattle.hol_term.specs.Tables.{term_at, terms_at, AreKnown, IsDistinct, Keeps};
+ghost use Rattle.hol_term.specs.Substitutions.{term_pairs_at, AreKnownPairs, ArePairsFitting, AreTermPairs};
+ghost use Rattle.hol_term.specs.Substitutions as tree;
+ghost use Rattle.hol_term.specs.Tables.{term_at, terms_at, AreKnown, Holds, IsDistinct, Keeps};
 ghost use Rattle.sequent.specs.Sequents as numbers;
 ghost use Rattle.hol_rules.specs.Chains.{chain, AreLinks};
 ghost use Rattle.hol_rules.specs.Conclusions.{Concludes};
 ghost use Rattle.hol_rules.specs.Kept.{step_count, Grows};
 ghost use Rattle.hol_rules.specs.Premises.{IsNumberOf, IsStated};
-ghost use Rattle.hol_rules.specs.Steps.{subst_step, substituted};
+ghost use Rattle.article_spec.specs.RuleSteps.{pairs_fit, subst_step, substituted};
 
 use crate::functions::own_variable;
 use crate::made::{Parameters, Put, StepId, Substitution};
@@ -46,41 +48,55 @@ impl Proof {
         requires one { one < step_count self.old }
         ensures { Concludes self.old (subst_step self.old.made (type.pairs_at self.old.trees.types type_pairs.now) (term_pairs_at self.old.trees term_pairs.now) one) self.new result }
     {
+        let put = self.prepared(type_pairs, term_pairs)?;
+        let step = self.subst_prepared(&put, one);
+        drop(put);
+        step
+    }
+
+    /// What is put, made ready for any number of steps. It is refused with `BadSubst` where some pair's variable and term
+    /// differ in type, whether or not the pair counts.
+    pub fn prepared(
+        &self,
+        type_pairs: &[(Name, TypeId)],
+        term_pairs: &[(Variable, TermId)],
+    ) -> Result<Put, Fault>
+        requires type_pairs { type.ArePairsKnown self.now.trees.types type_pairs.now }
+        requires term_pairs { AreTermPairs self.now.trees term_pairs.now }
+        ensures types { IfOk result (λ put. put.types.items ≡ type_pairs.now) }
+        ensures terms { IfOk result (λ put. put.terms.items ≡ term_pairs.now) }
+        ensures fits { OnOk result (ArePairsFitting self.now.trees term_pairs.now) }
+        ensures refused { IfErr result (λ fault. Fails fault (pairs_fit (term_pairs_at self.now.trees term_pairs.now))) }
+    {
         if !self.terms().fits(term_pairs) {
             return Err(Fault::Refused(Kind::BadSubst));
         }
-        let sequent = self.image(type_pairs, term_pairs, one)?;
-        let given = self.given(type_pairs, term_pairs)?;
+        Ok(ready(self.alloc, type_pairs, term_pairs)?)
+    }
+
+    /// A theorem under a substitution that is ready, as by `subst`: types are put for type variables, and then terms for
+    /// free variables, each list all at once; of pairs with one key the first counts. What is put is shared with the step.
+    pub fn subst_prepared(&mut self, put: &Put, one: StepId) -> Result<StepId, Fault>
+        requires types { type.ArePairsKnown self.old.trees.types put.now.types.items }
+        requires terms { AreTermPairs self.old.trees put.now.terms.items }
+        requires fits { ArePairsFitting self.old.trees put.now.terms.items }
+        requires one { one < step_count self.old }
+        ensures { Concludes self.old (subst_step self.old.made (type.pairs_at self.old.trees.types put.now.types.items) (term_pairs_at self.old.trees put.now.terms.items) one) self.new result }
+    {
+        let sequent = self.image(put, one)?;
+        let given = put.again()?;
         self.conclude(StepKind::Subst, &[one], Parameters::Subst(given), sequent)
     }
 
-    // What is put, copied, or shared with the step that put it last.
-    fn given(
-        &mut self,
-        type_pairs: &[(Name, TypeId)],
-        term_pairs: &[(Variable, TermId)],
-    ) -> Result<Put, Memory>
-        ensures types { IfOk result (λ put. put.types.items ≡ type_pairs.now) }
-        ensures terms { IfOk result (λ put. put.terms.items ≡ term_pairs.now) }
-        ensures unchanged { self.new ≡ self.old }
-    {
-        put_again(self.alloc, &mut self.put, type_pairs, term_pairs)
-    }
-
     // What the pairs make of a step's sequent.
-    fn image(
-        &mut self,
-        type_pairs: &[(Name, TypeId)],
-        term_pairs: &[(Variable, TermId)],
-        one: StepId,
-    ) -> Result<Sequent, Memory>
-        requires pairs { AreKnownPairs self.old.trees type_pairs.now term_pairs.now }
+    fn image(&mut self, put: &Put, one: StepId) -> Result<Sequent, Memory>
+        requires pairs { AreKnownPairs self.old.trees put.now.types.items put.now.terms.items }
         requires one { one < step_count self.old }
-        ensures made { IfOk result (λ image. IsStated self.new.trees image (substituted (type.pairs_at self.old.trees.types type_pairs.now) (term_pairs_at self.old.trees term_pairs.now) (sequent_at self.old.made one))) }
+        ensures made { IfOk result (λ image. IsStated self.new.trees image (substituted (type.pairs_at self.old.trees.types put.now.types.items) (term_pairs_at self.old.trees put.now.terms.items) (sequent_at self.old.made one))) }
         ensures grows { Grows self.old self.new }
     {
         let sequent = &self.steps[one].sequent;
-        image_of(self.alloc, &mut self.terms, type_pairs, term_pairs, sequent)
+        image_of(self.alloc, &mut self.terms, put, sequent)
     }
 }
 
@@ -89,25 +105,36 @@ impl Proof {
 fn image_of(
     alloc: Global,
     terms: &mut TermTable,
-    type_pairs: &[(Name, TypeId)],
-    term_pairs: &[(Variable, TermId)],
+    put: &Put,
     sequent: &Sequent,
 ) -> Result<Sequent, Memory>
-    requires pairs { AreKnownPairs terms.old type_pairs.now term_pairs.now }
+    requires pairs { AreKnownPairs terms.old put.now.types.items put.now.terms.items }
     requires sequent { numbers.IsKnown terms.old sequent.now }
     requires distinct { IsDistinct terms.old.terms }
-    ensures made { IfOk result (λ image. IsStated terms.new image (substituted (type.pairs_at terms.old.types type_pairs.now) (term_pairs_at terms.old term_pairs.now) (numbers.sequent_at terms.old sequent.now))) }
+    ensures made { IfOk result (λ image. IsStated terms.new image (substituted (type.pairs_at terms.old.types put.now.types.items) (term_pairs_at terms.old put.now.terms.items) (numbers.sequent_at terms.old sequent.now))) }
     ensures keeps { Keeps terms.old terms.new }
 {
     let ids = sequent.hyps.ids();
     let whole = linked(terms, ids, sequent.concl)?;
-    let image = terms.substituted(type_pairs, term_pairs, whole)?;
+    let image = tree_image(terms, put, whole)?;
     let links = unlinked(alloc, terms, image, ids.len())?;
     let hyps = sequent.hyps.again(alloc, &links.terms)?;
     Ok(Sequent {
         hyps,
         concl: links.rest,
     })
+}
+
+// What the pairs make of a tree.
+fn tree_image(terms: &mut TermTable, put: &Put, id: TermId) -> Result<TermId, Memory>
+    requires pairs { AreKnownPairs terms.old put.now.types.items put.now.terms.items }
+    requires id { id.0 < length terms.old.terms }
+    ensures known { IfOk result (λ r. r.0 < length terms.new.terms) }
+    ensures made { IfOk result (λ r. Holds terms.new r.0 (tree.image_of terms.old put.now.types.items put.now.terms.items (term_at terms.old id.0))) }
+    ensures keeps { Keeps terms.old terms.new }
+{
+    let pairs = put.get();
+    terms.image(&pairs.types, &pairs.terms, put.index(), id)
 }
 
 // The chain of some terms before a last one.
@@ -143,33 +170,16 @@ fn unlinked(alloc: Global, terms: &TermTable, whole: TermId, count: usize) -> Re
     Ok(Links { terms: links, rest })
 }
 
-// What is put: what was put last where it is the same, and else a copy, which is then the last.
-fn put_again(
+// What is put, copied and made ready.
+fn ready(
     alloc: Global,
-    last: &mut Put,
     type_pairs: &[(Name, TypeId)],
     term_pairs: &[(Variable, TermId)],
 ) -> Result<Put, Memory>
     ensures types { IfOk result (λ put. put.types.items ≡ type_pairs.now) }
     ensures terms { IfOk result (λ put. put.terms.items ≡ term_pairs.now) }
 {
-    if puts(last.get(), type_pairs, term_pairs) {
-        return last.again();
-    }
-    *last = Put::new(alloc, own_substitution(alloc, type_pairs, term_pairs)?)?;
-    last.again()
-}
-
-// Whether these types and terms are what is put, in the same order.
-fn puts(
-    put: &Substitution,
-    type_pairs: &[(Name, TypeId)],
-    term_pairs: &[(Variable, TermId)],
-) -> bool
-    ensures types { IsTrue result → put.now.types.items ≡ type_pairs.now }
-    ensures terms { IsTrue result → put.now.terms.items ≡ term_pairs.now }
-{
-    put.types.as_slice() == type_pairs && put.terms.as_slice() == term_pairs
+    Put::new(alloc, own_substitution(alloc, type_pairs, term_pairs)?)
 }
 
 // What is put, copied.

@@ -139,8 +139,10 @@ fn use_constant(
 ) -> Result<(), Fault>
     requires known { AreKnownSymbols terms.old symbols.old }
     requires ty { ty.0 < length terms.old.types }
-    ensures takes { OnOk result (symbols_at terms.old symbols.new ≡ symbols_at terms.old symbols.old ++ new_constant (symbols_at terms.old symbols.old) name.now) }
-    ensures noted { OnOk result (made.new.items ≡ made.old.items ++ map (λ _. one.InputConst name.now) (new_constant (symbols_at terms.old symbols.old) name.now)) }
+    ensures takes { OnOk result (symbols_at terms.old symbols.new ≡
+        symbols_at terms.old symbols.old ++ new_constant (symbols_at terms.old symbols.old) name.now) }
+    ensures noted { OnOk result (made.new.items ≡
+        made.old.items ++ map (λ _. one.InputConst name.now) (new_constant (symbols_at terms.old symbols.old) name.now)) }
     ensures fits { OnOk result (FitsGeneric (generic_type (symbols_at terms.old symbols.old) name.now) (type_at terms.old ty.0)) }
     ensures refusal { IfErr result (λ fault. RefusesConstant fault (generic_type (symbols_at terms.old symbols.old) name.now) (type_at terms.old ty.0)) }
     ensures untaken { OnErr result (symbols.new ≡ symbols.old) }
@@ -176,8 +178,10 @@ fn use_operator(
     name: &Name,
     arity: usize,
 ) -> Result<(), Fault>
-    ensures takes { OnOk result ((trees : Trees) → symbols_at trees symbols.new ≡ symbols_at trees symbols.old ++ new_operator (symbols_at trees symbols.old) name.now arity) }
-    ensures noted { OnOk result ((trees : Trees) → made.new.items ≡ made.old.items ++ map (λ _. one.InputOp name.now arity) (new_operator (symbols_at trees symbols.old) name.now arity)) }
+    ensures takes { OnOk result ((trees : Trees) →
+        symbols_at trees symbols.new ≡ symbols_at trees symbols.old ++ new_operator (symbols_at trees symbols.old) name.now arity) }
+    ensures noted { OnOk result ((trees : Trees) →
+        made.new.items ≡ made.old.items ++ map (λ _. one.InputOp name.now arity) (new_operator (symbols_at trees symbols.old) name.now arity)) }
     ensures fits { OnOk result ((trees : Trees) → FitsArity (operator_arity (symbols_at trees symbols.old) name.now) arity) }
     ensures refusal { IfErr result (λ fault. (trees : Trees) → RefusesOperator fault (operator_arity (symbols_at trees symbols.old) name.now) arity) }
     ensures untaken { OnErr result (symbols.new ≡ symbols.old) }

@@ -1,32 +1,26 @@
 //! Definitions of type operators.
-ghost use Rattle.std.specs.Prelude.{◌≡◌, ◌<◌, ◌∷◌, [], ◌++◌, ◌+◌, ◌-◌, ◌^◌, ◌&&◌, if◌then◌else◌, List, None, length, min, nat_le, true, IfOk, IfErr, OnOk, OnErr};
+ghost use Rattle.std.specs.Prelude.{◌≡◌, ◌<◌, ◌+◌, ◌-◌, ◌^◌, if◌then◌else◌, None, length, min, true, vec_len, vec_capacity, IfOk, IfErr, OnOk, OnErr};
 ghost use Rattle.article_spec.specs.Conditions.{demand, in_limits};
 ghost use Rattle.article_spec.specs.Results.{Fails};
 ghost use Rattle.bridge_base.specs.declared.faults.Fault.TheVariants.{Refused};
 ghost use Rattle.bridge_base.specs.declared.faults.Kind.TheVariants.{NameTaken, NotTheSequent, TooManyParams};
 ghost use Rattle.hol_defs.specs.Faults.{are_new as are_new_names, operator_fault, Refuses};
 ghost use Rattle.hol_defs.specs.Symbols.{named, symbols_at, AreKnownSymbols};
-ghost use Rattle.hol_spec.specs.Definitions.{Definition, TypeNames};
-ghost use Rattle.hol_spec.specs.Limits.{greatest_parameter_count};
-ghost use Rattle.hol_spec.specs.Names.{Name as AName};
 ghost use Rattle.hol_spec.specs.Proofs.{symbols_of};
 ghost use Rattle.hol_spec.specs.Rules.{Parameters as RuleParameters};
-ghost use Rattle.hol_spec.specs.Sequents.{parameter_count};
-ghost use Rattle.hol_spec.specs.Symbols.{Symbol};
-ghost use Rattle.hol_spec.specs.Terms.{Term, app, HasType};
-ghost use Rattle.hol_spec.specs.Types.{HolType};
+ghost use Rattle.hol_spec.specs.Terms.{Term, app};
 ghost use Rattle.hol_spec.specs.declared.Version.{Version as AVersion};
 ghost use Rattle.hol_params.specs.Noted.{AreNoted};
 ghost use Rattle.hol_term.specs.Tables.{term_at, type_at, IsTermAt, Keeps, Trees};
-ghost use Rattle.sequent.specs.Sequents.{sequent_at, IsKnown};
-ghost use Rattle.hol_rules.specs.declared.made.Made.TheVariants as one_made;
+ghost use Rattle.sequent.specs.Sequents.{IsKnown};
 ghost use Rattle.hol_rules.specs.Conclusions.{with_type, DefinesType};
 ghost use Rattle.hol_rules.specs.Kept.{step_count, Grows};
-ghost use Rattle.hol_rules.specs.Laws.{first_law_size, height_above_types, larger_law_size, second_law_depth, second_law_size, AreLaws, AreLawSteps, AreSmall, AreTypeParts, IsLawPushed, IsLawStep, IsWithoutVariables};
-ghost use Rattle.hol_rules.specs.Steps.{made_of_type, type_laws, type_measures};
+ghost use Rattle.hol_rules.specs.Laws.{first_law_size, have_few_parameters, height_above_types, larger_law_size, measures_of_parts, named_by, second_law_depth, second_law_size, AreLawsOf, AreSmall, AreTypeParts, IsWithoutVariables};
+ghost use Rattle.hol_rules.specs.TypeSteps.{with_laws, with_operator, AreLawSteps, IsLawStep, TakesType};
+ghost use Rattle.article_spec.specs.RuleSteps.{made_of_type, type_laws};
 ghost use Rattle.hol_rules.specs.Views.{parameters_view, AreParametersKnown};
 
-use crate::laws::{first_law, new_types, second_law};
+use crate::laws::{NewNames, first_law, new_part, second_law};
 use crate::made::{Made, Parameters, Step, StepId};
 use crate::proof::Proof;
 use bridge_base::{Fault, Kind, Memory};
@@ -54,6 +48,21 @@ pub(crate) struct Laws {
     pub(crate) second: Sequent,
 }
 
+/// The steps of the laws.
+#[derive(Drop)]
+pub(crate) struct LawSteps {
+    pub(crate) first: Step,
+    pub(crate) second: Step,
+}
+
+/// What a type operator is defined by: its names, a step, and the step's conclusion.
+#[derive(Clone, Copy)]
+struct Basis<'a> {
+    names: NewNames<'a>,
+    one: StepId,
+    concl: TermId,
+}
+
 impl Proof {
     /// From a theorem `f t` without hypotheses, the two laws of a new type operator: the new type is the part of the type
     /// of `t` in which `f` holds, over the type variables of these names, in their order; `abs` is the constant to it and
@@ -77,34 +86,33 @@ impl Proof {
         requires { one < step_count self.old }
         ensures { DefinesType self.old (type_laws version self.old.made (named op.now abs.now rep.now names.now) one) self.new result }
     {
-        let parts = self.type_parts(op, abs, rep, names, one)?;
-        judge_measures(self.terms(), names.len(), parts, version)?;
+        let given = NewNames {
+            op,
+            abs,
+            rep,
+            variables: names,
+        };
+        let parts = self.type_parts(given, one)?;
+        judge_measures(self.terms(), given, parts, version)?;
         self.is_proof();
-        let laws = self.laws(op, abs, rep, names, parts, version)?;
+        let laws = self.laws(given, parts, version)?;
         self.judge_laws(&laws)?;
-        let ids = self.keep_type(op, abs, rep, names, one, parts, laws, version)?;
+        let ids = self.keep_type(given, one, parts, laws, version)?;
         Ok(ids)
     }
 
     // The predicate of a step's conclusion and the type of what satisfies it, if they may define a new type.
-    fn type_parts(
-        &self,
-        op: &Name,
-        abs: &Name,
-        rep: &Name,
-        names: &[Name],
-        one: StepId,
-    ) -> Result<TypeParts, Fault>
+    fn type_parts(&self, names: NewNames<'_>, one: StepId) -> Result<TypeParts, Fault>
         requires { one < step_count self.now }
-        ensures parts { IfOk result (λ parts. AreTypeParts self.now (named op.now abs.now rep.now names.now) one parts) }
-        ensures refused { IfErr result (λ fault. (version : AVersion) → Fails fault (type_laws version self.now.made (named op.now abs.now rep.now names.now) one)) }
+        ensures parts { IfOk result (λ parts. AreTypeParts self.now (named_by names.entry) one parts) }
+        ensures refused { IfErr result (λ fault. (version : AVersion) → Fails fault (type_laws version self.now.made (named_by names.entry) one)) }
     {
         let terms = self.terms();
         let concl = self.concl(one);
         let TermView::App(predicate, witness) = terms.view(concl) else {
-            return Err(self.without_application(op, abs, rep));
+            return Err(self.without_application(names));
         };
-        match self.judge_type(op, abs, rep, names, predicate) {
+        match self.judge_type(names, predicate) {
             Ok(()) => {}
             Err(fault) => return Err(fault),
         }
@@ -120,27 +128,27 @@ impl Proof {
     }
 
     // Judges the names and the predicate of a new type.
-    fn judge_type(
-        &self,
-        op: &Name,
-        abs: &Name,
-        rep: &Name,
-        names: &[Name],
-        predicate: TermId,
-    ) -> Result<(), Fault>
+    fn judge_type(&self, names: NewNames<'_>, predicate: TermId) -> Result<(), Fault>
         requires { predicate.0 < length self.now.trees.terms }
-        ensures fits { OnOk result (operator_fault (symbols_of self.now.made) (named op.now abs.now rep.now names.now) (term_at self.now.trees predicate.0) ≡ None) }
-        ensures refusal { IfErr result (λ fault. Refuses fault (operator_fault (symbols_of self.now.made) (named op.now abs.now rep.now names.now) (term_at self.now.trees predicate.0))) }
+        ensures fits { OnOk result (operator_fault (symbols_of self.now.made) (named_by names.entry) (term_at self.now.trees predicate.0) ≡ None) }
+        ensures refusal { IfErr result (λ fault. Refuses fault
+            (operator_fault (symbols_of self.now.made) (named_by names.entry) (term_at self.now.trees predicate.0))) }
     {
-        self.symbols
-            .judge_op(&self.terms, op, abs, rep, names, predicate)
+        self.symbols.judge_op(
+            &self.terms,
+            names.op,
+            names.abs,
+            names.rep,
+            names.variables,
+            predicate,
+        )
     }
 
     // Why a conclusion that is no application defines no type with these names.
-    fn without_application(&self, op: &Name, abs: &Name, rep: &Name) -> Fault
-        ensures { (variables : List AName) → result ≡ Refused (if are_new_names (symbols_of self.now.made) (named op.now abs.now rep.now variables) then NotTheSequent else NameTaken) }
+    fn without_application(&self, names: NewNames<'_>) -> Fault
+        ensures { result ≡ Refused (if are_new_names (symbols_of self.now.made) (named_by names.entry) then NotTheSequent else NameTaken) }
     {
-        if self.symbols.are_new(op, abs, rep) {
+        if self.symbols.are_new(names.op, names.abs, names.rep) {
             Fault::Refused(Kind::NotTheSequent)
         } else {
             Fault::Refused(Kind::NameTaken)
@@ -150,37 +158,25 @@ impl Proof {
     // The laws of a new type, whose types are within the limits.
     fn laws(
         &mut self,
-        op: &Name,
-        abs: &Name,
-        rep: &Name,
-        names: &[Name],
+        names: NewNames<'_>,
         parts: TypeParts,
         version: Version,
     ) -> Result<Laws, Memory>
         requires whole { parts.whole.0 < length self.old.trees.types }
         requires predicate { parts.predicate.0 < length self.old.trees.terms }
         requires closed { IsWithoutVariables (term_at self.old.trees parts.predicate.0) }
-        ensures made { IfOk result (λ laws. AreLaws version self.new.trees (named op.now abs.now rep.now names.now) (type_at self.old.trees parts.whole.0) (term_at self.old.trees parts.predicate.0) laws) }
+        ensures made { IfOk result (λ laws. AreLawsOf version (named_by names.entry) self.old.trees parts self.new.trees laws) }
         ensures grows { Grows self.old self.new }
     {
-        laws_of(
-            self.alloc,
-            &mut self.terms,
-            op,
-            abs,
-            rep,
-            names,
-            parts,
-            version,
-        )
+        laws_of(self.alloc, &mut self.terms, names, parts, version)
     }
 
     // Refuses laws of which one has too many parameters.
     fn judge_laws(&mut self, laws: &Laws) -> Result<(), Fault>
         requires first { IsKnown self.old.trees laws.now.first }
         requires second { IsKnown self.old.trees laws.now.second }
-        ensures few { OnOk result ((nat_le (parameter_count (sequent_at self.old.trees laws.now.first)) greatest_parameter_count && nat_le (parameter_count (sequent_at self.old.trees laws.now.second)) greatest_parameter_count) ≡ true) }
-        ensures refused { IfErr result (λ fault. Fails fault (demand (nat_le (parameter_count (sequent_at self.old.trees laws.now.first)) greatest_parameter_count && nat_le (parameter_count (sequent_at self.old.trees laws.now.second)) greatest_parameter_count) TooManyParams)) }
+        ensures few { OnOk result (have_few_parameters self.old.trees laws.now ≡ true) }
+        ensures refused { IfErr result (λ fault. Fails fault (demand (have_few_parameters self.old.trees laws.now) TooManyParams)) }
         ensures unchanged { self.new ≡ self.old }
     {
         if !self.are_counted(laws)? {
@@ -193,7 +189,7 @@ impl Proof {
     fn are_counted(&mut self, laws: &Laws) -> Result<bool, Memory>
         requires first { IsKnown self.old.trees laws.now.first }
         requires second { IsKnown self.old.trees laws.now.second }
-        ensures counted { IfOk result (λ counted. counted ≡ (nat_le (parameter_count (sequent_at self.old.trees laws.now.first)) greatest_parameter_count && nat_le (parameter_count (sequent_at self.old.trees laws.now.second)) greatest_parameter_count)) }
+        ensures counted { IfOk result (λ counted. counted ≡ have_few_parameters self.old.trees laws.now) }
         ensures unchanged { self.new ≡ self.old }
     {
         are_few(&self.terms, &mut self.params, laws)
@@ -202,37 +198,34 @@ impl Proof {
     // The type operator is defined, and the steps of its laws become the last.
     fn keep_type(
         &mut self,
-        op: &Name,
-        abs: &Name,
-        rep: &Name,
-        names: &[Name],
+        names: NewNames<'_>,
         one: StepId,
         parts: TypeParts,
         laws: Laws,
         version: Version,
     ) -> Result<(StepId, StepId), Memory>
         requires one { one < step_count self.old }
-        requires parts { AreTypeParts self.old (named op.now abs.now rep.now names.now) one parts }
-        requires laws { AreLaws version self.old.trees (named op.now abs.now rep.now names.now) (type_at self.old.trees parts.whole.0) (term_at self.old.trees parts.predicate.0) laws }
+        requires parts { AreTypeParts self.old (named_by names) one parts }
+        requires laws { AreLawsOf version (named_by names) self.old.trees parts self.old.trees laws }
         ensures numbers { IfOk result (λ ids. (ids.0 ≡ step_count self.old) × (ids.1 ≡ step_count self.old + 1)) }
-        ensures kept { IfOk result (λ ids. self.new.made ≡ with_type self.old.made (made_of_type version (named op.now abs.now rep.now names.now) one (type_at self.old.trees parts.whole.0) (term_at self.old.trees parts.predicate.0))) }
+        ensures kept { IfOk result (λ ids. self.new.made ≡ with_type self.old.made
+            (made_of_type version (named_by names.entry) one (type_at self.old.trees parts.whole.0) (term_at self.old.trees parts.predicate.0))) }
         ensures unchanged { OnErr result (self.new.made ≡ self.old.made) }
         ensures keeps { Keeps self.old.trees self.new.trees }
     {
+        let steps = law_steps(self.alloc, names, one, laws, version)?;
+        let basis = Basis {
+            names,
+            one,
+            concl: parts.concl,
+        };
         keep_laws(
-            self.alloc,
             &mut self.symbols,
             &mut self.terms,
             &mut self.steps,
             &mut self.made,
-            op,
-            abs,
-            rep,
-            names,
-            one,
-            parts.concl,
-            laws,
-            version,
+            basis,
+            steps,
         )
     }
 }
@@ -242,7 +235,7 @@ fn are_few(terms: &TermTable, params: &mut ParamMemo, laws: &Laws) -> Result<boo
     requires first { IsKnown terms.now laws.now.first }
     requires second { IsKnown terms.now laws.now.second }
     requires noted { AreNoted terms.now params.old }
-    ensures counted { IfOk result (λ counted. counted ≡ (nat_le (parameter_count (sequent_at terms.now laws.now.first)) greatest_parameter_count && nat_le (parameter_count (sequent_at terms.now laws.now.second)) greatest_parameter_count)) }
+    ensures counted { IfOk result (λ counted. counted ≡ have_few_parameters terms.now laws.now) }
     ensures noted { AreNoted terms.now params.new }
 {
     if params.count(terms, &laws.first)? > GREATEST_PARAMETER_COUNT {
@@ -252,174 +245,134 @@ fn are_few(terms: &TermTable, params: &mut ParamMemo, laws: &Laws) -> Result<boo
     Ok(count <= GREATEST_PARAMETER_COUNT)
 }
 
-// The type operator is taken, and the steps of its laws become the last. The steps are let go again where the operator
-// isn't taken. The answer is their numbers.
+// The type operator is taken, and these steps become the last. The answer is their numbers.
 fn keep_laws(
-    alloc: Global,
     symbols: &mut Symbols,
     terms: &mut TermTable,
     steps: &mut Vec<Step>,
     made: &mut Vec<Made>,
-    op: &Name,
-    abs: &Name,
-    rep: &Name,
-    names: &[Name],
-    one: StepId,
-    concl: TermId,
-    laws: Laws,
-    version: Version,
+    basis: Basis<'_>,
+    laws: LawSteps,
 ) -> Result<(StepId, StepId), Memory>
     requires known { AreKnownSymbols terms.old symbols.old }
-    requires term { IsTermAt terms.old concl.0 }
-    requires application { (f : Term) × ((t : Term) × (term_at terms.old concl.0 ≡ app f t)) }
+    requires term { IsTermAt terms.old basis.concl.0 }
+    requires application { (f : Term) × ((t : Term) × (term_at terms.old basis.concl.0 ≡ app f t)) }
     ensures numbers { IfOk result (λ ids. (ids.0 ≡ length steps.old.items) × (ids.1 ≡ length steps.old.items + 1)) }
-    ensures takes { OnOk result ((f t : Term) (c : HolType) → term_at terms.old concl.0 ≡ app f t → HasType t c → symbols_at terms.new symbols.new ≡ symbols_at terms.old symbols.old ++ Symbol.defined (Definition.type_operator (named op.now abs.now rep.now names.now) c f) ∷ []) }
-    ensures noted { OnOk result (made.new.items ≡ ((made.old.items ++ one_made.TypeOp op.now one ∷ []) ++ one_made.Step (length steps.old.items) ∷ []) ++ one_made.Step (length steps.old.items + 1) ∷ []) }
-    ensures kept { OnOk result (AreLawSteps version (named op.now abs.now rep.now names.now) one laws steps.old.items steps.new.items) }
+    ensures takes { OnOk result (TakesType (named_by basis.entry.names) (term_at terms.old basis.entry.concl.0)
+        (symbols_at terms.old symbols.old) (symbols_at terms.new symbols.new)) }
+    ensures noted { OnOk result (made.new.items ≡ with_operator made.old.items basis.entry.names.op.now basis.entry.one (length steps.old.items)) }
+    ensures kept { OnOk result (steps.new.items ≡ with_laws steps.old.items laws) }
     ensures untaken { OnErr result (symbols.new ≡ symbols.old) }
     ensures unnoted { OnErr result (made.new.items ≡ made.old.items) }
     ensures unkept { OnErr result (steps.new.items ≡ steps.old.items) }
     ensures known { AreKnownSymbols terms.new symbols.new }
     ensures keeps { Keeps terms.old terms.new }
 {
-    let (first, second) = push_laws(alloc, steps, op, abs, rep, names, one, laws, version)?;
-    match take_type(
-        symbols, terms, made, op, abs, rep, names, one, concl, first, second,
-    ) {
-        Ok(()) => Ok((first, second)),
-        Err(_) => {
-            steps.truncate(first);
-            Err(Memory)
-        }
-    }
+    let first = take_before(symbols, terms, steps, made, basis)?;
+    steps.push_reserved(laws.first);
+    let second = steps.len();
+    steps.push_reserved(laws.second);
+    Ok((first, second))
 }
 
-// The type operator is taken, and noted as made from a step before two others. Room is made first, so that nothing fails once
-// it is taken.
+// The type operator is taken before the next two steps, for which there is room. The answer is the first one's number.
+fn take_before(
+    symbols: &mut Symbols,
+    terms: &mut TermTable,
+    steps: &mut Vec<Step>,
+    made: &mut Vec<Made>,
+    basis: Basis<'_>,
+) -> Result<StepId, Memory>
+    requires known { AreKnownSymbols terms.old symbols.old }
+    requires term { IsTermAt terms.old basis.concl.0 }
+    requires application { (f : Term) × ((t : Term) × (term_at terms.old basis.concl.0 ≡ app f t)) }
+    ensures number { IfOk result (λ id. id ≡ length steps.old.items) }
+    ensures room { OnOk result (vec_len steps.new + 1 < vec_capacity steps.new) }
+    ensures takes { OnOk result (TakesType (named_by basis.entry.names) (term_at terms.old basis.entry.concl.0)
+        (symbols_at terms.old symbols.old) (symbols_at terms.new symbols.new)) }
+    ensures noted { OnOk result (made.new.items ≡ with_operator made.old.items basis.entry.names.op.now basis.entry.one (length steps.old.items)) }
+    ensures untaken { OnErr result (symbols.new ≡ symbols.old) }
+    ensures unnoted { OnErr result (made.new.items ≡ made.old.items) }
+    ensures unkept { steps.new.items ≡ steps.old.items }
+    ensures known { AreKnownSymbols terms.new symbols.new }
+    ensures keeps { Keeps terms.old terms.new }
+{
+    let first = steps.len();
+    steps.reserve(2)?;
+    take_type(symbols, terms, made, basis, first)?;
+    Ok(first)
+}
+
+// The type operator is taken, and noted as made from its step before two others, from this number on. Room is made first,
+// so that nothing fails once it is taken.
 fn take_type(
     symbols: &mut Symbols,
     terms: &mut TermTable,
     made: &mut Vec<Made>,
-    op: &Name,
-    abs: &Name,
-    rep: &Name,
-    names: &[Name],
-    one: StepId,
-    concl: TermId,
+    basis: Basis<'_>,
     first: StepId,
-    second: StepId,
 ) -> Result<(), Memory>
     requires known { AreKnownSymbols terms.old symbols.old }
-    requires term { IsTermAt terms.old concl.0 }
-    requires application { (f : Term) × ((t : Term) × (term_at terms.old concl.0 ≡ app f t)) }
-    ensures takes { OnOk result ((f t : Term) (c : HolType) → term_at terms.old concl.0 ≡ app f t → HasType t c → symbols_at terms.new symbols.new ≡ symbols_at terms.old symbols.old ++ Symbol.defined (Definition.type_operator (named op.now abs.now rep.now names.now) c f) ∷ []) }
-    ensures noted { OnOk result (made.new.items ≡ ((made.old.items ++ one_made.TypeOp op.now one ∷ []) ++ one_made.Step first ∷ []) ++ one_made.Step second ∷ []) }
+    requires term { IsTermAt terms.old basis.concl.0 }
+    requires application { (f : Term) × ((t : Term) × (term_at terms.old basis.concl.0 ≡ app f t)) }
+    requires number { first < 2 ^ 63 }
+    ensures takes { OnOk result (TakesType (named_by basis.entry.names) (term_at terms.old basis.entry.concl.0)
+        (symbols_at terms.old symbols.old) (symbols_at terms.new symbols.new)) }
+    ensures noted { OnOk result (made.new.items ≡ with_operator made.old.items basis.entry.names.op.now basis.entry.one first) }
     ensures unchanged { OnErr result (symbols.new ≡ symbols.old) }
     ensures unnoted { OnErr result (made.new.items ≡ made.old.items) }
     ensures known { AreKnownSymbols terms.new symbols.new }
     ensures keeps { Keeps terms.old terms.new }
 {
     made.reserve(3)?;
-    let own = op.clone()?;
-    match symbols.define_op(terms, op, abs, rep, names, concl) {
+    let names = basis.names;
+    let own = names.op.clone()?;
+    match symbols.define_op(
+        terms,
+        names.op,
+        names.abs,
+        names.rep,
+        names.variables,
+        basis.concl,
+    ) {
         Ok(()) => {
-            made.push_reserved(Made::TypeOp(own, one));
+            made.push_reserved(Made::TypeOp(own, basis.one));
             made.push_reserved(Made::Step(first));
-            made.push_reserved(Made::Step(second));
+            made.push_reserved(Made::Step(first + 1));
             Ok(())
         }
         Err(_) => Err(Memory),
     }
 }
 
-// The steps of two laws become the last, or neither does. The answer is their numbers.
-fn push_laws(
+// The steps of two laws.
+fn law_steps(
     alloc: Global,
-    steps: &mut Vec<Step>,
-    op: &Name,
-    abs: &Name,
-    rep: &Name,
-    names: &[Name],
+    names: NewNames<'_>,
     one: StepId,
     laws: Laws,
     version: Version,
-) -> Result<(StepId, StepId), Memory>
-    ensures numbers { IfOk result (λ ids. (ids.0 ≡ length steps.old.items) × (ids.1 ≡ length steps.old.items + 1)) }
-    ensures pushed { OnOk result (AreLawSteps version (named op.now abs.now rep.now names.now) one laws steps.old.items steps.new.items) }
-    ensures unchanged { OnErr result (steps.new.items ≡ steps.old.items) }
+) -> Result<LawSteps, Memory>
+    ensures { IfOk result (λ steps. AreLawSteps version (named_by names.entry) one laws steps) }
 {
-    let first = push_law(
-        alloc,
-        steps,
-        StepKind::FirstLaw,
-        op,
-        abs,
-        rep,
-        names,
-        one,
-        laws.first,
-        version,
-    )?;
-    match push_law(
-        alloc,
-        steps,
-        StepKind::SecondLaw,
-        op,
-        abs,
-        rep,
-        names,
-        one,
-        laws.second,
-        version,
-    ) {
-        Ok(second) => Ok((first, second)),
-        Err(_) => {
-            steps.truncate(first);
-            Err(Memory)
-        }
-    }
-}
-
-// The step of a law becomes the last. The answer is its number.
-fn push_law(
-    alloc: Global,
-    steps: &mut Vec<Step>,
-    kind: StepKind,
-    op: &Name,
-    abs: &Name,
-    rep: &Name,
-    names: &[Name],
-    one: StepId,
-    sequent: Sequent,
-    version: Version,
-) -> Result<StepId, Memory>
-    ensures number { IfOk result (λ id. id ≡ length steps.old.items) }
-    ensures pushed { OnOk result (IsLawPushed version kind (named op.now abs.now rep.now names.now) one sequent steps.old.items steps.new.items) }
-    ensures unchanged { OnErr result (steps.new.items ≡ steps.old.items) }
-{
-    let id = steps.len();
-    steps.reserve(1)?;
-    let step = law_step(alloc, kind, op, abs, rep, names, one, sequent, version)?;
-    steps.push_reserved(step);
-    Ok(id)
+    let first = law_step(alloc, StepKind::FirstLaw, names, one, laws.first, version)?;
+    let second = law_step(alloc, StepKind::SecondLaw, names, one, laws.second, version)?;
+    Ok(LawSteps { first, second })
 }
 
 // The step of a law.
 fn law_step(
     alloc: Global,
     kind: StepKind,
-    op: &Name,
-    abs: &Name,
-    rep: &Name,
-    names: &[Name],
+    names: NewNames<'_>,
     one: StepId,
     sequent: Sequent,
     version: Version,
 ) -> Result<Step, Memory>
-    ensures { IfOk result (λ step. IsLawStep version kind (named op.now abs.now rep.now names.now) one sequent step) }
+    ensures { IfOk result (λ step. IsLawStep version kind (named_by names.entry) one sequent step) }
 {
     let premises = Vec::from_slice(alloc, &[one])?;
-    let parameters = law_parameters(alloc, op, abs, rep, names, version)?;
+    let parameters = law_parameters(alloc, names, version)?;
     Ok(Step {
         kind,
         premises,
@@ -431,24 +384,21 @@ fn law_step(
 // What the rule of a law was given: the names, each copied, and the version.
 fn law_parameters(
     alloc: Global,
-    op: &Name,
-    abs: &Name,
-    rep: &Name,
-    names: &[Name],
+    names: NewNames<'_>,
     version: Version,
 ) -> Result<Parameters, Memory>
-    ensures given { IfOk result (λ p. (trees : Trees) → parameters_view trees p ≡ RuleParameters.type_operator (named op.now abs.now rep.now names.now) version) }
+    ensures given { IfOk result (λ p. (trees : Trees) → parameters_view trees p ≡ RuleParameters.type_operator (named_by names.entry) version) }
     ensures known { IfOk result (λ p. (trees : Trees) → AreParametersKnown trees p) }
 {
-    let names = copied(alloc, names)?;
-    let op = op.clone()?;
-    let abs = abs.clone()?;
-    let rep = rep.clone()?;
+    let variables = copied(alloc, names.variables)?;
+    let op = names.op.clone()?;
+    let abs = names.abs.clone()?;
+    let rep = names.rep.clone()?;
     Ok(Parameters::TypeOp {
         op,
         abs,
         rep,
-        names,
+        names: variables,
         version,
     })
 }
@@ -457,31 +407,19 @@ fn law_parameters(
 fn laws_of(
     alloc: Global,
     terms: &mut TermTable,
-    op: &Name,
-    abs: &Name,
-    rep: &Name,
-    names: &[Name],
+    names: NewNames<'_>,
     parts: TypeParts,
     version: Version,
 ) -> Result<Laws, Memory>
     requires whole { parts.whole.0 < length terms.old.types }
     requires predicate { parts.predicate.0 < length terms.old.terms }
     requires closed { IsWithoutVariables (term_at terms.old parts.predicate.0) }
-    ensures made { IfOk result (λ laws. AreLaws version terms.new (named op.now abs.now rep.now names.now) (type_at terms.old parts.whole.0) (term_at terms.old parts.predicate.0) laws) }
+    ensures made { IfOk result (λ laws. AreLawsOf version (named_by names.entry) terms.old parts terms.new laws) }
     ensures keeps { Keeps terms.old terms.new }
 {
-    let types = new_types(alloc, terms, op, names, parts.whole)?;
-    let first = first_law(alloc, terms, abs, rep, types, version)?;
-    let second = second_law(
-        alloc,
-        terms,
-        abs,
-        rep,
-        types,
-        parts.whole,
-        parts.predicate,
-        version,
-    )?;
+    let part = new_part(alloc, terms, names, parts.whole)?;
+    let first = first_law(alloc, terms, part, version)?;
+    let second = second_law(alloc, terms, part, parts.whole, parts.predicate, version)?;
     Ok(Laws {
         first: Sequent {
             hyps: Hyps::new(alloc),
@@ -506,20 +444,20 @@ fn copied(alloc: Global, names: &[Name]) -> Result<Vec<Name>, Memory>
     Ok(copy)
 }
 
-// Judges every size and then every depth of what a definition makes over so many type variables. One of the laws is the
-// largest, and the second is the deepest.
+// Judges every size and then every depth of what a definition makes. One of the laws is the largest, and the second is
+// the deepest.
 fn judge_measures(
     terms: &TermTable,
-    count: usize,
+    names: NewNames<'_>,
     parts: TypeParts,
     version: Version,
 ) -> Result<(), Fault>
     requires whole { parts.whole.0 < length terms.now.types }
     requires predicate { parts.predicate.0 < length terms.now.terms }
-    ensures within { OnOk result ((names : TypeNames) → length names.variables ≡ count → AreSmall (type_measures version names (type_at terms.now parts.whole.0) (term_at terms.now parts.predicate.0))) }
-    ensures refused { IfErr result (λ fault. (names : TypeNames) → length names.variables ≡ count → Fails fault (in_limits (type_measures version names (type_at terms.now parts.whole.0) (term_at terms.now parts.predicate.0)))) }
+    ensures within { OnOk result (AreSmall (measures_of_parts version (named_by names.entry) terms.now parts)) }
+    ensures refused { IfErr result (λ fault. Fails fault (in_limits (measures_of_parts version (named_by names.entry) terms.now parts))) }
 {
-    let count = count as u64;
+    let count = names.variables.len() as u64;
     if law_size(terms, count, parts, version) > GREATEST_SIZE {
         return Err(Fault::Refused(Kind::TooLarge));
     }

@@ -14,10 +14,11 @@ use Rattle.hol_type.specs.TableLaws.{tree_at-Stays}
 use Rattle.article_spec.specs.State as state
 use Rattle.article_spec.specs.State.{State}
 use Rattle.article_spec.specs.DefiningWords.{constant_objects}
-use Rattle.hol_rules.specs.Steps.{define_const_list_step}
+use Rattle.article_spec.specs.RuleSteps.{define_const_list_step}
 use Rattle.hol_defs.specs.Lists.{pairs_at as constant_pairs_at, ArePairsKnown as AreConstantPairsKnown}
 use Rattle.stack_machine.specs.Stored.{Stored, Grows}
-use Rattle.stack_machine.specs.Inferring.{Infers, defining}
+use Rattle.stack_machine.specs.Inferring.{Infers}
+use Rattle.article_spec.specs.Changes.{defining}
 use Rattle.stack_machine.proofs.Defined.{Infers-after}
 use Rattle.stack_machine.proofs.Turned.{drop-at}
 

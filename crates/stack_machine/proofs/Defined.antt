@@ -13,7 +13,7 @@ use Rattle.hol_spec.specs.declared.Version.{Version}
 use Rattle.article_spec.specs.State.{State, version_at}
 use Rattle.article_spec.specs.State as state
 use Rattle.article_spec.specs.Results.{◌>>=◌, Fails}
-use Rattle.article_spec.specs.Changes.{with_theorem}
+use Rattle.article_spec.specs.Changes.{with_theorem, defining, defining_type, with_type}
 use Rattle.article_spec.specs.Step.{obey}
 use Rattle.proof_laws.specs.ProofGrowth.{steps_of-append}
 use Rattle.proof_laws.specs.ProofLaws.{steps_of-push, steps_of-symbols}
@@ -22,7 +22,7 @@ use Rattle.compose.specs.Pools.{steps_in}
 use Rattle.hol_rules.specs.Kept.{Kept}
 use Rattle.hol_rules.specs.Kept as proof
 use Rattle.hol_rules.specs.Conclusions.{Defines, DefinesType, limited}
-use Rattle.hol_rules.specs.Steps.{NewType}
+use Rattle.article_spec.specs.RuleSteps.{NewType}
 use Rattle.stack_machine.specs.declared.object.Object.{Object}
 use Rattle.stack_machine.specs.declared.object.Object.TheVariants as object
 use Rattle.stack_machine.specs.declared.object.Cell.{Cell}
@@ -33,7 +33,7 @@ use Rattle.stack_machine.specs.Stored.{Stored, IsFront, IsName, IsStore, Grows, 
 use Rattle.stack_machine.specs.StoredLaws.{AreKnown-Grows, Grows-trans, IsKnown-Grows, name_at-Grows}
 use Rattle.stack_machine.specs.Shown.{in_state, shown}
 use Rattle.stack_machine.specs.Obeying.{Obeys, ObeysIn}
-use Rattle.stack_machine.specs.Inferring.{Infers, InfersTwo, defining, defining_type, with_type}
+use Rattle.stack_machine.specs.Inferring.{Infers, InfersTwo}
 use Rattle.stack_machine.proofs.Passing.{IfOk-map, IfErr-map, OnErr-map}
 use Rattle.stack_machine.proofs.Obeyed.{failed, placed}
 use Rattle.stack_machine.proofs.Placed.{placed-view, placed-known}

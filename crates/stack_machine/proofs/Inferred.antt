@@ -12,7 +12,7 @@ use Rattle.article_spec.specs.State.{State}
 use Rattle.article_spec.specs.State as state
 use Rattle.article_spec.specs.Results.{◌>>=◌, ◌>>◌, Fails}
 use Rattle.article_spec.specs.Conditions.{sequent_in_limits}
-use Rattle.article_spec.specs.Changes.{with_theorem}
+use Rattle.article_spec.specs.Changes.{with_theorem, by_step}
 use Rattle.article_spec.specs.Step.{obey}
 use Rattle.proof_laws.specs.ProofLaws.{steps_of-push}
 use Rattle.compose.specs.declared.pool.Said.{Said}
@@ -28,19 +28,10 @@ use Rattle.stack_machine.specs.MakingLaws.{count-step}
 use Rattle.stack_machine.specs.Stored.{Stored, IsFront, IsStore, objects_view, store_view, AreKnown}
 use Rattle.stack_machine.specs.Shown.{in_state, shown}
 use Rattle.stack_machine.specs.Obeying.{Obeys}
-use Rattle.stack_machine.specs.Inferring.{Exports, Infers, by_step}
+use Rattle.stack_machine.specs.Inferring.{Exports, Infers}
 use Rattle.stack_machine.proofs.Passing.{IfOk-map, IfErr-map, OnErr-map}
 use Rattle.stack_machine.proofs.Obeyed.{failed, placed}
 use Rattle.stack_machine.proofs.Stores.{IsFront-same, IsMore, IsStore-more, Grows-more}
-
--- a rule's conditions, one after another, and then its step
-pub bind-by_step : {A : Type 0} (r : Result A Kind) (g : A → Result Step Kind) (f : A → Result State Kind) (s : State) → ((x : A) → f x ≡ by_step (g x) s) → (r >>= f) ≡ by_step (r >>= g) s
-bind-by_step (Ok x) g f s h = h x
-bind-by_step (Err k) g f s h = refl
-
-pub then-by_step : (r : Result (Unit {0}) Kind) (q : Result Step Kind) (p : Result State Kind) (s : State) → p ≡ by_step q s → (r >> p) ≡ by_step (r >> q) s
-then-by_step (Ok x) q p s h = h
-then-by_step (Err k) q p s h = refl
 
 -- what is made of a step within the limits
 abbrev pub limited_state : (Step → State) → Step → Result State Kind

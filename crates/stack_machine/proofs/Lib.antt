@@ -22,3 +22,5 @@ mod Holdings
 mod Kept
 mod Moved
 mod Collected
+mod PutLists
+mod PutAgain

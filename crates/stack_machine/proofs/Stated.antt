@@ -29,9 +29,9 @@ use Rattle.article_spec.specs.State.{State}
 use Rattle.article_spec.specs.State as state
 use Rattle.article_spec.specs.Results.{◌>>=◌, ◌>>◌, Fails}
 use Rattle.article_spec.specs.Conditions.{all_bool, demand, follows, has_type, is_of_type, sequent_in_limits}
-use Rattle.article_spec.specs.Changes.{conclude, first_same, next_step, with_step}
-use Rattle.article_spec.specs.Inference.{step_by}
-use Rattle.article_spec.specs.Stating.{assume_or_meet, export, restatement, stated}
+use Rattle.article_spec.specs.Changes.{conclude, first_same, next_step, with_step, by_step}
+use Rattle.article_spec.specs.RuleSteps.{step_by, restatement, stated, axiom_step, restate_step}
+use Rattle.article_spec.specs.Stating.{assume_or_meet, export}
 use Rattle.hol_term.specs.declared.TermId.{TermId}
 use Rattle.hol_term.specs.Tables.{Trees, AreKnown, IsTermAt}
 use Rattle.hol_term.specs.TableLaws.{Keeps-refl}
@@ -43,14 +43,13 @@ use Rattle.hol_rules.specs.Premises.{AreTermsAt, IsStated}
 use Rattle.hol_rules.specs.Kept.{Kept}
 use Rattle.hol_rules.specs.Kept as proof
 use Rattle.hol_rules.specs.Conclusions.{Concludes, limited}
-use Rattle.hol_rules.specs.Steps.{axiom_step, restate_step}
 use Rattle.stack_machine.specs.declared.object.Cell.{Cell}
 use Rattle.stack_machine.specs.Making.{AreSteps, run_view}
 use Rattle.stack_machine.specs.MakingLaws.{count-step, AreSteps-more, AreSteps-push}
 use Rattle.stack_machine.specs.Stored.{Stored, AreSaid, IsSaid, IsStore, Grows, run_of, store_view}
 use Rattle.stack_machine.specs.StoredLaws.{IsFront-refl, Grows-refl}
 use Rattle.stack_machine.specs.Shown.{in_state}
-use Rattle.stack_machine.specs.Inferring.{Exports, Infers, InfersTwo, by_step, assuming, exported, exporting, recording, restating}
+use Rattle.stack_machine.specs.Inferring.{Exports, Infers, InfersTwo, assuming, exported, exporting, recording, restating}
 use Rattle.stack_machine.proofs.Passing.{IfOk-map, IfErr-map, OnOk-map, OnErr-map, OnErr-map2}
 use Rattle.stack_machine.proofs.Stores.{AreSaid-more, IsStore-run, Grows-run, more-steps, sequent-more}
 use Rattle.stack_machine.proofs.Inferred.{Concludes-made, Concludes-more, Concludes-refused, Concludes-taken, limited-Ok, limited-fails}
@@ -84,7 +83,7 @@ found-step made test ids None h e = tt
 found-step made test ids (Some i) h e = find-All test (λ j. j < length (steps_of made)) ids i h (sym e)
 
 -- a table has the numbers of terms
-known_term : (trees : Trees) (id : ℕ) → IsTermAt trees id → id < length trees.terms
+pub known_term : (trees : Trees) (id : ℕ) → IsTermAt trees id → id < length trees.terms
 known_term trees id h = go (slice_get_cases trees.terms id).1
   where
     go : ((x : Term) × (id < length trees.terms) × (slice_get trees.terms id ≡ Some x) × (get_or trees.terms id x ≡ x)) ⊎ ((length trees.terms ≤ id) × (slice_get trees.terms id ≡ None)) → id < length trees.terms
@@ -186,6 +185,15 @@ IsSequent-at made p i l = All-get IsSequent (sequents_of made) i (sequent_at mad
     from (x ∷ xs) zero l = refl
     from (x ∷ xs) (suc i) l = from xs i (omega arith)
 
+-- conditions are met, and then what follows them
+once : (r : Result (Unit {0}) Kind) (x : Step) (f : Step → Result State Kind) → ((r >> Ok x) >>= f) ≡ (r >> f x)
+once (Ok u) x f = refl
+once (Err k) x f = refl
+
+twice : (r q : Result (Unit {0}) Kind) (x : Step) (f : Step → Result State Kind) → ((r >> (q >> Ok x)) >>= f) ≡ (r >> (q >> f x))
+twice (Ok u) q x f = once q x f
+twice (Err k) q x f = refl
+
 -- what is assumed is met by a step that says it, or recorded
 module _ (s : State) (hs : List Term) (c : Term) where
   -- the steps that may meet it
@@ -199,13 +207,21 @@ module _ (s : State) (hs : List Term) (c : Term) where
       go (inl f) = find-passes (λ j. same (sequent_at s.made j) (stated hs c)) s.pool i f
       go (inr f) = find-passes (λ j. same (sequent_at s.made j) (stated hs c)) s.assumptions i f
 
+  -- the step of the assumption, and what becomes of it where a step may meet it
+  abbrev assumption : Step
+  assumption = step_by by_rule.Axiom [] (Parameters.sequent (stated hs c)) (stated hs c)
+
+  assuming-known : (o : Option ℕ) → known ≡ o → assuming hs c s ≡ (all_bool (c ∷ hs) >> assume_or_meet s assumption o)
+  assuming-known o e = once (all_bool (c ∷ hs)) assumption (λ x. assume_or_meet s x (option_or (first_same s s.pool x.sequent) (first_same s s.assumptions x.sequent)))
+      ∙ ap (λ o. all_bool (c ∷ hs) >> assume_or_meet s assumption o) e
+
   passed : (r q : Result (Unit {0}) Kind) (x : Step) → q ≡ Ok tt → (r >> conclude s x) ≡ by_step (r >> (q >> Ok x)) s
   passed (Ok u) (Ok v) x e = refl
   passed (Ok u) (Err k) x e = absurd (cc)
   passed (Err k) q x e = refl
 
   pub assuming-met : (i : ℕ) → known ≡ Some i → assuming hs c s ≡ by_step (restate_step s.made i hs c) s
-  assuming-met i e = ap (λ o. all_bool (c ∷ hs) >> assume_or_meet s (stated hs c) o) e
+  assuming-met i e = assuming-known (Some i) e
       ∙ passed (all_bool (c ∷ hs)) (follows (sequent_at s.made i) (stated hs c)) (restatement i (stated hs c)) (same-follows (sequent_at s.made i) (stated hs c) (known-says i e))
 
   recorded : (r : Result (Unit {0}) Kind) (t : State) (x : Step) → (r >> conclude t x) ≡ by_step (r >> Ok x) t
@@ -213,24 +229,21 @@ module _ (s : State) (hs : List Term) (c : Term) where
   recorded (Err k) t x = refl
 
   pub assuming-new : known ≡ None → assuming hs c s ≡ recording hs c s
-  assuming-new e = ap (λ o. all_bool (c ∷ hs) >> assume_or_meet s (stated hs c) o) e
-      ∙ recorded (all_bool (c ∷ hs)) (record s { assumptions = s.assumptions ++ next_step s ∷ [] }) (step_by by_rule.Axiom [] (Parameters.sequent (stated hs c)) (stated hs c))
+  assuming-new e = assuming-known None e ∙ recorded (all_bool (c ∷ hs)) (record s { assumptions = s.assumptions ++ next_step s ∷ [] }) assumption
 
   -- what is exported was exported, or is restated
   module _ (i : ℕ) where
     abbrev exports_it : Option ℕ → Result State Kind
-    exports_it o = all_bool (c ∷ hs) >> (follows (sequent_at s.made i) (stated hs c) >> export s i (stated hs c) o)
+    exports_it o = all_bool (c ∷ hs) >> (follows (sequent_at s.made i) (stated hs c) >> export s (restatement i (stated hs c)) o)
+
+    exporting-known : (o : Option ℕ) → first_same s s.exports (stated hs c) ≡ o → exporting i hs c s ≡ exports_it o
+    exporting-known o e = twice (all_bool (c ∷ hs)) (follows (sequent_at s.made i) (stated hs c)) (restatement i (stated hs c)) (λ x. export s x (first_same s s.exports x.sequent)) ∙ ap exports_it e
 
     pub exporting-again : (j : ℕ) → first_same s s.exports (stated hs c) ≡ Some j → all_bool (c ∷ hs) ≡ Ok tt → exporting i hs c s ≡ (follows (sequent_at s.made i) (stated hs c) >> Ok s)
-    exporting-again j e a = ap exports_it e ∙ ap (λ r. r >> (follows (sequent_at s.made i) (stated hs c) >> Ok s)) a
-
-    judged : (r q : Result (Unit {0}) Kind) (x : Step) → (r >> (q >> exported s x)) ≡ ((r >> (q >> Ok x)) >>= exported s)
-    judged (Ok u) (Ok v) x = refl
-    judged (Ok u) (Err k) x = refl
-    judged (Err k) q x = refl
+    exporting-again j e a = exporting-known (Some j) e ∙ ap (λ r. r >> (follows (sequent_at s.made i) (stated hs c) >> Ok s)) a
 
     pub exporting-new : first_same s s.exports (stated hs c) ≡ None → exporting i hs c s ≡ restating i hs c s
-    exporting-new e = ap exports_it e ∙ judged (all_bool (c ∷ hs)) (follows (sequent_at s.made i) (stated hs c)) (restatement i (stated hs c))
+    exporting-new e = exporting-known None e ∙ sym (twice (all_bool (c ∷ hs)) (follows (sequent_at s.made i) (stated hs c)) (restatement i (stated hs c)) (exported s))
 
 -- the same, said of what is kept
 module _ {old new : Stored} {f g : State → Result State Kind} (e : (s : State) (below : List state.Object) → f (in_state s below old.run) ≡ g (in_state s below old.run)) where

@@ -7,51 +7,28 @@ use Rattle.bridge_base.specs.declared.faults.Fault.{Fault}
 use Rattle.bridge_base.specs.declared.faults.Kind.{Kind}
 use Rattle.hol_spec.specs.Terms.{Term}
 use Rattle.hol_spec.specs.Sequents.{Sequent, same}
-use Rattle.hol_spec.specs.Symbols.{Symbol}
 use Rattle.hol_spec.specs.Proofs.{Step, sequent_at}
-use Rattle.hol_rules.specs.Steps.{NewType, axiom_step, restate_step}
+use Rattle.article_spec.specs.RuleSteps.{axiom_step, restate_step}
 use Rattle.article_spec.specs.State.{State}
 use Rattle.article_spec.specs.State as state
 use Rattle.article_spec.specs.Results.{◌>>=◌, ◌>>◌, Fails}
-use Rattle.article_spec.specs.Conditions.{all_bool, follows, sequent_in_limits}
-use Rattle.article_spec.specs.Changes.{conclude, first_same, next_step, with_step, with_symbols, with_theorem}
-use Rattle.article_spec.specs.Stating.{stated, assume_or_meet, export}
+use Rattle.article_spec.specs.Conditions.{sequent_in_limits}
+use Rattle.article_spec.specs.Changes.{conclude, first_same, next_step, with_step}
+use Rattle.article_spec.specs.Stating.{assume_or_meet, export}
 use Rattle.stack_machine.specs.Stored.{Stored, IsStep, Grows}
 use Rattle.stack_machine.specs.Shown.{in_state}
-
--- a rule's step is concluded, and its theorem pushed
-abbrev pub by_step : Result Step Kind → State → Result State Kind
-by_step rule s = do
-  x ← rule
-  conclude s x
-
--- symbols are taken, and then a rule's step is concluded
-abbrev pub defining : List Symbol → Result Step Kind → State → Result State Kind
-defining symbols rule s = do
-  x ← rule
-  conclude (with_symbols s symbols) x
-
--- a type operator is defined with its constants, and its two laws are pushed
-abbrev pub with_type : State → NewType → State
-with_type s x = with_theorem (with_theorem (record s { made = s.made ++ x.definition ∷ [] }) x.first) x.second
-
-abbrev pub defining_type : Result NewType Kind → State → Result State Kind
-defining_type rule s = do
-  x ← rule
-  Ok (with_type s x)
 
 -- what `axiom` states is met, or it is the next assumption
 abbrev pub assuming : List Term → Term → State → Result State Kind
 assuming hypotheses conclusion s = do
-  all_bool (conclusion ∷ hypotheses)
-  assume_or_meet s (stated hypotheses conclusion) (option_or (first_same s s.pool (stated hypotheses conclusion)) (first_same s s.assumptions (stated hypotheses conclusion)))
+  x ← axiom_step hypotheses conclusion
+  assume_or_meet s x (option_or (first_same s s.pool x.sequent) (first_same s s.assumptions x.sequent))
 
 -- what `thm` states is the next export, unless it was exported
 abbrev pub exporting : ℕ → List Term → Term → State → Result State Kind
 exporting i hypotheses conclusion s = do
-  all_bool (conclusion ∷ hypotheses)
-  follows (sequent_at s.made i) (stated hypotheses conclusion)
-  export s i (stated hypotheses conclusion) (first_same s s.exports (stated hypotheses conclusion))
+  x ← restate_step s.made i hypotheses conclusion
+  export s x (first_same s s.exports x.sequent)
 
 -- what is stated becomes the next assumption
 abbrev pub recording : List Term → Term → State → Result State Kind

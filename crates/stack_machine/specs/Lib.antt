@@ -10,3 +10,4 @@ pub mod Crowds
 pub mod Inferring
 pub mod Collecting
 pub mod Moves
+pub mod Putting

@@ -39,7 +39,7 @@ IsOnStack word.Pop = Unit {0}
 IsOnStack word.Pragma = Unit {0}
 IsOnStack w = ⊥
 
--- the word infers, assumes or exports
+-- the word infers, assumes or exports, and is not `subst`
 abbrev pub IsInference : Word → Type 0
 IsInference word.Refl = Unit {0}
 IsInference word.Assume = Unit {0}
@@ -51,7 +51,6 @@ IsInference word.BetaConv = Unit {0}
 IsInference word.Sym = Unit {0}
 IsInference word.Trans = Unit {0}
 IsInference word.ProveHyp = Unit {0}
-IsInference word.Subst = Unit {0}
 IsInference word.Axiom = Unit {0}
 IsInference word.Thm = Unit {0}
 IsInference w = ⊥

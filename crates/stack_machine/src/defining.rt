@@ -6,12 +6,13 @@ ghost use Rattle.hol_spec.specs.Proofs.{sequent_at};
 ghost use Rattle.hol_spec.specs.Symbols.{Symbol};
 ghost use Rattle.hol_term.specs.Tables.{term_at};
 ghost use Rattle.hol_defs.specs.Symbols.{named};
-ghost use Rattle.hol_rules.specs.Steps.{define_const_step, define_const_list_step, type_laws};
+ghost use Rattle.article_spec.specs.RuleSteps.{define_const_step, define_const_list_step, type_laws};
 ghost use Rattle.hol_defs.specs.Lists.{pairs_at as constant_pairs_at, ArePairsKnown as AreConstantPairsKnown};
 ghost use Rattle.article_spec.specs.DefiningWords.{constant_objects};
 ghost use Rattle.article_spec.specs.Operands.{as_name, each};
 ghost use Rattle.article_spec.specs.Results.{Fails};
-ghost use Rattle.stack_machine.specs.Inferring.{Infers, InfersTwo, defining, defining_type};
+ghost use Rattle.stack_machine.specs.Inferring.{Infers, InfersTwo};
+ghost use Rattle.article_spec.specs.Changes.{defining, defining_type};
 ghost use Rattle.stack_machine.specs.Stored.{Grows, IsListKnown, IsName, IsStep, IsTerm, list_view, name_at};
 
 use crate::object::{List, NameId, Object};

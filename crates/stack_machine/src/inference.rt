@@ -1,25 +1,26 @@
 //! The words of inference: each takes theorems and what else its rule is given from the stack, and puts its theorem
 //! there.
+ghost use Rattle.std.specs.Prelude.{IfOk, IfErr};
 ghost use Rattle.article_spec.specs.declared.commands.Word.TheVariants as word;
-ghost use Rattle.article_spec.specs.Operands.{as_substitution, as_terms};
-ghost use Rattle.hol_type.specs.Tables.{pairs_at, ArePairsKnown};
-ghost use Rattle.hol_term.specs.Substitutions.{term_pairs_at, AreTermPairs};
+ghost use Rattle.article_spec.specs.Operands.{as_terms};
+ghost use Rattle.article_spec.specs.Results.{Fails};
 ghost use Rattle.hol_term.specs.Tables.{terms_at};
 ghost use Rattle.hol_rules.specs.Premises.{AreTermsAt};
 ghost use Rattle.stack_machine.specs.Obeying.{Obeys};
+ghost use Rattle.stack_machine.specs.Putting.{as_lists, lists_fit, lists_view, AreListsKnown, AreRemembered, IsPutBy};
 ghost use Rattle.stack_machine.specs.Reading.{Operand};
 ghost use Rattle.stack_machine.specs.Shown.{IsInference};
 ghost use Rattle.stack_machine.specs.Stored.{AreKnown};
 
 use crate::object::Object;
 use crate::operands::{list_on, term_on, theorem_on, variable_on};
+use crate::remembered::{Lists, Remembered};
 use crate::stack::Stack;
 use crate::store::Store;
 use article_spec::Word;
 use bridge_base::{Fault, Kind};
-use hol_name::Name;
-use hol_term::{TermId, Variable};
-use hol_type::TypeId;
+use hol_rules::Put;
+use hol_term::TermId;
 use std::alloc::Global;
 
 /// The list of terms at a depth of the stack.
@@ -147,31 +148,56 @@ fn prove_hyp(store: &mut Store, stack: &mut Stack) -> Result<(), Fault>
     Ok(())
 }
 
-/// The pairs of a substitution at a depth of the stack.
-fn substitution_on(
-    alloc: Global,
-    store: &Store,
-    stack: &Stack,
-    depth: usize,
-) -> Result<(Vec<(Name, TypeId)>, Vec<(Variable, TermId)>), Fault>
+/// The two lists of a substitution at a depth of the stack.
+fn lists_on(store: &Store, stack: &Stack, depth: usize) -> Result<Lists, Fault>
     requires { AreKnown store.now stack.now }
-    ensures { Operand store.now as_substitution (λ p. (pairs_at store.now.trees.types p.0.items, term_pairs_at store.now.trees p.1.items)) (λ p. ArePairsKnown store.now.trees.types p.0.items × AreTermPairs store.now.trees p.1.items) stack.now depth result }
+    ensures { Operand store.now as_lists (lists_view store.now) (AreListsKnown store.now) stack.now depth result }
 {
     match stack.at(depth) {
-        Some(object) => store.substitution_in(alloc, object),
+        Some(object) => store.lists_in(object),
         None => Err(Fault::Refused(Kind::StackShort)),
     }
 }
 
-/// A theorem under a substitution.
-fn subst(alloc: Global, store: &mut Store, stack: &mut Stack) -> Result<(), Fault>
-    requires { AreKnown store.old stack.old }
-    ensures { Obeys word.Subst store.old stack.old store.new stack.new result }
+/// What two lists put: what is remembered of them, or what is read, and then remembered.
+fn put_by(
+    alloc: Global,
+    store: &Store,
+    remembered: &mut Remembered,
+    lists: Lists,
+) -> Result<Put, Fault>
+    requires lists { AreListsKnown store.now lists }
+    requires remembered { AreRemembered store.now remembered.old }
+    ensures put { IfOk result (λ put. IsPutBy store.now lists put) }
+    ensures refused { IfErr result (λ fault. Fails fault (lists_fit (lists_view store.now lists))) }
+    ensures remembered { AreRemembered store.now remembered.new }
+{
+    if let Some(put) = remembered.find(lists) {
+        return Ok(put.again()?);
+    }
+    let put = store.put_in(alloc, lists)?;
+    remembered.keep(lists, put.again()?)?;
+    Ok(put)
+}
+
+/// A theorem under a substitution. What its lists put is remembered.
+pub(crate) fn subst(
+    alloc: Global,
+    store: &mut Store,
+    stack: &mut Stack,
+    remembered: &mut Remembered,
+) -> Result<(), Fault>
+    requires stack { AreKnown store.old stack.old }
+    requires remembered { AreRemembered store.old remembered.old }
+    ensures obeys { Obeys word.Subst store.old stack.old store.new stack.new result }
+    ensures remembered { AreRemembered store.new remembered.new }
 {
     let one = theorem_on(stack, 0)?;
-    let (types, terms) = substitution_on(alloc, store, stack, 1)?;
-    let step = store.subst(&types, &terms, one)?;
-    stack.put(2, Object::Theorem(step));
+    let lists = lists_on(store, stack, 1)?;
+    let put = put_by(alloc, store, remembered, lists)?;
+    let step = store.subst_prepared(&put, one);
+    drop(put);
+    stack.put(2, Object::Theorem(step?));
     Ok(())
 }
 
@@ -200,7 +226,7 @@ fn thm(alloc: Global, store: &mut Store, stack: &mut Stack) -> Result<(), Fault>
     Ok(())
 }
 
-/// A word of inference.
+/// A word of inference, but `subst`.
 pub(crate) fn obey_by_inference(
     alloc: Global,
     store: &mut Store,
@@ -222,7 +248,6 @@ pub(crate) fn obey_by_inference(
         Word::Sym => sym(store, stack),
         Word::Trans => trans(store, stack),
         Word::ProveHyp => prove_hyp(store, stack),
-        Word::Subst => subst(alloc, store, stack),
         Word::Axiom => axiom(alloc, store, stack),
         Word::Thm => thm(alloc, store, stack),
         _ => unreachable!(),

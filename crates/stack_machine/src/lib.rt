@@ -17,6 +17,10 @@
 //! cells. So to keep an object, or to give it back, copies one number, however large it is, and lists may nest without
 //! limit. Names and cells that neither the stack nor the dictionary holds any more are given up while an article runs.
 //!
+//! What `subst` puts is read from two lists, judged and copied where these are put first. It is remembered by their
+//! numbers, so that the same lists are put again in a time that doesn't depend on how many pairs they have; it is
+//! forgotten where names and cells are given up, and at the end of an article.
+//!
 //! ```text
 //! let mut machine = Machine::new(alloc)?;
 //! machine.step(&Command { line: 1, item: Item::Number(6) })?;
@@ -36,6 +40,7 @@ mod making;
 mod object;
 mod operands;
 mod pairs;
+mod remembered;
 mod rules;
 mod stack;
 mod stating;

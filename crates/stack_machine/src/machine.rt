@@ -17,9 +17,10 @@ ghost use Rattle.stack_machine.specs.Shown.{place_view, IsDefinition, IsInferenc
 
 use crate::commands::obey_on_stack;
 use crate::definitions::obey_by_definition;
-use crate::inference::obey_by_inference;
+use crate::inference::{obey_by_inference, subst};
 use crate::object::Object;
 use crate::operands::{number_on, object_on};
+use crate::remembered::Remembered;
 use crate::stack::Stack;
 use crate::store::Store;
 use article_spec::{Command, Item, Word};
@@ -74,12 +75,15 @@ pub struct Machine {
     left: usize,
     stack: Stack,
     dictionary: BTreeMap<i64, Object>,
+    // what was put by lists of the store
+    remembered: Remembered,
     progress: Progress,
 }
 
 impl Model for Machine {
     ghost use Rattle.article_spec.specs.State.{State};
     ghost use Rattle.article_laws.specs.StateLaws.{coded_state};
+    ghost use Rattle.stack_machine.specs.Putting.{AreRemembered};
     ghost use Rattle.stack_machine.specs.Stored.{AreKnown};
     ghost use Rattle.stack_machine.specs.Shown.{AreEntriesKnown, article_state, shown};
 
@@ -87,7 +91,7 @@ impl Model for Machine {
 
     ghost coded = { coded_state };
 
-    ghost invariant = { λ m. AreKnown m.store m.stack × AreEntriesKnown m.store m.dictionary.entries };
+    ghost invariant = { λ m. AreKnown m.store m.stack × AreEntriesKnown m.store m.dictionary.entries × AreRemembered m.store m.remembered };
 
     ghost view = { λ m. shown m.store m.stack (article_state m.store m.dictionary.entries m.progress) };
 }
@@ -103,6 +107,7 @@ impl Machine {
             left: 0,
             stack: Stack::new(alloc),
             dictionary: BTreeMap::new(alloc),
+            remembered: Remembered::new(alloc),
             progress: Progress::Begun(Version::Six),
         })
     }
@@ -131,6 +136,7 @@ impl Machine {
     {
         self.stack.clear();
         self.dictionary.clear();
+        self.remembered.forget();
         self.store.end_article();
         self.left = 0;
         self.progress = Progress::Begun(self.progress.version());
@@ -271,6 +277,7 @@ impl Machine {
         let numbers = self.store.give_up(self.alloc, held, &mut self.left)?;
         self.stack.renumber(&numbers);
         numbers.rewrite_values(&mut self.dictionary);
+        self.remembered.forget();
         Ok(())
     }
 
@@ -329,9 +336,9 @@ impl Machine {
             | Word::Sym
             | Word::Trans
             | Word::ProveHyp
-            | Word::Subst
             | Word::Axiom
             | Word::Thm => self.infer(word),
+            Word::Subst => self.subst(),
             Word::DefineConst | Word::DefineConstList | Word::DefineTypeOp => {
                 self.define_by(word)
             }
@@ -348,7 +355,21 @@ impl Machine {
         obey_on_stack(self.alloc, &mut self.store, &mut self.stack, word)
     }
 
-    // A word of inference.
+    // A theorem under a substitution.
+    fn subst(&mut self) -> Result<(), Fault>
+        ensures taken { OnOk result (obey self.old word.Subst ≡ Ok self.new) }
+        ensures refused { IfErr result (λ fault. Fails fault (obey self.old word.Subst)) }
+        ensures unchanged { OnErr result (self.new ≡ self.old) }
+    {
+        subst(
+            self.alloc,
+            &mut self.store,
+            &mut self.stack,
+            &mut self.remembered,
+        )
+    }
+
+    // A word of inference, but `subst`.
     fn infer(&mut self, word: Word) -> Result<(), Fault>
         requires word { IsInference word }
         ensures taken { OnOk result (obey self.old word ≡ Ok self.new) }

@@ -9,11 +9,11 @@ use hol_type::TypeId;
 pub(crate) struct NameId(pub(crate) usize);
 
 /// The number of a list that isn't empty.
-#[derive(Clone, Copy)]
+#[derive(Clone, Copy, PartialEq, Eq, PartialOrd, Ord)]
 pub(crate) struct CellId(pub(crate) usize);
 
 /// A list.
-#[derive(Clone, Copy)]
+#[derive(Clone, Copy, PartialEq, Eq, PartialOrd, Ord)]
 pub(crate) enum List {
     Empty,
     Cell(CellId),

@@ -7,16 +7,19 @@ ghost use Rattle.hol_term.specs.Substitutions.{term_pairs_at, AreTermPairs};
 ghost use Rattle.hol_term.specs.Tables.{term_at, type_at};
 ghost use Rattle.hol_defs.specs.Lists.{pairs_at as constant_pairs_at, ArePairsKnown as AreConstantPairsKnown};
 ghost use Rattle.hol_rules.specs.Views.{variable_view};
-ghost use Rattle.article_spec.specs.Operands.{as_name, as_substitution, as_term, as_type, as_variable, each, pair_of};
+ghost use Rattle.article_spec.specs.Operands.{as_name, as_term, as_type, as_variable, each, pair_of};
 ghost use Rattle.article_spec.specs.Results.{Fails};
-ghost use Rattle.stack_machine.specs.Reading.{one_object, two_objects};
+ghost use Rattle.stack_machine.specs.Putting.{as_lists, lists_fit, lists_view, AreListsKnown, IsPutBy};
+ghost use Rattle.stack_machine.specs.Reading.{one_object, two_objects, Reads};
 ghost use Rattle.stack_machine.specs.Stored.{IsKnown, IsListKnown, IsTerm, IsType, list_view, object_view};
 
 use crate::object::{List, Object};
 use crate::operands::{list_in, name_in, term_in, type_in, variable_in};
+use crate::remembered::Lists;
 use crate::store::Store;
 use bridge_base::{Fault, Kind};
 use hol_name::Name;
+use hol_rules::Put;
 use hol_term::{TermId, Variable};
 use hol_type::TypeId;
 use std::alloc::Global;
@@ -159,22 +162,25 @@ impl Store {
         Ok(pairs)
     }
 
-    // Pairs for types and pairs for terms.
-    pub(crate) fn substitution_in(
-        &self,
-        alloc: Global,
-        object: Object,
-    ) -> Result<(Vec<(Name, TypeId)>, Vec<(Variable, TermId)>), Fault>
+    // The two lists of a substitution.
+    pub(crate) fn lists_in(&self, object: Object) -> Result<Lists, Fault>
         requires { IsKnown self.now object }
-        ensures pairs { IfOk result (λ p. as_substitution (object_view self.now object) ≡ Ok (pairs_at self.now.trees.types p.0.items, term_pairs_at self.now.trees p.1.items)) }
-        ensures known { IfOk result (λ p. ArePairsKnown self.now.trees.types p.0.items × AreTermPairs self.now.trees p.1.items) }
-        ensures refused { IfErr result (λ fault. Fails fault (as_substitution (object_view self.now object))) }
+        ensures { Reads self.now as_lists (lists_view self.now) (AreListsKnown self.now) object result }
     {
         let (first, second) = self.two_in(object)?;
-        let type_list = list_in(first)?;
-        let types = self.type_pairs_in(alloc, type_list)?;
-        let term_list = list_in(second)?;
-        let terms = self.term_pairs_in(alloc, term_list)?;
-        Ok((types, terms))
+        let types = list_in(first)?;
+        let terms = list_in(second)?;
+        Ok(Lists { types, terms })
+    }
+
+    // What two lists put, read and made ready.
+    pub(crate) fn put_in(&self, alloc: Global, lists: Lists) -> Result<Put, Fault>
+        requires { AreListsKnown self.now lists }
+        ensures put { IfOk result (λ put. IsPutBy self.now lists put) }
+        ensures refused { IfErr result (λ fault. Fails fault (lists_fit (lists_view self.now lists))) }
+    {
+        let types = self.type_pairs_in(alloc, lists.types)?;
+        let terms = self.term_pairs_in(alloc, lists.terms)?;
+        self.prepared(&types, &terms)
     }
 }

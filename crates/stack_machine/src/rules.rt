@@ -1,18 +1,22 @@
 //! The rules of inference, over what the machine keeps.
+ghost use Rattle.std.specs.Prelude.{◌≡◌, IfOk, IfErr, OnOk};
+ghost use Rattle.article_spec.specs.Results.{Fails};
 ghost use Rattle.hol_type.specs.Tables.{pairs_at, ArePairsKnown};
-ghost use Rattle.hol_term.specs.Substitutions.{term_pairs_at, AreTermPairs};
+ghost use Rattle.hol_term.specs.Substitutions.{term_pairs_at, AreTermPairs, ArePairsFitting};
 ghost use Rattle.hol_term.specs.Tables.{term_at, terms_at, type_at};
 ghost use Rattle.hol_rules.specs.Premises.{AreTermsAt};
-ghost use Rattle.hol_rules.specs.Steps.{refl_step, assume_step, eq_mp_step, abs_thm_step, app_thm_step, deduct_antisym_step, beta_conv_step, sym_step, trans_step, prove_hyp_step, restate_step, subst_step};
+ghost use Rattle.article_spec.specs.RuleSteps.{refl_step, assume_step, eq_mp_step, abs_thm_step, app_thm_step, deduct_antisym_step, beta_conv_step, sym_step, trans_step, prove_hyp_step, pairs_fit, restate_step, subst_step};
 ghost use Rattle.hol_rules.specs.Views.{variable_view};
-ghost use Rattle.stack_machine.specs.Inferring.{Infers, by_step};
+ghost use Rattle.stack_machine.specs.Inferring.{Infers};
+ghost use Rattle.article_spec.specs.Changes.{by_step};
+ghost use Rattle.stack_machine.specs.Putting.{IsReady};
 ghost use Rattle.stack_machine.specs.Stored.{IsName, IsStep, IsTerm, IsType, name_at};
 
 use crate::object::NameId;
 use crate::store::Store;
 use bridge_base::Fault;
 use hol_name::Name;
-use hol_rules::StepId;
+use hol_rules::{Put, StepId};
 use hol_term::{TermId, Variable};
 use hol_type::TypeId;
 
@@ -114,19 +118,29 @@ impl Store {
         self.proof.prove_hyp(one, two)
     }
 
-    // A theorem under a substitution.
-    pub(crate) fn subst(
-        &mut self,
+    // What is put, made ready.
+    pub(crate) fn prepared(
+        &self,
         types: &[(Name, TypeId)],
         terms: &[(Variable, TermId)],
-        one: StepId,
-    ) -> Result<StepId, Fault>
-        requires types { ArePairsKnown self.old.trees.types types.now }
-        requires terms { AreTermPairs self.old.trees terms.now }
-        requires one { IsStep self.old one }
-        ensures { Infers self.old (by_step (subst_step self.old.run.made (pairs_at self.old.trees.types types.now) (term_pairs_at self.old.trees terms.now) one)) self.new result }
+    ) -> Result<Put, Fault>
+        requires types { ArePairsKnown self.now.trees.types types.now }
+        requires terms { AreTermPairs self.now.trees terms.now }
+        ensures types { IfOk result (λ put. put.types.items ≡ types.now) }
+        ensures terms { IfOk result (λ put. put.terms.items ≡ terms.now) }
+        ensures fits { OnOk result (ArePairsFitting self.now.trees terms.now) }
+        ensures refused { IfErr result (λ fault. Fails fault (pairs_fit (term_pairs_at self.now.trees terms.now))) }
     {
-        self.proof.subst(types, terms, one)
+        self.proof.prepared(types, terms)
+    }
+
+    // A theorem under a substitution that is ready.
+    pub(crate) fn subst_prepared(&mut self, put: &Put, one: StepId) -> Result<StepId, Fault>
+        requires put { IsReady self.old.trees put.now }
+        requires one { IsStep self.old one }
+        ensures { Infers self.old (by_step (subst_step self.old.run.made (pairs_at self.old.trees.types put.now.types.items) (term_pairs_at self.old.trees put.now.terms.items) one)) self.new result }
+    {
+        self.proof.subst_prepared(put, one)
     }
 
     // A step's sequent again, with its hypotheses in another order or with further ones.

@@ -4,7 +4,7 @@ ghost use Rattle.std.specs.List.{find};
 ghost use Rattle.std.specs.Option.{option_or};
 ghost use Rattle.article_spec.specs.Conditions.{follows};
 ghost use Rattle.article_spec.specs.Results.{Fails};
-ghost use Rattle.article_spec.specs.Stating.{stated as stated_tree};
+ghost use Rattle.article_spec.specs.RuleSteps.{stated as stated_tree, axiom_step, restate_step};
 ghost use Rattle.hol_spec.specs.Proofs.{sequent_at};
 ghost use Rattle.hol_spec.specs.Sequents.{same as is_same};
 ghost use Rattle.hol_term.specs.Tables.{term_at, terms_at, IsTermAt};
@@ -13,7 +13,6 @@ ghost use Rattle.compose.specs.Pools.{said, steps_in};
 ghost use Rattle.hol_rules.specs.Conclusions.{Concludes};
 ghost use Rattle.hol_rules.specs.Kept.{step_count};
 ghost use Rattle.hol_rules.specs.Premises.{AreTermsAt, IsStated};
-ghost use Rattle.hol_rules.specs.Steps.{axiom_step, restate_step};
 ghost use Rattle.stack_machine.specs.Inferring.{Exports, Infers, assuming, exporting, recording, restating, first_saying};
 ghost use Rattle.stack_machine.specs.Stored.{AreSaid, IsStep, IsTerm};
 

@@ -4,7 +4,7 @@ use bridge_base::Kind;
 use hol_spec::StepKind;
 
 /// The cases.
-pub(crate) const CASES: [Case; 23] = [
+pub(crate) const CASES: [Case; 27] = [
     // p = p.
     Case {
         name: "refl",
@@ -184,6 +184,65 @@ pub(crate) const CASES: [Case; 23] = [
             b"nil 4 ref 3 ref nil cons cons nil cons nil cons cons 1 ref assume subst",
             Kind::BadSubst,
         )],
+    },
+    // The same lists put again: q under q, and then q = q under itself.
+    Case {
+        name: "subst_again",
+        turns: &[
+            Turn::Obey(b"nil 4 ref 2 ref nil cons cons nil cons nil cons cons 10 def"),
+            Turn::Obey(b"1 ref assume subst 2 ref nil cons 2 ref thm"),
+            Turn::Obey(b"10 ref 7 ref assume subst 3 ref 2 ref appTerm 2 ref appTerm 11 def"),
+            Turn::Obey(b"nil cons 11 ref thm"),
+            Turn::End,
+            Turn::Made(&[], &[2, 5], 6),
+            Turn::By(1, StepKind::Subst, &[0], 1),
+            Turn::By(4, StepKind::Subst, &[3], 1),
+        ],
+    },
+    // q for p and p = p for p by turns: q under q; p = p under itself; q = q under itself; and (p = p) = q under itself.
+    Case {
+        name: "subst_by_turns",
+        turns: &[
+            Turn::Obey(b"nil 4 ref 2 ref nil cons cons nil cons nil cons cons 10 def pop"),
+            Turn::Obey(b"nil 4 ref 8 ref nil cons cons nil cons nil cons cons 11 def pop"),
+            Turn::Obey(b"10 ref 1 ref assume subst 2 ref nil cons 2 ref thm"),
+            Turn::Obey(b"11 ref 1 ref assume subst 8 ref nil cons 8 ref thm"),
+            Turn::Obey(b"10 ref 8 ref assume subst 3 ref 2 ref appTerm 2 ref appTerm 12 def"),
+            Turn::Obey(b"nil cons 12 ref thm"),
+            Turn::Obey(b"11 ref 7 ref assume subst 3 ref 8 ref appTerm 2 ref appTerm 13 def"),
+            Turn::Obey(b"nil cons 13 ref thm"),
+            Turn::End,
+            Turn::Made(&[], &[2, 5, 8, 11], 12),
+            Turn::By(7, StepKind::Subst, &[6], 1),
+            Turn::By(10, StepKind::Subst, &[9], 1),
+        ],
+    },
+    // p and q for each other, and then the tail of the same list alone, q for p: q = p and q = q, from p = q.
+    Case {
+        name: "subst_by_a_tail",
+        turns: &[
+            Turn::Obey(b"4 ref 2 ref nil cons cons nil cons 10 def pop"),
+            Turn::Obey(b"\"q\" 0 ref var 1 ref nil cons cons 10 ref cons 11 def pop"),
+            Turn::Obey(b"nil 11 ref nil cons cons 7 ref assume subst"),
+            Turn::Obey(b"3 ref 2 ref appTerm 1 ref appTerm 12 def nil cons 12 ref thm"),
+            Turn::Obey(b"nil 10 ref nil cons cons 7 ref assume subst"),
+            Turn::Obey(b"3 ref 2 ref appTerm 2 ref appTerm 13 def nil cons 13 ref thm"),
+            Turn::End,
+            Turn::Made(&[], &[2, 5], 6),
+            Turn::By(1, StepKind::Subst, &[0], 1),
+            Turn::By(4, StepKind::Subst, &[3], 1),
+        ],
+    },
+    // A term of another type than the variable, put twice.
+    Case {
+        name: "subst_refused_again",
+        turns: &[
+            Turn::Refused(
+                b"nil 4 ref 3 ref nil cons cons nil cons nil cons cons 1 ref assume subst",
+                Kind::BadSubst,
+            ),
+            Turn::Refused(b"subst", Kind::BadSubst),
+        ],
     },
     // A list that is no pair of lists.
     Case {

@@ -4,10 +4,10 @@ use Rattle.hol_rules.proofs.ListTaken.{hyps-terms, concl-term}
 use Rattle.hol_rules.proofs.const_lists.take_constants.Goals as goal
 
 pub define_list-requires-clause-hyps : goal.define_list-requires-clause-hyps
-define_list-requires-clause-hyps c = rw c.ids-hyps.ensures.numbers (hyps-terms c.args.terms.now c.args.premise.now c.requires.premise)
+define_list-requires-clause-hyps c = rw c.ids-hyps.ensures.numbers (hyps-terms c.args.terms.now c.args.list.premise.now c.requires.premise)
 
 pub define_list-requires-clause-concl : goal.define_list-requires-clause-concl
-define_list-requires-clause-concl c = concl-term c.args.terms.now c.args.premise.now c.requires.premise
+define_list-requires-clause-concl c = concl-term c.args.terms.now c.args.list.premise.now c.requires.premise
 
 pub returns-in-Ok-clause-takes : goal.returns-in-Ok-clause-takes
 returns-in-Ok-clause-takes c = rw (c.in-Ok.ensures.table, c.ids-hyps.ensures.numbers) at c.in-Ok.ensures.takes

@@ -1,6 +1,6 @@
 use Rattle.std.proofs.Common.{subst, ap, arith}
 use Rattle.hol_spec.specs.Primitives.{function}
-use Rattle.hol_spec.specs.Terms.{app, constant, free}
+use Rattle.hol_spec.specs.Terms.{app, free}
 use Rattle.hol_term.specs.Tables.{term_at, type_at}
 use Rattle.hol_term.specs.TableLaws.{Keeps-trans}
 use Rattle.hol_rules.specs.Laws.{IsTypeOf}
@@ -10,10 +10,10 @@ use Rattle.hol_rules.proofs.LawTrees.{IfOk-abstracted, applied, equated, second-
 use Rattle.hol_rules.proofs.laws.second_law_closed.Goals as goal
 
 pub composed-requires-clause-outer : goal.composed-requires-clause-outer
-composed-requires-clause-outer c = (type-kept c.free.ensures.keeps (own-type c.args.terms.now c.args.types.rep c.requires.types.rep)).known
+composed-requires-clause-outer c = (number-kept c.free.ensures.keeps (own-number c.args.terms.now c.args.part.rep c.requires.part.rep)).known
 
 pub composed-requires-clause-inner : goal.composed-requires-clause-inner
-composed-requires-clause-inner c = (type-kept c.free.ensures.keeps (own-type c.args.terms.now c.args.types.abs c.requires.types.abs)).known
+composed-requires-clause-inner c = (number-kept c.free.ensures.keeps (own-number c.args.terms.now c.args.part.abs c.requires.part.abs)).known
 
 pub composed-requires-clause-argument : goal.composed-requires-clause-argument
 composed-requires-clause-argument c = c.in-Ok.ensures.known
@@ -77,14 +77,13 @@ returns-clause-made c =
     let k3 = c.equation.new.self in
     let k4 = c.application.new.self in
     let k6 = c.function_type.new.terms in
-    let types = c.args.types in
     let v = c.args.variable.now in
     let whole = type_at k0 v.ty.0 in
     let f = term_at k0 c.args.predicate.0 in
     let own = held k1 c.in-Ok.own (free v.name whole) c.in-Ok.ensures.known c.in-Ok.ensures.made in
-    let to = (type-kept c.free.ensures.keeps (own-type k0 types.abs c.requires.types.abs)).is in
-    let from = (type-kept c.free.ensures.keeps (own-type k0 types.rep c.requires.types.rep)).is in
-    let both = subst (IsNumberOf k2 c.in_ok-both.both) (λ i. app (constant c.args.rep.now (from i)) (app (constant c.args.abs.now (to i)) (own.is i))) c.in_ok-both.ensures.made in
+    let to = (number-kept c.free.ensures.keeps (own-number k0 c.args.part.abs c.requires.part.abs)).is in
+    let from = (number-kept c.free.ensures.keeps (own-number k0 c.args.part.rep c.requires.part.rep)).is in
+    let both = subst (IsNumberOf k2 c.in_ok-both.both) (λ i. app (from i) (app (to i) (own.is i))) c.in_ok-both.ensures.made in
     let at2 = Keeps-trans c.free.ensures.keeps c.composed.ensures.keeps in
     let at3 = Keeps-trans at2 c.equation.ensures.keeps in
     let at5 = Keeps-trans (Keeps-trans at3 c.application.ensures.keeps) c.truth_type.ensures.keeps in
@@ -98,4 +97,4 @@ returns-clause-made c =
     let ty = subst (IsTypeOf k6 c.in_ok-ty.ty) (λ i. function (at5whole i) (truth i)) c.in_ok-ty.ensures.made in
     let same = ap (λ t. (v.name, t)) (type-kept c.function_type.ensures.keeps (type-kept at5 part)).is in
     IfOk-abstracted k6 c.abstractions.new.terms v (v.name, whole) c.in_ok-back.back c.in_ok-holds.holds c.abstractions.result c.in_ok-ty.ty _ _ _ same ty (number-kept (Keeps-trans c.application.ensures.keeps from4) back) (number-kept from4 holds) _
-    (second-closed (v.name, whole) c.args.abs.now c.args.rep.now (type_at k0 types.abs.0) (type_at k0 types.rep.0) f c.requires.closed) c.abstractions.ensures.made
+    (second-closed (v.name, whole) _ _ c.requires.part.abs_closed c.requires.part.rep_closed f c.requires.closed) c.abstractions.ensures.made

@@ -1,57 +1,48 @@
 use Rattle.std.proofs.Common.{subst, sym}
 use Rattle.hol_term.specs.TableLaws.{Keeps-trans}
-use Rattle.hol_rules.specs.Laws.{first_tree_of, second_tree_of, IsWithoutVariables}
-use Rattle.hol_defs.specs.Symbols.{named}
-use Rattle.hol_term.specs.Tables.{term_at, type_at}
-use Rattle.hol_rules.specs.Premises.{IsNumberOf, IsStated}
-use Rattle.hol_rules.proofs.LawTrees.{first_tree_of-law, law-stated, own-number, own-type, number-kept, second_tree_of-law, type-kept}
+use Rattle.hol_rules.specs.Laws.{IsWithoutVariables}
+use Rattle.hol_rules.specs.Premises.{IsStated}
+use Rattle.hol_rules.proofs.LawTrees.{first-law, law-stated, own-number, own-type, number-kept, second-law, type-kept, IsNewPart-kept, IsNewPart-known}
 use Rattle.hol_rules.proofs.type_definitions.laws_of.Goals as goal
 
 pub first_law-requires : goal.first_law-requires
-first_law-requires c = let t = c.in_ok-types.ensures.types in record { part = t.part.known; abs = t.abs.known; rep = t.rep.known }
+first_law-requires c = IsNewPart-known c.in_ok-part.ensures.made
 
-pub second_law-requires-clause-types : goal.second_law-requires-clause-types
-second_law-requires-clause-types c =
-    let t = c.in_ok-types.ensures.types in
-    let k = c.first_law.ensures.keeps in
-    record { part = (type-kept k t.part).known; abs = (type-kept k t.abs).known; rep = (type-kept k t.rep).known }
+pub second_law-requires-clause-part : goal.second_law-requires-clause-part
+second_law-requires-clause-part c = IsNewPart-known (IsNewPart-kept c.first_law.ensures.keeps c.in_ok-part.ensures.made)
 
 pub second_law-requires-clause-whole : goal.second_law-requires-clause-whole
-second_law-requires-clause-whole c = (type-kept (Keeps-trans c.new_types.ensures.keeps c.first_law.ensures.keeps) (own-type c.args.terms.now c.args.parts.whole c.requires.whole)).known
+second_law-requires-clause-whole c = (type-kept (Keeps-trans c.new_part.ensures.keeps c.first_law.ensures.keeps) (own-type c.args.terms.now c.args.parts.whole c.requires.whole)).known
 
 pub second_law-requires-clause-predicate : goal.second_law-requires-clause-predicate
-second_law-requires-clause-predicate c = (number-kept (Keeps-trans c.new_types.ensures.keeps c.first_law.ensures.keeps) (own-number c.args.terms.now c.args.parts.predicate c.requires.predicate)).known
+second_law-requires-clause-predicate c = (number-kept (Keeps-trans c.new_part.ensures.keeps c.first_law.ensures.keeps) (own-number c.args.terms.now c.args.parts.predicate c.requires.predicate)).known
 
 pub second_law-requires-clause-closed : goal.second_law-requires-clause-closed
 second_law-requires-clause-closed c =
-    subst IsWithoutVariables (sym (number-kept (Keeps-trans c.new_types.ensures.keeps c.first_law.ensures.keeps) (own-number c.args.terms.now c.args.parts.predicate c.requires.predicate)).is) c.requires.closed
+    subst IsWithoutVariables (sym (number-kept (Keeps-trans c.new_part.ensures.keeps c.first_law.ensures.keeps) (own-number c.args.terms.now c.args.parts.predicate c.requires.predicate)).is) c.requires.closed
 
 pub returns-clause-made : goal.returns-clause-made
 returns-clause-made c =
-    let t = c.in_ok-types.ensures.types in
-    let k = c.first_law.ensures.keeps in
-    let both = Keeps-trans c.new_types.ensures.keeps k in
-    let first = number-kept c.second_law.ensures.keeps (subst (IsNumberOf c.first_law.new.terms c.in_ok-first.first) (λ i. first_tree_of c.args.version c.args.abs.now c.args.rep.now (t.part.is i) (t.abs.is i) (t.rep.is i)) c.in_ok-first.ensures.made) in
-    let a = (type-kept k t.abs).is in
-    let b = (type-kept k t.rep).is in
+    let part = c.in_ok-part.ensures.made in
+    let both = Keeps-trans c.new_part.ensures.keeps c.first_law.ensures.keeps in
     let whole = (type-kept both (own-type c.args.terms.now c.args.parts.whole c.requires.whole)).is in
     let f = (number-kept both (own-number c.args.terms.now c.args.parts.predicate c.requires.predicate)).is in
-    let second = subst (IsNumberOf c.second_law.new.terms c.in_ok-second.second) (λ i. second_tree_of c.args.version c.args.abs.now c.args.rep.now (whole i) (a i) (b i) (f i)) c.in_ok-second.ensures.made in
-    let names = named c.args.op.now c.args.abs.now c.args.rep.now c.args.names.now in
-    let part = type_at c.args.terms.now c.args.parts.whole.0 in
+    let trees = c.second_law.new.terms in
     record {
-      first = subst (IsStated c.second_law.new.terms _) (first_tree_of-law c.args.version names part) (law-stated c.second_law.new.terms _ c.in_ok-first.first _ c.new.ensures.empty first);
-      second = subst (IsStated c.second_law.new.terms _) (second_tree_of-law c.args.version names part (term_at c.args.terms.now c.args.parts.predicate.0)) (law-stated c.second_law.new.terms _ c.in_ok-second.second _ c.new-2.ensures.empty second);
+      first = subst (IsStated trees _) (first-law c.args.version part) (law-stated trees _ c.in_ok-first.first _ c.new.ensures.empty (number-kept c.second_law.ensures.keeps c.in_ok-first.ensures.made));
+      second =
+          subst (IsStated trees _) (second-law c.args.version (IsNewPart-kept c.first_law.ensures.keeps part) whole f)
+          (law-stated trees _ c.in_ok-second.second _ c.new-2.ensures.empty c.in_ok-second.ensures.made);
     }
 
 pub returns-clause-keeps : goal.returns-clause-keeps
-returns-clause-keeps c = Keeps-trans (Keeps-trans c.new_types.ensures.keeps c.first_law.ensures.keeps) c.second_law.ensures.keeps
+returns-clause-keeps c = Keeps-trans (Keeps-trans c.new_part.ensures.keeps c.first_law.ensures.keeps) c.second_law.ensures.keeps
 
-pub returns-in_err-types-clause-keeps : goal.returns-in_err-types-clause-keeps
-returns-in_err-types-clause-keeps c = c.new_types.ensures.keeps
+pub returns-in_err-part-clause-keeps : goal.returns-in_err-part-clause-keeps
+returns-in_err-part-clause-keeps c = c.new_part.ensures.keeps
 
 pub returns-in_err-first-clause-keeps : goal.returns-in_err-first-clause-keeps
-returns-in_err-first-clause-keeps c = Keeps-trans c.new_types.ensures.keeps c.first_law.ensures.keeps
+returns-in_err-first-clause-keeps c = Keeps-trans c.new_part.ensures.keeps c.first_law.ensures.keeps
 
 pub returns-in_err-second-clause-keeps : goal.returns-in_err-second-clause-keeps
-returns-in_err-second-clause-keeps c = Keeps-trans (Keeps-trans c.new_types.ensures.keeps c.first_law.ensures.keeps) c.second_law.ensures.keeps
+returns-in_err-second-clause-keeps c = Keeps-trans (Keeps-trans c.new_part.ensures.keeps c.first_law.ensures.keeps) c.second_law.ensures.keeps

@@ -2,8 +2,8 @@ use Rattle.std.proofs.Common.{refl, [], ◌∷◌}
 use Rattle.article_spec.specs.State as state
 use Rattle.stack_machine.specs.declared.object.Object.TheVariants as object
 use Rattle.hol_defs.specs.Symbols.{named}
-use Rattle.hol_rules.specs.Steps.{type_laws}
-use Rattle.stack_machine.specs.Inferring.{defining_type}
+use Rattle.article_spec.specs.RuleSteps.{type_laws}
+use Rattle.article_spec.specs.Changes.{defining_type}
 use Rattle.stack_machine.specs.Shown.{shown}
 use Rattle.stack_machine.specs.Stored.{name_at}
 use Rattle.stack_machine.proofs.Obeyed.{Obeys-In, first_fails, next_fails, stopped}

@@ -35,6 +35,3 @@ returns-in-Axiom c = rw c.in-Axiom.is c.axiom.ensures
 
 pub returns-in-Thm : goal.returns-in-Thm
 returns-in-Thm c = rw c.in-Thm.is c.thm.ensures
-
-pub returns-in-Subst : goal.returns-in-Subst
-returns-in-Subst c = rw c.in-Subst.is c.subst.ensures

@@ -1,4 +1,4 @@
-use Rattle.std.proofs.Common.{refl, sym, subst}
+use Rattle.std.proofs.Common.{sym, subst}
 use Rattle.article_spec.specs.Conditions.{in_limits}
 use Rattle.article_spec.specs.Results.{Fails}
 use Rattle.bridge_base.specs.declared.faults.Fault.TheVariants.{Memory}
@@ -6,7 +6,7 @@ use Rattle.hol_defs.specs.Symbols.{named}
 use Rattle.hol_term.specs.Tables.{Trees, term_at, type_at}
 use Rattle.hol_rules.specs.Kept.{Kept, Grows}
 use Rattle.hol_rules.specs.Laws.{AreLaws, AreSmall}
-use Rattle.hol_rules.specs.Steps.{type_measures}
+use Rattle.article_spec.specs.RuleSteps.{type_measures}
 use Rattle.hol_rules.proofs.Concluded.{Grows-refl}
 use Rattle.hol_rules.proofs.TypeConcluded.{laws-grown, limit-fails, refused-type, type-ended, type-is, type-many, Grows-made}
 use Rattle.hol_rules.proofs.TypeKept.{parts-grown, type-without}
@@ -18,7 +18,7 @@ returns-in_err-judge_measures c =
     let names = named c.args.op.now c.args.abs.now c.args.rep.now c.args.names.now in
     let parts = c.in_ok-parts.parts in
     let fault = c.in_err-judge_measures.field-0.0 in
-    let fails = subst (λ (u : Trees). Fails fault (in_limits (type_measures c.args.version names (type_at u parts.whole.0) (term_at u parts.predicate.0)))) c.terms.ensures (c.in_err-judge_measures.ensures.refused names refl) in
+    let fails = subst (λ (u : Trees). Fails fault (in_limits (type_measures c.args.version names (type_at u parts.whole.0) (term_at u parts.predicate.0)))) c.terms.ensures c.in_err-judge_measures.ensures.refused in
     refused-type (Grows-refl k) _ c.from_residual-in_err-judge_measures.result fault c.from_residual-in_err-judge_measures.ensures.1 (limit-fails c.args.version k names c.args.one parts c.in_ok-parts.ensures.parts fault fails)
 
 pub laws-requires-clause-closed : goal.laws-requires-clause-closed
@@ -51,7 +51,7 @@ returns c =
     let names = named c.args.op.now c.args.abs.now c.args.rep.now c.args.names.now in
     let parts = c.in_ok-parts.parts in
     let h = c.in_ok-parts.ensures.parts in
-    let small = subst (λ (u : Trees). AreSmall (type_measures c.args.version names (type_at u parts.whole.0) (term_at u parts.predicate.0))) c.terms.ensures (c.in_ok-judge_measures.ensures.within names refl) in
+    let small = subst (λ (u : Trees). AreSmall (type_measures c.args.version names (type_at u parts.whole.0) (term_at u parts.predicate.0))) c.terms.ensures c.in_ok-judge_measures.ensures.within in
     let grows = subst (Grows k) (sym c.judge_laws.ensures.unchanged) c.laws.ensures.grows in
     let laws = subst (λ (u : Kept). AreLaws c.args.version u.trees names (type_at k.trees parts.whole.0) (term_at k.trees parts.predicate.0) c.in_ok-laws.laws) (sym c.judge_laws.ensures.unchanged) c.in_ok-laws.ensures.made in
     let is = type-is c.args.version k names c.args.one parts h small c.laws.new.self c.laws.ensures.grows c.in_ok-laws.laws c.in_ok-laws.ensures.made c.in_ok-judge_laws.ensures.few in
@@ -66,7 +66,7 @@ returns-in_err-judge_laws c =
     let names = named c.args.op.now c.args.abs.now c.args.rep.now c.args.names.now in
     let parts = c.in_ok-parts.parts in
     let h = c.in_ok-parts.ensures.parts in
-    let small = subst (λ (u : Trees). AreSmall (type_measures c.args.version names (type_at u parts.whole.0) (term_at u parts.predicate.0))) c.terms.ensures (c.in_ok-judge_measures.ensures.within names refl) in
+    let small = subst (λ (u : Trees). AreSmall (type_measures c.args.version names (type_at u parts.whole.0) (term_at u parts.predicate.0))) c.terms.ensures c.in_ok-judge_measures.ensures.within in
     let grows = subst (Grows k) (sym c.judge_laws.ensures.unchanged) c.laws.ensures.grows in
     let fault = c.in_err-judge_laws.field-0.0 in
     refused-type grows _ c.from_residual-in_err-judge_laws.result fault c.from_residual-in_err-judge_laws.ensures.1

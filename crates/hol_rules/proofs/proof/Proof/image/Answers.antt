@@ -3,7 +3,7 @@ use Rattle.hol_spec.specs.Sequents.{Sequent}
 use Rattle.hol_type.specs.Tables as type
 use Rattle.hol_term.specs.Substitutions.{term_pairs_at}
 use Rattle.hol_rules.specs.Premises.{IsStated}
-use Rattle.hol_rules.specs.Steps.{substituted}
+use Rattle.article_spec.specs.RuleSteps.{substituted}
 use Rattle.hol_rules.proofs.Growth.{IsKept-Keeps, Grows-Keeps}
 use Rattle.hol_rules.proofs.Pushed.{sequent_at-kept}
 use Rattle.hol_rules.proofs.proof.Proof.image.Goals as goal
@@ -17,7 +17,7 @@ returns-clause-made c =
     let l = rw (← c.self.view_is) at c.requires.one in
     let same = sequent_at-kept trees c.self.inside.symbols c.self.inside.steps.items c.self.inside.made.items c.self.invariant c.args.one c.index.result.now l c.index.ensures in
     rw (← c.self.view_is) (
-    subst (λ (s : Sequent). IfOk c.image_of.result (λ image. IsStated c.image_of.new.terms image (substituted (type.pairs_at trees.types c.args.type_pairs.now) (term_pairs_at trees c.args.term_pairs.now) s))) (sym same) c.image_of.ensures.made
+    subst (λ (s : Sequent). IfOk c.image_of.result (λ image. IsStated c.image_of.new.terms image (substituted (type.pairs_at trees.types c.args.put.now.types.items) (term_pairs_at trees c.args.put.now.terms.items) s))) (sym same) c.image_of.ensures.made
     )
 
 pub returns-clause-grows : goal.returns-clause-grows

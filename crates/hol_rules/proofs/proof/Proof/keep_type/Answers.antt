@@ -1,7 +1,7 @@
 use Rattle.std.proofs.Common.{sym, ap, ◌∙◌, ◌+◌, length}
 use Rattle.std.proofs.lemmas.List.{length-map}
-use Rattle.hol_defs.specs.Symbols.{named}
 use Rattle.hol_rules.specs.Views.{step_view}
+use Rattle.hol_rules.specs.Laws.{named_by}
 use Rattle.hol_rules.proofs.Answering.{IfOk-more, OnErr-both, OnErr-more, OnOk-both, OnOk-IfOk, OnOk-OnErr}
 use Rattle.hol_rules.proofs.Growth.{IsKept-Keeps, made_view-Keeps}
 use Rattle.hol_rules.proofs.TypeKept.{concl-applies, concl-term, made_view-type, IsKept-type}
@@ -30,9 +30,9 @@ invariant_of-self c =
     let laws = rw (← c.self.view_is) at c.requires.laws in
     let r = c.keep_laws.result in
     let e = c.keep_laws.ensures in
-    let names = named c.args.op.now c.args.abs.now c.args.rep.now c.args.names.now in
-    OnOk-OnErr r (OnOk-both _ _ r (OnOk-both _ _ r e.takes e.noted) e.kept) (OnErr-both _ _ r e.untaken (OnErr-both _ _ r e.unnoted e.unkept))
-    (λ p. rw p.0.1 (IsKept-type c.args.version s.terms c.keep_laws.new.terms e.keeps s.symbols c.keep_laws.new.symbols s.steps.items s.made.items c.self.invariant names c.args.one one c.args.parts parts c.args.laws laws c.keep_laws.new.steps.items p.1 p.0.0 e.known))
+    let names = named_by c.args.names in
+    OnOk-OnErr r (OnOk-both _ _ r e.takes (OnOk-both _ _ r e.noted e.kept)) (OnErr-both _ _ r e.untaken (OnErr-both _ _ r e.unnoted e.unkept))
+    (λ p. rw (p.1.0, p.1.1) (IsKept-type c.args.version s.terms c.keep_laws.new.terms e.keeps s.symbols c.keep_laws.new.symbols s.steps.items s.made.items c.self.invariant names c.args.one one c.args.parts parts c.args.laws laws c.in_ok-steps.steps c.in_ok-steps.ensures p.0 e.known))
     (λ q. rw (q.0, q.1.0, q.1.1) (IsKept-Keeps e.keeps s.symbols s.steps.items s.made.items c.self.invariant))
 
 pub returns-clause-numbers : goal.returns-clause-numbers
@@ -49,8 +49,8 @@ returns-clause-kept c =
     let laws = rw (← c.self.view_is) at c.requires.laws in
     let r = c.keep_laws.result in
     let e = c.keep_laws.ensures in
-    let names = named c.args.op.now c.args.abs.now c.args.rep.now c.args.names.now in
-    OnOk-IfOk r (OnOk-both _ _ r (OnOk-both _ _ r e.takes e.noted) e.kept) (λ p ids. rw (← c.self.view_is, p.0.1) (made_view-type c.args.version s.terms c.keep_laws.new.terms e.keeps s.symbols c.keep_laws.new.symbols s.steps.items s.made.items c.self.invariant names c.args.one one c.args.parts parts c.args.laws laws c.keep_laws.new.steps.items p.1 p.0.0 e.known))
+    let names = named_by c.args.names in
+    OnOk-IfOk r (OnOk-both _ _ r e.takes (OnOk-both _ _ r e.noted e.kept)) (λ p ids. rw (← c.self.view_is, p.1.0, p.1.1) (made_view-type c.args.version s.terms c.keep_laws.new.terms e.keeps s.symbols c.keep_laws.new.symbols s.steps.items s.made.items c.self.invariant names c.args.one one c.args.parts parts c.args.laws laws c.in_ok-steps.steps c.in_ok-steps.ensures p.0 e.known))
 
 pub returns-clause-unchanged : goal.returns-clause-unchanged
 returns-clause-unchanged c =

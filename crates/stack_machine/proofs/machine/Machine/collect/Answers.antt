@@ -14,9 +14,10 @@ roots : (c : goal.After-drop-numbers-inside-2) → AreRootsHeld c.self.inside.st
 roots c = roots_held _ _ _ _ c.self.inside.stack c.self.inside.dictionary.entries c.in_ok-held.ensures c.hold.ensures c.hold_values.ensures c.self.invariant.0 c.self.invariant.1
 
 pub invariant_of-self-2 : goal.invariant_of-self-2
-invariant_of-self-2 c = rw (c.renumber.ensures, c.rewrite_values.ensures) (
+invariant_of-self-2 c = rw (c.renumber.ensures, c.rewrite_values.ensures, c.forget.ensures) (
   stack_known c.in_ok-numbers.ensures.moved c.self.inside.stack c.self.invariant.0 (roots c).stack,
   entries_known c.in_ok-numbers.ensures.moved c.self.inside.dictionary.entries c.self.invariant.1 (roots c).entries,
+  tt,
 )
 
 pub returns : goal.returns

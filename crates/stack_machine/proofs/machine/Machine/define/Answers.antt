@@ -21,7 +21,7 @@ pub invariant_of-self-2 : goal.invariant_of-self-2
 invariant_of-self-2 c =
     let e : c.insert.new.self.entries ≡ insert_entry int_cmp c.self.inside.dictionary.entries c.in_ok-key.key c.in_ok-object.object = grind (arith, to_z-of_z) in
     let known = known_inserted c.self.inside.store c.self.inside.dictionary.entries c.in_ok-key.key c.in_ok-object.object c.self.invariant.1 ((c.in_ok-object.ensures c.self.inside.store).known c.self.invariant.0) in
-    (subst (AreKnown c.self.inside.store) (sym c.drop_top.ensures) (known-drop c.self.inside.store 1 c.self.inside.stack c.self.invariant.0), subst (AreEntriesKnown c.self.inside.store) (sym e) known)
+    (subst (AreKnown c.self.inside.store) (sym c.drop_top.ensures) (known-drop c.self.inside.store 1 c.self.inside.stack c.self.invariant.0), subst (AreEntriesKnown c.self.inside.store) (sym e) known, c.self.invariant.2)
 
 pub returns-clause-taken : goal.returns-clause-taken
 returns-clause-taken c =

@@ -2,11 +2,16 @@ use Rattle.std.proofs.Common.{ap, sym, ◌∙◌, Ok}
 use Rattle.stack_machine.specs.Shown.{shown, article_state}
 use Rattle.stack_machine.proofs.Passing.{OnOk-map, IfErr-map, OnErr-map2}
 use Rattle.stack_machine.proofs.Dictionaries.{entries-Grow}
+use Rattle.stack_machine.proofs.PutAgain.{remembered-Grow}
 use Rattle.stack_machine.proofs.Frames.{article-Grows, shown-Grows}
 use Rattle.stack_machine.proofs.machine.Machine.define_by.Goals as goal
 
 pub invariant_of-self : goal.invariant_of-self
-invariant_of-self c = (c.obey_by_definition.ensures.known, entries-Grow c.obey_by_definition.ensures.grows c.self.inside.dictionary.entries c.self.invariant.1)
+invariant_of-self c = (
+  c.obey_by_definition.ensures.known,
+  entries-Grow c.obey_by_definition.ensures.grows c.self.inside.dictionary.entries c.self.invariant.1,
+  remembered-Grow c.obey_by_definition.ensures.grows c.self.inside.remembered c.self.invariant.2,
+)
 
 pub returns-clause-taken : goal.returns-clause-taken
 returns-clause-taken c = OnOk-map c.obey_by_definition.result _ _ c.obey_by_definition.ensures.taken

@@ -32,7 +32,7 @@ invariant_of-self c =
     let f : SFits w64 c.in_ok-key.key = search rules in
     let e : lookup (is_at (int_cmp c.in_ok-key.key)) c.self.inside.dictionary.entries ≡ Some c.in-Some.object.now = sym (simp to_z-of_z at c.in-Some.ensures.value) in
     let known = known_found c.self.inside.store (is_at (int_cmp c.in_ok-key.key)) c.self.inside.dictionary.entries c.in-Some.object.now c.self.invariant.1 e in
-    (subst (AreKnown c.self.inside.store) (sym c.put.ensures) (known, known-drop c.self.inside.store 1 c.self.inside.stack c.self.invariant.0), c.self.invariant.1)
+    (subst (AreKnown c.self.inside.store) (sym c.put.ensures) (known, known-drop c.self.inside.store 1 c.self.inside.stack c.self.invariant.0), c.self.invariant.1, c.self.invariant.2)
 
 pub returns-clause-taken : goal.returns-clause-taken
 returns-clause-taken c =

@@ -1,7 +1,7 @@
 use Rattle.std.proofs.Common.{sym, subst}
 use Rattle.hol_term.specs.Tables.{term_at, terms_at}
 use Rattle.hol_rules.specs.Premises.{IsStated}
-use Rattle.article_spec.specs.Stating.{stated}
+use Rattle.article_spec.specs.RuleSteps.{stated}
 use Rattle.stack_machine.specs.Inferring.{Infers, recording}
 use Rattle.stack_machine.specs.Stored.{store_view}
 use Rattle.stack_machine.proofs.Stated.{assumed-IsStore, assumed-Infers, axiom-sequent}

@@ -2,7 +2,7 @@ use Rattle.std.proofs.Common.{◌≡◌, sym, subst, Some, None}
 use Rattle.std.specs.Option.{option_or}
 use Rattle.hol_term.specs.Tables.{term_at, terms_at}
 use Rattle.sequent.specs.Sequents as numbers
-use Rattle.article_spec.specs.Stating.{stated}
+use Rattle.article_spec.specs.RuleSteps.{stated}
 use Rattle.stack_machine.specs.Inferring.{first_saying}
 use Rattle.stack_machine.specs.Shown.{in_state}
 use Rattle.stack_machine.proofs.Stated.{Infers-as, Infers-memory, assuming-met, assuming-new}

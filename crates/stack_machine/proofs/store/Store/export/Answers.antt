@@ -1,7 +1,7 @@
 use Rattle.std.proofs.Common.{◌≡◌, subst, None}
 use Rattle.hol_term.specs.Tables.{term_at, terms_at}
 use Rattle.sequent.specs.Sequents as numbers
-use Rattle.article_spec.specs.Stating.{stated}
+use Rattle.article_spec.specs.RuleSteps.{stated}
 use Rattle.stack_machine.specs.Inferring.{Exports, exporting, first_saying}
 use Rattle.stack_machine.specs.Stored.{store_view}
 use Rattle.stack_machine.proofs.Stated.{Exports-memory, Exports-known, Exports-new}

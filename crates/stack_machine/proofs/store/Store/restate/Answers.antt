@@ -1,7 +1,8 @@
 use Rattle.std.proofs.Common.{subst}
 use Rattle.hol_term.specs.Tables.{term_at, terms_at}
-use Rattle.hol_rules.specs.Steps.{restate_step}
-use Rattle.stack_machine.specs.Inferring.{Infers, by_step}
+use Rattle.article_spec.specs.RuleSteps.{restate_step}
+use Rattle.stack_machine.specs.Inferring.{Infers}
+use Rattle.article_spec.specs.Changes.{by_step}
 use Rattle.stack_machine.specs.Stored.{store_view}
 use Rattle.stack_machine.proofs.Inferred.{Concludes-IsStore, Concludes-Infers}
 use Rattle.stack_machine.proofs.store.Store.restate.Goals as goal
