@@ -33,7 +33,10 @@ coded_form = code_by ℕ coded_ℕ form_number form_of form_of-number
 
 abbrev coded_declaration : Coded Declaration
 coded_declaration =
-    code_by ((List ℕ × Form) × (Tree × Option Tree)) (coded× (coded× coded_bytes coded_form) (coded× coded_tree (coded_option coded_tree))) (λ d. ((d.name, d.form), (d.ty, d.body))) (λ p. record { name = p.0.0; form = p.0.1; ty = p.1.0; body = p.1.1 }) (λ _. refl)
+    code_by ((List ℕ × Form) × (Tree × Option Tree)) (coded× (coded× coded_bytes coded_form) (coded× coded_tree (coded_option coded_tree)))
+    (λ d. ((d.name, d.form), (d.ty, d.body)))
+    (λ p. record { name = p.0.0; form = p.0.1; ty = p.1.0; body = p.1.1 })
+    (λ _. refl)
 
 pub pending_code : tokens.Pending → Gv
 pending_code tokens.Nothing = gcons (gnum 0) (gnum 0)
@@ -123,7 +126,8 @@ state_code reading.Between = gcons (gnum 0) (gnum 0)
 state_code (reading.AfterKeyword form) = gcons (gnum 1) (coded_form.code form)
 state_code (reading.AfterName form name) = gcons (gnum 2) (gcons (coded_form.code form) (coded_bytes.code name))
 state_code (reading.AtTerm head frames) = gcons (gnum 3) (gcons (coded_head.code head) (coded_frames.code frames))
-state_code (reading.AfterFirst head frames p name) = gcons (gnum 4) (gcons (gcons (coded_head.code head) (coded_frames.code frames)) (gcons (gnum p) (coded_bytes.code name)))
+state_code (reading.AfterFirst head frames p name) =
+    gcons (gnum 4) (gcons (gcons (coded_head.code head) (coded_frames.code frames)) (gcons (gnum p) (coded_bytes.code name)))
 state_code (reading.InApplication head frames f) = gcons (gnum 5) (gcons (gcons (coded_head.code head) (coded_frames.code frames)) (coded_function.code f))
 
 pub state_inj : (x y : reading.State) → state_code x ≡ state_code y → x ≡ y
@@ -146,7 +150,8 @@ coded_declarations = coded_list coded_declaration
 
 pub progress_code : reading.Progress → Gv
 progress_code (reading.Opening p wanted) = gcons (gnum 0) (gcons (gnum p) (coded_bytes.code wanted))
-progress_code (reading.Inside p pending m state) = gcons (gnum 1) (gcons (gnum p) (gcons (coded_pending.code pending) (gcons (coded_declarations.code m) (coded_state.code state))))
+progress_code (reading.Inside p pending m state) =
+    gcons (gnum 1) (gcons (gnum p) (gcons (coded_pending.code pending) (gcons (coded_declarations.code m) (coded_state.code state))))
 progress_code (reading.Refused r) = gcons (gnum 2) (coded_refusal.code r)
 
 pub progress_inj : (x y : reading.Progress) → progress_code x ≡ progress_code y → x ≡ y

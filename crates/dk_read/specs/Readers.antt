@@ -55,10 +55,17 @@ pub telling-told : (f : DkFault) → telling (told f) ≡ f
 telling-told (fault.Refused p k) = ap (fault.Refused p) (kind_of-fault_of k)
 telling-told fault.Memory = refl
 
+-- the code of a fault that is answered
+abbrev pub coded_answer : Coded DkFault
+coded_answer = code_by (Option (ℕ × reading.Fault)) (coded_option (coded× coded_ℕ coded_fault)) told telling telling-told
+
 -- the code of a reader's value
 abbrev pub coded_reading : Coded Reading
 coded_reading =
-    code_by (Option ℕ × (reading.Progress × Option DkFault)) (coded× (coded_option coded_ℕ) (coded× coded_progress (coded_option (code_by (Option (ℕ × reading.Fault)) (coded_option (coded× coded_ℕ coded_fault)) told telling telling-told)))) (λ r. (r.limit, (r.progress, r.fault))) (λ p. record { limit = p.0; progress = p.1.0; fault = p.1.1 }) (λ _. refl)
+    code_by (Option ℕ × (reading.Progress × Option DkFault)) (coded× (coded_option coded_ℕ) (coded× coded_progress (coded_option coded_answer)))
+    (λ r. (r.limit, (r.progress, r.fault)))
+    (λ p. record { limit = p.0; progress = p.1.0; fault = p.1.1 })
+    (λ _. refl)
 
 -- what a reading has come to at a stage
 abbrev pub progress_of : Stage → reading.Progress

@@ -10,7 +10,8 @@ use Rattle.text_laws.specs.ReadingOrder.{IsState}
 use Rattle.lp_term.specs.declared.LpId.{LpId}
 use Rattle.lp_term.specs.Tables.{tree_at, Holds, Keeps}
 use Rattle.holide_sig.specs.declared.module.Module.{Module}
-use Rattle.holide_sig.specs.Modules.{declarations_of, IsHeld}
+use Rattle.holide_sig.specs.declared.decls.Decl.{Decl}
+use Rattle.holide_sig.specs.Modules.{declaration_in, declarations_of, IsHeld}
 use Rattle.dk_read.specs.declared.faults.DkKind.{DkKind}
 use Rattle.dk_read.specs.declared.faults.DkKind.TheVariants as kind
 use Rattle.dk_read.specs.declared.faults.DkFault.{DkFault}
@@ -102,6 +103,40 @@ before p = declarations_of p.module
 -- and with the signature's
 abbrev pub declared : Parser → List Declaration
 declared p = signature ++ before p
+
+-- the tree of a number
+abbrev pub tree_of : Parser → LpId → Tree
+tree_of p id = tree_at p.module.table id.0
+
+-- what an identifier means, by its number
+abbrev pub meaning_in : Parser → ℕ → Option Tree
+meaning_in p n = reading.meaning (before p) (frames_of p) (name_at p.names n)
+
+-- a type or a body that ends with this tree, unless a parenthesis or a domain is open
+abbrev pub whole_of : Parser → LpId → Option Tree
+whole_of p id = reading.whole (frames_of p) (tree_of p id)
+
+-- the reading after an atom, to which the tree before it is applied, if there is one
+abbrev pub argued_in : Parser → Option LpId → LpId → reading.Outcome
+argued_in p function atom =
+    reading.Goes (before p) (reading.InApplication (head_of p) (frames_of p) (Some (reading.argued (tree_in p.module.table function) (tree_of p atom))))
+
+-- the reading after a declaration
+abbrev pub goes_after : Parser → Decl → reading.Outcome
+goes_after p d = reading.Goes (before p ++ declaration_in p.module.table d ∷ []) reading.Between
+
+-- the reading after a token that comes behind an application so far, if there is one
+abbrev pub applies_in : Parser → Option Tree → ℕ → Token → reading.Outcome
+applies_in p f place token = reading.applies (before p) (head_of p) (frames_of p) f place (token_in p.names token)
+
+-- the reading after a token that comes behind an identifier that begins a term, at this place
+abbrev pub goes_on_in : Parser → ℕ → ℕ → ℕ → Token → reading.Outcome
+goes_on_in p first n place token =
+    reading.goes_on (before p) (head_of p) (frames_of p) first (name_at p.names n) (meaning_in p n) place (token_in p.names token)
+
+-- the reading after a token
+abbrev pub advance_in : Parser → ℕ → Token → reading.Outcome
+advance_in p place token = reading.advance (before p) (state_of p) place (token_in p.names token)
 
 -- a number is of the table, where there is one
 abbrev pub IsIdKnown : List Tree → Option LpId → Type 0

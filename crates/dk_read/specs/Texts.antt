@@ -27,8 +27,30 @@ pending_in word (pending.AfterParen q) = tokens.AfterParen q
 pending_in word (pending.InComment q) = tokens.InComment q
 pending_in word (pending.AfterSemicolon q) = tokens.AfterSemicolon q
 
+-- the same, of a reading
+abbrev pub pending_of : Text → tokens.Pending
+pending_of t = pending_in t.word.items t.pending
+
 abbrev pub inside : Text → reading.Progress
 inside t = reading.Inside t.place (pending_in t.word.items t.pending) (before t.parser) (state_of t.parser)
+
+-- a byte further on, with this pending
+abbrev pub a_byte_on : Text → tokens.Pending → reading.Progress
+a_byte_on t pending = reading.Inside (t.place + 1) pending (before t.parser) (state_of t.parser)
+
+-- a byte further on, where the tokens that it ends are read
+abbrev pub after_byte_in : Text → tokens.Taken → reading.Progress
+after_byte_in t taken = reading.after_byte (t.place + 1) (before t.parser) (state_of t.parser) taken
+
+-- and where it ends one token and is read itself
+abbrev pub after_token_and_byte : Text → tokens.Placed → ℕ → reading.Progress
+after_token_and_byte t token byte = after_byte_in t (tokens.after token (tokens.begins t.place byte))
+
+-- what is answered where the text ends here
+abbrev pub answer_at_end : Text → reading.Answer
+answer_at_end t =
+    reading.answers (reading.advance_all (reading.Goes (before t.parser) (state_of t.parser)) (tokens.last_tokens (pending_of t)))
+    (tokens.end_at (pending_of t) t.place)
 
 -- how many bytes a reading holds: those of the identifier or key word that is open
 abbrev pub held_of : reading.Progress → ℕ

@@ -11,10 +11,17 @@
 //! ```
 #![tactic(auto)]
 
+mod cut_tokens;
+mod declaring;
+mod ending;
 mod faults;
+mod heads;
+mod identifiers;
 mod names;
+mod nesting;
 mod parser;
 mod reader;
+mod signature_names;
 mod stage;
 mod terms;
 mod text;

@@ -1,18 +1,19 @@
 //! The reading of bytes. A word or a comment is taken whole, as far as the piece goes; each other byte ends at most two
 //! tokens.
-ghost use Rattle.std.specs.Prelude.{◌≡◌, ℕ, List, ◌<◌, ◌≤◌, ◌+◌, ◌^◌, ◌++◌, [], ◌∷◌, not, ◌==◌, length, get_or, true, Err, IfOk, OnOk, IfErr, IfSome};
+ghost use Rattle.std.specs.Prelude.{◌≡◌, ◌<◌, ◌≤◌, ◌+◌, ◌^◌, [], ◌∷◌, length, get_or, true, IfOk, OnOk};
 ghost use Rattle.lp_spec.specs.Text.{prelude};
 ghost use Rattle.lp_spec.specs.Tokens as tokens;
 ghost use Rattle.dk_read.specs.declared.text.Pending.TheVariants as pending;
 ghost use Rattle.lp_spec.specs.ReadingFaults as reading;
-ghost use Rattle.dk_read.specs.States.{before, state_of, token_in, IsReading, IsTokenKnown, MayBreak};
-ghost use Rattle.dk_read.specs.Texts.{run, Takes, TakesSome, Passed, inside, pending_in, Signs, EndsTokens, Closes, Ends, held_of};
+ghost use Rattle.dk_read.specs.States.{token_in, IsReading, IsTokenKnown};
+ghost use Rattle.dk_read.specs.Texts.{a_byte_on, after_byte_in, after_token_and_byte, run, Takes, TakesSome, Passed, inside, pending_in, Signs, held_of};
 
-use crate::faults::{DkFault, Stop};
+use crate::faults::Stop;
+use crate::heads::{blank_len, comment_len, is_letter, is_space, is_word_byte, sign_of, word_len};
 use crate::parser::Parser;
-use crate::terms::{State, Token};
+use crate::terms::Token;
 use bridge_base::Memory;
-use holide_sig::{Module, PRELUDE};
+use holide_sig::PRELUDE;
 use std::alloc::Global;
 
 /// What the next byte may go on with, with the place at which it began.
@@ -42,7 +43,7 @@ impl Text {
     fn wait(&mut self, pending: Pending) -> Result<(), Stop>
         requires reading { IsReading self.old.parser }
         requires few { self.old.place + 1 < 2 ^ 64 }
-        ensures takes { Takes (reading.Inside (self.old.place + 1) (pending_in self.old.word.items pending) (before self.old.parser) (state_of self.old.parser)) self.new result }
+        ensures takes { Takes (a_byte_on self.old (pending_in self.old.word.items pending)) self.new result }
         ensures reading { OnOk result (IsReading self.new.parser) }
         ensures place { OnOk result (self.new.place ≡ self.old.place + 1) }
     {
@@ -56,7 +57,7 @@ impl Text {
         requires reading { IsReading self.old.parser }
         requires token { IsTokenKnown self.old.parser.names token }
         requires few { self.old.place + 1 < 2 ^ 64 }
-        ensures takes { Takes (reading.after_byte (self.old.place + 1) (before self.old.parser) (state_of self.old.parser) (tokens.goes (tokens.at first (token_in self.old.parser.names token) ∷ []) tokens.Nothing)) self.new result }
+        ensures takes { Takes (after_byte_in self.old (tokens.goes (tokens.at first (token_in self.old.parser.names token) ∷ []) tokens.Nothing)) self.new result }
         ensures reading { OnOk result (IsReading self.new.parser) }
         ensures place { OnOk result (self.new.place ≡ self.old.place + 1) }
     {
@@ -68,7 +69,7 @@ impl Text {
     fn begin(&mut self, byte: u8) -> Result<(), Stop>
         requires reading { IsReading self.old.parser }
         requires few { self.old.place + 1 < 2 ^ 64 }
-        ensures takes { Takes (reading.after_byte (self.old.place + 1) (before self.old.parser) (state_of self.old.parser) (tokens.begins self.old.place byte)) self.new result }
+        ensures takes { Takes (after_byte_in self.old (tokens.begins self.old.place byte)) self.new result }
         ensures reading { OnOk result (IsReading self.new.parser) }
         ensures place { OnOk result (self.new.place ≡ self.old.place + 1) }
     {
@@ -90,7 +91,7 @@ impl Text {
     fn begin_word(&mut self, byte: u8) -> Result<(), Stop>
         requires reading { IsReading self.old.parser }
         requires few { self.old.place + 1 < 2 ^ 64 }
-        ensures takes { Takes (reading.Inside (self.old.place + 1) (tokens.InWord self.old.place (byte ∷ [])) (before self.old.parser) (state_of self.old.parser)) self.new result }
+        ensures takes { Takes (a_byte_on self.old (tokens.InWord self.old.place (byte ∷ []))) self.new result }
         ensures reading { OnOk result (IsReading self.new.parser) }
         ensures place { OnOk result (self.new.place ≡ self.old.place + 1) }
     {
@@ -107,7 +108,7 @@ impl Text {
         requires reading { IsReading self.old.parser }
         requires token { IsTokenKnown self.old.parser.names token }
         requires few { self.old.place + 1 < 2 ^ 64 }
-        ensures takes { Takes (reading.after_byte (self.old.place + 1) (before self.old.parser) (state_of self.old.parser) (tokens.after (tokens.at first (token_in self.old.parser.names token)) (tokens.begins self.old.place byte))) self.new result }
+        ensures takes { Takes (after_token_and_byte self.old (tokens.at first (token_in self.old.parser.names token)) byte) self.new result }
         ensures reading { OnOk result (IsReading self.new.parser) }
         ensures place { OnOk result (self.new.place ≡ self.old.place + 1) }
     {
@@ -121,7 +122,7 @@ impl Text {
     fn end_word(&mut self, first: u64, byte: u8) -> Result<(), Stop>
         requires reading { IsReading self.old.parser }
         requires few { self.old.place + 1 < 2 ^ 64 }
-        ensures takes { Takes (reading.after_byte (self.old.place + 1) (before self.old.parser) (state_of self.old.parser) (tokens.after (tokens.at first (tokens.word_token self.old.word.items)) (tokens.begins self.old.place byte))) self.new result }
+        ensures takes { Takes (after_token_and_byte self.old (tokens.at first (tokens.word_token self.old.word.items)) byte) self.new result }
         ensures reading { OnOk result (IsReading self.new.parser) }
         ensures place { OnOk result (self.new.place ≡ self.old.place + 1) }
     {
@@ -193,7 +194,7 @@ impl Text {
     fn in_word(&mut self, first: u64, byte: u8) -> Result<(), Stop>
         requires reading { IsReading self.old.parser }
         requires few { self.old.place + 1 < 2 ^ 64 }
-        ensures takes { Takes (reading.after_byte (self.old.place + 1) (before self.old.parser) (state_of self.old.parser) (tokens.take_byte (tokens.InWord first self.old.word.items) self.old.place byte)) self.new result }
+        ensures takes { Takes (after_byte_in self.old (tokens.take_byte (tokens.InWord first self.old.word.items) self.old.place byte)) self.new result }
         ensures reading { OnOk result (IsReading self.new.parser) }
         ensures place { OnOk result (self.new.place ≡ self.old.place + 1) }
     {
@@ -452,100 +453,6 @@ impl Text {
         Ok(())
     }
 
-    /// Why the token that is open can't follow, whatever it becomes.
-    pub(crate) fn cut_token(&mut self) -> Option<Stop>
-        requires reading { IsReading self.old.parser }
-        ensures { MayBreak (reading.cut_token (before self.old.parser) (state_of self.old.parser) (pending_in self.old.word.items self.old.pending)) self.new.parser.names result }
-    {
-        match self.pending {
-            Pending::InWord(first) => self.parser.any_word(first),
-            Pending::AfterColon(first) => self.parser.any_colon(first),
-            Pending::AfterMinus(first) => self.parser.stop_of(first, Token::Arrow),
-            Pending::AfterEquals(first) => self.parser.stop_of(first, Token::FatArrow),
-            _ => None,
-        }
-    }
-
-    // The tokens that the end of the text ends.
-    fn end_tokens(&mut self) -> Result<(), Stop>
-        requires reading { IsReading self.old.parser }
-        ensures ends { EndsTokens (reading.answers (reading.advance_all (reading.Goes (before self.old.parser) (state_of self.old.parser)) (tokens.last_tokens (pending_in self.old.word.items self.old.pending))) (tokens.end_at (pending_in self.old.word.items self.old.pending) self.old.place)) self.new result }
-        ensures reading { OnOk result (IsReading self.new.parser) }
-        ensures place { OnOk result (self.new.place ≡ self.old.place) }
-    {
-        match self.pending {
-            Pending::Nothing => Ok(()),
-            Pending::InWord(first) => self.parser.word(first, &self.word),
-            Pending::AfterColon(first) => self.parser.advance(first, Token::Colon),
-            Pending::AfterParen(first) => self.parser.advance(first, Token::LeftParen),
-            Pending::AfterMinus(first)
-            | Pending::AfterEquals(first)
-            | Pending::InComment(first)
-            | Pending::AfterSemicolon(first) => Err(self.parser.stuck(first)),
-        }
-    }
-
-    /// The end of the text.
-    pub(crate) fn end(self) -> Result<Module, DkFault>
-        requires reading { IsReading self.parser }
-        requires few { self.place < 2 ^ 64 }
-        ensures ends { Ends (reading.read_end (inside self)) result }
-    {
-        let mut text = self;
-        match text.close() {
-            Ok(()) => Ok(text.into_module()),
-            Err(fault) => {
-                drop(text);
-                Err(fault)
-            }
-        }
-    }
-
-    // Ends the text, or tells why it can't end here.
-    fn close(&mut self) -> Result<(), DkFault>
-        requires reading { IsReading self.old.parser }
-        requires few { self.old.place < 2 ^ 64 }
-        ensures reads { OnOk result (reading.read_end (inside self.old) ≡ reading.reads (before self.new.parser)) }
-        ensures reading { OnOk result (IsReading self.new.parser) }
-        ensures refuses { IfErr result (λ f. Ends (reading.read_end (inside self.old)) (Err f)) }
-    {
-        match self.close_between() {
-            Ok(()) => Ok(()),
-            Err(stop) => Err(self.parser.fault(stop)),
-        }
-    }
-
-    // Ends the text between two declarations.
-    fn close_between(&mut self) -> Result<(), Stop>
-        requires reading { IsReading self.old.parser }
-        ensures closes { Closes (reading.read_end (inside self.old)) self.new result }
-        ensures reading { OnOk result (IsReading self.new.parser) }
-    {
-        match self.end_tokens() {
-            Ok(()) => self.rest_between(),
-            Err(stop) => Err(stop),
-        }
-    }
-
-    // After the last token a reading is between two declarations.
-    fn rest_between(&mut self) -> Result<(), Stop>
-        requires reading { IsReading self.old.parser }
-        ensures closes { Closes (reading.answers (reading.Goes (before self.old.parser) (state_of self.old.parser)) (tokens.ended self.old.place)) self.new result }
-        ensures reading { OnOk result (IsReading self.new.parser) }
-    {
-        match self.parser.state {
-            State::Between => Ok(()),
-            _ => Err(self.parser.stuck(self.place)),
-        }
-    }
-
-    // The module that has been read.
-    fn into_module(self) -> Module
-        ensures { result ≡ self.parser.module }
-    {
-        self.parser.module
-    }
-
     /// A reading of the text after the signature's own.
     pub(crate) fn new(alloc: Global) -> Result<Text, Memory>
         ensures inside { IfOk result (λ t. inside t ≡ reading.Inside (length prelude) tokens.Nothing [] reading.Between) }
@@ -568,156 +475,5 @@ impl Text {
             Pending::InWord(_) => self.word.len(),
             _ => 0,
         }
-    }
-}
-
-// The sign at the head of a piece, with how many bytes it has. None where the piece ends before it is known, and where none
-// stands there.
-fn sign_of(piece: &[u8]) -> Option<(Token, usize)>
-    ensures signs { IfSome result (λ s. Signs piece.now s.1 s.0) }
-{
-    if piece.len() < 2 {
-        return None;
-    }
-    sign_by(piece[0], piece[1])
-}
-
-// The sign that begins by these two bytes, with how many bytes it has, if it is known by them.
-fn sign_by(first: u8, second: u8) -> Option<(Token, usize)>
-    ensures signs { IfSome result (λ s. (more : List ℕ) → Signs (first ∷ second ∷ more) s.1 s.0) }
-{
-    match first {
-        b'(' => {
-            if second == b';' {
-                None
-            } else {
-                Some((Token::LeftParen, 1))
-            }
-        }
-        b')' => Some((Token::RightParen, 1)),
-        b':' => {
-            if second == b'=' {
-                Some((Token::Assign, 2))
-            } else {
-                Some((Token::Colon, 1))
-            }
-        }
-        b'-' => {
-            if second == b'>' {
-                Some((Token::Arrow, 2))
-            } else {
-                None
-            }
-        }
-        b'=' => {
-            if second == b'>' {
-                Some((Token::FatArrow, 2))
-            } else {
-                None
-            }
-        }
-        b'.' => Some((Token::Dot, 1)),
-        _ => None,
-    }
-}
-
-// How many bytes of a word stand at the head.
-fn word_len(bytes: &[u8]) -> usize
-    ensures run { result ≡ run tokens.is_word_byte bytes.now }
-    ensures within { result ≤ length bytes.now }
-{
-    let mut count = 0;
-    let mut rest = bytes;
-    while let [byte, more @ ..] = rest {
-        if !is_word_byte(*byte) {
-            return count;
-        }
-        rest = more;
-        count += 1;
-    }
-    count
-}
-
-// How many blanks stand at the head.
-fn blank_len(bytes: &[u8]) -> usize
-    ensures run { result ≡ run tokens.is_space bytes.now }
-    ensures within { result ≤ length bytes.now }
-{
-    let mut count = 0;
-    let mut rest = bytes;
-    while let [byte, more @ ..] = rest {
-        if !is_space(*byte) {
-            return count;
-        }
-        rest = more;
-        count += 1;
-    }
-    count
-}
-
-// How many bytes stand before the first `;`.
-fn comment_len(bytes: &[u8]) -> usize
-    ensures run { result ≡ run (λ b. not (b == 59)) bytes.now }
-    ensures within { result ≤ length bytes.now }
-{
-    let mut count = 0;
-    let mut rest = bytes;
-    while let [byte, more @ ..] = rest {
-        if *byte == 59 {
-            return count;
-        }
-        rest = more;
-        count += 1;
-    }
-    count
-}
-
-// A letter.
-fn is_letter(byte: u8) -> bool
-    ensures { result ≡ tokens.is_letter byte }
-{
-    match byte {
-        b'a'..=b'z' | b'A'..=b'Z' => true,
-        _ => false,
-    }
-}
-
-// Which bytes are a letter, a digit or `_`.
-const WORD_BYTES: [bool; 256] = [
-    false, false, false, false, false, false, false, false, false, false, false, false, false,
-    false, false, false, false, false, false, false, false, false, false, false, false, false,
-    false, false, false, false, false, false, false, false, false, false, false, false, false,
-    false, false, false, false, false, false, false, false, false, true, true, true, true, true,
-    true, true, true, true, true, false, false, false, false, false, false, false, true, true,
-    true, true, true, true, true, true, true, true, true, true, true, true, true, true, true, true,
-    true, true, true, true, true, true, true, true, false, false, false, false, true, false, true,
-    true, true, true, true, true, true, true, true, true, true, true, true, true, true, true, true,
-    true, true, true, true, true, true, true, true, true, false, false, false, false, false, false,
-    false, false, false, false, false, false, false, false, false, false, false, false, false,
-    false, false, false, false, false, false, false, false, false, false, false, false, false,
-    false, false, false, false, false, false, false, false, false, false, false, false, false,
-    false, false, false, false, false, false, false, false, false, false, false, false, false,
-    false, false, false, false, false, false, false, false, false, false, false, false, false,
-    false, false, false, false, false, false, false, false, false, false, false, false, false,
-    false, false, false, false, false, false, false, false, false, false, false, false, false,
-    false, false, false, false, false, false, false, false, false, false, false, false, false,
-    false, false, false, false, false, false, false, false, false, false, false, false, false,
-    false, false, false, false, false, false, false, false, false, false,
-];
-
-// A letter, a digit or `_`.
-fn is_word_byte(byte: u8) -> bool
-    ensures { result ≡ tokens.is_word_byte byte }
-{
-    WORD_BYTES[byte as usize]
-}
-
-// A blank, a tab, a line feed or a carriage return.
-fn is_space(byte: u8) -> bool
-    ensures { result ≡ tokens.is_space byte }
-{
-    match byte {
-        b' ' | b'\n' | b'\t' | b'\r' => true,
-        _ => false,
     }
 }

@@ -12,6 +12,7 @@ use Rattle.holide_sig.specs.Modules.{declarations_of}
 use Rattle.lp_shape.specs.Check.{Infer, Plan, Ask, infer, found_if}
 use Rattle.lp_shape.specs.PlanLaws.{and_then, Leaves, leaves_equal, leaves_then, leaves_fewer, leaves_ask}
 use Rattle.lp_conv.specs.GrowthLaws.{AreKnown-Keeps}
+use Rattle.lp_kernel.specs.declared.state.Application.{Application}
 use Rattle.lp_kernel.specs.declared.state.Frame.{Frame}
 use Rattle.lp_kernel.specs.declared.state.Frame.TheVariants as frame
 use Rattle.lp_kernel.specs.declared.state.Next.{Next}
@@ -29,7 +30,7 @@ module _ (rechecks : Bool) (ds : List Declaration) (G : List Tree) (rest : Tree 
       (leaves_fewer ds rechecks le (leaves_then ds rechecks (leaves_ask ds rechecks (Infer G u) rest) (leaves_equal ds rechecks is)))
 
 module _ (rechecks : Bool) (ds : List Declaration) (ts : List Tree) (c : List LpId) (fs new : List Frame) (id : LpId) (spent : ℕ) where
-  pub asked-application : (f x : LpId) → Holds ts id.0 (App (tree_at ts f.0) (tree_at ts x.0)) → new ≡ frame.Function f x id ∷ fs → spent ≤ 1
+  pub asked-application : (f x : LpId) → Holds ts id.0 (App (tree_at ts f.0) (tree_at ts x.0)) → new ≡ frame.Function (record { function = f; argument = x; whole = id }) ∷ fs → spent ≤ 1
       → Leaves ds rechecks (Ask (Infer (trees_at ts c) (tree_at ts id.0)) (resume rechecks ds ts c fs)) spent (Ask (Infer (trees_at ts c) (tree_at ts f.0)) (resume rechecks ds ts c new))
   asked-application f x at e le =
       subst (λ l. Leaves ds rechecks (Ask (Infer (trees_at ts c) (tree_at ts id.0)) (resume rechecks ds ts c fs)) spent (Ask (Infer (trees_at ts c) (tree_at ts f.0)) (resume rechecks ds ts c l))) (sym e)
@@ -93,19 +94,19 @@ lifted-entry ts us c n k entry r s known e h is =
 pub kept-entry : (ts : List Tree) (c : List LpId) (n k : ℕ) (entry r : LpId) → Some entry ≡ slice_get c n → IsLift ts entry k r → k ≡ suc n → variable_type ts c n ≡ Some (tree_at ts r.0)
 kept-entry ts c n k entry r e h is = ap (option_map (lift (suc n))) (sym (entry-of ts c n (Some entry) e)) ∙ ap Some (ap (λ j. lift j (tree_at ts entry.0)) (sym is) ∙ sym h.is)
 
-pub known-application : {ts us : List Tree} → Keeps ts us → (f x w : LpId) → IsApplication ts f x w → IsApplication us f x w
-known-application {us = us} k f x w h = record {
+pub known-application : {ts us : List Tree} → Keeps ts us → (e : Application) → IsApplication ts e → IsApplication us e
+known-application {us = us} k e h = record {
   function = omega (arith, k.longer, h.function);
   argument = omega (arith, k.longer, h.argument);
   whole = omega (arith, k.longer, h.whole);
-  is = subst₂ (λ F X. Holds us w.0 (App F X)) (tree_at-Stays k.stays f.0 h.function) (tree_at-Stays k.stays x.0 h.argument) (k.stays.each w.0 _ h.is);
+  is = subst₂ (λ F X. Holds us e.whole.0 (App F X)) (tree_at-Stays k.stays e.function.0 h.function) (tree_at-Stays k.stays e.argument.0 h.argument) (k.stays.each e.whole.0 _ h.is);
 }
 
 known-frame : {ts us : List Tree} → Keeps ts us → (f : Frame) → IsKnownFrame ts f → IsKnownFrame us f
-known-frame k (frame.Function f x w) h = known-application k f x w h
-known-frame k (frame.Reached p f x w) h = (omega (arith, k.longer, h.0), known-application k f x w h.1)
-known-frame k (frame.Argument a b j f w) h = (omega (arith, k.longer, h.0), omega (arith, k.longer, h.1), omega (arith, k.longer, h.2), omega (arith, k.longer, h.3))
-known-frame k (frame.Expected a b j w y) h = (omega (arith, k.longer, h.0), omega (arith, k.longer, h.1), omega (arith, k.longer, h.2), omega (arith, k.longer, h.3))
+known-frame k (frame.Function e) h = known-application k e h
+known-frame k (frame.Reached p e) h = (omega (arith, k.longer, h.0), known-application k e h.1)
+known-frame k (frame.Argument e) h = (omega (arith, k.longer, h.0), omega (arith, k.longer, h.1), known-application k e.app h.2)
+known-frame k (frame.Expected e) h = (omega (arith, k.longer, h.0), omega (arith, k.longer, h.1), omega (arith, k.longer, h.2), omega (arith, k.longer, h.3))
 known-frame k (frame.Domain a b) h = (omega (arith, k.longer, h.0), omega (arith, k.longer, h.1))
 known-frame k (frame.Body a) h = omega (arith, k.longer, h)
 known-frame k (frame.ProductDomain a b) h = (omega (arith, k.longer, h.0), omega (arith, k.longer, h.1))

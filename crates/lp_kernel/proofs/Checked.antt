@@ -133,8 +133,10 @@ module _ (rechecks : Bool) (m k : Module) (g : Grows m k) (held : IsHeld m) (i :
   D = declaration_in m.table d
 
   -- what a declaration's check answers, where its type has the sort of types
-  pub sorted-replied : Holds k.table sort.0 SortType → (new : ℕ) (a : Answer) → new ≤ mid → IsReplied rechecks (declarations_of k) (body_plan (tree_at k.table d.ty.0) (tree_if k.table d.body)) (tree_at k.table d.ty.0) mid new a → IsReplied rechecks (declarations_of m) (declaration_plan D) D.ty old new a
-  sorted-replied is new a ln r =
+  pub sorted-replied : Holds k.table sort.0 SortType → (new : ℕ) (a : Answer) → new ≤ mid → (by : Bool) → by ≡ rechecks → IsReplied by (declarations_of k) (body_plan (tree_at k.table d.ty.0) (tree_if k.table d.body)) (tree_at k.table d.ty.0) mid new a
+      → IsReplied rechecks (declarations_of m) (declaration_plan D) D.ty old new a
+  sorted-replied is new a ln by same replied =
+      let r = subst (λ b. IsReplied b (declarations_of k) (body_plan (tree_at k.table d.ty.0) (tree_if k.table d.body)) (tree_at k.table d.ty.0) mid new a) same replied in
       let known = decl-known m i d held at in
       let E = tree_at m.table d.ty.0 in
       let body = body-replied rechecks (declarations_of m) (declarations_of k) E (tree_at k.table d.ty.0) D.body (tree_if k.table d.body) mid new a (declarations_of-Grows m k g held) (sym (tree_at-Stays g.keeps.stays d.ty.0 known.ty)) (body-stays g.keeps.stays d.body known.body) r in

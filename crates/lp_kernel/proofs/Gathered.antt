@@ -13,12 +13,13 @@ use Rattle.holide_sig.specs.declared.module.Module.{Module}
 use Rattle.holide_sig.specs.Modules.{declarations_of}
 use Rattle.lp_shape.specs.Check.{Infer, Ask}
 use Rattle.lp_shape.specs.PlanLaws.{Leaves, leaves_equal, leaves_fewer}
+use Rattle.lp_kernel.specs.declared.state.Application.{Application}
 use Rattle.lp_kernel.specs.declared.state.Frame.{Frame}
 use Rattle.lp_kernel.specs.declared.state.Frame.TheVariants as frame
 use Rattle.lp_kernel.specs.declared.state.Next.TheVariants as next
 use Rattle.lp_kernel.specs.declared.state.State.{State}
 use Rattle.lp_kernel.specs.Pending.{spine_args, resume, AreKnownFrames, IsApplication, IsKnownState, IsFilled, IsAwaited, IsMade}
-use Rattle.lp_kernel.proofs.Told.{told-under, filled-here}
+use Rattle.lp_kernel.proofs.Told.{met, told-under, filled-here}
 
 -- what is true while they are gathered: those that were, the last first, come after those that are left
 pub record AreGathered (ts : List Tree) (k : ℕ) (f : LpId) (args : List LpId) (left : ℕ) (at : LpId) : Type 0 where
@@ -48,18 +49,18 @@ pub gathered-end : (ts : List Tree) (k : ℕ) (f at : LpId) (args : List LpId) (
 gathered-end ts k f at args left h none = sym (h.are ∙ ap (λ l. l ++ trees_at ts (reverse args)) none)
 
 -- the argument of a function whose type is a product that is to have arguments put in
-pub awaited-argument : (m : Module) (s : State) (b : LpId) (k : ℕ) (g a c f x w : LpId) (mid new : List Frame) → IsKnownState m.table s → Holds m.table b.0 (Pi (tree_at m.table a.0) (tree_at m.table c.0)) → a.0 < length m.table → c.0 < length m.table → f.0 ≡ g.0
-    → s.frames ≡ frame.Function f x w ∷ mid → new ≡ frame.Argument a c k f w ∷ mid → IsAwaited m s b k g (record { context = s.context; frames = new; key = s.key }) (Some x)
-awaited-argument m s b k g a c f x w mid new hs at ha hc same popped pushed =
+pub awaited-argument : (m : Module) (s : State) (b : LpId) (k : ℕ) (g a c : LpId) (e : Application) (mid new : List Frame) → IsKnownState m.table s → Holds m.table b.0 (Pi (tree_at m.table a.0) (tree_at m.table c.0)) → a.0 < length m.table → c.0 < length m.table → e.function.0 ≡ g.0
+    → s.frames ≡ frame.Function e ∷ mid → new ≡ met a c k e ∷ mid → IsAwaited m s b k g (record { context = s.context; frames = new; key = s.key }) (Some e.argument)
+awaited-argument m s b k g a c e mid new hs at ha hc same popped pushed =
     let known = subst (AreKnownFrames m.table) popped hs.frames in
-    (known.0.argument, record { context = hs.context; frames = subst (AreKnownFrames m.table) (sym pushed) ((ha, hc, known.0.function, known.0.whole), known.1) }, ap length pushed ∙ sym (ap length popped), turned known.0)
+    (known.0.argument, record { context = hs.context; frames = subst (AreKnownFrames m.table) (sym pushed) ((ha, hc, known.0), known.1) }, ap length pushed ∙ sym (ap length popped), turned known.0)
   where
-    turned : IsApplication m.table f x w → (rechecks : Bool) (left : ℕ) → IsMade rechecks m s b k g left (record { context = s.context; frames = new; key = s.key }) (next.Ask x)
+    turned : IsApplication m.table e → (rechecks : Bool) (left : ℕ) → IsMade rechecks m s b k g left (record { context = s.context; frames = new; key = s.key }) (next.Ask e.argument)
     turned app rechecks left =
         let none : left - left ≤ 0 = omega arith in
-        subst (λ l. Leaves (declarations_of m) rechecks (resume rechecks (declarations_of m) m.table s.context l (put_all (spine_args k (tree_at m.table g.0)) (tree_at m.table b.0))) (left - left) (Ask (Infer (trees_at m.table s.context) (tree_at m.table x.0)) (resume rechecks (declarations_of m) m.table s.context new))) (sym popped)
-        (subst (λ n. Leaves (declarations_of m) rechecks (resume rechecks (declarations_of m) m.table s.context (frame.Function f x w ∷ mid) (put_all (spine_args k (tree_at m.table n)) (tree_at m.table b.0))) (left - left) (Ask (Infer (trees_at m.table s.context) (tree_at m.table x.0)) (resume rechecks (declarations_of m) m.table s.context new))) same
-        (told-under rechecks (declarations_of m) m.table s.context mid f x w b a c k new (left - left) at app pushed none))
+        subst (λ l. Leaves (declarations_of m) rechecks (resume rechecks (declarations_of m) m.table s.context l (put_all (spine_args k (tree_at m.table g.0)) (tree_at m.table b.0))) (left - left) (Ask (Infer (trees_at m.table s.context) (tree_at m.table e.argument.0)) (resume rechecks (declarations_of m) m.table s.context new))) (sym popped)
+        (subst (λ n. Leaves (declarations_of m) rechecks (resume rechecks (declarations_of m) m.table s.context (frame.Function e ∷ mid) (put_all (spine_args k (tree_at m.table n)) (tree_at m.table b.0))) (left - left) (Ask (Infer (trees_at m.table s.context) (tree_at m.table e.argument.0)) (resume rechecks (declarations_of m) m.table s.context new))) same
+        (told-under rechecks (declarations_of m) m.table s.context mid e b a c k new (left - left) at app pushed none))
 
 -- a type that is made
 pub made-type : (rechecks : Bool) (m : Module) {ts : List Tree} (s t : State) (b : LpId) (k : ℕ) (g made : LpId) → Stays ts m.table → b.0 < length ts → g.0 < length ts → IsFilled ts b k g m.table made → t ≡ s → (left : ℕ) → IsMade rechecks m s b k g left t (next.Tell made)

@@ -5,6 +5,7 @@ use Rattle.std.proofs.lemmas.Bool.{cases_lt}
 use Rattle.std.proofs.lemmas.List.{length-map}
 use Rattle.std.proofs.lemmas.Option.{slice_get_within, same_Some}
 use Rattle.std.proofs.Math.Nat.{eq-or-lt_of_le}
+use Rattle.std.proofs.Math.Path.{subst₂}
 use Rattle.lp_spec.specs.Trees.{Tree}
 use Rattle.lp_spec.specs.Modules.{Declaration}
 use Rattle.lp_spec.specs.ModuleOrder.{IsModule}
@@ -92,18 +93,24 @@ products-cut from m types fewer held g right noted = record { each = each }
               (subst (λ u. Answered (declarations_of m) true (reach (declarations_of m) (tree_at m.table t.0)) (Found u) 1) (sym f) fact.answered));
         }
 
-right-cut : (rechecks : Bool) (from m : Module) (memo fewer : Memos) → IsHeld from → Grows from m → AreRight rechecks (declarations_of m) m.table memo → IsCutOff memo.types fewer.types (length from.table) → IsCutOff memo.products fewer.products (length from.table) → fewer.lifts ≡ [] → fewer.open_types ≡ []
+right-cut : (rechecks : Bool) (from m : Module) (memo fewer : Memos) → IsHeld from → Grows from m → AreRight rechecks (declarations_of m) m.table memo → fewer.turns.rechecks ≡ memo.turns.rechecks → IsCutOff memo.types fewer.types (length from.table) → IsCutOff memo.turns.products fewer.turns.products (length from.table) → fewer.lifts ≡ [] → fewer.open_types ≡ []
     → AreRight rechecks (declarations_of from) from.table fewer
-right-cut rechecks from m memo fewer held g right h k l o = record { types = types-cut rechecks from m memo.types fewer.types held g right.types h; products = products-cut from m memo.products fewer.products held g right.products k; lifts = AreLifts-nil from.table fewer.lifts l; open_types = open-nil rechecks (declarations_of from) from.table fewer.contexts fewer.open_types o }
+right-cut rechecks from m memo fewer held g right by h k l o = record {
+  rechecked = by ∙ right.rechecked;
+  types = types-cut rechecks from m memo.types fewer.types held g right.types h;
+  products = products-cut from m memo.turns.products fewer.turns.products held g right.products k;
+  lifts = AreLifts-nil from.table fewer.lifts l;
+  open_types = open-nil rechecks (declarations_of from) from.table fewer.turns.contexts fewer.open_types o;
+}
 
 -- a module that is cut back to another's nodes is the other
 pub cut-back : (rechecks : Bool) (from m : Module) (front : List Tree) (kept : ℕ) (memo fewer : Memos) → length from.table ≡ kept → IsHeld from → Grows from m → AreRight rechecks (declarations_of m) m.table memo → front ≡ take kept m.table
-    → IsCutOff memo.types fewer.types kept → IsCutOff memo.products fewer.products kept → fewer.lifts ≡ [] → fewer.open_types ≡ [] → IsCutBack rechecks from (record { table = front; decls = m.decls }) fewer
-cut-back rechecks from m front kept memo fewer long held g right is h k l o =
+    → fewer.turns.rechecks ≡ memo.turns.rechecks → IsCutOff memo.types fewer.types kept → IsCutOff memo.turns.products fewer.turns.products kept → fewer.lifts ≡ [] → fewer.open_types ≡ [] → IsCutBack rechecks from (record { table = front; decls = m.decls }) fewer
+cut-back rechecks from m front kept memo fewer long held g right is by h k l o =
     let same : front ≡ from.table = is ∙ ap (λ n. take n m.table) (sym long) ∙ take-Stays from.table m.table g.keeps.stays in
     subst (λ (ts : List Tree). IsCutBack rechecks from (record { table = ts; decls = m.decls }) fewer) (sym same)
     (subst (λ (ds : List Decl). IsCutBack rechecks from (record { table = from.table; decls = ds }) fewer) (sym g.decls)
-    (record { grows = Grows-refl from; right = right-cut rechecks from m memo fewer held g right (subst (IsCutOff memo.types fewer.types) (sym long) h) (subst (IsCutOff memo.products fewer.products) (sym long) k) l o }))
+    (record { grows = Grows-refl from; right = right-cut rechecks from m memo fewer held g right by (subst (IsCutOff memo.types fewer.types) (sym long) h) (subst (IsCutOff memo.turns.products fewer.turns.products) (sym long) k) l o }))
 
 pub passing-start : (rechecks : Bool) (m : Module) → IsHeld m → ArePassing rechecks m m 0
 passing-start rechecks m held = record { grows = Grows-refl m; held = held; same = refl; below = λ k lt. absurd (omega (arith, lt)) }
@@ -112,20 +119,20 @@ passing-start rechecks m held = record { grows = Grows-refl m; held = held; same
 pub passing-cut : (rechecks : Bool) (from m back : Module) (i : ℕ) → ArePassing rechecks from m i → IsHeld from → Grows from back → ArePassing rechecks from back i
 passing-cut rechecks from m back i p held g = record { grows = g; held = IsHeld-Grows from back g held; same = declarations_of-Grows from back g held; below = p.below }
 
-module _ (rechecks : Bool) (from m k : Module) (i old new : ℕ) (s : ArePassing rechecks from m i) (g : Grows m k) where
-  pub passing-more : IsChecked rechecks (declarations_of m) i old new answer.Yes → ArePassing rechecks from k (i + 1)
+module _ (rechecks : Bool) (from m k : Module) (i old new : ℕ) (s : ArePassing rechecks from m i) (g : Grows m k) (by : Bool) (is : by ≡ rechecks) where
+  pub passing-more : IsChecked by (declarations_of m) i old new answer.Yes → ArePassing rechecks from k (i + 1)
   passing-more h = record {
     grows = Grows-trans s.grows g;
     held = IsHeld-Grows m k g s.held;
     same = declarations_of-Grows m k g s.held ∙ s.same;
-    below = below-more rechecks (declarations_of from) i s.below (let y = subst (λ ds. SaysYes rechecks ds i (old - new)) s.same h in record { found = y.found; price = y.price; by = y.by });
+    below = below-more rechecks (declarations_of from) i s.below (let y = subst₂ (λ r ds. SaysYes r ds i (old - new)) is s.same h in record { found = y.found; price = y.price; by = y.by });
   }
 
-  pub passing-no : IsChecked rechecks (declarations_of m) i old new answer.No → IsIllTyped rechecks (declarations_of from) i
-  passing-no h = let n = subst (λ ds. SaysNo rechecks ds i (old - new)) s.same h in record { before = s.below; price = n.price; no = n.by }
+  pub passing-no : IsChecked by (declarations_of m) i old new answer.No → IsIllTyped rechecks (declarations_of from) i
+  passing-no h = let n = subst₂ (λ r ds. SaysNo r ds i (old - new)) is s.same h in record { before = s.below; price = n.price; no = n.by }
 
-  pub passing-over : (budgets : List ℕ) → slice_get budgets i ≡ Some old → IsChecked rechecks (declarations_of m) i old new answer.Over → IsPastBudget rechecks (declarations_of from) budgets i
-  passing-over budgets at h = record { before = s.below; budget = old; at = at; over = subst (λ ds. IsOverBudget rechecks ds i old) s.same h }
+  pub passing-over : (budgets : List ℕ) → slice_get budgets i ≡ Some old → IsChecked by (declarations_of m) i old new answer.Over → IsPastBudget rechecks (declarations_of from) budgets i
+  passing-over budgets at h = record { before = s.below; budget = old; at = at; over = subst₂ (λ r ds. IsOverBudget r ds i old) is s.same h }
 
 module _ (rechecks : Bool) (ds : List Declaration) (budgets : List ℕ) where
   same-budget : (i : ℕ) {a b : ℕ} → slice_get budgets i ≡ Some a → slice_get budgets i ≡ Some b → a ≡ b

@@ -30,6 +30,7 @@ use Rattle.lp_kernel.proofs.KeyLaws.{key-one, key-more, more-refl, keyed-same}
 use Rattle.lp_kernel.proofs.LiftedLaws.{AreLifts-nil, AreLifts-Keeps}
 use Rattle.lp_kernel.proofs.RightLaws.{open-nil, open-stays, right-more}
 use Rattle.lp_kernel.specs.declared.memo.Memos.{Memos}
+use Rattle.lp_kernel.specs.declared.memo.Turns.{Turns}
 use Rattle.lp_kernel.specs.declared.contexts.Scope.{Scope}
 use Rattle.lp_kernel.specs.Keys.{IsKey, IsKeyed, AreMore, IsSamePlace}
 use Rattle.lp_kernel.specs.Noted.{IsNoted, IsEmpty, IsTypeOfClosed, AreTypes, AreProducts, IsTakenUp}
@@ -124,20 +125,33 @@ types-stay rechecks m k es held g h = record { each = each }
 
 -- and so does all that is noted
 pub right-stays : (rechecks : Bool) (m k : Module) (memo : Memos) → IsHeld m → Grows m k → AreRight rechecks (declarations_of m) m.table memo → AreRight rechecks (declarations_of k) k.table memo
-right-stays rechecks m k memo held g h = record { types = types-stay rechecks m k memo.types held g h.types; products = AreProducts-Grows m k memo.products held g h.products; lifts = AreLifts-Keeps g.keeps memo.lifts h.lifts; open_types = open-stays rechecks m k memo.contexts memo.open_types held g h.open_types }
+right-stays rechecks m k memo held g h = record {
+  rechecked = h.rechecked;
+  types = types-stay rechecks m k memo.types held g h.types;
+  products = AreProducts-Grows m k memo.turns.products held g h.products;
+  lifts = AreLifts-Keeps g.keeps memo.lifts h.lifts;
+  open_types = open-stays rechecks m k memo.turns.contexts memo.open_types held g h.open_types;
+}
 
 -- at first nothing is noted
 pub empty-products : (ds : List Declaration) (ts : List Tree) (es : List ℕ) → IsEmpty es → AreProducts ds ts es
 empty-products ds ts es h = record { each = λ t r i. absurd (h t r i) }
 
-pub empty-right : (rechecks : Bool) (ds : List Declaration) (ts : List Tree) (memo : Memos) → IsEmpty memo.types → IsEmpty memo.products → memo.lifts ≡ [] → memo.open_types ≡ [] → AreRight rechecks ds ts memo
-empty-right rechecks ds ts memo h k l o = record { types = record { each = λ t r i. absurd (h t r i) }; products = empty-products ds ts memo.products k; lifts = AreLifts-nil ts memo.lifts l; open_types = open-nil rechecks ds ts memo.contexts memo.open_types o }
+pub empty-right : (rechecks : Bool) (ds : List Declaration) (ts : List Tree) (memo : Memos) → memo.turns.rechecks ≡ rechecks → IsEmpty memo.types → IsEmpty memo.turns.products → memo.lifts ≡ [] → memo.open_types ≡ [] → AreRight rechecks ds ts memo
+empty-right rechecks ds ts memo by h k l o = record {
+  rechecked = by;
+  types = record { each = λ t r i. absurd (h t r i) };
+  products = empty-products ds ts memo.turns.products k;
+  lifts = AreLifts-nil ts memo.lifts l;
+  open_types = open-nil rechecks ds ts memo.turns.contexts memo.open_types o;
+}
 
 -- a type that is found of a closed tree, in some context, may be noted for all
 pub right-closed : (rechecks : Bool) (ds : List Declaration) (ts : List Tree) (memo : Memos) (key : ℕ) (id found : LpId) (new : List ℕ) → IsClosed ds → loose (tree_at ts id.0) ≡ 0
-    → ((t r : LpId) → IsNoted new t r → IsNoted memo.types t r ⊎ ((t ≡ id) × (r ≡ found))) → AreRight rechecks ds ts memo → IsTypeIn rechecks ds ts memo.contexts key id found
-    → AreRight rechecks ds ts (record { types = new; products = memo.products; lifts = memo.lifts; contexts = memo.contexts; open_types = memo.open_types })
+    → ((t r : LpId) → IsNoted new t r → IsNoted memo.types t r ⊎ ((t ≡ id) × (r ≡ found))) → AreRight rechecks ds ts memo → IsTypeIn rechecks ds ts memo.turns.contexts key id found
+    → AreRight rechecks ds ts (record { types = new; lifts = memo.lifts; open_types = memo.open_types; turns = memo.turns })
 right-closed rechecks ds ts memo key id found new are closed noted h fact = record {
+  rechecked = h.rechecked;
   types = record { each = λ t r i. ⊎_elim (λ old. h.types.each t r old) (λ e. subst (λ x. IsTypeOfClosed rechecks ds ts x r) (sym e.0) (subst (λ y. IsTypeOfClosed rechecks ds ts id y) (sym e.1) is)) (noted t r i) };
   products = h.products;
   lifts = h.lifts;
@@ -160,8 +174,8 @@ pub record IsNoting (rechecks : Bool) (from m : Module) (id : LpId) (all here : 
   pub question : Plan
   pub start : ℕ
   pub level : IsLevel rechecks m question start here s n
-  pub keyed : IsKeyed es.contexts s
-  pub waiting : AreWaiting rechecks m es.contexts (typing [] (tree_at from.table id.0)) all ws question start
+  pub keyed : IsKeyed es.turns.contexts s
+  pub waiting : AreWaiting rechecks m es.turns.contexts (typing [] (tree_at from.table id.0)) all ws question start
   pub right : AreRight rechecks (declarations_of m) m.table es
 
 pub start-noting : (rechecks : Bool) (m : Module) (id : LpId) (all : ℕ) (ws : List Waiting) (s : State) (es : Memos) → IsHeld m → id.0 < length m.table → AreRight rechecks (declarations_of m) m.table es → s.context ≡ [] → s.key ≡ 0 → s.frames ≡ [] → ws ≡ []
@@ -173,17 +187,17 @@ start-noting rechecks m id all ws s es held known right e k f w = record {
   question = typing (trees_at m.table s.context) (tree_at m.table id.0);
   start = all;
   level = start-level rechecks m id all s known (subst (AreKnown m.table) (sym e) tt) f;
-  keyed = subst (IsKey es.contexts s.key) (sym e) k;
-  waiting = subst (λ l. AreWaiting rechecks m es.contexts (typing [] (tree_at m.table id.0)) all l (typing (trees_at m.table s.context) (tree_at m.table id.0)) all) (sym w) (ap (λ c. typing (trees_at m.table c) (tree_at m.table id.0)) e, refl);
+  keyed = subst (IsKey es.turns.contexts s.key) (sym e) k;
+  waiting = subst (λ l. AreWaiting rechecks m es.turns.contexts (typing [] (tree_at m.table id.0)) all l (typing (trees_at m.table s.context) (tree_at m.table id.0)) all) (sym w) (ap (λ c. typing (trees_at m.table c) (tree_at m.table id.0)) e, refl);
   right = right;
 }
 
 module _ (rechecks : Bool) (from m : Module) (id : LpId) (all here : ℕ) (ws : List Waiting) (s : State) where
   -- a turn of the question that is asked
-  pub noting-turn : (k : Module) (there : ℕ) (t : State) (n o : Next) (es : Memos) (scopes : List Scope) → IsNoting rechecks from m id all here ws s n es → (n ≡ next.Over → ⊥) → Grows m k → IsKnownState k.table t → IsKnownNext k.table o → there ≤ here
-      → IsTurned rechecks k (pending rechecks (declarations_of k) k.table s n) here there t o → AreMore es.contexts scopes → (IsKeyed es.contexts s → IsKeyed scopes t)
-      → IsNoting rechecks from k id all there ws t o (record { types = es.types; products = es.products; lifts = es.lifts; contexts = scopes; open_types = es.open_types })
-  noting-turn k there t n o es scopes l not g ht ho le b more keyed = record {
+  pub noting-turn : (k : Module) (there : ℕ) (t : State) (n o : Next) (es : Memos) (turns : Turns) → IsNoting rechecks from m id all here ws s n es → (n ≡ next.Over → ⊥) → Grows m k → IsKnownState k.table t → IsKnownNext k.table o → there ≤ here
+      → IsTurned rechecks k (pending rechecks (declarations_of k) k.table s n) here there t o → AreMore es.turns.contexts turns.contexts → (IsKeyed es.turns.contexts s → IsKeyed turns.contexts t) → turns.rechecks ≡ es.turns.rechecks → AreProducts (declarations_of k) k.table turns.products
+      → IsNoting rechecks from k id all there ws t o (record { types = es.types; lifts = es.lifts; open_types = es.open_types; turns = turns })
+  noting-turn k there t n o es turns l not g ht ho le b more keyed by products = record {
     grows = Grows-trans l.grows g;
     held = IsHeld-Grows m k g l.held;
     less = omega (arith, l.less, le);
@@ -191,19 +205,19 @@ module _ (rechecks : Bool) (from m : Module) (id : LpId) (all here : ℕ) (ws : 
     start = l.start;
     level = next-level rechecks m k l.question l.start here there s t n o l.held l.level not g ht ho le b;
     keyed = keyed l.keyed;
-    waiting = waiting-stays rechecks m k es.contexts scopes (typing [] (tree_at from.table id.0)) all ws l.question l.start l.held g more l.waiting;
-    right = right-more rechecks (declarations_of k) k.table es scopes more (right-stays rechecks m k es l.held g l.right);
+    waiting = waiting-stays rechecks m k es.turns.contexts turns.contexts (typing [] (tree_at from.table id.0)) all ws l.question l.start l.held g more l.waiting;
+    right = right-more rechecks (declarations_of k) k.table es turns more by products (right-stays rechecks m k es l.held g l.right);
   }
 
   -- a turn in the same context
   pub noting-same : (k : Module) (there : ℕ) (t : State) (n o : Next) (es : Memos) → IsNoting rechecks from m id all here ws s n es → (n ≡ next.Over → ⊥) → Grows m k → IsKnownState k.table t → IsKnownNext k.table o → there ≤ here
       → IsTurned rechecks k (pending rechecks (declarations_of k) k.table s n) here there t o → IsSamePlace s t → IsNoting rechecks from k id all there ws t o es
-  noting-same k there t n o es l not g ht ho le b same = noting-turn k there t n o es es.contexts l not g ht ho le b (more-refl es.contexts) (keyed-same es.contexts s t same)
+  noting-same k there t n o es l not g ht ho le b same = noting-turn k there t n o es es.turns l not g ht ho le b (more-refl es.turns.contexts) (keyed-same es.turns.contexts s t same) refl (AreProducts-Grows m k es.turns.products l.held g l.right.products)
 
   -- a turn that asks for a type
   pub noting-asked : (k : Module) (there : ℕ) (t : State) (tree : LpId) (o : Next) (es : Memos) → IsNoting rechecks from m id all here ws s (next.Ask tree) es → Grows m k → IsKnownState k.table t → IsKnownNext k.table o → there ≤ here
       → IsTurned rechecks k (pending rechecks (declarations_of k) k.table s (next.Ask tree)) here there t o → IsSamePlace s t → (ls : List Finding) → AreLifts k.table ls
-      → IsNoting rechecks from k id all there ws t o (record { types = es.types; products = es.products; lifts = ls; contexts = es.contexts; open_types = es.open_types })
+      → IsNoting rechecks from k id all there ws t o (record { types = es.types; lifts = ls; open_types = es.open_types; turns = es.turns })
   noting-asked k there t tree o es l g ht ho le b same ls lifts =
       let turn = noting-same k there t (next.Ask tree) o es l (λ q. cc) g ht ho le b same in
       record {
@@ -215,27 +229,18 @@ module _ (rechecks : Bool) (from m : Module) (id : LpId) (all here : ℕ) (ws : 
         level = turn.level;
         keyed = turn.keyed;
         waiting = turn.waiting;
-        right = record { types = turn.right.types; products = turn.right.products; lifts = lifts; open_types = turn.right.open_types };
+        right = record { rechecked = turn.right.rechecked; types = turn.right.types; products = turn.right.products; lifts = lifts; open_types = turn.right.open_types };
       }
 
   -- a turn that goes on with a type that was found
   pub noting-told : (k : Module) (there : ℕ) (t : State) (found : LpId) (o : Next) (f : Frame) (fs : List Frame) (es : Memos) → IsNoting rechecks from m id all here ws s (next.Tell found) es → s.frames ≡ f ∷ fs → Grows m k → IsKnownState k.table t
-      → IsKnownNext k.table o → there ≤ here → IsTurned rechecks k (resume rechecks (declarations_of k) k.table s.context (f ∷ fs) (tree_at k.table found.0)) here there t o → (ps : List ℕ) → AreProducts (declarations_of k) k.table ps
-      → (scopes : List Scope) → AreMore es.contexts scopes → (IsKeyed es.contexts s → IsKeyed scopes t)
-      → IsNoting rechecks from k id all there ws t o (record { types = es.types; products = ps; lifts = es.lifts; contexts = scopes; open_types = es.open_types })
-  noting-told k there t found o f fs es l e g ht ho le b ps products scopes more keyed =
-      let turn = noting-turn k there t (next.Tell found) o es scopes l (λ q. cc) g ht ho le (subst (λ l. IsTurned rechecks k (resume rechecks (declarations_of k) k.table s.context l (tree_at k.table found.0)) here there t o) (sym e) b) more keyed in
-      record {
-        grows = turn.grows;
-        held = turn.held;
-        less = turn.less;
-        question = turn.question;
-        start = turn.start;
-        level = turn.level;
-        keyed = turn.keyed;
-        waiting = turn.waiting;
-        right = record { types = turn.right.types; products = products; lifts = turn.right.lifts; open_types = turn.right.open_types };
-      }
+      → IsKnownNext k.table o → there ≤ here → IsTurned es.turns.rechecks k (resume es.turns.rechecks (declarations_of k) k.table s.context (f ∷ fs) (tree_at k.table found.0)) here there t o
+      → (turns : Turns) → turns.rechecks ≡ es.turns.rechecks → AreProducts (declarations_of k) k.table turns.products → AreMore es.turns.contexts turns.contexts → (IsKeyed es.turns.contexts s → IsKeyed turns.contexts t)
+      → IsNoting rechecks from k id all there ws t o (record { types = es.types; lifts = es.lifts; open_types = es.open_types; turns = turns })
+  noting-told k there t found o f fs es l e g ht ho le b turns by products more keyed =
+      noting-turn k there t (next.Tell found) o es turns l (λ q. cc) g ht ho le
+      (subst (λ l. IsTurned rechecks k (resume rechecks (declarations_of k) k.table s.context l (tree_at k.table found.0)) here there t o) (sym e)
+      (subst (λ r. IsTurned r k (resume r (declarations_of k) k.table s.context (f ∷ fs) (tree_at k.table found.0)) here there t o) l.right.rechecked b)) more keyed by products
 
   -- a turn that asks for a tree by itself
   pub noting-inner : (tree : LpId) (inner : List Frame) (all-waiting : List Waiting) (es : Memos) → IsNoting rechecks from m id all here ws s (next.Ask tree) es → inner ≡ [] → all-waiting ≡ record { id = tree; key = s.key; frames = s.frames } ∷ ws
@@ -248,7 +253,7 @@ module _ (rechecks : Bool) (from m : Module) (id : LpId) (all here : ℕ) (ws : 
     start = here;
     level = start-level rechecks m tree here (record { context = s.context; frames = inner; key = s.key }) l.level.next l.level.state.context f;
     keyed = l.keyed;
-    waiting = subst (λ l. AreWaiting rechecks m es.contexts (typing [] (tree_at from.table id.0)) all l (typing (trees_at m.table s.context) (tree_at m.table tree.0)) here) (sym w) (l.question, l.start, s.context, l.keyed, l.level, refl, l.waiting);
+    waiting = subst (λ l. AreWaiting rechecks m es.turns.contexts (typing [] (tree_at from.table id.0)) all l (typing (trees_at m.table s.context) (tree_at m.table tree.0)) here) (sym w) (l.question, l.start, s.context, l.keyed, l.level, refl, l.waiting);
     right = l.right;
   }
 
@@ -273,7 +278,7 @@ module _ (rechecks : Bool) (from m : Module) (id : LpId) (all here : ℕ) (ws : 
       fact : (r.0 < length m.table) × Answered ds rechecks (typing (trees_at m.table s.context) T) (Found (tree_at m.table r.0)) 1
       fact = ⊎_elim
           (λ noted. let f = l.right.types.each tree r noted in (f.found_known, record { price = f.answered.price; ends = typing-anywhere rechecks ds (are-closed l.grows held a) [] (trees_at m.table s.context) T f.closed f.answered.ends; within = f.answered.within }))
-          (λ kept. let f = l.right.open_types.each _ _ kept in (f.found_known, subst (λ c. Answered ds rechecks (typing (trees_at m.table c) T) (Found (tree_at m.table r.0)) 1) (key-one es.contexts s.key f.context s.context f.keyed l.keyed) f.answered))
+          (λ kept. let f = l.right.open_types.each _ _ kept in (f.found_known, subst (λ c. Answered ds rechecks (typing (trees_at m.table c) T) (Found (tree_at m.table r.0)) 1) (key-one es.turns.contexts s.key f.context s.context f.keyed l.keyed) f.answered))
           i
 
       go : (o : Next) → IsTakenUp r here there o → IsNoting rechecks from m id all there ws s o es
@@ -292,10 +297,10 @@ module _ (rechecks : Bool) (from m : Module) (id : LpId) (all here : ℕ) (ws : 
       go next.No h = absurd h
 
   -- the type of a tree that was asked for by itself: it is noted, and what waits for it goes on
-  pub noting-end : (found : LpId) (w : Waiting) (rest : List Waiting) (es fs : Memos) → IsNoting rechecks from m id all here ws s (next.Tell found) es → s.frames ≡ [] → ws ≡ w ∷ rest → w.key ≡ s.key → fs.contexts ≡ es.contexts
-      → (IsTypeIn rechecks (declarations_of m) m.table es.contexts w.key w.id found → AreRight rechecks (declarations_of m) m.table fs)
+  pub noting-end : (found : LpId) (w : Waiting) (rest : List Waiting) (es fs : Memos) → IsNoting rechecks from m id all here ws s (next.Tell found) es → s.frames ≡ [] → ws ≡ w ∷ rest → w.key ≡ s.key → fs.turns ≡ es.turns
+      → (IsTypeIn rechecks (declarations_of m) m.table es.turns.contexts w.key w.id found → AreRight rechecks (declarations_of m) m.table fs)
       → IsNoting rechecks from m id all here rest (record { context = s.context; frames = w.frames; key = s.key }) (next.Tell found) fs
-  noting-end found w rest es fs l none e key contexts right = record {
+  noting-end found w rest es fs l none e key turns right = record {
     grows = l.grows;
     held = l.held;
     less = l.less;
@@ -303,8 +308,8 @@ module _ (rechecks : Bool) (from m : Module) (id : LpId) (all here : ℕ) (ws : 
     start = h.1;
     level = subst (λ (c : List LpId). IsLevel rechecks m h.0 h.1 here (record { context = c; frames = w.frames; key = s.key }) (next.Tell found)) same
         (record { state = record { context = h.4.state.context; frames = h.4.state.frames }; next = l.level.next; less = omega (arith, h.4.less, l.level.less); turned = goes-on });
-    keyed = subst (λ (cs : List Scope). IsKey cs s.key s.context) (sym contexts) l.keyed;
-    waiting = subst (λ (cs : List Scope). AreWaiting rechecks m cs (typing [] (tree_at from.table id.0)) all rest h.0 h.1) (sym contexts) h.6;
+    keyed = subst (λ (ts : Turns). IsKey ts.contexts s.key s.context) (sym turns) l.keyed;
+    waiting = subst (λ (ts : Turns). AreWaiting rechecks m ts.contexts (typing [] (tree_at from.table id.0)) all rest h.0 h.1) (sym turns) h.6;
     right = right fact;
   }
     where
@@ -314,14 +319,14 @@ module _ (rechecks : Bool) (from m : Module) (id : LpId) (all here : ℕ) (ws : 
       T : Tree
       T = tree_at m.table w.id.0
 
-      h : AreWaiting rechecks m es.contexts (typing [] (tree_at from.table id.0)) all (w ∷ rest) l.question l.start
-      h = subst (λ x. AreWaiting rechecks m es.contexts (typing [] (tree_at from.table id.0)) all x l.question l.start) e l.waiting
+      h : AreWaiting rechecks m es.turns.contexts (typing [] (tree_at from.table id.0)) all (w ∷ rest) l.question l.start
+      h = subst (λ x. AreWaiting rechecks m es.turns.contexts (typing [] (tree_at from.table id.0)) all x l.question l.start) e l.waiting
 
       G : List Tree
       G = trees_at m.table h.2
 
       same : h.2 ≡ s.context
-      same = key-one es.contexts w.key h.2 s.context h.3 (subst (λ k. IsKey es.contexts k s.context) (sym key) l.keyed)
+      same = key-one es.turns.contexts w.key h.2 s.context h.3 (subst (λ k. IsKey es.turns.contexts k s.context) (sym key) l.keyed)
 
       left : Leaves ds rechecks l.question (l.start - here) (Say (Found (tree_at m.table found.0)))
       left = subst (λ x. Leaves ds rechecks l.question (l.start - here) (resume rechecks ds m.table s.context x (tree_at m.table found.0))) none l.level.turned
@@ -332,7 +337,7 @@ module _ (rechecks : Bool) (from m : Module) (id : LpId) (all here : ℕ) (ws : 
       ends : Ends ds rechecks (typing G T) (Found (tree_at m.table found.0)) up.0
       ends = subst (λ p. Ends ds rechecks p (Found (tree_at m.table found.0)) up.0) h.5 up.1
 
-      fact : IsTypeIn rechecks ds m.table es.contexts w.key w.id found
+      fact : IsTypeIn rechecks ds m.table es.turns.contexts w.key w.id found
       fact = record {
         context = h.2;
         keyed = h.3;
@@ -351,7 +356,7 @@ module _ (rechecks : Bool) (from m : Module) (id : LpId) (all here : ℕ) (ws : 
   -- the end of the loop
   pub noting-last : IsHeld from → (found : LpId) (es : Memos) → IsNoting rechecks from m id all here ws s (next.Tell found) es → s.frames ≡ [] → ws ≡ [] → IsInferred rechecks from [] id m.table all here (inferred.Found found)
   noting-last held found es l none e =
-      let h = subst (λ x. AreWaiting rechecks m es.contexts (typing [] (tree_at from.table id.0)) all x l.question l.start) e l.waiting in
+      let h = subst (λ x. AreWaiting rechecks m es.turns.contexts (typing [] (tree_at from.table id.0)) all x l.question l.start) e l.waiting in
       let left = subst (λ x. Leaves (declarations_of m) rechecks l.question (l.start - here) (resume rechecks (declarations_of m) m.table s.context x (tree_at m.table found.0))) none l.level.turned in
       let up = left.up (Found (tree_at m.table found.0)) 0 said in
       record {
@@ -369,7 +374,7 @@ module _ (rechecks : Bool) (from m : Module) (id : LpId) (all here : ℕ) (ws : 
       ds : List Declaration
       ds = declarations_of m
 
-      below : (ws : List Waiting) (p : Plan) (start n : ℕ) → AreWaiting rechecks m es.contexts (typing [] (tree_at from.table id.0)) all ws p start → here ≤ start → Ends ds rechecks p No n → start - here ≤ n → (k : ℕ) × Ends ds rechecks (typing [] (tree_at from.table id.0)) No k × all - here ≤ k
+      below : (ws : List Waiting) (p : Plan) (start n : ℕ) → AreWaiting rechecks m es.turns.contexts (typing [] (tree_at from.table id.0)) all ws p start → here ≤ start → Ends ds rechecks p No n → start - here ≤ n → (k : ℕ) × Ends ds rechecks (typing [] (tree_at from.table id.0)) No k × all - here ≤ k
       below [] p start n h lt e le = (n, subst (λ q. Ends ds rechecks q No n) h.0 e, omega (arith, le, h.1))
       below (w ∷ ws) p start n h lt e le =
           let T = tree_at m.table w.id.0 in
@@ -384,7 +389,7 @@ module _ (rechecks : Bool) (from m : Module) (id : LpId) (all here : ℕ) (ws : 
       ds : List Declaration
       ds = declarations_of m
 
-      below : (ws : List Waiting) (p : Plan) (start : ℕ) → AreWaiting rechecks m es.contexts (typing [] (tree_at from.table id.0)) all ws p start → IsOver ds rechecks p start → IsOver ds rechecks (typing [] (tree_at from.table id.0)) all
+      below : (ws : List Waiting) (p : Plan) (start : ℕ) → AreWaiting rechecks m es.turns.contexts (typing [] (tree_at from.table id.0)) all ws p start → IsOver ds rechecks p start → IsOver ds rechecks (typing [] (tree_at from.table id.0)) all
       below [] p start h over = λ reply n e. omega (arith, over reply n (subst (λ q. Ends ds rechecks q reply n) (sym h.0) e), h.1)
       below (w ∷ ws) p start h over =
           let T = tree_at m.table w.id.0 in

@@ -22,6 +22,7 @@ use Rattle.lp_conv.specs.Growth.{Grows}
 use Rattle.lp_conv.specs.Answers.{IsOver}
 use Rattle.lp_kernel.specs.Inference.{typing, IsInferred}
 use Rattle.lp_kernel.specs.declared.latest.Finding.{Finding}
+use Rattle.lp_kernel.specs.declared.memo.Turns.{Turns}
 use Rattle.lp_kernel.specs.Lifted.{AreLifts}
 use Rattle.lp_kernel.specs.Noted.{AreProducts}
 use Rattle.lp_kernel.specs.Pending.{spine_args, resume, pending, after, below, IsTurned, IsKnownFrame, AreKnownFrames, IsKnownState, IsKnownNext}
@@ -30,20 +31,20 @@ use Rattle.lp_kernel.proofs.LiftedLaws.{AreLifts-Keeps}
 module _ (rechecks : Bool) (ds : List Declaration) {ts us : List Tree} (s : Stays ts us) where
   -- how a frame goes on stays
   after-stays : (G : List Tree) (f : Frame) (t : Tree) → IsKnownFrame ts f → after rechecks ds us G f t ≡ after rechecks ds ts G f t
-  after-stays G (frame.Function f x w) t h = rw (tree_at-Stays s x.0 h.argument) refl
-  after-stays G (frame.Reached p f x w) t h = rw (tree_at-Stays s p.0 h.0, tree_at-Stays s x.0 h.1.argument) refl
-  after-stays G (frame.Argument a b k f w) t h = rw (tree_at-Stays s a.0 h.0, tree_at-Stays s b.0 h.1, tree_at-Stays s f.0 h.2, tree_at-Stays s w.0 h.3) refl
-  after-stays G (frame.Expected a b k x y) t h = rw (tree_at-Stays s a.0 h.0, tree_at-Stays s b.0 h.1, tree_at-Stays s x.0 h.2, tree_at-Stays s y.0 h.3) refl
+  after-stays G (frame.Function e) t h = rw (tree_at-Stays s e.argument.0 h.argument) refl
+  after-stays G (frame.Reached p e) t h = rw (tree_at-Stays s p.0 h.0, tree_at-Stays s e.argument.0 h.1.argument) refl
+  after-stays G (frame.Argument e) t h = rw (tree_at-Stays s e.domain.0 h.0, tree_at-Stays s e.body.0 h.1, tree_at-Stays s e.app.function.0 h.2.function, tree_at-Stays s e.app.whole.0 h.2.whole) refl
+  after-stays G (frame.Expected e) t h = rw (tree_at-Stays s e.domain.0 h.0, tree_at-Stays s e.body.0 h.1, tree_at-Stays s e.whole.0 h.2, tree_at-Stays s e.found.0 h.3) refl
   after-stays G (frame.Domain a b) t h = rw (tree_at-Stays s a.0 h.0, tree_at-Stays s b.0 h.1) refl
   after-stays G (frame.Body a) t h = rw (tree_at-Stays s a.0 h) refl
   after-stays G (frame.ProductDomain a b) t h = rw (tree_at-Stays s a.0 h.0, tree_at-Stays s b.0 h.1) refl
   after-stays G frame.ProductBody t h = refl
 
   below-known : (c : List LpId) (f : Frame) → AreKnown ts c → AreKnown ts (below c f)
-  below-known c (frame.Function f x w) h = h
-  below-known c (frame.Reached p f x w) h = h
-  below-known c (frame.Argument a b k f w) h = h
-  below-known c (frame.Expected a b k w y) h = h
+  below-known c (frame.Function e) h = h
+  below-known c (frame.Reached p e) h = h
+  below-known c (frame.Argument e) h = h
+  below-known c (frame.Expected e) h = h
   below-known c (frame.Domain a b) h = h
   below-known [] (frame.Body a) h = h
   below-known (id ∷ ids) (frame.Body a) h = h.1
@@ -91,18 +92,20 @@ turned-then rechecks m k p all here there s t n o g held hs hn not lt la a b = g
     go next.Over h = over_leaves (declarations_of k) rechecks first (omega (arith, la)) h
 
 -- what is true at each turn of the loop
-pub record IsLoop (rechecks : Bool) (from m : Module) (c : List LpId) (id : LpId) (all here : ℕ) (s : State) (n : Next) (ps : List ℕ) (ls : List Finding) : Type 0 where
+pub record IsLoop (rechecks : Bool) (from m : Module) (c : List LpId) (id : LpId) (all here : ℕ) (s : State) (n : Next) (ts : Turns) (ls : List Finding) : Type 0 where
   pub grows : Grows from m
   pub held : IsHeld m
-  pub products : AreProducts (declarations_of m) m.table ps
+  pub rechecked : ts.rechecks ≡ rechecks
+  pub products : AreProducts (declarations_of m) m.table ts.products
   pub lifts : AreLifts m.table ls
   pub state : IsKnownState m.table s
   pub next : IsKnownNext m.table n
   pub less : here ≤ all
   pub turned : IsTurned rechecks m (alone (Infer (trees_at from.table c) (tree_at from.table id.0))) all here s n
 
-pub start-loop : (rechecks : Bool) (m : Module) (c : List LpId) (id : LpId) (all : ℕ) (s : State) → IsHeld m → AreKnown m.table c → id.0 < length m.table → s.context ≡ c → s.frames ≡ [] → (ps : List ℕ) → AreProducts (declarations_of m) m.table ps → (ls : List Finding) → AreLifts m.table ls → IsLoop rechecks m m c id all all s (next.Ask id) ps ls
-start-loop rechecks m c id all s held hc known e f ps right ls lifts = record {
+pub start-loop : (rechecks : Bool) (m : Module) (c : List LpId) (id : LpId) (all : ℕ) (s : State) → IsHeld m → AreKnown m.table c → id.0 < length m.table → s.context ≡ c → s.frames ≡ [] → (ts : Turns) → ts.rechecks ≡ rechecks → AreProducts (declarations_of m) m.table ts.products → (ls : List Finding) → AreLifts m.table ls → IsLoop rechecks m m c id all all s (next.Ask id) ts ls
+start-loop rechecks m c id all s held hc known e f ts by right ls lifts = record {
+  rechecked = by;
   products = right;
   lifts = lifts;
   grows = record { keeps = Keeps-refl m.table; decls = refl };
@@ -117,9 +120,10 @@ start-loop rechecks m c id all s held hc known e f ps right ls lifts = record {
 }
 
 -- a turn of the loop
-pub next-loop : (rechecks : Bool) (from m k : Module) (c : List LpId) (id : LpId) (all here there : ℕ) (s t : State) (n o : Next) (ps qs : List ℕ) (ls ks : List Finding) → IsLoop rechecks from m c id all here s n ps ls → (n ≡ next.Over → ⊥) → Grows m k → IsKnownState k.table t → IsKnownNext k.table o → there ≤ here
-    → IsTurned rechecks k (pending rechecks (declarations_of k) k.table s n) here there t o → AreProducts (declarations_of k) k.table qs → AreLifts k.table ks → IsLoop rechecks from k c id all there t o qs ks
-next-loop rechecks from m k c id all here there s t n o ps qs ls ks l not g ht ho le b right lifts = record {
+pub next-loop : (rechecks : Bool) (from m k : Module) (c : List LpId) (id : LpId) (all here there : ℕ) (s t : State) (n o : Next) (ts us : Turns) (ls ks : List Finding) → IsLoop rechecks from m c id all here s n ts ls → us.rechecks ≡ ts.rechecks → (n ≡ next.Over → ⊥) → Grows m k → IsKnownState k.table t → IsKnownNext k.table o → there ≤ here
+    → IsTurned rechecks k (pending rechecks (declarations_of k) k.table s n) here there t o → AreProducts (declarations_of k) k.table us.products → AreLifts k.table ks → IsLoop rechecks from k c id all there t o us ks
+next-loop rechecks from m k c id all here there s t n o ts us ls ks l by not g ht ho le b right lifts = record {
+  rechecked = by ∙ l.rechecked;
   products = right;
   lifts = lifts;
   grows = Grows-trans l.grows g;
@@ -131,21 +135,22 @@ next-loop rechecks from m k c id all here there s t n o ps qs ls ks l not g ht h
 }
 
 -- the end of the loop
-pub found-end : (rechecks : Bool) (from m : Module) (c : List LpId) (id found : LpId) (all here : ℕ) (s : State) {ps : List ℕ} {ls : List Finding} → IsHeld from → IsLoop rechecks from m c id all here s (next.Tell found) ps ls → s.frames ≡ [] → IsInferred rechecks from c id m.table all here (inferred.Found found)
+pub found-end : (rechecks : Bool) (from m : Module) (c : List LpId) (id found : LpId) (all here : ℕ) (s : State) {ts : Turns} {ls : List Finding} → IsHeld from → IsLoop rechecks from m c id all here s (next.Tell found) ts ls → s.frames ≡ [] → IsInferred rechecks from c id m.table all here (inferred.Found found)
 found-end rechecks from m c id found all here s held l e =
     let p = subst (λ fs. Leaves (declarations_of m) rechecks (alone (Infer (trees_at from.table c) (tree_at from.table id.0))) (all - here) (resume rechecks (declarations_of m) m.table s.context fs (tree_at m.table found.0))) e l.turned in
     let u = p.up (Found (tree_at m.table found.0)) 0 said in
     record { price = u.0; ends = subst (λ ds. Ends ds rechecks (typing (trees_at from.table c) (tree_at from.table id.0)) (Found (tree_at m.table found.0)) u.0) (declarations_of-Grows from m l.grows held) u.1; within = omega (arith, u.2) }
 
-pub no-end : (rechecks : Bool) (from m : Module) (c : List LpId) (id : LpId) (all here : ℕ) (s : State) {ps : List ℕ} {ls : List Finding} → IsHeld from → IsLoop rechecks from m c id all here s next.No ps ls → IsInferred rechecks from c id m.table all here inferred.No
+pub no-end : (rechecks : Bool) (from m : Module) (c : List LpId) (id : LpId) (all here : ℕ) (s : State) {ts : Turns} {ls : List Finding} → IsHeld from → IsLoop rechecks from m c id all here s next.No ts ls → IsInferred rechecks from c id m.table all here inferred.No
 no-end rechecks from m c id all here s held l = let u = l.turned.up No 0 said in record { price = u.0; ends = subst (λ ds. Ends ds rechecks (typing (trees_at from.table c) (tree_at from.table id.0)) No u.0) (declarations_of-Grows from m l.grows held) u.1; within = omega (arith, u.2) }
 
 -- a turn of the loop that goes on with a type that was found
-pub told-loop : (rechecks : Bool) (from m k : Module) (c : List LpId) (id : LpId) (all here there : ℕ) (s t : State) (found : LpId) (o : Next) (f : Frame) (fs : List Frame) (ps qs : List ℕ) (ls : List Finding) → IsLoop rechecks from m c id all here s (next.Tell found) ps ls → s.frames ≡ f ∷ fs → Grows m k → IsKnownState k.table t
-    → IsKnownNext k.table o → there ≤ here → IsTurned rechecks k (resume rechecks (declarations_of k) k.table s.context (f ∷ fs) (tree_at k.table found.0)) here there t o → AreProducts (declarations_of k) k.table qs → IsLoop rechecks from k c id all there t o qs ls
-told-loop rechecks from m k c id all here there s t found o f fs ps qs ls l e g ht ho le b right =
-    next-loop rechecks from m k c id all here there s t (next.Tell found) o ps qs ls ls l (λ q. cc) g ht ho le
-    (subst (λ l. IsTurned rechecks k (resume rechecks (declarations_of k) k.table s.context l (tree_at k.table found.0)) here there t o) (sym e) b) right (AreLifts-Keeps g.keeps ls l.lifts)
+pub told-loop : (rechecks : Bool) (from m k : Module) (c : List LpId) (id : LpId) (all here there : ℕ) (s t : State) (found : LpId) (o : Next) (f : Frame) (fs : List Frame) (ts us : Turns) (ls : List Finding) → IsLoop rechecks from m c id all here s (next.Tell found) ts ls → us.rechecks ≡ ts.rechecks → s.frames ≡ f ∷ fs → Grows m k → IsKnownState k.table t
+    → IsKnownNext k.table o → there ≤ here → IsTurned ts.rechecks k (resume ts.rechecks (declarations_of k) k.table s.context (f ∷ fs) (tree_at k.table found.0)) here there t o → AreProducts (declarations_of k) k.table us.products → IsLoop rechecks from k c id all there t o us ls
+told-loop rechecks from m k c id all here there s t found o f fs ts us ls l by e g ht ho le b right =
+    next-loop rechecks from m k c id all here there s t (next.Tell found) o ts us ls ls l by (λ q. cc) g ht ho le
+    (subst (λ l. IsTurned rechecks k (resume rechecks (declarations_of k) k.table s.context l (tree_at k.table found.0)) here there t o) (sym e)
+    (subst (λ r. IsTurned r k (resume r (declarations_of k) k.table s.context (f ∷ fs) (tree_at k.table found.0)) here there t o) l.rechecked b)) right (AreLifts-Keeps g.keeps ls l.lifts)
 
-pub over-end : (rechecks : Bool) (from m : Module) (c : List LpId) (id : LpId) (all here : ℕ) (s : State) {ps : List ℕ} {ls : List Finding} → IsHeld from → IsLoop rechecks from m c id all here s next.Over ps ls → IsInferred rechecks from c id m.table all here inferred.Over
+pub over-end : (rechecks : Bool) (from m : Module) (c : List LpId) (id : LpId) (all here : ℕ) (s : State) {ts : Turns} {ls : List Finding} → IsHeld from → IsLoop rechecks from m c id all here s next.Over ts ls → IsInferred rechecks from c id m.table all here inferred.Over
 over-end rechecks from m c id all here s held l = subst (λ ds. IsOver ds rechecks (typing (trees_at from.table c) (tree_at from.table id.0)) all) (declarations_of-Grows from m l.grows held) l.turned

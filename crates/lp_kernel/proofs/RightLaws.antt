@@ -1,5 +1,5 @@
 -- The types that are kept of open trees, once more is kept, and where the module or its contexts have grown.
-use Rattle.std.proofs.Common.{◌≡◌, sym, ap, subst, ℕ, arith, List, [], length, ⊎_elim, Bool, Some}
+use Rattle.std.proofs.Common.{◌≡◌, sym, ap, ◌∙◌, subst, ℕ, arith, List, [], length, ⊎_elim, Bool, Some}
 use Rattle.std.specs.Prelude.{slice_get}
 use Rattle.std.proofs.Math.Path.{ap₂}
 use Rattle.std.proofs.lemmas.Option.{slice_get_within}
@@ -16,8 +16,10 @@ use Rattle.lp_conv.specs.GrowthLaws.{declarations_of-Grows, trees_at-Stays, AreK
 use Rattle.lp_kernel.specs.declared.contexts.Scope.{Scope}
 use Rattle.lp_kernel.specs.declared.latest.Finding.{Finding}
 use Rattle.lp_kernel.specs.declared.memo.Memos.{Memos}
+use Rattle.lp_kernel.specs.declared.memo.Turns.{Turns}
 use Rattle.lp_kernel.specs.Inference.{typing}
 use Rattle.lp_kernel.specs.Keys.{AreMore}
+use Rattle.lp_kernel.specs.Noted.{AreProducts}
 use Rattle.lp_kernel.specs.Right.{IsTypeIn, AreTypesIn, AreRight}
 use Rattle.lp_kernel.proofs.KeyLaws.{key-more}
 use Rattle.lp_kernel.proofs.LatestLaws.{IsOnly}
@@ -60,7 +62,7 @@ open-stays rechecks m k scopes kept held g a = record {
       };
 }
 
--- all that is remembered stays right where more contexts have numbers
-pub right-more : (rechecks : Bool) (ds : List Declaration) (ts : List Tree) (memo : Memos) (scopes : List Scope) → AreMore memo.contexts scopes → AreRight rechecks ds ts memo
-    → AreRight rechecks ds ts (record { types = memo.types; products = memo.products; lifts = memo.lifts; contexts = scopes; open_types = memo.open_types })
-right-more rechecks ds ts memo scopes more h = record { types = h.types; products = h.products; lifts = h.lifts; open_types = open-more rechecks ds ts memo.contexts scopes memo.open_types more h.open_types }
+-- all that is remembered stays right where more contexts have numbers, and more products are noted
+pub right-more : (rechecks : Bool) (ds : List Declaration) (ts : List Tree) (memo : Memos) (turns : Turns) → AreMore memo.turns.contexts turns.contexts → turns.rechecks ≡ memo.turns.rechecks → AreProducts ds ts turns.products → AreRight rechecks ds ts memo
+    → AreRight rechecks ds ts (record { types = memo.types; lifts = memo.lifts; open_types = memo.open_types; turns = turns })
+right-more rechecks ds ts memo turns more by products h = record { rechecked = by ∙ h.rechecked; types = h.types; products = products; lifts = h.lifts; open_types = open-more rechecks ds ts memo.turns.contexts turns.contexts memo.open_types more h.open_types }

@@ -18,6 +18,9 @@ use Rattle.lp_term.specs.TableLaws.{Holds-tree_at, tree_at-Holds, tree_at-Stays}
 use Rattle.lp_shape.specs.HeadSteps.{head_step}
 use Rattle.lp_shape.specs.Check.{Infer, Reach, Meet, Convert, Reply, Found, No, Plan, Say, Ask, if_sort, unless_kind, recheck, if_product, if_step, product_of, reach, Ends}
 use Rattle.lp_shape.specs.PlanLaws.{and_then, Leaves, leaves_equal, leaves_then, leaves_fewer, leaves_ask, leaves_found, leaves_no, over_then, over_leaves}
+use Rattle.lp_kernel.specs.declared.state.Application.{Application}
+use Rattle.lp_kernel.specs.declared.state.Argument.{Argument}
+use Rattle.lp_kernel.specs.declared.state.Expected.{Expected}
 use Rattle.lp_kernel.specs.declared.state.Frame.{Frame}
 use Rattle.lp_kernel.specs.declared.state.Frame.TheVariants as frame
 use Rattle.lp_kernel.specs.declared.state.Next.{Next}
@@ -26,7 +29,7 @@ use Rattle.lp_kernel.specs.declared.state.State.{State}
 use Rattle.holide_sig.specs.declared.module.Module.{Module}
 use Rattle.holide_sig.specs.Modules.{declarations_of}
 use Rattle.lp_conv.specs.Answers.{Answered, IsOver}
-use Rattle.lp_kernel.specs.Pending.{spine_args, resume, applying, conversion, meeting, outside, IsApplication, IsFilled, IsTurned, IsTold, IsApplied, IsConverted}
+use Rattle.lp_kernel.specs.Pending.{spine_args, filled, resume, applying, conversion, meeting, outside, IsApplication, IsFilled, IsTurned, IsTold, IsApplied, IsConverted}
 use Rattle.lp_kernel.proofs.Reached.{reached-answered, reached-over}
 
 -- no arguments leave a tree alone
@@ -54,11 +57,11 @@ other-tree ts e f d he hf h = go (tree_eq (tree_at ts e.0) (tree_at ts f.0)) ref
         absurd (grind arith)
 
 -- a type with arguments put in, in the table that has grown
-pub filled-here : {ts us : List Tree} → Stays ts us → (b : LpId) (k : ℕ) (f r : LpId) → b.0 < length ts → f.0 < length ts → IsFilled ts b k f us r → tree_at us r.0 ≡ put_all (spine_args k (tree_at us f.0)) (tree_at us b.0)
+pub filled-here : {ts us : List Tree} → Stays ts us → (b : LpId) (k : ℕ) (f r : LpId) → b.0 < length ts → f.0 < length ts → IsFilled ts b k f us r → tree_at us r.0 ≡ filled us b k f
 filled-here s b k f r hb hf h = h ∙ ap₂ (λ F B. put_all (spine_args k F) B) (tree_at-Stays s f.0 hf) (tree_at-Stays s b.0 hb)
 
 -- and in one that has grown further
-pub filled-still : {us vs : List Tree} → Stays us vs → (a : LpId) (k : ℕ) (f d : LpId) → a.0 < length us → f.0 < length us → d.0 < length us → tree_at us d.0 ≡ put_all (spine_args k (tree_at us f.0)) (tree_at us a.0) → tree_at vs d.0 ≡ put_all (spine_args k (tree_at vs f.0)) (tree_at vs a.0)
+pub filled-still : {us vs : List Tree} → Stays us vs → (a : LpId) (k : ℕ) (f d : LpId) → a.0 < length us → f.0 < length us → d.0 < length us → tree_at us d.0 ≡ filled us a k f → tree_at vs d.0 ≡ filled vs a k f
 filled-still s a k f d ha hf hd h = sym (tree_at-Stays s d.0 hd) ∙ h ∙ ap₂ (λ F A. put_all (spine_args k F) A) (tree_at-Stays s f.0 hf) (tree_at-Stays s a.0 ha)
 
 -- trees that differ stay so
@@ -84,6 +87,10 @@ turned-from rechecks m t n spent old mid new {p = p} {q = q} first lo ln = go n
     go (next.Under b j f) h = leaves_fewer (declarations_of m) rechecks (omega (arith, lo, ln)) (leaves_then (declarations_of m) rechecks first h)
     go next.No h = leaves_fewer (declarations_of m) rechecks (omega (arith, lo, ln)) (leaves_then (declarations_of m) rechecks first h)
     go next.Over h = over_leaves (declarations_of m) rechecks first lo h
+
+-- what goes on with the type of an argument, where the function's type is a product that is to have so many arguments put in
+abbrev pub met : LpId → LpId → ℕ → Application → Frame
+met a b k e = frame.Argument (record { domain = a; body = b; count = k; app = e })
 
 -- what goes on after a sort, in two ways that agree
 if_sort-then : (s : Tree) (p q : Plan) (f g : Tree → Plan) → and_then p f ≡ and_then q g → and_then (if_sort s p) f ≡ and_then (if_sort s q) g
@@ -119,61 +126,64 @@ module _ (rechecks : Bool) (ds : List Declaration) (ts : List Tree) (c : List Lp
       ∙ ap (λ r. and_then (recheck r (trees_at ts c) A (Ask (Convert A X) (λ _. Say (Found A)))) (λ t. rest P)) off))
 
   -- the turn of a meeting of one type with itself
-  pub told-same : (a b f w found domain : LpId) (k more spent : ℕ) → tree_at ts domain.0 ≡ put_all (spine_args k (tree_at ts f.0)) (tree_at ts a.0) → tree_eq (tree_at ts domain.0) (tree_at ts found.0) ≡ true → more ≡ suc k → spent ≤ 1
-      → Leaves ds rechecks (resume rechecks ds ts c (frame.Argument a b k f w ∷ fs) (tree_at ts found.0)) spent (resume rechecks ds ts c fs (put_all (spine_args more (tree_at ts w.0)) (tree_at ts b.0)))
-  told-same a b f w found domain k more spent is e m le =
-      let P = λ (j : ℕ). put_all (spine_args j (tree_at ts w.0)) (tree_at ts b.0) in
+  pub told-same : (e : Argument) (found domain : LpId) (more spent : ℕ) → tree_at ts domain.0 ≡ filled ts e.domain e.count e.app.function → tree_eq (tree_at ts domain.0) (tree_at ts found.0) ≡ true → more ≡ suc e.count → spent ≤ 1
+      → Leaves ds rechecks (resume rechecks ds ts c (frame.Argument e ∷ fs) (tree_at ts found.0)) spent (resume rechecks ds ts c fs (filled ts e.body more e.app.whole))
+  told-same e found domain more spent is q m le =
+      let P = λ (j : ℕ). filled ts e.body j e.app.whole in
+      let X = tree_at ts found.0 in
       leaves_fewer ds rechecks le
-      (subst (λ j. Leaves ds rechecks (resume rechecks ds ts c (frame.Argument a b k f w ∷ fs) (tree_at ts found.0)) 1 (resume rechecks ds ts c fs (P j))) (sym m)
-      (subst (λ A. Leaves ds rechecks (Ask (Meet (trees_at ts c) A (tree_at ts found.0)) (λ _. resume rechecks ds ts c fs (P (suc k)))) 1 (resume rechecks ds ts c fs (P (suc k)))) is (meet-same (tree_at ts domain.0) (tree_at ts found.0) (P (suc k)) e)))
+      (subst (λ j. Leaves ds rechecks (resume rechecks ds ts c (frame.Argument e ∷ fs) X) 1 (resume rechecks ds ts c fs (P j))) (sym m)
+      (subst (λ A. Leaves ds rechecks (Ask (Meet (trees_at ts c) A X) (λ _. resume rechecks ds ts c fs (P (suc e.count)))) 1 (resume rechecks ds ts c fs (P (suc e.count)))) is (meet-same (tree_at ts domain.0) X (P (suc e.count)) q)))
 
   -- the turn of a meeting of two types
-  pub told-other : rechecks ≡ true → (a b f w found domain : LpId) (k more : ℕ) (new : List Frame) (spent : ℕ) → tree_at ts domain.0 ≡ put_all (spine_args k (tree_at ts f.0)) (tree_at ts a.0) → tree_eq (tree_at ts domain.0) (tree_at ts found.0) ≡ false → more ≡ suc k
-      → new ≡ frame.Expected domain b more w found ∷ fs → spent ≤ 1 → Leaves ds rechecks (resume rechecks ds ts c (frame.Argument a b k f w ∷ fs) (tree_at ts found.0)) spent (Ask (Infer (trees_at ts c) (tree_at ts domain.0)) (resume rechecks ds ts c new))
-  told-other on a b f w found domain k more new spent is e m at le =
+  pub told-other : rechecks ≡ true → (e : Argument) (found domain : LpId) (more : ℕ) (new : List Frame) (spent : ℕ) → tree_at ts domain.0 ≡ filled ts e.domain e.count e.app.function → tree_eq (tree_at ts domain.0) (tree_at ts found.0) ≡ false → more ≡ suc e.count
+      → new ≡ frame.Expected (record { domain = domain; body = e.body; count = more; whole = e.app.whole; found = found }) ∷ fs → spent ≤ 1
+      → Leaves ds rechecks (resume rechecks ds ts c (frame.Argument e ∷ fs) (tree_at ts found.0)) spent (Ask (Infer (trees_at ts c) (tree_at ts domain.0)) (resume rechecks ds ts c new))
+  told-other on e found domain more new spent is q m at le =
       let D = tree_at ts domain.0 in
       let X = tree_at ts found.0 in
-      let P = λ (j : ℕ). put_all (spine_args j (tree_at ts w.0)) (tree_at ts b.0) in
+      let P = λ (j : ℕ). filled ts e.body j e.app.whole in
+      let E = λ (j : ℕ). frame.Expected (record { domain = domain; body = e.body; count = j; whole = e.app.whole; found = found }) in
       leaves_fewer ds rechecks le
-      (subst (λ l. Leaves ds rechecks (resume rechecks ds ts c (frame.Argument a b k f w ∷ fs) X) 1 (Ask (Infer (trees_at ts c) D) (resume rechecks ds ts c l))) (sym at)
-      (subst (λ j. Leaves ds rechecks (resume rechecks ds ts c (frame.Argument a b k f w ∷ fs) X) 1 (Ask (Infer (trees_at ts c) D) (resume rechecks ds ts c (frame.Expected domain b j w found ∷ fs)))) (sym m)
-      (subst (λ A. Leaves ds rechecks (Ask (Meet (trees_at ts c) A X) (λ _. resume rechecks ds ts c fs (P (suc k)))) 1 (Ask (Infer (trees_at ts c) D) (resume rechecks ds ts c (frame.Expected domain b (suc k) w found ∷ fs)))) is (meet-other on D X (P (suc k)) e))))
+      (subst (λ l. Leaves ds rechecks (resume rechecks ds ts c (frame.Argument e ∷ fs) X) 1 (Ask (Infer (trees_at ts c) D) (resume rechecks ds ts c l))) (sym at)
+      (subst (λ j. Leaves ds rechecks (resume rechecks ds ts c (frame.Argument e ∷ fs) X) 1 (Ask (Infer (trees_at ts c) D) (resume rechecks ds ts c (E j ∷ fs)))) (sym m)
+      (subst (λ A. Leaves ds rechecks (Ask (Meet (trees_at ts c) A X) (λ _. resume rechecks ds ts c fs (P (suc e.count)))) 1 (Ask (Infer (trees_at ts c) D) (resume rechecks ds ts c (E (suc e.count) ∷ fs)))) is (meet-other on D X (P (suc e.count)) q))))
 
   -- and without rechecks of sorts
-  met-other : rechecks ≡ false → (a b f w found domain : LpId) (k more : ℕ) → tree_at ts domain.0 ≡ put_all (spine_args k (tree_at ts f.0)) (tree_at ts a.0) → tree_eq (tree_at ts domain.0) (tree_at ts found.0) ≡ false → more ≡ suc k
-      → Leaves ds rechecks (resume rechecks ds ts c (frame.Argument a b k f w ∷ fs) (tree_at ts found.0)) 1 (Ask (Convert (tree_at ts domain.0) (tree_at ts found.0)) (λ _. resume rechecks ds ts c fs (put_all (spine_args more (tree_at ts w.0)) (tree_at ts b.0))))
-  met-other off a b f w found domain k more is e m =
+  met-other : rechecks ≡ false → (e : Argument) (found domain : LpId) (more : ℕ) → tree_at ts domain.0 ≡ filled ts e.domain e.count e.app.function → tree_eq (tree_at ts domain.0) (tree_at ts found.0) ≡ false → more ≡ suc e.count
+      → Leaves ds rechecks (resume rechecks ds ts c (frame.Argument e ∷ fs) (tree_at ts found.0)) 1 (Ask (Convert (tree_at ts domain.0) (tree_at ts found.0)) (λ _. resume rechecks ds ts c fs (filled ts e.body more e.app.whole)))
+  met-other off e found domain more is q m =
       let D = tree_at ts domain.0 in
       let X = tree_at ts found.0 in
-      let P = λ (j : ℕ). put_all (spine_args j (tree_at ts w.0)) (tree_at ts b.0) in
-      subst (λ j. Leaves ds rechecks (resume rechecks ds ts c (frame.Argument a b k f w ∷ fs) X) 1 (Ask (Convert D X) (λ _. resume rechecks ds ts c fs (P j)))) (sym m)
-      (subst (λ A. Leaves ds rechecks (Ask (Meet (trees_at ts c) A X) (λ _. resume rechecks ds ts c fs (P (suc k)))) 1 (Ask (Convert D X) (λ _. resume rechecks ds ts c fs (P (suc k))))) is (meet-fast off D X (P (suc k)) e))
+      let P = λ (j : ℕ). filled ts e.body j e.app.whole in
+      subst (λ j. Leaves ds rechecks (resume rechecks ds ts c (frame.Argument e ∷ fs) X) 1 (Ask (Convert D X) (λ _. resume rechecks ds ts c fs (P j)))) (sym m)
+      (subst (λ A. Leaves ds rechecks (Ask (Meet (trees_at ts c) A X) (λ _. resume rechecks ds ts c fs (P (suc e.count)))) 1 (Ask (Convert D X) (λ _. resume rechecks ds ts c fs (P (suc e.count))))) is (meet-fast off D X (P (suc e.count)) q))
 
   -- the argument is asked for, and what is put in the body goes into the type of the application
-  pub asked-argument : (a b f x w : LpId) (k : ℕ) → IsApplication ts f x w
-      → and_then (Ask (Infer (trees_at ts c) (tree_at ts x.0)) (meeting (trees_at ts c) (put_all_at 0 (spine_args k (tree_at ts f.0)) (tree_at ts a.0)) (put_all_at 1 (spine_args k (tree_at ts f.0)) (tree_at ts b.0)) (tree_at ts x.0))) (resume rechecks ds ts c fs)
-      ≡ Ask (Infer (trees_at ts c) (tree_at ts x.0)) (resume rechecks ds ts c (frame.Argument a b k f w ∷ fs))
-  asked-argument a b f x w k h =
-      let ys = spine_args k (tree_at ts f.0) in
+  pub asked-argument : (a b : LpId) (k : ℕ) (e : Application) → IsApplication ts e
+      → and_then (Ask (Infer (trees_at ts c) (tree_at ts e.argument.0)) (meeting (trees_at ts c) (put_all_at 0 (spine_args k (tree_at ts e.function.0)) (tree_at ts a.0)) (put_all_at 1 (spine_args k (tree_at ts e.function.0)) (tree_at ts b.0)) (tree_at ts e.argument.0))) (resume rechecks ds ts c fs)
+      ≡ Ask (Infer (trees_at ts c) (tree_at ts e.argument.0)) (resume rechecks ds ts c (met a b k e ∷ fs))
+  asked-argument a b k e h =
+      let ys = spine_args k (tree_at ts e.function.0) in
       let A = put_all_at 0 ys (tree_at ts a.0) in
-      ap (λ P. Ask (Infer (trees_at ts c) (tree_at ts x.0)) (λ X. Ask (Meet (trees_at ts c) A X) (λ _. resume rechecks ds ts c fs P)))
-      (put-put_all (tree_at ts x.0) ys (tree_at ts b.0) ∙ ap (λ t. put_all (spine_args (suc k) t) (tree_at ts b.0)) (sym (Holds-tree_at ts w.0 _ h.is)))
+      ap (λ P. Ask (Infer (trees_at ts c) (tree_at ts e.argument.0)) (λ X. Ask (Meet (trees_at ts c) A X) (λ _. resume rechecks ds ts c fs P)))
+      (put-put_all (tree_at ts e.argument.0) ys (tree_at ts b.0) ∙ ap (λ t. put_all (spine_args (suc k) t) (tree_at ts b.0)) (sym (Holds-tree_at ts e.whole.0 _ h.is)))
 
   -- the turn of a function whose type is a product that is to have arguments put in
-  pub told-under : (f x w found a b : LpId) (k : ℕ) (new : List Frame) (spent : ℕ) → Holds ts found.0 (Pi (tree_at ts a.0) (tree_at ts b.0)) → IsApplication ts f x w → new ≡ frame.Argument a b k f w ∷ fs → spent ≤ 0
-      → Leaves ds rechecks (resume rechecks ds ts c (frame.Function f x w ∷ fs) (put_all (spine_args k (tree_at ts f.0)) (tree_at ts found.0))) spent (Ask (Infer (trees_at ts c) (tree_at ts x.0)) (resume rechecks ds ts c new))
-  told-under f x w found a b k new spent h app is le =
+  pub told-under : (e : Application) (found a b : LpId) (k : ℕ) (new : List Frame) (spent : ℕ) → Holds ts found.0 (Pi (tree_at ts a.0) (tree_at ts b.0)) → IsApplication ts e → new ≡ met a b k e ∷ fs → spent ≤ 0
+      → Leaves ds rechecks (resume rechecks ds ts c (frame.Function e ∷ fs) (filled ts found k e.function)) spent (Ask (Infer (trees_at ts c) (tree_at ts e.argument.0)) (resume rechecks ds ts c new))
+  told-under e found a b k new spent h app is le =
       leaves_fewer ds rechecks le (leaves_equal ds rechecks (
-      ap (λ t. resume rechecks ds ts c (frame.Function f x w ∷ fs) (put_all (spine_args k (tree_at ts f.0)) t)) (Holds-tree_at ts found.0 _ h)
-      ∙ asked-argument a b f x w k app
-      ∙ ap (λ l. Ask (Infer (trees_at ts c) (tree_at ts x.0)) (resume rechecks ds ts c l)) (sym is)))
+      ap (λ t. resume rechecks ds ts c (frame.Function e ∷ fs) (put_all (spine_args k (tree_at ts e.function.0)) t)) (Holds-tree_at ts found.0 _ h)
+      ∙ asked-argument a b k e app
+      ∙ ap (λ l. Ask (Infer (trees_at ts c) (tree_at ts e.argument.0)) (resume rechecks ds ts c l)) (sym is)))
 
   -- the turn of a function whose type is a product
-  pub told-product : (f x w found a b : LpId) (new : List Frame) (spent : ℕ) → Holds ts found.0 (Pi (tree_at ts a.0) (tree_at ts b.0)) → IsApplication ts f x w → new ≡ frame.Argument a b 0 f w ∷ fs → spent ≤ 0
-      → Leaves ds rechecks (resume rechecks ds ts c (frame.Function f x w ∷ fs) (tree_at ts found.0)) spent (Ask (Infer (trees_at ts c) (tree_at ts x.0)) (resume rechecks ds ts c new))
-  told-product f x w found a b new spent h app is le =
-      subst (λ t. Leaves ds rechecks (resume rechecks ds ts c (frame.Function f x w ∷ fs) t) spent (Ask (Infer (trees_at ts c) (tree_at ts x.0)) (resume rechecks ds ts c new))) (put_all-nil (tree_at ts found.0))
-      (told-under f x w found a b 0 new spent h app is le)
+  pub told-product : (e : Application) (found a b : LpId) (new : List Frame) (spent : ℕ) → Holds ts found.0 (Pi (tree_at ts a.0) (tree_at ts b.0)) → IsApplication ts e → new ≡ met a b 0 e ∷ fs → spent ≤ 0
+      → Leaves ds rechecks (resume rechecks ds ts c (frame.Function e ∷ fs) (tree_at ts found.0)) spent (Ask (Infer (trees_at ts c) (tree_at ts e.argument.0)) (resume rechecks ds ts c new))
+  told-product e found a b new spent h app is le =
+      subst (λ t. Leaves ds rechecks (resume rechecks ds ts c (frame.Function e ∷ fs) t) spent (Ask (Infer (trees_at ts c) (tree_at ts e.argument.0)) (resume rechecks ds ts c new))) (put_all-nil (tree_at ts found.0))
+      (told-under e found a b 0 new spent h app is le)
 
   -- the turn of an abstraction's domain
   pub told-domain : (a b found : LpId) (new : List Frame) (d : List LpId) (spent : ℕ) → Holds ts found.0 SortType → new ≡ frame.Body a ∷ fs → d ≡ a ∷ c → spent ≤ 0
@@ -220,64 +230,64 @@ product-of-other rechecks ds ts G (node.Sym s) R k h = product-reach rechecks ds
 product-of-other rechecks ds ts G (node.App f x) R k h = let F = App (tree_at ts f.0) (tree_at ts x.0) in product-reach rechecks ds G F R k (head_step ds F)
 product-of-other rechecks ds ts G (node.Lam a b) R k h = let F = Lam (tree_at ts a.0) (tree_at ts b.0) in product-reach rechecks ds G F R k (head_step ds F)
 
-module _ (rechecks : Bool) (ds : List Declaration) (ts us : List Tree) (c : List LpId) (fs : List Frame) (f x w found : LpId) (n : LpNode) where
+module _ (rechecks : Bool) (ds : List Declaration) (ts us : List Tree) (c : List LpId) (fs : List Frame) (e : Application) (found : LpId) (n : LpNode) where
   -- a function's type goes through what is reached from it
   through : Stays ts us → found.0 < length ts → Holds ts found.0 (tree_of_node ts n) → ((a b : LpId) → n ≡ node.Pi a b → ⊥)
-      → resume rechecks ds us c (frame.Function f x w ∷ fs) (tree_at us found.0) ≡ and_then (reach ds (tree_at ts found.0)) (λ P. and_then (recheck rechecks (trees_at us c) P (if_product P (λ A B. Ask (Infer (trees_at us c) (tree_at us x.0)) (meeting (trees_at us c) A B (tree_at us x.0))))) (resume rechecks ds us c fs))
+      → resume rechecks ds us c (frame.Function e ∷ fs) (tree_at us found.0) ≡ and_then (reach ds (tree_at ts found.0)) (λ P. and_then (recheck rechecks (trees_at us c) P (if_product P (λ A B. Ask (Infer (trees_at us c) (tree_at us e.argument.0)) (meeting (trees_at us c) A B (tree_at us e.argument.0))))) (resume rechecks ds us c fs))
   through s hf at not =
-      let R = λ (A : Tree) (B : Tree). Ask (Infer (trees_at us c) (tree_at us x.0)) (meeting (trees_at us c) A B (tree_at us x.0)) in
-      let e = Holds-tree_at ts found.0 _ at in
-      ap (λ t. and_then (product_of ds rechecks (trees_at us c) t R) (resume rechecks ds us c fs)) (sym (tree_at-Stays s found.0 hf) ∙ e)
+      let R = λ (A : Tree) (B : Tree). Ask (Infer (trees_at us c) (tree_at us e.argument.0)) (meeting (trees_at us c) A B (tree_at us e.argument.0)) in
+      let is = Holds-tree_at ts found.0 _ at in
+      ap (λ t. and_then (product_of ds rechecks (trees_at us c) t R) (resume rechecks ds us c fs)) (sym (tree_at-Stays s found.0 hf) ∙ is)
       ∙ product-of-other rechecks ds ts (trees_at us c) n R (resume rechecks ds us c fs) not
-      ∙ ap (λ t. and_then (reach ds t) (λ P. and_then (recheck rechecks (trees_at us c) P (if_product P R)) (resume rechecks ds us c fs))) (sym e)
+      ∙ ap (λ t. and_then (reach ds t) (λ P. and_then (recheck rechecks (trees_at us c) P (if_product P R)) (resume rechecks ds us c fs))) (sym is)
 
   -- and is left where a product was reached
   reached-on : (product : LpId) (spent : ℕ) → Stays ts us → found.0 < length ts → Holds ts found.0 (tree_of_node ts n) → ((a b : LpId) → n ≡ node.Pi a b → ⊥)
       → Answered ds true (reach ds (tree_at ts found.0)) (Found (tree_at us product.0)) spent
-      → Leaves ds rechecks (resume rechecks ds us c (frame.Function f x w ∷ fs) (tree_at us found.0)) spent (and_then (recheck rechecks (trees_at us c) (tree_at us product.0) (applying us (trees_at us c) x (tree_at us product.0))) (resume rechecks ds us c fs))
+      → Leaves ds rechecks (resume rechecks ds us c (frame.Function e ∷ fs) (tree_at us found.0)) spent (and_then (recheck rechecks (trees_at us c) (tree_at us product.0) (applying us (trees_at us c) e.argument (tree_at us product.0))) (resume rechecks ds us c fs))
   reached-on product spent s hf at not g =
       let h = reached-answered rechecks ds (tree_at ts found.0) (Found (tree_at us product.0)) spent g in
-      subst (λ p. Leaves ds rechecks p spent (and_then (recheck rechecks (trees_at us c) (tree_at us product.0) (applying us (trees_at us c) x (tree_at us product.0))) (resume rechecks ds us c fs))) (sym (through s hf at not))
-      (leaves_found ds rechecks (reach ds (tree_at ts found.0)) (λ P. and_then (recheck rechecks (trees_at us c) P (applying us (trees_at us c) x P)) (resume rechecks ds us c fs)) (tree_at us product.0) h.price spent h.ends h.within)
+      subst (λ p. Leaves ds rechecks p spent (and_then (recheck rechecks (trees_at us c) (tree_at us product.0) (applying us (trees_at us c) e.argument (tree_at us product.0))) (resume rechecks ds us c fs))) (sym (through s hf at not))
+      (leaves_found ds rechecks (reach ds (tree_at ts found.0)) (λ P. and_then (recheck rechecks (trees_at us c) P (applying us (trees_at us c) e.argument P)) (resume rechecks ds us c fs)) (tree_at us product.0) h.price spent h.ends h.within)
 
   -- the turn of a function whose type reaches a product
   pub told-reached : rechecks ≡ true → (product : LpId) (new : List Frame) (spent : ℕ) → Stays ts us → found.0 < length ts → Holds ts found.0 (tree_of_node ts n) → ((a b : LpId) → n ≡ node.Pi a b → ⊥)
-      → Answered ds true (reach ds (tree_at ts found.0)) (Found (tree_at us product.0)) spent → new ≡ frame.Reached product f x w ∷ fs
-      → Leaves ds rechecks (resume rechecks ds us c (frame.Function f x w ∷ fs) (tree_at us found.0)) spent (Ask (Infer (trees_at us c) (tree_at us product.0)) (resume rechecks ds us c new))
+      → Answered ds true (reach ds (tree_at ts found.0)) (Found (tree_at us product.0)) spent → new ≡ frame.Reached product e ∷ fs
+      → Leaves ds rechecks (resume rechecks ds us c (frame.Function e ∷ fs) (tree_at us found.0)) spent (Ask (Infer (trees_at us c) (tree_at us product.0)) (resume rechecks ds us c new))
   told-reached on product new spent s hf at not g is =
       let P = tree_at us product.0 in
-      subst (λ l. Leaves ds rechecks (resume rechecks ds us c (frame.Function f x w ∷ fs) (tree_at us found.0)) spent (Ask (Infer (trees_at us c) P) (resume rechecks ds us c l))) (sym is)
-      (subst (λ p. Leaves ds rechecks (resume rechecks ds us c (frame.Function f x w ∷ fs) (tree_at us found.0)) spent p) (ap (λ r. and_then (recheck r (trees_at us c) P (applying us (trees_at us c) x P)) (resume rechecks ds us c fs)) on) (reached-on product spent s hf at not g))
+      subst (λ l. Leaves ds rechecks (resume rechecks ds us c (frame.Function e ∷ fs) (tree_at us found.0)) spent (Ask (Infer (trees_at us c) P) (resume rechecks ds us c l))) (sym is)
+      (subst (λ p. Leaves ds rechecks (resume rechecks ds us c (frame.Function e ∷ fs) (tree_at us found.0)) spent p) (ap (λ r. and_then (recheck r (trees_at us c) P (applying us (trees_at us c) e.argument P)) (resume rechecks ds us c fs)) on) (reached-on product spent s hf at not g))
 
   pub told-unreached : (spent : ℕ) → Stays ts us → found.0 < length ts → Holds ts found.0 (tree_of_node ts n) → ((a b : LpId) → n ≡ node.Pi a b → ⊥)
-      → Answered ds true (reach ds (tree_at ts found.0)) No spent → Leaves ds rechecks (resume rechecks ds us c (frame.Function f x w ∷ fs) (tree_at us found.0)) spent (Say No)
+      → Answered ds true (reach ds (tree_at ts found.0)) No spent → Leaves ds rechecks (resume rechecks ds us c (frame.Function e ∷ fs) (tree_at us found.0)) spent (Say No)
   told-unreached spent s hf at not g =
       let h = reached-answered rechecks ds (tree_at ts found.0) No spent g in
       subst (λ p. Leaves ds rechecks p spent (Say No)) (sym (through s hf at not)) (leaves_no ds rechecks (reach ds (tree_at ts found.0)) _ h.price spent h.ends h.within)
 
   pub told-over : (left : ℕ) → Stays ts us → found.0 < length ts → Holds ts found.0 (tree_of_node ts n) → ((a b : LpId) → n ≡ node.Pi a b → ⊥)
-      → IsOver ds true (reach ds (tree_at ts found.0)) left → (reply : Reply) (k : ℕ) → Ends ds rechecks (resume rechecks ds us c (frame.Function f x w ∷ fs) (tree_at us found.0)) reply k → left < k
-  told-over left s hf at not h reply k e = over_then ds rechecks (reach ds (tree_at ts found.0)) _ left (reached-over rechecks ds (tree_at ts found.0) left h) reply k (subst (λ p. Ends ds rechecks p reply k) (through s hf at not) e)
+      → IsOver ds true (reach ds (tree_at ts found.0)) left → (reply : Reply) (k : ℕ) → Ends ds rechecks (resume rechecks ds us c (frame.Function e ∷ fs) (tree_at us found.0)) reply k → left < k
+  told-over left s hf at not h reply k ends = over_then ds rechecks (reach ds (tree_at ts found.0)) _ left (reached-over rechecks ds (tree_at ts found.0) left h) reply k (subst (λ p. Ends ds rechecks p reply k) (through s hf at not) ends)
 
 -- the turn of a function whose type reaches a product, without rechecks of sorts, as that of the product
-pub told-unchecked : (rechecks : Bool) → rechecks ≡ false → (m : Module) (ts : List Tree) (st t : State) (f x w found product : LpId) (n : LpNode) (old mid : ℕ) (r : Next) → Stays ts m.table → found.0 < length ts → Holds ts found.0 (tree_of_node ts n) → ((a b : LpId) → n ≡ node.Pi a b → ⊥)
-    → Answered (declarations_of m) true (reach (declarations_of m) (tree_at ts found.0)) (Found (tree_at m.table product.0)) (old - mid) → mid ≤ old → IsApplied rechecks m st product x mid t r → IsTold rechecks m (frame.Function f x w) st found old mid t r
-told-unchecked true off m ts st t f x w found product n old mid r s hf at not h le a = absurd (cc)
-told-unchecked false off m ts st t f x w found product n old mid r s hf at not h le a =
-    turned-from false m t r (old - mid) old mid mid (reached-on false (declarations_of m) ts m.table st.context st.frames f x w found n product (old - mid) s hf at not h) (omega (arith, le)) (omega arith) a
+pub told-unchecked : (rechecks : Bool) → rechecks ≡ false → (m : Module) (ts : List Tree) (st t : State) (e : Application) (found product : LpId) (n : LpNode) (old mid : ℕ) (r : Next) → Stays ts m.table → found.0 < length ts → Holds ts found.0 (tree_of_node ts n) → ((a b : LpId) → n ≡ node.Pi a b → ⊥)
+    → Answered (declarations_of m) true (reach (declarations_of m) (tree_at ts found.0)) (Found (tree_at m.table product.0)) (old - mid) → mid ≤ old → IsApplied rechecks m st product e.argument mid t r → IsTold rechecks m (frame.Function e) st found old mid t r
+told-unchecked true off m ts st t e found product n old mid r s hf at not h le a = absurd (cc)
+told-unchecked false off m ts st t e found product n old mid r s hf at not h le a =
+    turned-from false m t r (old - mid) old mid mid (reached-on false (declarations_of m) ts m.table st.context st.frames e found n product (old - mid) s hf at not h) (omega (arith, le)) (omega arith) a
 
 -- the turn of a product, to the argument
-pub told-applied : (rechecks : Bool) (ds : List Declaration) (ts : List Tree) (c : List LpId) (fs : List Frame) (p f x w a b : LpId) (new : List Frame) (spent : ℕ) → Holds ts p.0 (Pi (tree_at ts a.0) (tree_at ts b.0)) → IsApplication ts f x w → new ≡ frame.Argument a b 0 f w ∷ fs → spent ≤ 0
-    → Leaves ds rechecks (and_then (applying ts (trees_at ts c) x (tree_at ts p.0)) (resume rechecks ds ts c fs)) spent (Ask (Infer (trees_at ts c) (tree_at ts x.0)) (resume rechecks ds ts c new))
-told-applied rechecks ds ts c fs p f x w a b new spent h app is le =
+pub told-applied : (rechecks : Bool) (ds : List Declaration) (ts : List Tree) (c : List LpId) (fs : List Frame) (p a b : LpId) (e : Application) (new : List Frame) (spent : ℕ) → Holds ts p.0 (Pi (tree_at ts a.0) (tree_at ts b.0)) → IsApplication ts e → new ≡ met a b 0 e ∷ fs → spent ≤ 0
+    → Leaves ds rechecks (and_then (applying ts (trees_at ts c) e.argument (tree_at ts p.0)) (resume rechecks ds ts c fs)) spent (Ask (Infer (trees_at ts c) (tree_at ts e.argument.0)) (resume rechecks ds ts c new))
+told-applied rechecks ds ts c fs p a b e new spent h app is le =
     leaves_fewer ds rechecks le (leaves_equal ds rechecks (
-    ap (λ t. and_then (applying ts (trees_at ts c) x t) (resume rechecks ds ts c fs)) (Holds-tree_at ts p.0 _ h)
+    ap (λ t. and_then (applying ts (trees_at ts c) e.argument t) (resume rechecks ds ts c fs)) (Holds-tree_at ts p.0 _ h)
     ∙ ap₂ (λ A B. and_then (R A B) (resume rechecks ds ts c fs)) (sym (put_all_at-nil 0 (tree_at ts a.0))) (sym (put_all_at-nil 1 (tree_at ts b.0)))
-    ∙ asked-argument rechecks ds ts c fs a b f x w 0 app
-    ∙ ap (λ l. Ask (Infer (trees_at ts c) (tree_at ts x.0)) (resume rechecks ds ts c l)) (sym is)))
+    ∙ asked-argument rechecks ds ts c fs a b 0 e app
+    ∙ ap (λ l. Ask (Infer (trees_at ts c) (tree_at ts e.argument.0)) (resume rechecks ds ts c l)) (sym is)))
   where
     R : Tree → Tree → Plan
-    R A B = Ask (Infer (trees_at ts c) (tree_at ts x.0)) (meeting (trees_at ts c) A B (tree_at ts x.0))
+    R A B = Ask (Infer (trees_at ts c) (tree_at ts e.argument.0)) (meeting (trees_at ts c) A B (tree_at ts e.argument.0))
 
 -- and of what is no product
 pub told-unapplied : (rechecks : Bool) (ds : List Declaration) (ts : List Tree) (c : List LpId) (fs : List Frame) (p x : LpId) (n : LpNode) (spent : ℕ) → Holds ts p.0 (tree_of_node ts n) → ((a b : LpId) → n ≡ node.Pi a b → ⊥) → spent ≤ 0
@@ -295,18 +305,19 @@ told-unapplied rechecks ds ts c fs p x n spent h not le =
     go (node.Lam a b) h = refl
 
 -- the turn of a product that was reached and has a sort, as that of the product
-pub told-sorted : (rechecks : Bool) (m : Module) (st t : State) (p f x w found : LpId) (n : LpNode) (left : ℕ) (r : Next) → Holds m.table found.0 (tree_of_node m.table n) → (n ≡ node.SortType) ⊎ (n ≡ node.SortKind)
-    → IsApplied rechecks m st p x left t r → IsTold rechecks m (frame.Reached p f x w) st found left left t r
-told-sorted rechecks m st t p f x w found n left r at sort h =
-    let q = applying m.table (trees_at m.table st.context) x (tree_at m.table p.0) in
+pub told-sorted : (rechecks : Bool) (m : Module) (st t : State) (p : LpId) (e : Application) (found : LpId) (n : LpNode) (left : ℕ) (r : Next) → Holds m.table found.0 (tree_of_node m.table n) → (n ≡ node.SortType) ⊎ (n ≡ node.SortKind)
+    → IsApplied rechecks m st p e.argument left t r → IsTold rechecks m (frame.Reached p e) st found left left t r
+told-sorted rechecks m st t p e found n left r at sort h =
+    let q = applying m.table (trees_at m.table st.context) e.argument (tree_at m.table p.0) in
     let rest = resume rechecks (declarations_of m) m.table st.context st.frames in
     turned-as rechecks m left left t r (ap (λ s. and_then (if_sort s q) rest) (Holds-tree_at m.table found.0 _ at) ∙ ap (λ p. and_then p rest) (sorted-on m.table n q sort)) h
 
 -- the turn of a meeting of two types, without rechecks of sorts, as that of their conversion
-pub told-met : (rechecks : Bool) → rechecks ≡ false → (m : Module) (st : State) (a b f w found domain : LpId) (k more old mid new : ℕ) (r : Next) → tree_at m.table domain.0 ≡ put_all (spine_args k (tree_at m.table f.0)) (tree_at m.table a.0)
-    → tree_eq (tree_at m.table domain.0) (tree_at m.table found.0) ≡ false → more ≡ suc k → old ≤ 1 + mid → new ≤ mid → IsConverted rechecks m domain b more w found mid new st r → IsTold rechecks m (frame.Argument a b k f w) st found old new st r
-told-met rechecks off m st a b f w found domain k more old mid new r is e size lo ln h =
-    turned-from rechecks m st r 1 old mid new (met-other rechecks (declarations_of m) m.table st.context st.frames off a b f w found domain k more is e size) lo ln h
+pub told-met : (rechecks : Bool) → rechecks ≡ false → (m : Module) (st : State) (e : Argument) (found domain : LpId) (more old mid new : ℕ) (r : Next) → tree_at m.table domain.0 ≡ filled m.table e.domain e.count e.app.function
+    → tree_eq (tree_at m.table domain.0) (tree_at m.table found.0) ≡ false → more ≡ suc e.count → old ≤ 1 + mid → new ≤ mid
+    → IsConverted rechecks m (record { domain = domain; body = e.body; count = more; whole = e.app.whole; found = found }) mid new st r → IsTold rechecks m (frame.Argument e) st found old new st r
+told-met rechecks off m st e found domain more old mid new r is q size lo ln h =
+    turned-from rechecks m st r 1 old mid new (met-other rechecks (declarations_of m) m.table st.context st.frames off e found domain more is q size) lo ln h
 
 -- the turn of a product's domain
 pub told-product-domain : (rechecks : Bool) (ds : List Declaration) (ts : List Tree) (c : List LpId) (fs : List Frame) (a b found : LpId) (new : List Frame) (d : List LpId) (spent : ℕ) → Holds ts found.0 SortType → new ≡ frame.ProductBody ∷ fs → d ≡ a ∷ c → spent ≤ 0

@@ -8,6 +8,8 @@ use Rattle.holide_sig.specs.declared.module.Module.{Module}
 use Rattle.holide_sig.specs.Modules.{declarations_of}
 use Rattle.lp_shape.specs.Check.{Infer, Meet, Convert, Reply, Found, No, Plan, Say, Ask, if_type, if_sort, unless_kind, if_product, product_of, Ends}
 use Rattle.lp_shape.specs.PlanLaws.{and_then, Leaves}
+use Rattle.lp_kernel.specs.declared.state.Application.{Application}
+use Rattle.lp_kernel.specs.declared.state.Expected.{Expected}
 use Rattle.lp_kernel.specs.declared.state.Frame.{Frame}
 use Rattle.lp_kernel.specs.declared.state.Frame.TheVariants as frame
 use Rattle.lp_kernel.specs.declared.state.Next.{Next}
@@ -19,6 +21,10 @@ abbrev pub spine_args : ℕ → Tree → List Tree
 spine_args zero t = []
 spine_args (suc k) (App f x) = spine_args k f ++ x ∷ []
 spine_args (suc k) _ = []
+
+-- a type with so many last arguments of an application put in
+abbrev pub filled : List Tree → LpId → ℕ → LpId → Tree
+filled ts b k f = put_all (spine_args k (tree_at ts f.0)) (tree_at ts b.0)
 
 -- the context outside the innermost variable
 abbrev pub outside : List LpId → List LpId
@@ -41,10 +47,13 @@ applying ts G x P = if_product P (λ A B. Ask (Infer G (tree_at ts x.0)) (meetin
 
 -- how a frame goes on with a type that was found, in a check with rechecks of sorts or without
 abbrev pub after : Bool → List Declaration → List Tree → List Tree → Frame → Tree → Plan
-after rechecks ds ts G (frame.Function f x w) F = product_of ds rechecks G F (λ A B. Ask (Infer G (tree_at ts x.0)) (meeting G A B (tree_at ts x.0)))
-after rechecks ds ts G (frame.Reached p f x w) s = if_sort s (applying ts G x (tree_at ts p.0))
-after rechecks ds ts G (frame.Argument a b k f w) X = Ask (Meet G (put_all (spine_args k (tree_at ts f.0)) (tree_at ts a.0)) X) (λ _. Say (Found (put_all (spine_args (suc k) (tree_at ts w.0)) (tree_at ts b.0))))
-after rechecks ds ts G (frame.Expected a b k w y) s = if_sort s (Ask (Convert (tree_at ts a.0) (tree_at ts y.0)) (λ _. Say (Found (put_all (spine_args k (tree_at ts w.0)) (tree_at ts b.0)))))
+after rechecks ds ts G (frame.Function e) F =
+    product_of ds rechecks G F (λ A B. Ask (Infer G (tree_at ts e.argument.0)) (meeting G A B (tree_at ts e.argument.0)))
+after rechecks ds ts G (frame.Reached p e) s = if_sort s (applying ts G e.argument (tree_at ts p.0))
+after rechecks ds ts G (frame.Argument e) X =
+    Ask (Meet G (filled ts e.domain e.count e.app.function) X) (λ _. Say (Found (filled ts e.body (suc e.count) e.app.whole)))
+after rechecks ds ts G (frame.Expected e) s =
+    if_sort s (Ask (Convert (tree_at ts e.domain.0) (tree_at ts e.found.0)) (λ _. Say (Found (filled ts e.body e.count e.whole))))
 after rechecks ds ts G (frame.Domain a b) s = if_type s (Ask (Infer (tree_at ts a.0 ∷ G) (tree_at ts b.0)) (λ B. unless_kind B (Say (Found (Pi (tree_at ts a.0) B)))))
 after rechecks ds ts G (frame.Body a) B = unless_kind B (Say (Found (Pi (tree_at ts a.0) B)))
 after rechecks ds ts G (frame.ProductDomain a b) s = if_type s (Ask (Infer (tree_at ts a.0 ∷ G) (tree_at ts b.0)) (λ o. if_sort o (Say (Found o))))
@@ -59,22 +68,22 @@ resume rechecks ds ts c (f ∷ fs) t = and_then (after rechecks ds ts (trees_at 
 abbrev pub pending : Bool → List Declaration → List Tree → State → Next → Plan
 pending rechecks ds ts s (next.Ask id) = Ask (Infer (trees_at ts s.context) (tree_at ts id.0)) (resume rechecks ds ts s.context s.frames)
 pending rechecks ds ts s (next.Tell id) = resume rechecks ds ts s.context s.frames (tree_at ts id.0)
-pending rechecks ds ts s (next.Under b k f) = resume rechecks ds ts s.context s.frames (put_all (spine_args k (tree_at ts f.0)) (tree_at ts b.0))
+pending rechecks ds ts s (next.Under b k f) = resume rechecks ds ts s.context s.frames (filled ts b k f)
 pending rechecks ds ts s next.No = Say No
 pending rechecks ds ts s next.Over = Say No
 
 -- a function, an argument, and the application of the two
-pub record IsApplication (ts : List Tree) (f x w : LpId) : Type 0 where
-  pub function : f.0 < length ts
-  pub argument : x.0 < length ts
-  pub whole : w.0 < length ts
-  pub is : Holds ts w.0 (App (tree_at ts f.0) (tree_at ts x.0))
+pub record IsApplication (ts : List Tree) (e : Application) : Type 0 where
+  pub function : e.function.0 < length ts
+  pub argument : e.argument.0 < length ts
+  pub whole : e.whole.0 < length ts
+  pub is : Holds ts e.whole.0 (App (tree_at ts e.function.0) (tree_at ts e.argument.0))
 
 abbrev pub IsKnownFrame : List Tree → Frame → Type 0
-IsKnownFrame ts (frame.Function f x w) = IsApplication ts f x w
-IsKnownFrame ts (frame.Reached p f x w) = (p.0 < length ts) × IsApplication ts f x w
-IsKnownFrame ts (frame.Argument a b k f w) = (a.0 < length ts) × (b.0 < length ts) × (f.0 < length ts) × (w.0 < length ts)
-IsKnownFrame ts (frame.Expected a b k w y) = (a.0 < length ts) × (b.0 < length ts) × (w.0 < length ts) × (y.0 < length ts)
+IsKnownFrame ts (frame.Function e) = IsApplication ts e
+IsKnownFrame ts (frame.Reached p e) = (p.0 < length ts) × IsApplication ts e
+IsKnownFrame ts (frame.Argument e) = (e.domain.0 < length ts) × (e.body.0 < length ts) × IsApplication ts e.app
+IsKnownFrame ts (frame.Expected e) = (e.domain.0 < length ts) × (e.body.0 < length ts) × (e.whole.0 < length ts) × (e.found.0 < length ts)
 IsKnownFrame ts (frame.Domain a b) = (a.0 < length ts) × (b.0 < length ts)
 IsKnownFrame ts (frame.Body a) = a.0 < length ts
 IsKnownFrame ts (frame.ProductDomain a b) = (a.0 < length ts) × (b.0 < length ts)
@@ -112,13 +121,15 @@ IsTold rechecks m f s found old new t n = IsTurned rechecks m (resume rechecks (
 abbrev pub IsApplied : Bool → Module → State → LpId → LpId → ℕ → State → Next → Type 0
 IsApplied rechecks m s product x left t n = IsTurned rechecks m (and_then (applying m.table (trees_at m.table s.context) x (tree_at m.table product.0)) (resume rechecks (declarations_of m) m.table s.context s.frames)) left left t n
 
--- what is left where the type of an argument, y, is to be converted to the expected one, a
-abbrev pub conversion : Bool → Module → State → LpId → LpId → ℕ → LpId → LpId → Plan
-conversion rechecks m s a b k w y = Ask (Convert (tree_at m.table a.0) (tree_at m.table y.0)) (λ _. resume rechecks (declarations_of m) m.table s.context s.frames (put_all (spine_args k (tree_at m.table w.0)) (tree_at m.table b.0)))
+-- what is left where the type of an argument is to be converted to the expected one
+abbrev pub conversion : Bool → Module → State → Expected → Plan
+conversion rechecks m s e =
+    Ask (Convert (tree_at m.table e.domain.0) (tree_at m.table e.found.0))
+    (λ _. resume rechecks (declarations_of m) m.table s.context s.frames (filled m.table e.body e.count e.whole))
 
 -- after a turn that converts it
-abbrev pub IsConverted : Bool → Module → LpId → LpId → ℕ → LpId → LpId → ℕ → ℕ → State → Next → Type 0
-IsConverted rechecks m a b k w y old new s n = IsTurned rechecks m (conversion rechecks m s a b k w y) old new s n
+abbrev pub IsConverted : Bool → Module → Expected → ℕ → ℕ → State → Next → Type 0
+IsConverted rechecks m e old new s n = IsTurned rechecks m (conversion rechecks m s e) old new s n
 
 -- what is next where a tree may be found at once
 abbrev pub IsFoundIf : List Tree → Option Tree → Next → Type 0
@@ -157,9 +168,13 @@ IsFewerAsked s old new t n = suc (left_of new (length t.frames) n) < 4 * old + 2
 abbrev pub IsFewerMade : State → State → Next → Type 0
 IsFewerMade s t n = 2 * length t.frames + weight_of n < 2 * length s.frames + 4
 
--- a type with so many last arguments of an application put in
+-- a tree that is a type with so many last arguments of an application put in
 abbrev pub IsFilled : List Tree → LpId → ℕ → LpId → List Tree → LpId → Type 0
-IsFilled ts b k f us r = tree_at us r.0 ≡ put_all (spine_args k (tree_at ts f.0)) (tree_at ts b.0)
+IsFilled ts b k f us r = tree_at us r.0 ≡ filled ts b k f
+
+-- a tree that is an application whose two parts have so many last arguments of an application put in
+abbrev pub IsFilledApplication : List Tree → LpId → LpId → ℕ → LpId → LpId → Type 0
+IsFilledApplication ts g x k f r = tree_at ts r.0 ≡ App (filled ts g k f) (filled ts x k f)
 
 -- the last of so many arguments of an application, and its function, if there is one
 abbrev pub IsLast : List Tree → ℕ → LpId → Option (LpId × LpId) → Type 0

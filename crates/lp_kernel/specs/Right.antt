@@ -2,10 +2,11 @@
 use Rattle.std.specs.Prelude.{◌≡◌, ◌⊎◌, ℕ, ◌<◌, Bool, List, Some, length, slice_get}
 use Rattle.lp_spec.specs.Trees.{Tree, loose}
 use Rattle.lp_spec.specs.Modules.{Declaration}
+use Rattle.lp_typing.specs.ConversionLaws.{IsClosed}
 use Rattle.lp_term.specs.declared.LpId.{LpId}
 use Rattle.lp_term.specs.Tables.{tree_at, trees_at, AreKnown}
 use Rattle.holide_sig.specs.declared.module.Module.{Module}
-use Rattle.holide_sig.specs.Modules.{declarations_of}
+use Rattle.holide_sig.specs.Modules.{declarations_of, IsHeld}
 use Rattle.lp_shape.specs.Check.{Found}
 use Rattle.lp_conv.specs.Growth.{Grows}
 use Rattle.lp_conv.specs.Answers.{Answered}
@@ -33,17 +34,30 @@ pub record IsTypeIn (rechecks : Bool) (ds : List Declaration) (ts : List Tree) (
 pub record AreTypesIn (rechecks : Bool) (ds : List Declaration) (ts : List Tree) (scopes : List Scope) (kept : List Finding) : Type 0 where
   pub each : (place : ℕ) (f : Finding) → slice_get kept place ≡ Some f → IsTypeIn rechecks ds ts scopes f.by f.id f.found
 
--- all that is remembered is right
+-- all that a check with rechecks of sorts, or without, remembers is right
 pub record AreRight (rechecks : Bool) (ds : List Declaration) (ts : List Tree) (memo : Memos) : Type 0 where
+  pub rechecked : memo.turns.rechecks ≡ rechecks
   pub types : AreTypes rechecks ds ts memo.types
-  pub products : AreProducts ds ts memo.products
+  pub products : AreProducts ds ts memo.turns.products
   pub lifts : AreLifts ts memo.lifts
-  pub open_types : AreTypesIn rechecks ds ts memo.contexts memo.open_types
+  pub open_types : AreTypesIn rechecks ds ts memo.turns.contexts memo.open_types
 
 -- a module that has grown from another, and what is remembered over it is right
 pub record IsCutBack (rechecks : Bool) (from m : Module) (memo : Memos) : Type 0 where
   pub grows : Grows from m
   pub right : AreRight rechecks (declarations_of m) m.table memo
+
+-- where a module has grown from one with so many nodes, and what is remembered over it is right, it is cut back to the other
+abbrev pub CutsBack : ℕ → Module → Memos → Module → Memos → Type 0
+CutsBack kept m memo back fewer =
+    (rechecks : Bool) (from : Module) → length from.table ≡ kept → IsHeld from → Grows from m
+    → AreRight rechecks (declarations_of m) m.table memo → IsCutBack rechecks from back fewer
+
+-- what is remembered stays right with this type of a tree in the context of this number
+abbrev pub StaysRight : List Tree → Memos → ℕ → LpId → LpId → Memos → Type 0
+StaysRight ts old key id found new =
+    (rechecks : Bool) (ds : List Declaration) → IsClosed ds → AreRight rechecks ds ts old
+    → IsTypeIn rechecks ds ts old.turns.contexts key id found → AreRight rechecks ds ts new
 
 -- this type is noted of a tree, in all contexts or in that of this number
 abbrev pub IsTypeNoted : Memos → ℕ → LpId → LpId → Type 0

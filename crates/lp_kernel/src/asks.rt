@@ -11,7 +11,7 @@ ghost use Rattle.lp_kernel.specs.Pending.{IsKnownState, IsKnownNext, IsAsked, Is
 use crate::context::Context;
 use crate::latest::Latest;
 use crate::lifts::lifted;
-use crate::state::{Frame, Next, State};
+use crate::state::{Application, Frame, Next, State};
 use bridge_base::{Budget, Memory};
 use holide_sig::{Module, SIGNATURE};
 use lp_term::{LpId, LpNode};
@@ -42,7 +42,12 @@ pub(crate) fn ask(
     }
     match base.table.view(id) {
         LpNode::App(f, x) => {
-            state.frames.push(Frame::Function(f, x, id))?;
+            let app = Application {
+                function: f,
+                argument: x,
+                whole: id,
+            };
+            state.frames.push(Frame::Function(app))?;
             Ok(Next::Ask(f))
         }
         LpNode::Lam(a, b) => {

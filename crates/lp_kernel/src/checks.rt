@@ -1,5 +1,5 @@
 //! The check of a declaration, and of all of a module's.
-ghost use Rattle.std.specs.Prelude.{◌≡◌, ℕ, ◌<◌, ◌≤◌, Bool, [], IfOk, length, slice_get, Some, true, false};
+ghost use Rattle.std.specs.Prelude.{◌≡◌, ℕ, ◌<◌, ◌≤◌, IfOk, length, true, false};
 ghost use Rattle.lp_spec.specs.ModuleOrder.{IsModule};
 ghost use Rattle.lp_spec.specs.Typing.{WellTyped};
 ghost use Rattle.lp_term.specs.Tables.{tree_at};
@@ -8,8 +8,7 @@ ghost use Rattle.lp_shape.specs.Check.{body_plan, declaration_plan};
 ghost use Rattle.lp_conv.specs.Growth.{Grows};
 ghost use Rattle.lp_conv.specs.declared.Answer.TheVariants as answer;
 ghost use Rattle.lp_kernel.specs.declared.checks.Verdict.TheVariants as verdict;
-ghost use Rattle.holide_sig.specs.declared.module.Module.{Module as AModule};
-ghost use Rattle.lp_kernel.specs.Right.{AreRight, IsCutBack};
+ghost use Rattle.lp_kernel.specs.Right.{AreRight, CutsBack};
 ghost use Rattle.lp_kernel.specs.Checks.{IsBodyChecked, IsChecked, IsTypedAt, IsJudged, PassWithin, IsRefusedWithin};
 
 use crate::inference::Inferred;
@@ -48,34 +47,32 @@ pub fn check_decl(
     ensures answered { IfOk result (IsChecked true (declarations_of base.old) i budget.old.left budget.new.left) }
     ensures sound { IfOk result (λ a. a ≡ answer.Yes → IsTypedAt (declarations_of base.old) i) }
 {
-    let mut memo = Memos::new(alloc);
-    check_noted(alloc, base, true, &mut memo, i, budget)
+    let mut memo = Memos::new(alloc, true);
+    check_noted(&mut memo, base, i, budget)
 }
 
-// Checks a declaration by what is noted of closed trees, with rechecks of sorts or without.
+// Checks a declaration by what is noted of closed trees.
 fn check_noted(
-    alloc: Global,
-    base: &mut Module,
-    rechecks: bool,
     memo: &mut Memos,
+    base: &mut Module,
     i: usize,
     budget: &mut Budget,
 ) -> Result<Answer, Memory>
     requires held { IsHeld base.old }
     requires is_module { IsModule (declarations_of base.old) }
-    requires right { AreRight rechecks (declarations_of base.old) base.old.table memo.old }
+    requires right { AreRight memo.old.turns.rechecks (declarations_of base.old) base.old.table memo.old }
     requires i { i < length base.old.decls }
     ensures grows { Grows base.old base.new }
     ensures less { budget.new.left ≤ budget.old.left }
-    ensures answered { IfOk result (IsChecked rechecks (declarations_of base.old) i budget.old.left budget.new.left) }
+    ensures answered { IfOk result (IsChecked memo.old.turns.rechecks (declarations_of base.old) i budget.old.left budget.new.left) }
     ensures sound { IfOk result (λ a. a ≡ answer.Yes → IsTypedAt (declarations_of base.old) i) }
-    ensures right { IfOk result (λ a. AreRight rechecks (declarations_of base.new) base.new.table memo.new) }
+    ensures right { IfOk result (λ a. AreRight memo.old.turns.rechecks (declarations_of base.new) base.new.table memo.new) }
 {
     let decl = base.decls.get(i);
     let (ty, body) = (decl.ty, decl.body);
-    match infer_noted(alloc, base, rechecks, memo, ty, budget)? {
+    match infer_noted(memo, base, ty, budget)? {
         Inferred::Found(sort) => match base.table.view(sort) {
-            LpNode::SortType => check_body(alloc, base, rechecks, memo, ty, body, budget),
+            LpNode::SortType => check_body(memo, base, ty, body, budget),
             _ => Ok(Answer::No),
         },
         Inferred::No => Ok(Answer::No),
@@ -85,29 +82,27 @@ fn check_noted(
 
 // Whether the body of a declaration, where there is one, has a type that is convertible to the declared one.
 fn check_body(
-    alloc: Global,
-    base: &mut Module,
-    rechecks: bool,
     memo: &mut Memos,
+    base: &mut Module,
     ty: LpId,
     body: Option<LpId>,
     budget: &mut Budget,
 ) -> Result<Answer, Memory>
     requires held { IsHeld base.old }
     requires is_module { IsModule (declarations_of base.old) }
-    requires right { AreRight rechecks (declarations_of base.old) base.old.table memo.old }
+    requires right { AreRight memo.old.turns.rechecks (declarations_of base.old) base.old.table memo.old }
     requires ty { ty.0 < length base.old.table }
     requires body { IsBodyKnown base.old.table body }
     ensures grows { Grows base.old base.new }
     ensures less { budget.new.left ≤ budget.old.left }
-    ensures answered { IfOk result (IsBodyChecked rechecks base.old ty body budget.old.left budget.new.left) }
-    ensures right { IfOk result (λ a. AreRight rechecks (declarations_of base.new) base.new.table memo.new) }
+    ensures answered { IfOk result (IsBodyChecked memo.old.turns.rechecks base.old ty body budget.old.left budget.new.left) }
+    ensures right { IfOk result (λ a. AreRight memo.old.turns.rechecks (declarations_of base.new) base.new.table memo.new) }
 {
     let Some(tree) = body else {
         return Ok(Answer::Yes);
     };
-    match infer_noted(alloc, base, rechecks, memo, tree, budget)? {
-        Inferred::Found(found) => conv(alloc, base, ty, found, budget),
+    match infer_noted(memo, base, tree, budget)? {
+        Inferred::Found(found) => conv(memo.turns.alloc, base, ty, found, budget),
         Inferred::No => Ok(Answer::No),
         Inferred::Over => Ok(Answer::Over),
     }
@@ -158,10 +153,10 @@ fn check_all(
     ensures refuses { IfOk result (λ v. (i : ℕ) → IsRefusedWithin rechecks (declarations_of base.old) budgets.now i → v ≡ verdict.IllTyped i) }
 {
     let kept = base.table.count();
-    let mut memo = Memos::new(alloc);
+    let mut memo = Memos::new(alloc, rechecks);
     for (i, budget) in budgets.iter().enumerate() {
         let mut left = Budget { left: *budget };
-        match check_noted(alloc, base, rechecks, &mut memo, i, &mut left)? {
+        match check_noted(&mut memo, base, i, &mut left)? {
             Answer::Yes => cut_back(base, &mut memo, kept),
             Answer::No => return Ok(Verdict::IllTyped(i)),
             Answer::Over => return Ok(Verdict::OverBudget(i)),
@@ -176,7 +171,7 @@ const ROOM: usize = 4096;
 // Gives up the nodes that the checks made after the first `kept`, where they are many, and what is noted of them.
 fn cut_back(base: &mut Module, memo: &mut Memos, kept: usize)
     requires { kept ≤ length base.old.table }
-    ensures { (rechecks : Bool) (from : AModule) → length from.table ≡ kept → IsHeld from → Grows from base.old → AreRight rechecks (declarations_of base.old) base.old.table memo.old → IsCutBack rechecks from base.new memo.new }
+    ensures { CutsBack kept base.old memo.old base.new memo.new }
 {
     memo.trim();
     let made = base.table.count() - kept;

@@ -7,9 +7,8 @@ ghost use Rattle.lp_kernel.specs.Inference.{typing, IsInferred, IsKnownType, IsT
 
 use crate::asks::ask;
 use crate::context::Context;
-use crate::contexts::Contexts;
 use crate::latest::Latest;
-use crate::memo::Memo;
+use crate::memo::Turns;
 use crate::spines::under;
 use crate::state::{Next, State};
 use crate::tells::tell;
@@ -54,10 +53,9 @@ pub fn infer(
         frames: Stack::new(alloc),
         key: 0,
     };
-    let mut products = Memo::new(alloc);
+    // The numbers of contexts are not asked for.
+    let mut turns = Turns::new(alloc, true);
     let mut lifts = Latest::new(alloc);
-    // Their numbers are not asked for.
-    let mut contexts = Contexts::new(alloc);
     let mut next = Next::Ask(id);
     loop {
         match next {
@@ -67,17 +65,7 @@ pub fn infer(
             Next::Tell(found) => match state.frames.pop() {
                 None => return Ok(Inferred::Found(found)),
                 Some(frame) => {
-                    next = tell(
-                        alloc,
-                        base,
-                        true,
-                        &mut products,
-                        &mut contexts,
-                        &mut state,
-                        frame,
-                        found,
-                        budget,
-                    )?;
+                    next = tell(&mut turns, base, &mut state, frame, found, budget)?;
                 }
             },
             Next::Under(b, k, f) => {

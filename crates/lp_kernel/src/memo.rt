@@ -74,47 +74,72 @@ impl Memo {
     }
 }
 
-/// What a check remembers.
+/// How the turns of a check go on, and what they remember.
+#[derive(Drop)]
+pub(crate) struct Turns {
+    pub(crate) alloc: Global,
+    /// Whether sorts are rechecked.
+    pub(crate) rechecks: bool,
+    /// The products that types reach by head steps.
+    pub(crate) products: Memo,
+    /// The contexts that have numbers.
+    pub(crate) contexts: Contexts,
+}
+
+impl Turns {
+    /// Nothing is known.
+    pub(crate) fn new(alloc: Global, rechecks: bool) -> Self
+        ensures rechecks { result.rechecks ≡ rechecks }
+        ensures products { IsEmpty result.products }
+    {
+        Turns {
+            alloc,
+            rechecks,
+            products: Memo::new(alloc),
+            contexts: Contexts::new(alloc),
+        }
+    }
+}
+
+/// A check, and what it remembers.
 #[derive(Drop)]
 pub(crate) struct Memos {
     /// The types of closed trees.
     pub(crate) types: Memo,
-    /// The products that types reach by head steps.
-    pub(crate) products: Memo,
     /// Types that were lifted.
     pub(crate) lifts: Latest,
-    /// The contexts that have numbers.
-    pub(crate) contexts: Contexts,
-    /// The types of open trees in these contexts.
+    /// The types of open trees in the contexts that have numbers.
     pub(crate) open_types: Latest,
+    pub(crate) turns: Turns,
 }
 
 impl Memos {
     /// Nothing is known.
-    pub(crate) fn new(alloc: Global) -> Self
+    pub(crate) fn new(alloc: Global, rechecks: bool) -> Self
+        ensures rechecks { result.turns.rechecks ≡ rechecks }
         ensures types { IsEmpty result.types }
-        ensures products { IsEmpty result.products }
+        ensures products { IsEmpty result.turns.products }
         ensures lifts { result.lifts ≡ [] }
         ensures open_types { result.open_types ≡ [] }
     {
         Memos {
             types: Memo::new(alloc),
-            products: Memo::new(alloc),
             lifts: Latest::new(alloc),
-            contexts: Contexts::new(alloc),
             open_types: Latest::new(alloc),
+            turns: Turns::new(alloc, rechecks),
         }
     }
 
     /// Forgets each tree and each type with a number of `len` or more, all that was lifted, and all contexts.
     pub(crate) fn cut(&mut self, len: usize)
+        ensures rechecks { self.new.turns.rechecks ≡ self.old.turns.rechecks }
         ensures types { IsCutOff self.old.types self.new.types len }
-        ensures products { IsCutOff self.old.products self.new.products len }
+        ensures products { IsCutOff self.old.turns.products self.new.turns.products len }
         ensures lifts { self.new.lifts ≡ [] }
         ensures open_types { self.new.open_types ≡ [] }
     {
         self.types.cut(len);
-        self.products.cut(len);
+        self.turns.products.cut(len);
         self.lifts.clear();
         self.forget_contexts();
     }
@@ -123,19 +148,20 @@ impl Memos {
     pub(crate) fn trim(&mut self)
         ensures { (rechecks : Bool) (ds : List Declaration) (ts : List Tree) → AreRight rechecks ds ts self.old → AreRight rechecks ds ts self.new }
     {
-        if self.contexts.len() > MOST {
+        if self.turns.contexts.len() > MOST {
             self.forget_contexts();
         }
     }
 
     // Forgets all contexts, and what was found in them.
     fn forget_contexts(&mut self)
+        ensures rechecks { self.new.turns.rechecks ≡ self.old.turns.rechecks }
         ensures types { self.new.types ≡ self.old.types }
-        ensures products { self.new.products ≡ self.old.products }
+        ensures products { self.new.turns.products ≡ self.old.turns.products }
         ensures lifts { self.new.lifts ≡ self.old.lifts }
         ensures open_types { self.new.open_types ≡ [] }
     {
-        self.contexts.clear();
+        self.turns.contexts.clear();
         self.open_types.clear();
     }
 }

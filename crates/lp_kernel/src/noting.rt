@@ -1,15 +1,13 @@
 //! The type of a tree in the empty context, by what was found before of the applications in it.
-ghost use Rattle.std.specs.Prelude.{◌≡◌, ◌⊎◌, ◌<◌, ◌≤◌, [], Bool, List, IfOk, IfNone, IfSome, OnOk, length};
-ghost use Rattle.lp_spec.specs.Modules.{Declaration};
+ghost use Rattle.std.specs.Prelude.{◌≡◌, ◌⊎◌, ◌<◌, ◌≤◌, [], IfOk, IfNone, IfSome, OnOk, length};
 ghost use Rattle.lp_spec.specs.ModuleOrder.{IsModule};
-ghost use Rattle.lp_typing.specs.ConversionLaws.{IsClosed};
 ghost use Rattle.lp_term.specs.declared.LpId.{LpId as AnId};
 ghost use Rattle.holide_sig.specs.Modules.{declarations_of, IsHeld};
 ghost use Rattle.lp_conv.specs.Growth.{Grows};
 ghost use Rattle.lp_kernel.specs.Inference.{IsInferred, IsKnownType};
 ghost use Rattle.lp_kernel.specs.Latest.{IsKept};
 ghost use Rattle.lp_kernel.specs.Noted.{IsNoted, IsTakenUp};
-ghost use Rattle.lp_kernel.specs.Right.{AreRight, IsTypeIn, IsTypeNoted, IsRecalled};
+ghost use Rattle.lp_kernel.specs.Right.{AreRight, IsTypeNoted, StaysRight, IsRecalled};
 
 use crate::asks::ask;
 use crate::context::Context;
@@ -37,26 +35,25 @@ pub(crate) enum Recall {
     Other,
 }
 
-/// The type of a tree in the empty context, by the directed rules, with rechecks of sorts or without, each step taking one of
-/// the budget. An application whose type in its context is noted takes one step.
+/// The type of a tree in the empty context, by the directed rules, each step taking one of the budget. An application whose type in its
+/// context is noted takes one step.
 pub(crate) fn infer_noted(
-    alloc: Global,
-    base: &mut Module,
-    rechecks: bool,
     memo: &mut Memos,
+    base: &mut Module,
     id: LpId,
     budget: &mut Budget,
 ) -> Result<Inferred, Memory>
     requires held { IsHeld base.old }
     requires is_module { IsModule (declarations_of base.old) }
-    requires right { AreRight rechecks (declarations_of base.old) base.old.table memo.old }
+    requires right { AreRight memo.old.turns.rechecks (declarations_of base.old) base.old.table memo.old }
     requires id { id.0 < length base.old.table }
     ensures grows { Grows base.old base.new }
     ensures known { IfOk result (IsKnownType base.new.table) }
     ensures less { budget.new.left ≤ budget.old.left }
-    ensures answered { IfOk result (IsInferred rechecks base.old [] id base.new.table budget.old.left budget.new.left) }
-    ensures right { IfOk result (λ r. AreRight rechecks (declarations_of base.new) base.new.table memo.new) }
+    ensures answered { IfOk result (IsInferred memo.old.turns.rechecks base.old [] id base.new.table budget.old.left budget.new.left) }
+    ensures right { IfOk result (λ r. AreRight memo.old.turns.rechecks (declarations_of base.new) base.new.table memo.new) }
 {
+    let alloc = memo.turns.alloc;
     let mut state = State {
         context: Context::of(alloc, &[])?,
         frames: Stack::new(alloc),
@@ -96,17 +93,7 @@ pub(crate) fn infer_noted(
             },
             Next::Tell(found) => match state.frames.pop() {
                 Some(frame) => {
-                    next = tell(
-                        alloc,
-                        base,
-                        rechecks,
-                        &mut memo.products,
-                        &mut memo.contexts,
-                        &mut state,
-                        frame,
-                        found,
-                        budget,
-                    )?;
+                    next = tell(&mut memo.turns, base, &mut state, frame, found, budget)?;
                 }
                 None => match outer.pop() {
                     None => return Ok(Inferred::Found(found)),
@@ -179,8 +166,8 @@ fn note_type(
 ) -> Result<(), Memory>
     requires id { id.0 < length base.now.table }
     ensures noted { OnOk result (IsTypeNoted memo.new key id found) }
-    ensures same { memo.new.contexts ≡ memo.old.contexts }
-    ensures right { OnOk result ((rechecks : Bool) (ds : List Declaration) → IsClosed ds → AreRight rechecks ds base.now.table memo.old → IsTypeIn rechecks ds base.now.table memo.old.contexts key id found → AreRight rechecks ds base.now.table memo.new) }
+    ensures same { memo.new.turns ≡ memo.old.turns }
+    ensures right { OnOk result (StaysRight base.now.table memo.old key id found memo.new) }
 {
     if base.table.is_closed_under(id, 0) {
         return memo.types.note(id, found);

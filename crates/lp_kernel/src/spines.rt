@@ -1,16 +1,16 @@
 //! Types that are to have arguments of an application put in.
 ghost use Rattle.std.specs.Prelude.{ℕ, ◌≡◌, ◌<◌, Bool, IfOk, IfSome, length};
 ghost use Rattle.std.specs.Bool.{OnTrue};
-ghost use Rattle.lp_spec.specs.Trees.{Var, App, put_all, put_all_at};
+ghost use Rattle.lp_spec.specs.Trees.{Var};
 ghost use Rattle.lp_term.specs.Tables.{tree_at, trees_at, AreKnown};
 ghost use Rattle.holide_sig.specs.Modules.{IsHeld};
 ghost use Rattle.lp_conv.specs.Growth.{Grows};
 ghost use Rattle.lp_kernel.specs.declared.state.Next.TheVariants as next;
 ghost use Rattle.lp_kernel.specs.Keys.{IsSamePlace};
-ghost use Rattle.lp_kernel.specs.Made.{IsFilledUnder, StandsFor};
-ghost use Rattle.lp_kernel.specs.Pending.{spine_args, IsFilled, IsLast, IsKnownState, IsKnownNext, IsMade, IsAwaited, IsFewerMade};
+ghost use Rattle.lp_kernel.specs.Made.{IsFilledUnder, AreFilledUnder, IsVariableMade, StandsFor};
+ghost use Rattle.lp_kernel.specs.Pending.{spine_args, IsFilled, IsFilledApplication, IsLast, IsKnownState, IsKnownNext, IsMade, IsAwaited, IsFewerMade};
 
-use crate::state::{Frame, Next, State};
+use crate::state::{Argument, Frame, Next, State};
 use bridge_base::Memory;
 use holide_sig::Module;
 use lp_term::{LpId, LpNode};
@@ -89,10 +89,15 @@ fn awaited(
     let Some(frame) = state.frames.pop() else {
         return Ok(None);
     };
-    if let Frame::Function(f, x, w) = frame {
-        if f == g {
-            state.frames.push(Frame::Argument(a, c, k, f, w))?;
-            return Ok(Some(x));
+    if let Frame::Function(app) = frame {
+        if app.function == g {
+            state.frames.push(Frame::Argument(Argument {
+                domain: a,
+                body: c,
+                count: k,
+                app,
+            }))?;
+            return Ok(Some(app.argument));
         }
     }
     state.frames.push(frame)?;
@@ -213,7 +218,7 @@ fn parts_made(
     requires f { f.0 < length base.old.table }
     ensures grows { Grows base.old base.new }
     ensures known { IfOk result (λ o. IfSome o (λ r. (r.0.0 < length base.new.table) × (r.1.0 < length base.new.table))) }
-    ensures are { IfOk result (λ o. IfSome o (λ r. IsFilledUnder base.old.table depths.0 parts.0 k f base.new.table r.0 × IsFilledUnder base.old.table depths.1 parts.1 k f base.new.table r.1)) }
+    ensures are { IfOk result (λ o. IfSome o (AreFilledUnder base.old.table depths parts k f base.new.table)) }
 {
     let Some(fewer) = levels.checked_sub(1) else {
         return Ok(None);
@@ -238,7 +243,7 @@ fn variable_made(
     requires f { f.0 < length base.old.table }
     ensures grows { Grows base.old base.new }
     ensures known { IfOk result (λ o. IfSome o (λ r. r.0 < length base.new.table)) }
-    ensures is { IfOk result (λ o. IfSome o (λ r. tree_at base.new.table r.0 ≡ put_all_at depth (spine_args k (tree_at base.old.table f.0)) (Var n))) }
+    ensures is { IfOk result (λ o. IfSome o (IsVariableMade base.old.table depth n k f base.new.table)) }
 {
     let Some(outer) = n.checked_sub(depth as u128) else {
         return Ok(None);
@@ -303,19 +308,26 @@ fn is_filled(base: &Module, b: LpId, k: usize, f: LpId, found: LpId, levels: u32
             Stand::Variable(m) => is_variable(base, found, m),
             Stand::Far => false,
         },
-        LpNode::App(g, x) => are_filled(base, g, x, k, f, found, levels),
+        LpNode::App(g, x) => are_filled(base, (g, x), k, f, found, levels),
         _ => false,
     }
 }
 
 // The same of the application of two trees.
 #[cycle(filling)]
-fn are_filled(base: &Module, g: LpId, x: LpId, k: usize, f: LpId, found: LpId, levels: u32) -> bool
-    requires g { g.0 < length base.now.table }
-    requires x { x.0 < length base.now.table }
+fn are_filled(
+    base: &Module,
+    parts: (LpId, LpId),
+    k: usize,
+    f: LpId,
+    found: LpId,
+    levels: u32,
+) -> bool
+    requires first { parts.0.0 < length base.now.table }
+    requires second { parts.1.0 < length base.now.table }
     requires f { f.0 < length base.now.table }
     requires found { found.0 < length base.now.table }
-    ensures { OnTrue result (tree_at base.now.table found.0 ≡ App (put_all (spine_args k (tree_at base.now.table f.0)) (tree_at base.now.table g.0)) (put_all (spine_args k (tree_at base.now.table f.0)) (tree_at base.now.table x.0))) }
+    ensures { OnTrue result (IsFilledApplication base.now.table parts.0 parts.1 k f found) }
 {
     let Some(fewer) = levels.checked_sub(1) else {
         return false;
@@ -323,7 +335,7 @@ fn are_filled(base: &Module, g: LpId, x: LpId, k: usize, f: LpId, found: LpId, l
     let LpNode::App(h, y) = base.table.view(found) else {
         return false;
     };
-    is_filled(base, g, k, f, h, fewer) && is_filled(base, x, k, f, y, fewer)
+    is_filled(base, parts.0, k, f, h, fewer) && is_filled(base, parts.1, k, f, y, fewer)
 }
 
 // Whether a tree is the variable with this number.

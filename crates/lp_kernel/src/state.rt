@@ -3,19 +3,46 @@ use crate::context::Context;
 use bridge_base::Stack;
 use lp_term::LpId;
 
+/// A function, an argument, and the application of the two.
+#[derive(Clone, Copy)]
+pub struct Application {
+    pub(crate) function: LpId,
+    pub(crate) argument: LpId,
+    pub(crate) whole: LpId,
+}
+
+/// An application, with the domain and the body of its function's type, where both are to have so many last arguments of the function
+/// put in.
+#[derive(Clone, Copy)]
+pub struct Argument {
+    pub(crate) domain: LpId,
+    pub(crate) body: LpId,
+    pub(crate) count: usize,
+    pub(crate) app: Application,
+}
+
+/// The domain that the type of an argument is to meet, and the body, which is to have so many last arguments of the application put in,
+/// with the application and the argument's type.
+#[derive(Clone, Copy)]
+pub struct Expected {
+    pub(crate) domain: LpId,
+    pub(crate) body: LpId,
+    pub(crate) count: usize,
+    pub(crate) whole: LpId,
+    pub(crate) found: LpId,
+}
+
 /// What goes on with a type that was found.
 #[derive(Clone, Copy)]
 pub enum Frame {
-    /// That of the function, at the argument, with the application of the two.
-    Function(LpId, LpId, LpId),
-    /// The sort of this product, which the type of the function at this argument reaches, with the application of the two.
-    Reached(LpId, LpId, LpId, LpId),
-    /// That of the argument, where the domain and the body of the function's type are to have so many last arguments of the function put
-    /// in, with the function and its application.
-    Argument(LpId, LpId, usize, LpId, LpId),
-    /// The sort of the domain, which the type of the argument is to meet, with the body, which is to have so many last arguments of the
-    /// application put in, the application and the type.
-    Expected(LpId, LpId, usize, LpId, LpId),
+    /// That of the function of an application.
+    Function(Application),
+    /// The sort of this product, which the type of the application's function reaches.
+    Reached(LpId, Application),
+    /// That of an argument.
+    Argument(Argument),
+    /// The sort of the domain that the type of an argument is to meet.
+    Expected(Expected),
     /// The sort of an abstraction's domain, with its body.
     Domain(LpId, LpId),
     /// The type of an abstraction's body, with its domain.

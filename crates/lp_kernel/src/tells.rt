@@ -1,5 +1,5 @@
 //! Turns that go on with a type that was found.
-ghost use Rattle.std.specs.Prelude.{ℕ, Bool, ◌<◌, ◌≤◌, IfOk, length};
+ghost use Rattle.std.specs.Prelude.{◌≡◌, ℕ, Bool, ◌<◌, ◌≤◌, IfOk, length};
 ghost use Rattle.holide_sig.specs.Modules.{declarations_of, IsHeld};
 ghost use Rattle.lp_conv.specs.Growth.{Grows};
 ghost use Rattle.lp_kernel.specs.declared.state.Frame.TheVariants as frame;
@@ -9,23 +9,20 @@ ghost use Rattle.lp_kernel.specs.Noted.{AreProducts};
 
 use crate::contexts::Contexts;
 use crate::inference::Inferred;
-use crate::memo::Memo;
+use crate::memo::Turns;
 use crate::products::reach_noted;
 use crate::spines::filled_as;
-use crate::state::{Frame, Next, State};
+use crate::state::{Application, Argument, Expected, Frame, Next, State};
 use bridge_base::{Budget, Memory};
 use holide_sig::Module;
 use lp_conv::{Answer, conv};
 use lp_term::{LpId, LpNode};
 use std::alloc::Global;
 
-/// Goes on with a type that was found, with rechecks of sorts or without.
+/// Goes on with a type that was found.
 pub(crate) fn tell(
-    alloc: Global,
+    turns: &mut Turns,
     base: &mut Module,
-    rechecks: bool,
-    products: &mut Memo,
-    contexts: &mut Contexts,
     state: &mut State,
     frame: Frame,
     found: LpId,
@@ -35,72 +32,84 @@ pub(crate) fn tell(
     requires known { IsKnownState base.old.table state.old }
     requires frame { IsKnownFrame base.old.table frame }
     requires found { found.0 < length base.old.table }
-    requires products { AreProducts (declarations_of base.old) base.old.table products.old }
+    requires products { AreProducts (declarations_of base.old) base.old.table turns.old.products }
     ensures grows { Grows base.old base.new }
     ensures known { IfOk result (λ n. IsKnownState base.new.table state.new) }
     ensures next { IfOk result (IsKnownNext base.new.table) }
     ensures less { budget.new.left ≤ budget.old.left }
-    ensures turned { IfOk result (IsTold rechecks base.new frame state.old found budget.old.left budget.new.left state.new) }
+    ensures turned { IfOk result (IsTold turns.old.rechecks base.new frame state.old found budget.old.left budget.new.left state.new) }
     ensures fewer { IfOk result (IsFewer state.old budget.old.left budget.new.left state.new) }
-    ensures products { IfOk result (λ n. AreProducts (declarations_of base.new) base.new.table products.new) }
-    ensures more { AreMore contexts.old contexts.new }
-    ensures keyed { IfOk result (λ n. IsKeyed contexts.old state.old → IsKeyed contexts.new state.new) }
+    ensures products { IfOk result (λ n. AreProducts (declarations_of base.new) base.new.table turns.new.products) }
+    ensures rechecks { turns.new.rechecks ≡ turns.old.rechecks }
+    ensures more { AreMore turns.old.contexts turns.new.contexts }
+    ensures keyed { IfOk result (λ n. IsKeyed turns.old.contexts state.old → IsKeyed turns.new.contexts state.new) }
 {
     match frame {
-        Frame::Function(f, x, w) => tell_function(
-            alloc, base, rechecks, products, state, f, x, w, found, budget,
+        Frame::Function(app) => tell_function(turns, base, state, app, found, budget),
+        Frame::Reached(product, app) => tell_reached(base, state, product, app, found),
+        Frame::Argument(argument) => tell_argument(turns, base, state, argument, found, budget),
+        Frame::Expected(expected) => tell_expected(
+            turns.alloc,
+            base,
+            state,
+            expected,
+            found,
+            budget,
         ),
-        Frame::Reached(p, f, x, w) => tell_reached(base, state, p, f, x, w, found),
-        Frame::Argument(a, b, k, f, w) => tell_argument(
-            alloc, base, rechecks, state, a, b, k, f, w, found, budget,
+        Frame::Domain(a, b) => tell_domain(base, &mut turns.contexts, state, a, b, found),
+        Frame::Body(a) => tell_body(base, &turns.contexts, state, a, found),
+        Frame::ProductDomain(a, b) => tell_product_domain(
+            base,
+            &mut turns.contexts,
+            state,
+            a,
+            b,
+            found,
         ),
-        Frame::Expected(a, b, k, w, y) => tell_expected(
-            alloc, base, state, a, b, k, w, y, found, budget,
-        ),
-        Frame::Domain(a, b) => tell_domain(base, contexts, state, a, b, found),
-        Frame::Body(a) => tell_body(base, contexts, state, a, found),
-        Frame::ProductDomain(a, b) => tell_product_domain(base, contexts, state, a, b, found),
-        Frame::ProductBody => tell_product_body(base, contexts, state, found),
+        Frame::ProductBody => tell_product_body(base, &turns.contexts, state, found),
     }
 }
 
 // With the type of a function.
 fn tell_function(
-    alloc: Global,
+    turns: &mut Turns,
     base: &mut Module,
-    rechecks: bool,
-    products: &mut Memo,
     state: &mut State,
-    f: LpId,
-    x: LpId,
-    w: LpId,
+    app: Application,
     found: LpId,
     budget: &mut Budget,
 ) -> Result<Next, Memory>
     requires held { IsHeld base.old }
     requires known { IsKnownState base.old.table state.old }
-    requires frame { IsKnownFrame base.old.table (frame.Function f x w) }
+    requires application { IsApplication base.old.table app }
     requires found { found.0 < length base.old.table }
-    requires products { AreProducts (declarations_of base.old) base.old.table products.old }
+    requires products { AreProducts (declarations_of base.old) base.old.table turns.old.products }
     ensures grows { Grows base.old base.new }
     ensures known { IfOk result (λ n. IsKnownState base.new.table state.new) }
     ensures next { IfOk result (IsKnownNext base.new.table) }
     ensures less { budget.new.left ≤ budget.old.left }
-    ensures turned { IfOk result (IsTold rechecks base.new (frame.Function f x w) state.old found budget.old.left budget.new.left state.new) }
+    ensures turned { IfOk result (IsTold turns.old.rechecks base.new (frame.Function app) state.old found budget.old.left budget.new.left state.new) }
     ensures fewer { IfOk result (IsFewer state.old budget.old.left budget.new.left state.new) }
-    ensures products { IfOk result (λ n. AreProducts (declarations_of base.new) base.new.table products.new) }
+    ensures products { IfOk result (λ n. AreProducts (declarations_of base.new) base.new.table turns.new.products) }
+    ensures rechecks { turns.new.rechecks ≡ turns.old.rechecks }
+    ensures contexts { turns.new.contexts ≡ turns.old.contexts }
     ensures same { IsSamePlace state.old state.new }
 {
     if let LpNode::Pi(a, b) = base.table.view(found) {
-        state.frames.push(Frame::Argument(a, b, 0, f, w))?;
-        return Ok(Next::Ask(x));
+        state.frames.push(Frame::Argument(Argument {
+            domain: a,
+            body: b,
+            count: 0,
+            app,
+        }))?;
+        return Ok(Next::Ask(app.argument));
     }
-    match reach_noted(alloc, base, products, found, budget)? {
+    match reach_noted(turns.alloc, base, &mut turns.products, found, budget)? {
         Inferred::Found(product) => {
-            if !rechecks {
-                return to_argument(base, state, product, f, x, w);
+            if !turns.rechecks {
+                return to_argument(base, state, product, app);
             }
-            state.frames.push(Frame::Reached(product, f, x, w))?;
+            state.frames.push(Frame::Reached(product, app))?;
             Ok(Next::Ask(product))
         }
         Inferred::No => Ok(Next::No),
@@ -113,24 +122,23 @@ fn tell_reached(
     base: &mut Module,
     state: &mut State,
     product: LpId,
-    f: LpId,
-    x: LpId,
-    w: LpId,
+    app: Application,
     found: LpId,
 ) -> Result<Next, Memory>
     requires held { IsHeld base.old }
     requires known { IsKnownState base.old.table state.old }
-    requires frame { IsKnownFrame base.old.table (frame.Reached product f x w) }
+    requires product { product.0 < length base.old.table }
+    requires application { IsApplication base.old.table app }
     requires found { found.0 < length base.old.table }
     ensures grows { Grows base.old base.new }
     ensures known { IfOk result (λ n. IsKnownState base.new.table state.new) }
     ensures next { IfOk result (IsKnownNext base.new.table) }
-    ensures turned { IfOk result (λ n. (rechecks : Bool) (left : ℕ) → IsTold rechecks base.new (frame.Reached product f x w) state.old found left left state.new n) }
+    ensures turned { IfOk result (λ n. (rechecks : Bool) (left : ℕ) → IsTold rechecks base.new (frame.Reached product app) state.old found left left state.new n) }
     ensures fewer { IfOk result (λ n. (left : ℕ) → IsFewer state.old left left state.new n) }
     ensures same { IsSamePlace state.old state.new }
 {
     match base.table.view(found) {
-        LpNode::SortType | LpNode::SortKind => to_argument(base, state, product, f, x, w),
+        LpNode::SortType | LpNode::SortKind => to_argument(base, state, product, app),
         _ => Ok(Next::No),
     }
 }
@@ -140,24 +148,27 @@ fn to_argument(
     base: &Module,
     state: &mut State,
     product: LpId,
-    f: LpId,
-    x: LpId,
-    w: LpId,
+    app: Application,
 ) -> Result<Next, Memory>
     requires held { IsHeld base.now }
     requires known { IsKnownState base.now.table state.old }
     requires product { product.0 < length base.now.table }
-    requires application { IsApplication base.now.table f x w }
+    requires application { IsApplication base.now.table app }
     ensures known { IfOk result (λ n. IsKnownState base.now.table state.new) }
     ensures next { IfOk result (IsKnownNext base.now.table) }
-    ensures turned { IfOk result (λ n. (rechecks : Bool) (left : ℕ) → IsApplied rechecks base.now state.old product x left state.new n) }
+    ensures turned { IfOk result (λ n. (rechecks : Bool) (left : ℕ) → IsApplied rechecks base.now state.old product app.argument left state.new n) }
     ensures fewer { IfOk result (λ n. (left : ℕ) → IsFewer state.old left left state.new n) }
     ensures same { IsSamePlace state.old state.new }
 {
     match base.table.view(product) {
         LpNode::Pi(a, b) => {
-            state.frames.push(Frame::Argument(a, b, 0, f, w))?;
-            Ok(Next::Ask(x))
+            state.frames.push(Frame::Argument(Argument {
+                domain: a,
+                body: b,
+                count: 0,
+                app,
+            }))?;
+            Ok(Next::Ask(app.argument))
         }
         _ => Ok(Next::No),
     }
@@ -165,27 +176,22 @@ fn to_argument(
 
 // With the type of an argument.
 fn tell_argument(
-    alloc: Global,
+    turns: &Turns,
     base: &mut Module,
-    rechecks: bool,
     state: &mut State,
-    a: LpId,
-    b: LpId,
-    k: usize,
-    f: LpId,
-    w: LpId,
+    argument: Argument,
     found: LpId,
     budget: &mut Budget,
 ) -> Result<Next, Memory>
     requires held { IsHeld base.old }
     requires known { IsKnownState base.old.table state.old }
-    requires frame { IsKnownFrame base.old.table (frame.Argument a b k f w) }
+    requires frame { IsKnownFrame base.old.table (frame.Argument argument) }
     requires found { found.0 < length base.old.table }
     ensures grows { Grows base.old base.new }
     ensures known { IfOk result (λ n. IsKnownState base.new.table state.new) }
     ensures next { IfOk result (IsKnownNext base.new.table) }
     ensures less { budget.new.left ≤ budget.old.left }
-    ensures turned { IfOk result (IsTold rechecks base.new (frame.Argument a b k f w) state.old found budget.old.left budget.new.left state.new) }
+    ensures turned { IfOk result (IsTold turns.now.rechecks base.new (frame.Argument argument) state.old found budget.old.left budget.new.left state.new) }
     ensures fewer { IfOk result (IsFewer state.old budget.old.left budget.new.left state.new) }
     ensures same { IsSamePlace state.old state.new }
 {
@@ -193,19 +199,31 @@ fn tell_argument(
         return Ok(Next::Over);
     }
     // A spine of 2^64 arguments is want of memory.
-    let Some(more) = k.checked_add(1) else {
+    let Some(count) = argument.count.checked_add(1) else {
         return Err(Memory);
     };
-    let domain = filled_as(alloc, base, a, k, f, found)?;
+    let domain = filled_as(
+        turns.alloc,
+        base,
+        argument.domain,
+        argument.count,
+        argument.app.function,
+        found,
+    )?;
     if domain == found {
-        return Ok(Next::Under(b, more, w));
+        return Ok(Next::Under(argument.body, count, argument.app.whole));
     }
-    if !rechecks {
-        return convert(alloc, base, state, domain, b, more, w, found, budget);
+    let expected = Expected {
+        domain,
+        body: argument.body,
+        count,
+        whole: argument.app.whole,
+        found,
+    };
+    if !turns.rechecks {
+        return convert(turns.alloc, base, state, expected, budget);
     }
-    state
-        .frames
-        .push(Frame::Expected(domain, b, more, w, found))?;
+    state.frames.push(Frame::Expected(expected))?;
     Ok(Next::Ask(domain))
 }
 
@@ -214,28 +232,24 @@ fn tell_expected(
     alloc: Global,
     base: &mut Module,
     state: &mut State,
-    a: LpId,
-    b: LpId,
-    k: usize,
-    w: LpId,
-    y: LpId,
+    expected: Expected,
     found: LpId,
     budget: &mut Budget,
 ) -> Result<Next, Memory>
     requires held { IsHeld base.old }
     requires known { IsKnownState base.old.table state.old }
-    requires frame { IsKnownFrame base.old.table (frame.Expected a b k w y) }
+    requires frame { IsKnownFrame base.old.table (frame.Expected expected) }
     requires found { found.0 < length base.old.table }
     ensures grows { Grows base.old base.new }
     ensures known { IfOk result (λ n. IsKnownState base.new.table state.new) }
     ensures next { IfOk result (IsKnownNext base.new.table) }
     ensures less { budget.new.left ≤ budget.old.left }
-    ensures turned { IfOk result (λ n. (rechecks : Bool) → IsTold rechecks base.new (frame.Expected a b k w y) state.old found budget.old.left budget.new.left state.new n) }
+    ensures turned { IfOk result (λ n. (r : Bool) → IsTold r base.new (frame.Expected expected) state.old found budget.old.left budget.new.left state.new n) }
     ensures fewer { IfOk result (IsFewer state.old budget.old.left budget.new.left state.new) }
     ensures same { IsSamePlace state.old state.new }
 {
     match base.table.view(found) {
-        LpNode::SortType | LpNode::SortKind => convert(alloc, base, state, a, b, k, w, y, budget),
+        LpNode::SortType | LpNode::SortKind => convert(alloc, base, state, expected, budget),
         _ => Ok(Next::No),
     }
 }
@@ -245,25 +259,21 @@ fn convert(
     alloc: Global,
     base: &mut Module,
     state: &State,
-    a: LpId,
-    b: LpId,
-    k: usize,
-    w: LpId,
-    y: LpId,
+    expected: Expected,
     budget: &mut Budget,
 ) -> Result<Next, Memory>
     requires held { IsHeld base.old }
     requires known { IsKnownState base.old.table state.now }
-    requires frame { IsKnownFrame base.old.table (frame.Expected a b k w y) }
+    requires frame { IsKnownFrame base.old.table (frame.Expected expected) }
     ensures grows { Grows base.old base.new }
     ensures known { IfOk result (λ n. IsKnownState base.new.table state.now) }
     ensures next { IfOk result (IsKnownNext base.new.table) }
     ensures less { budget.new.left ≤ budget.old.left }
-    ensures turned { IfOk result (λ n. (rechecks : Bool) → IsConverted rechecks base.new a b k w y budget.old.left budget.new.left state.now n) }
+    ensures turned { IfOk result (λ n. (rechecks : Bool) → IsConverted rechecks base.new expected budget.old.left budget.new.left state.now n) }
     ensures fewer { IfOk result (IsFewer state.now budget.old.left budget.new.left state.now) }
 {
-    match conv(alloc, base, a, y, budget)? {
-        Answer::Yes => Ok(Next::Under(b, k, w)),
+    match conv(alloc, base, expected.domain, expected.found, budget)? {
+        Answer::Yes => Ok(Next::Under(expected.body, expected.count, expected.whole)),
         Answer::No => Ok(Next::No),
         Answer::Over => Ok(Next::Over),
     }
