@@ -10,6 +10,7 @@ pub mod NameLemmas
 pub mod PartsLemmas
 pub mod PeelLemmas
 pub mod SequentLemmas
+pub mod SourceLemmas
 pub mod SpineLemmas
 pub mod SubstitutionLemmas
 pub mod SymbolLemmas

@@ -31,26 +31,29 @@ use Rattle.decode_laws.specs.ClosedFormTestLaws.{length-numbers, closed_form-ope
 use Rattle.decode_laws.specs.SizeLaws.{summed, summed-append}
 use Rattle.decode_laws.specs.SizeBound.{free_variables-size}
 use Rattle.decode_back.specs.Walks.{parameter_name}
-use Rattle.decode_back.specs.declared.sequents.Parts.{Parts as PartsFound}
+use Rattle.decode_back.specs.declared.products.Parts.{Parts as PartsFound}
 use Rattle.decode_back.specs.TermWalks.{AreVariables, IsTermFound}
 use Rattle.decode_back.specs.SequentWalks.{AreParts, AreVariablesWithin, AreVariablesFound, all_size, AreShallow, AreHypothesesFound, IsMade, IsJudged, IsSequentFound}
 use Rattle.decode_back.proofs.NameLemmas.{parameter_name-apart}
 use Rattle.decode_back.proofs.TermLemmas.{open_variables-length, length-map, AreVariables-Keeps, AreVariables-length}
 use Rattle.lp_binding.specs.LookUps.{option_map-some}
 
-module _ (A R1 R2 R3 : Tree) (n : ℕ) (vs hs : List Tree) (one : ◌≡◌ {A = ℕ × Tree} (peel_types A) (n, R1)) (two : ◌≡◌ {A = List Tree × Tree} (peel term_symbol R1) (vs, R2))
-    (three : ◌≡◌ {A = List Tree × Tree} (peel proof_symbol R2) (hs, R3)) where
+-- the parts of a tree, from what is left behind its type variables, behind its free variables and behind its hypotheses
+module _ (A behind_types behind_variables behind_hypotheses : Tree) (n : ℕ) (vs hs : List Tree)
+    (types : ◌≡◌ {A = ℕ × Tree} (peel_types A) (n, behind_types))
+    (variables : ◌≡◌ {A = List Tree × Tree} (peel term_symbol behind_types) (vs, behind_variables))
+    (hypotheses : ◌≡◌ {A = List Tree × Tree} (peel proof_symbol behind_variables) (hs, behind_hypotheses)) where
   pub types-are : (parts A).type_variables ≡ n
-  types-are = ap (λ (r : ℕ × Tree). r.0) one
+  types-are = ap (λ (r : ℕ × Tree). r.0) types
 
   pub variables-are : (parts A).variables ≡ vs
-  variables-are = ap (λ (r : ℕ × Tree). (peel term_symbol r.1).0) one ∙ ap (λ (r : List Tree × Tree). r.0) two
+  variables-are = ap (λ (r : ℕ × Tree). (peel term_symbol r.1).0) types ∙ ap (λ (r : List Tree × Tree). r.0) variables
 
   pub hypotheses-are : (parts A).hypotheses ≡ hs
-  hypotheses-are = ap (λ (r : ℕ × Tree). (peel proof_symbol (peel term_symbol r.1).1).0) one ∙ ap (λ (r : List Tree × Tree). (peel proof_symbol r.1).0) two ∙ ap (λ (r : List Tree × Tree). r.0) three
+  hypotheses-are = ap (λ (r : ℕ × Tree). (peel proof_symbol (peel term_symbol r.1).1).0) types ∙ ap (λ (r : List Tree × Tree). (peel proof_symbol r.1).0) variables ∙ ap (λ (r : List Tree × Tree). r.0) hypotheses
 
-  pub end-is : (parts A).end ≡ R3
-  end-is = ap (λ (r : ℕ × Tree). (peel proof_symbol (peel term_symbol r.1).1).1) one ∙ ap (λ (r : List Tree × Tree). (peel proof_symbol r.1).1) two ∙ ap (λ (r : List Tree × Tree). r.1) three
+  pub end-is : (parts A).end ≡ behind_hypotheses
+  end-is = ap (λ (r : ℕ × Tree). (peel proof_symbol (peel term_symbol r.1).1).1) types ∙ ap (λ (r : List Tree × Tree). (peel proof_symbol r.1).1) variables ∙ ap (λ (r : List Tree × Tree). r.1) hypotheses
 
 -- what a sequent is made of
 module _ (d : List Declaration) (p : Parts) where

@@ -1,24 +1,35 @@
 -- What a walk over the parts of a sequent's product answers.
-use Rattle.std.specs.Prelude.{◌≡◌, ℕ, ◌<◌, ◌≤◌, ◌+◌, List, [], ◌∷◌, length, map, Bool, ◌&&◌, Option, None, Some}
+use Rattle.std.specs.Prelude.{◌≡◌, ℕ, ◌<◌, ◌≤◌, ◌+◌, List, [], ◌∷◌, length, map, Bool, ◌&&◌, Option, None, Some, MatchOption}
 use Rattle.std.specs.declared.vec.Vec.{Vec}
 use Rattle.std.specs.declared.alloc.Global.{Global}
 use Rattle.hol_spec.specs.Limits.{greatest_size, greatest_depth, greatest_parameter_count, type_size, type_depth, term_size, term_depth, sequent_size}
 use Rattle.hol_spec.specs.Primitives.{bool}
-use Rattle.hol_spec.specs.Terms.{Term, HasType}
+use Rattle.hol_spec.specs.Lists.{distinct}
+use Rattle.hol_spec.specs.Names.{Name}
+use Rattle.hol_spec.specs.Terms.{Term, HasType, Variable, term_eq}
+use Rattle.hol_spec.specs.Sequents.{Sequent, free_variables_of, type_variables_of}
 use Rattle.hol_spec.specs.ClosedForm.{ClosedType, ClosedTerm, ClosedSequent, closed_form}
 use Rattle.hol_term.specs.declared.TermId.{TermId}
 use Rattle.hol_term.specs.Tables.{Trees, term_at, terms_at}
 use Rattle.lp_spec.specs.Trees.{Tree}
 use Rattle.lp_spec.specs.Modules.{Declaration}
+use Rattle.lp_term.specs.declared.LpId.{LpId}
 use Rattle.lp_term.specs.Tables as lp
+use Rattle.holide_sig.specs.declared.module.Module.{Module}
+use Rattle.holide_sig.specs.Modules.{declarations_of}
+use Rattle.module_spec.specs.ConstantMeaning.{numbers}
+use Rattle.module_spec.specs.Enc.{Enc}
+use Rattle.sequent.specs.declared.Sequent.{Sequent as SequentFound}
 use Rattle.sequent.specs.declared.closed.Closed.{Closed}
 use Rattle.sequent.specs.Closed.{closed_view}
 use Rattle.decode_spec.specs.Opened.{open_type, open_term, opened, IsOpen}
 use Rattle.decode_spec.specs.ClosedFormTest.{at_most, is_formula}
-use Rattle.decode_spec.specs.Decode.{Parts, proof_part, sequent_from}
-use Rattle.decode_back.specs.declared.sequents.Parts.{Parts as PartsFound}
+use Rattle.decode_spec.specs.Decode.{Parts, hypotheses_from, parts, proof_part, sequent_from, variables_from}
+use Rattle.decode_back.specs.declared.products.Parts.{Parts as PartsFound}
+use Rattle.decode_back.specs.declared.sources.Source.{Source}
+use Rattle.decode_back.specs.Sources.{declared, trees_of}
 use Rattle.decode_back.specs.Walks.{parameter_name}
-use Rattle.decode_back.specs.TermWalks.{AreVariables}
+use Rattle.decode_back.specs.TermWalks.{free_of, AreVariables}
 
 -- the numbers of the trees of a product's parts are of the table
 pub record ArePartsKnown (trees : List Tree) (found : PartsFound) : Type 0 where
@@ -32,6 +43,10 @@ pub record AreParts (trees : List Tree) (p : Parts) (found : PartsFound) : Type 
   pub variables : p.variables ≡ lp.trees_at trees found.variables.items
   pub hypotheses : p.hypotheses ≡ lp.trees_at trees found.hypotheses.items
   pub conclusion : proof_part p.end ≡ Some (lp.tree_at trees found.conclusion.0)
+
+-- the parts of the product that a tree is, or it ends in no proof
+abbrev pub ArePartsFound : List Tree → Tree → Option PartsFound → Type 0
+ArePartsFound trees A found = MatchOption found (proof_part (parts A).end ≡ None) (AreParts trees (parts A))
 
 -- a type and the term of a free variable of it are within the limits
 pub record IsVariableWithin (t : ClosedType) : Type 0 where
@@ -56,11 +71,22 @@ abbrev pub AreShallow : List ClosedType → List ClosedTerm → Type 0
 AreShallow types [] = Unit {0}
 AreShallow types (c ∷ cs) = (term_depth (open_term parameter_name types c) ≤ greatest_depth) × AreShallow types cs
 
+-- the free variables of a product's parts have these types, and the numbers are those of their terms
+abbrev pub AreTyped : Module → PartsFound → Trees → List TermId → List ClosedType → Type 0
+AreTyped m found table ids types =
+    (variables_from (declarations_of m) (lp.trees_at m.table found.variables.items) found.type_variables 0 ≡ Some types) × AreVariables table ids types
+
 -- the hypotheses are in the table, and what is left and their sizes are what there was; or there are none within that and the greatest depth
 abbrev pub AreHypothesesFound : List ClosedType → ℕ → ℕ → Option (List ClosedTerm) → Trees → Option (Vec TermId Global) → Type 0
 AreHypothesesFound types there left o trees None = (cs : List ClosedTerm) → o ≡ Some cs → all_size types cs ≤ there → AreShallow types cs → ⊥
 AreHypothesesFound types there left o trees (Some ids) =
     (cs : List ClosedTerm) × (o ≡ Some cs) × (terms_at trees ids.items ≡ map (open_term parameter_name types) cs) × (left + all_size types cs ≡ there)
+
+-- where the free variables of a source have types, the hypotheses are found that these trees tell
+abbrev pub AreHypothesesDecoded : Source → List LpId → Trees → ℕ → Trees → ℕ → Option (Vec TermId Global) → Type 0
+AreHypothesesDecoded s trees table there now left found =
+    (types : List ClosedType) → AreVariables table s.variables.now types
+    → AreHypothesesFound types there left (hypotheses_from (declared s) (trees_of s trees) s.place.type_variables s.place.free_variables 0) now found
 
 -- the terms of a closed sequent with names for its parameters are in the table, and it is within the limits of size and of count
 pub record IsMade (trees : Trees) (count : ℕ) (variables ids : List TermId) (concl : TermId) (s : ClosedSequent) : Type 0 where
@@ -70,6 +96,11 @@ pub record IsMade (trees : Trees) (count : ℕ) (variables ids : List TermId) (c
   pub conclusion_is : term_at trees concl.0 ≡ (opened parameter_name s).conclusion
   pub small : sequent_size (opened parameter_name s) ≤ greatest_size
   pub few : count + length variables + length ids ≤ greatest_parameter_count
+
+-- and the hypotheses of a sequent are its hypotheses, each once
+abbrev pub IsMadeOnce : Trees → ℕ → List TermId → List TermId → SequentFound → ClosedSequent → Type 0
+IsMadeOnce trees count variables ids found s =
+    IsMade trees count variables ids found.concl s × (terms_at trees found.hyps ≡ distinct term_eq (terms_at trees ids))
 
 -- the closed sequent is open, and this is its closed form; or it isn't open
 abbrev pub IsJudged : ClosedSequent → Option Closed → Type 0
@@ -81,11 +112,27 @@ pub record IsFormula (t : Term) : Type 0 where
   pub typed : HasType t bool
   pub depth : term_depth t ≤ greatest_depth
 
+-- the parameters of a sequent are so many type variables, with the names of the first numbers, and these free variables, in order
+abbrev pub AreNumbered : ℕ → List Name → List Variable → List Term → Type 0
+AreNumbered count names variables terms = (names ≡ map parameter_name (numbers 0 count)) × (map free_of variables ≡ terms)
+
+-- the parameters of a sequent are so
+abbrev pub HasNumbered : Sequent → ℕ → List Term → Type 0
+HasNumbered s count terms = AreNumbered count (type_variables_of s) (free_variables_of s) terms
+
+-- a type stands for this closed sequent, or for none
+abbrev pub IsStated : List Declaration → Tree → Option Closed → Type 0
+IsStated d A found = MatchOption found ((s : ClosedSequent) → Enc d s A → ⊥) (λ closed. Enc d (closed_view closed) A)
+
 -- the parts of a product stand for a closed form, which is this; or they stand for none
 abbrev pub IsSequentFound : List Declaration → Parts → Option Closed → Type 0
 IsSequentFound d p None = (s : ClosedSequent) → sequent_from d p ≡ Some s → IsOpen parameter_name s → ⊥
 IsSequentFound d p (Some closed) = (s : ClosedSequent) × (sequent_from d p ≡ Some s) × IsOpen parameter_name s × (closed_view closed ≡ s)
 
--- the test for that
+-- the same of the parts of a product with these trees
+abbrev pub IsDecodedOf : Module → PartsFound → Option Closed → Type 0
+IsDecodedOf m found closed = (p : Parts) → AreParts m.table p found → IsSequentFound (declarations_of m) p closed
+
+-- the test of a formula within the greatest depth
 abbrev pub is_bounded_formula : Term → Bool
 is_bounded_formula t = at_most greatest_depth (term_depth t) && is_formula t

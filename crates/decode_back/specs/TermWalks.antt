@@ -12,7 +12,7 @@ use Rattle.hol_spec.specs.Terms.{Term, Variable, constant, free, lam, free_place
 use Rattle.hol_type.specs.declared.table.TypeId.{TypeId}
 use Rattle.hol_type.specs.Tables.{pairs_at}
 use Rattle.hol_term.specs.declared.TermId.{TermId}
-use Rattle.hol_term.specs.Tables.{Trees, Holds, terms_at}
+use Rattle.hol_term.specs.Tables.{Trees, Holds, term_at, terms_at, type_at}
 use Rattle.lp_spec.specs.Trees.{Tree, App}
 use Rattle.lp_spec.specs.Modules.{Declaration, applied}
 use Rattle.module_spec.specs.TypeEnc.{Place, StandForTypes}
@@ -34,7 +34,8 @@ IsHead A = (f x : Tree) → A ≡ App f x → ⊥
 
 -- there is no term of at most this size and this depth
 abbrev pub NoTermWithin : List ClosedType → ℕ → ℕ → Option ClosedTerm → Type 0
-NoTermWithin types size depth o = (c : ClosedTerm) → o ≡ Some c → term_size (open_term parameter_name types c) ≤ size → term_depth (open_term parameter_name types c) ≤ depth → ⊥
+NoTermWithin types size depth o =
+    (c : ClosedTerm) → o ≡ Some c → term_size (open_term parameter_name types c) ≤ size → term_depth (open_term parameter_name types c) ≤ depth → ⊥
 
 -- the term is in the table, and what is left and its size are what there was; or there is none of at most what there was and this depth
 abbrev pub IsTermFound : ℕ → List ClosedType → ℕ → ℕ → Option ClosedTerm → Trees → Option TermId → Type 0
@@ -97,9 +98,15 @@ IsFresh t = AllByRecursion (λ v. v.0 ≡ outside_name → ⊥) (free_places t)
 
 -- no abstraction over a type is within the limits where its body has taken the rest of some size within them
 abbrev pub NoLamWithin : HolType → Term → ℕ → Type 0
-NoLamWithin t b there = (whole level : ℕ) → there + term_size b ≡ whole → whole ≤ greatest_size → level ≤ greatest_depth → term_size (lam t b) ≤ whole → term_depth (lam t b) ≤ level → ⊥
+NoLamWithin t b there =
+    (whole level : ℕ) → there + term_size b ≡ whole → whole ≤ greatest_size → level ≤ greatest_depth
+    → term_size (lam t b) ≤ whole → term_depth (lam t b) ≤ level → ⊥
 
 -- the abstraction is in the table, and what is left, with what it adds, is what there was; or it passes the limits
 abbrev pub IsLamFound : HolType → Term → ℕ → ℕ → Trees → Option TermId → Type 0
 IsLamFound t b there left trees None = NoLamWithin t b there
 IsLamFound t b there left trees (Some id) = Holds trees id.0 (lam t b) × (left + (1 + type_size t) ≡ there)
+
+-- where a body is fresh, its abstraction over a type is found
+abbrev pub IsAbstracted : Trees → TypeId → TermId → ℕ → ℕ → Trees → Option TermId → Type 0
+IsAbstracted table ty body there left now found = IsFresh (term_at table body.0) → IsLamFound (type_at table ty.0) (term_at table body.0) there left now found

@@ -11,8 +11,12 @@ use Rattle.lp_term.specs.Tables.{tree_at}
 use Rattle.module_spec.specs.TypeEnc.{Place}
 use Rattle.decode_spec.specs.Opened.{open_type}
 use Rattle.decode_spec.specs.Decode.{type_from, closed_count}
+use Rattle.holide_sig.specs.declared.module.Module.{Module}
+use Rattle.holide_sig.specs.Modules.{declarations_of}
+use Rattle.decode_back.specs.declared.places.Place.{Place as PlaceOf}
 use Rattle.decode_back.specs.declared.types.TypeTask.{TypeTask}
-use Rattle.decode_back.specs.Walks.{parameter_name, NoTypeWithin}
+use Rattle.decode_back.specs.declared.types.TypeWalk.{TypeWalk}
+use Rattle.decode_back.specs.Walks.{at_place, parameter_name, NoTypeWithin}
 
 -- arguments as a list
 abbrev pub listed : ClosedTypes → List ClosedType
@@ -48,3 +52,17 @@ IsTypeTurn d at trees limit root table tasks made false = NoTypeWithin limit roo
 abbrev pub type_work : List Tree → List TypeTask → ℕ
 type_work trees [] = 0
 type_work trees (task ∷ rest) = size (tree_at trees task.head.0) + type_work trees rest
+
+-- a walk with one task more
+abbrev pub with_type_task : TypeTask → TypeWalk → TypeWalk
+with_type_task task w = record w { tasks = task ∷ w.tasks }
+
+-- a walk over a module at a place comes to the root's type
+abbrev pub ComesTo : Module → PlaceOf → ℕ → Option ClosedType → Trees → TypeWalk → Type 0
+ComesTo m p limit root table w = IsTypeWalk (declarations_of m) (at_place p) m.table limit root table w.tasks w.made
+
+-- what it comes to, it comes to after a turn, or that passes the limits
+abbrev pub IsTypeTurned : Module → PlaceOf → Trees → TypeWalk → Trees → TypeWalk → Bool → Type 0
+IsTypeTurned m p table w now v goes_on =
+    (limit : ℕ) (root : Option ClosedType) → ComesTo m p limit root table w
+    → IsTypeTurn (declarations_of m) (at_place p) m.table limit root now v.tasks v.made goes_on

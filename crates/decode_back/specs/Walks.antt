@@ -35,7 +35,8 @@ at_place p = place p.type_variables p.free_variables p.hypotheses p.binders
 
 -- there is no type of at most the greatest size and this depth
 abbrev pub NoTypeWithin : ℕ → Option ClosedType → Type 0
-NoTypeWithin level o = (t : ClosedType) → o ≡ Some t → type_size (open_type parameter_name t) ≤ greatest_size → type_depth (open_type parameter_name t) ≤ level → ⊥
+NoTypeWithin level o =
+    (t : ClosedType) → o ≡ Some t → type_size (open_type parameter_name t) ≤ greatest_size → type_depth (open_type parameter_name t) ≤ level → ⊥
 
 -- the type is in the table, or there is none of at most the greatest size and this depth
 abbrev pub IsTypeFound : ℕ → Option ClosedType → Trees → Option TypeId → Type 0
@@ -48,14 +49,19 @@ AreArguments trees args acc = types_of (types_at trees.types args) ≡ open_type
 
 -- the constant is this one, with its generic type in the table
 abbrev pub IsConstant : Option Constant → Trees → ConstantFound → Type 0
-IsConstant o trees found = (t : ClosedType) × (o ≡ Some (constant_with found.name found.variables t)) × type.Holds trees.types found.generic.0 (open_type parameter_name t)
+IsConstant o trees found =
+    (t : ClosedType) × (o ≡ Some (constant_with found.name found.variables t)) × type.Holds trees.types found.generic.0 (open_type parameter_name t)
 
 -- the constant is found, or there is none whose generic type has at most this size and the greatest depth
 abbrev pub IsConstantFound : ℕ → Option Constant → Trees → Option ConstantFound → Type 0
-IsConstantFound limit o trees None = (c : Constant) → o ≡ Some c → type_size (open_type parameter_name c.generic) ≤ limit → type_depth (open_type parameter_name c.generic) ≤ greatest_depth → ⊥
+IsConstantFound limit o trees None =
+    (c : Constant) → o ≡ Some c → type_size (open_type parameter_name c.generic) ≤ limit
+    → type_depth (open_type parameter_name c.generic) ≤ greatest_depth → ⊥
 IsConstantFound limit o trees (Some found) = IsConstant o trees found
 
 -- the number of variables and the generic type are found, or there is no generic type of at most this size and the greatest depth
 abbrev pub IsGenericFound : ℕ → Option (ℕ × ClosedType) → Trees → Option (ℕ × TypeId) → Type 0
-IsGenericFound limit o trees None = (k : ℕ) (t : ClosedType) → o ≡ Some (k, t) → type_size (open_type parameter_name t) ≤ limit → type_depth (open_type parameter_name t) ≤ greatest_depth → ⊥
+IsGenericFound limit o trees None =
+    (k : ℕ) (t : ClosedType) → o ≡ Some (k, t) → type_size (open_type parameter_name t) ≤ limit
+    → type_depth (open_type parameter_name t) ≤ greatest_depth → ⊥
 IsGenericFound limit o trees (Some found) = (t : ClosedType) × (o ≡ Some (found.0, t)) × type.Holds trees.types found.1.0 (open_type parameter_name t)

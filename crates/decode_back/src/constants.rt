@@ -1,19 +1,19 @@
 //! Which constants symbols stand for, each with its generic type.
-ghost use Rattle.std.specs.Prelude.{◌≡◌, ◌<◌, ◌≤◌, ◌++◌, ◌∷◌, [], ℕ, length, map, not, IfOk, IfSome, MatchOption, Some, None};
+ghost use Rattle.std.specs.Prelude.{◌≡◌, ◌<◌, ◌≤◌, ◌++◌, ◌∷◌, [], ℕ, length, map, not, IfOk, IfSome, Some};
 ghost use Rattle.std.specs.Bool.{Decides};
 ghost use Rattle.std.specs.Option.{option_map};
 ghost use Rattle.hol_spec.specs.Limits.{greatest_size};
-ghost use Rattle.hol_spec.specs.ClosedForm.{ClosedType};
 ghost use Rattle.hol_spec.specs.Primitives.{primitive_type};
 ghost use Rattle.lp_spec.specs.Trees.{Tree, Pi, Sym, Var, tree_eq};
-ghost use Rattle.lp_spec.specs.Modules.{signature, symbol_type, types, term_of};
+ghost use Rattle.lp_spec.specs.Modules.{signature, types, term_of};
 ghost use Rattle.lp_term.specs.Tables.{tree_at};
 ghost use Rattle.holide_sig.specs.Modules.{declarations_of, IsHeld};
 ghost use Rattle.hol_term.specs.Tables.{Keeps};
 ghost use Rattle.module_spec.specs.ConstantMeaning.{numbers};
-ghost use Rattle.decode_spec.specs.Options.{bind, provided};
-ghost use Rattle.decode_spec.specs.Decode.{name_behind as name_told, is_lacking, symbol_argument as argument_told, peel_types as peeled, generic_of as generic_told, constant_with, input_constant, defined_constant, constant_at as constant_meant};
-ghost use Rattle.decode_back.specs.Walks.{greatest_number, numbered_from, parameter_name as the_name, IsConstant, IsConstantFound, IsGenericFound};
+ghost use Rattle.decode_spec.specs.Decode.{constant_at as constant_meant, defined_constant, generic_of as generic_told, is_lacking};
+ghost use Rattle.decode_spec.specs.Decode.{peel_types as peeled, symbol_argument as argument_told};
+ghost use Rattle.decode_back.specs.Symbols.{constant_of, own_name, IsInputFound};
+ghost use Rattle.decode_back.specs.Walks.{greatest_number, numbered_from, parameter_name as the_name, IsConstantFound, IsGenericFound};
 
 use crate::names::{GREATEST_NUMBER, parameter_name};
 use crate::places::Place;
@@ -80,7 +80,7 @@ fn primitive(
     requires held { IsHeld source.now }
     requires declared { symbol < length (signature ++ declarations_of source.now) }
     requires limit { limit ≤ greatest_size }
-    ensures found { IfOk result (λ found. IsConstantFound limit (option_map (λ (g : ℕ × ClosedType). constant_with (text.now ∷ []) g.0 g.1) (generic_told (declarations_of source.now) (symbol_type (declarations_of source.now) symbol))) table.new found) }
+    ensures found { IfOk result (IsConstantFound limit (constant_of (declarations_of source.now) symbol (text.now ∷ [])) table.new) }
     ensures few { IfOk result (λ found. IfSome found (λ constant. constant.variables ≤ greatest_number)) }
     ensures keeps { Keeps table.old table.new }
 {
@@ -113,7 +113,7 @@ fn input(
 ) -> Result<Option<Constant>, Memory>
     requires held { IsHeld source.now }
     requires declared { symbol < length (signature ++ declarations_of source.now) }
-    ensures found { IfOk result (λ found. MatchOption found (input_constant (declarations_of source.now) symbol ≡ None) (IsConstant (input_constant (declarations_of source.now) symbol) table.new)) }
+    ensures found { IfOk result (IsInputFound (declarations_of source.now) symbol table.new) }
     ensures few { IfOk result (λ found. IfSome found (λ constant. constant.variables ≤ greatest_number)) }
     ensures keeps { Keeps table.old table.new }
 {
@@ -177,7 +177,7 @@ fn constant_named(
     front: &[u8],
 ) -> Result<Option<Name>, Memory>
     requires declared { symbol < length (signature ++ declarations_of source.now) }
-    ensures { IfOk result (λ found. found ≡ bind (name_told (declarations_of source.now) symbol front.now) (λ n. provided (is_lacking (primitive_type n)) (Some n))) }
+    ensures { IfOk result (λ found. found ≡ own_name (declarations_of source.now) symbol front.now) }
 {
     let Some(name) = name_behind(alloc, source, symbol, front)? else {
         return Ok(None);
@@ -258,7 +258,7 @@ fn generic_of(
     requires held { IsHeld source.now }
     requires known { id.0 < length source.now.table }
     requires limit { limit ≤ greatest_size }
-    ensures found { IfOk result (λ found. IsGenericFound limit (generic_told (declarations_of source.now) (Some (tree_at source.now.table id.0))) table.new found) }
+    ensures found { IfOk result (IsGenericFound limit (generic_told (declarations_of source.now) (Some (tree_at source.now.table id.0))) table.new) }
     ensures few { IfOk result (λ found. IfSome found (λ generic. generic.0 ≤ greatest_number)) }
     ensures keeps { Keeps table.old table.new }
 {

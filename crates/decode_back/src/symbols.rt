@@ -7,8 +7,8 @@ ghost use Rattle.lp_spec.specs.Modules.{signature, symbol_name, symbol_type, pro
 ghost use Rattle.lp_term.specs.Tables.{tree_at};
 ghost use Rattle.holide_sig.specs.Modules.{declarations_of, IsHeld};
 ghost use Rattle.lp_spec.specs.Numerals.{numeral};
-ghost use Rattle.decode_spec.specs.Options.{or_else};
-ghost use Rattle.decode_spec.specs.Decode.{behind, name_behind as name_told, is_lacking, has_type, named_operator, operator_at as operator_meant};
+ghost use Rattle.decode_back.specs.Symbols.{own_operator};
+ghost use Rattle.decode_spec.specs.Decode.{behind, name_behind as name_told, is_lacking, named_operator, operator_at as operator_meant};
 
 use bridge_base::Memory;
 use hol_name::Name;
@@ -166,7 +166,7 @@ fn input_or_defined(
 ) -> Result<Option<Name>, Memory>
     requires held { IsHeld source.now }
     requires declared { symbol < length (signature ++ declarations_of source.now) }
-    ensures { IfOk result (λ found. found ≡ or_else (named_operator (declarations_of source.now) symbol (codes "t" ++ numeral count ++ codes "_") count) (named_operator (declarations_of source.now) symbol (codes "o_") count)) }
+    ensures { IfOk result (λ found. found ≡ own_operator (declarations_of source.now) symbol count) }
 {
     let front = input_front(alloc, count)?;
     match named(alloc, source, symbol, &front, count)? {

@@ -1,5 +1,5 @@
 //! The types that trees stand for.
-ghost use Rattle.std.specs.Prelude.{true, false, ◌≡◌, ◌<◌, ◌≤◌, ◌∷◌, ◌++◌, [], ℕ, List, Option, length, IfOk, IfSome, MatchOption, OnOk};
+ghost use Rattle.std.specs.Prelude.{true, false, ◌≡◌, ◌<◌, ◌≤◌, ◌∷◌, ◌++◌, ℕ, List, Option, length, IfOk, IfSome, OnOk};
 ghost use Rattle.hol_spec.specs.ClosedForm.{ClosedType, ClosedTypes};
 ghost use Rattle.hol_spec.specs.Limits.{greatest_depth};
 ghost use Rattle.lp_spec.specs.Trees.{Sym, Var};
@@ -11,7 +11,7 @@ ghost use Rattle.lp_term.specs.Tables.{tree_at};
 ghost use Rattle.holide_sig.specs.Modules.{declarations_of, IsHeld};
 ghost use Rattle.decode_spec.specs.Decode.{type_from, type_of_tree};
 ghost use Rattle.decode_back.specs.Walks.{at_place, greatest_number, AreArguments, IsTypeFound};
-ghost use Rattle.decode_back.specs.TypeTasks.{IsTypeTurn, IsTypeWalk, type_work};
+ghost use Rattle.decode_back.specs.TypeTasks.{with_type_task, ComesTo, IsTypeTurned, type_work};
 
 use crate::made::{keep, take};
 use crate::names::parameter_name;
@@ -33,6 +33,13 @@ struct TypeTask {
     level: usize,
 }
 
+/// The way through a type: what is still to be done, and the types that were made and not yet taken up.
+#[derive(Drop)]
+struct TypeWalk {
+    tasks: Stack<TypeTask>,
+    made: Stack<TypeId>,
+}
+
 /// The type that a tree stands for at a place, no larger than the greatest size and no deeper than the level.
 pub fn decode_type(
     alloc: Global,
@@ -46,23 +53,24 @@ pub fn decode_type(
     requires few { place.type_variables ≤ greatest_number }
     requires level { level ≤ greatest_depth }
     requires known { id.0 < length source.now.table }
-    ensures decoded { IfOk result (λ found. IsTypeFound level (type_of_tree (declarations_of source.now) (at_place place) (tree_at source.now.table id.0)) table.new found) }
+    ensures decoded { IfOk result (IsTypeFound level (type_of_tree (declarations_of source.now) (at_place place) (tree_at source.now.table id.0)) table.new) }
     ensures known { IfOk result (λ found. IfSome found (λ t. t.0 < length table.new.types)) }
     ensures keeps { Keeps table.old table.new }
 {
-    let mut tasks = Stack::new(alloc);
-    let mut made = Stack::new(alloc);
-    tasks.push(TypeTask {
+    let tasks = Stack::new(alloc);
+    let made = Stack::new(alloc);
+    let mut walk = TypeWalk { tasks, made };
+    walk.tasks.push(TypeTask {
         head: id,
         arguments: 0,
         level,
     })?;
-    while let Some(task) = tasks.pop() {
-        if !turn(alloc, source, place, table, task, &mut tasks, &mut made)? {
+    while let Some(task) = walk.tasks.pop() {
+        if !turn(alloc, source, place, table, task, &mut walk)? {
             return Ok(None);
         }
     }
-    Ok(made.pop())
+    Ok(walk.made.pop())
 }
 
 // One turn of decoding a type, and whether it goes on.
@@ -72,14 +80,13 @@ fn turn(
     place: Place,
     table: &mut TermTable,
     task: TypeTask,
-    tasks: &mut Stack<TypeTask>,
-    made: &mut Stack<TypeId>,
+    walk: &mut TypeWalk,
 ) -> Result<bool, Memory>
     requires held { IsHeld source.now }
     requires few { place.type_variables ≤ greatest_number }
-    requires walk { (limit : ℕ) × (root : Option ClosedType) × IsTypeWalk (declarations_of source.now) (at_place place) source.now.table limit root table.old (task ∷ tasks.old) made.old }
-    ensures turned { IfOk result (λ goes_on. (limit : ℕ) (root : Option ClosedType) → IsTypeWalk (declarations_of source.now) (at_place place) source.now.table limit root table.old (task ∷ tasks.old) made.old → IsTypeTurn (declarations_of source.now) (at_place place) source.now.table limit root table.new tasks.new made.new goes_on) }
-    ensures less { OnOk result (type_work source.now.table tasks.new < type_work source.now.table (task ∷ tasks.old)) }
+    requires walk { (limit : ℕ) × (root : Option ClosedType) × ComesTo source.now place limit root table.old (with_type_task task walk.old) }
+    ensures turned { IfOk result (IsTypeTurned source.now place table.old (with_type_task task walk.old) table.new walk.new) }
+    ensures less { OnOk result (type_work source.now.table walk.new.tasks < type_work source.now.table (task ∷ walk.old.tasks)) }
     ensures keeps { Keeps table.old table.new }
 {
     if task.level == 0 {
@@ -87,12 +94,12 @@ fn turn(
     }
     match source.table.view(task.head) {
         LpNode::App(function, argument) => {
-            tasks.push(TypeTask {
+            walk.tasks.push(TypeTask {
                 head: function,
                 arguments: task.arguments + 1,
                 level: task.level,
             })?;
-            tasks.push(TypeTask {
+            walk.tasks.push(TypeTask {
                 head: argument,
                 arguments: 0,
                 level: task.level - 1,
@@ -100,16 +107,16 @@ fn turn(
             Ok(true)
         }
         LpNode::Sym(symbol) => {
-            let args = gathered(alloc, task.arguments, made)?;
+            let args = gathered(alloc, task.arguments, &mut walk.made)?;
             let found = operator(alloc, source, table, task.level, symbol, args)?;
-            keep(found, made)
+            keep(found, &mut walk.made)
         }
         LpNode::Var(variable) => {
             if task.arguments > 0 {
                 return Ok(false);
             }
             let found = parameter(alloc, place, table, task.level, variable)?;
-            keep(found, made)
+            keep(found, &mut walk.made)
         }
         LpNode::SortType | LpNode::SortKind | LpNode::Lam(_, _) | LpNode::Pi(_, _) => Ok(false),
     }
@@ -140,7 +147,8 @@ fn operator(
     requires held { IsHeld source.now }
     requires level { level ≤ greatest_depth }
     requires args { AreKnown table.old.types args.items }
-    ensures decoded { IfOk result (λ found. (at : APlace) (acc : ClosedTypes) → AreArguments table.old args.items acc → IsTypeFound level (type_from (declarations_of source.now) at (Sym symbol) acc) table.new found) }
+    ensures decoded { IfOk result (λ found. (at : APlace) (acc : ClosedTypes) → AreArguments table.old args.items acc
+        → IsTypeFound level (type_from (declarations_of source.now) at (Sym symbol) acc) table.new found) }
     ensures known { IfOk result (λ found. IfSome found (λ t. t.0 < length table.new.types)) }
     ensures keeps { Keeps table.old table.new }
 {
@@ -166,7 +174,7 @@ fn parameter(
     variable: u128,
 ) -> Result<Option<TypeId>, Memory>
     requires few { place.type_variables ≤ greatest_number }
-    ensures decoded { IfOk result (λ found. (d : List Declaration) → IsTypeFound level (type_from d (at_place place) (Var variable) ClosedTypes.none) table.new found) }
+    ensures decoded { IfOk result (λ found. (d : List Declaration) → IsTypeFound level (type_of_tree d (at_place place) (Var variable)) table.new found) }
     ensures known { IfOk result (λ found. IfSome found (λ t. t.0 < length table.new.types)) }
     ensures keeps { Keeps table.old table.new }
 {

@@ -13,6 +13,6 @@ invariant-loop-number l = record {
   many : length l.ids.items ≡ l.number;
   budget : l.budget ≤ l.fn.budget;
   keeps : Keeps l.fn.table l.table;
-  so_far : (types : List ClosedType) → AreVariables l.fn.table l.variables types
-      → HypothesesSoFar (declarations_of l.source) types (trees_at l.source.table l.trees) (trees_at l.source.table (drop l.number l.trees)) l.count (length l.variables) l.number l.fn.budget l.budget l.table l.ids.items;
+  so_far : (types : List ClosedType) → AreVariables l.fn.table l.source.variables.now types
+      → HypothesesSoFar (declarations_of l.source.module.now) types (trees_at l.source.module.now.table l.trees) (trees_at l.source.module.now.table (drop l.number l.trees)) l.source.place.type_variables l.source.place.free_variables l.number l.fn.budget l.budget l.table l.ids.items;
 }

@@ -49,7 +49,7 @@ returns c = record {
       let v : AreVariablesFound (variables_from (declarations_of c.args.source.now) (trees_at c.args.source.now.table c.args.parts.now.variables.items) c.args.parts.now.type_variables 0) c.free_variables.new.table (Some c.in-Some.variables) =
       (subst (λ xs. AreVariablesFound (variables_from (declarations_of c.args.source.now) (trees_at c.args.source.now.table xs) c.args.parts.now.type_variables 0) c.free_variables.new.table (Some c.in-Some.variables)) c.deref.ensures.value
       (subst (AreVariablesFound (variables_from (declarations_of c.args.source.now) (trees_at c.args.source.now.table c.deref.result.now) c.args.parts.now.type_variables 0) c.free_variables.new.table) c.in-Some.is c.in_ok-variables.ensures.found)) in
-      h p v.0 are v.1 (subst (λ ids. AreVariables c.free_variables.new.table ids v.0) (sym c.deref-2.ensures.value) v.2));
+      h v.0 (v.1, subst (λ ids. AreVariables c.free_variables.new.table ids v.0) (sym c.deref-2.ensures.value) v.2) p are);
 }
 
 pub free_variables-requires-clause-few : goal.free_variables-requires-clause-few

@@ -12,12 +12,12 @@ use Rattle.decode_back.proofs.terms.decode_term.Given as goal
 abbrev pub invariant-loop-task : goal.invariant-loop-task
 invariant-loop-task l = record {
   keeps : Keeps l.fn.table l.table;
-  budget : l.budget ≤ l.fn.budget;
-  shaped : IsTermShape l.source.table l.table l.tasks l.made;
-  walk : (types : List ClosedType) → AreVariables l.fn.table l.variables types
-      → IsTermWalk (declarations_of l.source) l.source.table (under l.place) types (record { told = term_from (declarations_of l.source) (tree_at l.source.table l.fn.id.0) (at_place l.place); size = l.fn.budget; depth = l.level }) l.table l.budget l.tasks
-      l.made;
+  budget : l.walk.budget ≤ l.fn.budget;
+  shaped : IsTermShape l.source.module.now.table l.table l.walk.tasks l.walk.made;
+  walk : (types : List ClosedType) → AreVariables l.fn.table l.source.variables.now types
+      → IsTermWalk (declarations_of l.source.module.now) l.source.module.now.table (under l.source.place) types (record { told = term_from (declarations_of l.source.module.now) (tree_at l.source.module.now.table l.fn.id.0) (at_place l.source.place); size = l.fn.budget; depth = l.level }) l.table l.walk.budget l.walk.tasks
+      l.walk.made;
 }
 
 abbrev pub decreases-loop-task : goal.decreases-loop-task
-decreases-loop-task l = term_work l.source.table l.tasks
+decreases-loop-task l = term_work l.source.module.now.table l.walk.tasks
