@@ -15,7 +15,7 @@ ghost use Rattle.article_count.specs.TermTasks.{CanCountTerms, CountsTerms};
 
 use crate::terms::TermCount;
 use article_lines::lengths::{list_length, name_length};
-use bridge_base::Memory;
+use common::Memory;
 use hol_name::Name;
 use hol_rules::{Parameters, Substitution};
 use hol_term::{TermId, TermTable, Variable};

@@ -3,7 +3,7 @@ ghost use Rattle.std.specs.Prelude.{◌<◌, length, IfOk};
 ghost use Rattle.hol_term.specs.Tables.{term_at};
 ghost use Rattle.article_count.specs.LooseNumbers.{AreLoose, AreLooseTo, IsLoose};
 
-use bridge_base::Memory;
+use common::Memory;
 use hol_term::{TermId, TermTable, TermView};
 use std::alloc::Global;
 

@@ -3,7 +3,7 @@ ghost use Rattle.std.specs.Prelude.{◌≡◌, ◌⊎◌, ℕ, IfSome, OnOk};
 ghost use Rattle.article_count.specs.declared.memo.Place.{Place as APlace};
 ghost use Rattle.article_count.specs.Noted.{IsNoted};
 
-use bridge_base::Memory;
+use common::Memory;
 use hol_term::TermId;
 use std::alloc::Global;
 use std::collections::BTreeMap;

@@ -27,7 +27,7 @@ use crate::terms::TermCount;
 use article_lines::keys::{Keys, Thing};
 use article_lines::lengths::word_length;
 use article_spec::Word;
-use bridge_base::Memory;
+use common::Memory;
 use hol_rules::{Proof, StepId};
 use hol_spec::{StepKind, Version};
 use hol_term::{TermId, TermTable};

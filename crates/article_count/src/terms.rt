@@ -26,7 +26,7 @@ use article_lines::lengths::{
     binder_name_length, name_length, told_length as told_length_of, word_length,
 };
 use article_spec::Word;
-use bridge_base::{Memory, Stack};
+use common::{Memory, Stack};
 use hol_name::Name;
 use hol_term::{TermId, TermTable, TermView};
 use hol_type::TypeId;

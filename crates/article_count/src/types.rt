@@ -13,7 +13,7 @@ use crate::tally::Count;
 use article_lines::keys::Thing;
 use article_lines::lengths::{list_length, name_length, word_length};
 use article_spec::Word;
-use bridge_base::{Memory, Stack};
+use common::{Memory, Stack};
 use hol_term::TermTable;
 use hol_type::{TypeId, TypeView};
 use std::alloc::Global;

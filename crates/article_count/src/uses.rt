@@ -10,7 +10,7 @@ ghost use Rattle.article_count.specs.LooseNumbers.{AreLoose};
 ghost use Rattle.article_count.specs.Used.{CanSum, Sums, uses_work};
 
 use crate::memo::{Memo, Place};
-use bridge_base::{Memory, Stack};
+use common::{Memory, Stack};
 use hol_term::{TermId, TermTable, TermView};
 use std::alloc::Global;
 

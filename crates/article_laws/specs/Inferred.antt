@@ -1,7 +1,7 @@
 -- What each word of a rule does, said once: it takes operands off the stack and concludes a step over the rest. So what such a step keeps
 -- is kept by each of these words.
 use Rattle.std.proofs.Common.{◌≡◌, List, [], ◌∷◌, Result, Ok, refl, sym, subst, ◌∙◌}
-use Rattle.bridge_base.specs.declared.faults.Kind.{Kind}
+use Rattle.common.specs.declared.faults.Kind.{Kind}
 use Rattle.hol_spec.specs.Proofs.{Step}
 use Rattle.article_spec.specs.State.{Object, State}
 use Rattle.article_spec.specs.Results.{◌>>=◌}

@@ -1,7 +1,7 @@
 -- Reading a text in parts: what its open line goes on to read, the text goes on to read.
 use Rattle.std.specs.Prelude.{ℕ, ◌≢◌, List, [], ◌∷◌, ◌++◌}
 use Rattle.std.proofs.Common.{ap, ◌∙◌, append_assoc}
-use Rattle.bridge_base.specs.declared.faults.Kind.{Kind}
+use Rattle.common.specs.declared.faults.Kind.{Kind}
 use Rattle.article_spec.specs.declared.commands.Command.{Command}
 use Rattle.article_spec.specs.Contents.{Content}
 use Rattle.article_spec.specs.Lines.{newline, EndedLine, IsLine, OpenLine, Opens, open_line, skips, gives, Stops, faults, long_line, long_article, skips_on, gives_on}

@@ -4,8 +4,8 @@ use Rattle.std.specs.Prelude.{is_some}
 use Rattle.std.specs.Option.{ok_or}
 use Rattle.hol_spec.specs.Types.{HolType}
 use Rattle.hol_spec.specs.Terms.{Term, type_of}
-use Rattle.bridge_base.specs.declared.faults.Kind.{Kind}
-use Rattle.bridge_base.specs.declared.faults.Kind.TheVariants.{TypeMismatch}
+use Rattle.common.specs.declared.faults.Kind.{Kind}
+use Rattle.common.specs.declared.faults.Kind.TheVariants.{TypeMismatch}
 use Rattle.hol_spec.specs.Proofs.{Made}
 use Rattle.article_spec.specs.Conditions.{typed}
 use Rattle.article_laws.specs.Soundness.{IsTermObject}

@@ -1,6 +1,6 @@
 -- A word of the body of an article leaves the place where the machine is in it.
 use Rattle.std.proofs.Common.{◌≡◌, ℕ, List, [], ◌∷◌, ◌++◌, map, length, Result, Ok, Err, Option, Some, None, refl, subst}
-use Rattle.bridge_base.specs.declared.faults.Kind.{Kind}
+use Rattle.common.specs.declared.faults.Kind.{Kind}
 use Rattle.hol_spec.specs.Proofs.{Step, sequent_at, symbols_of}
 use Rattle.article_spec.specs.State.{State, Object, version_at, list, constant, type_operator}
 use Rattle.article_spec.specs.Results.{◌>>=◌, ◌>>◌}
@@ -8,7 +8,7 @@ use Rattle.article_spec.specs.Changes.{with_stack, conclude, next_step, with_sym
 use Rattle.article_spec.specs.Conditions.{sequent_in_limits, demand, type_in_limits, term_in_limits, arity_fits, generic_fits}
 use Rattle.article_spec.specs.RuleSteps.{restatement, NewType, define_const_step, define_const_list_step, type_laws, axiom_step, restate_step}
 use Rattle.article_spec.specs.Operands.{as_name, as_names, as_term, as_theorem, as_constant_pairs, pop, as_number, as_list, as_type_operator, as_type, as_types, as_constant, as_variable, any_object, head_and_tail, as_terms}
-use Rattle.bridge_base.specs.declared.faults.Kind.TheVariants.{NoSuchKey, TypeMismatch}
+use Rattle.common.specs.declared.faults.Kind.TheVariants.{NoSuchKey, TypeMismatch}
 use Rattle.hol_spec.specs.DefinitionLists.{names_of, definitions_in}
 use Rattle.hol_spec.specs.Definitions.{Definition, TypeNames}
 use Rattle.hol_spec.specs.Rules.{abstraction}

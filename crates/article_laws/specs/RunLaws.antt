@@ -1,6 +1,6 @@
 -- Laws of a run: as every text has exactly one reading, every list of articles has exactly one outcome.
 use Rattle.std.proofs.Common.{ℕ, ◌+◌, ◌≡◌, List, [], ◌∷◌, ◌++◌, Result, Ok, Err, refl, sym, ap, subst, ◌∙◌}
-use Rattle.bridge_base.specs.declared.faults.Kind.{Kind}
+use Rattle.common.specs.declared.faults.Kind.{Kind}
 use Rattle.article_spec.specs.declared.commands.Command.{Command}
 use Rattle.article_spec.specs.Lines.{End}
 use Rattle.article_spec.specs.OneReading.{HasOneReading}

@@ -1,6 +1,6 @@
 -- The words that build objects keep a state sound.
 use Rattle.std.proofs.Common.{◌≡◌, ℕ, List, [], ◌∷◌, ◌++◌, map, length, true, Option, None, Some, Result, Ok, refl, sym, ap, subst, ◌∙◌, arith}
-use Rattle.bridge_base.specs.declared.faults.Kind.{Kind}
+use Rattle.common.specs.declared.faults.Kind.{Kind}
 use Rattle.std.specs.Prelude.{is_some}
 use Rattle.std.specs.Option.{ok_or, option_map}
 use Rattle.std.specs.List.{AllByRecursion}
@@ -10,7 +10,7 @@ use Rattle.hol_spec.specs.Primitives.{function}
 use Rattle.hol_spec.specs.Limits.{TypeWithin}
 use Rattle.hol_spec.specs.Terms.{Term, type_of}
 use Rattle.hol_laws.specs.TermTyping.{type_of-close}
-use Rattle.bridge_base.specs.declared.faults.Kind.TheVariants.{NoSuchKey, TypeMismatch}
+use Rattle.common.specs.declared.faults.Kind.TheVariants.{NoSuchKey, TypeMismatch}
 use Rattle.hol_spec.specs.Symbols.{Symbol, generic_type, operator_arity, new_constant, new_operator}
 use Rattle.hol_spec.specs.Taken.{OperatorTaken, TypeTaken, TypesTaken, TermTaken}
 use Rattle.proof_laws.specs.TakenTerms.{close-taken}

@@ -21,8 +21,8 @@ use Rattle.hol_spec.specs.Primitives.{bool}
 use Rattle.hol_spec.specs.Terms.{Term, Variable, free, app, variable_eq, type_of, HasType}
 use Rattle.hol_spec.specs.TermSubstitution.{TermPairs}
 use Rattle.hol_spec.specs.Sequents.{Sequent}
-use Rattle.bridge_base.specs.declared.faults.Kind.{Kind}
-use Rattle.bridge_base.specs.declared.faults.Kind.TheVariants.{NameTaken, NotClosed, ExtraTypeVars, BadDefinitionList, BadTypeVars, NotTheSequent}
+use Rattle.common.specs.declared.faults.Kind.{Kind}
+use Rattle.common.specs.declared.faults.Kind.TheVariants.{NameTaken, NotClosed, ExtraTypeVars, BadDefinitionList, BadTypeVars, NotTheSequent}
 use Rattle.hol_spec.specs.Definitions.{Definition, TypeNames}
 use Rattle.hol_spec.specs.Defining.{is_closed, has_type_variables_of}
 use Rattle.hol_spec.specs.Repeats.{no_repeats}

@@ -13,7 +13,7 @@ use Rattle.hol_laws.specs.TermLaws.{term_eq-Decides}
 use Rattle.hol_spec.specs.TermSubstitution.{TermPairs, AreFitting}
 use Rattle.hol_laws.specs.TermSubstitutionLaws.{application_type-is}
 use Rattle.hol_spec.specs.Sequents.{Sequent, IsSequent}
-use Rattle.bridge_base.specs.declared.faults.Kind.TheVariants.{NotBool, NotEquation, TypeMismatch, NotAlike, VarInHyps, NotRedex, BadSubst}
+use Rattle.common.specs.declared.faults.Kind.TheVariants.{NotBool, NotEquation, TypeMismatch, NotAlike, VarInHyps, NotRedex, BadSubst}
 use Rattle.hol_spec.specs.Equations.{Equation, equation_parts}
 use Rattle.proof_laws.specs.EquationLaws.{equation_parts-is, equation-sides}
 use Rattle.hol_spec.specs.Taken.{TypeTaken, TermTaken, ParametersTaken}
@@ -40,7 +40,7 @@ use Rattle.hol_spec.specs.Substitution.{TypePairs}
 use Rattle.article_spec.specs.Step.{obey}
 use Rattle.article_spec.specs.declared.commands.Word.{Word}
 use Rattle.article_spec.specs.declared.commands.Word.TheVariants as word
-use Rattle.bridge_base.specs.declared.faults.Kind.{Kind}
+use Rattle.common.specs.declared.faults.Kind.{Kind}
 use Rattle.article_laws.specs.Inferred.{IsRule}
 
 -- a theorem on the stack says a sequent

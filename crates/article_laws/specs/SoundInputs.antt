@@ -9,7 +9,7 @@ use Rattle.hol_spec.specs.Types.{HolType}
 use Rattle.hol_spec.specs.Substitution.{is_instance}
 use Rattle.hol_laws.specs.SubstitutionLaws.{is_instance-Decides}
 use Rattle.hol_laws.specs.NameEqualityLaws.{name_eq-refl}
-use Rattle.bridge_base.specs.declared.faults.Kind.TheVariants.{BadArity, BadConstType}
+use Rattle.common.specs.declared.faults.Kind.TheVariants.{BadArity, BadConstType}
 use Rattle.hol_spec.specs.Symbols.{Symbol, input_constant, input_operator, generic_type, operator_arity, is_input_constant, is_input_operator, is_taken_constant, new_constant, new_operator}
 use Rattle.hol_spec.specs.Taking.{Takes}
 use Rattle.hol_spec.specs.Taking as taking

@@ -5,7 +5,7 @@ use Rattle.hol_spec.specs.Names.{Name}
 use Rattle.hol_spec.specs.Types.{HolType}
 use Rattle.hol_spec.specs.Limits.{TypeWithin}
 use Rattle.hol_spec.specs.Terms.{Term, Variable}
-use Rattle.bridge_base.specs.declared.faults.Kind.{Kind}
+use Rattle.common.specs.declared.faults.Kind.{Kind}
 use Rattle.hol_spec.specs.Proofs.{Made, symbols_of, steps_of}
 use Rattle.hol_spec.specs.Taken.{TypeTaken}
 use Rattle.article_spec.specs.State.{Object, Objects, list, type, variable, term, theorem, none, more}

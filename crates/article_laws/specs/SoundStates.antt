@@ -12,8 +12,8 @@ use Rattle.hol_spec.specs.Types.{HolType}
 use Rattle.hol_spec.specs.Terms.{Term}
 use Rattle.hol_spec.specs.Sequents.{Sequent}
 use Rattle.hol_spec.specs.Limits.{TypeWithin, TermWithin, SequentWithin, greatest_size, greatest_depth, greatest_parameter_count}
-use Rattle.bridge_base.specs.declared.faults.Kind.{Kind}
-use Rattle.bridge_base.specs.declared.faults.Kind.TheVariants.{TooLarge, TooDeep, TooManyParams}
+use Rattle.common.specs.declared.faults.Kind.{Kind}
+use Rattle.common.specs.declared.faults.Kind.TheVariants.{TooLarge, TooDeep, TooManyParams}
 use Rattle.article_spec.specs.Ascending.{Ascend}
 use Rattle.article_spec.specs.Results.{◌>>=◌, ◌>>◌}
 use Rattle.hol_spec.specs.Measures.{Measure, type_measure, term_measure, sequent_measure}

@@ -9,7 +9,7 @@ use Rattle.hol_spec.specs.Terms.{Term, term_eq, HasType}
 use Rattle.hol_laws.specs.TermLaws.{term_eq-Decides}
 use Rattle.hol_laws.specs.ListLaws.{distinct-IsDistinct, union-All}
 use Rattle.hol_spec.specs.Sequents.{Sequent, IsSequent, within, same}
-use Rattle.bridge_base.specs.declared.faults.Kind.TheVariants.{NotBool, NotTheSequent}
+use Rattle.common.specs.declared.faults.Kind.TheVariants.{NotBool, NotTheSequent}
 use Rattle.hol_spec.specs.Taken.{TermTaken, TermsTaken}
 use Rattle.proof_laws.specs.SymbolGrowth.{symmetric}
 use Rattle.hol_laws.specs.Members.{All-weaker}
@@ -27,7 +27,7 @@ use Rattle.article_laws.specs.Soundness.{IsTermObject, IsSound}
 use Rattle.article_laws.specs.SoundStates.{bound, passed, answered, demanded, list_all-All, restacked, sequent_limits, IsNext, step-sound, new-theorem, pushed, assume-sound, conclude-sound, at_step}
 use Rattle.article_laws.specs.SoundOperands.{term-gives, terms-gives, theorem-gives, IsStepNumber, pop-gives}
 use Rattle.article_laws.specs.SoundInference.{of_type}
-use Rattle.bridge_base.specs.declared.faults.Kind.{Kind}
+use Rattle.common.specs.declared.faults.Kind.{Kind}
 
 -- what is stated of truth values is a sequent, over what is taken
 stated-IsSequent : (conclusion : Term) (hypotheses : List Term) → list_all (is_of_type bool) (conclusion ∷ hypotheses) ≡ true

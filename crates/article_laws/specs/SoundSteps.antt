@@ -5,7 +5,7 @@ use Rattle.std.specs.List.{AllByRecursion}
 use Rattle.std.specs.Ordering.{int_cmp}
 use Rattle.std.specs.FinMap as entries
 use Rattle.article_spec.specs.Ascending.{Ascend}
-use Rattle.bridge_base.specs.declared.faults.Kind.{Kind}
+use Rattle.common.specs.declared.faults.Kind.{Kind}
 use Rattle.hol_spec.specs.declared.Version.{Version}
 use Rattle.hol_spec.specs.declared.Version.TheVariants.{Five, Six}
 use Rattle.article_spec.specs.declared.commands.Command.{Command}

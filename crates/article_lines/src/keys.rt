@@ -3,7 +3,7 @@ ghost use Rattle.std.specs.Prelude.{◌≡◌, ◌^◌, ◌<◌, ◌+◌, None, 
 ghost use Rattle.article_lines.specs.Things.{HasRoom, thing_key, none_keyed, with_thing};
 ghost use Rattle.article_lines.specs.Slots.{none_put, put, slot, HasPlace};
 
-use bridge_base::Memory;
+use common::Memory;
 use hol_term::TermId;
 use hol_type::TypeId;
 use std::alloc::Global;

@@ -4,7 +4,7 @@ ghost use Rattle.std.specs.List.{AllByRecursion};
 ghost use Rattle.article_lines.specs.Flagged.{flag};
 ghost use Rattle.article_reach.specs.Least.{is_among};
 
-use bridge_base::Memory;
+use common::Memory;
 use hol_rules::StepId;
 use std::alloc::Global;
 

@@ -4,7 +4,7 @@ ghost use Rattle.article_lines.specs.Flagged.{flag};
 ghost use Rattle.article_reach.specs.Least.{is_among, IsLeast};
 
 use crate::flags::unset;
-use bridge_base::Memory;
+use common::Memory;
 use std::alloc::Global;
 
 // The least number that isn't among these.

@@ -42,7 +42,7 @@ mod walk;
 
 use crate::flags::{mark_steps, unset};
 use crate::looking::looked;
-use bridge_base::Memory;
+use common::Memory;
 use hol_rules::{Proof, StepId};
 use std::alloc::Global;
 pub use told::Reach;

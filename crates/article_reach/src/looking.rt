@@ -13,7 +13,7 @@ ghost use Rattle.article_reach.specs.Walks.{is_marked};
 
 use crate::least::least_free;
 use crate::walk::Walk;
-use bridge_base::Memory;
+use common::Memory;
 use hol_rules::{Proof, StepId};
 use std::alloc::Global;
 

@@ -4,7 +4,7 @@ ghost use Rattle.hol_spec.specs.Lists.{is_in};
 ghost use Rattle.hol_spec.specs.Names.{Name as AName};
 ghost use Rattle.hol_spec.specs.NameEquality.{name_eq};
 
-use bridge_base::Memory;
+use common::Memory;
 use hol_name::Name;
 use std::alloc::Global;
 use std::collections::BTreeSet;

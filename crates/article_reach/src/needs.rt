@@ -13,7 +13,7 @@ ghost use Rattle.article_reach.specs.Looked.{AreSteps, IsWalkOf, WalksOn};
 
 use crate::flags::mark_steps;
 use crate::walk::{Task, Walk, note_variable, push_terms};
-use bridge_base::Memory;
+use common::Memory;
 use hol_name::Name;
 use hol_rules::{Parameters, Proof, StepId};
 use hol_term::{TermId, Variable};

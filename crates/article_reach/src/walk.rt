@@ -12,7 +12,7 @@ ghost use Rattle.article_reach.specs.Walks.{is_marked, with_task, with_terms, wi
 use crate::flags::unset;
 use crate::name_set::NameSet;
 use article_lines::binders::binder_number;
-use bridge_base::{Memory, Stack};
+use common::{Memory, Stack};
 use hol_name::Name;
 use hol_rules::Proof;
 use hol_term::{TermId, TermTable, TermView};

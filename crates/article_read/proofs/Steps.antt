@@ -1,7 +1,7 @@
 -- What a byte, and the end of the text, do to a reader.
 use Rattle.std.proofs.Common.{◌≡◌, ◌≢◌, ℕ, zero, suc, add-one, take, drop, get_or, ◌+◌, ◌<◌, ◌≤◌, List, [], ◌∷◌, ◌++◌, Option, None, Some, Ok, Err, length, refl, sym, ap, subst, ◌∙◌, append_assoc, arith}
 use Rattle.std.proofs.lemmas.List.{append-nil}
-use Rattle.bridge_base.specs.declared.faults.Kind.TheVariants.{LineTooLong, InputTooLong}
+use Rattle.common.specs.declared.faults.Kind.TheVariants.{LineTooLong, InputTooLong}
 use Rattle.article_spec.specs.declared.commands.Command.{Command}
 use Rattle.article_spec.specs.Contents.{Content, skipped, command, faulty, content}
 use Rattle.article_spec.specs.Lines.{newline, max_line, max_article, command_at, EndedLine, Opens, open_line, skips, gives, Stops, faults, long_line, long_article, ended, Lines, last_skipped, last_gives, last_faults, stops}

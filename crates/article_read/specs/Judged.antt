@@ -1,7 +1,7 @@
 -- What the reader finds out about one line.
 use Rattle.std.specs.Prelude.{◌≡◌, ℕ, if◌then◌else◌, List, [], ◌∷◌, Option, None, Some}
 use Rattle.std.specs.Str.{bytes_eq}
-use Rattle.bridge_base.specs.declared.faults.Kind.TheVariants as kind
+use Rattle.common.specs.declared.faults.Kind.TheVariants as kind
 use Rattle.article_spec.specs.declared.commands.Item.TheVariants as item
 use Rattle.article_spec.specs.declared.commands.Word.{Word}
 use Rattle.article_spec.specs.Contents.{Content, skipped, command, faulty}

@@ -4,7 +4,7 @@ use Rattle.std.proofs.Common.{arith}
 use Rattle.article_spec.specs.declared.commands.Command.{Command}
 use Rattle.article_spec.specs.Contents.{Content, skipped, command, faulty, content}
 use Rattle.article_spec.specs.Lines.{OpenLine, Opens, open_line, Stops, End, ended, refused, Lines, command_at}
-use Rattle.bridge_base.specs.declared.faults.Kind.{Kind}
+use Rattle.common.specs.declared.faults.Kind.{Kind}
 use Rattle.article_read.specs.declared.lines.LineFault.{LineFault}
 use Rattle.article_read.specs.declared.lines.LineFault.TheVariants.{Memory, Refused}
 

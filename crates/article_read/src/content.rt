@@ -7,7 +7,7 @@ ghost use Rattle.article_read.specs.Judged.{Judges, looked_up};
 
 use crate::number::{Numeral, read_number};
 use article_spec::{Item, Word};
-use bridge_base::Kind;
+use common::Kind;
 use hol_name::{Name, NameFault};
 use std::alloc::Global;
 

@@ -3,14 +3,14 @@
 ghost use Rattle.std.specs.Prelude.{◌≡◌, ◌∷◌, [], ◌+◌, ◌<◌, ◌≤◌, ◌^◌, length, None, Some, Ok, Err, OnOk, OnErr, IfOk, IfErr};
 ghost use Rattle.std.specs.List.{flat_map};
 ghost use Rattle.std.specs.Result.{result_err};
-ghost use Rattle.bridge_base.specs.declared.faults.Kind.{Kind};
+ghost use Rattle.common.specs.declared.faults.Kind.{Kind};
 ghost use Rattle.article_spec.specs.Lines.{max_line, max_article};
 ghost use Rattle.article_read.specs.declared.lines.LineFault.{LineFault};
 ghost use Rattle.article_read.specs.Reading.{IsFed, Feeds, EndsWith, StaysStopped, GivesLine, RefusesLine, IsKept, ReadsAs, fresh};
 
 use crate::content::{Judgement, judge};
 use article_spec::Command;
-use bridge_base::Kind;
+use common::Kind;
 use std::alloc::Global;
 use std::marker::Model;
 use thiserror::Error;

@@ -1,7 +1,7 @@
 //! The first faulty line is told where it ends, and stays.
 use crate::reading::{read, refused};
 use article_read::{LineFault, Lines};
-use bridge_base::Kind;
+use common::Kind;
 use std::alloc::Global;
 use std::test::Fail;
 

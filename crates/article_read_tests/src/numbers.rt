@@ -1,7 +1,7 @@
 //! Numbers have 64 bits.
 use crate::reading::{read, refused};
 use article_read::Item;
-use bridge_base::Kind;
+use common::Kind;
 use std::test::Fail;
 
 #[test]

@@ -1,6 +1,6 @@
 //! Readings of whole texts.
 use article_read::{Command, LineFault, Lines};
-use bridge_base::Kind;
+use common::Kind;
 use std::alloc::Global;
 
 /// Reads a text in pieces of this size, or of one byte.

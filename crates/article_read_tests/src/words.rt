@@ -1,7 +1,7 @@
 //! Thirty-four words are read, and no other.
 use crate::reading::{read, refused};
 use article_read::{Item, Word};
-use bridge_base::Kind;
+use common::Kind;
 use std::test::Fail;
 
 #[test]

@@ -16,8 +16,8 @@ use Rattle.hol_spec.specs.Terms.{Term, type_of, equation, term_eq}
 use Rattle.hol_spec.specs.Proofs.{Made}
 use Rattle.hol_spec.specs.Symbols.{Symbol}
 use Rattle.article_spec.specs.Contents.{Content, content, faulty, command, skipped}
-use Rattle.bridge_base.specs.declared.faults.Kind.{Kind}
-use Rattle.bridge_base.specs.declared.faults.Kind.TheVariants.{BadLine, StackShort, WrongKind, VersionPlace, EmptyList, NoSuchKey, NumberRange, NotBool, NotTheSequent, BadArity, BadConstType, TypeMismatch}
+use Rattle.common.specs.declared.faults.Kind.{Kind}
+use Rattle.common.specs.declared.faults.Kind.TheVariants.{BadLine, StackShort, WrongKind, VersionPlace, EmptyList, NoSuchKey, NumberRange, NotBool, NotTheSequent, BadArity, BadConstType, TypeMismatch}
 use Rattle.article_spec.specs.declared.commands.Command.{Command}
 use Rattle.article_spec.specs.declared.commands.Item.{Item}
 use Rattle.article_spec.specs.declared.commands.Item.TheVariants as item

@@ -13,8 +13,8 @@ use Rattle.hol_spec.specs.Limits.{term_size, term_depth}
 use Rattle.hol_spec.specs.Proofs.{Made}
 use Rattle.hol_spec.specs.Symbols.{Symbol}
 use Rattle.article_spec.specs.Contents.{content, faulty}
-use Rattle.bridge_base.specs.declared.faults.Kind.{Kind}
-use Rattle.bridge_base.specs.declared.faults.Kind.TheVariants.{BadLine, StackShort, WrongKind, VersionPlace, EmptyList, NoSuchKey, NumberRange}
+use Rattle.common.specs.declared.faults.Kind.{Kind}
+use Rattle.common.specs.declared.faults.Kind.TheVariants.{BadLine, StackShort, WrongKind, VersionPlace, EmptyList, NoSuchKey, NumberRange}
 use Rattle.article_spec.specs.declared.commands.Command.{Command}
 use Rattle.article_spec.specs.declared.commands.Item.{Item}
 use Rattle.article_spec.specs.declared.commands.Item.TheVariants as item

@@ -4,7 +4,7 @@ use Rattle.std.proofs.Common.{refl}
 use Rattle.hol_spec.specs.Types.{HolType}
 use Rattle.hol_spec.specs.Primitives.{bool, function}
 use Rattle.hol_spec.specs.Terms.{Term, equation}
-use Rattle.bridge_base.specs.declared.faults.Kind.TheVariants.{NotTheSequent, VarInHyps}
+use Rattle.common.specs.declared.faults.Kind.TheVariants.{NotTheSequent, VarInHyps}
 use Rattle.article_spec.specs.declared.commands.Item.{Item}
 use Rattle.article_spec.specs.declared.commands.Word.TheVariants as word
 use Rattle.hol_spec.specs.declared.StepKind.TheVariants.{Axiom, Restate}

@@ -5,8 +5,8 @@ use Rattle.std.specs.Option.{ok_or}
 use Rattle.std.specs.FinMap as entries
 use Rattle.hol_spec.specs.Types.{HolType, types_of}
 use Rattle.hol_spec.specs.Terms.{Term, type_of}
-use Rattle.bridge_base.specs.declared.faults.Kind.{Kind}
-use Rattle.bridge_base.specs.declared.faults.Kind.TheVariants.{NoSuchKey, TypeMismatch}
+use Rattle.common.specs.declared.faults.Kind.{Kind}
+use Rattle.common.specs.declared.faults.Kind.TheVariants.{NoSuchKey, TypeMismatch}
 use Rattle.hol_spec.specs.Symbols.{generic_type, operator_arity, new_constant, new_operator}
 use Rattle.hol_spec.specs.Rules.{abstraction}
 use Rattle.hol_spec.specs.Proofs.{symbols_of}

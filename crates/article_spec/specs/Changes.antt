@@ -6,7 +6,7 @@ use Rattle.hol_spec.specs.Types.{HolType}
 use Rattle.hol_spec.specs.Terms.{Term}
 use Rattle.hol_spec.specs.Sequents.{Sequent, same}
 use Rattle.hol_spec.specs.Definitions.{TypeNames}
-use Rattle.bridge_base.specs.declared.faults.Kind.{Kind}
+use Rattle.common.specs.declared.faults.Kind.{Kind}
 use Rattle.hol_spec.specs.Symbols.{Symbol}
 use Rattle.hol_spec.specs.Proofs.{Made, Step, steps_of, sequent_at}
 use Rattle.article_spec.specs.State.{Object, theorem, State}

@@ -9,8 +9,8 @@ use Rattle.hol_spec.specs.Primitives.{bool}
 use Rattle.hol_spec.specs.Terms.{Term, type_of}
 use Rattle.hol_spec.specs.Sequents.{Sequent, within}
 use Rattle.hol_spec.specs.Limits.{greatest_size, greatest_depth, greatest_parameter_count}
-use Rattle.bridge_base.specs.declared.faults.Kind.{Kind}
-use Rattle.bridge_base.specs.declared.faults.Kind.TheVariants.{NotBool, TypeMismatch, NotEquation, BadArity, BadConstType, NotTheSequent, TooLarge, TooDeep, TooManyParams}
+use Rattle.common.specs.declared.faults.Kind.{Kind}
+use Rattle.common.specs.declared.faults.Kind.TheVariants.{NotBool, TypeMismatch, NotEquation, BadArity, BadConstType, NotTheSequent, TooLarge, TooDeep, TooManyParams}
 use Rattle.hol_spec.specs.Equations.{Equation, equation_parts}
 use Rattle.hol_spec.specs.Measures.{Measure, type_measure, term_measure, sequent_measure}
 use Rattle.article_spec.specs.Results.{◌>>◌}

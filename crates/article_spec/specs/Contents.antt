@@ -2,8 +2,8 @@
 -- Source: the OpenTheory article file format, version 6, "Format".
 use Rattle.std.specs.Prelude.{ℕ, ◌==◌, ◌||◌, ℤ, Bool, if◌then◌else◌, List, [], ◌∷◌, reverse, Option, unwrap_or}
 use Rattle.std.specs.Option.{option_map, option_or}
-use Rattle.bridge_base.specs.declared.faults.Kind.{Kind}
-use Rattle.bridge_base.specs.declared.faults.Kind.TheVariants as kind
+use Rattle.common.specs.declared.faults.Kind.{Kind}
+use Rattle.common.specs.declared.faults.Kind.TheVariants as kind
 use Rattle.hol_spec.specs.NameOf.{name_of}
 use Rattle.article_spec.specs.declared.commands.Item.{Item}
 use Rattle.article_spec.specs.declared.commands.Item.TheVariants as item

@@ -2,7 +2,7 @@
 -- Source: the OpenTheory article file format, versions 5 and 6, "Commands".
 use Rattle.std.specs.Prelude.{List, [], ◌∷◌, map, Result}
 use Rattle.hol_spec.specs.Names.{Name}
-use Rattle.bridge_base.specs.declared.faults.Kind.{Kind}
+use Rattle.common.specs.declared.faults.Kind.{Kind}
 use Rattle.hol_spec.specs.Definitions.{Definition, TypeNames}
 use Rattle.hol_spec.specs.DefinitionLists.{names_of, definitions_in}
 use Rattle.hol_spec.specs.Symbols.{defined}

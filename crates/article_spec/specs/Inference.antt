@@ -1,7 +1,7 @@
 -- The words that infer: each pops theorems and what else its rule is given, and concludes the step of its rule.
 -- Source: the OpenTheory article file format, version 6, "Commands".
 use Rattle.std.specs.Prelude.{Result}
-use Rattle.bridge_base.specs.declared.faults.Kind.{Kind}
+use Rattle.common.specs.declared.faults.Kind.{Kind}
 use Rattle.article_spec.specs.State.{State}
 use Rattle.article_spec.specs.Results.{◌>>=◌}
 use Rattle.article_spec.specs.Operands.{as_variable, as_term, as_theorem, as_substitution, pop}

@@ -18,3 +18,4 @@ pub mod State
 pub mod Stating
 pub mod Step
 pub mod Words
+pub mod Trial

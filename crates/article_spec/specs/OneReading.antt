@@ -1,6 +1,6 @@
 -- Every text has exactly one reading as the lines of an article.
 use Rattle.std.specs.Prelude.{ℕ, ◌≡◌, List, ◌++◌}
-use Rattle.bridge_base.specs.declared.faults.Kind.{Kind}
+use Rattle.common.specs.declared.faults.Kind.{Kind}
 use Rattle.article_spec.specs.declared.commands.Command.{Command}
 use Rattle.article_spec.specs.Lines.{Opens, Stops, End, Lines}
 

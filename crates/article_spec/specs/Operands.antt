@@ -7,8 +7,8 @@ use Rattle.hol_spec.specs.Terms.{Term, Variable}
 use Rattle.hol_spec.specs.Substitution.{TypePairs}
 use Rattle.hol_spec.specs.TermSubstitution.{TermPairs}
 use Rattle.hol_spec.specs.DefinitionLists.{ConstantPairs}
-use Rattle.bridge_base.specs.declared.faults.Kind.{Kind}
-use Rattle.bridge_base.specs.declared.faults.Kind.TheVariants.{StackShort, WrongKind, EmptyList}
+use Rattle.common.specs.declared.faults.Kind.{Kind}
+use Rattle.common.specs.declared.faults.Kind.TheVariants.{StackShort, WrongKind, EmptyList}
 use Rattle.article_spec.specs.State.{Object, Objects, number, name, list, type_operator, type, constant, variable, term, theorem, none, more}
 use Rattle.article_spec.specs.Results.{◌>>=◌}
 

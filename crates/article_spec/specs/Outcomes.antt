@@ -1,6 +1,6 @@
 -- The laws of runs, by whatever way of obeying: a list of articles has exactly one outcome, and a refusal stays whatever articles follow.
 use Rattle.std.specs.Prelude.{ℕ, ◌≡◌, List, ◌++◌}
-use Rattle.bridge_base.specs.declared.faults.Kind.{Kind}
+use Rattle.common.specs.declared.faults.Kind.{Kind}
 use Rattle.article_spec.specs.Run.{Obeys, Outcome, refused_at, RunsBy}
 
 pub record HasOneOutcome (by : Obeys) (articles : List (List ℕ)) : Type 0 where

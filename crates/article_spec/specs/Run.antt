@@ -1,7 +1,7 @@
 -- A run over a list of articles: each article's commands in order, one article after another.
 -- Source: the OpenTheory article file format, versions 5 and 6.
 use Rattle.std.specs.Prelude.{ℕ, ◌+◌, ◌≡◌, List, [], ◌∷◌, Result, Ok, Err}
-use Rattle.bridge_base.specs.declared.faults.Kind.{Kind}
+use Rattle.common.specs.declared.faults.Kind.{Kind}
 use Rattle.article_spec.specs.declared.commands.Command.{Command}
 use Rattle.article_spec.specs.Lines.{Lines, End, ended, refused}
 use Rattle.article_spec.specs.Results.{◌>>=◌}

@@ -2,7 +2,7 @@
 -- Source: the OpenTheory article file format, version 6, "Commands". That an article's exports meet the assumptions of later ones, and that `thm` may weaken, is this machine's own.
 use Rattle.std.specs.Prelude.{ℕ, [], ◌∷◌, ◌++◌, Option, None, Some, Result, Ok}
 use Rattle.std.specs.Option.{option_or}
-use Rattle.bridge_base.specs.declared.faults.Kind.{Kind}
+use Rattle.common.specs.declared.faults.Kind.{Kind}
 use Rattle.hol_spec.specs.Proofs.{Step}
 use Rattle.hol_spec.specs.declared.StepKind.TheVariants as by_rule
 use Rattle.article_spec.specs.State.{State}

@@ -6,7 +6,7 @@ ghost use Rattle.article_steps.specs.Agendas.{pushed, pushed_all, bound_by, unbo
 
 use article_lines::keys::Thing;
 use article_spec::Word;
-use bridge_base::Memory;
+use common::Memory;
 use hol_term::{TermId, TermTable};
 use hol_type::TypeId;
 use std::alloc::Global;

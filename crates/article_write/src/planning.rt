@@ -11,7 +11,7 @@ use article_count::article_length;
 use article_lines::keys::Keys;
 use article_reach::reach;
 use article_steps::Room;
-use bridge_base::Memory;
+use common::Memory;
 use hol_rules::{Proof, StepId};
 use hol_spec::Version;
 use std::alloc::Global;

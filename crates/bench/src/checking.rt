@@ -3,7 +3,7 @@ ghost use Rattle.std.specs.Prelude.{◌≡◌, ◌<◌, length};
 ghost use Rattle.lp_spec.specs.ModuleOrder.{IsModule};
 ghost use Rattle.holide_sig.specs.Modules.{declarations_of, IsHeld};
 
-use bridge_base::{Budget, Memory};
+use common::{Budget, Memory};
 use holide_sig::Module;
 use lp_conv::Answer;
 use lp_kernel::check_decl;

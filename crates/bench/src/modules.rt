@@ -7,7 +7,7 @@ ghost use Rattle.holide_sig.specs.Modules.{declarations_of, IsHeld};
 ghost use Rattle.dk_read.specs.Readers.{IsFed};
 
 use crate::checking::counted;
-use bridge_base::Memory;
+use common::Memory;
 use dk_read::{DkFault, Limit, Reader};
 use holide_sig::Module;
 use std::alloc::Global;

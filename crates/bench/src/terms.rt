@@ -5,7 +5,7 @@ ghost use Rattle.std.specs.Prelude.{◌<◌, length, IfOk};
 ghost use Rattle.bench.specs.Carried.{AreTerms, KeepsTerms};
 ghost use Rattle.hol_term.specs.Tables.{IsTermAt};
 
-use bridge_base::Fault;
+use common::Fault;
 use hol_name::Name;
 use hol_term::{TermId, TermTable, TermView, Variable};
 use hol_type::TypeId;

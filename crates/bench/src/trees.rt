@@ -3,7 +3,7 @@
 
 ghost use Rattle.std.specs.Prelude.{◌<◌, length, IfOk};
 
-use bridge_base::Memory;
+use common::Memory;
 use lp_term::{LpId, LpNode, LpTable};
 use std::io;
 

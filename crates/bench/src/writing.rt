@@ -8,7 +8,8 @@ ghost use Rattle.lp_term.specs.Tables.{tree_at, Keeps};
 ghost use Rattle.holide_sig.specs.Modules.{IsHeld};
 ghost use Rattle.dk_write.specs.Shallow.{AreWithin};
 
-use bridge_base::{Failed, Memory, Sink, StdSink};
+use bridge_base::{Failed, Sink, StdSink};
+use common::Memory;
 use dk_write::{Path, write};
 use holide_sig::{Decl, Form, Ident, Module};
 use itoa::Buffer;

@@ -1,8 +1,8 @@
 -- The texts on standard error, from the pieces that are written.
 use Rattle.std.proofs.Common.{◌≡◌, ℕ, List, [], ◌++◌, codes, refl}
 use Rattle.std.specs.Prelude.{decimal}
-use Rattle.bridge_base.specs.Kinds.{kind_name, kind_number}
-use Rattle.bridge_base.specs.declared.faults.Kind.{Kind}
+use Rattle.common.specs.Kinds.{kind_name, kind_number}
+use Rattle.common.specs.declared.faults.Kind.{Kind}
 use Rattle.std.proofs.lemmas.List.{append-nil}
 use Rattle.bridge_spec.specs.Texts.{refusal_line, byte_line, declaration_line}
 

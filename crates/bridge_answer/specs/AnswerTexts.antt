@@ -1,6 +1,6 @@
 -- The texts of an answer.
 use Rattle.std.specs.Prelude.{ℕ, List, []}
-use Rattle.dk_read.specs.States.{fault_of}
+use Rattle.lp_spec.specs.FaultKinds.{fault_of}
 use Rattle.bridge_spec.specs.Texts.{refusal_line, usage_line, read_fault_line, memory_line, dk_refusal_line, ill_typed_line, over_budget_line, not_sequent_line, unwritable_line}
 use Rattle.bridge_spec.specs.declared.status.Status.{Status}
 use Rattle.bridge_spec.specs.declared.status.Status.TheVariants as status

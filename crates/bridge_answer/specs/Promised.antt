@@ -3,7 +3,7 @@ use Rattle.std.proofs.Common.{◌≡◌, ◌≤◌, ℕ, Bool, List, [], ◌∷�
 use Rattle.bridge_base.specs.Outside.{Files, Begins}
 use Rattle.hol_spec.specs.Proofs.{Accepted}
 use Rattle.hol_spec.specs.declared.Version.{Version}
-use Rattle.vectors.specs.Trial.{trial_text}
+use Rattle.article_spec.specs.Trial.{trial_text}
 use Rattle.bridge_spec.specs.Forms.{Form, verify, translate, check, show, decode, trial}
 use Rattle.bridge_spec.specs.Headline.{Headline}
 use Rattle.bridge_spec.specs.Articles.{IsWritable, IsRetold}

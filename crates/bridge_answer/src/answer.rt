@@ -2,9 +2,9 @@
 ghost use Rattle.std.specs.Prelude.{◌≡◌};
 ghost use Rattle.bridge_answer.specs.AnswerTexts.{status_of, text_of};
 
-use bridge_base::Kind;
 use bridge_spec::Status;
-use dk_read::DkKind;
+use common::Kind;
+use lp_spec::DkKind;
 
 /// What is to be answered, before anything is written.
 #[derive(Drop)]

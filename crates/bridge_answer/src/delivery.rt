@@ -2,17 +2,18 @@
 ghost use Rattle.std.specs.Prelude.{◌≡◌, ◌<◌, ◌≤◌, length, map, OnOk, OnErr};
 ghost use Rattle.std.specs.List.{flat_map};
 ghost use Rattle.bridge_base.specs.Outside.{HasCause, Gains, GainsFront};
-ghost use Rattle.dk_read.specs.States.{fault_of};
+ghost use Rattle.lp_spec.specs.FaultKinds.{fault_of};
 ghost use Rattle.bridge_spec.specs.Calls.{sunk};
 ghost use Rattle.bridge_spec.specs.Outputs.{Delivers};
 ghost use Rattle.bridge_spec.specs.Texts.{byte_line, dk_refusal_line, fault_name, fault_blank, fault_identifier, declaration_line};
 ghost use Rattle.bridge_answer.specs.AnswerTexts.{status_of, text_of, note_of};
 
 use crate::answer::Answer;
-use bridge_base::{Failed, Kind, Sink, write_all};
+use bridge_base::{Failed, Sink, write_all};
 use bridge_spec::Status;
-use dk_read::DkKind;
+use common::Kind;
 use itoa::Buffer;
+use lp_spec::DkKind;
 
 /// The line that says which forms there are.
 const USAGE: &[u8] =

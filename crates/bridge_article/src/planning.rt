@@ -7,7 +7,7 @@ ghost use Rattle.bridge_article.specs.Runs.{IsWritablePlan, IsHindered, IsShort,
 
 use article_write::{Plan, plan};
 use bridge_answer::Answer;
-use bridge_base::Memory;
+use common::Memory;
 use hol_rules::{Proof, StepId};
 use hol_spec::Version;
 use std::alloc::Global;

@@ -1,5 +1,5 @@
 //! Kinds and faults as they print.
-use bridge_base::{Fault, Kind, Memory};
+use common::{Fault, Kind, Memory};
 use std::alloc::{AllocError, Global};
 use std::test::Fail;
 

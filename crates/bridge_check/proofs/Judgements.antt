@@ -3,7 +3,7 @@ use Rattle.std.proofs.Common.{◌≡◌, ◌<◌, ℕ, Bool, List, length, repli
 use Rattle.std.specs.Prelude.{slice_get}
 use Rattle.std.proofs.lemmas.List.{length-replicate, get_or-replicate}
 use Rattle.std.proofs.lemmas.Option.{slice_get_within, get_or_from_slice_get}
-use Rattle.bridge_base.specs.declared.faults.Memory.{Memory}
+use Rattle.common.specs.declared.faults.Memory.{Memory}
 use Rattle.lp_spec.specs.Modules.{Declaration}
 use Rattle.lp_spec.specs.Typing.{WellTyped}
 use Rattle.lp_kernel.specs.declared.checks.Verdict.{Verdict}

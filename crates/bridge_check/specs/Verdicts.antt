@@ -2,8 +2,8 @@
 use Rattle.std.specs.Prelude.{◌≡◌, ℕ, ◌<◌, Bool, List, length}
 use Rattle.lp_spec.specs.Modules.{Declaration}
 use Rattle.lp_spec.specs.Typing.{WellTyped}
-use Rattle.lp_shape.specs.Check.{Reply, No}
-use Rattle.lp_fast.specs.FastCheck.{CheckBy}
+use Rattle.lp_spec.specs.Check.{Reply, No}
+use Rattle.lp_spec.specs.FastCheck.{CheckBy}
 use Rattle.lp_kernel.specs.declared.checks.Verdict.{Verdict}
 use Rattle.lp_kernel.specs.declared.checks.Verdict.TheVariants as verdict
 use Rattle.bridge_spec.specs.FileChecks.{PassFirst}

@@ -14,8 +14,9 @@ ghost use Rattle.lp_kernel.specs.declared.checks.Verdict.TheVariants as verdict;
 ghost use Rattle.bridge_check.specs.Verdicts.{IsAnswer, IsJudged};
 
 use bridge_answer::Answer;
-use bridge_base::{Memory, Shelf};
+use bridge_base::Shelf;
 use bridge_module::{Stop, read_module};
+use common::Memory;
 use holide_sig::Module;
 use itoa::Buffer;
 use lp_kernel::{Verdict, check_fast, check_module};

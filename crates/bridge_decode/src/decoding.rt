@@ -9,8 +9,9 @@ ghost use Rattle.bridge_decode.specs.Saying.{IsAnswer};
 
 use crate::exports::{Said, exports_said};
 use bridge_answer::Answer;
-use bridge_base::{Memory, Shelf};
+use bridge_base::Shelf;
 use bridge_module::{Stop, read_module};
+use common::Memory;
 use holide_sig::Module;
 use std::alloc::Global;
 

@@ -8,8 +8,8 @@ ghost use Rattle.sequent.specs.Closed.{closed_view};
 ghost use Rattle.bridge_spec.specs.Texts.{export_line};
 ghost use Rattle.bridge_decode.specs.Saying.{IsSaid, IsOneSaid};
 
-use bridge_base::Memory;
 use closed_text::append_closed;
+use common::Memory;
 use decode_back::decode;
 use holide_sig::Module;
 use sequent::Closed;

@@ -9,11 +9,11 @@ use Rattle.lp_spec.specs.Modules.{Declaration}
 use Rattle.lp_spec.specs.ReadingFaults.{refusal, refused, answer_within}
 use Rattle.lp_spec.specs.Faults.{IsLeastWithin}
 use Rattle.text_laws.specs.LeastWithin.{answered-least, answer_within-place}
-use Rattle.dk_read.specs.declared.faults.DkKind.{DkKind}
+use Rattle.lp_spec.specs.declared.fault_kind.DkKind.{DkKind}
 use Rattle.dk_read.specs.declared.faults.DkFault.{DkFault}
 use Rattle.dk_read.specs.declared.faults.DkFault.TheVariants as fault
 use Rattle.dk_read.specs.Readers.{Reading, IsFed, fed_with, IsWithin, IsRead, IsJudged, Judges, Feeds, GoesOn, Answers, place_of}
-use Rattle.dk_read.specs.States.{fault_of}
+use Rattle.lp_spec.specs.FaultKinds.{fault_of}
 use Rattle.dk_read.specs.Texts.{Refuses, Ends}
 use Rattle.bridge_spec.specs.FileChecks.{max_file, ReadsAs}
 use Rattle.bridge_module.specs.declared.reading.Stop.{Stop}

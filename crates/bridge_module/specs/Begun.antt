@@ -2,7 +2,7 @@
 use Rattle.std.proofs.Common.{◌≤◌, ℕ, List, length, take, Option, sym, subst, arith}
 use Rattle.std.proofs.Math.Seq.{take-length}
 use Rattle.bridge_base.specs.Outside.{Begins, BeginsFront}
-use Rattle.bridge_base.specs.declared.faults.Kind.{Kind}
+use Rattle.common.specs.declared.faults.Kind.{Kind}
 use Rattle.bridge_spec.specs.Begun.{BeginsFiles}
 use Rattle.bridge_spec.specs.declared.status.Status.{Status}
 use Rattle.bridge_spec.specs.declared.status.Status.TheVariants as status

@@ -11,7 +11,7 @@ use Rattle.dk_read.specs.Texts.{Refuses}
 use Rattle.dk_read.specs.Readers.{Reading, IsFed}
 use Rattle.dk_read.specs.declared.faults.DkFault.{DkFault}
 use Rattle.dk_read.specs.declared.faults.DkFault.TheVariants as fault
-use Rattle.dk_read.specs.declared.faults.DkKind.{DkKind}
+use Rattle.lp_spec.specs.declared.fault_kind.DkKind.{DkKind}
 use Rattle.bridge_spec.specs.FileChecks.{max_file, IsRefusedAt}
 use Rattle.bridge_module.specs.declared.reading.Stop.{Stop}
 use Rattle.bridge_module.specs.declared.reading.Stop.TheVariants.{Refused, ReadFault, Memory}

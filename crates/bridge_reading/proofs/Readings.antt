@@ -1,7 +1,7 @@
 -- Commands that are obeyed while a text is read.
 use Rattle.std.proofs.Common.{◌≡◌, ℕ, List, [], ◌∷◌, ◌++◌, Option, None, Some, Result, Ok, Err, IfSome, refl, sym, ap, subst, ◌∙◌, append_assoc, ◌<◌, arith}
-use Rattle.bridge_base.specs.declared.faults.Kind.{Kind}
-use Rattle.bridge_base.specs.declared.faults.Fault.TheVariants as fault
+use Rattle.common.specs.declared.faults.Kind.{Kind}
+use Rattle.common.specs.declared.faults.Fault.TheVariants as fault
 use Rattle.bridge_base.specs.Outside.{Gives}
 use Rattle.bridge_base.specs.Gaining.{gives_none, gives_both, given_whole}
 use Rattle.article_read.specs.declared.lines.LineFault.{LineFault}

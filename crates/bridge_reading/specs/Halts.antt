@@ -1,9 +1,9 @@
 -- How the commands of a text are obeyed to its end, or halt before it.
 use Rattle.std.specs.Prelude.{◌≡◌, ℕ, List, Option, None, Some, option_map, Result, Ok, Err}
 use Rattle.bridge_base.specs.Outside.{Files, file}
-use Rattle.bridge_base.specs.declared.faults.Kind.{Kind}
-use Rattle.bridge_base.specs.declared.faults.Fault.{Fault}
-use Rattle.bridge_base.specs.declared.faults.Fault.TheVariants as fault
+use Rattle.common.specs.declared.faults.Kind.{Kind}
+use Rattle.common.specs.declared.faults.Fault.{Fault}
+use Rattle.common.specs.declared.faults.Fault.TheVariants as fault
 use Rattle.article_read.specs.declared.lines.LineFault.{LineFault}
 use Rattle.article_read.specs.declared.lines.LineFault.TheVariants as line_fault
 use Rattle.hol_spec.specs.Mangling.{AreBytes}

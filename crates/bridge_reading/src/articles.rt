@@ -9,7 +9,8 @@ ghost use Rattle.bridge_reading.specs.Stops.{Stops, StopsBegun, answer_of_stop, 
 
 use crate::reading::{Halt, read_article};
 use bridge_answer::Answer;
-use bridge_base::{Kind, Memory, Shelf};
+use bridge_base::Shelf;
+use common::{Kind, Memory};
 use stack_machine::Machine;
 use std::alloc::Global;
 

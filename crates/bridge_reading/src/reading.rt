@@ -9,7 +9,8 @@ ghost use Rattle.article_spec.specs.Step.{step};
 ghost use Rattle.bridge_reading.specs.Halts.{Halts, HaltsText, ReadsTo, OfText, Passes, bytes_told, halt_of_fault, halt_of_line};
 
 use article_read::{Command, LineFault, Lines};
-use bridge_base::{Failed, Fault, Kind, Shelf};
+use bridge_base::{Failed, Shelf};
+use common::{Fault, Kind};
 use stack_machine::Machine;
 use std::alloc::Global;
 

@@ -7,7 +7,7 @@ ghost use Rattle.bridge_run.specs.Blocks.{HasBlocks};
 
 use bridge_answer::{Answer, deliver};
 use bridge_article::article;
-use bridge_base::{Memory, Shelf, Sink};
+use bridge_base::{Shelf, Sink};
 use bridge_check::check;
 use bridge_decode::decode;
 use bridge_show::show;
@@ -16,6 +16,7 @@ use bridge_translate::translate;
 use bridge_trial::trial;
 use bridge_verify::verify;
 use bridge_words::{Form, form_of};
+use common::Memory;
 use std::alloc::Global;
 
 /// All that the program does, for the words of its command line, of which the first is its name.

@@ -13,9 +13,10 @@ ghost use Rattle.bridge_spec.specs.Texts.{shown_text, theorem_line, theorem_line
 ghost use Rattle.bridge_answer.specs.AnswerTexts.{status_of, text_of, note_of};
 
 use bridge_answer::Answer;
-use bridge_base::{Memory, Shelf};
+use bridge_base::Shelf;
 use bridge_reading::read_articles;
 use closed_text::append_closed;
+use common::Memory;
 use hol_rules::{Proof, StepId};
 use itoa::Buffer;
 use sequent::Closed;

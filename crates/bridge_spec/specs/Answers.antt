@@ -2,14 +2,14 @@
 use Rattle.std.specs.Prelude.{ℕ, ◌≡◌, Bool, false, not, List, [], ◌∷◌, map, length, Option, None, Some}
 use Rattle.std.specs.List.{AllByRecursion}
 use Rattle.lp_spec.specs.Modules.{Declaration}
-use Rattle.dk_read.specs.States.{fault_of}
+use Rattle.lp_spec.specs.FaultKinds.{fault_of}
 use Rattle.bridge_base.specs.Outside.{Files, file, Rose}
 use Rattle.hol_spec.specs.ClosedForm.{ClosedSequent}
 use Rattle.hol_spec.specs.Proofs.{Accepted}
 use Rattle.hol_spec.specs.Mangling.{AreBytes}
 use Rattle.hol_spec.specs.declared.Version.{Version}
 use Rattle.article_spec.specs.Run.{Outcome, accepted, refused_at, Run}
-use Rattle.vectors.specs.Trial.{trial_text}
+use Rattle.article_spec.specs.Trial.{trial_text}
 use Rattle.writing_spec.specs.Article.{article as article_of}
 use Rattle.writing_spec.specs.Versions.{IsLastVersion}
 use Rattle.bridge_spec.specs.Forms.{Form, verify, translate, check, show, decode, trial}

@@ -5,7 +5,7 @@ use Rattle.lp_spec.specs.Trees.{Tree}
 use Rattle.lp_spec.specs.Modules.{Declaration}
 use Rattle.lp_spec.specs.Reading.{Reads}
 use Rattle.lp_spec.specs.Typing.{WellTyped}
-use Rattle.lp_shape.specs.Check.{Found, No}
+use Rattle.lp_spec.specs.Check.{Found, No}
 use Rattle.bridge_base.specs.Outside.{Files, file}
 use Rattle.hol_spec.specs.ClosedForm.{ClosedSequent}
 use Rattle.hol_spec.specs.Mangling.{AreBytes}

@@ -6,10 +6,10 @@ use Rattle.lp_spec.specs.Reading.{Reads}
 use Rattle.lp_spec.specs.ReadingFaults.{refusal}
 use Rattle.lp_spec.specs.Faults.{IsLeastWithin}
 use Rattle.lp_spec.specs.Typing.{WellTyped}
-use Rattle.lp_shape.specs.Check.{Reply, No}
-use Rattle.lp_fast.specs.FastCheck.{CheckBy, PassesBy}
-use Rattle.dk_read.specs.States.{fault_of}
-use Rattle.dk_read.specs.declared.faults.DkKind.{DkKind}
+use Rattle.lp_spec.specs.Check.{Reply, No}
+use Rattle.lp_spec.specs.FastCheck.{CheckBy, PassesBy}
+use Rattle.lp_spec.specs.FaultKinds.{fault_of}
+use Rattle.lp_spec.specs.declared.fault_kind.DkKind.{DkKind}
 
 -- the file of a module has at most this many bytes
 abbrev pub max_file : ℕ

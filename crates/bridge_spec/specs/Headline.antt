@@ -10,8 +10,8 @@ use Rattle.lp_spec.specs.Lemmas.{lemmas}
 use Rattle.lp_spec.specs.Modules.{Declaration}
 use Rattle.lp_spec.specs.Reading.{Reads}
 use Rattle.lp_spec.specs.Weight.{bound}
-use Rattle.lp_shape.specs.Check.{Found}
-use Rattle.lp_fast.specs.FastCheck.{fast_bound}
+use Rattle.lp_spec.specs.Check.{Found}
+use Rattle.lp_spec.specs.FastCheck.{fast_bound}
 use Rattle.module_spec.specs.Image.{image}
 use Rattle.module_spec.specs.Stands.{Stands}
 use Rattle.share_spec.specs.Folded.{folded, places, entries_of, place_in}

@@ -1,7 +1,7 @@
 -- What the program writes for an answer.
 use Rattle.std.specs.Prelude.{ℕ, suc, Bool, true, false, ◌++◌, List, [], ◌∷◌, map, length, min, sum_by, count_by, is_none, codes, decimal}
-use Rattle.bridge_base.specs.declared.faults.Kind.{Kind}
-use Rattle.bridge_base.specs.Kinds.{kind_name, kind_number}
+use Rattle.common.specs.declared.faults.Kind.{Kind}
+use Rattle.common.specs.Kinds.{kind_name, kind_number}
 use Rattle.hol_spec.specs.ClosedForm.{ClosedSequent, closed_form}
 use Rattle.hol_spec.specs.Proofs.{Made, sequent_at, Accepted}
 use Rattle.lp_spec.specs.Modules.{Declaration}

@@ -2,8 +2,8 @@
 ghost use Rattle.std.specs.Prelude.{◌≡◌};
 ghost use Rattle.bridge_spec.specs.Texts.{status_number};
 
-use bridge_base::Kind;
-use dk_read::DkKind;
+use common::Kind;
+use lp_spec::DkKind;
 
 /// The answer of the program.
 #[derive(Debug, Drop, PartialEq, Eq)]

@@ -13,8 +13,9 @@ ghost use Rattle.bridge_translate.specs.Translations.{counts_in};
 
 use crate::translation::{Counts, Translation};
 use bridge_answer::{Answer, deliver, write_parts};
-use bridge_base::{Failed, Memory, Sink, write_all};
+use bridge_base::{Failed, Sink, write_all};
 use bridge_spec::Status;
+use common::Memory;
 use dk_write::{Path, write};
 use itoa::Buffer;
 use std::alloc::Global;

@@ -11,8 +11,9 @@ ghost use Rattle.bridge_spec.specs.Texts.{module_of, written_bound, written_boun
 ghost use Rattle.bridge_reading.specs.Stops.{Stops, StopsBegun};
 ghost use Rattle.bridge_translate.specs.Translations.{counts_in, IsTranslationOf};
 
-use bridge_base::{Memory, Shelf};
+use bridge_base::Shelf;
 use bridge_reading::{Stop, read_articles};
+use common::Memory;
 use holide_sig::{Form, Module};
 use lp_weight::Weights;
 use share::fold;

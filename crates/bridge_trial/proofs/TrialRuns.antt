@@ -1,11 +1,11 @@
 -- The run of the article on the shelf: it is that of the generated article, and nothing stops it.
 use Rattle.std.proofs.Common.{◌≡◌, ◌<◌, ◌≤◌, ℕ, List, [], ◌∷◌, Some, length, refl, sym, ap, subst, ◌∙◌, arith}
 use Rattle.bridge_base.specs.Outside.{Files, Rose}
-use Rattle.bridge_base.specs.declared.faults.Kind.{Kind}
+use Rattle.common.specs.declared.faults.Kind.{Kind}
 use Rattle.hol_spec.specs.Proofs.{Accepted}
 use Rattle.article_spec.specs.Run.{machine, accepted, refused_at, Run}
 use Rattle.article_laws.specs.RunLaws.{one_outcome}
-use Rattle.vectors.specs.Trial.{trial_text}
+use Rattle.article_spec.specs.Trial.{trial_text}
 use Rattle.trial_laws.specs.TrialArticles.{trials_are_accepted}
 use Rattle.bridge_spec.specs.Answers.{AreRead, IsRunOf, IsRunOfTrial, RunsTo}
 use Rattle.bridge_spec.specs.Forms.{greatest_trial}

@@ -1,7 +1,7 @@
 -- The shelf from which a generated article is read.
 use Rattle.std.specs.Prelude.{ℕ, List, [], ◌∷◌, codes}
 use Rattle.bridge_base.specs.Outside.{Files}
-use Rattle.vectors.specs.Trial.{trial_text}
+use Rattle.article_spec.specs.Trial.{trial_text}
 
 -- the name of its file
 abbrev pub article_name : List ℕ

@@ -2,9 +2,10 @@
 ghost use Rattle.std.specs.Prelude.{◌≡◌, [], ◌∷◌, IfOk};
 ghost use Rattle.bridge_spec.specs.Calls.{names_in};
 ghost use Rattle.bridge_trial.specs.Articles.{article_name, article_files};
-ghost use Rattle.vectors.specs.Trial.{trial_text};
+ghost use Rattle.article_spec.specs.Trial.{trial_text};
 
-use bridge_base::{Failed, MemSink, Memory, QuietShelf};
+use bridge_base::{Failed, MemSink, QuietShelf};
+use common::Memory;
 use std::alloc::Global;
 
 /// The name of the file.

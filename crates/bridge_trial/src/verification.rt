@@ -12,9 +12,10 @@ ghost use Rattle.bridge_trial.specs.Articles.{article_name, article_files};
 
 use crate::article::{article_shelf, article_words};
 use bridge_answer::Answer;
-use bridge_base::{Memory, QuietShelf};
+use bridge_base::QuietShelf;
 use bridge_translate::{Counts, Translation, translation_of};
 use bridge_verify::check_back;
+use common::Memory;
 use std::alloc::Global;
 
 /// The counts of the run of the article of `n` blocks, once the check accepted its module. Only want of memory is answered in their place.

@@ -6,7 +6,7 @@ use Rattle.std.proofs.lemmas.List.{length-map}
 use Rattle.std.proofs.lemmas.Option.{slice_get-map}
 use Rattle.hol_spec.specs.Proofs.{Accepted}
 use Rattle.lp_spec.specs.Modules.{Declaration}
-use Rattle.lp_fast.specs.FastCheck.{fast_bound}
+use Rattle.lp_spec.specs.FastCheck.{fast_bound}
 use Rattle.lp_kernel.specs.Checks.{PassWithin}
 use Rattle.holide_sig.specs.declared.module.Module.{Module}
 use Rattle.holide_sig.specs.Modules.{declaration_in, declarations_of}

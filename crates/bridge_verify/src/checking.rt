@@ -1,6 +1,6 @@
 //! A module read back from its text, and checked.
 ghost use Rattle.std.specs.Prelude.{◌≡◌, ◌<◌, ◌++◌, [], ℕ, Bool, List, None, length, not, IfOk, IfErr, OnOk};
-ghost use Rattle.dk_read.specs.declared.faults.DkKind.{DkKind as AKind};
+ghost use Rattle.lp_spec.specs.declared.fault_kind.DkKind.{DkKind as AKind};
 ghost use Rattle.dk_read.specs.Readers.{Feeds, IsFed};
 ghost use Rattle.dk_write.specs.Lines.{line_at, text_before};
 ghost use Rattle.dk_write.specs.Shallow.{AreWithin};
@@ -17,8 +17,9 @@ ghost use Rattle.bridge_translate.specs.Translations.{IsTranslationOf};
 
 use crate::fast::checked_fast;
 use bridge_answer::Answer;
-use bridge_base::{MemSink, Memory};
+use bridge_base::MemSink;
 use bridge_translate::Translation;
+use common::Memory;
 use dk_read::{DkFault, Limit, Reader};
 use dk_write::{Path, write_decl, write_prelude};
 use holide_sig::Module;

@@ -2,14 +2,14 @@
 ghost use Rattle.std.specs.Prelude.{◌≡◌, Bool, IfOk, map, length, false};
 ghost use Rattle.hol_spec.specs.Proofs.{Accepted};
 ghost use Rattle.lp_spec.specs.ModuleOrder.{IsModule};
-ghost use Rattle.lp_fast.specs.FastCheck.{fast_bound};
+ghost use Rattle.lp_spec.specs.FastCheck.{fast_bound};
 ghost use Rattle.lp_kernel.specs.Checks.{PassBelow};
 ghost use Rattle.lp_kernel.specs.declared.checks.Verdict.TheVariants as verdict;
 ghost use Rattle.holide_sig.specs.Modules.{declarations_of, IsHeld};
 ghost use Rattle.bridge_spec.specs.Headline.{Headline};
 ghost use Rattle.bridge_spec.specs.Texts.{module_of};
 
-use bridge_base::Memory;
+use common::Memory;
 use holide_sig::Module;
 use lp_kernel::{Verdict, check_fast};
 use lp_weight::Weights;

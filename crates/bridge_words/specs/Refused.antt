@@ -2,7 +2,7 @@
 use Rattle.std.specs.Prelude.{Option, None, Result, Ok, Err}
 use Rattle.clap.specs.declared.error.kind.ErrorKind.{ErrorKind}
 use Rattle.clap.specs.declared.error.kind.ErrorKind.TheVariants.{OutOfMemory}
-use Rattle.bridge_base.specs.declared.faults.Memory.{Memory}
+use Rattle.common.specs.declared.faults.Memory.{Memory}
 use Rattle.bridge_words.specs.declared.form.Form.{Form}
 
 -- want of memory, or else no form

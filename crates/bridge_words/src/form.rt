@@ -11,7 +11,7 @@ ghost use Rattle.bridge_words.specs.Readable.{is_readable, are_readable};
 
 use crate::command::command;
 use crate::number::number_up_to;
-use bridge_base::Memory;
+use common::Memory;
 use clap::ArgMatches;
 use clap::error::ErrorKind;
 use std::alloc::{AllocError, Global};

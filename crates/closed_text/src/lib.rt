@@ -24,7 +24,7 @@ mod walk;
 
 use crate::names::{add_mark, add_numbered};
 use crate::walk::{add_term, add_type};
-use bridge_base::Memory;
+use common::Memory;
 use sequent::{Closed, ClosedTerm, ClosedType};
 use std::alloc::Global;
 

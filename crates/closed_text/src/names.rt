@@ -4,7 +4,7 @@ ghost use Rattle.hol_spec.specs.Mangling.{mangled};
 ghost use Rattle.decode_spec.specs.ClosedText.{name_text};
 ghost use Rattle.closed_text.specs.Works.{mark_at};
 
-use bridge_base::Memory;
+use common::Memory;
 use hol_name::Name;
 use itoa::Buffer;
 

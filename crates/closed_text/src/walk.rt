@@ -6,7 +6,7 @@ ghost use Rattle.sequent.specs.Closed.{behind, closed_term_view, closed_type_vie
 ghost use Rattle.closed_text.specs.Works.{nodes_work, terms_left_text, type_works, types_left_text};
 
 use crate::names::{add_name, add_numbered};
-use bridge_base::{Memory, Stack};
+use common::{Memory, Stack};
 use hol_name::Name;
 use sequent::{ClosedTerm, ClosedType, TermNode, TypeNode};
 use std::alloc::Global;

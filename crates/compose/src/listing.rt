@@ -7,7 +7,7 @@ ghost use Rattle.compose.specs.Listed.{list_of, place_at, set_at, AreOrdered, Ar
 
 use crate::order::compare;
 use crate::pool::Said;
-use bridge_base::Memory;
+use common::Memory;
 use hol_term::TermId;
 use indexmap::IndexMap;
 use sequent::Hyps;

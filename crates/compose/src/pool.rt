@@ -7,7 +7,7 @@ ghost use Rattle.compose.specs.Places.{first_place};
 ghost use Rattle.compose.specs.Pools.{is_same_at, said, step_of, steps_in, AreSequentsKnown};
 
 use crate::listing::{Lists, list_for, note, search, strike};
-use bridge_base::Memory;
+use common::Memory;
 use indexmap::IndexMap;
 use sequent::Sequent;
 use std::alloc::Global;

@@ -1,5 +1,5 @@
 //! Pools by their public calls.
-use bridge_base::Memory;
+use common::Memory;
 use compose::Pool;
 use hol_term::TermId;
 use sequent::{Hyps, Sequent};

@@ -14,8 +14,8 @@ use Rattle.hol_spec.specs.Terms.{Term, variable_eq, free_places}
 use Rattle.hol_laws.specs.TermLaws.{variable_eq-Decides}
 use Rattle.hol_spec.specs.TermBinding.{put_at, put_bound, put, close_at, close}
 use Rattle.hol_spec.specs.ClosedForm.{ClosedType, ClosedTerm}
-use Rattle.bridge_base.specs.declared.faults.Kind.{Kind}
-use Rattle.bridge_base.specs.declared.faults.Kind.TheVariants as kind
+use Rattle.common.specs.declared.faults.Kind.{Kind}
+use Rattle.common.specs.declared.faults.Kind.TheVariants as kind
 use Rattle.hol_type.specs.Refusals.{PassesLimit}
 use Rattle.hol_term.specs.declared.TermId.{TermId}
 use Rattle.hol_term.specs.Tables.{Trees, Holds, Keeps, term_at, type_at}

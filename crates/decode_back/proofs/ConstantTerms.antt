@@ -7,8 +7,8 @@ use Rattle.hol_spec.specs.Limits.{greatest_size, greatest_depth, type_size, type
 use Rattle.hol_spec.specs.Substitution.{TypePairs, substitute}
 use Rattle.hol_spec.specs.Terms as term
 use Rattle.hol_spec.specs.ClosedForm.{ClosedType, ClosedTerm}
-use Rattle.bridge_base.specs.declared.faults.Kind.{Kind}
-use Rattle.bridge_base.specs.declared.faults.Kind.TheVariants as kind
+use Rattle.common.specs.declared.faults.Kind.{Kind}
+use Rattle.common.specs.declared.faults.Kind.TheVariants as kind
 use Rattle.hol_type.specs.Refusals.{PassesLimit}
 use Rattle.hol_term.specs.declared.TermId.{TermId}
 use Rattle.hol_term.specs.Tables.{Trees, Holds, Keeps, type_at}

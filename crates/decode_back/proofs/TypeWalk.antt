@@ -9,8 +9,8 @@ use Rattle.std.specs.Option.{unwrap_or, option_map}
 use Rattle.hol_spec.specs.Names.{Name}
 use Rattle.hol_spec.specs.Types.{HolType, variable, operator, types_of, count}
 use Rattle.hol_spec.specs.Limits.{type_size, type_depth, greatest_size, greatest_depth}
-use Rattle.bridge_base.specs.declared.faults.Kind.{Kind}
-use Rattle.bridge_base.specs.declared.faults.Kind.TheVariants as kind
+use Rattle.common.specs.declared.faults.Kind.{Kind}
+use Rattle.common.specs.declared.faults.Kind.TheVariants as kind
 use Rattle.hol_type.specs.Refusals.{PassesLimit}
 use Rattle.hol_spec.specs.ClosedForm.{ClosedType, ClosedTypes}
 use Rattle.hol_type.specs.declared.table.TypeId.{TypeId}

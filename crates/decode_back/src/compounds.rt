@@ -8,7 +8,7 @@ ghost use Rattle.decode_back.specs.declared.terms.Task.TheVariants as the_task;
 
 use crate::budgets::spend;
 use crate::made::{keep, take};
-use bridge_base::{Fault, Memory, Stack};
+use common::{Fault, Memory, Stack};
 use hol_name::Name;
 use hol_term::{TermId, TermTable, Variable};
 use hol_type::TypeId;

@@ -19,7 +19,7 @@ use crate::names::{GREATEST_NUMBER, parameter_name};
 use crate::places::Place;
 use crate::symbols::{is_type, name_behind};
 use crate::types::decode_type;
-use bridge_base::Memory;
+use common::Memory;
 use hol_name::Name;
 use hol_term::TermTable;
 use hol_type::TypeId;

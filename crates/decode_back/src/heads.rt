@@ -18,7 +18,7 @@ use crate::constants::{Constant, TERM, constant_at, symbol_argument};
 use crate::names::parameter_name;
 use crate::sources::Source;
 use crate::types::decode_type;
-use bridge_base::{Fault, Memory, Stack};
+use common::{Fault, Memory, Stack};
 use hol_name::Name;
 use hol_term::{TermId, TermTable};
 use hol_type::TypeId;

@@ -14,7 +14,7 @@ ghost use Rattle.decode_back.specs.TermWalks.{free_of};
 ghost use Rattle.decode_back.specs.SequentWalks.{AreNumbered, HasNumbered, IsJudged, IsMade, IsMadeOnce, is_bounded_formula};
 
 use crate::constants::{GREATEST_DEPTH, are_numbered};
-use bridge_base::Memory;
+use common::Memory;
 use hol_term::{TermId, TermTable, TermView, Variable};
 use sequent::{Closed, Hyps, Params, Sequent};
 use std::alloc::Global;

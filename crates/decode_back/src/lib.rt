@@ -46,7 +46,7 @@ mod terms;
 mod types;
 
 use crate::sequents::sequent_of;
-use bridge_base::Memory;
+use common::Memory;
 pub use constants::{Constant, constant_at};
 use holide_sig::Module;
 pub use places::Place;

@@ -1,7 +1,7 @@
 //! What a walk has made and not yet taken up.
 ghost use Rattle.std.specs.Prelude.{true, false, ◌≡◌, ◌<◌, ◌∷◌, length, IfOk, MatchOption};
 
-use bridge_base::{Memory, Stack};
+use common::{Memory, Stack};
 
 // Takes up what was made last.
 pub(crate) fn take<T>(made: &mut Stack<T>) -> T

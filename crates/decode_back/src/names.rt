@@ -2,7 +2,7 @@
 ghost use Rattle.std.specs.Prelude.{◌≡◌, ◌≤◌, IfOk};
 ghost use Rattle.decode_back.specs.Walks.{greatest_number, parameter_name as the_name};
 
-use bridge_base::Memory;
+use common::Memory;
 use hol_name::Name;
 use std::alloc::Global;
 

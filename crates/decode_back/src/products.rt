@@ -7,7 +7,7 @@ ghost use Rattle.decode_spec.specs.Decode.{peel as peeled};
 ghost use Rattle.decode_back.specs.SequentWalks.{ArePartsFound, ArePartsKnown};
 
 use crate::constants::{TERM, peel_types, symbol_argument};
-use bridge_base::Memory;
+use common::Memory;
 use lp_term::{LpId, LpNode, LpTable};
 use std::alloc::Global;
 

@@ -20,7 +20,7 @@ use crate::products::{Parts, parts_of};
 use crate::sources::Source;
 use crate::terms::decode_term;
 use crate::types::decode_type;
-use bridge_base::{Fault, Memory};
+use common::{Fault, Memory};
 use hol_name::Name;
 use hol_spec::{GREATEST_PARAMETER_COUNT, GREATEST_SIZE};
 use hol_term::{TermId, TermTable, TermView, Variable};

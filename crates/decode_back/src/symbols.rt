@@ -10,7 +10,7 @@ ghost use Rattle.lp_spec.specs.Numerals.{numeral};
 ghost use Rattle.decode_back.specs.Symbols.{own_operator};
 ghost use Rattle.decode_spec.specs.Decode.{behind, name_behind as name_told, is_lacking, named_operator, operator_at as operator_meant};
 
-use bridge_base::Memory;
+use common::Memory;
 use hol_name::Name;
 use holide_sig::Module;
 use itoa::Buffer;

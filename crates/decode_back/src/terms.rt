@@ -15,7 +15,7 @@ use crate::compounds::{abstract_over, apply};
 use crate::heads::{binder, constant, variable};
 use crate::places::Place;
 use crate::sources::Source;
-use bridge_base::{Memory, Stack};
+use common::{Memory, Stack};
 use hol_term::{TermId, TermTable};
 use hol_type::TypeId;
 use lp_term::{LpId, LpNode, LpTable};

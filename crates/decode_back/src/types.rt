@@ -17,7 +17,7 @@ use crate::made::{keep, take};
 use crate::names::parameter_name;
 use crate::places::Place;
 use crate::symbols::operator_at;
-use bridge_base::{Fault, Memory, Stack};
+use common::{Fault, Memory, Stack};
 use hol_term::TermTable;
 use hol_type::TypeId;
 use holide_sig::{Module, SIGNATURE};

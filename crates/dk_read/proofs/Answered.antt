@@ -10,9 +10,9 @@ use Rattle.holide_sig.specs.declared.module.Module.{Module}
 use Rattle.holide_sig.specs.Modules.{declarations_of}
 use Rattle.dk_read.specs.declared.faults.DkFault.{DkFault}
 use Rattle.dk_read.specs.declared.faults.DkFault.TheVariants as fault
-use Rattle.dk_read.specs.declared.faults.DkKind.{DkKind}
-use Rattle.dk_read.specs.declared.faults.DkKind.TheVariants as kind
-use Rattle.dk_read.specs.States.{fault_of}
+use Rattle.lp_spec.specs.declared.fault_kind.DkKind.{DkKind}
+use Rattle.lp_spec.specs.declared.fault_kind.DkKind.TheVariants as kind
+use Rattle.lp_spec.specs.FaultKinds.{fault_of}
 use Rattle.dk_read.specs.Texts.{Ends, Refuses}
 use Rattle.dk_read.specs.Readers.{Reading, IsFed, fed_with, IsWithin, EndsWith, IsRead, ReadsAs, HasRead, Accepts, IsNoLength, IsNotTooLong, NeverTooLong, Feeds, Answers, IsHopeless, IsJudged, Judges}
 use Rattle.dk_read.proofs.Unlimited as unlimited

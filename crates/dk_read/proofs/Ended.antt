@@ -10,11 +10,11 @@ use Rattle.lp_spec.specs.ReadingFaults as reading
 use Rattle.text_laws.specs.ReadingLaws.{read_bytes-Refused, read_bytes-append}
 use Rattle.dk_read.specs.declared.faults.DkFault.{DkFault}
 use Rattle.dk_read.specs.declared.faults.DkFault.TheVariants as fault
-use Rattle.dk_read.specs.declared.faults.DkKind.{DkKind}
-use Rattle.dk_read.specs.declared.faults.DkKind.TheVariants as kind
+use Rattle.lp_spec.specs.declared.fault_kind.DkKind.{DkKind}
+use Rattle.lp_spec.specs.declared.fault_kind.DkKind.TheVariants as kind
 use Rattle.dk_read.specs.declared.stage.Stage.{Stage}
 use Rattle.dk_read.specs.declared.stage.Stage.TheVariants as stage
-use Rattle.dk_read.specs.States.{fault_of}
+use Rattle.lp_spec.specs.FaultKinds.{fault_of}
 use Rattle.dk_read.specs.Texts.{Ends, Refuses}
 use Rattle.dk_read.proofs.Answered.{within_answer}
 use Rattle.dk_read.specs.Readers.{Reading, IsFed, IsWithin, HasRoom, IsStage, Comes, IsGoing, progress_of, place_of, fault_in, fed_with, IsCut, StopsAs, StaysStopped}

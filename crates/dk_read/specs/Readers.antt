@@ -12,12 +12,13 @@ use Rattle.dk_read.specs.declared.faults.DkFault.{DkFault}
 use Rattle.dk_read.specs.declared.faults.DkFault.TheVariants as fault
 use Rattle.dk_read.specs.declared.reader.Limit.{Limit}
 use Rattle.dk_read.specs.declared.reader.Limit.TheVariants as limit
-use Rattle.dk_read.specs.declared.faults.DkKind.{DkKind}
-use Rattle.dk_read.specs.declared.faults.DkKind.TheVariants as kind
+use Rattle.lp_spec.specs.declared.fault_kind.DkKind.{DkKind}
+use Rattle.lp_spec.specs.declared.fault_kind.DkKind.TheVariants as kind
 use Rattle.dk_read.specs.declared.stage.Stage.{Stage}
 use Rattle.dk_read.specs.declared.stage.Stage.TheVariants as stage
 use Rattle.dk_read.specs.ProgressCode.{coded_progress, coded_fault}
-use Rattle.dk_read.specs.States.{fault_of, IsReading}
+use Rattle.dk_read.specs.States.{IsReading}
+use Rattle.lp_spec.specs.FaultKinds.{fault_of}
 use Rattle.dk_read.specs.Texts.{Refuses, Ends, inside}
 pub use Rattle.dk_read.specs.Texts.{held_of}
 

@@ -6,14 +6,13 @@ use Rattle.lp_spec.specs.ModuleOrder.{IsModule}
 use Rattle.lp_spec.specs.Reading.{Scope}
 use Rattle.lp_spec.specs.Tokens as tokens
 use Rattle.lp_spec.specs.ReadingFaults as reading
+use Rattle.lp_spec.specs.FaultKinds.{fault_of}
 use Rattle.text_laws.specs.ReadingOrder.{IsState}
 use Rattle.lp_term.specs.declared.LpId.{LpId}
 use Rattle.lp_term.specs.Tables.{tree_at, Holds, Keeps}
 use Rattle.holide_sig.specs.declared.module.Module.{Module}
 use Rattle.holide_sig.specs.declared.decls.Decl.{Decl}
 use Rattle.holide_sig.specs.Modules.{declaration_in, declarations_of, IsHeld}
-use Rattle.dk_read.specs.declared.faults.DkKind.{DkKind}
-use Rattle.dk_read.specs.declared.faults.DkKind.TheVariants as kind
 use Rattle.dk_read.specs.declared.faults.DkFault.{DkFault}
 use Rattle.dk_read.specs.declared.faults.DkFault.TheVariants as fault
 use Rattle.dk_read.specs.declared.faults.Stop.{Stop}
@@ -87,14 +86,6 @@ token_in ns token.FatArrow = tokens.FatArrow
 token_in ns token.Dot = tokens.Dot
 token_in ns token.LeftParen = tokens.LeftParen
 token_in ns token.RightParen = tokens.RightParen
-
-abbrev pub fault_of : DkKind → reading.Fault
-fault_of kind.NoPrelude = reading.NoPrelude
-fault_of kind.BadText = reading.BadText
-fault_of (kind.UnknownName name) = reading.UnknownName name
-fault_of (kind.NameTwice name) = reading.NameTwice name
-fault_of kind.DkTooDeep = reading.DkTooDeep
-fault_of kind.DkTooLong = reading.DkTooLong
 
 -- the declarations before a token
 abbrev pub before : Parser → List Declaration

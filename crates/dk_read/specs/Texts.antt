@@ -3,7 +3,7 @@ use Rattle.std.specs.Prelude.{◌≡◌, ℕ, suc, ◌+◌, ◌≤◌, ◌==◌,
 use Rattle.lp_spec.specs.ModuleOrder.{IsModule}
 use Rattle.holide_sig.specs.declared.module.Module.{Module}
 use Rattle.holide_sig.specs.Modules.{declarations_of, IsHeld}
-use Rattle.dk_read.specs.declared.faults.DkKind.{DkKind}
+use Rattle.lp_spec.specs.declared.fault_kind.DkKind.{DkKind}
 use Rattle.lp_spec.specs.Tokens as tokens
 use Rattle.lp_spec.specs.ReadingFaults as reading
 use Rattle.dk_read.specs.declared.faults.DkFault.{DkFault}
@@ -14,7 +14,8 @@ use Rattle.dk_read.specs.declared.text.Text.{Text}
 use Rattle.dk_read.specs.declared.faults.Stop.{Stop}
 use Rattle.dk_read.specs.declared.terms.Token.{Token}
 use Rattle.lp_spec.specs.Modules.{Declaration}
-use Rattle.dk_read.specs.States.{before, state_of, fault_of, refused_by, OnRefusal, token_in, IsTokenKnown, IsReading}
+use Rattle.dk_read.specs.States.{before, state_of, refused_by, OnRefusal, token_in, IsTokenKnown, IsReading}
+use Rattle.lp_spec.specs.FaultKinds.{fault_of}
 
 -- what is pending, with the bytes of the word that is open, if one is
 abbrev pub pending_in : List ℕ → Pending → tokens.Pending

@@ -11,7 +11,7 @@ ghost use Rattle.dk_read.specs.States.{meaning_in, declared, IsSound, Means, Gro
 use crate::faults::Stop;
 use crate::parser::Parser;
 use crate::terms::Meaning;
-use bridge_base::Memory;
+use common::Memory;
 use lp_term::{LpId, LpNode};
 
 impl Parser {

@@ -26,5 +26,6 @@ mod stage;
 mod terms;
 mod text;
 
-pub use faults::{DkFault, DkKind};
+pub use faults::DkFault;
+pub use lp_spec::DkKind;
 pub use reader::{Limit, Reader};

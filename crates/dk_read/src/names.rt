@@ -5,7 +5,7 @@ ghost use Rattle.dk_read.specs.declared.terms.Meaning.TheVariants as meaning;
 ghost use Rattle.dk_read.specs.Names.{name_at, looked, Keeps, Puts};
 
 use crate::terms::Meaning;
-use bridge_base::Memory;
+use common::Memory;
 use name_table::NameTable;
 use std::alloc::Global;
 use std::marker::Model;

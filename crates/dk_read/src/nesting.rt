@@ -8,7 +8,7 @@ ghost use Rattle.dk_read.specs.States.{tree_of, whole_of, head_of, frames_of, sc
 use crate::faults::Stop;
 use crate::parser::Parser;
 use crate::terms::{Binder, Frame, Meaning, State};
-use bridge_base::Memory;
+use common::Memory;
 use lp_term::{LpId, LpNode};
 
 impl Parser {

@@ -6,9 +6,10 @@ ghost use Rattle.holide_sig.specs.Modules.{declarations_of};
 ghost use Rattle.dk_read.specs.Texts.{Ends};
 ghost use Rattle.dk_read.specs.Readers.{Reading, place_of, held_of, HasRoom, IsFed, limit_of, EndsWith, ReadsAs, Accepts, NeverTooLong, StopsAs, EndsStopped, Feeds, GoesOn, Answers, StaysStopped, Judges, HasName};
 
-use crate::faults::{DkFault, DkKind};
+use crate::faults::DkFault;
+use lp_spec::DkKind;
 use crate::stage::Stage;
-use bridge_base::Memory;
+use common::Memory;
 use holide_sig::{Ident, Module};
 use std::alloc::Global;
 use std::marker::Model;

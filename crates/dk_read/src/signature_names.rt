@@ -6,7 +6,7 @@ ghost use Rattle.dk_read.specs.Names.{IsNameless, HasSymbols};
 
 use crate::names::Names;
 use crate::terms::Meaning;
-use bridge_base::Memory;
+use common::Memory;
 use holide_sig::{Module, SIGNATURE};
 use std::alloc::Global;
 

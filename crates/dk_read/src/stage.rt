@@ -4,13 +4,14 @@ ghost use Rattle.lp_spec.specs.Text.{prelude};
 ghost use Rattle.lp_spec.specs.Tokens as tokens;
 ghost use Rattle.lp_spec.specs.ReadingFaults as reading;
 ghost use Rattle.dk_read.specs.declared.faults.DkFault.TheVariants as fault;
-ghost use Rattle.dk_read.specs.declared.faults.DkKind.TheVariants as kind;
+ghost use Rattle.lp_spec.specs.declared.fault_kind.DkKind.TheVariants as kind;
 ghost use Rattle.dk_read.specs.declared.stage.Stage.TheVariants as stage;
 ghost use Rattle.dk_read.specs.States.{IsReading};
 ghost use Rattle.dk_read.specs.Texts.{common, inside};
 ghost use Rattle.dk_read.specs.Readers.{progress_of, place_of, fault_in, IsStage, Comes, IsCut, StopsAs};
 
-use crate::faults::{DkFault, DkKind};
+use crate::faults::DkFault;
+use lp_spec::DkKind;
 use crate::text::Text;
 use holide_sig::PRELUDE;
 use std::alloc::Global;

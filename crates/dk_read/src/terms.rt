@@ -2,7 +2,7 @@
 ghost use Rattle.std.specs.Prelude.{◌≡◌, [], ◌∷◌, ◌++◌, length, None, Some, replicate, slice_get, slice_set, unwrap_or, IfOk, OnOk};
 ghost use Rattle.lp_spec.specs.Modules.{signature};
 
-use bridge_base::Memory;
+use common::Memory;
 use holide_sig::{Form, SIGNATURE};
 use lp_term::LpId;
 use std::alloc::Global;

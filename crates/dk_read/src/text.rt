@@ -12,7 +12,7 @@ use crate::faults::Stop;
 use crate::heads::{blank_len, comment_len, is_letter, is_space, is_word_byte, sign_of, word_len};
 use crate::parser::Parser;
 use crate::terms::Token;
-use bridge_base::Memory;
+use common::Memory;
 use holide_sig::PRELUDE;
 use std::alloc::Global;
 

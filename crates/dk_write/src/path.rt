@@ -3,7 +3,7 @@ ghost use Rattle.std.specs.Prelude.{◌≡◌, ◌<◌, ◌≤◌, ◌^◌, [], 
 ghost use Rattle.holide_sig.specs.Modules.{IsHeld, IsKnown};
 ghost use Rattle.dk_write.specs.Shallow.{AreTold, AreWithin, IsTold};
 
-use bridge_base::Memory;
+use common::Memory;
 use holide_sig::{Decl, Module};
 use lp_term::LpId;
 use std::alloc::Global;

@@ -21,7 +21,7 @@ use Rattle.lp_spec.specs.Trees.{size}
 use Rattle.lp_spec.specs.Modules.{Declaration, signature, symbol_declaration, types, term_of, sub_symbol, sub_abs_symbol, sub_rep_symbol}
 use Rattle.lp_spec.specs.Lemmas.{lemmas, sym_lemma, trans_lemma}
 use Rattle.lp_spec.specs.Weight.{weight, greatest, bound}
-use Rattle.lp_shape.specs.Check.{Found, Check}
+use Rattle.lp_spec.specs.Check.{Found, Check}
 use Rattle.module_spec.specs.Scopes.{Symbols, type_tree, Scope, term_tree, under_term, under_proof, under_types, unfilled, filled, term_domains, proof_domains, scope_of_types, scope_of_terms, scope_of, domains_of, conclusion_tree, generic_tree}
 use Rattle.module_spec.specs.ProofTrees.{part_tree}
 use Rattle.module_spec.specs.Rows.{proof_tree}

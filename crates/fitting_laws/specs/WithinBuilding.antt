@@ -4,7 +4,7 @@ use Rattle.std.specs.Prelude.{◌||◌, is_some}
 use Rattle.std.specs.Option.{ok_or}
 use Rattle.std.specs.List.{AllByRecursion, list_any}
 use Rattle.std.specs.FinMap as entries
-use Rattle.bridge_base.specs.declared.faults.Kind.TheVariants.{NoSuchKey, TypeMismatch}
+use Rattle.common.specs.declared.faults.Kind.TheVariants.{NoSuchKey, TypeMismatch}
 use Rattle.hol_spec.specs.Names.{Name}
 use Rattle.hol_spec.specs.Types.{HolType, types_of}
 use Rattle.hol_spec.specs.Terms.{Term, type_of}

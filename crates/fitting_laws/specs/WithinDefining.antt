@@ -6,7 +6,7 @@ use Rattle.std.specs.Prelude.{not, slice_index_or}
 use Rattle.std.specs.Option.{option_map}
 use Rattle.std.specs.List.{AllByRecursion, filter_map, cons_option, flat_map}
 use Rattle.std.proofs.lemmas.List.{length-map}
-use Rattle.bridge_base.specs.declared.faults.Kind.TheVariants.{NameTaken, NotClosed, ExtraTypeVars}
+use Rattle.common.specs.declared.faults.Kind.TheVariants.{NameTaken, NotClosed, ExtraTypeVars}
 use Rattle.hol_spec.specs.Names.{Name}
 use Rattle.hol_spec.specs.Lists.{is_in, IsIn}
 use Rattle.hol_spec.specs.Types.{HolType, variable, variable_places}
@@ -40,7 +40,7 @@ use Rattle.fitting_laws.specs.SymbolLimits.{DefinitionWithin, GenericWithin, Sym
 use Rattle.fitting_laws.specs.WithinStates.{answers, with_symbols-within, with_type_definition-within, conclude-within, concluded}
 use Rattle.fitting_laws.specs.WithinBuilding.{arguments-few}
 use Rattle.std.proofs.lemmas.Option.{same_Some}
-use Rattle.bridge_base.specs.declared.faults.Kind.{Kind}
+use Rattle.common.specs.declared.faults.Kind.{Kind}
 use Rattle.article_laws.specs.SoundDefining.{type_laws-made}
 
 -- the right side of an equation is a part of it

@@ -1,7 +1,7 @@
 -- What was made stays within the limits with another stack, with symbols that are taken within them, and with a step more.
 use Rattle.std.proofs.Common.{ℕ, ◌≡◌, List, [], ◌∷◌, map, Result, Ok, subst}
 use Rattle.std.specs.List.{AllByRecursion}
-use Rattle.bridge_base.specs.declared.faults.Kind.{Kind}
+use Rattle.common.specs.declared.faults.Kind.{Kind}
 use Rattle.hol_spec.specs.Types.{HolType}
 use Rattle.hol_spec.specs.Terms.{Term}
 use Rattle.hol_spec.specs.Definitions.{TypeNames, Definition}

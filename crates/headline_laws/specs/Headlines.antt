@@ -9,8 +9,8 @@ use Rattle.article_laws.specs.SoundSteps.{runs_are_sound}
 use Rattle.lp_spec.specs.Modules.{Declaration}
 use Rattle.lp_spec.specs.TextLaws.{ReadsBack}
 use Rattle.lp_spec.specs.Weight.{bound}
-use Rattle.lp_shape.specs.Check.{Found}
-use Rattle.lp_fast.specs.FastCheck.{FastCheck, fast_bound}
+use Rattle.lp_spec.specs.Check.{Found}
+use Rattle.lp_spec.specs.FastCheck.{FastCheck, fast_bound}
 use Rattle.lp_fast.specs.FastPrices.{priced-fast, fast-within}
 use Rattle.text_laws.specs.WrittenModules.{written_reads}
 use Rattle.module_spec.specs.Image.{image, name_in}

@@ -6,7 +6,7 @@ use Rattle.std.specs.List.{list_all}
 use Rattle.std.proofs.lemmas.Bool.Decides.{nat_tests}
 use Rattle.hol_laws.specs.Members.{All-append}
 use Rattle.hol_spec.specs.Mangling.{AreBytes}
-use Rattle.vectors.specs.Trial.{beginning, chained, block, blocks, ending, lines, words, trial_text}
+use Rattle.article_spec.specs.Trial.{beginning, chained, block, blocks, ending, lines, words, trial_text}
 use Rattle.vectors.proofs.TrialParts.{lines-append, block_parts, trial_parts, defined as defining_words, kept as keeping_words}
 
 -- a text that passes the test of bytes is of bytes

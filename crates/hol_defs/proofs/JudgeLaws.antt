@@ -20,7 +20,7 @@ use Rattle.hol_spec.specs.TypeDefinitions.{are_type_variables_of}
 use Rattle.hol_term.specs.declared.Variable.{Variable as OneVariable}
 use Rattle.hol_term.specs.Subterms.{variables_of}
 use Rattle.hol_term.specs.Tables.{Trees, IsTermAt}
-use Rattle.bridge_base.specs.declared.faults.Kind.{Kind}
+use Rattle.common.specs.declared.faults.Kind.{Kind}
 use Rattle.hol_defs.specs.Faults.{first_failing}
 
 -- the first condition fails

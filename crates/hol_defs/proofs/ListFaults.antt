@@ -13,10 +13,10 @@ use Rattle.hol_type.specs.Tables as type
 use Rattle.hol_term.specs.declared.TermId.{TermId}
 use Rattle.hol_term.specs.declared.Variable.{Variable}
 use Rattle.hol_term.specs.Tables.{Trees, terms_at}
-use Rattle.bridge_base.specs.declared.faults.Fault.{Fault}
-use Rattle.bridge_base.specs.declared.faults.Fault.TheVariants as fault
-use Rattle.bridge_base.specs.declared.faults.Kind.{Kind}
-use Rattle.bridge_base.specs.declared.faults.Kind.TheVariants.{NameTaken, NotClosed, ExtraTypeVars, BadDefinitionList}
+use Rattle.common.specs.declared.faults.Fault.{Fault}
+use Rattle.common.specs.declared.faults.Fault.TheVariants as fault
+use Rattle.common.specs.declared.faults.Kind.{Kind}
+use Rattle.common.specs.declared.faults.Kind.TheVariants.{NameTaken, NotClosed, ExtraTypeVars, BadDefinitionList}
 use Rattle.hol_defs.specs.declared.lists.Equation.{Equation}
 use Rattle.hol_defs.specs.Faults.{first_failing, list_fault, Refuses}
 use Rattle.hol_defs.specs.Lists.{definitions_fault, equations_fault, undefined_fault, sequent_at, pairs_at, equation_at, is_list, AreEquationsKnown, ArePairsKnown, AreFound, AreDefined, AreNew}

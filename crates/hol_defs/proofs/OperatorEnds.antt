@@ -9,10 +9,10 @@ use Rattle.hol_spec.specs.Types.{HolType}
 use Rattle.hol_spec.specs.Terms.{Term, app, HasType}
 use Rattle.hol_spec.specs.Definitions.{TypeNames}
 use Rattle.hol_spec.specs.Symbols.{Symbol, is_taken_constant, is_taken_operator}
-use Rattle.bridge_base.specs.declared.faults.Fault.{Fault}
-use Rattle.bridge_base.specs.declared.faults.Fault.TheVariants as fault
-use Rattle.bridge_base.specs.declared.faults.Kind.{Kind}
-use Rattle.bridge_base.specs.declared.faults.Kind.TheVariants.{NameTaken, NotClosed, BadTypeVars}
+use Rattle.common.specs.declared.faults.Fault.{Fault}
+use Rattle.common.specs.declared.faults.Fault.TheVariants as fault
+use Rattle.common.specs.declared.faults.Kind.{Kind}
+use Rattle.common.specs.declared.faults.Kind.TheVariants.{NameTaken, NotClosed, BadTypeVars}
 use Rattle.hol_spec.specs.Defining.{is_closed}
 use Rattle.hol_spec.specs.TypeDefinitions.{are_type_variables_of}
 use Rattle.hol_defs.specs.Faults.{first_failing, are_new, operator_fault, limit_fault, types_made, Refuses}

@@ -20,7 +20,7 @@ use Rattle.hol_defs.specs.Symbols.{Taken, symbols_at, AreConstantTypes, AreKnown
 use Rattle.hol_defs.specs.SymbolLaws.{symbols_at-append, symbols_at-Keeps, AreKnownSymbols-append, AreKnownSymbols-Keeps}
 use Rattle.hol_spec.specs.NewTypes.{new_type, abstraction_type, representation_type}
 use Rattle.hol_spec.specs.Primitives.{function}
-use Rattle.bridge_base.specs.declared.faults.Kind.TheVariants.{TooLarge, TooDeep}
+use Rattle.common.specs.declared.faults.Kind.TheVariants.{TooLarge, TooDeep}
 use Rattle.hol_defs.specs.Faults.{first_failing, limit_fault, types_made}
 use Rattle.hol_defs.proofs.JudgeLaws.{failing, passing}
 use Rattle.hol_type.specs.declared.table.TypeId.{TypeId}

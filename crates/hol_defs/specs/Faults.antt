@@ -15,10 +15,10 @@ use Rattle.hol_spec.specs.DefinitionLists.{ConstantPairs, names_of, defining_equ
 use Rattle.hol_spec.specs.NewTypes.{new_type, abstraction_type, representation_type}
 use Rattle.hol_spec.specs.TypeDefinitions.{are_type_variables_of}
 use Rattle.hol_spec.specs.Symbols.{Symbol, is_taken_constant, is_taken_operator}
-use Rattle.bridge_base.specs.declared.faults.Fault.{Fault}
-use Rattle.bridge_base.specs.declared.faults.Fault.TheVariants.{Refused, Memory}
-use Rattle.bridge_base.specs.declared.faults.Kind.{Kind}
-use Rattle.bridge_base.specs.declared.faults.Kind.TheVariants.{NameTaken, NotClosed, ExtraTypeVars, BadDefinitionList, BadTypeVars, TooLarge, TooDeep}
+use Rattle.common.specs.declared.faults.Fault.{Fault}
+use Rattle.common.specs.declared.faults.Fault.TheVariants.{Refused, Memory}
+use Rattle.common.specs.declared.faults.Kind.{Kind}
+use Rattle.common.specs.declared.faults.Kind.TheVariants.{NameTaken, NotClosed, ExtraTypeVars, BadDefinitionList, BadTypeVars, TooLarge, TooDeep}
 
 -- the kind of the first condition that fails, if one does
 abbrev pub first_failing : List (Bool × Kind) → Option Kind

@@ -15,8 +15,8 @@ use Rattle.hol_term.specs.declared.TermId.{TermId}
 use Rattle.hol_term.specs.declared.Variable.{Variable}
 use Rattle.hol_term.specs.Subterms.{variables_of}
 use Rattle.hol_term.specs.Tables.{Trees, term_at, terms_at, type_at, IsTermAt}
-use Rattle.bridge_base.specs.declared.faults.Kind.{Kind}
-use Rattle.bridge_base.specs.declared.faults.Kind.TheVariants.{NotClosed, ExtraTypeVars, BadDefinitionList}
+use Rattle.common.specs.declared.faults.Kind.{Kind}
+use Rattle.common.specs.declared.faults.Kind.TheVariants.{NotClosed, ExtraTypeVars, BadDefinitionList}
 use Rattle.hol_defs.specs.declared.lists.Equation.{Equation}
 use Rattle.hol_defs.specs.declared.lists.Mark.{Mark}
 use Rattle.hol_defs.specs.Faults.{first_failing}

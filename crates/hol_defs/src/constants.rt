@@ -13,7 +13,7 @@ ghost use Rattle.hol_defs.specs.Symbols.{Taken, symbols_at, AreKnownSymbols};
 use crate::Symbols;
 use crate::entry::Entry;
 use crate::judging::{has_own_variables, is_closed};
-use bridge_base::{Fault, Kind, Memory};
+use common::{Fault, Kind, Memory};
 use hol_name::Name;
 use hol_term::{TermId, TermTable};
 use hol_type::TypeId;

@@ -8,7 +8,7 @@ ghost use Rattle.hol_term.specs.Tables.{term_at, type_at, IsTermAt};
 ghost use Rattle.hol_defs.specs.Faults.{has_own_variables as has_its_own};
 
 use crate::tables::NameSet;
-use bridge_base::Memory;
+use common::Memory;
 use hol_name::Name;
 use hol_term::{TermId, TermTable};
 use hol_type::TypeId;

@@ -42,7 +42,7 @@ mod uses;
 use crate::entry::Entry;
 use crate::primitive::{Primitive, arity_of};
 use crate::tables::{Arities, Generics, NameSet, Uses};
-use bridge_base::Memory;
+use common::Memory;
 use hol_name::Name;
 use hol_type::TypeId;
 pub use readers::{SymbolView, TypeOpView};

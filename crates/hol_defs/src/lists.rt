@@ -22,7 +22,7 @@ ghost use Rattle.hol_defs.specs.Symbols.{Taken, symbols_at, AreKnownSymbols};
 use crate::Symbols;
 use crate::judging::{has_variables, is_closed};
 use crate::tables::{FirstTerms, NameSet, VariableSet};
-use bridge_base::{Fault, Kind, Memory};
+use common::{Fault, Kind, Memory};
 use hol_name::Name;
 use hol_term::{TermId, TermTable, TermView, Variable};
 use std::alloc::Global;

@@ -21,7 +21,7 @@ use crate::entry::{Entry, NewType};
 use crate::judging::{are_among, copied, is_closed};
 use crate::tables::{Arities, Generics, NameSet};
 use crate::{Symbols, TypeOpView};
-use bridge_base::{Fault, Kind, Memory};
+use common::{Fault, Kind, Memory};
 use hol_name::Name;
 use hol_spec::{GREATEST_DEPTH, GREATEST_SIZE};
 use hol_term::{TermId, TermTable, TermView};

@@ -7,7 +7,7 @@ ghost use Rattle.hol_term.specs.declared.Variable.{Variable as AVariable};
 ghost use Rattle.hol_defs.specs.Indexes.{same_use};
 ghost use Rattle.hol_defs.specs.Lists.{same_variable};
 
-use bridge_base::Memory;
+use common::Memory;
 use hol_name::Name;
 use hol_term::{TermId, Variable};
 use hol_type::TypeId;

@@ -15,7 +15,7 @@ use crate::entry::Entry;
 use crate::primitive::Primitive;
 use crate::tables::{NameSet, Uses};
 use crate::{Generic, Symbols};
-use bridge_base::{Fault, Kind, Memory};
+use common::{Fault, Kind, Memory};
 use hol_name::Name;
 use hol_term::TermTable;
 use hol_type::{TypeId, TypeTable};

@@ -6,7 +6,7 @@ use crate::constants::{Shape, kind_of, use_at};
 use crate::definitions::{By, define_by};
 use crate::many::taken;
 use crate::operators::{kinds_of_used, use_operator, use_thrice};
-use bridge_base::Fault;
+use common::Fault;
 use hol_defs::{Generic, SymbolKind, Symbols};
 use hol_term::TermTable;
 use std::alloc::Global;

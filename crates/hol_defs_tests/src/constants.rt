@@ -4,7 +4,7 @@ ghost use Rattle.hol_defs.specs.Symbols.{AreKnownSymbols};
 
 use crate::cases::{Answer, Case, comes};
 use crate::made::{is_type, name};
-use bridge_base::{Fault, Kind};
+use common::{Fault, Kind};
 use hol_defs::{Generic, SymbolKind, Symbols};
 use hol_term::TermTable;
 use hol_type::TypeId;

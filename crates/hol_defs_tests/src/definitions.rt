@@ -4,7 +4,7 @@ ghost use Rattle.hol_defs.specs.Symbols.{AreKnownSymbols};
 
 use crate::cases::{Answer, Case, comes};
 use crate::made::{is_term, name};
-use bridge_base::{Fault, Kind};
+use common::{Fault, Kind};
 use hol_defs::Symbols;
 use hol_name::Name;
 use hol_term::{TermId, TermTable};

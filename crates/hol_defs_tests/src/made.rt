@@ -3,7 +3,7 @@ ghost use Rattle.std.specs.Prelude.{◌<◌, length};
 ghost use Rattle.std.specs.Bool.{OnTrue};
 ghost use Rattle.hol_term.specs.Tables.{IsTermAt};
 
-use bridge_base::Fault;
+use common::Fault;
 use hol_name::Name;
 use hol_term::{TermId, TermTable};
 use hol_type::TypeId;

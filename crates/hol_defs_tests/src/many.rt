@@ -5,7 +5,7 @@ ghost use Rattle.hol_defs.specs.Symbols.{AreKnownSymbols};
 
 use crate::cases::{Answer, Case, comes};
 use crate::made::name;
-use bridge_base::Fault;
+use common::Fault;
 use hol_defs::{SymbolKind, Symbols};
 use hol_name::Name;
 use hol_term::TermTable;

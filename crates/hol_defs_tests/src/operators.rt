@@ -1,7 +1,7 @@
 //! Type operators, each with its number of arguments.
 use crate::cases::{Answer, Case, comes};
 use crate::made::name;
-use bridge_base::{Fault, Kind};
+use common::{Fault, Kind};
 use hol_defs::{SymbolKind, Symbols};
 use std::alloc::Global;
 use std::test::Fail;

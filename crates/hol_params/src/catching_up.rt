@@ -10,7 +10,7 @@ ghost use Rattle.hol_params.specs.Variables.{AreNames};
 
 use crate::lists::{ListId, Lists};
 use crate::{Own, ParamMemo};
-use bridge_base::Memory;
+use common::Memory;
 use hol_term::{TermId, TermTable, TermView};
 use hol_type::{TypeId, TypeTable, TypeView};
 

@@ -12,7 +12,7 @@ ghost use Rattle.hol_params.specs.Variables.{variable_count, variable_view, vari
 
 use crate::ParamMemo;
 use crate::numbers::Numbers;
-use bridge_base::Memory;
+use common::Memory;
 use hol_term::{TermId, TermTable, TermView, Variable};
 use sequent::Sequent;
 use std::alloc::Global;

@@ -41,7 +41,7 @@ mod walking;
 
 use crate::lists::{ListId, Lists};
 use crate::walking::{is_walked, walked};
-use bridge_base::Memory;
+use common::Memory;
 use hol_term::{TermId, TermTable, Variable};
 use sequent::Sequent;
 use std::alloc::Global;

@@ -5,7 +5,7 @@ ghost use Rattle.hol_spec.specs.Lists.{is_in, union};
 ghost use Rattle.hol_params.specs.Lists.{list_in, HasUnion, IsThere, KeepsLists};
 
 use crate::numbers::Numbers;
-use bridge_base::Memory;
+use common::Memory;
 use std::alloc::Global;
 use std::marker::Model;
 

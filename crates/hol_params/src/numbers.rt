@@ -3,7 +3,7 @@ ghost use Rattle.std.specs.Prelude.{◌≡◌, [], ◌∷◌, nat_eq, OnOk};
 ghost use Rattle.std.specs.List.{list_all, IsDistinct};
 ghost use Rattle.hol_spec.specs.Lists.{is_in, union};
 
-use bridge_base::Memory;
+use common::Memory;
 use indexmap::IndexSet;
 use std::alloc::Global;
 use std::marker::Model;

@@ -8,7 +8,7 @@ ghost use Rattle.hol_term.specs.Tables.{Trees, term_at};
 ghost use Rattle.sequent.specs.Sequents.{sequent_at, IsKnown};
 ghost use Rattle.hol_params.specs.Variables.{variable_view};
 
-use bridge_base::Memory;
+use common::Memory;
 use hol_term::{TermId, TermTable, Variable};
 use sequent::Sequent;
 use std::alloc::Global;

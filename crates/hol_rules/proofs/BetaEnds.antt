@@ -1,6 +1,6 @@
 -- A beta step, at its end.
 use Rattle.std.proofs.Common.{◌≡◌, ◌<◌, refl, sym, ap, subst, ◌∙◌, List, [], length, None, IsSome, Err}
-use Rattle.bridge_base.specs.declared.faults.Kind.TheVariants.{NotRedex}
+use Rattle.common.specs.declared.faults.Kind.TheVariants.{NotRedex}
 use Rattle.hol_spec.specs.Types.{HolType}
 use Rattle.hol_spec.specs.TermBinding.{put}
 use Rattle.hol_spec.specs.Terms.{type_of, HasType, equation}

@@ -1,9 +1,9 @@
 -- A rule that ends.
 use Rattle.std.proofs.Common.{◌≡◌, ℕ, refl, sym, ap, subst, ◌∙◌, List, [], ◌∷◌, ◌++◌, length, map, Result, Ok, Err, IfOk, OnErr}
 use Rattle.std.specs.Result.{IsErrAnd}
-use Rattle.bridge_base.specs.declared.faults.Fault.{Fault}
-use Rattle.bridge_base.specs.declared.faults.Fault.TheVariants.{Memory, Refused}
-use Rattle.bridge_base.specs.declared.faults.Kind.{Kind}
+use Rattle.common.specs.declared.faults.Fault.{Fault}
+use Rattle.common.specs.declared.faults.Fault.TheVariants.{Memory, Refused}
+use Rattle.common.specs.declared.faults.Kind.{Kind}
 use Rattle.hol_spec.specs.Proofs.{Made, Step, steps_of, IsStep}
 use Rattle.hol_spec.specs.declared.StepKind.{StepKind}
 use Rattle.hol_term.specs.Tables.{Keeps}

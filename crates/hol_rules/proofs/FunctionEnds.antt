@@ -2,7 +2,7 @@
 use Rattle.std.proofs.Common.{◌≡◌, ℕ, ◌<◌, refl, sym, ap, subst, ◌∙◌, arith, List, [], ◌∷◌, length, true, false, not, Option, Some, None, Err}
 use Rattle.std.specs.Prelude.{is_some}
 use Rattle.std.specs.Option.{option_map}
-use Rattle.bridge_base.specs.declared.faults.Kind.TheVariants.{TypeMismatch, VarInHyps}
+use Rattle.common.specs.declared.faults.Kind.TheVariants.{TypeMismatch, VarInHyps}
 use Rattle.hol_spec.specs.Types.{HolType}
 use Rattle.hol_spec.specs.Primitives.{function}
 use Rattle.hol_spec.specs.Terms.{Term, Variable as AVariable, app, type_of, HasType, equation, application_type}

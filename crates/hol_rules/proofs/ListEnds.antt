@@ -1,7 +1,7 @@
 -- The definition of a list of constants, at its end.
 use Rattle.std.proofs.Common.{◌≡◌, ℕ, ◌<◌, sym, ap, subst, ◌∙◌, List, [], ◌∷◌, ◌++◌, length, map, None, Result, Ok}
 use Rattle.std.proofs.Math.Path.{ap₂}
-use Rattle.bridge_base.specs.declared.faults.Fault.{Fault}
+use Rattle.common.specs.declared.faults.Fault.{Fault}
 use Rattle.hol_spec.specs.DefinitionLists.{ConstantPairs, constants_put}
 use Rattle.hol_spec.specs.Names.{Name}
 use Rattle.hol_spec.specs.Proofs.{Made, Step, steps_of, symbols_of, sequent_at, IsStep}

@@ -1,7 +1,7 @@
 -- The same of the rules over binders, of applications, and of those that state a sequent.
 use Rattle.std.proofs.Common.{◌≡◌, ℕ, ◌<◌, refl, ap, ◌∙◌, List, [], ◌∷◌, length, Bool, true, false, not, Some, Ok}
 use Rattle.std.specs.List.{AllByRecursion, list_all}
-use Rattle.bridge_base.specs.declared.faults.Kind.TheVariants.{VarInHyps, NotBool, NotTheSequent, BadSubst}
+use Rattle.common.specs.declared.faults.Kind.TheVariants.{VarInHyps, NotBool, NotTheSequent, BadSubst}
 use Rattle.hol_spec.specs.Types.{HolType}
 use Rattle.hol_laws.specs.ListLaws.{union-All, distinct-IsDistinct}
 use Rattle.hol_spec.specs.Primitives.{bool, function}

@@ -3,8 +3,8 @@ use Rattle.std.proofs.Common.{◌≡◌, ℕ, zero, suc, ◌<◌, refl, sym, ap,
 use Rattle.std.specs.Prelude.{slice_index_or}
 use Rattle.std.specs.Option.{ok_or}
 use Rattle.std.specs.List.{AllByRecursion, IsAmong}
-use Rattle.bridge_base.specs.declared.faults.Kind.{Kind}
-use Rattle.bridge_base.specs.declared.faults.Kind.TheVariants.{NotAlike, NotBool, NotEquation}
+use Rattle.common.specs.declared.faults.Kind.{Kind}
+use Rattle.common.specs.declared.faults.Kind.TheVariants.{NotAlike, NotBool, NotEquation}
 use Rattle.hol_spec.specs.Types.{HolType}
 use Rattle.hol_laws.specs.TypeLaws.{type_eq-Decides}
 use Rattle.hol_spec.specs.Primitives.{bool}

@@ -7,8 +7,8 @@ use Rattle.std.specs.Cmp.Lexicographic.{pointwise}
 use Rattle.std.proofs.lemmas.Slice.Eq.{slice_eq-Decides}
 use Rattle.sequent.specs.Sequents.{same_id}
 use Rattle.std.proofs.lemmas.Option.{slice_get_cases}
-use Rattle.bridge_base.specs.declared.faults.Memory.{Memory}
-use Rattle.bridge_base.specs.declared.faults.Kind.TheVariants.{NotEquation}
+use Rattle.common.specs.declared.faults.Memory.{Memory}
+use Rattle.common.specs.declared.faults.Kind.TheVariants.{NotEquation}
 use Rattle.hol_spec.specs.Types.{HolType, type_eq}
 use Rattle.hol_laws.specs.TypeLaws.{type_eq-Decides}
 use Rattle.hol_spec.specs.Primitives.{bool, equality_type}

@@ -1,6 +1,6 @@
 -- A substitution, at its end.
 use Rattle.std.proofs.Common.{◌≡◌, ℕ, ◌<◌, refl, sym, ap, subst, ◌∙◌, List, [], ◌∷◌, length, Bool, true, false, ◌↔◌, IsTrue, Err}
-use Rattle.bridge_base.specs.declared.faults.Kind.TheVariants.{BadSubst}
+use Rattle.common.specs.declared.faults.Kind.TheVariants.{BadSubst}
 use Rattle.article_spec.specs.Conditions.{demand}
 use Rattle.hol_spec.specs.Names.{Name}
 use Rattle.hol_spec.specs.Substitution.{TypePairs}

@@ -1,8 +1,8 @@
 -- Truth values among numbers, and what is stated of them.
 use Rattle.std.proofs.Common.{◌≡◌, ℕ, ◌<◌, refl, sym, ap, subst, ◌∙◌, List, [], ◌∷◌, length, Bool, true, false, ◌&&◌, Err}
 use Rattle.std.specs.List.{AllByRecursion, list_all}
-use Rattle.bridge_base.specs.declared.faults.Fault.{Fault}
-use Rattle.bridge_base.specs.declared.faults.Kind.TheVariants.{NotBool}
+use Rattle.common.specs.declared.faults.Fault.{Fault}
+use Rattle.common.specs.declared.faults.Kind.TheVariants.{NotBool}
 use Rattle.hol_spec.specs.Lists.{distinct}
 use Rattle.hol_spec.specs.Primitives.{bool}
 use Rattle.hol_spec.specs.Terms.{Term, term_eq, HasType}

@@ -3,7 +3,7 @@ use Rattle.std.proofs.Common.{◌≡◌, ◌<◌, ◌≤◌, ℕ, ◌+◌, ◌*�
 use Rattle.std.specs.Prelude.{◌&&◌, max, min, nat_le}
 use Rattle.std.specs.List.{list_all}
 use Rattle.std.proofs.lemmas.Bool.Decides.{nat_tests}
-use Rattle.bridge_base.specs.declared.faults.Kind.TheVariants.{TooLarge, TooDeep, TooManyParams}
+use Rattle.common.specs.declared.faults.Kind.TheVariants.{TooLarge, TooDeep, TooManyParams}
 use Rattle.hol_spec.specs.Names.{Name}
 use Rattle.hol_spec.specs.Types.{HolType, variable, types_of, count}
 use Rattle.hol_spec.specs.Terms.{Term}

@@ -1,7 +1,7 @@
 -- A rule concludes a step, or is refused; so does a definition, which takes symbols before.
 use Rattle.std.specs.Prelude.{◌≡◌, ℕ, ◌+◌, List, [], ◌∷◌, ◌++◌, map, Result, Ok, IfOk, IfErr, OnErr}
-use Rattle.bridge_base.specs.declared.faults.Fault.{Fault}
-use Rattle.bridge_base.specs.declared.faults.Kind.{Kind}
+use Rattle.common.specs.declared.faults.Fault.{Fault}
+use Rattle.common.specs.declared.faults.Kind.{Kind}
 use Rattle.hol_spec.specs.Proofs.{Made, Step}
 use Rattle.hol_term.specs.Tables.{Keeps}
 use Rattle.article_spec.specs.Results.{◌>>=◌, ◌>>◌, Fails}

@@ -9,7 +9,7 @@ ghost use Rattle.hol_rules.specs.Premises.{AreRedexParts, IsNumberOf};
 
 use crate::made::{Parameters, StepId};
 use crate::proof::Proof;
-use bridge_base::{Fault, Kind, Memory};
+use common::{Fault, Kind, Memory};
 use hol_spec::StepKind;
 use hol_term::{TermId, TermView};
 use sequent::Sequent;

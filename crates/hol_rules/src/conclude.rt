@@ -14,7 +14,7 @@ ghost use Rattle.hol_rules.specs.Views.{step_view, new_step, AreParametersKnown,
 use crate::judge::judge;
 use crate::made::{Made, Parameters, Step, StepId};
 use crate::proof::Proof;
-use bridge_base::{Fault, Memory};
+use common::{Fault, Memory};
 use hol_params::ParamMemo;
 use hol_spec::StepKind;
 use hol_term::TermTable;

@@ -24,7 +24,7 @@ use crate::definitions::constant_of;
 use crate::functions::own_variable;
 use crate::made::{Made, Parameters, Step, StepId};
 use crate::proof::Proof;
-use bridge_base::{Fault, Memory};
+use common::{Fault, Memory};
 use hol_defs::Symbols;
 use hol_name::Name;
 use hol_spec::StepKind;

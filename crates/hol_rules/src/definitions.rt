@@ -21,7 +21,7 @@ ghost use Rattle.hol_rules.specs.Views.{step_view, IsStepKnown};
 
 use crate::made::{Made, Parameters, Step, StepId};
 use crate::proof::Proof;
-use bridge_base::{Fault, Memory};
+use common::{Fault, Memory};
 use hol_defs::Symbols;
 use hol_name::Name;
 use hol_spec::StepKind;

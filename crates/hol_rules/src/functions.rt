@@ -14,7 +14,7 @@ ghost use Rattle.hol_rules.specs.Views.{variable_view};
 
 use crate::made::{Parameters, StepId};
 use crate::proof::Proof;
-use bridge_base::{Fault, Kind, Memory};
+use common::{Fault, Kind, Memory};
 use hol_params::ParamMemo;
 use hol_spec::StepKind;
 use hol_term::{TermId, TermTable, Variable};

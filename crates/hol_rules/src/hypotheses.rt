@@ -9,7 +9,7 @@ ghost use Rattle.article_spec.specs.RuleSteps.{deduct_antisym_step, prove_hyp_st
 
 use crate::made::{Parameters, StepId};
 use crate::proof::Proof;
-use bridge_base::{Fault, Memory};
+use common::{Fault, Memory};
 use hol_spec::StepKind;
 use sequent::{Hyps, Sequent};
 

@@ -6,7 +6,7 @@ ghost use Rattle.hol_spec.specs.Limits.{sequent_size, sequent_depth};
 ghost use Rattle.hol_params.specs.Noted.{AreNoted};
 ghost use Rattle.sequent.specs.Sequents.{sequent_at, IsKnown};
 
-use bridge_base::{Fault, Kind};
+use common::{Fault, Kind};
 use hol_params::ParamMemo;
 use hol_spec::{GREATEST_DEPTH, GREATEST_PARAMETER_COUNT, GREATEST_SIZE};
 use hol_term::TermTable;

@@ -12,7 +12,7 @@ ghost use Rattle.hol_rules.specs.Premises.{IsNumberOf};
 ghost use Rattle.hol_rules.specs.Views.{variable_view};
 
 use crate::definitions::constant_of;
-use bridge_base::Memory;
+use common::Memory;
 use hol_name::Name;
 use hol_spec::Version;
 use hol_term::{TermId, TermTable, Variable};

@@ -2,7 +2,7 @@
 ghost use Rattle.std.specs.Prelude.{◌≡◌, IfOk};
 ghost use Rattle.hol_term.specs.PutIndexes.{IsIndexOf};
 
-use bridge_base::Memory;
+use common::Memory;
 use hol_name::Name;
 use hol_spec::{StepKind, Version};
 use hol_term::{PutIndex, TermId, Variable};

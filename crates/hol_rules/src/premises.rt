@@ -14,7 +14,7 @@ ghost use Rattle.hol_rules.specs.Premises.{AreNumbersOf, AreSides, IsNumberOf};
 
 use crate::made::StepId;
 use crate::proof::Proof;
-use bridge_base::{Fault, Kind, Memory};
+use common::{Fault, Kind, Memory};
 use hol_term::TermId;
 use sequent::{Hyps, Sequent};
 

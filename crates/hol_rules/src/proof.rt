@@ -9,7 +9,7 @@ ghost use Rattle.hol_rules.specs.Kept.{step_count};
 ghost use Rattle.hol_rules.specs.Views.{made_of, parameters_view, step_at, step_view, AreParametersKnown, IsStepKnown};
 
 use crate::made::{Made, Parameters, Step, StepId};
-use bridge_base::Memory;
+use common::Memory;
 use hol_defs::Symbols;
 use hol_params::ParamMemo;
 use hol_spec::StepKind;

@@ -7,7 +7,7 @@ ghost use Rattle.article_spec.specs.RuleSteps.{refl_step, assume_step, eq_mp_ste
 
 use crate::made::{Parameters, StepId};
 use crate::proof::Proof;
-use bridge_base::{Fault, Kind};
+use common::{Fault, Kind};
 use hol_spec::StepKind;
 use hol_term::TermId;
 use sequent::Sequent;

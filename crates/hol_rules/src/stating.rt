@@ -17,7 +17,7 @@ ghost use Rattle.article_spec.specs.RuleSteps.{axiom_step, restate_step};
 
 use crate::made::{Parameters, StepId};
 use crate::proof::Proof;
-use bridge_base::{Fault, Kind, Memory};
+use common::{Fault, Kind, Memory};
 use hol_spec::StepKind;
 use hol_term::TermId;
 use sequent::{Hyps, Sequent};

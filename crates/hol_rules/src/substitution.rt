@@ -16,7 +16,7 @@ ghost use Rattle.article_spec.specs.RuleSteps.{pairs_fit, subst_step, substitute
 use crate::functions::own_variable;
 use crate::made::{Parameters, Put, StepId, Substitution};
 use crate::proof::Proof;
-use bridge_base::{Fault, Kind, Memory};
+use common::{Fault, Kind, Memory};
 use hol_name::Name;
 use hol_spec::StepKind;
 use hol_term::{TermId, TermTable, TermView, Variable};

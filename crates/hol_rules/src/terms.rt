@@ -1,6 +1,6 @@
 //! The calls that make types and terms, and that take symbols, over the proof's table and its symbols.
 ghost use Rattle.std.specs.Prelude.{◌≡◌, ◌<◌, ◌++◌, length, map, IfOk, IfErr, OnOk, OnErr};
-ghost use Rattle.bridge_base.specs.declared.faults.Fault.TheVariants as the_fault;
+ghost use Rattle.common.specs.declared.faults.Fault.TheVariants as the_fault;
 ghost use Rattle.hol_defs.specs.Refusals.{FitsGeneric, FitsArity, RefusesConstant, RefusesOperator};
 ghost use Rattle.hol_defs.specs.Symbols.{symbols_at, AreKnownSymbols};
 ghost use Rattle.hol_spec.specs.Limits.{TermWithin, TypeWithin};
@@ -21,7 +21,7 @@ ghost use Rattle.hol_rules.specs.declared.made.Made.TheVariants as one;
 
 use crate::made::Made;
 use crate::proof::Proof;
-use bridge_base::Fault;
+use common::Fault;
 use hol_defs::Symbols;
 use hol_name::Name;
 use hol_term::{TermId, TermTable, Variable};

@@ -4,7 +4,7 @@ ghost use Rattle.hol_term.specs.Tables.{IsTermAt};
 ghost use Rattle.hol_rules.specs.Kept.{step_count};
 
 use crate::turns::{Rule, Turn};
-use bridge_base::{Fault, Kind, Memory};
+use common::{Fault, Kind, Memory};
 use hol_defs::SymbolKind;
 use hol_name::Name;
 use hol_rules::{Made, Parameters, Proof, StepId};

@@ -2,7 +2,7 @@
 use crate::bench::Bench;
 use crate::turns::Case;
 use crate::{definitions, equations, functions, hypotheses, limits, stating, steps, substitution};
-use bridge_base::Fault;
+use common::Fault;
 use std::alloc::Global;
 use std::test::Fail;
 

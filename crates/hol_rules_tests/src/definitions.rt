@@ -1,6 +1,6 @@
 //! Definitions of constants and of type operators.
 use crate::turns::{Case, Rule, Turn};
-use bridge_base::Kind;
+use common::Kind;
 use hol_spec::{StepKind, Version};
 
 /// The cases.

@@ -1,6 +1,6 @@
 //! The rules of equations.
 use crate::turns::{Case, Rule, Turn};
-use bridge_base::Kind;
+use common::Kind;
 
 /// The cases.
 pub(crate) const CASES: [Case; 6] = [

@@ -3,7 +3,7 @@
 //! A variable of truth values has size 2 and depth 2, an equation of two 8 more than their sizes; f adds 5 to the size and
 //! 1 to the depth.
 use crate::turns::{Case, Rule, Turn};
-use bridge_base::Kind;
+use common::Kind;
 
 /// The cases.
 pub(crate) const CASES: [Case; 14] = [

@@ -1,6 +1,6 @@
 //! The rules that state a sequent.
 use crate::turns::{Case, Rule, Turn};
-use bridge_base::Kind;
+use common::Kind;
 
 /// The cases.
 pub(crate) const CASES: [Case; 4] = [

@@ -1,6 +1,6 @@
 //! The first steps, of no premises, and what a proof keeps.
 use crate::turns::{Case, Rule, Turn};
-use bridge_base::Kind;
+use common::Kind;
 use hol_defs::SymbolKind;
 use hol_spec::StepKind;
 

@@ -1,6 +1,6 @@
 //! Substitution.
 use crate::turns::{Case, Rule, Turn};
-use bridge_base::Kind;
+use common::Kind;
 use hol_spec::StepKind;
 
 /// The cases.

@@ -21,7 +21,7 @@
 //! | `#8`, `$8` | the equation of so many blocks of 1,024 variables, from the first block on, or from the one of number 8 |
 //! | `&0` | the first of the terms that were kept, or another by its number |
 use crate::bench::{Bench, UNKNOWN};
-use bridge_base::Fault;
+use common::Fault;
 use hol_term::TermId;
 
 // The number in a word that begins with this letter.

@@ -1,6 +1,6 @@
 //! What is done with a proof, and what has to be so, as data. A term is given by the words of `terms`, a step by its number.
 use crate::bench::{Bench, UNKNOWN};
-use bridge_base::{Fault, Kind};
+use common::{Fault, Kind};
 use hol_defs::SymbolKind;
 use hol_rules::StepId;
 use hol_spec::{StepKind, Version};

@@ -4,9 +4,9 @@ use Rattle.std.specs.Prelude.{unwrap_or, IsSome}
 use Rattle.std.specs.Map.{lookup}
 use Rattle.std.proofs.Math.Path.{ap₂}
 use Rattle.hol_spec.specs.Names.{Name}
-use Rattle.bridge_base.specs.declared.faults.Fault.{Fault}
-use Rattle.bridge_base.specs.declared.faults.Fault.TheVariants.{Refused, Memory}
-use Rattle.bridge_base.specs.declared.faults.Kind.TheVariants.{TooLarge, TooDeep}
+use Rattle.common.specs.declared.faults.Fault.{Fault}
+use Rattle.common.specs.declared.faults.Fault.TheVariants.{Refused, Memory}
+use Rattle.common.specs.declared.faults.Kind.TheVariants.{TooLarge, TooDeep}
 use Rattle.hol_spec.specs.Types.{HolType}
 use Rattle.hol_spec.specs.Substitution.{TypePairs, substitute}
 use Rattle.hol_spec.specs.Terms.{Term, free, constant, app, lam, variable_eq, type_of, IsTerm}

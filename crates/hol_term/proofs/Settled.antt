@@ -10,9 +10,9 @@ use Rattle.hol_spec.specs.Terms.{Term, free, bound, constant, app, lam, IsTerm, 
 use Rattle.hol_laws.specs.TermLaws.{type_eq-refl, type_of-equation}
 use Rattle.hol_spec.specs.TermBinding.{close}
 use Rattle.hol_spec.specs.Limits.{TermWithin, greatest_size, greatest_depth}
-use Rattle.bridge_base.specs.declared.faults.Fault.{Fault}
-use Rattle.bridge_base.specs.declared.faults.Fault.TheVariants.{Refused, Memory}
-use Rattle.bridge_base.specs.declared.faults.Kind.TheVariants.{TooLarge, TooDeep}
+use Rattle.common.specs.declared.faults.Fault.{Fault}
+use Rattle.common.specs.declared.faults.Fault.TheVariants.{Refused, Memory}
+use Rattle.common.specs.declared.faults.Kind.TheVariants.{TooLarge, TooDeep}
 use Rattle.hol_type.specs.Refusals.{Refuses}
 use Rattle.hol_type.specs.declared.table.TypeId.{TypeId}
 use Rattle.hol_type.specs.Tables.{tree_at}

@@ -1,6 +1,6 @@
 -- The table's trees meet what Binding asks.
 use Rattle.std.proofs.Common.{◌≡◌, ℕ, suc, refl, sym, ap, ◌∙◌, List, [], ◌∷◌, Some}
-use Rattle.bridge_base.specs.Binding.{puts as puts_of, Pairwise}
+use Rattle.common.specs.Binding.{puts as puts_of, Pairwise}
 use Rattle.hol_spec.specs.Terms.{Term}
 use Rattle.hol_spec.specs.TermBinding.{lift, put, put_at, put_all}
 use Rattle.hol_laws.specs.TermBindingLaws.{put_all-puts, puts}

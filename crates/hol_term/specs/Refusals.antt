@@ -3,9 +3,9 @@
 use Rattle.std.specs.Prelude.{◌≡◌, None}
 use Rattle.hol_spec.specs.Limits.{term_size, term_depth}
 use Rattle.hol_spec.specs.Terms.{Term, type_of, IsTerm}
-use Rattle.bridge_base.specs.declared.faults.Fault.{Fault}
-use Rattle.bridge_base.specs.declared.faults.Fault.TheVariants.{Refused, Memory}
-use Rattle.bridge_base.specs.declared.faults.Kind.TheVariants.{TypeMismatch}
+use Rattle.common.specs.declared.faults.Fault.{Fault}
+use Rattle.common.specs.declared.faults.Fault.TheVariants.{Refused, Memory}
+use Rattle.common.specs.declared.faults.Kind.TheVariants.{TypeMismatch}
 use Rattle.hol_type.specs.Refusals.{Refuses}
 
 -- a fault of a call that would make this term: it passes the limit that is named, or memory ran out

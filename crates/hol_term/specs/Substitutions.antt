@@ -2,9 +2,9 @@
 -- Source: HOL Light's kernel, `INST_TYPE` and `INST`; the article format's `subst`.
 use Rattle.std.specs.Prelude.{◌≡◌, ◌<◌, List, [], ◌∷◌, length, Option, None, Some}
 use Rattle.std.specs.Map.{lookup}
-use Rattle.bridge_base.specs.declared.faults.Fault.{Fault}
-use Rattle.bridge_base.specs.declared.faults.Fault.TheVariants.{Refused, Memory}
-use Rattle.bridge_base.specs.declared.faults.Kind.TheVariants.{BadSubst}
+use Rattle.common.specs.declared.faults.Fault.{Fault}
+use Rattle.common.specs.declared.faults.Fault.TheVariants.{Refused, Memory}
+use Rattle.common.specs.declared.faults.Kind.TheVariants.{BadSubst}
 use Rattle.hol_spec.specs.Names.{Name}
 use Rattle.hol_spec.specs.Terms.{Term, HasType, Variable as AVariable, variable_eq}
 use Rattle.hol_spec.specs.TermSubstitution.{TermPairs, sub}

@@ -10,7 +10,7 @@ ghost use Rattle.hol_term.specs.Tables.{term_at, terms_at, AreKnown, Holds, IsDi
 
 use crate::memo::Change;
 use crate::{TermId, TermTable};
-use bridge_base::{Binding, Fault};
+use common::{Binding, Fault};
 
 impl TermTable {
     /// The tree with its loose numbers raised by `k`. A number that does not fit its type is want of memory.

@@ -12,7 +12,7 @@ ghost use Rattle.hol_term.specs.declared.entries.Children.{Children as AChildren
 ghost use Rattle.hol_term.specs.Indexed.{node_cmp, nodes_of, greater_part as greater_part_of, kept_in, nothing, no_children, with_child, HasRoom, Has, Finds, FindsNumber, FindsOther, Forgets, IsInserted, IsIndexed};
 
 use crate::node::{Entry, Node};
-use bridge_base::Memory;
+use common::Memory;
 use std::alloc::Global;
 use std::collections::BTreeMap;
 use std::marker::Model;

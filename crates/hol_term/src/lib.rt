@@ -48,7 +48,7 @@ use crate::entries::Entries;
 pub use crate::names::Names;
 use crate::node::{Entry, Measures, Node};
 pub use crate::pairs::PutIndex;
-use bridge_base::Memory;
+use common::Memory;
 use hol_name::Name;
 use hol_type::{TypeId, TypeTable};
 use std::alloc::{AllocError, Global};

@@ -1,6 +1,6 @@
 //! The calls that make types and terms.
 ghost use Rattle.std.specs.Prelude.{◌≡◌, ◌<◌, None, Some, length, IfOk, IfErr, IfSome, IsTrue, OnErr, MatchOption};
-ghost use Rattle.bridge_base.specs.declared.faults.Fault.TheVariants as the_fault;
+ghost use Rattle.common.specs.declared.faults.Fault.TheVariants as the_fault;
 ghost use Rattle.hol_spec.specs.Limits.{TermWithin, TypeWithin};
 ghost use Rattle.hol_spec.specs.Substitution.{TypePairs, substitute};
 ghost use Rattle.hol_spec.specs.TermBinding.{close, put as put_term};
@@ -19,7 +19,7 @@ use crate::masks::bit_mask;
 use crate::memo::{Change, Place};
 use crate::node::Node;
 use crate::{Mark, TermId, TermTable, Variable};
-use bridge_base::{Fault, Kind, Memory};
+use common::{Fault, Kind, Memory};
 use hol_name::Name;
 use hol_type::{TypeId, TypeMap};
 

@@ -5,7 +5,7 @@ ghost use Rattle.hol_term.specs.declared.memo.Place.{Place as APlace};
 ghost use Rattle.hol_term.specs.Noted.{IsNoted};
 
 use crate::TermId;
-use bridge_base::Memory;
+use common::Memory;
 use std::alloc::Global;
 use std::collections::BTreeMap;
 use std::marker::Model;

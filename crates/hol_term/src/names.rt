@@ -3,7 +3,7 @@ ghost use Rattle.std.specs.Prelude.{◌≡◌, [], ◌∷◌, IfOk, OnOk};
 ghost use Rattle.hol_spec.specs.Lists.{union};
 ghost use Rattle.hol_spec.specs.NameEquality.{name_eq};
 
-use bridge_base::Memory;
+use common::Memory;
 use hol_name::Name;
 use std::alloc::Global;
 use std::marker::Model;

@@ -1,12 +1,12 @@
 //! Nodes of a table of terms, and their measures.
 ghost use Rattle.std.specs.Prelude.{◌≡◌, ◌≤◌, ◌+◌, ◌-◌, ◌^◌, min, max, OnOk, IfErr};
 ghost use Rattle.std.specs.Int.Bits.{bit_or};
-ghost use Rattle.bridge_base.specs.declared.faults.Fault.TheVariants as the_fault;
+ghost use Rattle.common.specs.declared.faults.Fault.TheVariants as the_fault;
 ghost use Rattle.hol_spec.specs.Limits.{greatest_size, greatest_depth};
 ghost use Rattle.hol_type.specs.Refusals.{Refuses};
 
 use crate::TermId;
-use bridge_base::{Fault, Kind};
+use common::{Fault, Kind};
 use hol_name::Name;
 use hol_spec::{GREATEST_DEPTH, GREATEST_SIZE};
 use hol_type::TypeId;

@@ -7,7 +7,7 @@ ghost use Rattle.hol_term.specs.PutIndexes.{same_variable, IsIndexOf};
 
 use crate::masks::pairs_mask;
 use crate::{TermId, Variable};
-use bridge_base::Memory;
+use common::Memory;
 use hol_name::Name;
 use hol_type::TypeId;
 use std::alloc::Global;

@@ -3,7 +3,7 @@ ghost use Rattle.std.specs.Prelude.{◌≡◌, ◌⊎◌, ◌<◌, [], ◌∷◌
 ghost use Rattle.std.specs.BTreeMap.{Updates};
 ghost use Rattle.hol_term.specs.Scopes.{list_in, scope_cmp, place_in, AddsList, KeepsLists, ArePlaced};
 
-use bridge_base::Memory;
+use common::Memory;
 use hol_type::TypeId;
 use std::alloc::Global;
 use std::collections::BTreeMap;

@@ -9,7 +9,7 @@ ghost use Rattle.hol_term.specs.Walks.{NotEmpty};
 
 use crate::TermId;
 use crate::scopes::{ScopeId, Scopes};
-use bridge_base::{Memory, Stack};
+use common::{Memory, Stack};
 use hol_type::TypeId;
 use std::alloc::Global;
 use std::collections::BTreeMap;

@@ -4,7 +4,7 @@ ghost use Rattle.hol_term.specs.declared.TermId.{TermId as AnId};
 ghost use Rattle.hol_term.specs.Subterms.{IsAmong};
 
 use crate::TermId;
-use bridge_base::Memory;
+use common::Memory;
 use indexmap::IndexSet;
 use std::alloc::Global;
 use std::marker::Model;

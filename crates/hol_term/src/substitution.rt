@@ -17,7 +17,7 @@ ghost use Rattle.hol_term.specs.Tables.{Trees, term_at, type_at, Holds, IsDistin
 use crate::node::Node;
 use crate::pairs::{FEW, PutIndex, Putting};
 use crate::{TermId, TermTable, TermView, Variable};
-use bridge_base::{Fault, Kind, Memory, Stack};
+use common::{Fault, Kind, Memory, Stack};
 use hol_name::Name;
 use hol_type::TypeId;
 use indexmap::IndexMap;

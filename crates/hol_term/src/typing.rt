@@ -21,7 +21,7 @@ use crate::node::{Entry, Measures, Node};
 use crate::scopes::NO_BINDERS;
 use crate::seats::{Found, Seat, Step, Typings};
 use crate::{Parts, TermId, TermTable};
-use bridge_base::Memory;
+use common::Memory;
 use hol_type::TypeId;
 
 impl TermTable {

@@ -13,7 +13,7 @@ use crate::names::Names;
 use crate::node::Node;
 use crate::seen::Seen;
 use crate::{Parts, TermId, TermTable, Variable};
-use bridge_base::{Memory, Stack};
+use common::{Memory, Stack};
 use hol_name::Name;
 use hol_type::TypeId;
 

@@ -16,7 +16,7 @@ ghost use Rattle.hol_term.specs.Parts.{IsLeaf};
 use crate::memo::{Change, Memo, Place};
 use crate::node::Node;
 use crate::{Parts, TermId, TermTable};
-use bridge_base::{Memory, Stack};
+use common::{Memory, Stack};
 use hol_type::TypeId;
 use std::alloc::Global;
 

@@ -4,7 +4,7 @@ ghost use Rattle.hol_term.specs.Substitutions.{AreTermPairs};
 ghost use Rattle.hol_type.specs.Tables as type;
 ghost use Rattle.hol_term.specs.Tables.{IsTermAt};
 
-use bridge_base::{Fault, Kind, Stack};
+use common::{Fault, Kind, Stack};
 use hol_name::Name;
 use hol_term::{TermId, TermTable, TermView, Variable};
 use hol_type::TypeId;

@@ -2,7 +2,7 @@
 use crate::bench::{Bench, Step};
 use crate::samples::*;
 use crate::trials::{Trial, comes_out};
-use bridge_base::{Fault, Kind};
+use common::{Fault, Kind};
 use std::alloc::Global;
 use std::process::Abort;
 use std::test::Fail;

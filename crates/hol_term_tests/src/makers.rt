@@ -2,7 +2,7 @@
 use crate::bench::{Bench, Step};
 use crate::samples::*;
 use crate::trials::{Trial, comes_out};
-use bridge_base::Fault;
+use common::Fault;
 use std::alloc::Global;
 use std::process::Abort;
 use std::test::Fail;

@@ -2,7 +2,7 @@
 use crate::bench::{Bench, Step};
 use crate::samples::*;
 use crate::trials::{Trial, comes_out};
-use bridge_base::Fault;
+use common::Fault;
 use std::test::Fail;
 
 /// Whether a type may become another, or may not, as is wanted.

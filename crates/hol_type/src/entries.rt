@@ -7,7 +7,7 @@ ghost use Rattle.hol_type.specs.declared.node.Node.{Node as ANode};
 ghost use Rattle.hol_type.specs.Numbered.{node_cmp, number_in, AreAlike, IsInserted, AreNumbered};
 
 use crate::node::{Entry, Node};
-use bridge_base::Memory;
+use common::Memory;
 use std::alloc::Global;
 use std::collections::BTreeMap;
 use std::marker::Model;

@@ -4,7 +4,7 @@ ghost use Rattle.hol_type.specs.declared.table.TypeId.{TypeId as AnId};
 ghost use Rattle.hol_type.specs.Walks.{IsNoted};
 
 use crate::TypeId;
-use bridge_base::Memory;
+use common::Memory;
 use indexmap::IndexMap;
 use std::alloc::Global;
 use std::marker::Model;

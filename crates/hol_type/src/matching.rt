@@ -8,7 +8,7 @@ ghost use Rattle.hol_type.specs.Walks.{IsNoted};
 
 use crate::marks::Marks;
 use crate::{TypeId, TypeMap, TypeTable, TypeView};
-use bridge_base::{Memory, Stack};
+use common::{Memory, Stack};
 use hol_name::Name;
 
 /// A matching on its way: the pairs of types that are still to be matched, what it has found for the variables,

@@ -1,13 +1,13 @@
 //! Nodes of a table of types, and their measures.
 ghost use Rattle.std.specs.Prelude.{◌≡◌, OnOk, IfErr};
-ghost use Rattle.bridge_base.specs.declared.faults.Fault.TheVariants as the_fault;
+ghost use Rattle.common.specs.declared.faults.Fault.TheVariants as the_fault;
 ghost use Rattle.hol_spec.specs.Types.{HolType};
 ghost use Rattle.hol_spec.specs.Limits.{TypeWithin};
 ghost use Rattle.hol_type.specs.Refusals.{RefusesType};
 ghost use Rattle.hol_type.specs.Measured.{IsMeasured};
 
 use crate::TypeId;
-use bridge_base::{Fault, Kind};
+use common::{Fault, Kind};
 use hol_name::Name;
 use hol_spec::{GREATEST_DEPTH, GREATEST_SIZE};
 

@@ -13,7 +13,7 @@ use crate::marks::Marks;
 use crate::node::Node;
 use crate::visits::{Task, set_out};
 use crate::{TypeId, TypeTable, TypeView};
-use bridge_base::{Fault, Memory, Stack};
+use common::{Fault, Memory, Stack};
 use hol_name::Name;
 use std::alloc::Global;
 

@@ -6,7 +6,7 @@ ghost use Rattle.hol_spec.specs.Types.{variable, operator, types_of, type_variab
 ghost use Rattle.hol_spec.specs.Limits.{TypeWithin, type_size, type_depth};
 ghost use Rattle.hol_spec.specs.Primitives.{bool as bool_type, function as function_type, function_parts as parts_of_function};
 ghost use Rattle.hol_spec.specs.Substitution.{TypePairs, substitute};
-ghost use Rattle.bridge_base.specs.declared.faults.Fault.TheVariants as the_fault;
+ghost use Rattle.common.specs.declared.faults.Fault.TheVariants as the_fault;
 ghost use Rattle.hol_type.specs.Refusals.{RefusesType};
 ghost use Rattle.hol_type.specs.Tables.{tree_at, types_at, pairs_at, two_at, AreKnown, ArePairsKnown, Holds, Keeps, Adds, IsDistinct};
 ghost use Rattle.hol_type.specs.Entries.{tree_of_node, PartsBelow};
@@ -18,7 +18,7 @@ use crate::entries::Entries;
 use crate::matching::matched;
 use crate::node::{Entry, Measures, Node};
 use crate::variables::variables;
-use bridge_base::{Fault, Memory};
+use common::{Fault, Memory};
 use hol_name::Name;
 use std::alloc::Global;
 use std::marker::Model;

@@ -10,7 +10,7 @@ ghost use Rattle.hol_type.specs.Walks.{IsSearch, work};
 use crate::marks::Marks;
 use crate::visits::{Task, set_out};
 use crate::{TypeId, TypeTable, TypeView};
-use bridge_base::{Memory, Stack};
+use common::{Memory, Stack};
 use hol_name::Name;
 
 /// A search on its way: what it is still to do, what it has found, and the types whose variables it has.

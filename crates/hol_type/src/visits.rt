@@ -4,7 +4,7 @@ ghost use Rattle.hol_type.specs.declared.visits.Task.TheVariants as task;
 ghost use Rattle.hol_type.specs.Walks.{visits};
 
 use crate::TypeId;
-use bridge_base::{Memory, Stack};
+use common::{Memory, Stack};
 
 /// What is still to be done.
 #[derive(Clone, Copy)]

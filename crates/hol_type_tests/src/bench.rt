@@ -1,7 +1,7 @@
 //! A table of types with a stack, and the steps that make types on it.
 ghost use Rattle.std.specs.Prelude.{◌≡◌, ◌<◌, length, IfOk, OnOk};
 
-use bridge_base::{Fault, Kind, Stack};
+use common::{Fault, Kind, Stack};
 use hol_name::Name;
 use hol_type::{TypeId, TypeTable, TypeView};
 use std::alloc::Global;

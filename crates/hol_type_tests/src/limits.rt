@@ -1,7 +1,7 @@
 //! What passes a limit is refused for that limit, size before depth, and takes no number.
 use crate::bench::{Bench, Step};
 use crate::trials::{Trial, comes_out};
-use bridge_base::{Fault, Kind};
+use common::{Fault, Kind};
 use std::test::Fail;
 
 /// Whether a last step is refused for this reason, and takes no number.

@@ -1,7 +1,7 @@
 //! One type has one number, however it is made: by its parts, by substitution or as an instance.
 use crate::bench::{Bench, Step};
 use crate::trials::{Trial, comes_out};
-use bridge_base::{Fault, Kind};
+use common::{Fault, Kind};
 use std::test::Fail;
 
 /// Whether a type that is made twice has one number, and the type turned round another.

@@ -1,7 +1,7 @@
 //! What the table tells of a type: its measures, its head and its variables.
 use crate::bench::{Bench, Step};
 use crate::trials::{Trial, comes_out};
-use bridge_base::Fault;
+use common::Fault;
 use std::test::Fail;
 
 /// Whether the type that the steps make has this size and this depth.

@@ -2,7 +2,7 @@
 //! prove, at each end, than all that is done with it.
 use crate::bench::{Bench, Step};
 use crate::{limits, makers, readers};
-use bridge_base::{Fault, Kind};
+use common::{Fault, Kind};
 use std::alloc::Global;
 
 /// What is tried.

@@ -1,7 +1,7 @@
 -- The nodes of the signature's types, computed.
 use Rattle.std.proofs.Common.{◌≡◌, ℕ, true, refl, List, [], ◌∷◌, map, Some}
 use Rattle.std.specs.Prelude.{slice_get}
-use Rattle.bridge_base.specs.Binding.{Pairwise}
+use Rattle.common.specs.Binding.{Pairwise}
 use Rattle.lp_spec.specs.Trees.{Tree}
 use Rattle.lp_spec.specs.Modules.{signature}
 use Rattle.lp_term.specs.Tables.{Holds, IsDistinct}

@@ -8,7 +8,7 @@ use Rattle.std.proofs.lemmas.List.{length-map}
 use Rattle.std.proofs.lemmas.Option.{slice_get-get_or, slice_get-map, slice_get_past, same_Some}
 use Rattle.std.specs.Cmp.Lexicographic.{same_text}
 use Rattle.std.specs.Prelude.{◌||◌, IsFalse, option_map, slice_get}
-use Rattle.bridge_base.specs.Binding.{Pairwise}
+use Rattle.common.specs.Binding.{Pairwise}
 use Rattle.lp_spec.specs.Trees.{Tree, SortType}
 use Rattle.lp_spec.specs.Modules.{Declaration, signature, symbol, symbol_declaration, symbol_name}
 use Rattle.lp_spec.specs.ModuleOrder.{is_declared}

@@ -1,7 +1,7 @@
 -- A module as a table of trees and declarations by number: what it stands for, and what its table holds.
 use Rattle.std.specs.Prelude.{ℕ, ◌<◌, List, [], ◌∷◌, ◌++◌, length, map, Option, None, Some, option_map, position}
 use Rattle.std.specs.Str.{bytes_eq}
-use Rattle.bridge_base.specs.Binding.{Pairwise}
+use Rattle.common.specs.Binding.{Pairwise}
 use Rattle.lp_spec.specs.Trees.{Tree}
 use Rattle.lp_spec.specs.Modules.{Declaration, signature}
 use Rattle.lp_term.specs.declared.LpId.{LpId}

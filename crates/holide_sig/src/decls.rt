@@ -8,11 +8,10 @@ ghost use Rattle.indexmap.specs.IndexMap.{get};
 ghost use Rattle.holide_sig.specs.ShortIds.{is_id, short_id};
 ghost use Rattle.holide_sig.specs.Places.{placed_with, short_with, IsShortAt};
 
-use crate::ident::Ident;
 use crate::shorts::is_short;
-use bridge_base::Memory;
+use common::Memory;
 use indexmap::IndexMap;
-use lp_spec::Form;
+use lp_spec::{Form, Ident};
 use lp_term::LpId;
 use name_table::NameTable;
 use std::alloc::Global;

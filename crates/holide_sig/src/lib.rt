@@ -15,13 +15,11 @@
 #![tactic(auto)]
 
 mod decls;
-mod ident;
 mod module;
 mod shorts;
 mod signature;
 
 pub use decls::{Decl, Decls};
-pub use ident::Ident;
-pub use lp_spec::Form;
+pub use lp_spec::{Form, Ident};
 pub use module::Module;
 pub use signature::{PRELUDE, SIGNATURE};

@@ -10,7 +10,7 @@ use crate::decls::{Decl, Decls, short_tree};
 use crate::signature::{
     NODES, SIGNATURE, add_nodes, signature_name, signature_symbol, signature_type,
 };
-use bridge_base::Memory;
+use common::Memory;
 use lp_term::{LpId, LpTable};
 use std::alloc::Global;
 

@@ -6,7 +6,7 @@ ghost use Rattle.lp_term.specs.Tables.{IsDistinct};
 ghost use Rattle.holide_sig.specs.Modules.{signature_ids};
 ghost use Rattle.holide_sig.specs.Nodes.{are_new, trees_with};
 
-use bridge_base::Memory;
+use common::Memory;
 use lp_term::{LpId, LpNode, LpTable};
 
 /// How many symbols the signature declares.

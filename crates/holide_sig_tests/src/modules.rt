@@ -4,7 +4,7 @@ ghost use Rattle.lp_spec.specs.Modules.{signature, symbol, types as types_tree};
 ghost use Rattle.lp_spec.specs.ModuleOrder.{is_declared};
 ghost use Rattle.holide_sig.specs.Modules.{declarations_of, IsHeld};
 
-use bridge_base::Memory;
+use common::Memory;
 use holide_sig::{Decl, Form, Ident, Module, PRELUDE, SIGNATURE};
 use lp_term::LpNode;
 use std::alloc::Global;

@@ -13,8 +13,8 @@ use Rattle.lp_term.specs.Tables.{tree_at, tree_of_node, Holds, Stays, Keeps, IsD
 use Rattle.lp_term.specs.TableLaws.{Holds-tree_at, tree_at-Holds, tree_at-Stays}
 use Rattle.holide_sig.specs.declared.module.Module.{Module}
 use Rattle.holide_sig.specs.Modules.{declarations_of, IsHeld}
-use Rattle.lp_shape.specs.HeadSteps.{head_step}
-use Rattle.lp_shape.specs.Check.{Convert, Reply, Found, No, Plan, Say, Ask, convert, convert_by, convert_parts, Ends, said, refused, asked}
+use Rattle.lp_spec.specs.HeadSteps.{head_step}
+use Rattle.lp_spec.specs.Check.{Convert, Reply, Found, No, Plan, Say, Ask, convert, convert_by, convert_parts, Ends, said, refused, asked}
 use Rattle.lp_shape.specs.PlanLaws.{and_then, Leaves, leaves_all, leaves_equal, leaves_then, leaves_fewer, leaves_ask, over_leaves}
 use Rattle.lp_conv.specs.declared.conversion.Left.{Left}
 use Rattle.lp_conv.specs.declared.conversion.Left.TheVariants as left

@@ -4,8 +4,8 @@ use Rattle.std.specs.Prelude.{if◌then◌else◌}
 use Rattle.lp_spec.specs.Trees.{Tree, App, Lam, Pi, tree_eq}
 use Rattle.lp_spec.specs.Modules.{Declaration}
 use Rattle.lp_spec.specs.Conversion.{Conv}
-use Rattle.lp_shape.specs.HeadSteps.{head_step}
-use Rattle.lp_shape.specs.Check.{Convert, Reply, Found, Plan, Say, Ask, convert, convert_by, convert_parts, Ends, said, refused, asked}
+use Rattle.lp_spec.specs.HeadSteps.{head_step}
+use Rattle.lp_spec.specs.Check.{Convert, Reply, Found, Plan, Say, Ask, convert, convert_by, convert_parts, Ends, said, refused, asked}
 use Rattle.lp_shape.specs.ConvertLaws.{convert-sound}
 use Rattle.lp_conv.specs.Answers.{converting}
 

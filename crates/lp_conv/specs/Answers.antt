@@ -7,7 +7,7 @@ use Rattle.lp_term.specs.declared.LpId.{LpId}
 use Rattle.lp_term.specs.Tables.{tree_at}
 use Rattle.holide_sig.specs.declared.module.Module.{Module}
 use Rattle.holide_sig.specs.Modules.{declarations_of}
-use Rattle.lp_shape.specs.Check.{Convert, Reply, Found, No, Plan, Say, Ask, Ends}
+use Rattle.lp_spec.specs.Check.{Convert, Reply, Found, No, Plan, Say, Ask, Ends}
 use Rattle.lp_conv.specs.declared.Answer.{Answer}
 use Rattle.lp_conv.specs.declared.Answer.TheVariants as answer
 

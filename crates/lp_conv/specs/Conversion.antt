@@ -4,7 +4,7 @@ use Rattle.lp_spec.specs.Trees.{Tree}
 use Rattle.lp_term.specs.declared.LpNode.{LpNode}
 use Rattle.lp_term.specs.declared.LpNode.TheVariants as node
 use Rattle.lp_term.specs.Tables.{tree_at}
-use Rattle.lp_shape.specs.Check.{Convert, Found, No, Plan, Say, Ask}
+use Rattle.lp_spec.specs.Check.{Convert, Found, No, Plan, Say, Ask}
 use Rattle.lp_conv.specs.declared.conversion.Left.{Left}
 use Rattle.lp_conv.specs.declared.conversion.Left.TheVariants as left
 

@@ -7,7 +7,7 @@ use Rattle.lp_term.specs.declared.LpId.{LpId}
 use Rattle.lp_term.specs.Tables.{tree_at}
 use Rattle.holide_sig.specs.declared.module.Module.{Module}
 use Rattle.holide_sig.specs.Modules.{declarations_of}
-use Rattle.lp_shape.specs.HeadSteps.{head_step}
+use Rattle.lp_spec.specs.HeadSteps.{head_step}
 
 -- the number, where there is one, is of the table
 abbrev pub IsKnownIf : List Tree → Option LpId → Type 0

@@ -4,7 +4,7 @@ use Rattle.lp_spec.specs.Trees.{Tree, Lam, Pi, lift, put, put_all}
 use Rattle.lp_spec.specs.Modules.{Declaration, applied, types, arr_of, term_of, term_symbol}
 use Rattle.lp_term.specs.declared.LpId.{LpId}
 use Rattle.lp_term.specs.Tables.{tree_at}
-use Rattle.lp_shape.specs.HeadSteps.{given, symbol_step}
+use Rattle.lp_spec.specs.HeadSteps.{given, symbol_step}
 
 -- what beta makes of an abstraction's body at arguments
 abbrev pub beta_of : Tree → List Tree → Option Tree

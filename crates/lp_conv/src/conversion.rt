@@ -2,7 +2,7 @@
 ghost use Rattle.std.specs.Prelude.{◌≡◌, ◌<◌, ◌≤◌, IfOk, length};
 ghost use Rattle.lp_term.specs.Tables.{tree_at};
 ghost use Rattle.holide_sig.specs.Modules.{declarations_of, IsHeld};
-ghost use Rattle.lp_shape.specs.Check.{convert as convert_plan};
+ghost use Rattle.lp_spec.specs.Check.{convert as convert_plan};
 ghost use Rattle.lp_conv.specs.Growth.{Grows};
 ghost use Rattle.lp_conv.specs.Answers.{IsAnswered, AreConvertible};
 ghost use Rattle.lp_conv.specs.Conversion.{plan_of, parts_of, IsKnownLeft};
@@ -10,7 +10,7 @@ ghost use Rattle.lp_conv.specs.declared.Answer.TheVariants as answer;
 
 use crate::Answer;
 use crate::heads::head_step;
-use bridge_base::{Budget, Memory, Stack};
+use common::{Budget, Memory, Stack};
 use holide_sig::Module;
 use lp_term::{LpId, LpNode};
 use std::alloc::Global;

@@ -4,12 +4,12 @@ ghost use Rattle.lp_spec.specs.Conversion.{symbol_definition};
 ghost use Rattle.lp_spec.specs.Modules.{applied as applied_tree, term_symbol};
 ghost use Rattle.lp_term.specs.Tables.{tree_at, trees_at, AreKnown};
 ghost use Rattle.holide_sig.specs.Modules.{declarations_of, IsHeld};
-ghost use Rattle.lp_shape.specs.HeadSteps.{given, symbol_step as symbol_step_of};
+ghost use Rattle.lp_spec.specs.HeadSteps.{given, symbol_step as symbol_step_of};
 ghost use Rattle.lp_conv.specs.Growth.{Grows};
 ghost use Rattle.lp_conv.specs.HeadSteps.{IsKnownIf, tree_if, IsHeadStep, StepsTo};
 ghost use Rattle.lp_conv.specs.Heads.{beta_of, IsUnderType, IsArrow, functions_of};
 
-use bridge_base::{Memory, Stack};
+use common::{Memory, Stack};
 use holide_sig::{Form, Module, SIGNATURE};
 use lp_term::{LpId, LpNode};
 use std::alloc::Global;

@@ -2,8 +2,8 @@
 use Rattle.std.proofs.Common.{refl, [], ◌∷◌, Some, codes}
 use Rattle.lp_spec.specs.declared.form.Form.TheVariants.{Def}
 use Rattle.lp_spec.specs.Modules.{Declaration, symbol, types, bools, term_of, proof_of}
-use Rattle.lp_shape.specs.Check.{Found, No, said, refused, asked}
-use Rattle.lp_fast.specs.FastCheck.{FastCheck}
+use Rattle.lp_spec.specs.Check.{Found, No, said, refused, asked}
+use Rattle.lp_spec.specs.FastCheck.{FastCheck}
 
 -- x : type.
 a_type : FastCheck (symbol (codes "x") types ∷ []) 0 (Found types) 1

@@ -10,9 +10,9 @@ use Rattle.lp_spec.specs.Modules.{Declaration, signature}
 use Rattle.lp_spec.specs.ModuleOrder.{AreDeclared}
 use Rattle.lp_spec.specs.Typing.{Typed, IsContext, IsTypedAfter, AreTypedAfter, WellTyped}
 use Rattle.lp_typing.specs.WellTypedLaws.{WellTyped-IsSound, WellTyped-after}
-use Rattle.lp_shape.specs.Check.{Found, infer, Ends, declaration_plan}
+use Rattle.lp_spec.specs.Check.{Found, infer, Ends, declaration_plan}
 use Rattle.lp_shape.specs.CheckerLaw.{HasBody, HasBody-IsBodyOver, infer-sound, check-sound}
-use Rattle.lp_fast.specs.FastCheck.{PassesBy}
+use Rattle.lp_spec.specs.FastCheck.{PassesBy}
 use Rattle.lp_fast.specs.FastPrices.{check-ends}
 use Rattle.lp_fast.specs.FastTyping.{infer-fast, check-fast}
 use Rattle.lp_fast.specs.FastStatements.{CheckerLawBy}

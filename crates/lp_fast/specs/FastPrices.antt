@@ -4,12 +4,12 @@ use Rattle.std.specs.Prelude.{slice_get, take}
 use Rattle.std.proofs.lemmas.Option.{same_Some}
 use Rattle.lp_spec.specs.Modules.{Declaration}
 use Rattle.lp_spec.specs.Weight.{weight, greatest}
-use Rattle.lp_shape.specs.Check.{Reply, Found, Ends, declaration_plan}
+use Rattle.lp_spec.specs.Check.{Reply, Found, Ends, declaration_plan}
 use Rattle.lp_shape.specs.CheckLaws.{one_reply}
 use Rattle.lp_shape.specs.FastCheck.{fast-passes}
 use Rattle.lp_shape.specs.PricedModules.{IsPriced, shaped-priced}
 use Rattle.lp_shape.specs.ShapedPasses.{square-cube}
-use Rattle.lp_fast.specs.FastCheck.{FastCheck, CheckBy, fast_bound}
+use Rattle.lp_spec.specs.FastCheck.{FastCheck, CheckBy, fast_bound}
 use Rattle.lp_fast.specs.FastStatements.{FastPasses, OneCheck, ShapedFast}
 
 module _ (m : List Declaration) (i : ℕ) where

@@ -4,9 +4,9 @@ use Rattle.lp_spec.specs.Modules.{Declaration}
 use Rattle.lp_spec.specs.ModuleOrder.{IsModule}
 use Rattle.lp_spec.specs.Typing.{WellTyped}
 use Rattle.lp_spec.specs.Weight.{weight}
-use Rattle.lp_shape.specs.Check.{Reply, Found, Check}
+use Rattle.lp_spec.specs.Check.{Reply, Found, Check}
 use Rattle.lp_shape.specs.ShapedPasses.{AreShaped}
-use Rattle.lp_fast.specs.FastCheck.{FastCheck, CheckBy, PassesBy}
+use Rattle.lp_spec.specs.FastCheck.{FastCheck, CheckBy, PassesBy}
 use Rattle.lp_spec.specs.Trees.{Tree}
 
 -- The checker's law, with rechecks or without: a module whose declarations pass, each over those before it, is well typed.

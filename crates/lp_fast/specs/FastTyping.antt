@@ -16,9 +16,9 @@ use Rattle.lp_typing.specs.Regularity.{regular, Pi-SortKind}
 use Rattle.lp_typing.specs.Soundness.{IsSound}
 use Rattle.lp_typing.specs.WellTypedLaws.{WellTyped-IsSound}
 use Rattle.lp_laws.proofs.SubjectReduction.{kept}
-use Rattle.lp_shape.specs.HeadSteps.{head_step}
+use Rattle.lp_spec.specs.HeadSteps.{head_step}
 use Rattle.lp_shape.specs.HeadStepLaws.{head_step-Steps}
-use Rattle.lp_shape.specs.Check.{Question, Infer, Reach, Meet, Convert, Found, No, Plan, Say, Ask, if_type, if_sort, unless_kind, found_if, if_product, if_step, product_of, infer, reach, meet, plan, Ends, body_plan, declaration_plan}
+use Rattle.lp_spec.specs.Check.{Question, Infer, Reach, Meet, Convert, Found, No, Plan, Say, Ask, if_type, if_sort, unless_kind, found_if, if_product, if_step, product_of, infer, reach, meet, plan, Ends, body_plan, declaration_plan}
 use Rattle.lp_shape.specs.CheckLaws.{Backed, says, asks, backed, by_questions}
 use Rattle.lp_shape.specs.CheckerLaw.{HasBody}
 use Rattle.lp_shape.specs.ConvertLaws.{convert-Conv}

@@ -1,4 +1,3 @@
-pub mod FastCheck
 pub mod FastModules
 pub mod FastPrices
 pub mod FastStatements

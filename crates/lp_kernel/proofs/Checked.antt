@@ -16,7 +16,7 @@ use Rattle.holide_sig.specs.Modules.{declaration_in, declarations_of, IsBodyKnow
 use Rattle.holide_sig.specs.ModuleLaws.{AreDeclsKnown-slice_get, IsKnown-Keeps}
 use Rattle.lp_conv.specs.Growth.{Grows}
 use Rattle.lp_conv.specs.GrowthLaws.{declarations_of-Grows}
-use Rattle.lp_shape.specs.Check.{Infer, Found, No, Plan, Say, Ask, said, if_type, body_plan, declaration_plan}
+use Rattle.lp_spec.specs.Check.{Infer, Found, No, Plan, Say, Ask, said, if_type, body_plan, declaration_plan}
 use Rattle.lp_shape.specs.CheckerLaw.{HasBody-IsBodyOver}
 use Rattle.lp_fast.specs.FastPrices.{check-made, check-ends}
 use Rattle.lp_fast.specs.FastModules.{check-typed}

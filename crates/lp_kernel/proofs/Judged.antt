@@ -12,9 +12,9 @@ use Rattle.lp_spec.specs.ModuleOrder.{IsModule}
 use Rattle.lp_spec.specs.Typing.{WellTyped}
 use Rattle.holide_sig.specs.declared.module.Module.{Module}
 use Rattle.holide_sig.specs.Modules.{declaration_in, declarations_of, IsHeld}
-use Rattle.lp_shape.specs.Check.{Reply, Found, No}
+use Rattle.lp_spec.specs.Check.{Reply, Found, No}
 use Rattle.lp_shape.specs.CheckLaws.{Found-No}
-use Rattle.lp_fast.specs.FastCheck.{CheckBy, PassesBy}
+use Rattle.lp_spec.specs.FastCheck.{CheckBy, PassesBy}
 use Rattle.lp_fast.specs.FastPrices.{check-at, one_check}
 use Rattle.lp_fast.specs.FastModules.{checker_law_by}
 use Rattle.lp_conv.specs.Growth.{Grows}
@@ -29,7 +29,7 @@ use Rattle.lp_term.specs.TableLaws.{tree_at-Stays, take-Stays}
 use Rattle.holide_sig.specs.declared.decls.Decl.{Decl}
 use Rattle.lp_conv.specs.Answers.{Answered}
 use Rattle.lp_kernel.specs.Inference.{typing}
-use Rattle.lp_shape.specs.Check.{reach}
+use Rattle.lp_spec.specs.Check.{reach}
 use Rattle.lp_kernel.specs.declared.memo.Memos.{Memos}
 use Rattle.lp_kernel.specs.Noted.{IsNoted, IsCutOff, IsTypeOfClosed, AreTypes, IsProductOf, AreProducts}
 use Rattle.lp_kernel.specs.Right.{AreRight, IsCutBack}

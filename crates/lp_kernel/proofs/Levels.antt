@@ -10,7 +10,7 @@ use Rattle.lp_term.specs.Tables.{tree_at, trees_at, AreKnown}
 use Rattle.lp_term.specs.TableLaws.{tree_at-Stays}
 use Rattle.holide_sig.specs.declared.module.Module.{Module}
 use Rattle.holide_sig.specs.Modules.{declarations_of, IsHeld}
-use Rattle.lp_shape.specs.Check.{Question, Infer, Reply, Found, No, Plan, Say, Ask, Ends, said, refused, asked}
+use Rattle.lp_spec.specs.Check.{Question, Infer, Reply, Found, No, Plan, Say, Ask, Ends, said, refused, asked}
 use Rattle.lp_shape.specs.ClosedTrees.{infer-anywhere}
 use Rattle.lp_shape.specs.EarlierDeclarations.{IsModule-IsSelfContained}
 use Rattle.lp_shape.specs.PlanLaws.{Leaves, leaves_all, leaves_equal, leaves_then, leaves_fewer, leaves_found, leaves_no, over_then, over_leaves}

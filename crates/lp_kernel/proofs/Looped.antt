@@ -9,7 +9,7 @@ use Rattle.lp_term.specs.Tables.{tree_at, trees_at, Stays, AreKnown}
 use Rattle.lp_term.specs.TableLaws.{tree_at-Stays, Keeps-refl}
 use Rattle.holide_sig.specs.declared.module.Module.{Module}
 use Rattle.holide_sig.specs.Modules.{declarations_of, IsHeld}
-use Rattle.lp_shape.specs.Check.{Infer, Found, No, Plan, Ask, Ends, said, alone}
+use Rattle.lp_spec.specs.Check.{Infer, Found, No, Plan, Ask, Ends, said, alone}
 use Rattle.lp_shape.specs.PlanLaws.{and_then, Leaves, leaves_equal, leaves_then, leaves_fewer, over_leaves}
 use Rattle.lp_conv.specs.GrowthLaws.{Grows-trans, IsHeld-Grows, declarations_of-Grows, trees_at-Stays}
 use Rattle.lp_kernel.specs.declared.state.Frame.{Frame}

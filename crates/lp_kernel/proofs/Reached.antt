@@ -10,8 +10,8 @@ use Rattle.lp_term.specs.Tables.{tree_at, tree_of_node, Holds}
 use Rattle.lp_term.specs.TableLaws.{Holds-tree_at, tree_at-Stays, Keeps-refl}
 use Rattle.holide_sig.specs.declared.module.Module.{Module}
 use Rattle.holide_sig.specs.Modules.{declarations_of, IsHeld}
-use Rattle.lp_shape.specs.HeadSteps.{head_step}
-use Rattle.lp_shape.specs.Check.{Reach, Reply, Found, No, Plan, Say, Ask, if_step, reach, Ends, said, refused, asked}
+use Rattle.lp_spec.specs.HeadSteps.{head_step}
+use Rattle.lp_spec.specs.Check.{Reach, Reply, Found, No, Plan, Say, Ask, if_step, reach, Ends, said, refused, asked}
 use Rattle.lp_shape.specs.CheckLaws.{one_reply}
 use Rattle.lp_shape.specs.PlanLaws.{and_then, Leaves, leaves_all, leaves_equal, leaves_then, leaves_fewer, leaves_ask, over_leaves}
 use Rattle.lp_kernel.specs.declared.inference.Inferred.TheVariants as inferred

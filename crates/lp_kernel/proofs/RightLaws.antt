@@ -9,7 +9,7 @@ use Rattle.lp_term.specs.Tables.{tree_at, trees_at}
 use Rattle.lp_term.specs.TableLaws.{tree_at-Stays}
 use Rattle.holide_sig.specs.declared.module.Module.{Module}
 use Rattle.holide_sig.specs.Modules.{declarations_of, IsHeld}
-use Rattle.lp_shape.specs.Check.{Found}
+use Rattle.lp_spec.specs.Check.{Found}
 use Rattle.lp_conv.specs.Answers.{Answered}
 use Rattle.lp_conv.specs.Growth.{Grows}
 use Rattle.lp_conv.specs.GrowthLaws.{declarations_of-Grows, trees_at-Stays, AreKnown-Keeps}

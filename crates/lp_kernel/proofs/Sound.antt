@@ -9,7 +9,7 @@ use Rattle.lp_term.specs.declared.LpId.{LpId}
 use Rattle.lp_term.specs.Tables.{tree_at, trees_at}
 use Rattle.holide_sig.specs.declared.module.Module.{Module}
 use Rattle.holide_sig.specs.Modules.{declarations_of}
-use Rattle.lp_shape.specs.Check.{Infer, Reply, Found, infer, alone, Ends, said, refused, asked}
+use Rattle.lp_spec.specs.Check.{Infer, Reply, Found, infer, alone, Ends, said, refused, asked}
 use Rattle.lp_shape.specs.CheckLaws.{Found-injective}
 use Rattle.lp_fast.specs.FastModules.{infer-typed}
 use Rattle.lp_shape.specs.EarlierDeclarations.{infer-longer, IsModule-IsSelfContained, IsModule-take}

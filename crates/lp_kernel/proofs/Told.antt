@@ -15,8 +15,8 @@ use Rattle.lp_term.specs.declared.LpNode.{LpNode}
 use Rattle.lp_term.specs.declared.LpNode.TheVariants as node
 use Rattle.lp_term.specs.Tables.{tree_at, trees_at, tree_of_node, Holds, Stays, IsDistinct}
 use Rattle.lp_term.specs.TableLaws.{Holds-tree_at, tree_at-Holds, tree_at-Stays}
-use Rattle.lp_shape.specs.HeadSteps.{head_step}
-use Rattle.lp_shape.specs.Check.{Infer, Reach, Meet, Convert, Reply, Found, No, Plan, Say, Ask, if_sort, unless_kind, recheck, if_product, if_step, product_of, reach, Ends}
+use Rattle.lp_spec.specs.HeadSteps.{head_step}
+use Rattle.lp_spec.specs.Check.{Infer, Reach, Meet, Convert, Reply, Found, No, Plan, Say, Ask, if_sort, unless_kind, recheck, if_product, if_step, product_of, reach, Ends}
 use Rattle.lp_shape.specs.PlanLaws.{and_then, Leaves, leaves_equal, leaves_then, leaves_fewer, leaves_ask, leaves_found, leaves_no, over_then, over_leaves}
 use Rattle.lp_kernel.specs.declared.state.Application.{Application}
 use Rattle.lp_kernel.specs.declared.state.Argument.{Argument}

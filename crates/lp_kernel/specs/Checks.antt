@@ -7,8 +7,8 @@ use Rattle.lp_term.specs.declared.LpId.{LpId}
 use Rattle.lp_term.specs.Tables.{tree_at}
 use Rattle.holide_sig.specs.declared.module.Module.{Module}
 use Rattle.holide_sig.specs.Modules.{declarations_of}
-use Rattle.lp_shape.specs.Check.{body_plan, Reply, Found, No, Plan}
-use Rattle.lp_fast.specs.FastCheck.{CheckBy, PassesBy}
+use Rattle.lp_spec.specs.Check.{body_plan, Reply, Found, No, Plan}
+use Rattle.lp_spec.specs.FastCheck.{CheckBy, PassesBy}
 use Rattle.lp_conv.specs.Answers.{Answered, IsOver}
 use Rattle.lp_conv.specs.HeadSteps.{tree_if}
 use Rattle.lp_conv.specs.declared.Answer.{Answer}

@@ -9,7 +9,7 @@ use Rattle.lp_term.specs.Tables.{tree_at, trees_at}
 use Rattle.holide_sig.specs.declared.module.Module.{Module}
 use Rattle.holide_sig.specs.Modules.{declarations_of}
 use Rattle.lp_shape.specs.EarlierDeclarations.{IsTreeOver, IsContextOver}
-use Rattle.lp_shape.specs.Check.{Infer, Found, No, Plan, reach, alone}
+use Rattle.lp_spec.specs.Check.{Infer, Found, No, Plan, reach, alone}
 use Rattle.lp_conv.specs.Answers.{Answered, IsOver}
 use Rattle.lp_kernel.specs.declared.inference.Inferred.{Inferred}
 use Rattle.lp_kernel.specs.declared.inference.Inferred.TheVariants as inferred

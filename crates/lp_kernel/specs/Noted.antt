@@ -4,7 +4,7 @@ use Rattle.lp_spec.specs.Trees.{Tree, loose}
 use Rattle.lp_spec.specs.Modules.{Declaration}
 use Rattle.lp_term.specs.declared.LpId.{LpId}
 use Rattle.lp_term.specs.Tables.{tree_at}
-use Rattle.lp_shape.specs.Check.{Found, reach}
+use Rattle.lp_spec.specs.Check.{Found, reach}
 use Rattle.lp_conv.specs.Answers.{Answered}
 use Rattle.lp_kernel.specs.Inference.{typing}
 use Rattle.lp_kernel.specs.declared.state.Next.{Next}

@@ -12,7 +12,7 @@ use crate::context::Context;
 use crate::latest::Latest;
 use crate::lifts::lifted;
 use crate::state::{Application, Frame, Next, State};
-use bridge_base::{Budget, Memory};
+use common::{Budget, Memory};
 use holide_sig::{Module, SIGNATURE};
 use lp_term::{LpId, LpNode};
 

@@ -4,7 +4,7 @@ ghost use Rattle.lp_spec.specs.ModuleOrder.{IsModule};
 ghost use Rattle.lp_spec.specs.Typing.{WellTyped};
 ghost use Rattle.lp_term.specs.Tables.{tree_at};
 ghost use Rattle.holide_sig.specs.Modules.{declarations_of, IsHeld, IsBodyKnown};
-ghost use Rattle.lp_shape.specs.Check.{body_plan, declaration_plan};
+ghost use Rattle.lp_spec.specs.Check.{body_plan, declaration_plan};
 ghost use Rattle.lp_conv.specs.Growth.{Grows};
 ghost use Rattle.lp_conv.specs.declared.Answer.TheVariants as answer;
 ghost use Rattle.lp_kernel.specs.declared.checks.Verdict.TheVariants as verdict;
@@ -14,7 +14,7 @@ ghost use Rattle.lp_kernel.specs.Checks.{IsBodyChecked, IsChecked, IsTypedAt, Is
 use crate::inference::Inferred;
 use crate::memo::Memos;
 use crate::noting::infer_noted;
-use bridge_base::{Budget, Memory};
+use common::{Budget, Memory};
 use holide_sig::Module;
 use lp_conv::{Answer, conv};
 use lp_term::{LpId, LpNode};

@@ -6,7 +6,7 @@ ghost use Rattle.lp_kernel.specs.Keys.{IsInner, IsKey, AreMore};
 ghost use Rattle.lp_kernel.specs.Pending.{outside};
 
 use crate::latest::{Finding, Latest};
-use bridge_base::Memory;
+use common::Memory;
 use lp_term::LpId;
 use std::alloc::Global;
 use std::marker::Model;

@@ -12,7 +12,7 @@ use crate::memo::Turns;
 use crate::spines::under;
 use crate::state::{Next, State};
 use crate::tells::tell;
-use bridge_base::{Budget, Memory, Stack};
+use common::{Budget, Memory, Stack};
 use holide_sig::Module;
 use lp_term::LpId;
 use std::alloc::Global;

@@ -4,7 +4,7 @@ ghost use Rattle.lp_term.specs.declared.LpId.{LpId as AnId};
 ghost use Rattle.lp_kernel.specs.declared.latest.Finding.{Finding as AFinding};
 ghost use Rattle.lp_kernel.specs.Latest.{place_of as place_at, IsKept};
 
-use bridge_base::Memory;
+use common::Memory;
 use lp_term::LpId;
 use std::alloc::Global;
 use std::marker::Model;

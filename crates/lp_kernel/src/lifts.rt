@@ -9,7 +9,7 @@ ghost use Rattle.lp_kernel.specs.Lifted.{AreLifts};
 
 use crate::latest::{Finding, Latest};
 use crate::raising::raised;
-use bridge_base::Memory;
+use common::Memory;
 use holide_sig::Module;
 use lp_term::LpId;
 

@@ -8,7 +8,7 @@ ghost use Rattle.lp_kernel.specs.Right.{AreRight};
 
 use crate::contexts::Contexts;
 use crate::latest::Latest;
-use bridge_base::Memory;
+use common::Memory;
 use lp_term::LpId;
 use std::alloc::Global;
 use std::marker::Model;

@@ -17,7 +17,7 @@ use crate::memo::Memos;
 use crate::spines::under;
 use crate::state::{Frame, Next, State, Waiting};
 use crate::tells::tell;
-use bridge_base::{Budget, Memory, Stack};
+use common::{Budget, Memory, Stack};
 use holide_sig::Module;
 use lp_term::{LpId, LpNode};
 use std::alloc::Global;

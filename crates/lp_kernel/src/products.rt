@@ -7,7 +7,7 @@ ghost use Rattle.lp_kernel.specs.Noted.{AreProducts};
 
 use crate::inference::Inferred;
 use crate::memo::Memo;
-use bridge_base::{Budget, Memory};
+use common::{Budget, Memory};
 use holide_sig::Module;
 use lp_conv::head_step;
 use lp_term::{LpId, LpNode};

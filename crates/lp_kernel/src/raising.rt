@@ -4,7 +4,7 @@ ghost use Rattle.lp_spec.specs.Trees.{App, lift};
 ghost use Rattle.lp_term.specs.Tables.{tree_at};
 ghost use Rattle.lp_conv.specs.Growth.{Grows};
 
-use bridge_base::Memory;
+use common::Memory;
 use holide_sig::Module;
 use lp_term::{LpId, LpNode};
 

@@ -11,7 +11,7 @@ ghost use Rattle.lp_kernel.specs.Made.{IsFilledUnder, AreFilledUnder, IsVariable
 ghost use Rattle.lp_kernel.specs.Pending.{spine_args, IsFilled, IsFilledApplication, IsLast, IsKnownState, IsKnownNext, IsMade, IsAwaited, IsFewerMade};
 
 use crate::state::{Argument, Frame, Next, State};
-use bridge_base::Memory;
+use common::Memory;
 use holide_sig::Module;
 use lp_term::{LpId, LpNode};
 use std::alloc::Global;

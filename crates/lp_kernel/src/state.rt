@@ -1,6 +1,6 @@
 //! What is pending while a type is inferred.
 use crate::context::Context;
-use bridge_base::Stack;
+use common::Stack;
 use lp_term::LpId;
 
 /// A function, an argument, and the application of the two.

@@ -13,7 +13,7 @@ use crate::memo::Turns;
 use crate::products::reach_noted;
 use crate::spines::filled_as;
 use crate::state::{Application, Argument, Expected, Frame, Next, State};
-use bridge_base::{Budget, Memory};
+use common::{Budget, Memory};
 use holide_sig::Module;
 use lp_conv::{Answer, conv};
 use lp_term::{LpId, LpNode};

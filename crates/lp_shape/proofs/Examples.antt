@@ -2,7 +2,7 @@
 use Rattle.std.proofs.Common.{refl, [], ◌∷◌, Some, codes}
 use Rattle.lp_spec.specs.declared.form.Form.TheVariants.{Def}
 use Rattle.lp_spec.specs.Modules.{Declaration, symbol, types, bools, term_of, proof_of}
-use Rattle.lp_shape.specs.Check.{Found, No, said, refused, asked, Check}
+use Rattle.lp_spec.specs.Check.{Found, No, said, refused, asked, Check}
 
 -- x : type.
 a_type : Check (symbol (codes "x") types ∷ []) 0 (Found types) 1

@@ -2,7 +2,7 @@
 use Rattle.std.proofs.Common.{◌≡◌, ℕ, suc, refl, sym, ap, subst, arith, Bool, List}
 use Rattle.lp_spec.specs.Trees.{Tree}
 use Rattle.lp_spec.specs.Modules.{Declaration}
-use Rattle.lp_shape.specs.Check.{Question, Reply, Found, No, Plan, Say, Ask, plan, Ends, said, refused, asked}
+use Rattle.lp_spec.specs.Check.{Question, Reply, Found, No, Plan, Say, Ask, plan, Ends, said, refused, asked}
 
 found_tree : Tree → Reply → Tree
 found_tree d (Found t) = t

@@ -18,8 +18,8 @@ use Rattle.lp_typing.specs.Soundness.{IsSound, IsSound-after}
 use Rattle.lp_typing.specs.SignatureLaws.{signature_sound}
 use Rattle.lp_spec.specs.ModuleOrder.{IsBodyOver, AreDeclared, IsModule}
 use Rattle.lp_typing.specs.Regularity.{regular}
-use Rattle.lp_shape.specs.HeadSteps.{head_step}
-use Rattle.lp_shape.specs.Check.{Question, Infer, Reach, Meet, Convert, Found, No, Plan, Say, Ask, if_type, if_sort, unless_kind, found_if, recheck, if_product, if_step, product_of, infer, reach, meet, plan, Ends, body_plan, declaration_plan, Check}
+use Rattle.lp_spec.specs.HeadSteps.{head_step}
+use Rattle.lp_spec.specs.Check.{Question, Infer, Reach, Meet, Convert, Found, No, Plan, Say, Ask, if_type, if_sort, unless_kind, found_if, recheck, if_product, if_step, product_of, infer, reach, meet, plan, Ends, body_plan, declaration_plan, Check}
 use Rattle.lp_shape.specs.CheckLaws.{Backed, says, asks, backed, by_questions}
 use Rattle.lp_shape.specs.ConvertLaws.{head_step-Conv, convert-Conv}
 

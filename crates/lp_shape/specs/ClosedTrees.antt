@@ -8,8 +8,8 @@ use Rattle.lp_binding.specs.Composition.{put_is, lift_is}
 use Rattle.lp_spec.specs.Modules.{Declaration}
 use Rattle.lp_spec.specs.Conversion.{Step, beta, delta, rule, app_function, app_argument, lam_domain, lam_body, pi_domain, pi_body, Steps, done, next}
 use Rattle.lp_typing.specs.ConversionLaws.{IsClosed}
-use Rattle.lp_shape.specs.HeadSteps.{head_step}
-use Rattle.lp_shape.specs.Check.{Question, Infer, Reach, Meet, Convert, Reply, Found, No, Plan, Say, Ask, if_type, if_sort, unless_kind, found_if, recheck, if_product, if_step, product_of, infer, reach, convert_by, convert_parts, plan, Ends, said, refused, asked}
+use Rattle.lp_spec.specs.HeadSteps.{head_step}
+use Rattle.lp_spec.specs.Check.{Question, Infer, Reach, Meet, Convert, Reply, Found, No, Plan, Say, Ask, if_type, if_sort, unless_kind, found_if, recheck, if_product, if_step, product_of, infer, reach, convert_by, convert_parts, plan, Ends, said, refused, asked}
 use Rattle.lp_shape.specs.HeadStepLaws.{head_step-Steps}
 
 -- loose variables under renamings, substitutions, lifting and putting

@@ -6,9 +6,9 @@ use Rattle.lp_binding.specs.TreeEquality.{tree_eq-true}
 use Rattle.lp_spec.specs.Modules.{Declaration}
 use Rattle.lp_spec.specs.Conversion.{app_function, app_argument, lam_domain, lam_body, pi_domain, pi_body, Conv}
 use Rattle.lp_typing.specs.ConversionLaws.{Conv-trans, Conv-sym, Conv-under, Conv-equal, Steps-Conv}
-use Rattle.lp_shape.specs.HeadSteps.{head_step}
+use Rattle.lp_spec.specs.HeadSteps.{head_step}
 use Rattle.lp_shape.specs.HeadStepLaws.{head_step-Steps}
-use Rattle.lp_shape.specs.Check.{Question, Convert, Found, Say, convert_parts, convert_by, convert, plan, Ends}
+use Rattle.lp_spec.specs.Check.{Question, Convert, Found, Say, convert_parts, convert_by, convert, plan, Ends}
 use Rattle.lp_shape.specs.CheckLaws.{Backed, says, asks, by_questions}
 
 -- a head step is a conversion

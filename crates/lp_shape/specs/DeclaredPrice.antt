@@ -7,9 +7,9 @@ use Rattle.lp_spec.specs.Modules.{Declaration, bools, arr_of, term_of, eq_of, pr
 use Rattle.lp_binding.specs.Composition.{lift_zero}
 use Rattle.lp_spec.specs.Weight.{spreads}
 use Rattle.lp_typing.specs.ConversionLaws.{IsClosed}
-use Rattle.lp_shape.specs.HeadSteps.{head_step}
-use Rattle.lp_shape.specs.Check.{Infer, Convert, Found, Say, convert_by, Ends, said, asked}
-use Rattle.lp_shape.specs.Shaped.{IsConstant, constant, at_type, IsSimple, IsDeclared, of_types, of_terms, of_proofs, of_products, Unfolded, folded, Near, near_same, near_head, near_arrows, near_application, near_product}
+use Rattle.lp_spec.specs.HeadSteps.{head_step}
+use Rattle.lp_spec.specs.Check.{Infer, Convert, Found, Say, convert_by, Ends, said, asked}
+use Rattle.lp_spec.specs.Shaped.{IsConstant, constant, at_type, IsSimple, IsDeclared, of_types, of_terms, of_proofs, of_products, Unfolded, folded, Near, near_same, near_head, near_arrows, near_application, near_product}
 use Rattle.lp_shape.specs.Found.{Finds, Finds-more, find_application, find_constant, find_terms, meet_same, convert_same, convert_unfolded, unfolded-size}
 use Rattle.lp_shape.specs.TermPrice.{size-positive, AreSmall, small-entry, FindsTerm, find-apply}
 use Rattle.lp_shape.specs.SizedTerms.{sized, find-term}

@@ -12,8 +12,8 @@ use Rattle.lp_spec.specs.Modules.{Declaration, symbol, signature, symbol_declara
 use Rattle.lp_spec.specs.ModuleOrder.{symbols, IsBodyOver, MayFollow, AreDeclared, IsModule}
 use Rattle.lp_spec.specs.Conversion.{definition_of, symbol_definition, Step, beta, delta, rule, app_function, app_argument, lam_domain, lam_body, pi_domain, pi_body, Steps, done, next}
 use Rattle.lp_typing.specs.ConversionLaws.{IsClosed}
-use Rattle.lp_shape.specs.HeadSteps.{unfolded, symbol_step, spine_step, head_step}
-use Rattle.lp_shape.specs.Check.{Question, Infer, Reach, Meet, Convert, Reply, Found, No, Plan, Say, Ask, if_type, if_sort, unless_kind, found_if, recheck, if_product, if_step, product_of, infer, reach, convert, convert_by, convert_parts, plan, body_plan, declaration_plan, Ends, said, refused, asked}
+use Rattle.lp_spec.specs.HeadSteps.{unfolded, symbol_step, spine_step, head_step}
+use Rattle.lp_spec.specs.Check.{Question, Infer, Reach, Meet, Convert, Reply, Found, No, Plan, Say, Ask, if_type, if_sort, unless_kind, found_if, recheck, if_product, if_step, product_of, infer, reach, convert, convert_by, convert_parts, plan, body_plan, declaration_plan, Ends, said, refused, asked}
 use Rattle.lp_shape.specs.HeadStepLaws.{head_step-Steps}
 use Rattle.std.proofs.Math.Path.{ap₂, subst₂}
 use Rattle.std.proofs.lemmas.Option.{same_Some}

@@ -3,8 +3,8 @@ use Rattle.std.proofs.Common.{◌≡◌, refl, sym, subst, ℕ, ◌≤◌, arith
 use Rattle.std.specs.Prelude.{if◌then◌else◌}
 use Rattle.lp_spec.specs.Trees.{Tree, SortType, SortKind, Var, Sym, App, Lam, Pi, put, tree_eq}
 use Rattle.lp_spec.specs.Modules.{Declaration}
-use Rattle.lp_shape.specs.HeadSteps.{head_step}
-use Rattle.lp_shape.specs.Check.{Question, Infer, Reach, Meet, Convert, Reply, Found, No, Plan, Say, Ask, if_sort, if_product, if_step, recheck, product_of, infer, plan, Ends, said, refused, asked, declaration_plan}
+use Rattle.lp_spec.specs.HeadSteps.{head_step}
+use Rattle.lp_spec.specs.Check.{Question, Infer, Reach, Meet, Convert, Reply, Found, No, Plan, Say, Ask, if_sort, if_product, if_step, recheck, product_of, infer, plan, Ends, said, refused, asked, declaration_plan}
 
 -- the second plan is the first without some of its questions, which ask for nothing but a yes
 data Drops : Plan → Plan → Type 0 where

@@ -10,9 +10,9 @@ use Rattle.lp_binding.specs.SubstitutionLaws.{ren_closed, ren-put, sub-lift, lif
 use Rattle.lp_binding.specs.Binding.{put-lift}
 use Rattle.lp_spec.specs.Modules.{Declaration, types, arr_of, term_of}
 use Rattle.lp_typing.specs.ConversionLaws.{IsClosed}
-use Rattle.lp_shape.specs.HeadSteps.{head_step}
-use Rattle.lp_shape.specs.Check.{Question, Infer, Meet, Convert, Found, Say, Ask, found_if, recheck, convert_by, plan, Ends, said, asked}
-use Rattle.lp_shape.specs.Shaped.{IsConstant, type_variable, constant, at_type, IsSimple, IsTerm, of_entry, of_constant, of_function, of_binder, Unfolded, folded, arrow}
+use Rattle.lp_spec.specs.HeadSteps.{head_step}
+use Rattle.lp_spec.specs.Check.{Question, Infer, Meet, Convert, Found, Say, Ask, found_if, recheck, convert_by, plan, Ends, said, asked}
+use Rattle.lp_spec.specs.Shaped.{IsConstant, type_variable, constant, at_type, IsSimple, IsTerm, of_entry, of_constant, of_function, of_binder, Unfolded, folded, arrow}
 use Rattle.lp_shape.specs.Sizes.{size-lift}
 
 module _ (m : List Declaration) where

@@ -4,7 +4,7 @@ use Rattle.lp_spec.specs.Trees.{Tree, SortType, SortKind, Var, Sym, App, Lam, Pi
 use Rattle.lp_binding.specs.Arguments.{put-put_all}
 use Rattle.lp_spec.specs.Modules.{Declaration, applied}
 use Rattle.lp_spec.specs.Conversion.{symbol_definition, Step, beta, delta, rule, app_function, Steps, done, next}
-use Rattle.lp_shape.specs.HeadSteps.{given, unfolded, symbol_step, spine_step, head_step}
+use Rattle.lp_spec.specs.HeadSteps.{given, unfolded, symbol_step, spine_step, head_step}
 use Rattle.lp_shape.specs.Sizes.{put_all-nil}
 use Rattle.std.proofs.lemmas.Option.{same_Some}
 

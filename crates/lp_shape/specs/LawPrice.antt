@@ -6,9 +6,9 @@ use Rattle.lp_spec.specs.Trees.{Tree, SortType, Sym, App, Lam, Pi, lift, size}
 use Rattle.lp_spec.specs.Modules.{Declaration, types, bools, arr_of, term_of, eq_of, proof_of}
 use Rattle.lp_spec.specs.Weight.{spread, spreads, tree_weight}
 use Rattle.lp_typing.specs.ConversionLaws.{IsClosed}
-use Rattle.lp_shape.specs.HeadSteps.{head_step}
-use Rattle.lp_shape.specs.Check.{Infer, Convert, Found, Say, unless_kind, convert_by, Ends, said, asked}
-use Rattle.lp_shape.specs.Shaped.{constant, two_abstractions, pointwise, Unfolded, folded, arrow, Close, close_same, close_step, close_arrow, close_application, close_product, IsLast, last_call, last_defined, IsLaw, at_close_abstractions, law_last, at_close_equation, law_under, IsCallDefinition, by_type, by_term, call_under}
+use Rattle.lp_spec.specs.HeadSteps.{head_step}
+use Rattle.lp_spec.specs.Check.{Infer, Convert, Found, Say, unless_kind, convert_by, Ends, said, asked}
+use Rattle.lp_spec.specs.Shaped.{constant, two_abstractions, pointwise, Unfolded, folded, arrow, Close, close_same, close_step, close_arrow, close_application, close_product, IsLast, last_call, last_defined, IsLaw, at_close_abstractions, law_last, at_close_equation, law_under, IsCallDefinition, by_type, by_term, call_under}
 use Rattle.lp_shape.specs.Sizes.{size-lift, put_all-nil}
 use Rattle.lp_shape.specs.Found.{Finds, Finds-more, find_application, find_terms, meet_same, convert_same}
 use Rattle.lp_shape.specs.TermPrice.{size-positive, AreSmall, small-entry}

@@ -1,4 +1,3 @@
-pub mod Check
 pub mod CheckLaws
 pub mod CheckerLaw
 pub mod ClosedTrees
@@ -8,14 +7,12 @@ pub mod EarlierDeclarations
 pub mod FastCheck
 pub mod Found
 pub mod HeadStepLaws
-pub mod HeadSteps
 pub mod LawPrice
 pub mod LawSpreads
 pub mod PlanLaws
 pub mod PricedModules
 pub mod ProofPrice
 pub mod ShapeStatements
-pub mod Shaped
 pub mod ShapedCalls
 pub mod ShapedParts
 pub mod ShapedPasses

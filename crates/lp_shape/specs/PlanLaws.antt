@@ -2,7 +2,7 @@
 use Rattle.std.proofs.Common.{◌≡◌, refl, sym, subst, ℕ, suc, ◌+◌, ◌≤◌, ◌<◌, arith, Bool, List}
 use Rattle.lp_spec.specs.Trees.{Tree}
 use Rattle.lp_spec.specs.Modules.{Declaration}
-use Rattle.lp_shape.specs.Check.{Question, Reply, Found, No, Plan, Say, Ask, plan, Ends, said, refused, asked}
+use Rattle.lp_spec.specs.Check.{Question, Reply, Found, No, Plan, Say, Ask, plan, Ends, said, refused, asked}
 use Rattle.lp_shape.specs.CheckLaws.{one_reply, Found-injective, Found-No}
 
 -- the plan, and what goes on with the tree that it finds

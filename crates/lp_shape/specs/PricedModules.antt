@@ -12,8 +12,8 @@ use Rattle.lp_spec.specs.Weight.{spread, spreads, tree_weight, weight, greatest,
 use Rattle.lp_typing.specs.ConversionLaws.{symbol_type-append}
 use Rattle.lp_typing.specs.Soundness.{IsSound, IsSound-closed, IsSound-after}
 use Rattle.lp_typing.specs.SignatureLaws.{signature_sound}
-use Rattle.lp_shape.specs.Check.{Found, Ends, Check, declaration_plan}
-use Rattle.lp_shape.specs.Shaped.{IsConstant, type_variable, at_type, IsTerm, of_entry, of_constant, of_function, of_binder, IsDeclared, of_types, of_terms, of_proofs, of_products, IsProof, call, at_a_type, at_a_term, at_a_proof, at_a_definition, at_abstractions, called, hypothesis, under_binder, IsDefinition, defined, under_type, IsBodyShaped, IsShaped, IsLast, last_call, last_defined, IsLaw, at_close_abstractions, law_last, at_close_equation, law_under, IsCallDefinition, by_type, by_term, call_under}
+use Rattle.lp_spec.specs.Check.{Found, Ends, Check, declaration_plan}
+use Rattle.lp_spec.specs.Shaped.{IsConstant, type_variable, at_type, IsTerm, of_entry, of_constant, of_function, of_binder, IsDeclared, of_types, of_terms, of_proofs, of_products, IsProof, call, at_a_type, at_a_term, at_a_proof, at_a_definition, at_abstractions, called, hypothesis, under_binder, IsDefinition, defined, under_type, IsBodyShaped, IsShaped, IsLast, last_call, last_defined, IsLaw, at_close_abstractions, law_last, at_close_equation, law_under, IsCallDefinition, by_type, by_term, call_under}
 use Rattle.lp_shape.specs.ShapedPasses.{AreShaped, shaped-typed, shaped-passes, square-cube}
 use Rattle.std.proofs.Math.Path.{ap₂, subst₂}
 use Rattle.std.proofs.lemmas.Option.{same_Some}

@@ -8,8 +8,8 @@ use Rattle.lp_binding.specs.Composition.{put-lift_at}
 use Rattle.lp_spec.specs.Modules.{Declaration, types, term_of, eq_of, proof_of, refl_of}
 use Rattle.lp_spec.specs.Weight.{spread, symbol_spread, spreads}
 use Rattle.lp_typing.specs.ConversionLaws.{IsClosed}
-use Rattle.lp_shape.specs.Check.{Infer, Meet, Convert, Found, Say, Ask, found_if, unless_kind, recheck, Ends, said, asked}
-use Rattle.lp_shape.specs.Shaped.{Solid, IsSimple, IsTerm, of_binder, Near, near_same, near_head, near_application, near_product, folded, two_abstractions, pointwise, IsProof, call, at_a_type, at_a_term, at_a_proof, at_a_definition, at_abstractions, called, hypothesis, under_binder}
+use Rattle.lp_spec.specs.Check.{Infer, Meet, Convert, Found, Say, Ask, found_if, unless_kind, recheck, Ends, said, asked}
+use Rattle.lp_spec.specs.Shaped.{Solid, IsSimple, IsTerm, of_binder, Near, near_same, near_head, near_application, near_product, folded, two_abstractions, pointwise, IsProof, call, at_a_type, at_a_term, at_a_proof, at_a_definition, at_abstractions, called, hypothesis, under_binder}
 use Rattle.lp_shape.specs.Sizes.{size-lift, put_all-nil}
 use Rattle.lp_shape.specs.Found.{Finds, find_application, find_constant, find_terms, meet_same, meet_unfolded, simple-weaken, term-simple}
 use Rattle.lp_shape.specs.TermPrice.{solid-put, spread-product, AreSmall, small-entry, find-apply}

@@ -5,8 +5,8 @@ use Rattle.lp_spec.specs.ModuleOrder.{IsModule}
 use Rattle.lp_spec.specs.Typing.{WellTyped}
 use Rattle.lp_spec.specs.Weight.{weight}
 use Rattle.lp_typing.specs.ConversionLaws.{IsClosed}
-use Rattle.lp_shape.specs.Check.{Reply, declaration_plan, Ends}
-use Rattle.lp_shape.specs.Shaped.{IsShaped}
+use Rattle.lp_spec.specs.Check.{Reply, declaration_plan, Ends}
+use Rattle.lp_spec.specs.Shaped.{IsShaped}
 use Rattle.lp_shape.specs.ShapedPasses.{Passes, AreShaped}
 
 -- The check of a shaped declaration says yes at a price of at most 64 times the square of its weight.

@@ -7,7 +7,7 @@ use Rattle.lp_binding.specs.Closed.{put_all_at-closed}
 use Rattle.lp_binding.specs.Arguments.{put-put_all}
 use Rattle.lp_spec.specs.Modules.{Declaration, symbol_type, applied, products, types, bools, arr_of, term_of, eq_of, proof_of, refl_of, two_functions, eq_symbol, refl_symbol, app_thm_symbol, eq_mp_symbol}
 use Rattle.lp_spec.specs.Lemmas.{sym_proof, sym_lemma}
-use Rattle.lp_shape.specs.Shaped.{Solid, type_variable, constant, at_type, IsSimple, IsTerm, of_entry, of_constant, of_function, of_types, of_terms, of_proofs, of_products, near_same, IsProof, call, at_a_type, at_a_term, at_a_proof, called, hypothesis, under_binder, IsShaped}
+use Rattle.lp_spec.specs.Shaped.{Solid, type_variable, constant, at_type, IsSimple, IsTerm, of_entry, of_constant, of_function, of_types, of_terms, of_proofs, of_products, near_same, IsProof, call, at_a_type, at_a_term, at_a_proof, called, hypothesis, under_binder, IsShaped}
 
 -- the tree is a shaped argument where this type is expected
 pub data IsArgument (m : List Declaration) (G : List Tree) : Tree → Tree → Type 0 where

@@ -6,9 +6,9 @@ use Rattle.lp_binding.specs.Composition.{lift_zero, put-lift_at}
 use Rattle.lp_binding.specs.Binding.{put-lift}
 use Rattle.lp_spec.specs.Lemmas.{sym_lemma}
 use Rattle.lp_spec.specs.Modules.{Declaration, signature, symbol_type, applied, products, types, bools, arr_of, term_of, eq_of, proof_of, fun_ext_symbol, two_functions, pointwise_equal, sub_symbol, sub_abs_symbol, sub_rep_symbol, sub_abs_rep_symbol, sub_rep_abs_symbol, part_domains, part_arguments, abstraction_undoes, part_holds}
-use Rattle.lp_shape.specs.HeadSteps.{head_step}
+use Rattle.lp_spec.specs.HeadSteps.{head_step}
 use Rattle.lp_shape.specs.LawSpreads.{spreads-same}
-use Rattle.lp_shape.specs.Shaped.{Solid, constant, IsSimple, IsTerm, of_entry, of_function, of_binder, IsProof, call, at_a_term, two_abstractions, pointwise, Close, close_same, close_step, close_arrow, close_application, IsLast, last_call, last_defined, IsLaw, at_close_abstractions, law_last, at_close_equation, IsCallDefinition, by_type, by_term}
+use Rattle.lp_spec.specs.Shaped.{Solid, constant, IsSimple, IsTerm, of_entry, of_function, of_binder, IsProof, call, at_a_term, two_abstractions, pointwise, Close, close_same, close_step, close_arrow, close_application, IsLast, last_call, last_defined, IsLaw, at_close_abstractions, law_last, at_close_equation, IsCallDefinition, by_type, by_term}
 use Rattle.lp_shape.specs.ShapedCalls.{a_type, a_term, a_proof, shaped-call, shaped-equation}
 
 -- what becomes another tree by a head step is no type of functions

@@ -13,8 +13,8 @@ use Rattle.lp_typing.specs.SignatureLaws.{signature_sound}
 use Rattle.lp_spec.specs.Typing.{IsTypedAfter, AreTypedAfter, WellTyped}
 use Rattle.lp_shape.specs.CheckerLaw.{HasBody, check-sound}
 use Rattle.lp_typing.specs.ConversionLaws.{IsClosed}
-use Rattle.lp_shape.specs.Check.{Infer, Found, Plan, Say, Ask, if_type, unless_kind, Ends, said, asked, body_plan, declaration_plan}
-use Rattle.lp_shape.specs.Shaped.{Near, near_same, near_arrows, near_product, IsDeclared, IsDefinition, defined, under_type, IsBodyShaped, IsShaped}
+use Rattle.lp_spec.specs.Check.{Infer, Found, Plan, Say, Ask, if_type, unless_kind, Ends, said, asked, body_plan, declaration_plan}
+use Rattle.lp_spec.specs.Shaped.{Near, near_same, near_arrows, near_product, IsDeclared, IsDefinition, defined, under_type, IsBodyShaped, IsShaped}
 use Rattle.lp_shape.specs.Found.{Finds}
 use Rattle.lp_shape.specs.TermPrice.{size-positive, AreSmall, small-entry, unless-kind}
 use Rattle.lp_shape.specs.SizedTerms.{sized, find-term}

@@ -4,8 +4,8 @@ use Rattle.lp_spec.specs.Trees.{Tree, Var, Sym, App, Lam, Pi, lift, put}
 use Rattle.lp_binding.specs.Composition.{lift_zero}
 use Rattle.lp_binding.specs.Binding.{put-lift}
 use Rattle.lp_spec.specs.Modules.{Declaration, applied, arr_of, term_of, eq_of, proof_of, two_functions, pointwise_equal, fun_ext_symbol}
-use Rattle.lp_shape.specs.HeadSteps.{head_step}
-use Rattle.lp_shape.specs.Shaped.{IsSimple, IsTerm, of_binder, Near, near_same, near_head, near_application, IsProof, at_abstractions, called}
+use Rattle.lp_spec.specs.HeadSteps.{head_step}
+use Rattle.lp_spec.specs.Shaped.{IsSimple, IsTerm, of_binder, Near, near_same, near_head, near_application, IsProof, at_abstractions, called}
 use Rattle.lp_shape.specs.ShapedCalls.{a_type, a_term, shaped-call}
 
 module _ (m : List Declaration) where

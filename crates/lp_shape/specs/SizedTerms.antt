@@ -10,8 +10,8 @@ use Rattle.lp_binding.specs.SubstitutionLaws.{ren_closed, ren-put, ren-lift, lif
 use Rattle.lp_spec.specs.Modules.{Declaration, types, arr_of, term_of}
 use Rattle.lp_spec.specs.Weight.{spreads}
 use Rattle.lp_typing.specs.ConversionLaws.{IsClosed}
-use Rattle.lp_shape.specs.Check.{Found, Say, found_if, Ends, said, asked}
-use Rattle.lp_shape.specs.Shaped.{IsConstant, type_variable, constant, at_type, IsSimple, IsTerm, of_entry, of_constant, of_function, of_binder, folded, arrow}
+use Rattle.lp_spec.specs.Check.{Found, Say, found_if, Ends, said, asked}
+use Rattle.lp_spec.specs.Shaped.{IsConstant, type_variable, constant, at_type, IsSimple, IsTerm, of_entry, of_constant, of_function, of_binder, folded, arrow}
 use Rattle.lp_shape.specs.Sizes.{size-ren}
 use Rattle.lp_shape.specs.Found.{Finds-more, find_constant, find_terms, term-simple, arrow-parts}
 use Rattle.lp_shape.specs.TermPrice.{size-positive, term-spreads, AreSmall, small-entry, type-size, FindsTerm, find-apply, unless-kind}

@@ -8,8 +8,8 @@ use Rattle.lp_binding.specs.Binding.{put-lift}
 use Rattle.lp_spec.specs.Modules.{Declaration, types, arr_of, term_of}
 use Rattle.lp_spec.specs.Weight.{spread_after, spread, symbol_spread, spreads}
 use Rattle.lp_typing.specs.ConversionLaws.{IsClosed}
-use Rattle.lp_shape.specs.Check.{Infer, Found, Say, unless_kind, Ends, said, asked}
-use Rattle.lp_shape.specs.Shaped.{Solid, IsConstant, type_variable, constant, at_type, IsSimple, IsTerm, of_entry, of_constant, of_function, of_binder, Unfolded, folded, arrow}
+use Rattle.lp_spec.specs.Check.{Infer, Found, Say, unless_kind, Ends, said, asked}
+use Rattle.lp_spec.specs.Shaped.{Solid, IsConstant, type_variable, constant, at_type, IsSimple, IsTerm, of_entry, of_constant, of_function, of_binder, Unfolded, folded, arrow}
 use Rattle.lp_shape.specs.Sizes.{size-lift, put_all-nil, put_all-cons}
 use Rattle.lp_shape.specs.Found.{Finds, Finds-more, find_application, find_functions, meet_unfolded, unfolded-put}
 use Rattle.std.proofs.Math.Path.{ap₂}

@@ -1,12 +1,17 @@
 pub mod CalculusLaws
+pub mod Check
 pub mod Conversion
+pub mod FastCheck
+pub mod FaultKinds
 pub mod Faults
+pub mod HeadSteps
 pub mod Lemmas
 pub mod ModuleOrder
 pub mod Modules
 pub mod Numerals
 pub mod Reading
 pub mod ReadingFaults
+pub mod Shaped
 pub mod ShortNames
 pub mod Substitution
 pub mod Text

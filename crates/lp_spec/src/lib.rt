@@ -27,6 +27,10 @@
 //! ```
 #![tactic(auto)]
 
+mod fault_kind;
 mod form;
+mod ident;
 
+pub use fault_kind::DkKind;
 pub use form::Form;
+pub use ident::Ident;

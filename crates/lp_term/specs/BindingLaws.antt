@@ -2,7 +2,7 @@
 use Rattle.std.proofs.Common.{◌≡◌, ℕ, suc, refl, sym, ap, ◌∙◌, List, [], ◌∷◌, Some}
 use Rattle.std.proofs.lemmas.Option.{same_Some}
 use Rattle.std.proofs.Math.Path.{ap₂}
-use Rattle.bridge_base.specs.Binding.{puts as puts_of, Pairwise}
+use Rattle.common.specs.Binding.{puts as puts_of, Pairwise}
 use Rattle.lp_spec.specs.Trees.{Tree, lift, put, put_at, put_all}
 use Rattle.lp_binding.specs.Binding.{put_all-puts, puts}
 use Rattle.lp_term.specs.declared.LpId.{LpId}

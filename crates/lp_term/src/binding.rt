@@ -5,7 +5,7 @@ ghost use Rattle.lp_term.specs.Tables.{Holds};
 ghost use Rattle.lp_term.specs.BindingLaws.{put_list_puts as puts_law, one_tree as one_tree_law};
 
 use crate::{LpId, LpTable};
-use bridge_base::{Binding, Memory};
+use common::{Binding, Memory};
 
 impl Binding for LpTable {
     type Id = LpId;

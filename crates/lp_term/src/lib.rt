@@ -30,7 +30,7 @@ use crate::measures::{Measures, push_measures};
 use crate::memo::{Change, Place};
 use crate::shape::Shape;
 use crate::shapes::Shapes;
-use bridge_base::Memory;
+use common::Memory;
 use std::alloc::Global;
 use std::marker::Model;
 

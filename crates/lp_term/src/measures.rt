@@ -6,7 +6,7 @@ ghost use Rattle.lp_term.specs.Shapes.{node_of};
 ghost use Rattle.lp_term.specs.Measured.{AreMeasured, IsJoined, IsMeasured};
 
 use crate::shape::Shape;
-use bridge_base::Memory;
+use common::Memory;
 use std::marker::Model;
 
 /// How many nodes a tree has. In two halves, which lie closer than a `u128` does.

@@ -5,7 +5,7 @@ ghost use Rattle.lp_term.specs.declared.memo.Place.{Place as APlace};
 ghost use Rattle.lp_term.specs.Noted.{IsNoted};
 
 use crate::LpId;
-use bridge_base::Memory;
+use common::Memory;
 use std::alloc::Global;
 use std::collections::BTreeMap;
 use std::marker::Model;

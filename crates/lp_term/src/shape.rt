@@ -3,7 +3,7 @@ ghost use Rattle.std.specs.Prelude.{◌≡◌, IfOk};
 ghost use Rattle.lp_term.specs.Shapes.{node_of};
 
 use crate::{LpId, LpNode};
-use bridge_base::Memory;
+use common::Memory;
 
 /// A node whose numbers are below 2^32.
 #[derive(Clone, Copy, PartialEq, Eq, PartialOrd, Ord)]

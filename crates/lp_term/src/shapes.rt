@@ -13,7 +13,7 @@ ghost use Rattle.lp_term.specs.Indexed.{greater_part as greater_part_of, kept_in
 
 use crate::recent::{guess, note, widen};
 use crate::shape::Shape;
-use bridge_base::Memory;
+use common::Memory;
 use std::alloc::Global;
 use std::collections::BTreeMap;
 use std::marker::Model;

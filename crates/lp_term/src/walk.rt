@@ -11,7 +11,7 @@ ghost use Rattle.lp_term.specs.Walks.{IsLeftAlone, IsPlace, IsReplaced, IsWalk, 
 
 use crate::memo::{Change, Memo, Place};
 use crate::{LpId, LpNode, LpTable};
-use bridge_base::{Memory, Stack};
+use common::{Memory, Stack};
 use std::alloc::Global;
 
 /// How many nodes a tree has that is made once for each place, and not again where it stands there again. A smaller one is made again.

@@ -5,7 +5,7 @@
 ghost use Rattle.std.specs.Prelude.{◌<◌, ◌≤◌, length, IfOk};
 ghost use Rattle.lp_term.specs.Tables.{PartsBelow};
 
-use bridge_base::{Binding, Memory};
+use common::{Binding, Memory};
 use lp_term::{LpId, LpNode, LpTable};
 use std::process::Abort;
 use std::test::Fail;

@@ -4,7 +4,7 @@ use Rattle.std.specs.Option.{option_map_or}
 use Rattle.lp_spec.specs.Trees.{Tree, SortType, SortKind, Var, Sym, App, Lam, Pi}
 use Rattle.lp_spec.specs.Modules.{Declaration}
 use Rattle.lp_spec.specs.Weight.{symbol_spread, spreads, weight, bound}
-use Rattle.lp_fast.specs.FastCheck.{fast_bound}
+use Rattle.lp_spec.specs.FastCheck.{fast_bound}
 
 -- the weight of the declaration with this number
 abbrev pub weight_at : List Declaration → ℕ → ℕ

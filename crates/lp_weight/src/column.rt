@@ -2,7 +2,7 @@
 ghost use Rattle.std.specs.Prelude.{◌≡◌, ◌<◌, ◌-◌, ◌^◌, [], ◌∷◌, ◌++◌, length, map, slice_get, Some, IfOk, OnOk};
 ghost use Rattle.lp_weight.specs.Packed.{amount_of, spread_in, AreEntries, IsCode, IsGrown};
 
-use bridge_base::Memory;
+use common::Memory;
 use lp_term::LpId;
 use std::alloc::Global;
 use std::marker::Model;

@@ -26,7 +26,7 @@ mod occurrences;
 mod weighing;
 
 pub use crate::weighing::Weights;
-use bridge_base::Memory;
+use common::Memory;
 use holide_sig::Module;
 use std::alloc::Global;
 

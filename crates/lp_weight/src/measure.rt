@@ -9,7 +9,7 @@ ghost use Rattle.lp_weight.specs.Measures.{IsPlace, IsWalk, IsIdle, place_occurr
 
 use crate::memo::{Memo, Place};
 use crate::occurrences::{Parts, parts_of};
-use bridge_base::{Memory, Stack};
+use common::{Memory, Stack};
 use holide_sig::Module;
 use lp_term::LpId;
 use std::alloc::Global;

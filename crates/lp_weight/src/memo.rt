@@ -3,7 +3,7 @@ ghost use Rattle.std.specs.Prelude.{◌≡◌, ◌⊎◌, ℕ, IfNone, IfSome, O
 ghost use Rattle.lp_weight.specs.declared.memo.Place.{Place as APlace};
 ghost use Rattle.lp_weight.specs.Noted.{IsNoted};
 
-use bridge_base::Memory;
+use common::Memory;
 use lp_term::LpId;
 use std::alloc::Global;
 use std::collections::BTreeMap;

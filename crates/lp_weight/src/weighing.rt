@@ -12,7 +12,7 @@ ghost use Rattle.lp_weight.specs.Spreads.{IsFront, IsSpread, AreWeights};
 
 use crate::column::{Column, Front, Head, Spread};
 use crate::measure::{Walk, measured, root};
-use bridge_base::Memory;
+use common::Memory;
 use holide_sig::{Module, SIGNATURE};
 use lp_term::{LpId, LpNode};
 use std::alloc::Global;

@@ -6,7 +6,7 @@ ghost use Rattle.lp_term.specs.Tables.{Keeps};
 ghost use Rattle.holide_sig.specs.Modules.{declarations_of, IsHeld};
 ghost use Rattle.lp_weight_tests.specs.Open.{IsOpen};
 
-use bridge_base::Memory;
+use common::Memory;
 use holide_sig::{Decl, Form, Ident, Module, SIGNATURE};
 use lp_term::{LpId, LpNode, LpTable};
 use lp_weight::{bound, weight};

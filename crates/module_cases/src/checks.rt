@@ -4,7 +4,7 @@ ghost use Rattle.holide_sig.specs.Modules.{declarations_of, IsHeld};
 
 use crate::faults::{add_comma, add_number};
 use crate::modules::read;
-use bridge_base::Budget;
+use common::Budget;
 use case_files::{Case, Wrong, listed, number_of, numbers};
 use dk_read::Limit;
 use holide_sig::Module;

@@ -5,7 +5,7 @@ ghost use Rattle.lp_conv.specs.HeadSteps.{IsKnownIf};
 
 use crate::checks::add_answer;
 use crate::modules::read;
-use bridge_base::Budget;
+use common::Budget;
 use case_files::{Case, Wrong, listed, number_of};
 use dk_read::Limit;
 use holide_sig::{Module, SIGNATURE};

@@ -2,7 +2,7 @@
 ghost use Rattle.std.specs.Prelude.{◌<◌, length};
 ghost use Rattle.holide_sig.specs.Modules.{IsHeld};
 
-use bridge_base::Memory;
+use common::Memory;
 use case_files::Wrong;
 use closed_text::append_closed;
 use decode_back::decode;

@@ -6,7 +6,7 @@ ghost use Rattle.holide_sig.specs.Modules.{IsHeld};
 
 use crate::faults::add_comma;
 use crate::modules::read;
-use bridge_base::Budget;
+use common::Budget;
 use case_files::{Case, Wrong, listed, number_of};
 use dk_read::Limit;
 use holide_sig::Module;

@@ -6,7 +6,7 @@ use Rattle.lp_spec.specs.Lemmas.{theorem}
 use Rattle.lp_spec.specs.Trees.{Tree, Var, Sym, App, Lam, Pi, lift, put_all, loose}
 use Rattle.lp_binding.specs.Composition.{lift_zero}
 use Rattle.lp_spec.specs.Modules.{Declaration, symbol, symbol_type, applied, products, types, bools, arr_of, term_of, eq_of, proof_of, fun_ext_symbol, two_functions, pointwise_equal}
-use Rattle.lp_shape.specs.Shaped.{Solid, type_variable, constant, at_type, IsSimple, IsTerm, of_entry, of_constant, of_function, of_binder, IsProof, at_a_term, called, two_abstractions, pointwise, call, at_a_type, of_products, of_types, of_proofs, IsShaped, Close, close_same, close_step, close_arrow, close_application, last_call, last_defined, IsLaw, at_close_abstractions, IsCallDefinition, by_type, by_term, call_under, law_last, at_close_equation, law_under}
+use Rattle.lp_spec.specs.Shaped.{Solid, type_variable, constant, at_type, IsSimple, IsTerm, of_entry, of_constant, of_function, of_binder, IsProof, at_a_term, called, two_abstractions, pointwise, call, at_a_type, of_products, of_types, of_proofs, IsShaped, Close, close_same, close_step, close_arrow, close_application, last_call, last_defined, IsLaw, at_close_abstractions, IsCallDefinition, by_type, by_term, call_under, law_last, at_close_equation, law_under}
 use Rattle.lp_shape.specs.ShapedCalls.{a_type, a_term, a_proof, shaped-call, shaped-equation}
 use Rattle.module_spec.specs.Scopes.{filler}
 

@@ -9,7 +9,7 @@ use Rattle.hol_spec.specs.Sequents.{Sequent}
 use Rattle.lp_spec.specs.Trees.{Tree, Var, Sym, App, Lam, lift}
 use Rattle.lp_spec.specs.Modules.{Declaration, term_of, proof_of, arr_of, eq_of}
 use Rattle.lp_typing.specs.ConversionLaws.{IsClosed}
-use Rattle.lp_shape.specs.Shaped.{IsTerm, IsProof}
+use Rattle.lp_spec.specs.Shaped.{IsTerm, IsProof}
 use Rattle.lp_shape.specs.ShapedRows.{shaped-fun_ext}
 use Rattle.hol_spec.specs.Lists.{IsIn}
 use Rattle.hol_laws.specs.Members.{All-each, All-at}

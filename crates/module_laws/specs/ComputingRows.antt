@@ -18,9 +18,9 @@ use Rattle.lp_spec.specs.Substitution as trees
 use Rattle.lp_spec.specs.Modules.{Declaration, applied, abstractions, types, proof_of, eq_of, refl_of}
 use Rattle.lp_spec.specs.Conversion.{symbol_definition}
 use Rattle.lp_typing.specs.ConversionLaws.{IsClosed}
-use Rattle.lp_shape.specs.HeadSteps.{given, unfolded, symbol_step, spine_step, head_step}
-use Rattle.lp_shape.specs.Shaped.{IsConstant, type_variable, constant, at_type, IsSimple, IsTerm, of_entry, of_constant, of_function, of_binder, Near, near_same, IsProof}
-use Rattle.lp_shape.specs.Shaped as shape
+use Rattle.lp_spec.specs.HeadSteps.{given, unfolded, symbol_step, spine_step, head_step}
+use Rattle.lp_spec.specs.Shaped.{IsConstant, type_variable, constant, at_type, IsSimple, IsTerm, of_entry, of_constant, of_function, of_binder, Near, near_same, IsProof}
+use Rattle.lp_spec.specs.Shaped as shape
 use Rattle.lp_shape.specs.ShapedCalls.{shaped-refl}
 use Rattle.lp_shape.specs.ShapedRows.{near-definition}
 use Rattle.hol_spec.specs.Lists.{IsIn}

@@ -16,7 +16,7 @@ use Rattle.lp_spec.specs.Typing.{WellTyped}
 use Rattle.lp_typing.specs.Soundness.{IsSound, IsSound-closed, IsSound-after}
 use Rattle.lp_typing.specs.WellTypedLaws.{WellTyped-IsSound}
 use Rattle.lp_typing.specs.Telescopes.{under}
-use Rattle.lp_shape.specs.Shaped.{type_variable, constant, at_type, IsSimple, IsTerm, of_entry, of_constant, of_function, IsDeclared, of_types, of_terms, of_proofs, of_products, near_same, IsProof, hypothesis, under_binder, IsDefinition, defined, under_type, Close, close_same, close_product, IsLaw, law_under, IsProofBody, IsLawBody, IsShaped}
+use Rattle.lp_spec.specs.Shaped.{type_variable, constant, at_type, IsSimple, IsTerm, of_entry, of_constant, of_function, IsDeclared, of_types, of_terms, of_proofs, of_products, near_same, IsProof, hypothesis, under_binder, IsDefinition, defined, under_type, Close, close_same, close_product, IsLaw, law_under, IsProofBody, IsLawBody, IsShaped}
 use Rattle.lp_shape.specs.ShapedCalls.{shaped-equation, shaped-refl, shaped-app_thm, shaped-eq_mp, sym_lemma-shaped}
 use Rattle.lp_shape.specs.ShapedPasses.{AreShaped, shaped-WellTyped}
 use Rattle.hol_laws.specs.Members.{All-append, All-weaker}

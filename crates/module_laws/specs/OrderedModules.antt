@@ -10,7 +10,7 @@ use Rattle.lp_spec.specs.ModuleOrder.{has_kind, symbols, IsOver, IsBodyOver}
 use Rattle.lp_typing.specs.Soundness.{IsSound}
 use Rattle.lp_spec.specs.Typing.{IsBodyOf}
 use Rattle.lp_typing.specs.TypingLaws.{Typed-closed}
-use Rattle.lp_shape.specs.Shaped.{IsBodyShaped, IsShaped}
+use Rattle.lp_spec.specs.Shaped.{IsBodyShaped, IsShaped}
 use Rattle.lp_shape.specs.ShapedPasses.{shaped-typed}
 use Rattle.lp_shape.specs.PricedModules.{IsKnown, declared-known, proof-known, definition-known, law-known, call-known}
 

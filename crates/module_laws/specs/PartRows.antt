@@ -33,9 +33,9 @@ use Rattle.lp_spec.specs.Trees.{Tree, Var, Sym, App, Lam, lift, size}
 use Rattle.lp_spec.specs.Modules.{Declaration, applied, products, abstractions, types, bools, arr_of, term_of, proof_of, eq_of, sub_symbol, sub_abs_symbol, sub_rep_symbol, sub_rep_abs_symbol, symbol_type}
 use Rattle.lp_typing.specs.ConversionLaws.{IsClosed}
 use Rattle.lp_typing.specs.Telescopes.{under}
-use Rattle.lp_shape.specs.HeadSteps.{head_step}
-use Rattle.lp_shape.specs.Shaped.{IsTerm, IsProof, Close, close_same, IsLaw, IsCallDefinition, call_under}
-use Rattle.lp_shape.specs.Shaped as shape
+use Rattle.lp_spec.specs.HeadSteps.{head_step}
+use Rattle.lp_spec.specs.Shaped.{IsTerm, IsProof, Close, close_same, IsLaw, IsCallDefinition, call_under}
+use Rattle.lp_spec.specs.Shaped as shape
 use Rattle.lp_shape.specs.Found.{simple-weaken}
 use Rattle.lp_shape.specs.ShapedParts.{IsPartAt, operator-definition, abstraction-definition, representation-definition, first_law-shaped, second_law-shaped, first_law_free-shaped, first_law_free-close, second_law_free-shaped}
 use Rattle.module_spec.specs.Scopes.{Symbols, TypeScope, type_tree, Scope, lifted_types, lifted, inside, constant_tree, term_tree, under_types, under_terms, under_proofs, unfilled, filled, scope_of_types, scope_of_terms, scope_of, theorem_tree, operator_symbol, generic_tree}

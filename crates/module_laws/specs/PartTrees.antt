@@ -26,7 +26,7 @@ use Rattle.lp_spec.specs.Substitution.{sub}
 use Rattle.lp_binding.specs.SubstitutionLaws.{sub-lift}
 use Rattle.lp_spec.specs.Modules.{Declaration, applied, abstractions, types, bools, term_of, eq_of, select_symbol}
 use Rattle.lp_spec.specs.Conversion.{symbol_definition}
-use Rattle.lp_shape.specs.HeadSteps.{given, spine_step, head_step}
+use Rattle.lp_spec.specs.HeadSteps.{given, spine_step, head_step}
 use Rattle.lp_shape.specs.ShapedParts.{part_of}
 use Rattle.module_spec.specs.Scopes.{Symbols, operator_symbol, constant_symbol, generic_type, TypeScope, type_tree, type_trees, Scope, lifted_types, lifted, constant_tree, term_tree, under_type, under_types, filler, unfilled, filled, theorem_tree, inside, under_term, under_terms, under_proof, under_proofs}
 use Rattle.module_spec.specs.ProofTrees.{Premise, predicate, witness, part_tree}

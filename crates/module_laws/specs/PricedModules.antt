@@ -3,7 +3,7 @@ use Rattle.std.proofs.Common.{◌≡◌, ℕ, ◌*◌, List, [], true, Some, sym
 use Rattle.std.specs.Prelude.{slice_get, take}
 use Rattle.lp_spec.specs.Modules.{Declaration}
 use Rattle.lp_spec.specs.Weight.{weight}
-use Rattle.lp_shape.specs.Check.{Found, Ends, declaration_plan}
+use Rattle.lp_spec.specs.Check.{Found, Ends, declaration_plan}
 use Rattle.lp_shape.specs.FastCheck.{FindsFast, fast-passes}
 use Rattle.lp_shape.specs.PricedModules.{IsPriced, shaped-priced}
 use Rattle.module_spec.specs.Reach.{Key, reached}

@@ -11,8 +11,8 @@ use Rattle.lp_binding.specs.SubstitutionLaws.{ren-lift, lift_one}
 use Rattle.lp_spec.specs.Modules.{Declaration, applied, products, abstractions, types, term_of, eq_of, proof_of, refl_of}
 use Rattle.lp_typing.specs.ConversionLaws.{IsClosed}
 use Rattle.lp_typing.specs.Telescopes.{under}
-use Rattle.lp_shape.specs.HeadSteps.{head_step}
-use Rattle.lp_shape.specs.Shaped.{Solid, IsConstant, at_type, IsSimple, IsTerm, of_entry, of_constant, of_function, of_binder, IsDeclared, of_products, Near, near_same, near_product, IsProof, at_a_type, at_a_term, at_a_proof, at_a_definition, hypothesis, under_binder}
+use Rattle.lp_spec.specs.HeadSteps.{head_step}
+use Rattle.lp_spec.specs.Shaped.{Solid, IsConstant, at_type, IsSimple, IsTerm, of_entry, of_constant, of_function, of_binder, IsDeclared, of_products, Near, near_same, near_product, IsProof, at_a_type, at_a_term, at_a_proof, at_a_definition, hypothesis, under_binder}
 use Rattle.lp_shape.specs.SizedTerms.{Weakens, outside, inside, moved, constant-ren}
 use Rattle.module_spec.specs.Scopes.{TypeScope}
 use Rattle.module_laws.specs.SimultaneousArguments.{after, put-ups}

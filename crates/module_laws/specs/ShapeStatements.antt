@@ -7,7 +7,7 @@ use Rattle.lp_spec.specs.Trees.{Tree}
 use Rattle.lp_spec.specs.Modules.{Declaration, symbol_type, proof_of}
 use Rattle.lp_typing.specs.ConversionLaws.{IsClosed}
 use Rattle.lp_spec.specs.Typing.{WellTyped}
-use Rattle.lp_shape.specs.Shaped.{IsTerm, IsProof}
+use Rattle.lp_spec.specs.Shaped.{IsTerm, IsProof}
 use Rattle.lp_shape.specs.ShapedPasses.{AreShaped}
 use Rattle.module_spec.specs.Scopes.{Symbols, type_tree, Scope, term_tree, scope_of, sequent_tree, theorem_tree}
 use Rattle.module_laws.specs.ScopeTyping.{TermOver}

@@ -10,7 +10,7 @@ use Rattle.lp_binding.specs.Composition.{lift_zero}
 use Rattle.lp_spec.specs.Modules.{Declaration, applied, bools, term_of, proof_of, eq_of, refl_of, prop_ext_symbol}
 use Rattle.lp_spec.specs.Lemmas.{sym_domains, trans_domains}
 use Rattle.lp_typing.specs.ConversionLaws.{IsClosed}
-use Rattle.lp_shape.specs.Shaped.{IsSimple, IsTerm, of_proofs, IsProof, called, under_binder}
+use Rattle.lp_spec.specs.Shaped.{IsSimple, IsTerm, of_proofs, IsProof, called, under_binder}
 use Rattle.lp_shape.specs.ShapedCalls.{a_type, a_term, a_proof, shaped-call, shaped-refl, shaped-eq_mp, shaped-app_thm}
 use Rattle.hol_spec.specs.Lists.{IsIn}
 use Rattle.module_spec.specs.Scopes.{Symbols, type_tree, Scope, lifted, term_tree, under_proof, set_proof, theorem_tree}

@@ -18,8 +18,8 @@ use Rattle.lp_spec.specs.Substitution.{sub}
 use Rattle.lp_binding.specs.Composition.{sub_var}
 use Rattle.lp_spec.specs.Modules.{Declaration, applied, products, types, term_of}
 use Rattle.lp_typing.specs.ConversionLaws.{IsClosed}
-use Rattle.lp_shape.specs.Shaped.{Solid, IsConstant, IsSimple, IsTerm, of_entry, of_constant, of_function, of_binder}
-use Rattle.lp_shape.specs.Shaped as shape
+use Rattle.lp_spec.specs.Shaped.{Solid, IsConstant, IsSimple, IsTerm, of_entry, of_constant, of_function, of_binder}
+use Rattle.lp_spec.specs.Shaped as shape
 use Rattle.lp_shape.specs.Found.{simple-weaken}
 use Rattle.hol_spec.specs.Lists.{IsIn}
 use Rattle.hol_laws.specs.Members.{IsIn-distinct, IsIn-distinct_of, All-each, map-twice}

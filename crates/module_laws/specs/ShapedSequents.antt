@@ -13,7 +13,7 @@ use Rattle.lp_binding.specs.Composition.{lift_zero}
 use Rattle.lp_spec.specs.Modules.{Declaration, types, bools, term_of, proof_of, arr_of, select_symbol}
 use Rattle.lp_typing.specs.ConversionLaws.{IsClosed}
 use Rattle.lp_typing.specs.Telescopes.{under}
-use Rattle.lp_shape.specs.Shaped.{IsConstant, type_variable, constant, at_type, IsSimple, IsTerm, of_entry, of_constant, of_function, of_binder, IsDeclared, of_types, of_terms, of_proofs, IsProof}
+use Rattle.lp_spec.specs.Shaped.{IsConstant, type_variable, constant, at_type, IsSimple, IsTerm, of_entry, of_constant, of_function, of_binder, IsDeclared, of_types, of_terms, of_proofs, IsProof}
 use Rattle.lp_shape.specs.ShapedCalls.{shaped-equation}
 use Rattle.lp_shape.specs.Found.{simple-weaken}
 use Rattle.hol_spec.specs.Lists.{IsIn}

@@ -9,7 +9,7 @@ use Rattle.lp_spec.specs.Trees.{Tree, Var, Sym}
 use Rattle.lp_spec.specs.Substitution.{sub, cons}
 use Rattle.lp_binding.specs.Composition.{sub_var}
 use Rattle.lp_spec.specs.Modules.{Declaration, types, term_of, proof_of, symbol_type}
-use Rattle.lp_shape.specs.Shaped.{IsSimple, IsTerm, IsProof, call, called}
+use Rattle.lp_spec.specs.Shaped.{IsSimple, IsTerm, IsProof, call, called}
 use Rattle.hol_spec.specs.Lists.{IsIn}
 use Rattle.hol_laws.specs.Members.{IsIn-left, IsIn-right, All-each, All-at}
 use Rattle.hol_laws.specs.RenamedSequents.{free_variables-known}

@@ -12,12 +12,12 @@ use Rattle.lp_typing.specs.Soundness.{IsSound, IsSound-closed}
 use Rattle.lp_typing.specs.Regularity.{regular}
 use Rattle.lp_typing.specs.Telescopes.{under}
 use Rattle.lp_typing.specs.SignatureForms.{Typed-types, Typed-term_of, Typed-proof_of, Typed-apply, Typed-eq_of}
-use Rattle.lp_shape.specs.Shaped.{IsConstant, type_variable, constant, at_type, IsSimple, IsTerm, of_entry, of_constant, of_function, of_binder, IsDeclared, of_types, of_terms, of_proofs, of_products, Near, IsProof, call, at_a_type, at_a_term, at_a_proof, at_a_definition, at_abstractions, called, hypothesis, under_binder, Unfolded, folded, arrow, near_same, near_head, near_arrows, near_application, near_product, Close, close_same, close_step, close_arrow, close_application, close_product, IsDefinition, defined, under_type, IsLast, last_call, last_defined, IsLaw, at_close_abstractions, law_last, at_close_equation, law_under, IsCallDefinition, by_type, by_term, call_under, IsBodyShaped, IsShaped}
-use Rattle.lp_shape.specs.Shaped as shape
+use Rattle.lp_spec.specs.Shaped.{IsConstant, type_variable, constant, at_type, IsSimple, IsTerm, of_entry, of_constant, of_function, of_binder, IsDeclared, of_types, of_terms, of_proofs, of_products, Near, IsProof, call, at_a_type, at_a_term, at_a_proof, at_a_definition, at_abstractions, called, hypothesis, under_binder, Unfolded, folded, arrow, near_same, near_head, near_arrows, near_application, near_product, Close, close_same, close_step, close_arrow, close_application, close_product, IsDefinition, defined, under_type, IsLast, last_call, last_defined, IsLaw, at_close_abstractions, law_last, at_close_equation, law_under, IsCallDefinition, by_type, by_term, call_under, IsBodyShaped, IsShaped}
+use Rattle.lp_spec.specs.Shaped as shape
 use Rattle.lp_shape.specs.Found.{arrow-parts, term-simple}
 use Rattle.lp_spec.specs.declared.form.Form.{Form}
 use Rattle.lp_spec.specs.declared.form.Form.TheVariants.{Symbol, Def, Thm}
-use Rattle.lp_shape.specs.HeadSteps.{head_step}
+use Rattle.lp_spec.specs.HeadSteps.{head_step}
 use Rattle.lp_shape.specs.HeadStepLaws.{head_step-Steps}
 use Rattle.module_spec.specs.Scopes.{Symbols, domains_of}
 use Rattle.module_laws.specs.SequentScope.{SequentOver, Typed-abstraction}

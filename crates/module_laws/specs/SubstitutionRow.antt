@@ -11,7 +11,7 @@ use Rattle.hol_spec.specs.Sequents.{Sequent, terms_of, type_variables_of, free_v
 use Rattle.lp_spec.specs.Trees.{Tree}
 use Rattle.lp_spec.specs.Modules.{Declaration, proof_of}
 use Rattle.lp_typing.specs.ConversionLaws.{IsClosed}
-use Rattle.lp_shape.specs.Shaped.{IsTerm, IsProof}
+use Rattle.lp_spec.specs.Shaped.{IsTerm, IsProof}
 use Rattle.hol_spec.specs.Lists.{IsIn}
 use Rattle.hol_laws.specs.Members.{IsIn-distinct_of, All-each, All-at}
 use Rattle.module_spec.specs.Scopes.{Symbols, Scope, term_tree, images}

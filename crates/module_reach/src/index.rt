@@ -3,7 +3,7 @@ ghost use Rattle.std.specs.Prelude.{◌≡◌, None, Some, IfOk, OnOk, if◌then
 ghost use Rattle.module_spec.specs.Reach.{Key, constant_key, operator_key, key_eq};
 ghost use Rattle.module_reach.specs.Indexes.{found};
 
-use bridge_base::Memory;
+use common::Memory;
 use hol_name::Name;
 use std::alloc::Global;
 use std::collections::BTreeMap;

@@ -8,7 +8,7 @@ ghost use Rattle.module_spec.specs.Items.{Item};
 ghost use Rattle.module_reach.specs.MadeItems.{definition_made, made_items, AddsConstant, AddsOperator, AreItems, AreListed, IsInOrder, IsNoted};
 
 use crate::index::Index;
-use bridge_base::Memory;
+use common::Memory;
 use hol_defs::{SymbolView, TypeOpView};
 use hol_name::Name;
 use hol_rules::{Made, Proof, StepId};

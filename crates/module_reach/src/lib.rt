@@ -35,7 +35,7 @@ mod walk;
 
 use crate::items::Items;
 use crate::walk::{Walk, unset};
-use bridge_base::Memory;
+use common::Memory;
 pub use flags::Reached;
 use hol_rules::{Proof, StepId};
 use std::alloc::Global;

@@ -17,7 +17,7 @@ ghost use Rattle.module_reach.specs.Reached.{flag};
 
 use crate::items::{Items, Need};
 use crate::walk::{Task, Walk, mark, push_terms};
-use bridge_base::{Memory, Stack};
+use common::{Memory, Stack};
 use hol_name::Name;
 use hol_rules::{Parameters, Proof, StepId};
 use hol_spec::StepKind;

@@ -7,7 +7,7 @@ ghost use Rattle.module_reach.specs.Reached.{flag};
 ghost use Rattle.module_reach.specs.Walks.{marked, with_task, with_terms, with_types, IsWalk, Turned, Wants};
 
 use crate::index::Index;
-use bridge_base::{Memory, Stack};
+use common::{Memory, Stack};
 use hol_term::{TermId, TermTable, TermView};
 use hol_type::{TypeId, TypeView};
 use std::alloc::Global;

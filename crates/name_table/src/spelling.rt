@@ -3,7 +3,7 @@ ghost use Rattle.std.specs.Prelude.{◌≡◌, ◌<◌, ◌≤◌, length, IfOk}
 ghost use Rattle.std.specs.Str.{bytes_eq};
 ghost use Rattle.name_table.specs.Spellings.{packed as number_of, unpacked as bytes_of_number, IsShort};
 
-use bridge_base::Memory;
+use common::Memory;
 use std::alloc::Global;
 use std::marker::Model;
 

@@ -8,7 +8,7 @@ ghost use Rattle.name_table.specs.Places.{get_long, with_name, ArePlaced};
 
 use crate::recent::{guess_long, guess_short, note_long, note_short, widen};
 use crate::spelling::{SHORT, Spelling, packed};
-use bridge_base::Memory;
+use common::Memory;
 use std::alloc::Global;
 use std::collections::BTreeMap;
 use std::marker::Model;

@@ -1,5 +1,5 @@
 //! Tables of a few names and of many.
-use bridge_base::Memory;
+use common::Memory;
 use name_table::NameTable;
 use std::test::Fail;
 

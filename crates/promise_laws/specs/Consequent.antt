@@ -5,15 +5,15 @@ use Rattle.std.specs.List.{AllByRecursion}
 use Rattle.std.proofs.lemmas.Option.{same_Some}
 use Rattle.std.proofs.lemmas.List.{append-nil}
 use Rattle.bridge_base.specs.Outside.{Files, Gains, file}
-use Rattle.bridge_base.specs.declared.faults.Kind.{Kind}
+use Rattle.common.specs.declared.faults.Kind.{Kind}
 use Rattle.hol_spec.specs.Proofs.{Accepted}
 use Rattle.hol_spec.specs.declared.Version.{Version}
 use Rattle.lp_spec.specs.Modules.{Declaration}
 use Rattle.lp_spec.specs.Reading.{Reads}
 use Rattle.lp_spec.specs.Typing.{WellTyped}
 use Rattle.lp_spec.specs.Weight.{bound}
-use Rattle.lp_shape.specs.Check.{Found, No}
-use Rattle.lp_fast.specs.FastCheck.{CheckBy}
+use Rattle.lp_spec.specs.Check.{Found, No}
+use Rattle.lp_spec.specs.FastCheck.{CheckBy}
 use Rattle.lp_fast.specs.FastPrices.{check-at, fast_passes}
 use Rattle.article_spec.specs.Run.{Outcome, accepted, refused_at, Run}
 use Rattle.bridge_spec.specs.Forms.{Form, verify, translate, check, show, decode, trial}

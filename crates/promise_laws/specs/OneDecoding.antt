@@ -6,7 +6,7 @@ use Rattle.hol_spec.specs.ClosedForm.{ClosedSequent}
 use Rattle.lp_spec.specs.Modules.{Declaration}
 use Rattle.module_spec.specs.Enc.{Enc}
 use Rattle.module_spec.specs.Stands.{is_export_name}
-use Rattle.dk_read.specs.declared.faults.DkKind.{DkKind}
+use Rattle.lp_spec.specs.declared.fault_kind.DkKind.{DkKind}
 use Rattle.bridge_spec.specs.FileChecks.{IsRefusedAt}
 use Rattle.bridge_spec.specs.FileExports.{exports_of, AreDecoded, Says, SaysNothing, SayBefore, IsNotSequent}
 use Rattle.bridge_spec.specs.Consequences.{IsDueOfDecode}

@@ -10,15 +10,15 @@ use Rattle.lp_spec.specs.Modules.{Declaration}
 use Rattle.lp_spec.specs.Reading.{Reads}
 use Rattle.lp_spec.specs.ReadingFaults.{Fault, NoPrelude, BadText, UnknownName, NameTwice, DkTooDeep, DkTooLong, refusal, reads, refused, answer, answer_within, cut_at, read_bytes, unread}
 use Rattle.lp_spec.specs.Faults.{IsLeastWithin}
-use Rattle.lp_shape.specs.Check.{Found, No}
+use Rattle.lp_spec.specs.Check.{Found, No}
 use Rattle.lp_shape.specs.CheckLaws.{Found-No}
-use Rattle.lp_fast.specs.FastCheck.{CheckBy}
+use Rattle.lp_spec.specs.FastCheck.{CheckBy}
 use Rattle.lp_fast.specs.FastPrices.{check-at, one_check}
 use Rattle.text_laws.specs.ReadingLaws.{Reads-answer}
 use Rattle.text_laws.specs.LeastWithin.{least-answered}
-use Rattle.dk_read.specs.States.{fault_of}
-use Rattle.dk_read.specs.declared.faults.DkKind.{DkKind}
-use Rattle.dk_read.specs.declared.faults.DkKind.TheVariants as kind
+use Rattle.lp_spec.specs.FaultKinds.{fault_of}
+use Rattle.lp_spec.specs.declared.fault_kind.DkKind.{DkKind}
+use Rattle.lp_spec.specs.declared.fault_kind.DkKind.TheVariants as kind
 use Rattle.bridge_spec.specs.FileChecks.{max_file, ReadsAs, IsRefusedAt, IsAccepted, IsIllTyped, IsOverBudget}
 use Rattle.bridge_spec.specs.Consequences.{IsDueOfCheck}
 use Rattle.bridge_spec.specs.declared.status.Status.{Status}

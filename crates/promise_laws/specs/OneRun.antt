@@ -2,7 +2,7 @@
 use Rattle.std.proofs.Common.{◌≡◌, ℕ, true, false, List, [], ◌∷◌, ◌++◌, map, Option, None, Some, IsTrue, refl, sym, ap, subst, ◌∙◌, arith, ⊎_elim}
 use Rattle.std.specs.Prelude.{is_some}
 use Rattle.bridge_base.specs.Outside.{Files}
-use Rattle.bridge_base.specs.declared.faults.Kind.{Kind}
+use Rattle.common.specs.declared.faults.Kind.{Kind}
 use Rattle.hol_spec.specs.Proofs.{Accepted}
 use Rattle.hol_spec.specs.declared.Version.{Version}
 use Rattle.article_spec.specs.Lines.{Lines}

@@ -25,7 +25,7 @@ use crate::premise::{Premise, params_of};
 use crate::rows::Equated;
 use crate::scope::Environment;
 use crate::trees::{REFL, call};
-use bridge_base::Memory;
+use common::Memory;
 use hol_name::Name;
 use hol_rules::Proof;
 use hol_term::{TermId, TermTable, Variable};

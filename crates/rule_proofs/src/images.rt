@@ -30,7 +30,7 @@ use crate::matching::{becomes, makes_term, put_term, put_type};
 use crate::premise::Premise;
 use crate::scope::Environment;
 use crate::trees::call;
-use bridge_base::Memory;
+use common::Memory;
 use hol_name::Name;
 use hol_rules::{Proof, StepId, Substitution};
 use hol_term::{TermId, TermTable, Variable};

@@ -5,7 +5,7 @@ ghost use Rattle.rule_proofs.specs.Keeping.{lent_params, AreKept};
 ghost use Rattle.rule_proofs.specs.Parameters.{AreParams};
 
 use crate::premise::params_of;
-use bridge_base::Memory;
+use common::Memory;
 use hol_rules::{Proof, StepId};
 use sequent::Params;
 use std::alloc::Global;

@@ -15,7 +15,7 @@ ghost use Rattle.hol_rules.specs.Views.{variable_view};
 ghost use Rattle.rule_proofs.specs.Images.{made_term, retyped};
 ghost use Rattle.rule_proofs.specs.Matching.{are_terms_made, are_types_made, terms_left, types_left, AreTermsLeft, AreTypesLeft};
 
-use bridge_base::{Memory, Stack};
+use common::{Memory, Stack};
 use hol_name::Name;
 use hol_rules::Substitution;
 use hol_term::{TermId, TermTable, TermView, Variable};

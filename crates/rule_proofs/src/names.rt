@@ -7,7 +7,7 @@ ghost use Rattle.module_spec.specs.Image.{step_name as name_of_step, unexported_
 ghost use Rattle.lp_spec.specs.Numerals.{numeral};
 ghost use Rattle.rule_proofs.specs.Numbers.{IsRising};
 
-use bridge_base::Memory;
+use common::Memory;
 use hol_rules::{Proof, StepId};
 use hol_spec::StepKind;
 use itoa::Buffer;

@@ -28,7 +28,7 @@ use crate::trees::{
     FUN_EXT, SUB, SUB_ABS, SUB_ABS_REP, SUB_REP, SUB_REP_ABS, SYM, TERM, abstraction, at_variable,
     call,
 };
-use bridge_base::Memory;
+use common::Memory;
 use hol_rules::{Proof, StepId};
 use hol_term::{TermId, TermView};
 use hol_type::TypeId;

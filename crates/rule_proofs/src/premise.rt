@@ -21,7 +21,7 @@ ghost use Rattle.rule_proofs.specs.Told.{TellsStep};
 use crate::kept::KeptParams;
 use crate::scope::Environment;
 use crate::trees::{TERM, abstraction, call};
-use bridge_base::Memory;
+use common::Memory;
 use hol_name::Name;
 use hol_rules::{Proof, StepId};
 use hol_term::{TermId, Variable};

@@ -20,7 +20,7 @@ use crate::kept::KeptParams;
 use crate::premise::Premise;
 use crate::scope::Environment;
 use crate::trees::{APP_THM, EQ_MP, FUN_EXT, PROOF, PROP_EXT, REFL, SYM, TERM, TRANS, call};
-use bridge_base::Memory;
+use common::Memory;
 use hol_rules::{Proof, StepId};
 use hol_term::{TermId, Variable};
 use hol_type::TypeId;

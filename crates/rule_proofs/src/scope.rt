@@ -18,7 +18,7 @@ ghost use Rattle.rule_proofs.specs.Placed.{placed};
 ghost use Rattle.rule_proofs.specs.Placing.{IsPlaced, ProofsAlone, TermsAlone, TypesAlone};
 ghost use Rattle.rule_proofs.specs.Rescoped.{with_scope};
 
-use bridge_base::Memory;
+use common::Memory;
 use hol_name::Name;
 use hol_term::{TermId, Variable};
 use holide_sig::Module;

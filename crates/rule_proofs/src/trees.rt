@@ -4,7 +4,7 @@ ghost use Rattle.lp_spec.specs.Modules.{abstractions, applied, products};
 ghost use Rattle.lp_spec.specs.Trees.{Tree, App, Lam, Sym, Var};
 ghost use Rattle.lp_term.specs.Tables.{tree_at, trees_at, AreKnown, Holds, Keeps};
 
-use bridge_base::Memory;
+use common::Memory;
 use holide_sig::SIGNATURE;
 use lp_term::{LpId, LpNode, LpTable};
 use std::alloc::Global;

@@ -1,7 +1,7 @@
 -- Each export of an accepted run is a step that restates a theorem.
 use Rattle.hol_spec.specs.declared.Version.TheVariants.{Five, Six}
 use Rattle.std.proofs.Common.{◌≡◌, ℕ, List, [], ◌∷◌, ◌++◌, map, length, Bool, true, false, Result, Ok, Err, Option, Some, None, slice_get, refl, sym, ap, subst, ◌∙◌, append_assoc, inl, inr, drop}
-use Rattle.bridge_base.specs.declared.faults.Kind.{Kind}
+use Rattle.common.specs.declared.faults.Kind.{Kind}
 use Rattle.std.proofs.lemmas.List.{append-nil}
 use Rattle.hol_spec.specs.Proofs.{Made, Step, steps_of, Accepted, sequent_at, symbols_of}
 use Rattle.article_spec.specs.State.{State, Object, Place, start, version, body, version_at, initial, list, constant, type_operator}
@@ -10,7 +10,7 @@ use Rattle.article_spec.specs.Changes.{with_stack, conclude, next_step, with_sym
 use Rattle.article_spec.specs.Conditions.{sequent_in_limits, demand, type_in_limits, term_in_limits, arity_fits, generic_fits}
 use Rattle.article_spec.specs.RuleSteps.{restatement, NewType, define_const_step, define_const_list_step, type_laws, axiom_step, restate_step}
 use Rattle.article_spec.specs.Operands.{as_name, as_names, as_term, as_theorem, as_constant_pairs, pop, as_number, as_list, as_type_operator, as_type, as_types, as_constant, as_variable, any_object, head_and_tail, as_terms}
-use Rattle.bridge_base.specs.declared.faults.Kind.TheVariants.{NoSuchKey, TypeMismatch}
+use Rattle.common.specs.declared.faults.Kind.TheVariants.{NoSuchKey, TypeMismatch}
 use Rattle.hol_spec.specs.DefinitionLists.{names_of, definitions_in}
 use Rattle.hol_spec.specs.Definitions.{Definition, TypeNames}
 use Rattle.hol_spec.specs.Rules.{abstraction}

@@ -11,7 +11,7 @@ ghost use Rattle.sequent.specs.Params.{is_variable};
 ghost use Rattle.sequent.specs.Closing.{IsTypeWalk, IsWalk, type_work, work};
 
 use crate::Params;
-use bridge_base::{Memory, Stack};
+use common::{Memory, Stack};
 use hol_name::Name;
 use hol_term::{TermId, TermTable, TermView, Variable};
 use hol_type::{TypeId, TypeTable, TypeView};

@@ -7,7 +7,7 @@ ghost use Rattle.hol_term.specs.Tables.{Trees, AreKnown, IsDistinct as HasOneOfE
 ghost use Rattle.sequent.specs.Sequents.{hyps_at, same_id};
 
 use crate::ids::Ids;
-use bridge_base::Memory;
+use common::Memory;
 use hol_term::TermId;
 use std::alloc::{AllocError, Global};
 use std::marker::Model;

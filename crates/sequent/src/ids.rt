@@ -4,7 +4,7 @@ ghost use Rattle.std.specs.List.{IsDistinct};
 ghost use Rattle.hol_spec.specs.Lists.{distinct, is_in, union, without as all_but};
 ghost use Rattle.sequent.specs.Sequents.{same_id};
 
-use bridge_base::Memory;
+use common::Memory;
 use hol_term::TermId;
 use indexmap::IndexSet;
 use std::alloc::Global;

@@ -29,7 +29,7 @@ mod hyps;
 mod ids;
 mod params;
 
-use bridge_base::Memory;
+use common::Memory;
 pub use closed::{Closed, ClosedTerm, ClosedType, TermNode, TypeNode};
 use closed::{close_term, close_terms, close_variables};
 use hol_term::{TermId, TermTable};

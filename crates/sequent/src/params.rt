@@ -8,7 +8,7 @@ ghost use Rattle.hol_term.specs.Subterms.{HaveTypes, variables_of};
 ghost use Rattle.hol_term.specs.Tables.{term_at};
 ghost use Rattle.sequent.specs.Params.{same_variable};
 
-use bridge_base::Memory;
+use common::Memory;
 use hol_term::{Names, TermId, TermTable, Variable};
 use std::alloc::Global;
 use std::marker::Model;

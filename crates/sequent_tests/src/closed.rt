@@ -2,7 +2,7 @@
 ghost use Rattle.sequent.specs.Sequents.{IsKnown};
 
 use crate::trials::{Trial, comes_out};
-use bridge_base::Memory;
+use common::Memory;
 use hol_term::TermTable;
 use sequent::{Closed, ClosedTerm, ClosedType, Sequent, TermNode, TypeNode};
 use std::alloc::Global;

@@ -1,5 +1,5 @@
 //! Hypotheses are sets, in order of first occurrence.
-use bridge_base::Memory;
+use common::Memory;
 use hol_term::TermId;
 use sequent::{Hyps, Sequent};
 use std::alloc::Global;

@@ -3,7 +3,7 @@ ghost use Rattle.sequent.specs.Sequents.{IsKnown};
 
 use crate::sample::Sample;
 use crate::trials::{Trial, comes_out};
-use bridge_base::Memory;
+use common::Memory;
 use hol_name::Name;
 use hol_term::{TermTable, Variable};
 use hol_type::TypeId;

@@ -2,7 +2,7 @@
 ghost use Rattle.std.specs.Prelude.{◌<◌, ◌≤◌, length, IfOk};
 ghost use Rattle.sequent.specs.Sequents.{IsKnown};
 
-use bridge_base::{Fault, Kind};
+use common::{Fault, Kind};
 use hol_name::Name;
 use hol_term::{TermId, TermTable};
 use hol_type::TypeId;

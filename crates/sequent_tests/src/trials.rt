@@ -4,7 +4,7 @@ ghost use Rattle.sequent.specs.Sequents.{IsKnown};
 
 use crate::sample::{Sample, make_sample};
 use crate::{closed, params};
-use bridge_base::{Fault, Memory};
+use common::{Fault, Memory};
 use hol_term::TermTable;
 use std::alloc::Global;
 

@@ -11,7 +11,7 @@ ghost use Rattle.share.specs.Asking.{IsAsking};
 
 use crate::questions::ask;
 use crate::typing::{Answers, TERM, TYPES, is_symbol};
-use bridge_base::{Memory, Stack};
+use common::{Memory, Stack};
 use holide_sig::Module;
 use lp_term::{LpId, LpNode, LpTable};
 

@@ -13,7 +13,7 @@ ghost use Rattle.share.specs.Moving.{AreMade};
 
 use crate::listing::Listed;
 use crate::naming::{copied, short_name};
-use bridge_base::Memory;
+use common::Memory;
 use holide_sig::{Decl, Form, Module};
 use lp_term::LpId;
 use std::alloc::Global;

@@ -16,7 +16,7 @@ use crate::moving::make_moved;
 use crate::order::Meeting;
 use crate::places::{count_places, top};
 use crate::placing::{above_types, kept_places};
-use bridge_base::{Memory, Stack};
+use common::{Memory, Stack};
 use holide_sig::Module;
 use indexmap::IndexMap;
 use lp_term::LpId;

@@ -18,7 +18,7 @@ use crate::abbreviation::abbreviation;
 use crate::order::{Meeting, visit};
 use crate::places::is_twice;
 use crate::typing::Answers;
-use bridge_base::{Memory, Stack};
+use common::{Memory, Stack};
 use holide_sig::{Decl, Module};
 use lp_term::{LpId, LpTable};
 

@@ -4,7 +4,7 @@ ghost use Rattle.lp_term.specs.Tables.{Keeps, PartsBelow};
 ghost use Rattle.share_spec.specs.MovedTrees.{moved_symbol as moved};
 ghost use Rattle.share.specs.Moving.{place_by, AreMade, IsMovedNode};
 
-use bridge_base::Memory;
+use common::Memory;
 use holide_sig::SIGNATURE;
 use lp_term::{LpId, LpNode, LpTable};
 

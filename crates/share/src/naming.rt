@@ -2,7 +2,7 @@
 ghost use Rattle.std.specs.Prelude.{◌≡◌, ◌++◌, codes, decimal, IfOk, OnOk};
 ghost use Rattle.lp_spec.specs.Numerals.{numeral};
 
-use bridge_base::Memory;
+use common::Memory;
 use holide_sig::Ident;
 use itoa::Buffer;
 use std::alloc::Global;

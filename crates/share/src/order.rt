@@ -7,7 +7,7 @@ ghost use Rattle.share.specs.declared.order.Turn.TheVariants as turn;
 ghost use Rattle.share.specs.Meetings.{entered, unwound, work, AreTurnsBelow, IsMeeting};
 
 use crate::nodes::two_parts;
-use bridge_base::{Memory, Stack};
+use common::{Memory, Stack};
 use lp_term::{LpId, LpTable};
 
 /// A tree to enter, or one whose parts were met.

@@ -4,7 +4,7 @@ ghost use Rattle.share.specs.Listings.{AreListed, IsListed};
 ghost use Rattle.share.specs.Placings.{kept_places as places_of};
 
 use crate::listing::Listed;
-use bridge_base::Memory;
+use common::Memory;
 use lp_term::LpTable;
 
 /// The places of the declarations among entries.

@@ -10,7 +10,7 @@ ghost use Rattle.share.specs.Typings.{answer, AreAnswers, AreQuestions, IsQuesti
 ghost use Rattle.share.specs.Asking.{IsAsking};
 
 use crate::typing::{Answers, Turn, constant_call, term_turn};
-use bridge_base::{Memory, Stack};
+use common::{Memory, Stack};
 use holide_sig::{Module, SIGNATURE};
 use lp_term::{LpId, LpNode, LpTable};
 

@@ -8,7 +8,7 @@ ghost use Rattle.holide_sig.specs.Modules.{declarations_of, IsHeld};
 ghost use Rattle.share_spec.specs.Abbreviations.{at_a_type as type_left, constant_type, is_simple, simple_part as part_of_type, term_type, type_of_terms, value_type as type_of_values};
 ghost use Rattle.share.specs.Typings.{constant_part as part_of_constant, context as context_of, entry as entry_of, is_application, is_from_type, under_type, value_of, values_of, AreAnswers, IsAsked, IsContext, IsSameFor, Tells, Turns};
 
-use bridge_base::{Memory, Stack};
+use common::{Memory, Stack};
 use holide_sig::{Module, SIGNATURE};
 use indexmap::IndexMap;
 use lp_term::{LpId, LpNode, LpTable};

@@ -11,7 +11,7 @@ use Rattle.lp_spec.specs.Modules.{Declaration, types}
 use Rattle.lp_spec.specs.Lemmas.{lemmas}
 use Rattle.lp_spec.specs.Typing.{WellTyped}
 use Rattle.lp_binding.specs.LookUps.{slice_get-append, slice_get-last, slice_get-one_more}
-use Rattle.lp_shape.specs.Shaped.{IsShaped}
+use Rattle.lp_spec.specs.Shaped.{IsShaped}
 use Rattle.lp_shape.specs.ShapedPasses.{AreShaped, shaped-WellTyped}
 use Rattle.lp_shape.specs.PricedModules.{IsPriced, shaped-priced}
 use Rattle.share_spec.specs.Abbreviations.{abbreviation}

@@ -11,7 +11,7 @@ use Rattle.lp_spec.specs.Modules.{Declaration, types, symbol_type}
 use Rattle.lp_spec.specs.Lemmas.{lemmas}
 use Rattle.lp_spec.specs.Weight.{spread_after, spread, symbol_spread, spreads, tree_weight, weight}
 use Rattle.lp_binding.specs.Arguments.{put-put_all}
-use Rattle.lp_shape.specs.Shaped.{IsConstant, type_variable, constant, at_type}
+use Rattle.lp_spec.specs.Shaped.{IsConstant, type_variable, constant, at_type}
 use Rattle.lp_shape.specs.ShapedPasses.{AreShaped}
 use Rattle.lp_shape.specs.PricedModules.{weight-more}
 use Rattle.lp_shape.specs.Sizes.{put_all-nil}

@@ -7,7 +7,7 @@ use Rattle.lp_spec.specs.declared.form.Form.{Form}
 use Rattle.lp_spec.specs.declared.form.Form.TheVariants.{Symbol, Def, Thm}
 use Rattle.lp_spec.specs.Trees.{Tree, SortType, SortKind, Var, Sym, App, Lam, Pi, lift, put}
 use Rattle.lp_spec.specs.Modules.{Declaration, symbol_type, types, term_of, eq_of, proof_of, refl_of}
-use Rattle.lp_shape.specs.Shaped.{Solid, IsConstant, type_variable, constant, at_type, IsTerm, of_entry, of_constant, of_function, of_binder, IsDeclared, of_types, of_terms, of_proofs, of_products, Unfolded, folded, arrow, Near, near_same, near_head, near_arrows, near_application, near_product, two_abstractions, pointwise, IsProof, call, at_a_type, at_a_term, at_a_proof, at_a_definition, at_abstractions, called, hypothesis, under_binder, IsDefinition, defined, under_type, Close, close_same, close_step, close_arrow, close_application, close_product, IsLast, last_call, last_defined, IsLaw, at_close_abstractions, law_last, at_close_equation, law_under, IsCallDefinition, by_type, by_term, call_under, IsBodyShaped, IsShaped}
+use Rattle.lp_spec.specs.Shaped.{Solid, IsConstant, type_variable, constant, at_type, IsTerm, of_entry, of_constant, of_function, of_binder, IsDeclared, of_types, of_terms, of_proofs, of_products, Unfolded, folded, arrow, Near, near_same, near_head, near_arrows, near_application, near_product, two_abstractions, pointwise, IsProof, call, at_a_type, at_a_term, at_a_proof, at_a_definition, at_abstractions, called, hypothesis, under_binder, IsDefinition, defined, under_type, Close, close_same, close_step, close_arrow, close_application, close_product, IsLast, last_call, last_defined, IsLaw, at_close_abstractions, law_last, at_close_equation, law_under, IsCallDefinition, by_type, by_term, call_under, IsBodyShaped, IsShaped}
 use Rattle.share_spec.specs.MovedTrees.{moved_symbol, moved, moved_declaration}
 use Rattle.share_laws.specs.MovedLaws.{moved-lift, moved-put, size-moved, IsMoved, moved-symbol_type}
 use Rattle.share_laws.specs.MovedSteps.{head_step-Some, head_step-None, spreads-moved}

@@ -8,7 +8,7 @@ use Rattle.lp_spec.specs.Trees.{Tree, SortType, SortKind, Var, Sym, App, Lam, Pi
 use Rattle.lp_spec.specs.Modules.{Declaration, symbol_type, applied, types, arr_symbol, term_symbol, arr_of, term_of}
 use Rattle.lp_spec.specs.Conversion.{symbol_definition}
 use Rattle.lp_spec.specs.Weight.{spread_after, spread, symbol_spread, spreads}
-use Rattle.lp_shape.specs.HeadSteps.{given, unfolded, symbol_step, spine_step, head_step}
+use Rattle.lp_spec.specs.HeadSteps.{given, unfolded, symbol_step, spine_step, head_step}
 use Rattle.share_spec.specs.MovedTrees.{moved_symbol, moved}
 use Rattle.share_laws.specs.MovedLaws.{moved-lift, moved-put, moved-put_all, moved-applied, size-moved, moved_symbol-is_low, IsMoved, moved-symbol_type, moved-symbol_definition}
 

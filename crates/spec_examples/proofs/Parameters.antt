@@ -7,7 +7,7 @@ use Rattle.hol_spec.specs.Terms.{Term}
 use Rattle.hol_spec.specs.Sequents.{parameter_count}
 use Rattle.hol_spec.specs.Limits.{greatest_size, greatest_depth, greatest_parameter_count}
 use Rattle.hol_spec.specs.Measures.{Measure}
-use Rattle.bridge_base.specs.declared.faults.Kind.TheVariants.{TooManyParams, TooDeep, TooLarge}
+use Rattle.common.specs.declared.faults.Kind.TheVariants.{TooManyParams, TooDeep, TooLarge}
 use Rattle.article_spec.specs.Conditions.{in_limits}
 use Rattle.article_spec.proofs.SmallArticles.{named, boolean}
 

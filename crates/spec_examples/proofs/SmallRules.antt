@@ -4,7 +4,7 @@ use Rattle.std.proofs.Common.{refl}
 use Rattle.hol_spec.specs.Primitives.{bool, function}
 use Rattle.hol_spec.specs.Terms.{Term, equation}
 use Rattle.hol_spec.specs.Rules.{derived}
-use Rattle.bridge_base.specs.declared.faults.Kind.TheVariants.{NotEquation}
+use Rattle.common.specs.declared.faults.Kind.TheVariants.{NotEquation}
 use Rattle.article_spec.specs.declared.commands.Item.{Item}
 use Rattle.article_spec.specs.declared.commands.Word.TheVariants as word
 use Rattle.article_spec.proofs.SmallArticles.{w, obeyed, listed, bool_type, to, constant, equals, V, sequents, named, boolean}

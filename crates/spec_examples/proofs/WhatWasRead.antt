@@ -2,7 +2,7 @@
 use Rattle.std.proofs.Common.{◌≡◌, [], ◌∷◌, refl, arith}
 use Rattle.std.specs.Prelude.{None, Some, length, codes}
 use Rattle.bridge_base.specs.Outside.{Files, Rose}
-use Rattle.bridge_base.specs.declared.faults.Kind.TheVariants.{BadLine}
+use Rattle.common.specs.declared.faults.Kind.TheVariants.{BadLine}
 use Rattle.hol_spec.specs.Mangling.{AreBytes}
 use Rattle.article_spec.specs.Lines.{Lines, IsLine, Opens, refused}
 use Rattle.article_spec.specs.Run.{RunsFrom, refused_at}

@@ -12,9 +12,9 @@ use Rattle.hol_rules.specs.Views.{variable_view}
 use Rattle.hol_term.specs.declared.TermId.{TermId}
 use Rattle.hol_term.specs.Tables.{Trees, term_at, terms_at, type_at, IsTermAt}
 use Rattle.hol_rules.specs.Premises.{AreTermsAt}
-use Rattle.bridge_base.specs.declared.faults.Fault.{Fault}
-use Rattle.bridge_base.specs.declared.faults.Fault.TheVariants.{Memory, Refused}
-use Rattle.bridge_base.specs.declared.faults.Kind.{Kind}
+use Rattle.common.specs.declared.faults.Fault.{Fault}
+use Rattle.common.specs.declared.faults.Fault.TheVariants.{Memory, Refused}
+use Rattle.common.specs.declared.faults.Kind.{Kind}
 use Rattle.article_spec.specs.State as state
 use Rattle.stack_machine.specs.declared.object.CellId.{CellId}
 use Rattle.stack_machine.specs.declared.object.List.{List as AList}

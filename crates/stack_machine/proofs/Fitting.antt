@@ -11,10 +11,10 @@ use Rattle.hol_laws.specs.TermTyping.{type_of-close}
 use Rattle.hol_spec.specs.Limits.{greatest_size, greatest_depth, type_size, type_depth, term_size, term_depth, TypeWithin, TermWithin}
 use Rattle.hol_spec.specs.Primitives.{function}
 use Rattle.hol_spec.specs.Substitution.{is_instance}
-use Rattle.bridge_base.specs.declared.faults.Fault.{Fault}
-use Rattle.bridge_base.specs.declared.faults.Fault.TheVariants.{Memory, Refused}
-use Rattle.bridge_base.specs.declared.faults.Kind.{Kind}
-use Rattle.bridge_base.specs.declared.faults.Kind.TheVariants as kind
+use Rattle.common.specs.declared.faults.Fault.{Fault}
+use Rattle.common.specs.declared.faults.Fault.TheVariants.{Memory, Refused}
+use Rattle.common.specs.declared.faults.Kind.{Kind}
+use Rattle.common.specs.declared.faults.Kind.TheVariants as kind
 use Rattle.hol_laws.specs.RenamingLaws.{length_map}
 use Rattle.hol_type.specs.declared.table.TypeId.{TypeId}
 use Rattle.hol_type.specs.Refusals.{Refuses, RefusesType}

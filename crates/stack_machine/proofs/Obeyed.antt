@@ -7,14 +7,14 @@ use Rattle.hol_spec.specs.Names.{Name}
 use Rattle.hol_spec.specs.Types.{HolType, operator, types_of}
 use Rattle.hol_spec.specs.Terms.{Term, constant, type_of}
 use Rattle.hol_spec.specs.Symbols.{Symbol, generic_type, operator_arity}
-use Rattle.bridge_base.specs.declared.faults.Fault.{Fault}
-use Rattle.bridge_base.specs.declared.faults.Fault.TheVariants.{Memory, Refused}
-use Rattle.bridge_base.specs.declared.faults.Kind.{Kind}
+use Rattle.common.specs.declared.faults.Fault.{Fault}
+use Rattle.common.specs.declared.faults.Fault.TheVariants.{Memory, Refused}
+use Rattle.common.specs.declared.faults.Kind.{Kind}
 use Rattle.article_spec.specs.declared.commands.Word.{Word}
 use Rattle.article_spec.specs.declared.commands.Word.TheVariants as word
 use Rattle.article_spec.specs.State.{State}
 use Rattle.article_spec.specs.State as state
-use Rattle.bridge_base.specs.declared.faults.Kind.TheVariants.{EmptyList, TypeMismatch}
+use Rattle.common.specs.declared.faults.Kind.TheVariants.{EmptyList, TypeMismatch}
 use Rattle.article_spec.specs.Operands.{pop, as_list}
 use Rattle.article_spec.specs.Conditions.{demand, type_in_limits, term_in_limits, arity_fits, generic_fits}
 use Rattle.article_spec.specs.Results.{◌>>=◌, ◌>>◌, Fails}

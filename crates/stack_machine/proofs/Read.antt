@@ -3,10 +3,10 @@ use Rattle.std.proofs.Common.{◌≡◌, ℕ, refl, ap, sym, subst, zero, List, 
 use Rattle.std.specs.Result.{IsErrAnd}
 use Rattle.std.specs.Prelude.{slice_get, Some, None, suc}
 use Rattle.std.proofs.lemmas.Option.{slice_get_within}
-use Rattle.bridge_base.specs.declared.faults.Fault.{Fault}
-use Rattle.bridge_base.specs.declared.faults.Fault.TheVariants.{Memory, Refused}
-use Rattle.bridge_base.specs.declared.faults.Kind.{Kind}
-use Rattle.bridge_base.specs.declared.faults.Kind.TheVariants.{StackShort, WrongKind}
+use Rattle.common.specs.declared.faults.Fault.{Fault}
+use Rattle.common.specs.declared.faults.Fault.TheVariants.{Memory, Refused}
+use Rattle.common.specs.declared.faults.Kind.{Kind}
+use Rattle.common.specs.declared.faults.Kind.TheVariants.{StackShort, WrongKind}
 use Rattle.stack_machine.specs.declared.object.Object.{Object}
 use Rattle.article_spec.specs.State as state
 use Rattle.article_spec.specs.Operands.{pop, as_list, list_of, each}

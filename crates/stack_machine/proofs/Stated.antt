@@ -21,10 +21,10 @@ use Rattle.hol_laws.specs.RenamingLaws.{length_map}
 use Rattle.hol_laws.specs.TermLaws.{term_eq-Decides, type_eq-refl}
 use Rattle.proof_laws.specs.ProofLaws.{steps_of-push}
 use Rattle.proof_laws.specs.ProofGrowth.{All-get, proof-sequents}
-use Rattle.bridge_base.specs.declared.faults.Fault.{Fault}
-use Rattle.bridge_base.specs.declared.faults.Fault.TheVariants.{Memory, Refused}
-use Rattle.bridge_base.specs.declared.faults.Kind.{Kind}
-use Rattle.bridge_base.specs.declared.faults.Kind.TheVariants.{NotBool, NotTheSequent}
+use Rattle.common.specs.declared.faults.Fault.{Fault}
+use Rattle.common.specs.declared.faults.Fault.TheVariants.{Memory, Refused}
+use Rattle.common.specs.declared.faults.Kind.{Kind}
+use Rattle.common.specs.declared.faults.Kind.TheVariants.{NotBool, NotTheSequent}
 use Rattle.article_spec.specs.State.{State}
 use Rattle.article_spec.specs.State as state
 use Rattle.article_spec.specs.Results.{◌>>=◌, ◌>>◌, Fails}

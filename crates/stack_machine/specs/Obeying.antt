@@ -1,6 +1,6 @@
 -- A word is obeyed.
 use Rattle.std.specs.Prelude.{◌≡◌, List, Result, Ok, OnOk, OnErr, IfErr}
-use Rattle.bridge_base.specs.declared.faults.Fault.{Fault}
+use Rattle.common.specs.declared.faults.Fault.{Fault}
 use Rattle.article_spec.specs.declared.commands.Word.{Word}
 use Rattle.article_spec.specs.State.{State, version_at}
 use Rattle.article_spec.specs.Results.{Fails}

@@ -1,7 +1,7 @@
 -- What the lists of a substitution put, and what is remembered of them.
 use Rattle.std.specs.Prelude.{◌≡◌, List, Result, Ok}
 use Rattle.std.specs.List.{AllByRecursion}
-use Rattle.bridge_base.specs.declared.faults.Kind.{Kind}
+use Rattle.common.specs.declared.faults.Kind.{Kind}
 use Rattle.hol_spec.specs.Substitution.{TypePairs}
 use Rattle.hol_spec.specs.TermSubstitution.{TermPairs}
 use Rattle.hol_type.specs.Tables.{pairs_at, ArePairsKnown}

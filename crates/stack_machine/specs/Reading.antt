@@ -1,7 +1,7 @@
 -- What a call reads of an object, and of the stack.
 use Rattle.std.specs.Prelude.{◌≡◌, ℕ, suc, ◌<◌, List, drop, length, Option, None, Some, Result, Ok, IfOk, IfErr}
-use Rattle.bridge_base.specs.declared.faults.Fault.{Fault}
-use Rattle.bridge_base.specs.declared.faults.Kind.{Kind}
+use Rattle.common.specs.declared.faults.Fault.{Fault}
+use Rattle.common.specs.declared.faults.Kind.{Kind}
 use Rattle.article_spec.specs.State as state
 use Rattle.article_spec.specs.Operands.{pop}
 use Rattle.article_spec.specs.Results.{Fails}

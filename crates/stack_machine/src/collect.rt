@@ -14,7 +14,7 @@ ghost use Rattle.stack_machine.specs.Moves.{Moves};
 
 use crate::object::{Cell, CellId, List, NameId, Object};
 use crate::store::Store;
-use bridge_base::Memory;
+use common::Memory;
 use std::alloc::Global;
 use std::collections::BTreeMap;
 use std::marker::Model;

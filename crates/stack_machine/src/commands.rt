@@ -15,7 +15,7 @@ use crate::operands::{
 use crate::stack::Stack;
 use crate::store::Store;
 use article_spec::Word;
-use bridge_base::{Fault, Kind};
+use common::{Fault, Kind};
 use hol_type::TypeId;
 use std::alloc::Global;
 

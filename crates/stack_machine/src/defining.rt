@@ -18,7 +18,7 @@ ghost use Rattle.stack_machine.specs.Stored.{Grows, IsListKnown, IsName, IsStep,
 use crate::object::{List, NameId, Object};
 use crate::operands::name_in;
 use crate::store::Store;
-use bridge_base::{Fault, Memory};
+use common::{Fault, Memory};
 use hol_name::Name;
 use hol_rules::StepId;
 use hol_spec::Version;

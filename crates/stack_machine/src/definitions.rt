@@ -13,7 +13,7 @@ use crate::operands::{list_on, name_on, term_on, theorem_on};
 use crate::stack::Stack;
 use crate::store::Store;
 use article_spec::Word;
-use bridge_base::Fault;
+use common::Fault;
 use hol_name::Name;
 use hol_spec::Version;
 use hol_term::Variable;

@@ -18,7 +18,7 @@ use crate::remembered::{Lists, Remembered};
 use crate::stack::Stack;
 use crate::store::Store;
 use article_spec::Word;
-use bridge_base::{Fault, Kind};
+use common::{Fault, Kind};
 use hol_rules::Put;
 use hol_term::TermId;
 use std::alloc::Global;

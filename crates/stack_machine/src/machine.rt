@@ -24,7 +24,7 @@ use crate::remembered::Remembered;
 use crate::stack::Stack;
 use crate::store::Store;
 use article_spec::{Command, Item, Word};
-use bridge_base::{Fault, Kind, Memory};
+use common::{Fault, Kind, Memory};
 use hol_defs::Symbols;
 use hol_rules::{Proof, StepId};
 use hol_spec::Version;

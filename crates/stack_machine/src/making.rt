@@ -12,7 +12,7 @@ ghost use Rattle.article_spec.specs.Results.{Fails};
 ghost use Rattle.stack_machine.specs.Making.{is_own_kind};
 ghost use Rattle.stack_machine.specs.Refusals.{constant_fits, operator_fits};
 
-use bridge_base::Fault;
+use common::Fault;
 use hol_defs::SymbolKind;
 use hol_name::Name;
 use hol_rules::Proof;

@@ -7,7 +7,7 @@ ghost use Rattle.stack_machine.specs.Stored.{Stored, IsKnown, IsListKnown, IsNam
 
 use crate::object::{List, NameId, Object};
 use crate::stack::Stack;
-use bridge_base::{Fault, Kind};
+use common::{Fault, Kind};
 use hol_rules::StepId;
 use hol_term::TermId;
 use hol_type::TypeId;

@@ -1,7 +1,7 @@
 //! The pairs that `subst` and `defineConstList` put, read from lists.
 ghost use Rattle.std.specs.Prelude.{◌≡◌, Ok, Some, IfOk, IfErr};
 ghost use Rattle.std.specs.Option.{ok_or};
-ghost use Rattle.bridge_base.specs.declared.faults.Kind.TheVariants as kind;
+ghost use Rattle.common.specs.declared.faults.Kind.TheVariants as kind;
 ghost use Rattle.hol_type.specs.Tables.{pairs_at, ArePairsKnown};
 ghost use Rattle.hol_term.specs.Substitutions.{term_pairs_at, AreTermPairs};
 ghost use Rattle.hol_term.specs.Tables.{term_at, type_at};
@@ -17,7 +17,7 @@ use crate::object::{List, Object};
 use crate::operands::{list_in, name_in, term_in, type_in, variable_in};
 use crate::remembered::Lists;
 use crate::store::Store;
-use bridge_base::{Fault, Kind};
+use common::{Fault, Kind};
 use hol_name::Name;
 use hol_rules::Put;
 use hol_term::{TermId, Variable};

@@ -4,7 +4,7 @@ ghost use Rattle.stack_machine.specs.Putting.{AreRemembered, IsPutBy};
 ghost use Rattle.stack_machine.specs.Stored.{Stored};
 
 use crate::object::List;
-use bridge_base::Memory;
+use common::Memory;
 use hol_rules::Put;
 use std::alloc::Global;
 use std::collections::BTreeMap;

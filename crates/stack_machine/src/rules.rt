@@ -14,7 +14,7 @@ ghost use Rattle.stack_machine.specs.Stored.{IsName, IsStep, IsTerm, IsType, nam
 
 use crate::object::NameId;
 use crate::store::Store;
-use bridge_base::Fault;
+use common::Fault;
 use hol_name::Name;
 use hol_rules::{Put, StepId};
 use hol_term::{TermId, Variable};

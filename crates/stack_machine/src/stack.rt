@@ -5,7 +5,7 @@ ghost use Rattle.stack_machine.specs.Collecting.{holding, numbered};
 
 use crate::collect::{Held, Numbers};
 use crate::object::Object;
-use bridge_base::Memory;
+use common::Memory;
 use std::alloc::Global;
 use std::marker::Model;
 

@@ -17,7 +17,7 @@ ghost use Rattle.stack_machine.specs.Inferring.{Exports, Infers, assuming, expor
 ghost use Rattle.stack_machine.specs.Stored.{AreSaid, IsStep, IsTerm};
 
 use crate::store::Store;
-use bridge_base::{Fault, Kind, Memory};
+use common::{Fault, Kind, Memory};
 use compose::Pool;
 use hol_rules::{Proof, StepId};
 use hol_term::TermId;

@@ -10,7 +10,7 @@ ghost use Rattle.hol_spec.specs.Rules.{abstraction};
 ghost use Rattle.hol_type.specs.Tables.{AreKnown as AreTypes, types_at};
 ghost use Rattle.hol_term.specs.Tables.{term_at, terms_at, type_at};
 ghost use Rattle.hol_rules.specs.Premises.{AreTermsAt};
-ghost use Rattle.bridge_base.specs.declared.faults.Fault.TheVariants as the_fault;
+ghost use Rattle.common.specs.declared.faults.Fault.TheVariants as the_fault;
 ghost use Rattle.article_spec.specs.Conditions.{term_in_limits};
 ghost use Rattle.article_spec.specs.Operands.{as_term, as_type, each};
 ghost use Rattle.article_spec.specs.Results.{Fails};
@@ -22,7 +22,7 @@ ghost use Rattle.stack_machine.specs.Stored.{Grows, rank, IsKnown, IsListKnown, 
 use crate::making::{make_constant, make_operator};
 use crate::object::{Cell, CellId, List, NameId, Object};
 use crate::operands::{term_in, type_in};
-use bridge_base::{Fault, Memory};
+use common::{Fault, Memory};
 use compose::Pool;
 use hol_name::Name;
 use hol_rules::{Proof, StepId};

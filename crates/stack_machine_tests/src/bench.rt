@@ -1,7 +1,7 @@
 //! A machine that obeys articles, with the few objects that the tests speak of, and what it made.
 use article_read::{LineFault, Lines};
 use article_spec::Command;
-use bridge_base::{Fault, Kind};
+use common::{Fault, Kind};
 use hol_defs::SymbolKind;
 use hol_name::Name;
 use hol_rules::StepId;

@@ -1,6 +1,6 @@
 //! The words that define: each takes its symbols, and makes theorems that the article then states; or it is refused.
 use crate::trials::{Case, Turn};
-use bridge_base::Kind;
+use common::Kind;
 use hol_defs::SymbolKind;
 use hol_spec::StepKind;
 

@@ -1,6 +1,6 @@
 //! The words of inference: each makes its theorem, which the article then states and exports.
 use crate::trials::{Case, Turn};
-use bridge_base::Kind;
+use common::Kind;
 use hol_spec::StepKind;
 
 /// The cases.

@@ -2,7 +2,7 @@
 use crate::bench::Part;
 use crate::trials::{Trial, comes_out};
 use article_read::LineFault;
-use bridge_base::Kind;
+use common::Kind;
 use std::alloc::Global;
 use std::test::Fail;
 

@@ -1,6 +1,6 @@
 //! Each refusal names a line and a kind.
 use crate::trials::{Trial, comes_out};
-use bridge_base::Kind;
+use common::Kind;
 use std::test::Fail;
 
 // Articles by name, the line at which each is refused, and for what reason.

@@ -1,6 +1,6 @@
 //! What articles assume and export: what is known is met, and what is new is recorded.
 use crate::trials::{Case, Turn};
-use bridge_base::Kind;
+use common::Kind;
 use hol_spec::StepKind;
 
 /// The cases.

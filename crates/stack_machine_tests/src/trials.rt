@@ -2,7 +2,7 @@
 //! prove, at each end, than all that is done with it.
 use crate::bench::{Bench, Part, Ran};
 use article_read::LineFault;
-use bridge_base::Kind;
+use common::Kind;
 use hol_defs::SymbolKind;
 use hol_rules::StepId;
 use hol_spec::StepKind;

@@ -9,7 +9,7 @@ use Rattle.hol_spec.specs.Names.{Name, quote, dot, IsComponent, nothing, plain, 
 use Rattle.hol_spec.specs.NameOf.{name_of}
 use Rattle.hol_laws.specs.Members.{All-append, All-left, All-right}
 use Rattle.hol_laws.specs.NameLaws.{name_of-IsNameLine}
-use Rattle.bridge_base.specs.declared.faults.Kind.TheVariants as kind
+use Rattle.common.specs.declared.faults.Kind.TheVariants as kind
 use Rattle.article_spec.specs.declared.commands.Command.{Command}
 use Rattle.article_spec.specs.declared.commands.Item.{Item}
 use Rattle.article_spec.specs.declared.commands.Item.TheVariants as item

@@ -20,7 +20,7 @@ use Rattle.article_spec.specs.DefiningWords.{define_const, constant_objects, def
 use Rattle.article_laws.specs.SoundStates.{bound}
 use Rattle.run_laws.specs.Named.{SymbolHasName}
 use Rattle.standing_laws.specs.NamedStates.{AreNamed, AreNamedStacked, IsNamedState, IsNamedPair, name-gives, constant_pairs-gives, pop-gives, popped, answers, with_symbols-named, with_step-named, concluded, with_type_definition-named}
-use Rattle.bridge_base.specs.declared.faults.Kind.{Kind}
+use Rattle.common.specs.declared.faults.Kind.{Kind}
 use Rattle.article_laws.specs.SoundDefining.{type_laws-made}
 
 -- symbols are taken over another stack, and a step is concluded

@@ -5,7 +5,7 @@ use Rattle.std.specs.Prelude.{drop}
 use Rattle.std.specs.List.{AllByRecursion}
 use Rattle.std.specs.Ordering.{int_cmp}
 use Rattle.std.specs.FinMap as entries
-use Rattle.bridge_base.specs.declared.faults.Kind.{Kind}
+use Rattle.common.specs.declared.faults.Kind.{Kind}
 use Rattle.hol_spec.specs.Mangling.{AreBytes}
 use Rattle.hol_spec.specs.Proofs.{Made, symbols_of, Accepted}
 use Rattle.article_spec.specs.declared.commands.Command.{Command}

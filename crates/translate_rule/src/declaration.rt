@@ -18,7 +18,7 @@ ghost use Rattle.translate_rule.specs.Steps.{content_at, given_at, AreParams, Te
 use crate::own::{own_environment, own_params};
 use crate::row::needed_row;
 use crate::statement::theorem_type;
-use bridge_base::Memory;
+use common::Memory;
 use hol_rules::{Proof, StepId};
 use hol_spec::StepKind;
 use holide_sig::{Decl, Form, Ident, Module};

@@ -8,7 +8,7 @@ ghost use Rattle.lp_term.specs.Tables.{tree_at, Holds, Keeps};
 ghost use Rattle.module_spec.specs.Scopes.{under_types, unfilled};
 ghost use Rattle.translate_rule.specs.TypeScopes.{IsTypeScope};
 
-use bridge_base::Memory;
+use common::Memory;
 use hol_name::Name;
 use lp_term::{LpId, LpNode, LpTable};
 use std::alloc::Global;

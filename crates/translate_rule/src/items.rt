@@ -21,7 +21,7 @@ use crate::generics::{at_types, operator_type, over_types, terms, terms_of_all, 
 use crate::parts::part_declaration;
 use crate::premises::with_symbol;
 use crate::symbol_names::{constant_name, input_constant_name, input_operator_name};
-use bridge_base::Memory;
+use common::Memory;
 use hol_defs::TypeOpView;
 use hol_name::Name;
 use hol_rules::{Proof, StepId};

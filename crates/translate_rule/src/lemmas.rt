@@ -9,7 +9,7 @@ ghost use Rattle.lp_spec.specs.Trees.{Tree};
 ghost use Rattle.lp_term.specs.Tables.{trees_at, tree_of_node, AreKnown, Keeps, PartsBelow};
 ghost use Rattle.translate_rule.specs.LemmaNodes.{are_ordered, theorem_at};
 
-use bridge_base::Memory;
+use common::Memory;
 use holide_sig::{Decl, Form, Ident, Module};
 use lp_term::{LpId, LpNode, LpTable};
 use std::alloc::Global;

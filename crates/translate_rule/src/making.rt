@@ -17,7 +17,7 @@ ghost use Rattle.hol_defs.specs.Views.{operator_of_view, taken_of_view};
 
 use crate::items::{Item, TypeDefinition, declaration};
 use crate::lemmas::declare_lemmas;
-use bridge_base::Memory;
+use common::Memory;
 use hol_defs::SymbolView;
 use hol_rules::{Made, Proof, StepId};
 use holide_sig::{Module, SIGNATURE};

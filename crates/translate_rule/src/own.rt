@@ -13,7 +13,7 @@ ghost use Rattle.rule_proofs.specs.Keeping.{lent_params, AreKept};
 ghost use Rattle.rule_proofs.specs.Rescoped.{over_types, with_scope};
 ghost use Rattle.translate_rule.specs.Steps.{given_at, given_over, AreParams};
 
-use bridge_base::Memory;
+use common::Memory;
 use hol_name::Name;
 use hol_rules::{Proof, StepId};
 use hol_term::{TermId, Variable};

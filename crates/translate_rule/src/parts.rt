@@ -27,7 +27,7 @@ use crate::generics::{at_types, operator_type};
 use crate::items::constant_type;
 use crate::own::type_environment;
 use crate::symbol_names::{constant_name, operator_name};
-use bridge_base::Memory;
+use common::Memory;
 use hol_defs::TypeOpView;
 use hol_name::Name;
 use hol_rules::Proof;

@@ -20,7 +20,7 @@ ghost use Rattle.translate_rule.specs.Steps.{given_at, needed_at, row_of, ArePar
 
 use crate::own::{outer_environment, under_binder, under_proof, under_variable};
 use crate::premises::{one_premise, proves_nothing, two_premises};
-use bridge_base::Memory;
+use common::Memory;
 use hol_rules::{Parameters, Proof, StepId};
 use hol_spec::{StepKind, Version};
 use holide_sig::Module;

@@ -21,7 +21,7 @@ ghost use Rattle.translate_rule.specs.Steps.{given_at, AreParams};
 
 use crate::generics::over_types;
 use crate::own::{type_environment, variable_environment};
-use bridge_base::Memory;
+use common::Memory;
 use hol_rules::{Proof, StepId};
 use hol_term::{TermId, Variable};
 use hol_type::TypeId;

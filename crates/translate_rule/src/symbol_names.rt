@@ -4,7 +4,7 @@ ghost use Rattle.hol_spec.specs.Mangling.{mangled};
 ghost use Rattle.module_spec.specs.Image.{constant_name as name_of_constant, input_constant_name as name_of_input_constant, input_operator_name as name_of_input_operator, operator_name as name_of_operator};
 ghost use Rattle.lp_spec.specs.Numerals.{numeral};
 
-use bridge_base::Memory;
+use common::Memory;
 use hol_name::Name;
 use itoa::Buffer;
 use std::alloc::Global;

@@ -4,7 +4,7 @@ use Rattle.std.specs.Prelude.{replicate}
 use Rattle.std.proofs.lemmas.List.{map_push}
 use Rattle.hol_laws.specs.RenamingLaws.{length_map}
 use Rattle.std.proofs.Math.Path.{ap₂}
-use Rattle.bridge_base.specs.Binding.{Pairwise}
+use Rattle.common.specs.Binding.{Pairwise}
 use Rattle.hol_spec.specs.Types.{HolType}
 use Rattle.hol_spec.specs.Terms.{Term}
 use Rattle.hol_spec.specs.ClosedForm as form

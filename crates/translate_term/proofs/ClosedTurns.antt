@@ -3,7 +3,7 @@ use Rattle.std.proofs.Common.{◌≡◌, ℕ, zero, suc, ◌+◌, ◌-◌, ◌<�
 use Rattle.std.specs.Prelude.{IsSome, is_some}
 use Rattle.std.specs.List.{AllByRecursion}
 use Rattle.std.proofs.Math.Path.{ap₂}
-use Rattle.bridge_base.specs.Binding.{Pairwise}
+use Rattle.common.specs.Binding.{Pairwise}
 use Rattle.hol_spec.specs.Names.{Name}
 use Rattle.hol_spec.specs.Types as type
 use Rattle.hol_spec.specs.Types.{HolType, HolTypes, count, listed, variable_places, variable_places_of_all}

@@ -4,7 +4,7 @@ use Rattle.std.specs.Prelude.{replicate}
 use Rattle.std.specs.Option.{unwrap_or}
 use Rattle.std.specs.List.{AllByRecursion, flat_map, position_or_len}
 use Rattle.std.proofs.Math.Path.{fun_ext, ap₂}
-use Rattle.bridge_base.specs.Binding.{Pairwise}
+use Rattle.common.specs.Binding.{Pairwise}
 use Rattle.hol_spec.specs.Names.{Name}
 use Rattle.hol_spec.specs.NameEquality.{name_eq}
 use Rattle.hol_laws.specs.NameEqualityLaws.{name_eq-Decides}

@@ -20,7 +20,7 @@ ghost use Rattle.translate_term.specs.Walks.{Grows};
 use crate::generic::constant_of;
 use crate::nodes::{PROOF, TERM, TYPE, call};
 use crate::symbols::operator;
-use bridge_base::{Memory, Stack};
+use common::{Memory, Stack};
 use hol_name::Name;
 use holide_sig::Module;
 use lp_term::{LpId, LpNode};

@@ -16,7 +16,7 @@ ghost use Rattle.translate_term.specs.Walks.{Grows};
 
 use crate::nodes::call;
 use crate::symbols;
-use bridge_base::{Memory, Stack};
+use common::{Memory, Stack};
 use hol_name::Name;
 use holide_sig::Module;
 use indexmap::IndexMap;

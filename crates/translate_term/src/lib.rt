@@ -52,7 +52,7 @@ use crate::memo::TypeMemo;
 use crate::nodes::filling;
 use crate::terms::term_tree;
 use crate::types::type_of;
-use bridge_base::Memory;
+use common::Memory;
 use hol_name::Name;
 use hol_term::{TermId, TermTable};
 use hol_type::{TypeId, TypeTable};

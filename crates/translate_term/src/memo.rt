@@ -9,7 +9,7 @@ ghost use Rattle.lp_term.specs.declared.LpId.{LpId as AnId};
 ghost use Rattle.translate_term.specs.declared.memo.Place.{Place as APlace};
 ghost use Rattle.translate_term.specs.Tasks.{IsNoted};
 
-use bridge_base::Memory;
+use common::Memory;
 use hol_term::TermId;
 use hol_type::TypeId;
 use indexmap::IndexMap;

@@ -5,7 +5,7 @@ ghost use Rattle.lp_spec.specs.Modules.{applied};
 ghost use Rattle.lp_term.specs.Tables.{tree_at, trees_at, AreKnown, Holds, Keeps};
 ghost use Rattle.module_spec.specs.Scopes.{filler as filler_of};
 
-use bridge_base::Memory;
+use common::Memory;
 use lp_term::{LpId, LpNode, LpTable};
 
 // The numbers of the signature's symbols.

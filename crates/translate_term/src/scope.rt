@@ -7,7 +7,7 @@ ghost use Rattle.hol_term.specs.declared.Variable.{Variable as AVariable};
 ghost use Rattle.sequent.specs.Params.{same_variable};
 ghost use Rattle.tree_map.specs.Entries.{insert_entry};
 
-use bridge_base::Memory;
+use common::Memory;
 use hol_name::Name;
 use hol_term::Variable;
 use lp_term::LpId;

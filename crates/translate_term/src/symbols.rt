@@ -7,7 +7,7 @@ ghost use Rattle.lp_spec.specs.Numerals.{numeral};
 ghost use Rattle.translate_term.specs.Told.{told_constant, told_operator};
 
 use crate::nodes::{ARR, BOOL, EQ, IND, SELECT};
-use bridge_base::Memory;
+use common::Memory;
 use hol_name::Name;
 use holide_sig::Module;
 use itoa::Buffer;

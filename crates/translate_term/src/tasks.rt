@@ -3,7 +3,7 @@ ghost use Rattle.std.specs.Prelude.{◌≡◌, ◌∷◌, OnOk};
 ghost use Rattle.translate_term.specs.declared.tasks.Task.TheVariants as task;
 ghost use Rattle.translate_term.specs.Tasks.{visits};
 
-use bridge_base::{Memory, Stack};
+use common::{Memory, Stack};
 use hol_type::TypeId;
 
 /// What is still to be done.

@@ -24,7 +24,7 @@ use crate::nodes::{TERM, call, filling};
 use crate::scope::Scope;
 use crate::tasks::Task;
 use crate::types::type_of;
-use bridge_base::{Memory, Stack};
+use common::{Memory, Stack};
 use hol_name::Name;
 use hol_term::{TermId, TermTable, TermView, Variable};
 use hol_type::{TypeId, TypeTable};

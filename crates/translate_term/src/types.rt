@@ -21,7 +21,7 @@ use crate::nodes::{BOOL, call};
 use crate::scope::ScopeTypes;
 use crate::symbols::operator;
 use crate::tasks::{Task, set_out};
-use bridge_base::{Memory, Stack};
+use common::{Memory, Stack};
 use hol_name::Name;
 use hol_type::{TypeId, TypeTable, TypeView};
 use holide_sig::Module;

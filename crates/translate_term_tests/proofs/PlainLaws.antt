@@ -1,8 +1,8 @@
 -- Types and terms that every module tells.
 use Rattle.std.proofs.Common.{◌≡◌, ℕ, ◌<◌, refl, sym, subst, arith, List, [], ◌∷◌, length}
 use Rattle.std.specs.Prelude.{codes, IfOk, Result, Ok, Err}
-use Rattle.bridge_base.specs.declared.faults.Fault.{Fault}
-use Rattle.bridge_base.specs.declared.faults.Memory.{Memory}
+use Rattle.common.specs.declared.faults.Fault.{Fault}
+use Rattle.common.specs.declared.faults.Memory.{Memory}
 use Rattle.hol_spec.specs.Names.{Name}
 use Rattle.hol_spec.specs.Types.{HolType, variable, operator, none, more}
 use Rattle.hol_spec.specs.Primitives.{bool, function, arrow_name, bool_name}

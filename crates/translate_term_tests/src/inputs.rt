@@ -4,7 +4,7 @@ ghost use Rattle.holide_sig.specs.Modules.{declarations_of, IsHeld};
 ghost use Rattle.lp_term.specs.Tables.{Holds, Keeps};
 ghost use Rattle.translate_term_tests.specs.Inputs.{input_module, input_type};
 
-use bridge_base::Memory;
+use common::Memory;
 use holide_sig::{Decl, Form, Ident, Module};
 use lp_term::{LpId, LpNode, LpTable};
 use std::alloc::Global;

@@ -2,7 +2,7 @@
 ghost use Rattle.std.specs.Prelude.{◌≡◌, ◌∷◌, [], IfOk};
 ghost use Rattle.translate_term_tests.specs.Plain.{HasPlainTree, HasPlainType, KeepsPlain};
 
-use bridge_base::{Fault, Memory};
+use common::{Fault, Memory};
 use hol_name::Name;
 use hol_term::{TermId, TermTable};
 use hol_type::TypeId;

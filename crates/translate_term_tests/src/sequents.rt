@@ -6,7 +6,7 @@ ghost use Rattle.sequent.specs.Closed.{closed_term_view, closed_type_view, close
 ghost use Rattle.translate_term_tests.specs.Sequents.{IsToldClosed, assumed, closed_bool, closed_function, parameters as first_parameters};
 
 use crate::making::named;
-use bridge_base::Memory;
+use common::Memory;
 use sequent::{Closed, ClosedTerm, ClosedType, TermNode, TypeNode};
 use std::alloc::Global;
 

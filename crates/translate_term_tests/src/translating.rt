@@ -10,7 +10,7 @@ ghost use Rattle.translate_term_tests.specs.Plain.{HasPlainTree, HasPlainType};
 
 use crate::making::{named, predicate, relation, shared};
 use crate::sequents::{Given, closed_of};
-use bridge_base::{Fault, Memory};
+use common::{Fault, Memory};
 use hol_term::{TermId, TermTable, Variable};
 use hol_type::{TypeId, TypeTable};
 use holide_sig::Module;

@@ -7,7 +7,7 @@ use crate::inputs::with_input;
 use crate::sequents::Given;
 use crate::translating::{Case, made, node};
 use crate::wanted::{Place, is_wanted};
-use bridge_base::Fault;
+use common::Fault;
 use holide_sig::Module;
 use lp_term::LpNode;
 use std::alloc::Global;

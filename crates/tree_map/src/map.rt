@@ -5,7 +5,7 @@ ghost use Rattle.std.specs.Map.{lookup};
 ghost use Rattle.tree_map.specs.Entries.{insert_entry};
 
 use crate::set::TreeSet;
-use bridge_base::Memory;
+use common::Memory;
 use std::alloc::Global;
 use std::marker::Model;
 

@@ -7,7 +7,7 @@ ghost use Rattle.std.specs.BTreeMap.{get};
 ghost use Rattle.tree_map.specs.Places.{place as place_of, Finds, FindsWith, ArePlaced};
 ghost use Rattle.tree_map.specs.Entries.{insert_key};
 
-use bridge_base::Memory;
+use common::Memory;
 use std::alloc::Global;
 use std::collections::BTreeMap;
 use std::marker::Model;

@@ -1,6 +1,6 @@
 //! Sets and maps of a few keys and of many.
 use crate::uses::{add_name, add_number, give_number, has_name, number_of};
-use bridge_base::Memory;
+use common::Memory;
 use hol_name::Name;
 use std::alloc::Global;
 use std::test::Fail;

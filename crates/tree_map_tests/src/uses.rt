@@ -5,7 +5,7 @@ ghost use Rattle.hol_spec.specs.Lists.{is_in, union};
 ghost use Rattle.hol_spec.specs.NameEquality.{name_eq};
 ghost use Rattle.tree_map.specs.Entries.{insert_entry, insert_key};
 
-use bridge_base::Memory;
+use common::Memory;
 use hol_name::Name;
 use tree_map::{TreeMap, TreeSet};
 

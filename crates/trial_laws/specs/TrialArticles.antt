@@ -12,7 +12,7 @@ use Rattle.article_spec.specs.Lines.{max_article, ended}
 use Rattle.article_spec.specs.Results.{◌>>=◌}
 use Rattle.article_spec.specs.Run.{machine, obey_article, end_article, accepted_state, passed, finished}
 use Rattle.article_spec.specs.RuleSteps.{restatement}
-use Rattle.vectors.specs.Trial.{words, lines, beginning, name_line, chained, block, blocks, ending, trial_text}
+use Rattle.article_spec.specs.Trial.{words, lines, beginning, name_line, chained, block, blocks, ending, trial_text}
 use Rattle.vectors.proofs.TrialParts.{lines-append, block_parts, defined as defining_words, kept as keeping_words}
 use Rattle.trial_laws.specs.Trials.{f, constant_name, IsTrialRun, TrialsAreAccepted}
 use Rattle.trial_laws.specs.TrialLines.{Says, Says-append, items_in, numbered, lines_of, lines-AreBytes}

@@ -11,7 +11,7 @@ use Rattle.article_spec.specs.declared.commands.Command.{Command}
 use Rattle.article_spec.specs.declared.commands.Item.{Item}
 use Rattle.article_spec.specs.Contents.{Content, skipped, command, faulty, content}
 use Rattle.article_spec.specs.Lines.{newline, max_article, command_at, IsLine, Opens, open_line, gives, Lines, last_skipped, ended}
-use Rattle.vectors.specs.Trial.{lines, words}
+use Rattle.article_spec.specs.Trial.{lines, words}
 
 -- a byte can stand on a line
 abbrev pub can_stand : ℕ → Bool

@@ -12,9 +12,9 @@ use Rattle.hol_spec.specs.NameOf.{name_from, with_byte}
 use Rattle.hol_laws.specs.NameEqualityLaws.{name_eq-Decides}
 use Rattle.article_spec.specs.declared.commands.Item.TheVariants as item
 use Rattle.std.specs.Option.{option_or}
-use Rattle.bridge_base.specs.declared.faults.Kind.TheVariants as kind
+use Rattle.common.specs.declared.faults.Kind.TheVariants as kind
 use Rattle.article_spec.specs.Contents.{command, faulty, content, drop_blanks, trimmed, said, as_word}
-use Rattle.vectors.specs.Trial.{name_line}
+use Rattle.article_spec.specs.Trial.{name_line}
 use Rattle.trial_laws.specs.Trials.{constant_name}
 use Rattle.trial_laws.specs.TrialLines.{can_stand, is_line, Says}
 

@@ -8,8 +8,8 @@ use Rattle.std.specs.FinMap.{FinMap, get-insert}
 use Rattle.std.specs.Cmp.{int_cmp_total}
 use Rattle.std.proofs.lemmas.List.{length-map}
 use Rattle.std.specs.Option.{ok_or}
-use Rattle.bridge_base.specs.declared.faults.Kind.{Kind}
-use Rattle.bridge_base.specs.declared.faults.Kind.TheVariants.{NoSuchKey}
+use Rattle.common.specs.declared.faults.Kind.{Kind}
+use Rattle.common.specs.declared.faults.Kind.TheVariants.{NoSuchKey}
 use Rattle.hol_spec.specs.Sequents.{Sequent}
 use Rattle.hol_spec.specs.Symbols.{Symbol}
 use Rattle.hol_spec.specs.Proofs.{Made, Step, sequent_at, sequents_of, steps_of, symbols_of}

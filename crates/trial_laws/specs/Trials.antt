@@ -12,7 +12,7 @@ use Rattle.hol_spec.specs.Rules.{derived}
 use Rattle.hol_spec.specs.Proofs.{Accepted, sequents_of, symbols_of}
 use Rattle.article_spec.specs.Lines.{max_article}
 use Rattle.article_spec.specs.Run.{Run, accepted}
-use Rattle.vectors.specs.Trial.{trial_text}
+use Rattle.article_spec.specs.Trial.{trial_text}
 
 -- the name of the input
 abbrev pub f : Name

@@ -1,6 +1,6 @@
 -- The parts in which the article is written.
 use Rattle.std.proofs.Common.{◌≡◌, ℕ, zero, suc, ◌+◌, ◌-◌, ◌<◌, refl, sym, ap, ◌∙◌, arith, List, [], ◌∷◌, ◌++◌, append_assoc, append-nil, codes, decimal, add-suc, add-zero, add-one}
-use Rattle.vectors.specs.Trial.{beginning, name_line, chained, block, blocks, ending, words, lines}
+use Rattle.article_spec.specs.Trial.{beginning, name_line, chained, block, blocks, ending, words, lines}
 
 -- the text of words, and of more behind them
 pub lines-append : (xs ys : List (List ℕ)) → lines (xs ++ ys) ≡ lines xs ++ lines ys

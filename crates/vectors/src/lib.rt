@@ -10,7 +10,7 @@
 
 ghost use Rattle.std.specs.Prelude.{OnOk, OnErr};
 ghost use Rattle.bridge_base.specs.Outside.{Gains, GainsFront, HasCause};
-ghost use Rattle.vectors.specs.Trial.{beginning, block, blocks, chained, ending, lines, trial_text};
+ghost use Rattle.article_spec.specs.Trial.{beginning, block, blocks, chained, ending, lines, trial_text};
 ghost use Rattle.vectors.specs.Writing.{Writes};
 
 #[cfg(test)]

@@ -3,7 +3,7 @@ use Rattle.std.proofs.Common.{◌≡◌, ℕ, nat_le, Bool, true, false, List, [
 use Rattle.std.specs.Prelude.{nat_eq}
 use Rattle.std.specs.List.{list_all, list_any, AllByRecursion}
 use Rattle.std.proofs.lemmas.Bool.Decides.{nat_tests}
-use Rattle.bridge_base.specs.declared.faults.Kind.{Kind}
+use Rattle.common.specs.declared.faults.Kind.{Kind}
 use Rattle.hol_spec.specs.declared.Version.{Version}
 use Rattle.hol_spec.specs.declared.Version.TheVariants.{Five, Six}
 use Rattle.hol_spec.specs.Names.{Name}
@@ -30,7 +30,7 @@ use Rattle.proof_laws.specs.SymbolGrowth.{symmetric}
 use Rattle.hol_laws.specs.TermLaws.{term_eq-Decides}
 use Rattle.article_spec.specs.State.{Object, State}
 use Rattle.article_spec.specs.Results.{◌>>◌, ◌>>=◌}
-use Rattle.bridge_base.specs.declared.faults.Kind.TheVariants.{NotTheSequent}
+use Rattle.common.specs.declared.faults.Kind.TheVariants.{NotTheSequent}
 use Rattle.article_spec.specs.Conditions.{demand, in_limits, all_bool, is_of_type, follows}
 use Rattle.article_spec.specs.Changes.{with_theorem, first_same}
 use Rattle.article_spec.specs.RuleSteps.{step_by, application_parts, stated, restatement}

@@ -2,7 +2,7 @@
 use Rattle.std.proofs.Common.{◌≡◌, ℕ, suc, Bool, true, false, not, cond, List, [], ◌∷◌, map, Option, None, Some, Ok, refl, sym, inl, inr, Result, subst}
 use Rattle.std.specs.Option.{ok_or, option_or}
 use Rattle.std.specs.List.{AllByRecursion, list_any, list_all, find}
-use Rattle.bridge_base.specs.declared.faults.Kind.TheVariants.{NotBool, TypeMismatch, NotAlike, VarInHyps, NotRedex, BadSubst, NameTaken, NotClosed, ExtraTypeVars, BadDefinitionList}
+use Rattle.common.specs.declared.faults.Kind.TheVariants.{NotBool, TypeMismatch, NotAlike, VarInHyps, NotRedex, BadSubst, NameTaken, NotClosed, ExtraTypeVars, BadDefinitionList}
 use Rattle.hol_spec.specs.Names.{Name}
 use Rattle.hol_spec.specs.Lists.{IsIn, distinct}
 use Rattle.hol_spec.specs.Types.{HolType}
@@ -46,7 +46,7 @@ use Rattle.article_spec.specs.declared.commands.Word.{Word}
 use Rattle.article_spec.specs.declared.commands.Word.TheVariants as word
 use Rattle.article_laws.specs.Inferred.{IsRule}
 use Rattle.article_laws.specs.SoundDefining.{type_laws-made}
-use Rattle.bridge_base.specs.declared.faults.Kind.{Kind}
+use Rattle.common.specs.declared.faults.Kind.{Kind}
 use Rattle.article_laws.specs.SoundStating.{assumption, axiom_step-made, restate_step-made, meeting}
 
 -- A step that infers

@@ -19,7 +19,7 @@ use Rattle.writing_laws.specs.Scenes.{Scene, body_state}
 use Rattle.writing_laws.specs.Listings.{pushed}
 use Rattle.writing_laws.specs.GivenWriting.{given_stack, substitution-read}
 use Rattle.writing_laws.specs.RuleWords.{concluded, refl-step, assume-step, eq_mp-step, abs_thm-step, app_thm-step, beta_conv-step, sym-step, trans-step, subst-step}
-use Rattle.bridge_base.specs.declared.faults.Kind.{Kind}
+use Rattle.common.specs.declared.faults.Kind.{Kind}
 
 -- the rules that have a word of their own and define nothing
 abbrev pub is_inference : StepKind → Bool

@@ -4,7 +4,7 @@ use Rattle.std.specs.Prelude.{nat_lt}
 use Rattle.std.specs.Option.{ok_or}
 use Rattle.std.proofs.lemmas.Option.{slice_get_within}
 use Rattle.std.specs.Ordering.{is_eq, int_cmp, eq_by_cmp}
-use Rattle.bridge_base.specs.declared.faults.Kind.TheVariants.{NoSuchKey}
+use Rattle.common.specs.declared.faults.Kind.TheVariants.{NoSuchKey}
 use Rattle.std.specs.FinMap as entries
 use Rattle.std.specs.FinMap.{get-insert}
 use Rattle.std.specs.Cmp.{int_cmp_total}

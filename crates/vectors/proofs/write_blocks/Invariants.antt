@@ -1,6 +1,6 @@
 use Rattle.std.proofs.Common.{◌≤◌}
 use Rattle.bridge_base.specs.Outside.{Gains}
-use Rattle.vectors.specs.Trial.{blocks, lines}
+use Rattle.article_spec.specs.Trial.{blocks, lines}
 use Rattle.vectors.proofs.write_blocks.Given as goal
 
 -- the blocks up to here are written

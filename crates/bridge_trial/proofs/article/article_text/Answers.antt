@@ -1,5 +1,5 @@
 use Rattle.std.proofs.Common.{◌∙◌, ◌++◌, ap}
-use Rattle.vectors.specs.Trial.{trial_text}
+use Rattle.article_spec.specs.Trial.{trial_text}
 use Rattle.bridge_trial.proofs.article.article_text.Goals as goal
 
 pub returns-in-Ok : goal.returns-in-Ok

@@ -1,6 +1,6 @@
 use Rattle.std.proofs.Common.{◌<◌, ◌∙◌, ◌++◌, ◌∷◌, [], length, map, take, sym, ap, subst, arith}
 use Rattle.std.proofs.lemmas.List.{length-map}
-use Rattle.lp_fast.specs.FastCheck.{fast_bound}
+use Rattle.lp_spec.specs.FastCheck.{fast_bound}
 use Rattle.holide_sig.specs.Modules.{declaration_in, declarations_of}
 use Rattle.bridge_verify.proofs.FastBounds.{front-more}
 use Rattle.bridge_verify.proofs.fast.fast_bounds.Goals as goal

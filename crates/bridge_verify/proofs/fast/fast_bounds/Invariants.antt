@@ -1,5 +1,5 @@
 use Rattle.std.proofs.Common.{◌≡◌, map, take}
-use Rattle.lp_fast.specs.FastCheck.{fast_bound}
+use Rattle.lp_spec.specs.FastCheck.{fast_bound}
 use Rattle.holide_sig.specs.Modules.{declarations_of}
 use Rattle.lp_weight.specs.Spreads.{AreWeights}
 use Rattle.bridge_verify.proofs.fast.fast_bounds.Given as goal

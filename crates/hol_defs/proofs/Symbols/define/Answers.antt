@@ -4,7 +4,7 @@ use Rattle.hol_defs.specs.SymbolLaws.{symbols_at-append, AreKnownSymbols-append}
 use Rattle.hol_spec.specs.Defining.{is_closed}
 use Rattle.hol_spec.specs.Symbols.{is_taken_constant}
 use Rattle.hol_term.specs.Tables.{term_at}
-use Rattle.bridge_base.specs.declared.faults.Kind.TheVariants.{NameTaken, NotClosed, ExtraTypeVars}
+use Rattle.common.specs.declared.faults.Kind.TheVariants.{NameTaken, NotClosed, ExtraTypeVars}
 use Rattle.hol_defs.specs.Faults.{has_own_variables}
 use Rattle.hol_defs.proofs.IndexLaws.{undefined}
 use Rattle.hol_defs.proofs.JudgeLaws.{first_holds, known_term}

@@ -1,6 +1,6 @@
 use Rattle.std.proofs.Common.{◌≡◌, ap, subst, ◌∙◌, refl, [], ◌∷◌, drop, slice_set, arith}
-use Rattle.bridge_base.specs.declared.faults.Fault.TheVariants.{Refused}
-use Rattle.bridge_base.specs.declared.faults.Kind.TheVariants.{EmptyList}
+use Rattle.common.specs.declared.faults.Fault.TheVariants.{Refused}
+use Rattle.common.specs.declared.faults.Kind.TheVariants.{EmptyList}
 use Rattle.article_spec.specs.State as state
 use Rattle.article_spec.specs.Operands.{head_and_tail}
 use Rattle.stack_machine.specs.Stored.{IsListKnown, list_view}

@@ -1,6 +1,6 @@
 use Rattle.std.proofs.Common.{sym, ◌∙◌}
-use Rattle.bridge_base.specs.declared.faults.Fault.TheVariants.{Refused}
-use Rattle.bridge_base.specs.declared.faults.Kind.TheVariants.{VarInHyps}
+use Rattle.common.specs.declared.faults.Fault.TheVariants.{Refused}
+use Rattle.common.specs.declared.faults.Kind.TheVariants.{VarInHyps}
 use Rattle.hol_rules.proofs.FunctionEnds.{abs_thm-ends, abs_thm-free, left_term, left_at_typed, right_is}
 use Rattle.hol_rules.proofs.Concluded.{Grows-refl, Grows-trans, refuses, fails-row, refused, stopped}
 use Rattle.hol_rules.proofs.Ends.{ended}

@@ -1,6 +1,6 @@
 use Rattle.std.proofs.Common.{sym, ◌∙◌}
-use Rattle.bridge_base.specs.declared.faults.Fault.TheVariants.{Refused}
-use Rattle.bridge_base.specs.declared.faults.Kind.TheVariants.{TypeMismatch}
+use Rattle.common.specs.declared.faults.Fault.TheVariants.{Refused}
+use Rattle.common.specs.declared.faults.Kind.TheVariants.{TypeMismatch}
 use Rattle.hol_rules.proofs.FunctionEnds.{app_thm-ends, app_thm-mismatch, first_term, first_at_typed, number-grown}
 use Rattle.hol_rules.proofs.Concluded.{Grows-trans, refuses, Grows-refl, fails-row, refused, stopped}
 use Rattle.hol_rules.proofs.Ends.{ended, step-grown}

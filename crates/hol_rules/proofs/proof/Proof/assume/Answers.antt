@@ -1,8 +1,8 @@
 use Rattle.std.proofs.Common.{sym, ◌∙◌}
 use Rattle.hol_rules.proofs.Ends.{assume-ends, ended}
 use Rattle.hol_rules.proofs.Concluded.{Grows-refl, refuses, stopped}
-use Rattle.bridge_base.specs.declared.faults.Fault.TheVariants.{Refused}
-use Rattle.bridge_base.specs.declared.faults.Kind.TheVariants.{NotBool}
+use Rattle.common.specs.declared.faults.Fault.TheVariants.{Refused}
+use Rattle.common.specs.declared.faults.Kind.TheVariants.{NotBool}
 use Rattle.hol_rules.proofs.RuleSteps.{unmet}
 use Rattle.hol_rules.proofs.proof.Proof.assume.Goals as goal
 

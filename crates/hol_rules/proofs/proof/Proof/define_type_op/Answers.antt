@@ -1,7 +1,7 @@
 use Rattle.std.proofs.Common.{sym, subst}
 use Rattle.article_spec.specs.Conditions.{in_limits}
 use Rattle.article_spec.specs.Results.{Fails}
-use Rattle.bridge_base.specs.declared.faults.Fault.TheVariants.{Memory}
+use Rattle.common.specs.declared.faults.Fault.TheVariants.{Memory}
 use Rattle.hol_defs.specs.Symbols.{named}
 use Rattle.hol_term.specs.Tables.{Trees, term_at, type_at}
 use Rattle.hol_rules.specs.Kept.{Kept, Grows}

@@ -1,6 +1,6 @@
 use Rattle.std.proofs.Common.{◌≡◌, arith}
-use Rattle.bridge_base.specs.declared.faults.Fault.TheVariants.{Refused}
-use Rattle.bridge_base.specs.declared.faults.Kind.TheVariants.{NotAlike}
+use Rattle.common.specs.declared.faults.Fault.TheVariants.{Refused}
+use Rattle.common.specs.declared.faults.Kind.TheVariants.{NotAlike}
 use Rattle.hol_rules.proofs.Concluded.{Grows-refl, refuses, fails-row, refused, stopped}
 use Rattle.hol_rules.proofs.Ends.{eq_mp-ends, eq_mp-apart, ended}
 use Rattle.hol_rules.proofs.proof.Proof.eq_mp.Goals as goal

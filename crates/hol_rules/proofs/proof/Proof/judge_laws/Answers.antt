@@ -1,6 +1,6 @@
 use Rattle.std.proofs.Common.{ap, sym, ◌∙◌}
 use Rattle.article_spec.specs.Conditions.{demand}
-use Rattle.bridge_base.specs.declared.faults.Kind.TheVariants.{TooManyParams}
+use Rattle.common.specs.declared.faults.Kind.TheVariants.{TooManyParams}
 use Rattle.hol_rules.proofs.proof.Proof.judge_laws.Goals as goal
 
 pub returns-then-not-branch-clause-refused : goal.returns-then-not-branch-clause-refused

@@ -1,6 +1,6 @@
 use Rattle.std.proofs.Common.{ap, ◌∙◌}
 use Rattle.article_spec.specs.Conditions.{demand}
-use Rattle.bridge_base.specs.declared.faults.Kind.TheVariants.{NotTheSequent}
+use Rattle.common.specs.declared.faults.Kind.TheVariants.{NotTheSequent}
 use Rattle.hol_rules.proofs.Truths.{stated_within}
 use Rattle.hol_rules.proofs.proof.Proof.restated.Goals as goal
 

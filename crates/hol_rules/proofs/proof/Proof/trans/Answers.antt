@@ -1,6 +1,6 @@
 use Rattle.std.proofs.Common.{◌≡◌, arith}
-use Rattle.bridge_base.specs.declared.faults.Fault.TheVariants.{Refused}
-use Rattle.bridge_base.specs.declared.faults.Kind.TheVariants.{NotAlike}
+use Rattle.common.specs.declared.faults.Fault.TheVariants.{Refused}
+use Rattle.common.specs.declared.faults.Kind.TheVariants.{NotAlike}
 use Rattle.hol_rules.proofs.Concluded.{Grows-refl, refuses, fails-row, refused, stopped}
 use Rattle.hol_rules.proofs.Ends.{trans-ends, trans-apart, ended, left_side-term, left_side-typed, step-grown}
 use Rattle.hol_rules.proofs.proof.Proof.trans.Goals as goal

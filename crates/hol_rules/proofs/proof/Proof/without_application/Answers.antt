@@ -1,7 +1,7 @@
 use Rattle.std.proofs.Common.{◌≡◌, sym, ap, subst, ◌∙◌}
 use Rattle.std.specs.Prelude.{if◌then◌else◌}
-use Rattle.bridge_base.specs.declared.faults.Fault.TheVariants.{Refused}
-use Rattle.bridge_base.specs.declared.faults.Kind.TheVariants.{NameTaken, NotTheSequent}
+use Rattle.common.specs.declared.faults.Fault.TheVariants.{Refused}
+use Rattle.common.specs.declared.faults.Kind.TheVariants.{NameTaken, NotTheSequent}
 use Rattle.hol_defs.specs.Faults.{are_new}
 use Rattle.hol_rules.specs.Laws.{named_by}
 use Rattle.hol_rules.proofs.proof.Proof.without_application.Goals as goal

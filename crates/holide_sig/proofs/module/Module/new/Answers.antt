@@ -1,6 +1,6 @@
 use Rattle.std.proofs.Common.{◌∙◌, ap, sym, subst, map}
 use Rattle.std.specs.Prelude.{IsTrue}
-use Rattle.bridge_base.specs.Binding.{Pairwise}
+use Rattle.common.specs.Binding.{Pairwise}
 use Rattle.lp_spec.specs.Modules.{signature}
 use Rattle.lp_term.specs.Tables.{Holds, IsDistinct}
 use Rattle.holide_sig.specs.declared.signature.TheConstants.{NODES}

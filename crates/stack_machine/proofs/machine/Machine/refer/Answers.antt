@@ -4,8 +4,8 @@ use Rattle.std.specs.Map.{lookup}
 use Rattle.std.specs.Option.{ok_or}
 use Rattle.std.specs.BTreeMap.{is_at}
 use Rattle.std.proofs.lemmas.Int.{to_z-of_z}
-use Rattle.bridge_base.specs.declared.faults.Fault.TheVariants.{Refused}
-use Rattle.bridge_base.specs.declared.faults.Kind.TheVariants.{NoSuchKey}
+use Rattle.common.specs.declared.faults.Fault.TheVariants.{Refused}
+use Rattle.common.specs.declared.faults.Kind.TheVariants.{NoSuchKey}
 use Rattle.stack_machine.specs.Stored.{AreKnown, object_view}
 use Rattle.stack_machine.specs.Shown.{shown, article_state}
 use Rattle.stack_machine.proofs.Passing.{handed_on}

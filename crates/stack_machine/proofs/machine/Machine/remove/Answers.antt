@@ -5,8 +5,8 @@ use Rattle.std.specs.Option.{ok_or}
 use Rattle.std.specs.BTreeMap.{is_at}
 use Rattle.std.proofs.lemmas.Int.{to_z-of_z}
 use Rattle.std.proofs.Math.Path.{ap₂}
-use Rattle.bridge_base.specs.declared.faults.Fault.TheVariants.{Refused}
-use Rattle.bridge_base.specs.declared.faults.Kind.TheVariants.{NoSuchKey}
+use Rattle.common.specs.declared.faults.Fault.TheVariants.{Refused}
+use Rattle.common.specs.declared.faults.Kind.TheVariants.{NoSuchKey}
 use Rattle.stack_machine.specs.Stored.{AreKnown, object_view, objects_view}
 use Rattle.stack_machine.specs.Shown.{in_state, article_state, AreEntriesKnown}
 use Rattle.stack_machine.proofs.Passing.{handed_on}

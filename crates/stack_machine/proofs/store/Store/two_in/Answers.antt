@@ -1,6 +1,6 @@
 use Rattle.std.proofs.Common.{ap, subst, ◌∙◌}
 use Rattle.std.specs.Option.{ok_or}
-use Rattle.bridge_base.specs.declared.faults.Kind.TheVariants.{WrongKind}
+use Rattle.common.specs.declared.faults.Kind.TheVariants.{WrongKind}
 use Rattle.stack_machine.specs.Reading.{two_of, with_first}
 use Rattle.stack_machine.specs.Stored.{IsListKnown, list_view, object_view}
 use Rattle.stack_machine.proofs.Passing.{handed_on}

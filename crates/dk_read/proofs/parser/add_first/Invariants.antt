@@ -1,5 +1,0 @@
-use Rattle.dk_read.specs.Names.{IsNameless, HasSymbols}
-use Rattle.dk_read.proofs.parser.add_first.Given as goal
-
-abbrev pub invariant-loop-symbol : goal.invariant-loop-symbol
-invariant-loop-symbol l = record { nameless : IsNameless l.names l.nameless; symbols : HasSymbols l.names l.symbol }

@@ -1,5 +1,0 @@
-use Rattle.dk_read.proofs.Signs.{signs_piece}
-use Rattle.dk_read.proofs.text.sign_of.Goals as goal
-
-pub returns : goal.returns
-returns c = record { signs = signs_piece c.args.piece.now c.if-piece-lt2.false c.sign_by.result c.sign_by.ensures.signs }
