@@ -1,4 +1,4 @@
 pub mod AnswerTexts
 pub mod Beginning
 pub mod Delivered
-pub mod Promised
+pub mod Performed

@@ -2,7 +2,7 @@
 ghost use Rattle.std.specs.Prelude.{◌≡◌, Some};
 ghost use Rattle.bridge_spec.specs.Forms.{check};
 ghost use Rattle.bridge_spec.specs.Calls.{call, shelved, sunk};
-ghost use Rattle.bridge_spec.specs.Promises.{Promise};
+ghost use Rattle.bridge_spec.specs.Promises.{Performs};
 
 use crate::checking::checked;
 use bridge_answer::deliver;
@@ -21,7 +21,7 @@ pub fn check<H: Shelf, O: Sink, N: Sink>(
     out: &mut O,
     note: &mut N,
 ) -> Status
-    ensures { Promise (call (Some (check fast file.now budget)) (shelved H.told H.faults H.begun shelf.old shelf.new) (sunk O.got O.faults out.old out.new) (sunk N.got N.faults note.old note.new)) result }
+    ensures { Performs (call (Some (check fast file.now budget)) (shelved H.told H.faults H.begun shelf.old shelf.new) (sunk O.got O.faults out.old out.new) (sunk N.got N.faults note.old note.new)) result }
 {
     let answer = checked(alloc, file, budget, !fast, shelf);
     deliver(answer, out, note)

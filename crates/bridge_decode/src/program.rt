@@ -2,7 +2,7 @@
 ghost use Rattle.std.specs.Prelude.{◌≡◌, Some};
 ghost use Rattle.bridge_spec.specs.Forms.{decode};
 ghost use Rattle.bridge_spec.specs.Calls.{call, shelved, sunk};
-ghost use Rattle.bridge_spec.specs.Promises.{Promise};
+ghost use Rattle.bridge_spec.specs.Promises.{Performs};
 
 use crate::decoding::decoded;
 use bridge_answer::deliver;
@@ -19,7 +19,7 @@ pub fn decode<H: Shelf, O: Sink, N: Sink>(
     out: &mut O,
     note: &mut N,
 ) -> Status
-    ensures { Promise (call (Some (decode file.now)) (shelved H.told H.faults H.begun shelf.old shelf.new) (sunk O.got O.faults out.old out.new) (sunk N.got N.faults note.old note.new)) result }
+    ensures { Performs (call (Some (decode file.now)) (shelved H.told H.faults H.begun shelf.old shelf.new) (sunk O.got O.faults out.old out.new) (sunk N.got N.faults note.old note.new)) result }
 {
     let answer = decoded(alloc, file, shelf);
     deliver(answer, out, note)

@@ -1,7 +1,7 @@
 //! The program as one call.
 ghost use Rattle.std.specs.Prelude.{Some};
 ghost use Rattle.bridge_spec.specs.Calls.{call, shelved, sunk, form_in};
-ghost use Rattle.bridge_spec.specs.Promises.{Promise};
+ghost use Rattle.bridge_spec.specs.Promises.{Performs, Promise};
 ghost use Rattle.bridge_words.specs.Asked.{asked};
 ghost use Rattle.bridge_run.specs.Blocks.{HasBlocks};
 
@@ -53,7 +53,7 @@ fn answered<H: Shelf, O: Sink, N: Sink>(
     note: &mut N,
 ) -> Status
     requires { HasBlocks (Some (asked form.now)) }
-    ensures { Promise (call (Some (asked form.now)) (shelved H.told H.faults H.begun shelf.old shelf.new) (sunk O.got O.faults out.old out.new) (sunk N.got N.faults note.old note.new)) result }
+    ensures { Performs (call (Some (asked form.now)) (shelved H.told H.faults H.begun shelf.old shelf.new) (sunk O.got O.faults out.old out.new) (sunk N.got N.faults note.old note.new)) result }
 {
     match form {
         Form::Verify(share, fast, files) => verify(alloc, files, *share, *fast, shelf, out, note),

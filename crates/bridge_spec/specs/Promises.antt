@@ -1,4 +1,4 @@
--- What the one call of the program promises. What follows from it stands in `Consequences`.
+-- What a command does, and what the one call of the program promises. What follows from a promise stands in `Consequences`.
 use Rattle.std.specs.Prelude.{◌≡◌, ◌≤◌, Bool}
 use Rattle.hol_spec.specs.Proofs.{Accepted}
 use Rattle.hol_spec.specs.declared.Version.{Version}
@@ -9,6 +9,17 @@ use Rattle.bridge_spec.specs.Articles.{IsRetold}
 use Rattle.bridge_spec.specs.Outputs.{Outputs}
 use Rattle.bridge_spec.specs.declared.status.Status.{Status}
 
+pub record Performs (call : Call) (result : Status) : Type 0 where
+  -- Each answer comes only by its cause, and the sinks gain its texts; or a failing write replaced it.
+  pub outputs : Outputs call result
+  -- The shelf tells the same files as before.
+  pub told_kept : call.shelf.told ≡ call.shelf.told_before
+  -- No count of faults falls.
+  pub shelf_count : call.shelf.faults_before ≤ call.shelf.faults
+  pub out_count : call.out.faults_before ≤ call.out.faults
+  pub note_count : call.note.faults_before ≤ call.note.faults
+
+-- What a call does, with what holds of every run that it speaks of
 pub record Promise (call : Call) (result : Status) : Type 0 where
   -- Each answer comes only by its cause, and the sinks gain its texts; or a failing write replaced it.
   pub outputs : Outputs call result

@@ -2,7 +2,7 @@
 ghost use Rattle.std.specs.Prelude.{Some};
 ghost use Rattle.bridge_spec.specs.Forms.{translate};
 ghost use Rattle.bridge_spec.specs.Calls.{call, shelved, sunk, names_in};
-ghost use Rattle.bridge_spec.specs.Promises.{Promise};
+ghost use Rattle.bridge_spec.specs.Promises.{Performs};
 
 use crate::delivery::deliver_translation;
 use crate::translation::translation_of;
@@ -21,7 +21,7 @@ pub fn translate<H: Shelf, O: Sink, N: Sink>(
     out: &mut O,
     note: &mut N,
 ) -> Status
-    ensures { Promise (call (Some (translate share (names_in files.now))) (shelved H.told H.faults H.begun shelf.old shelf.new) (sunk O.got O.faults out.old out.new) (sunk N.got N.faults note.old note.new)) result }
+    ensures { Performs (call (Some (translate share (names_in files.now))) (shelved H.told H.faults H.begun shelf.old shelf.new) (sunk O.got O.faults out.old out.new) (sunk N.got N.faults note.old note.new)) result }
 {
     match translation_of(alloc, files, share, shelf) {
         Ok(translation) => {

@@ -3,7 +3,7 @@ ghost use Rattle.std.specs.Prelude.{ℕ, ◌<◌, ◌≤◌, List, Option, Some}
 ghost use Rattle.bridge_base.specs.Outside.{Files};
 ghost use Rattle.bridge_spec.specs.Forms.{greatest_trial, trial};
 ghost use Rattle.bridge_spec.specs.Calls.{call, untouched, sunk};
-ghost use Rattle.bridge_spec.specs.Promises.{Promise};
+ghost use Rattle.bridge_spec.specs.Promises.{Performs};
 
 use crate::delivery::deliver_counts;
 use crate::verification::verified;
@@ -16,7 +16,7 @@ use std::alloc::Global;
 pub fn trial<O: Sink, N: Sink>(alloc: Global, n: u64, out: &mut O, note: &mut N) -> Status
     requires some { 0 < n }
     requires within { n ≤ greatest_trial }
-    ensures { (told : Option Files) (faults : ℕ) (begun : Option (List (List ℕ))) → Promise (call (Some (trial n)) (untouched told faults begun) (sunk O.got O.faults out.old out.new) (sunk N.got N.faults note.old note.new)) result }
+    ensures { (told : Option Files) (faults : ℕ) (begun : Option (List (List ℕ))) → Performs (call (Some (trial n)) (untouched told faults begun) (sunk O.got O.faults out.old out.new) (sunk N.got N.faults note.old note.new)) result }
 {
     match verified(alloc, n) {
         Ok(counts) => deliver_counts(&counts, out, note),

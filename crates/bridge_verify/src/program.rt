@@ -7,7 +7,7 @@ ghost use Rattle.bridge_answer.specs.AnswerTexts.{note_of, status_of, text_of};
 ghost use Rattle.bridge_spec.specs.Forms.{verify};
 ghost use Rattle.bridge_spec.specs.Calls.{call, shelved, sunk, names_in};
 ghost use Rattle.bridge_spec.specs.Outputs.{Delivers};
-ghost use Rattle.bridge_spec.specs.Promises.{Promise};
+ghost use Rattle.bridge_spec.specs.Promises.{Performs};
 ghost use Rattle.bridge_spec.specs.Texts.{five_lines};
 ghost use Rattle.bridge_spec.specs.declared.status.Status.TheVariants.{Done};
 ghost use Rattle.bridge_translate.specs.Translations.{counts_in};
@@ -31,7 +31,7 @@ pub fn verify<H: Shelf, O: Sink, N: Sink>(
     out: &mut O,
     note: &mut N,
 ) -> Status
-    ensures { Promise (call (Some (verify share fast (names_in files.now))) (shelved H.told H.faults H.begun shelf.old shelf.new) (sunk O.got O.faults out.old out.new) (sunk N.got N.faults note.old note.new)) result }
+    ensures { Performs (call (Some (verify share fast (names_in files.now))) (shelved H.told H.faults H.begun shelf.old shelf.new) (sunk O.got O.faults out.old out.new) (sunk N.got N.faults note.old note.new)) result }
 {
     match translation_of(alloc, files, share, shelf) {
         Ok(translation) => match check_back(alloc, &translation, fast) {

@@ -1,5 +1,6 @@
 pub mod ArticleHeadlines
 pub mod FoldedHeadlines
+pub mod FormPromises
 pub mod Headlines
 pub mod PlainNames
 pub mod RuleVariables

@@ -10,6 +10,7 @@
 //! | `RuleVariables` | a rule brings no variable of its own |
 //! | `WrittenNames` | the name of each variable that a step is given stands in the article |
 //! | `ArticleHeadlines` | so the names of variables are few, and the article of a run tells it again |
+//! | `FormPromises` | what a call promises comes of what it does: the headline and the law of articles hold of the run that its form asks for |
 #![tactic(auto)]
 
 ghost use Rattle.bridge_spec.specs.Articles.{EachRunIsRetold};

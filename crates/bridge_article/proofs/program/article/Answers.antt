@@ -6,7 +6,7 @@ use Rattle.bridge_spec.specs.Begun.{BeginsFiles}
 use Rattle.bridge_spec.specs.Forms.{Form}
 use Rattle.bridge_spec.specs.Calls.{call, shelved, sunk, names_in}
 use Rattle.bridge_answer.specs.AnswerTexts.{status_of, text_of, note_of}
-use Rattle.bridge_answer.specs.Promised.{outputs-Promise}
+use Rattle.bridge_answer.specs.Performed.{outputs-Performs}
 use Rattle.bridge_reading.specs.StopAnswers.{stop-AnswersArticle, stop-BeginsFiles}
 use Rattle.bridge_article.proofs.RunAnswers.{of-run-AnswersArticle, of-run-BeginsFiles}
 use Rattle.bridge_article.proofs.program.article.Goals as goal
@@ -18,7 +18,7 @@ returns-in-Ok g c =
     let version = last_version c.in-Ok.machine.place in
     let run = accepted_state c.in-Ok.machine in
     let d = c.deliver_run-status.ensures.delivered in
-    outputs-Promise
+    outputs-Performs
     (call (Some (Form.article names)) shelf (sunk g.O.Sink.got g.O.Sink.faults c.args.out.now c.deliver_run-status.new.out) (sunk g.N.Sink.got g.N.Sink.faults c.args.note.now c.deliver_run-status.new.note))
     c.deliver_run-status.result
     (record {
@@ -36,7 +36,7 @@ returns-in-Err g c =
     let names = names_in c.args.files.now in
     let shelf = shelved g.H.Shelf.told g.H.Shelf.faults g.H.Shelf.begun c.args.shelf.now c.read_articles.new.shelf in
     let answer = c.into_answer.result in
-    outputs-Promise
+    outputs-Performs
     (call (Some (Form.article names)) shelf (sunk g.O.Sink.got g.O.Sink.faults c.args.out.now c.deliver.new.out) (sunk g.N.Sink.got g.N.Sink.faults c.args.note.now c.deliver.new.note))
     c.deliver.result
     (record {

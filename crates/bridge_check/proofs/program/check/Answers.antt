@@ -5,14 +5,14 @@ use Rattle.bridge_spec.specs.Calls.{call, shelved, sunk}
 use Rattle.bridge_spec.specs.Answers.{AnswersCheck}
 use Rattle.bridge_module.specs.Begun.{whole-BeginsFiles}
 use Rattle.bridge_answer.specs.AnswerTexts.{status_of, text_of, note_of}
-use Rattle.bridge_answer.specs.Promised.{outputs-Promise}
+use Rattle.bridge_answer.specs.Performed.{outputs-Performs}
 use Rattle.bridge_check.proofs.program.check.Goals as goal
 
 pub returns : goal.returns
 returns g c =
     let shelf = shelved g.H.Shelf.told g.H.Shelf.faults g.H.Shelf.begun c.args.shelf.now c.checked-answer.new.shelf in
     let answer = c.checked-answer.result in
-    outputs-Promise
+    outputs-Performs
     (call (Some (check c.args.fast c.args.file.now c.args.budget)) shelf (sunk g.O.Sink.got g.O.Sink.faults c.args.out.now c.deliver.new.out) (sunk g.N.Sink.got g.N.Sink.faults c.args.note.now c.deliver.new.note))
     c.deliver.result
     (record {

@@ -11,7 +11,7 @@ use Rattle.bridge_spec.specs.declared.status.Status.TheVariants.{Done}
 use Rattle.bridge_spec.specs.Outputs.{Outputs}
 use Rattle.bridge_answer.specs.declared.answer.Answer.TheVariants.{Memory}
 use Rattle.bridge_answer.specs.AnswerTexts.{status_of, text_of, note_of}
-use Rattle.bridge_answer.specs.Promised.{outputs-Promise}
+use Rattle.bridge_answer.specs.Performed.{outputs-Performs}
 use Rattle.bridge_reading.specs.StopAnswers.{stop-AnswersTranslate, stop-BeginsFiles}
 use Rattle.bridge_translate.specs.TranslationLaws.{written-module_text, length-bounds}
 use Rattle.bridge_translate.specs.Translations.{counts_in}
@@ -46,14 +46,14 @@ returns-in-Ok g c =
       delivered = wanting;
     })
     c.deliver_translation-status.ensures.delivered in
-    outputs-Promise own c.deliver_translation-status.result outputs c.in-Ok.ensures.told_kept c.in-Ok.ensures.count c.deliver_translation-status.ensures.out_count c.deliver_translation-status.ensures.note_count
+    outputs-Performs own c.deliver_translation-status.result outputs c.in-Ok.ensures.told_kept c.in-Ok.ensures.count c.deliver_translation-status.ensures.out_count c.deliver_translation-status.ensures.note_count
 
 pub returns-in-Err : goal.returns-in-Err
 returns-in-Err g c =
     let names = names_in c.args.files.now in
     let shelf = shelved g.H.Shelf.told g.H.Shelf.faults g.H.Shelf.begun c.args.shelf.now c.translation_of.new.shelf in
     let answer = c.into_answer.result in
-    outputs-Promise
+    outputs-Performs
     (call (Some (translate c.args.share names)) shelf (sunk g.O.Sink.got g.O.Sink.faults c.args.out.now c.deliver.new.out) (sunk g.N.Sink.got g.N.Sink.faults c.args.note.now c.deliver.new.note))
     c.deliver.result
     (record {

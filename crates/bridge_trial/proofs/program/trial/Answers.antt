@@ -8,14 +8,14 @@ use Rattle.bridge_spec.specs.Texts.{six_lines}
 use Rattle.bridge_spec.specs.declared.status.Status.TheVariants.{Done}
 use Rattle.bridge_answer.specs.AnswerTexts.{status_of, text_of, note_of}
 use Rattle.bridge_answer.specs.Beginning.{begins_front_of_same}
-use Rattle.bridge_answer.specs.Promised.{outputs-Promise}
+use Rattle.bridge_answer.specs.Performed.{outputs-Performs}
 use Rattle.bridge_translate.specs.Translations.{counts_in}
 use Rattle.bridge_trial.proofs.program.trial.Goals as goal
 
 pub returns-in-Ok : goal.returns-in-Ok
 returns-in-Ok g c told faults begun =
     let run = c.in-Ok.ensures.counts in
-    outputs-Promise
+    outputs-Performs
     (call (Some (trial c.args.n)) (untouched told faults begun) (sunk g.O.Sink.got g.O.Sink.faults c.args.out.now c.deliver_counts.new.out) (sunk g.N.Sink.got g.N.Sink.faults c.args.note.now c.deliver_counts.new.note))
     c.deliver_counts.result
     (record {
@@ -31,7 +31,7 @@ returns-in-Ok g c told faults begun =
 pub returns-in-Err : goal.returns-in-Err
 returns-in-Err g c told faults begun =
     let answer = c.in-Err.answer in
-    outputs-Promise
+    outputs-Performs
     (call (Some (trial c.args.n)) (untouched told faults begun) (sunk g.O.Sink.got g.O.Sink.faults c.args.out.now c.deliver.new.out) (sunk g.N.Sink.got g.N.Sink.faults c.args.note.now c.deliver.new.note))
     c.deliver.result
     (record {

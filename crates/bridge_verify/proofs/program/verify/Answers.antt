@@ -12,7 +12,7 @@ use Rattle.bridge_spec.specs.declared.status.Status.TheVariants.{Done}
 use Rattle.bridge_spec.specs.Outputs.{Outputs}
 use Rattle.bridge_answer.specs.declared.answer.Answer.TheVariants.{Memory}
 use Rattle.bridge_answer.specs.AnswerTexts.{status_of, text_of, note_of}
-use Rattle.bridge_answer.specs.Promised.{outputs-Promise}
+use Rattle.bridge_answer.specs.Performed.{outputs-Performs}
 use Rattle.bridge_reading.specs.StopAnswers.{stop-AnswersVerify, stop-BeginsFiles}
 use Rattle.bridge_translate.specs.TranslationLaws.{written-module_text, length-bounds}
 use Rattle.bridge_translate.specs.Translations.{counts_in}
@@ -55,14 +55,14 @@ returns-in-Ok-check_back g c =
       delivered = wanting;
     })
     c.deliver_verified.ensures.delivered in
-    outputs-Promise own c.deliver_verified.result outputs c.in-Ok.ensures.told_kept c.in-Ok.ensures.count c.deliver_verified.ensures.out_count c.deliver_verified.ensures.note_count
+    outputs-Performs own c.deliver_verified.result outputs c.in-Ok.ensures.told_kept c.in-Ok.ensures.count c.deliver_verified.ensures.out_count c.deliver_verified.ensures.note_count
 
 pub returns-in-Ok : goal.returns-in-Ok
 returns-in-Ok g c =
     let names = names_in c.args.files.now in
     let shelf = shelved g.H.Shelf.told g.H.Shelf.faults g.H.Shelf.begun c.args.shelf.now c.translation_of.new.shelf in
     let answer = c.in-Err-check_back.answer in
-    outputs-Promise
+    outputs-Performs
     (call (Some (verify c.args.share c.args.fast names)) shelf (sunk g.O.Sink.got g.O.Sink.faults c.args.out.now c.deliver.new.out) (sunk g.N.Sink.got g.N.Sink.faults c.args.note.now c.deliver.new.note))
     c.deliver.result
     (record {
@@ -80,7 +80,7 @@ returns g c =
     let names = names_in c.args.files.now in
     let shelf = shelved g.H.Shelf.told g.H.Shelf.faults g.H.Shelf.begun c.args.shelf.now c.translation_of.new.shelf in
     let answer = c.into_answer.result in
-    outputs-Promise
+    outputs-Performs
     (call (Some (verify c.args.share c.args.fast names)) shelf (sunk g.O.Sink.got g.O.Sink.faults c.args.out.now c.deliver-in-Err.new.out) (sunk g.N.Sink.got g.N.Sink.faults c.args.note.now c.deliver-in-Err.new.note))
     c.deliver-in-Err.result
     (record {
