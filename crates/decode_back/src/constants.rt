@@ -24,11 +24,9 @@ use hol_name::Name;
 use hol_term::TermTable;
 use hol_type::TypeId;
 use holide_sig::Module;
+use holide_sig::symbols::TERM;
 use lp_term::{LpId, LpNode, LpTable};
 use std::alloc::Global;
-
-// The number of the symbol of the types of terms.
-pub(crate) const TERM: usize = 4;
 
 // The greatest depth of a type, as the count of a walk.
 pub(crate) const GREATEST_DEPTH: usize = hol_spec::GREATEST_DEPTH as usize;

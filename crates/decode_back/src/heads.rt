@@ -14,7 +14,7 @@ ghost use Rattle.decode_back.specs.Sources.{declared, place_of, told, told_type,
 ghost use Rattle.decode_back.specs.TermWalks.{AreTypeArguments, IsConstantMade};
 
 use crate::budgets::spend;
-use crate::constants::{Constant, TERM, constant_at, symbol_argument};
+use crate::constants::{Constant, constant_at, symbol_argument};
 use crate::names::parameter_name;
 use crate::sources::Source;
 use crate::types::decode_type;
@@ -23,6 +23,7 @@ use hol_name::Name;
 use hol_term::{TermId, TermTable};
 use hol_type::TypeId;
 use holide_sig::SIGNATURE;
+use holide_sig::symbols::TERM;
 use lp_term::LpId;
 
 // The type over which the domain of a binder tells terms.

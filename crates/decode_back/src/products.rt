@@ -6,13 +6,11 @@ ghost use Rattle.lp_term.specs.Tables.{tree_at, trees_at};
 ghost use Rattle.decode_spec.specs.Decode.{peel as peeled};
 ghost use Rattle.decode_back.specs.SequentWalks.{ArePartsFound, ArePartsKnown};
 
-use crate::constants::{TERM, peel_types, symbol_argument};
+use crate::constants::{peel_types, symbol_argument};
 use common::Memory;
+use holide_sig::symbols::{PROOF, TERM};
 use lp_term::{LpId, LpNode, LpTable};
 use std::alloc::Global;
-
-// The number of the symbol of proofs.
-const PROOF: usize = 7;
 
 /// What a product is of: how many type variables, and the trees of the free variables' types, of the hypotheses and of the conclusion.
 #[derive(Drop)]

@@ -105,19 +105,19 @@ fn are_few(type_variables: usize, variables: usize, hypotheses: usize) -> bool
 // The closed sequent for which the parts of a product stand, with the terms of its free variables.
 fn decode_terms(
     alloc: Global,
-    module: &Module,
+    base: &Module,
     parts: &Parts,
     variables: &[TermId],
     innermost: TermId,
     table: &mut TermTable,
 ) -> Result<Option<Closed>, Memory>
-    requires held { IsHeld module.now }
-    requires known { ArePartsKnown module.now.table parts.now }
+    requires held { IsHeld base.now }
+    requires known { ArePartsKnown base.now.table parts.now }
     requires few { parts.now.type_variables + length variables.now + length parts.now.hypotheses.items ≤ greatest_parameter_count }
     requires variables { AreKnown table.old variables.now }
     requires innermost { Holds table.old innermost.0 (term.bound 0) }
     ensures found { IfOk result (λ found. (types : List ClosedType)
-        → AreTyped module.now parts.now table.old variables.now types → IsDecodedOf module.now parts.now found) }
+        → AreTyped base.now parts.now table.old variables.now types → IsDecodedOf base.now parts.now found) }
 {
     let mut budget = GREATEST_SIZE;
     let place = Place {
@@ -128,7 +128,7 @@ fn decode_terms(
     };
     let source = Source {
         alloc,
-        module,
+        module: base,
         place,
         variables,
         innermost,

@@ -6,3 +6,4 @@ pub mod ShortBodies
 mod ShortSymbols
 mod ShortPlaced
 mod NamedDecls
+mod ApplyLaws

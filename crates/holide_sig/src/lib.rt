@@ -4,6 +4,8 @@
 //! from 0, the declarations after them, and the trees of its types stand at the same numbers in every module's table. `push` takes a declaration
 //! whose name is new and whose trees are closed over earlier names, so a module stays one; `find` gives the symbol of a name.
 //!
+//! `symbols` has the numbers of the signature's symbols; `call` applies a symbol to arguments, and `apply` a tree.
+//!
 //! A definition called `X` and a number is short for its body: `short_body` gives that tree, and `short` the first symbol whose name is short for a
 //! tree. Neither takes memory.
 //!
@@ -14,11 +16,14 @@
 //! ```
 #![tactic(auto)]
 
+mod calls;
 mod decls;
 mod module;
 mod shorts;
 mod signature;
+pub mod symbols;
 
+pub use calls::{apply, call};
 pub use decls::{Decl, Decls};
 pub use lp_spec::{Form, Ident};
 pub use module::Module;

@@ -10,16 +10,10 @@ ghost use Rattle.lp_conv.specs.HeadSteps.{IsKnownIf, tree_if, IsHeadStep, StepsT
 ghost use Rattle.lp_conv.specs.Heads.{beta_of, IsUnderType, IsArrow, functions_of};
 
 use common::{Memory, Stack};
+use holide_sig::symbols::{ARR, TERM, TYPE};
 use holide_sig::{Form, Module, SIGNATURE};
 use lp_term::{LpId, LpNode};
 use std::alloc::Global;
-
-// The symbols `type`, `arr` and `term` of the signature, which head steps know.
-const TYPE: usize = 0;
-
-const ARR: usize = 3;
-
-const TERM: usize = 4;
 
 /// The head step of a tree, if it has one: beta where the head is an abstraction with an argument, unfolding where it is
 /// a definition with an argument for each leading abstraction over `type`, and `term (arr a b)` to `term a -> term b`.

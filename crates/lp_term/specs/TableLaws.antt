@@ -5,9 +5,10 @@ use Rattle.std.proofs.lemmas.Option.{slice_get_within, slice_get-get_or, unwrap_
 use Rattle.std.proofs.Math.Path.{ap₂}
 use Rattle.lp_spec.specs.Trees.{Tree, SortType, App, Lam, Pi}
 use Rattle.lp_binding.specs.LookUps.{slice_get-append}
+use Rattle.lp_term.specs.declared.LpId.{LpId}
 use Rattle.lp_term.specs.declared.LpNode.{LpNode}
 use Rattle.lp_term.specs.declared.LpNode.TheVariants as node
-use Rattle.lp_term.specs.Tables.{tree_at, Holds, tree_of_node, PartsBelow, IsDistinct, Stays, Keeps, Adds}
+use Rattle.lp_term.specs.Tables.{tree_at, trees_at, AreKnown, Holds, tree_of_node, PartsBelow, IsDistinct, Stays, Keeps, Adds}
 
 -- a number that the table has, has its tree
 pub tree_at-Holds : (ts : List Tree) (i : ℕ) → i < length ts → Holds ts i (tree_at ts i)
@@ -76,3 +77,12 @@ pub take-Stays : (ts us : List Tree) → Stays ts us → take (length ts) us ≡
 take-Stays [] us k = refl
 take-Stays (t ∷ ts) [] k = absurd (let h = slice_get_within [] 0 t (k.each 0 t refl) in omega arith)
 take-Stays (t ∷ ts) (u ∷ us) k = ap₂ (λ x l. x ∷ l) (same_Some _ _ (k.each 0 t refl)) (take-Stays ts us (record { each = λ i v e. k.each (suc i) v e }))
+
+-- the trees of numbers stay, and the numbers are known
+pub trees_at-Keeps : {old new : List Tree} → Keeps old new → (ids : List LpId) → AreKnown old ids → trees_at new ids ≡ trees_at old ids
+trees_at-Keeps k [] h = refl
+trees_at-Keeps k (id ∷ ids) h = ap₂ (λ t l. t ∷ l) (sym (tree_at-Stays k.stays id.0 h.0)) (trees_at-Keeps k ids h.1)
+
+pub AreKnown-Keeps : {old new : List Tree} → Keeps old new → (ids : List LpId) → AreKnown old ids → AreKnown new ids
+AreKnown-Keeps k [] h = tt
+AreKnown-Keeps k (id ∷ ids) h = (omega (arith, k.longer, h.0), AreKnown-Keeps k ids h.1)

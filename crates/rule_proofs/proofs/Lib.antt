@@ -1,6 +1,5 @@
 mod KeepLaws
 mod ListSteps
-mod ApplyLaws
 mod DomainLaws
 mod EntryLaws
 mod TellLaws

@@ -18,7 +18,8 @@ use Rattle.rule_proofs.specs.declared.scope.Environment.{Environment}
 use Rattle.rule_proofs.specs.Environments.{Given, Stands, Ready, TellTypes, TellTerms, TellProofs, filled_terms, unproved}
 use Rattle.rule_proofs.specs.Placed.{placed}
 use Rattle.rule_proofs.specs.Placing.{IsPlaced, TypesAlone, TermsAlone, ProofsAlone}
-use Rattle.translate_term.specs.GrowLaws.{Grows-refl, Grows-trans, IsHeld-Grows, declarations_of-Grows, trees_at-Keeps, AreKnown-Keeps}
+use Rattle.translate_term.specs.GrowLaws.{Grows-refl, Grows-trans, IsHeld-Grows, declarations_of-Grows}
+use Rattle.lp_term.specs.TableLaws.{trees_at-Keeps, AreKnown-Keeps}
 use Rattle.rule_proofs.proofs.PlaceLaws.{TermsAlone-refl, ProofsAlone-refl}
 use Rattle.rule_proofs.proofs.TellLaws.{TellTypes-same, TellTerms-same, TellProofs-same}
 use Rattle.rule_proofs.specs.EnvironmentLaws.{TellTypes-Keeps, TellTerms-Keeps}

@@ -31,7 +31,7 @@ use Rattle.rule_proofs.specs.declared.scope.Environment.{Environment}
 use Rattle.rule_proofs.specs.Environments.{Given, Stands, Ready, IsTold, TellTypes, TellTerms, TellProofs, proofs_in, AreProofsKnown}
 use Rattle.rule_proofs.proofs.KeepLaws.{trees_at-append, AreKnown-more}
 use Rattle.rule_proofs.proofs.TellLaws.{same-seen}
-use Rattle.translate_term.specs.GrowLaws.{trees_at-Keeps, AreKnown-Keeps}
+use Rattle.lp_term.specs.TableLaws.{trees_at-Keeps, AreKnown-Keeps}
 use Rattle.rule_proofs.specs.EnvironmentLaws.{Stands-Grows}
 use Rattle.rule_proofs.specs.FormulaLaws.{same-formula}
 

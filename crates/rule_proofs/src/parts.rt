@@ -24,15 +24,13 @@ use crate::kept::KeptParams;
 use crate::premise::Premise;
 use crate::rows::{Equated, sides};
 use crate::scope::Environment;
-use crate::trees::{
-    FUN_EXT, SUB, SUB_ABS, SUB_ABS_REP, SUB_REP, SUB_REP_ABS, SYM, TERM, abstraction, at_variable,
-    call,
-};
+use crate::trees::{abstraction, at_variable};
 use common::Memory;
 use hol_rules::{Proof, StepId};
 use hol_term::{TermId, TermView};
 use hol_type::TypeId;
-use holide_sig::Module;
+use holide_sig::symbols::{FUN_EXT, SUB, SUB_ABS, SUB_ABS_REP, SUB_REP, SUB_REP_ABS, SYM, TERM};
+use holide_sig::{Module, call};
 use lp_term::{LpId, LpNode};
 
 /// What a type definition makes.

@@ -20,22 +20,18 @@ ghost use Rattle.rule_proofs.specs.Told.{TellsStep};
 
 use crate::kept::KeptParams;
 use crate::scope::Environment;
-use crate::trees::{TERM, abstraction, call};
+use crate::trees::abstraction;
 use common::Memory;
 use hol_name::Name;
 use hol_rules::{Proof, StepId};
 use hol_term::{TermId, Variable};
 use hol_type::TypeId;
-use holide_sig::Module;
+use holide_sig::symbols::{BOOL, TERM, TYPE};
+use holide_sig::{Module, call};
 use lp_term::{LpId, LpNode};
 use sequent::Params;
 use std::alloc::Global;
 use translate_term::{filler, tm, ty};
-
-// The numbers of the signature's first symbols: `type`, which stands where no proof is known, and `bool`.
-const NONE: usize = 0;
-
-const BOOL: usize = 1;
 
 /// A step as a premise of another: its number, and the symbol of its declaration.
 #[derive(Clone, Copy)]
@@ -112,7 +108,8 @@ impl Environment {
     {
         match self.find_proof(id) {
             Some(tree) => Ok(tree),
-            None => target.table.node(LpNode::Sym(NONE)),
+            // `type` stands where no proof is known.
+            None => target.table.node(LpNode::Sym(TYPE)),
         }
     }
 

@@ -19,12 +19,12 @@ ghost use Rattle.rule_proofs.specs.Told.{TellsStep};
 use crate::kept::KeptParams;
 use crate::premise::Premise;
 use crate::scope::Environment;
-use crate::trees::{APP_THM, EQ_MP, FUN_EXT, PROOF, PROP_EXT, REFL, SYM, TERM, TRANS, call};
 use common::Memory;
 use hol_rules::{Proof, StepId};
 use hol_term::{TermId, Variable};
 use hol_type::TypeId;
-use holide_sig::Module;
+use holide_sig::symbols::{APP_THM, EQ_MP, FUN_EXT, PROOF, PROP_EXT, REFL, SYM, TERM, TRANS};
+use holide_sig::{Module, call};
 use lp_term::LpId;
 
 /// The type and the sides of an equation.

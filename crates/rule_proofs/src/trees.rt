@@ -5,62 +5,9 @@ ghost use Rattle.lp_spec.specs.Trees.{Tree, App, Lam, Sym, Var};
 ghost use Rattle.lp_term.specs.Tables.{tree_at, trees_at, AreKnown, Holds, Keeps};
 
 use common::Memory;
-use holide_sig::SIGNATURE;
+use holide_sig::call;
 use lp_term::{LpId, LpNode, LpTable};
 use std::alloc::Global;
-
-// The numbers of the signature's symbols, and of the two lemmas that come after them.
-pub(crate) const TERM: usize = 4;
-
-pub(crate) const PROOF: usize = 7;
-
-pub(crate) const REFL: usize = 8;
-
-pub(crate) const FUN_EXT: usize = 9;
-
-pub(crate) const APP_THM: usize = 10;
-
-pub(crate) const PROP_EXT: usize = 11;
-
-pub(crate) const EQ_MP: usize = 12;
-
-pub(crate) const SUB: usize = 13;
-
-pub(crate) const SUB_ABS: usize = 14;
-
-pub(crate) const SUB_REP: usize = 15;
-
-pub(crate) const SUB_ABS_REP: usize = 16;
-
-pub(crate) const SUB_REP_ABS: usize = 17;
-
-pub(crate) const SYM: usize = SIGNATURE;
-
-pub(crate) const TRANS: usize = SIGNATURE + 1;
-
-// A tree applied to arguments, the first innermost.
-fn apply(table: &mut LpTable, head: LpId, args: &[LpId]) -> Result<LpId, Memory>
-    requires head { head.0 < length table.old }
-    requires args { AreKnown table.old args.now }
-    ensures made { IfOk result (λ r. Holds table.new r.0 (applied (tree_at table.old head.0) (trees_at table.old args.now))) }
-    ensures keeps { Keeps table.old table.new }
-{
-    let mut made = head;
-    for arg in args {
-        made = table.node(LpNode::App(made, *arg))?;
-    }
-    Ok(made)
-}
-
-// A symbol applied to arguments.
-pub(crate) fn call(table: &mut LpTable, symbol: usize, args: &[LpId]) -> Result<LpId, Memory>
-    requires { AreKnown table.old args.now }
-    ensures made { IfOk result (λ r. Holds table.new r.0 (applied (Sym symbol) (trees_at table.old args.now))) }
-    ensures keeps { Keeps table.old table.new }
-{
-    let head = table.node(LpNode::Sym(symbol))?;
-    apply(table, head, args)
-}
 
 // A tree at the variable of a binder round it.
 pub(crate) fn at_variable(table: &mut LpTable, head: LpId) -> Result<LpId, Memory>

@@ -10,9 +10,10 @@ ghost use Rattle.share.specs.Typings.{is_product, is_types_told, told, Tells};
 ghost use Rattle.share.specs.Asking.{IsAsking};
 
 use crate::questions::ask;
-use crate::typing::{Answers, TERM, TYPES, is_symbol};
+use crate::typing::{Answers, is_symbol};
 use common::{Memory, Stack};
 use holide_sig::Module;
+use holide_sig::symbols::{TERM, TYPE};
 use lp_term::{LpId, LpNode, LpTable};
 
 // The greatest depth of a type that can be written.
@@ -80,7 +81,7 @@ fn is_types(table: &LpTable, ty: Option<LpId>) -> bool
     ensures { result ≡ is_types_told (told table.now ty) }
 {
     match ty {
-        Some(id) => is_symbol(table, id, TYPES),
+        Some(id) => is_symbol(table, id, TYPE),
         None => false,
     }
 }

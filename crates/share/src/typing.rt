@@ -9,6 +9,7 @@ ghost use Rattle.share_spec.specs.Abbreviations.{at_a_type as type_left, constan
 ghost use Rattle.share.specs.Typings.{constant_part as part_of_constant, context as context_of, entry as entry_of, is_application, is_from_type, under_type, value_of, values_of, AreAnswers, IsAsked, IsContext, IsSameFor, Tells, Turns};
 
 use common::{Memory, Stack};
+use holide_sig::symbols::{ARR, TERM, TYPE};
 use holide_sig::{Module, SIGNATURE};
 use indexmap::IndexMap;
 use lp_term::{LpId, LpNode, LpTable};
@@ -22,13 +23,6 @@ pub(crate) enum Turn {
     Known(Option<LpId>),
     Needs(LpId),
 }
-
-/// The number of the signature's symbol of types.
-pub(crate) const TYPES: usize = 0;
-/// That of the symbol of the terms of a type.
-pub(crate) const TERM: usize = 4;
-// That of the symbol of the functions between two types.
-const ARR: usize = 3;
 
 /// Whether the tree is a symbol of that number.
 pub(crate) fn is_symbol(table: &LpTable, id: LpId, symbol: usize) -> bool
@@ -90,7 +84,7 @@ fn simple(table: &LpTable, answers: &Answers, id: LpId) -> Option<bool>
     match constant(table, answers, id) {
         None => None,
         Some(None) => Some(false),
-        Some(Some(ty)) => Some(is_symbol(table, ty, TYPES)),
+        Some(Some(ty)) => Some(is_symbol(table, ty, TYPE)),
     }
 }
 
@@ -131,7 +125,7 @@ fn at_a_type(table: &mut LpTable, ty: LpId, argument: LpId) -> Result<Option<LpI
     ensures told { IfOk result (λ r. Tells table.new r (type_left (Some (tree_at table.old ty.0)) (tree_at table.old argument.0))) }
 {
     match table.view(ty) {
-        LpNode::Pi(domain, body) if is_symbol(table, domain, TYPES) => {
+        LpNode::Pi(domain, body) if is_symbol(table, domain, TYPE) => {
             let left = table.put(argument, body)?;
             Ok(Some(left))
         }

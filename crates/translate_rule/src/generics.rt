@@ -10,14 +10,10 @@ ghost use Rattle.translate_rule.specs.TypeScopes.{IsTypeScope};
 
 use common::Memory;
 use hol_name::Name;
+use holide_sig::symbols::{TERM, TYPE};
 use lp_term::{LpId, LpNode, LpTable};
 use std::alloc::Global;
 use translate_term::{Scope, ScopeTypes};
-
-// The numbers of two symbols of the signature: the type of simple types, and the terms of one.
-const TYPE: usize = 0;
-
-const TERM: usize = 4;
 
 // The type of simple types.
 fn simple_type(table: &mut LpTable) -> Result<LpId, Memory>

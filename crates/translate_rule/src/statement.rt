@@ -26,15 +26,11 @@ use hol_rules::{Proof, StepId};
 use hol_term::{TermId, Variable};
 use hol_type::TypeId;
 use holide_sig::Module;
+use holide_sig::symbols::{PROOF, TERM};
 use lp_term::{LpId, LpNode, LpTable};
 use rule_proofs::Environment;
 use sequent::Params;
 use std::alloc::Global;
-
-// The numbers of two symbols of the signature: the terms of a type, and the proofs of a formula.
-const TERM: usize = 4;
-
-const PROOF: usize = 7;
 
 // The type of a step's declaration, in the environment of its binders.
 pub(crate) fn theorem_type(

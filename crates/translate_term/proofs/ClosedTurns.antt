@@ -33,7 +33,8 @@ use Rattle.translate_term.specs.Told.{TellsTypes, TellsConstant, told_operator}
 use Rattle.translate_term.specs.Patterns.{IsTypeTree}
 use Rattle.translate_term.specs.Walks.{Grows}
 use Rattle.translate_term.specs.Closed.{Numbered, types_under, scope_under, IsInside, IsTypeOf, IsTermOf, MakesTypes, MakesTerms, IsNumbered, IsTypeWalk, IsTermWalk, IsTypeToMake, IsTermToMake, IsPut}
-use Rattle.translate_term.specs.GrowLaws.{IsHeld-Grows, declarations_of-Grows, trees_at-Keeps, AreKnown-Keeps}
+use Rattle.translate_term.specs.GrowLaws.{IsHeld-Grows, declarations_of-Grows}
+use Rattle.lp_term.specs.TableLaws.{trees_at-Keeps, AreKnown-Keeps}
 use Rattle.translate_term.proofs.ParameterScopes.{TellsTerm-AreInstances, type-placed, variable-placed, term_tree-inside_under}
 
 pub IsNumbered-Grows : {m n : Module} → Grows m n → (given : Numbered) (k : ℕ) → IsNumbered given m k → IsNumbered given n k

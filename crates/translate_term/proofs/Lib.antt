@@ -6,7 +6,6 @@ mod EndsLaws
 mod TypeTurns
 mod PatternLaws
 mod MatchTurns
-mod ApplyLaws
 mod FillingLaws
 mod GenericLaws
 mod ScopeLists

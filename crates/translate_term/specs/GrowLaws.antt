@@ -8,7 +8,7 @@ use Rattle.hol_type.specs.declared.table.TypeId.{TypeId}
 use Rattle.hol_type.specs.Tables as type
 use Rattle.lp_spec.specs.Trees.{Tree}
 use Rattle.lp_term.specs.declared.LpId.{LpId}
-use Rattle.lp_term.specs.Tables.{trees_at, AreKnown, Keeps}
+use Rattle.lp_term.specs.Tables.{Keeps}
 use Rattle.lp_term.specs.TableLaws.{Keeps-refl, Keeps-trans, tree_at-Stays}
 use Rattle.holide_sig.specs.declared.decls.Decl.{Decl}
 use Rattle.holide_sig.specs.declared.module.Module.{Module}
@@ -74,12 +74,3 @@ IsTypeMemo-Keeps k given types made h id r n = k.stays.each r.0 _ (h id r n)
 
 pub IsTermMemo-Keeps : {old new : List Tree} → Keeps old new → (given : Given) (trees : Trees) (made : List (Place × LpId)) → IsTermMemo given trees old made → IsTermMemo given trees new made
 IsTermMemo-Keeps k given trees made h place r n = k.stays.each r.0 _ (h place r n)
-
--- the trees of some numbers stay
-pub trees_at-Keeps : {old new : List Tree} → Keeps old new → (ids : List LpId) → AreKnown old ids → trees_at new ids ≡ trees_at old ids
-trees_at-Keeps k [] h = refl
-trees_at-Keeps k (id ∷ ids) h = ap₂ (λ t l. t ∷ l) (sym (tree_at-Stays k.stays id.0 h.0)) (trees_at-Keeps k ids h.1)
-
-pub AreKnown-Keeps : {old new : List Tree} → Keeps old new → (ids : List LpId) → AreKnown old ids → AreKnown new ids
-AreKnown-Keeps k [] h = tt
-AreKnown-Keeps k (id ∷ ids) h = (omega (arith, k.longer, h.0), AreKnown-Keeps k ids h.1)

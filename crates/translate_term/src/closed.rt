@@ -18,11 +18,11 @@ ghost use Rattle.translate_term.specs.Told.{TellsClosed, told_operator};
 ghost use Rattle.translate_term.specs.Walks.{Grows};
 
 use crate::generic::constant_of;
-use crate::nodes::{PROOF, TERM, TYPE, call};
 use crate::symbols::operator;
 use common::{Memory, Stack};
 use hol_name::Name;
-use holide_sig::Module;
+use holide_sig::symbols::{PROOF, TERM, TYPE};
+use holide_sig::{Module, call};
 use lp_term::{LpId, LpNode};
 use sequent::{Closed, ClosedTerm, ClosedType, TermNode, TypeNode};
 use std::alloc::Global;

@@ -14,11 +14,10 @@ ghost use Rattle.translate_term.specs.Patterns.{IsGeneric, IsMatching, IsTypeTre
 ghost use Rattle.translate_term.specs.Tasks.{IsDone, IsNoted};
 ghost use Rattle.translate_term.specs.Walks.{Grows};
 
-use crate::nodes::call;
 use crate::symbols;
 use common::{Memory, Stack};
 use hol_name::Name;
-use holide_sig::Module;
+use holide_sig::{Module, call};
 use indexmap::IndexMap;
 use lp_term::{LpId, LpNode, LpTable};
 use std::alloc::Global;

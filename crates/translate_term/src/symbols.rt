@@ -6,10 +6,10 @@ ghost use Rattle.module_spec.specs.Image.{input_operator_name};
 ghost use Rattle.lp_spec.specs.Numerals.{numeral};
 ghost use Rattle.translate_term.specs.Told.{told_constant, told_operator};
 
-use crate::nodes::{ARR, BOOL, EQ, IND, SELECT};
 use common::Memory;
 use hol_name::Name;
 use holide_sig::Module;
+use holide_sig::symbols::{ARR, BOOL, EQ, IND, SELECT};
 use itoa::Buffer;
 use std::alloc::Global;
 

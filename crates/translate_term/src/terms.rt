@@ -20,7 +20,7 @@ ghost use Rattle.translate_term.specs.Walks.{AreGiven, Given, Grows, IsGiven, Is
 
 use crate::generic::constant_of;
 use crate::memo::{Place, TermMemo, TypeMemo};
-use crate::nodes::{TERM, call, filling};
+use crate::nodes::filling;
 use crate::scope::Scope;
 use crate::tasks::Task;
 use crate::types::type_of;
@@ -28,7 +28,8 @@ use common::{Memory, Stack};
 use hol_name::Name;
 use hol_term::{TermId, TermTable, TermView, Variable};
 use hol_type::{TypeId, TypeTable};
-use holide_sig::Module;
+use holide_sig::symbols::TERM;
+use holide_sig::{Module, call};
 use lp_term::{LpId, LpNode};
 use std::alloc::Global;
 

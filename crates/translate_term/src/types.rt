@@ -17,14 +17,14 @@ ghost use Rattle.translate_term.specs.Told.{told_operator, types_in};
 ghost use Rattle.translate_term.specs.Walks.{AreNoted, Given, Grows, IsGiven, IsTypeMemo, IsTypeStart, IsTypeWalk, size_at, type_wanted};
 
 use crate::memo::TypeMemo;
-use crate::nodes::{BOOL, call};
 use crate::scope::ScopeTypes;
 use crate::symbols::operator;
 use crate::tasks::{Task, set_out};
 use common::{Memory, Stack};
 use hol_name::Name;
 use hol_type::{TypeId, TypeTable, TypeView};
-use holide_sig::Module;
+use holide_sig::symbols::BOOL;
+use holide_sig::{Module, call};
 use lp_term::{LpId, LpNode};
 use std::alloc::Global;
 

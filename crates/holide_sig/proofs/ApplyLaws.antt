@@ -1,5 +1,5 @@
 -- A tree that is applied to one argument after another.
-use Rattle.std.proofs.Common.{◌≡◌, ℕ, zero, suc, ◌+◌, ◌<◌, sym, ap, ◌∙◌, subst, arith, List, [], ◌∷◌, length}
+use Rattle.std.proofs.Common.{◌≡◌, ℕ, zero, suc, ◌+◌, ◌<◌, ◌≤◌, refl, sym, ap, ◌∙◌, subst, arith, List, [], ◌∷◌, length}
 use Rattle.std.specs.Prelude.{drop}
 use Rattle.lp_spec.specs.Trees.{Tree, App}
 use Rattle.lp_spec.specs.Modules.{applied}
@@ -30,3 +30,10 @@ apply_step old now new args i made next arg goal known e k l h is =
 
 pub apply_end : (old now : List Tree) (args : List LpId) (i : ℕ) (made : LpId) (goal : Tree) → made.0 < length now → drop i args ≡ [] → applied (tree_at now made.0) (trees_at old (drop i args)) ≡ goal → tree_at now made.0 ≡ goal
 apply_end old now args i made goal k e is = ap (λ l. applied (tree_at now made.0) (trees_at old l)) (sym e) ∙ is
+
+-- nothing is left from the end on
+pub drop-all : {X : Type 0} (xs : List X) (i : ℕ) → length xs ≤ i → drop i xs ≡ []
+drop-all [] zero h = refl
+drop-all [] (suc i) h = refl
+drop-all (x ∷ xs) zero h = absurd (omega arith)
+drop-all (x ∷ xs) (suc i) h = drop-all xs i (omega arith)

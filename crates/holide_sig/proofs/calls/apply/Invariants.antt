@@ -1,7 +1,7 @@
 use Rattle.std.specs.Prelude.{◌≡◌, ◌<◌, length, drop}
 use Rattle.lp_spec.specs.Modules.{applied}
 use Rattle.lp_term.specs.Tables.{tree_at, trees_at, Keeps}
-use Rattle.translate_term.proofs.nodes.apply.Given as goal
+use Rattle.holide_sig.proofs.calls.apply.Given as goal
 
 abbrev pub invariant-loop-arg : goal.invariant-loop-arg
 invariant-loop-arg l =

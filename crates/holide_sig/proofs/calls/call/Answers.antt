@@ -1,10 +1,9 @@
 use Rattle.std.proofs.Common.{◌∙◌, Some}
 use Rattle.std.proofs.lemmas.Result.{IfOk-weaker}
 use Rattle.lp_spec.specs.Modules.{applied}
-use Rattle.lp_term.specs.TableLaws.{Holds-tree_at}
-use Rattle.rule_proofs.proofs.trees.call.Goals as goal
+use Rattle.lp_term.specs.TableLaws.{Holds-tree_at, trees_at-Keeps, AreKnown-Keeps}
+use Rattle.holide_sig.proofs.calls.call.Goals as goal
 use Rattle.std.proofs.Math.Path.{ap₂}
-use Rattle.translate_term.specs.GrowLaws.{trees_at-Keeps, AreKnown-Keeps}
 
 pub apply-requires-clause-args : goal.apply-requires-clause-args
 apply-requires-clause-args c = AreKnown-Keeps c.in_ok-head.ensures.keeps _ c.requires

@@ -1,9 +1,8 @@
 use Rattle.std.proofs.Common.{◌∙◌, ap, arith, Some}
 use Rattle.std.proofs.lemmas.List.{drop_more}
 use Rattle.lp_term.specs.TableLaws.{tree_at-Holds}
-use Rattle.translate_term.proofs.ListSteps.{drop-all}
-use Rattle.translate_term.proofs.ApplyLaws.{next-known, apply_step, apply_end}
-use Rattle.translate_term.proofs.nodes.apply.Goals as goal
+use Rattle.holide_sig.proofs.ApplyLaws.{next-known, apply_step, apply_end, drop-all}
+use Rattle.holide_sig.proofs.calls.apply.Goals as goal
 
 pub node-requires : goal.node-requires
 node-requires c = (c.loop-arg.invariant.1, next-known _ _ c.args.args.now c.loop-arg.arg-index _ c.loop-arg.invariant.0 c.requires.args (drop_more c.args.args.now c.loop-arg.arg-index _ c.loop-arg-test.true))
